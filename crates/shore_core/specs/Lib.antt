@@ -1,0 +1,4 @@
+pub mod Cores
+pub mod RecordMaps
+pub mod Room
+pub mod Served

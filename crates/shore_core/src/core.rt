@@ -1,0 +1,362 @@
+//! The calls of a session, and what the log device tells.
+ghost use Rattle.std.specs.Prelude.{◌≡◌, ◌≢◌, ◌⊎◌, ◌↔◌, ◌+◌, ◌≤◌, ◌<◌, ◌++◌, [], ℕ, All, IsTrue, false, IsSomeAnd, IfOk, IfErr, OnOk, OnErr, None, Some, Err, length};
+ghost use Rattle.std.specs.FinMap as map;
+ghost use Rattle.std.specs.Option.{ForSome};
+ghost use Rattle.shore_types.specs.Layout.{HasPage};
+ghost use Rattle.shore_logrec.specs.Text.{Fits};
+ghost use Rattle.shore_logrec.specs.declared.costs.TheConstants.{ENDING_COST};
+ghost use Rattle.shore_log.specs.Settled.{list_of};
+ghost use Rattle.shore_log.specs.PlainTails.{first_of, waiting_in};
+ghost use Rattle.shore_core.specs.declared.core.TheConstants.{LAST_LSN, LAST_TXN};
+ghost use Rattle.shore_core.specs.Room.{Admits};
+ghost use Rattle.shore_core.specs.Served.{IsServed};
+
+use crate::records::RecordMap;
+use crate::replay::{OpenError, cost_of_all, next_transaction, replay};
+use crate::room::LogRoom;
+use crate::{Step, Wait};
+use shore_disk::Disk;
+use shore_log::{Durable, LogDev, PlainTail, Tail};
+use shore_logrec::{ENDING_COST, LogRecord, Payload, change_cost, compensation_cost};
+use shore_model::{Answer, Call, RidMap};
+use shore_types::layout::MAX_RECORD_BYTES;
+use shore_types::{Bytes, Fault, Geometry, Lsn, PageId, Rid, StoreId, TxnId};
+use std::alloc::Global;
+
+/// Where the number of the last record is this or more, no room is given to new work.
+const LAST_LSN: u64 = 1 << 46;
+/// Where the next transaction's number is this or more, none begins.
+const LAST_TXN: u64 = 1 << 62;
+
+/// The session's transaction.
+#[derive(Clone, Copy, Debug, PartialEq, Eq)]
+struct Active {
+    txn: TxnId,
+    /// The number of its last record, 0 if it has none.
+    last: Lsn,
+    /// What is reserved for its ending and for the undo of its changes.
+    reserved: u64,
+}
+
+/// The records in place, the session's transaction, and the room of the log. It serves one session as yet.
+#[derive(Drop)]
+pub struct Core<T: Tail> {
+    geometry: Geometry,
+    records: RecordMap,
+    tail: T,
+    next_txn: u64,
+    active: Option<Active>,
+    // The number of the Commit record of the transaction that was the active one, until its force is told.
+    committing: Option<Lsn>,
+    room: LogRoom,
+    durable: Lsn,
+    failed: bool,
+    ghost some_txn: { 1 ≤ next_txn },
+    ghost some_number: { 1 ≤ T.Tail.first tail + length (T.Tail.records tail) },
+    ghost few: { T.Tail.first tail + length (T.Tail.records tail) ≤ LAST_LSN + 2 },
+    ghost begun: { ForSome active (λ a. 1 ≤ a.txn) },
+    ghost below: { ForSome active (λ a. a.txn ≤ LAST_TXN) },
+    ghost earlier: { ForSome active (λ a. a.last < T.Tail.first tail + length (T.Tail.records tail)) },
+    ghost owed: { ForSome active (λ a. a.reserved ≤ room.reserved) },
+    ghost ending: { ForSome active (λ a. ENDING_COST ≤ a.reserved) },
+    ghost number: { ForSome active (λ _. T.Tail.first tail + length (T.Tail.records tail) ≤ LAST_LSN + 1) },
+}
+
+impl<T: Tail> Core<T> {
+    ghost use Rattle.shore_core.specs.Cores.{records_of, durable_of, committing_of, has_failed};
+
+    /// A call of the session. Refused in this order: 24 after a failure of a device, 14 while its earlier call waits, 2 or 1 for a
+    /// transaction that is there or missing, and then as the call says; 27 where a growth was refused. A refused call has
+    /// changed nothing.
+    pub fn call(&mut self, alloc: Global, call: Call) -> Step
+        requires { IsServed call }
+
+        // A commit is never answered here, but by the resume that finds its record durable.
+        ensures not_committed { result ≢ Step.Done Answer.Committed }
+        ensures failed { IsTrue (has_failed self.old) → result ≡ Step.Refused Fault.Failed }
+        ensures durable { durable_of self.new ≡ durable_of self.old }
+        ensures same { has_failed self.new ≡ has_failed self.old }
+        ensures first { T.Tail.first self.new.tail ≡ T.Tail.first self.old.tail }
+    {
+        if self.failed {
+            return Step::Refused(Fault::Failed);
+        }
+        if self.committing.is_some() {
+            return Step::Refused(Fault::Busy);
+        }
+        match self.answer(alloc, call) {
+            Ok(step) => step,
+            Err(fault) => Step::Refused(fault),
+        }
+    }
+
+    fn answer(&mut self, alloc: Global, call: Call) -> Result<Step, Fault>
+        requires { IsServed call }
+        ensures not_committed { IfOk result (λ step. step ≢ Step.Done Answer.Committed) }
+        ensures durable { durable_of self.new ≡ durable_of self.old }
+        ensures same { has_failed self.new ≡ has_failed self.old }
+        ensures first { T.Tail.first self.new.tail ≡ T.Tail.first self.old.tail }
+    {
+        match call {
+            Call::Begin => self.begin(),
+            Call::Get(id) => self.get(alloc, id),
+            Call::Insert(store, bytes) => self.insert(alloc, store, bytes),
+            Call::Commit => self.commit(),
+            _ => unreachable!(),
+        }
+    }
+
+    // Whether the log has room for so much more, and numbers.
+    fn admits(&self, need: u64) -> bool
+        ensures { IsTrue result ↔ ((T.Tail.first self.now.tail + length (T.Tail.records self.now.tail) ≤ LAST_LSN) × Admits self.now.room need) }
+    {
+        self.tail.next().0 <= LAST_LSN && self.room.admits(need)
+    }
+
+    fn begin(&mut self) -> Result<Step, Fault>
+        ensures not_committed { IfOk result (λ step. step ≢ Step.Done Answer.Committed) }
+        ensures durable { durable_of self.new ≡ durable_of self.old }
+        ensures same { has_failed self.new ≡ has_failed self.old }
+        ensures first { T.Tail.first self.new.tail ≡ T.Tail.first self.old.tail }
+    {
+        if self.active.is_some() {
+            return Err(Fault::AlreadyActive);
+        }
+        if !self.admits(ENDING_COST) || self.next_txn >= LAST_TXN {
+            return Err(Fault::LogFull);
+        }
+        let txn = TxnId(self.next_txn);
+        self.room.reserve(ENDING_COST);
+        self.next_txn += 1;
+        self.active = Some(Active {
+            txn,
+            last: Lsn(0),
+            reserved: ENDING_COST,
+        });
+        Ok(Step::Done(Answer::Began(txn)))
+    }
+
+    fn get(&self, alloc: Global, id: Rid) -> Result<Step, Fault>
+        ensures found { IfOk result (λ step. IsSomeAnd (map.get (records_of self.now) id) (λ bytes. step ≡ Step.Done (Answer.Got bytes))) }
+        ensures absent { result ≡ Err Fault.NoRecord → map.get (records_of self.now) id ≡ None }
+    {
+        if self.active.is_none() {
+            return Err(Fault::NoTransaction);
+        }
+        self.check_page(id.page)?;
+        match self.records.copy_of(alloc, id)? {
+            Some(bytes) => Ok(Step::Done(Answer::Got(bytes))),
+            None => Err(Fault::NoRecord),
+        }
+    }
+
+    // The store has to be there, and then the page.
+    fn check_page(&self, id: PageId) -> Result<(), Fault>
+        ensures page { OnOk result (HasPage self.now.geometry id) }
+        ensures other { IfErr result (λ fault. (fault ≡ Fault.NoStore) ⊎ (fault ≡ Fault.NoPage)) }
+    {
+        let store = id.store;
+        if !self.geometry.has_store(store) {
+            return Err(Fault::NoStore);
+        }
+        if !self.geometry.has_page(id) {
+            return Err(Fault::NoPage);
+        }
+        Ok(())
+    }
+
+    fn insert(&mut self, alloc: Global, store: StoreId, bytes: Bytes) -> Result<Step, Fault>
+        ensures not_committed { IfOk result (λ step. step ≢ Step.Done Answer.Committed) }
+        ensures durable { durable_of self.new ≡ durable_of self.old }
+        ensures same { has_failed self.new ≡ has_failed self.old }
+        ensures first { T.Tail.first self.new.tail ≡ T.Tail.first self.old.tail }
+    {
+        let Some(active) = self.active else {
+            return Err(Fault::NoTransaction);
+        };
+        let len = bytes.as_slice().len();
+        if len > MAX_RECORD_BYTES {
+            return Err(Fault::TooLong);
+        }
+        if !self.geometry.has_store(store) {
+            return Err(Fault::NoStore);
+        }
+        let Some(place) = self.records.place_for(store, len) else {
+            return Err(Fault::StoreFull);
+        };
+        let cost = change_cost(None, Some(len));
+        let undo = compensation_cost(None);
+        if !self.admits(cost + undo) {
+            return Err(Fault::LogFull);
+        }
+        let after = Some(bytes.try_clone(alloc)?);
+        self.records.insert(&place, bytes)?;
+        let record = LogRecord {
+            txn: active.txn,
+            previous: active.last,
+            payload: Payload::Change {
+                id: place.id,
+                before: None,
+                after,
+            },
+        };
+        match self.tail.push(record) {
+            Ok(last) => {
+                self.room.append(cost);
+                self.room.reserve(undo);
+                self.active = Some(Active {
+                    txn: active.txn,
+                    last,
+                    reserved: active.reserved + undo,
+                });
+                Ok(Step::Done(Answer::Inserted(place.id)))
+            }
+            Err((fault, _)) => {
+                self.records.undo_insert(&place);
+                Err(fault)
+            }
+        }
+    }
+
+    // The record of the commit was reserved for at the begin, so it is never refused for room.
+    fn commit(&mut self) -> Result<Step, Fault>
+        ensures not_committed { IfOk result (λ step. step ≢ Step.Done Answer.Committed) }
+        ensures durable { durable_of self.new ≡ durable_of self.old }
+        ensures same { has_failed self.new ≡ has_failed self.old }
+        ensures first { T.Tail.first self.new.tail ≡ T.Tail.first self.old.tail }
+    {
+        let Some(active) = self.active else {
+            return Err(Fault::NoTransaction);
+        };
+        let record = LogRecord {
+            txn: active.txn,
+            previous: active.last,
+            payload: Payload::Commit,
+        };
+        match self.tail.push(record) {
+            Ok(number) => {
+                self.room.release(active.reserved);
+                self.room.append(ENDING_COST);
+                self.active = None;
+                self.committing = Some(number);
+                Ok(Step::Waits(Wait::Durable(number)))
+            }
+            Err((fault, _)) => Err(fault),
+        }
+    }
+
+    /// Goes on with the session's call that waits: it is answered once its record is durable.
+    pub fn resume(&mut self) -> Step
+        // A commit is answered only where the force of its record was told.
+        ensures committed { result ≡ Step.Done Answer.Committed → IsSomeAnd (committing_of self.old) (λ n. n ≤ durable_of self.old) }
+        ensures waits { (n : ℕ) → result ≡ Step.Waits (Wait.Durable n) → (committing_of self.old ≡ Some n) × (durable_of self.old < n) }
+        ensures nothing { result ≡ Step.Nothing → self.new ≡ self.old }
+        ensures failed { IsTrue (has_failed self.old) → result ≡ Step.Refused Fault.Failed }
+        ensures records { records_of self.new ≡ records_of self.old }
+        ensures first { T.Tail.first self.new.tail ≡ T.Tail.first self.old.tail }
+    {
+        if self.failed {
+            return Step::Refused(Fault::Failed);
+        }
+        match self.committing {
+            Some(number) => {
+                if number > self.durable {
+                    return Step::Waits(Wait::Durable(number));
+                }
+                self.committing = None;
+                Step::Done(Answer::Committed)
+            }
+            None => Step::Nothing,
+        }
+    }
+
+    /// The log device has forced its records up to this number.
+    pub fn told(&mut self, durable: Durable)
+        ensures told { durable_of self.new ≡ durable.lsn }
+        ensures records { records_of self.new ≡ records_of self.old }
+        ensures same { has_failed self.new ≡ has_failed self.old }
+        ensures first { T.Tail.first self.new.tail ≡ T.Tail.first self.old.tail }
+    {
+        self.durable = durable.number();
+    }
+
+    /// A device has failed: every later call answers 24.
+    pub fn fail(&mut self)
+        ensures failed { IsTrue (has_failed self.new) }
+        ensures records { records_of self.new ≡ records_of self.old }
+        ensures first { T.Tail.first self.new.tail ≡ T.Tail.first self.old.tail }
+    {
+        self.failed = true;
+    }
+
+    pub fn has_failed(&self) -> bool
+        ensures { result ≡ has_failed self.now }
+    {
+        self.failed
+    }
+
+    /// The records in place.
+    pub fn records(&self) -> &RidMap<Bytes>
+        ensures { result.now ≡ records_of self.now }
+    {
+        self.records.records()
+    }
+}
+
+impl Core<PlainTail> {
+    ghost use Rattle.shore_core.specs.Cores.{records_of, durable_of, has_failed};
+
+    /// The core of a log: its records in place are those that the log tells. `size` is the length of the log's stream, and
+    /// `durable` the last number of the log.
+    pub fn open(
+        alloc: Global,
+        geometry: Geometry,
+        log: &[LogRecord],
+        size: u64,
+        durable: Durable,
+    ) -> Result<Core<PlainTail>, OpenError>
+        requires { All Fits log.now }
+        ensures numbers { IfOk result (λ core. first_of core.tail ≡ 1 + length log.now) }
+        ensures waiting { IfOk result (λ core. waiting_in core.tail ≡ []) }
+        ensures durable { IfOk result (λ core. durable_of core ≡ durable.lsn) }
+        ensures open { IfOk result (λ core. has_failed core ≡ false) }
+    {
+        let records = replay(alloc, &geometry, log)?;
+        let room = LogRoom::new(size, cost_of_all(log)).ok_or(OpenError::NoRoom)?;
+        let last = log.len() as u64;
+        let next_txn = next_transaction(log);
+        if last >= LAST_LSN || next_txn > LAST_TXN {
+            return Err(OpenError::NoRoom);
+        }
+        Ok(Core {
+            geometry,
+            records,
+            tail: PlainTail::new(alloc, Lsn(last + 1)),
+            next_txn,
+            active: None,
+            committing: None,
+            room,
+            durable: durable.number(),
+            failed: false,
+        })
+    }
+
+    /// The records that wait in the tail.
+    pub fn waiting(&self) -> &[LogRecord]
+        ensures { result.now ≡ waiting_in self.now.tail }
+    {
+        self.tail.waiting()
+    }
+
+    /// Hands the records that wait in the tail over to the log device. 27 where a growth was refused: they stay.
+    pub fn hand_over<D: Disk>(&mut self, log: &mut LogDev<D>) -> Result<(), Fault>
+        requires { first_of self.old.tail ≡ 1 + length (list_of log.old) }
+        ensures taken { OnOk result (list_of log.new ≡ list_of log.old ++ waiting_in self.old.tail) }
+        ensures numbers { first_of self.new.tail ≡ 1 + length (list_of log.new) }
+        ensures refused { OnErr result (list_of log.new ≡ list_of log.old) }
+        ensures records { records_of self.new ≡ records_of self.old }
+        ensures same { has_failed self.new ≡ has_failed self.old }
+    {
+        log.take_in(&mut self.tail)
+    }
+}

@@ -1,0 +1,17 @@
+//! The core of the storage manager: one event a call. It keeps the records in place, the table of transactions and the
+//! room of the log, and hands the records of the log over to a tail.
+#![tactic(auto)]
+
+mod core;
+mod place;
+mod records;
+mod replay;
+mod room;
+mod step;
+
+pub use crate::core::Core;
+pub use records::RecordMap;
+pub use replay::OpenError;
+pub use room::LogRoom;
+pub use shore_model::{Answer, Call};
+pub use step::{Step, Wait};

@@ -1,0 +1,9 @@
+-- What a device in memory shows of itself.
+use Rattle.std.specs.Prelude.{[]}
+use Rattle.shore_disk.specs.Device.{History}
+use Rattle.shore_disk.specs.Memory.{calls_onto}
+use Rattle.shore_disk.specs.declared.memory.MemDisk.{MemDisk}
+
+-- what it held at first, and its calls since
+abbrev pub history_of : MemDisk → History
+history_of d = record { first = d.first.items; calls = calls_onto [] d.calls.items }

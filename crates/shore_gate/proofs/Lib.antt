@@ -1,0 +1,7 @@
+pub mod NumberLemmas
+pub mod CheckLemmas
+pub mod CauseLemmas
+pub mod StoreLemmas
+pub mod LabelLemmas
+pub mod AnchorLemmas
+pub mod ChoiceLemmas

@@ -1,0 +1,14 @@
+//! What stands at fixed places of a device: gates, the label that says what the device is, and the two anchors from
+//! which a log is read.
+#![tactic(auto)]
+
+mod anchors;
+pub mod gates;
+mod labels;
+mod numbers;
+#[cfg(test)]
+mod tests;
+
+pub use anchors::{Anchor, Anchors, Slot, write_anchor};
+pub use gates::{CLOSED, OPEN, close_gate, is_open, open_gate};
+pub use labels::{LABEL_BYTES, Label, read_label, write_label};

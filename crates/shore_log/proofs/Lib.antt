@@ -1,0 +1,6 @@
+pub mod FrameLemmas
+pub mod ForceLemmas
+pub mod ListLemmas
+pub mod ReadLemmas
+pub mod PlaceLemmas
+pub mod StreamLemmas

@@ -1,0 +1,12 @@
+-- What a plain tail has.
+use Rattle.std.specs.Prelude.{ℕ, List}
+use Rattle.shore_model.specs.declared.log_records.LogRecord.{LogRecord}
+use Rattle.shore_log.specs.declared.tail.PlainTail.{PlainTail}
+
+-- the number of the first record that waits, or that the next will have
+abbrev pub first_of : PlainTail → ℕ
+first_of t = t.first
+
+-- the records that wait
+abbrev pub waiting_in : PlainTail → List LogRecord
+waiting_in t = t.waiting.items

@@ -1,0 +1,305 @@
+//! The log device: its stable records, the frame under way, and the records that wait for a force.
+ghost use Rattle.std.specs.Prelude.{ℕ, ◌≡◌, ◌⊎◌, ◌↔◌, ◌+◌, ◌-◌, ◌^◌, ◌<◌, ◌≤◌, [], ◌∷◌, ◌++◌, All, List, IsTrue, IsSome, IfSome, IfOk, IfErr, OnOk, OnErr, length, take, drop, None, Some, Ok, Err};
+ghost use Rattle.std.specs.Option.{ForSome};
+ghost use Rattle.shore_types.specs.declared.faults.Device.TheVariants as Device;
+ghost use Rattle.shore_disk.specs.Device.{size, seen, LeavesOnly, Stands};
+ghost use Rattle.shore_disk.specs.Cause.{HasCause};
+ghost use Rattle.shore_model.specs.declared.log_records.LogRecord.{LogRecord};
+ghost use Rattle.shore_logrec.specs.Text.{Fits};
+ghost use Rattle.shore_log.specs.Lists.{are_numbered};
+ghost use Rattle.shore_log.specs.Frames.{Gives, GivesWithOrWithout, IsLongest};
+ghost use Rattle.shore_log.specs.Places.{IsBadAt, RefusesReading};
+
+use crate::group::{HEAD_BYTES, frame_bytes, longest_group};
+use crate::reading::{Stream, damaged, read_head, read_stream};
+use crate::{PlainTail, Tail};
+use shore_disk::{Disk, FuseDisk, write_synced};
+use shore_gate::open_gate;
+use shore_logrec::LogRecord;
+use shore_types::layout::MAX_LOG_BYTES;
+use shore_types::{Fault, Lsn};
+use std::alloc::Global;
+
+/// Where the stream of frames begins on the device.
+pub const STREAM: u64 = 4096;
+
+// Where a device's label tells its length.
+const LENGTH_PLACE: u64 = 16;
+
+/// The number of the last durable record. Only the log makes one, so none is told before its force.
+#[derive(Clone, Copy, Debug, PartialEq, Eq)]
+pub struct Durable {
+    lsn: Lsn,
+}
+
+impl Durable {
+    pub fn number(self) -> Lsn
+        ensures { result ≡ self.lsn }
+    {
+        self.lsn
+    }
+}
+
+// A frame that stands behind a closed gate.
+#[derive(Clone, Copy, Debug)]
+struct Staged {
+    // How many records it has, and their bytes.
+    count: usize,
+    len: usize,
+}
+
+/// The log on its device. Records are numbered from 1; the first of them are forced, the others wait.
+#[derive(Drop)]
+pub struct LogDev<D: Disk> {
+    device: D,
+    // The device's length.
+    limit: u64,
+    records: Vec<LogRecord>,
+    // How many records are forced.
+    forced: usize,
+    // The stream place of the next frame.
+    place: u64,
+    staged: Option<Staged>,
+    ghost numbered: { IsTrue (are_numbered 1 records.items) },
+    ghost is_short: { limit ≤ 2 ^ 30 },
+    ghost gate_inside: { 4096 + place < limit },
+    ghost forced_inside: { forced ≤ length records.items },
+    ghost staged_inside: { ForSome staged (λ s. 4096 + place + s.len + 13 < limit) },
+    ghost staged_waits: { ForSome staged (λ s. forced + s.count ≤ length records.items) },
+    ghost staged_short: { ForSome staged (λ s. s.len ≤ 65536) },
+    ghost inside: { limit ≤ size (D.Disk.history device) },
+}
+
+// Whether a device of this length has a stream of frames, and is no longer than a log may be.
+fn has_stream(limit: u64) -> bool
+    ensures { IsTrue result ↔ ((4096 < limit) × (limit ≤ 2 ^ 30)) }
+{
+    limit > STREAM && limit <= MAX_LOG_BYTES
+}
+
+impl<D: Disk> LogDev<D> {
+    ghost use Rattle.shore_log.specs.Settled.{IsSettled, IsStaged, list_of, stable, waiting, device_of, fault_of};
+    ghost use Rattle.shore_log.specs.PlainTails.{first_of, waiting_in};
+
+    /// Takes all records that wait in the tail. 27 where a growth was refused: each stays where it was.
+    pub fn take_in(&mut self, tail: &mut PlainTail) -> Result<(), Fault>
+        requires { first_of tail.old ≡ 1 + length (list_of self.old) }
+        ensures taken { OnOk result (list_of self.new ≡ list_of self.old ++ waiting_in tail.old) }
+        ensures emptied { OnOk result (waiting_in tail.new ≡ []) }
+        ensures next { first_of tail.new + length (waiting_in tail.new) ≡ first_of tail.old + length (waiting_in tail.old) }
+        ensures refused { OnErr result ((list_of self.new ≡ list_of self.old) × (waiting_in tail.new ≡ waiting_in tail.old)) }
+    {
+        tail.hand_over(&mut self.records)?;
+        Ok(())
+    }
+
+    /// Stages the longest list of waiting records that one frame holds: writes it behind the closed gate, with a closed gate
+    /// behind it, and syncs. Answers the last number staged, and None where no record waits or a frame is under way.
+    /// 9 where the device has no room for the frame, 27 where a growth was refused; after both nothing has changed.
+    pub fn stage(&mut self, alloc: Global) -> Result<Option<Lsn>, Fault>
+        // The staged records are the longest list that one frame holds.
+        ensures staged { IsSettled self.old → self.old.staged ≡ None → IfOk result (λ n. IfSome n (λ last.
+            IsStaged self.new (take (last - self.old.forced) (waiting self.old)))) }
+        ensures longest { self.old.staged ≡ None → IfOk result (λ n. IfSome n (λ last.
+            (self.old.forced < last) × IsLongest (waiting self.old) (last - self.old.forced))) }
+        ensures none_waits { self.old.staged ≡ None → result ≡ Ok None → waiting self.old ≡ [] }
+        ensures under_way { IsSome self.old.staged → result ≡ Ok None }
+        ensures nothing { result ≡ Ok None → self.new ≡ self.old }
+
+        // A crash at any moment of the call leaves the stable list.
+        ensures any_moment { IsSettled self.old → self.old.staged ≡ None
+            → LeavesOnly (D.history self.old.device) (D.history self.new.device) (Gives (stable self.old)) }
+
+        ensures same { (list_of self.new ≡ list_of self.old) × (stable self.new ≡ stable self.old) }
+        ensures refused { IfErr result (λ fault. (fault ≡ Fault.Device) ⊎ (self.new ≡ self.old)) }
+        ensures none_staged { OnErr result (self.new.staged ≡ None) }
+        ensures cause { HasCause result (D.faults self.old.device) (D.faults self.new.device) }
+    {
+        if self.staged.is_some() {
+            return Ok(None);
+        }
+        let waiting = self.waiting_records();
+        let (count, len) = longest_group(waiting);
+        if count == 0 {
+            return Ok(None);
+        }
+        if STREAM + self.place + (1 + HEAD_BYTES + len) as u64 >= self.limit {
+            return Err(Fault::LogFull);
+        }
+        let first = self.forced as u64 + 1;
+        let bytes = frame_bytes(alloc, first, &waiting[..count], len)?;
+        write_synced(&mut self.device, STREAM + self.place + 1, &bytes)?;
+        self.staged = Some(Staged { count, len });
+        Ok(Some(Lsn((self.forced + count) as u64)))
+    }
+
+    /// Opens the gate of the staged frame, and syncs. Answers the last durable number, and None where no frame is staged.
+    pub fn open_staged(&mut self) -> Result<Option<Durable>, Fault>
+        ensures settled { (group : List LogRecord) → IsStaged self.old group
+            → OnOk result (IsSettled self.new × (stable self.new ≡ stable self.old ++ group)) }
+        ensures opened { IfOk result (λ n. IsSome n ↔ IsSome self.old.staged) }
+        ensures none_staged { OnOk result (self.new.staged ≡ None) }
+        ensures durable { IfOk result (λ n. IfSome n (λ durable. durable.lsn ≡ length (stable self.new))) }
+        ensures nothing { result ≡ Ok None → self.new ≡ self.old }
+
+        // A crash at any moment of the call leaves the stable list, with the frame that is staged or without it.
+        ensures any_moment { (group : List LogRecord) → IsStaged self.old group
+            → LeavesOnly (D.history self.old.device) (D.history self.new.device) (GivesWithOrWithout (stable self.old) group) }
+
+        ensures same { list_of self.new ≡ list_of self.old }
+        ensures only_device { IfErr result (λ fault. fault ≡ Fault.Device) }
+        ensures unforced { OnErr result (stable self.new ≡ stable self.old) }
+        ensures cause { HasCause result (D.faults self.old.device) (D.faults self.new.device) }
+    {
+        let Some(staged) = self.staged else {
+            return Ok(None);
+        };
+        open_gate(&mut self.device, STREAM + self.place)?;
+        self.staged = None;
+        self.place += (1 + HEAD_BYTES + staged.len) as u64;
+        self.forced += staged.count;
+        Ok(Some(self.durable()))
+    }
+
+    /// Forces one frame: stages it and opens its gate.
+    pub fn append_frame(&mut self, alloc: Global) -> Result<Option<Durable>, Fault>
+        ensures settled { IsSettled self.old → self.old.staged ≡ None → OnOk result (IsSettled self.new × (self.new.staged ≡ None)) }
+        ensures forced { IsSettled self.old → self.old.staged ≡ None → (count : ℕ) → IsLongest (waiting self.old) count
+            → OnOk result (stable self.new ≡ stable self.old ++ take count (waiting self.old)) }
+
+        // A crash at any moment of the call leaves the stable list, with the longest group of waiting records or without it.
+        ensures any_moment { IsSettled self.old → self.old.staged ≡ None → (count : ℕ) → IsLongest (waiting self.old) count
+            → LeavesOnly (D.history self.old.device) (D.history self.new.device) (GivesWithOrWithout (stable self.old) (take count (waiting self.old))) }
+
+        ensures same { list_of self.new ≡ list_of self.old }
+        ensures cause { HasCause result (D.faults self.old.device) (D.faults self.new.device) }
+    {
+        match self.stage(alloc)? {
+            Some(_) => self.open_staged(),
+            None => Ok(None),
+        }
+    }
+
+    // The records that wait for a force, those of a staged frame among them.
+    fn waiting_records(&self) -> &[LogRecord]
+        ensures waiting { result.now ≡ waiting self.now }
+        ensures fit { All Fits result.now }
+    {
+        &self.records[self.forced..]
+    }
+
+    /// The last durable number, 0 where none is.
+    pub fn durable(&self) -> Durable
+        ensures { result.lsn ≡ length (stable self.now) }
+    {
+        Durable {
+            lsn: Lsn(self.forced as u64),
+        }
+    }
+
+    /// Every record from the tail number on, in the order of their numbers.
+    pub fn records(&self) -> &[LogRecord]
+        ensures list { result.now ≡ list_of self.now }
+        ensures fit { All Fits result.now }
+    {
+        &self.records
+    }
+
+    /// Opens the log of a device that is formatted: reads its frames, the first record of which has number 1. 25 at the byte of the
+    /// first frame that is none, and at the label's length where that is no log's; 23 where the device failed, 27 where a
+    /// growth was refused. The device is handed back then.
+    pub fn open(alloc: Global, device: D) -> Result<LogDev<D>, (Fault, D)>
+        // What is opened is settled, and all of its records are stable.
+        ensures settled { IsTrue (D.is_honest device) → (image : List ℕ) → Stands (D.history device) image → IfOk result IsSettled }
+        ensures none_waits { IfOk result (λ log. (log.staged ≡ None) × (stable log ≡ list_of log)) }
+
+        // The records are those that the device's frames give, and no others.
+        ensures found { IsTrue (D.is_honest device) → IfOk result (λ log. Gives (list_of log) (seen (D.history device))) }
+        ensures only { IsTrue (D.is_honest device) → (rs : List LogRecord) → Gives rs (seen (D.history device))
+            → IfOk result (λ log. list_of log ≡ rs) }
+
+        // A device of a log's length with all of its frames within is opened.
+        ensures undamaged { IsTrue (D.is_honest device) → length (seen (D.history device)) ≤ size (D.history device) → size (D.history device) ≤ 2 ^ 30
+            → (rs : List LogRecord) → Gives rs (seen (D.history device)) → IfErr result (λ e. (e.0 ≡ Fault.Device) ⊎ (e.0 ≡ Fault.Memory)) }
+        ensures damaged { IsTrue (D.is_honest device) → length (seen (D.history device)) ≤ size (D.history device)
+            → 4096 < size (D.history device) → size (D.history device) ≤ 2 ^ 30
+            → (place : ℕ) → IfErr result (λ e. e.0 ≡ Fault.Damaged Device.Log place → IsBadAt 4096 (seen (D.history device)) place) }
+        ensures outside { (size (D.history device) ≤ 4096) ⊎ (2 ^ 30 < size (D.history device))
+            → result ≡ Err (Fault.Damaged Device.Log 16, device) }
+        ensures refused { IfErr result (λ e. RefusesReading e.0) }
+
+        // The device that is opened or handed back is as it was.
+        ensures same { IsTrue (D.is_honest device) → D.history (device_of result) ≡ D.history device }
+        ensures honest { D.is_honest (device_of result) ≡ D.is_honest device }
+        ensures size { size (D.history (device_of result)) ≡ size (D.history device) }
+        ensures cause { HasCause (fault_of result) (D.faults device) (D.faults (device_of result)) }
+    {
+        let mut device = device;
+        let limit = device.len();
+        if !has_stream(limit) {
+            return Err((damaged(LENGTH_PLACE), device));
+        }
+        match read_stream(alloc, &mut device, limit, STREAM) {
+            Ok(Stream { records, end }) => Ok(LogDev {
+                device,
+                limit,
+                forced: records.len(),
+                records,
+                place: end - STREAM,
+                staged: None,
+            }),
+            Err(fault) => Err((fault, device)),
+        }
+    }
+
+    /// The byte of the frame that holds a record. 23 where the device failed.
+    pub fn frame_of(&mut self, number: Lsn) -> Result<u64, Fault> {
+        let end = STREAM + self.place;
+        let mut found = STREAM;
+        let mut at = STREAM;
+        while at < end {
+            let Some(head) = read_head(&mut self.device, self.limit, at)? else {
+                break;
+            };
+            if head.first > number.0 {
+                break;
+            }
+            found = at;
+            at += (1 + HEAD_BYTES) as u64 + u64::from(head.len);
+        }
+        Ok(found)
+    }
+
+    /// Whether a frame is staged and its gate not yet opened.
+    pub fn is_staged(&self) -> bool
+        ensures { IsTrue result ↔ IsSome self.now.staged }
+    {
+        self.staged.is_some()
+    }
+
+    /// The length of the stream.
+    pub fn size(&self) -> u64
+        ensures { result + 4096 ≡ self.now.limit }
+    {
+        self.limit - STREAM
+    }
+
+    /// Gives the device back.
+    pub fn into_device(self) -> D {
+        self.device
+    }
+}
+
+impl<D: Disk> LogDev<FuseDisk<D>> {
+    ghost use Rattle.shore_disk.specs.Fuse.{fuse_inner, fuse_refused};
+
+    /// Lets so many more writes and syncs of the device pass; then every call of it fails.
+    pub fn set_fuse(&mut self, calls: u64)
+        ensures inner { fuse_inner self.new.device ≡ fuse_inner self.old.device }
+        ensures refused { fuse_refused self.new.device ≡ fuse_refused self.old.device }
+        ensures list { (self.new.records ≡ self.old.records) × (self.new.forced ≡ self.old.forced) }
+        ensures frame { (self.new.place ≡ self.old.place) × (self.new.staged ≡ self.old.staged) }
+    {
+        self.device.set_calls(calls);
+    }
+}

@@ -1,0 +1,102 @@
+//! Where records wait on their way from the core to the log device.
+ghost use Rattle.std.specs.Prelude.{◌≡◌, ◌+◌, ◌<◌, ◌≤◌, ◌^◌, [], ◌∷◌, ◌++◌, ℕ, List, All, IsTrue, length, IfOk, IfErr, OnOk, OnErr};
+ghost use Rattle.shore_types.specs.declared.faults.Fault.TheVariants as fault;
+ghost use Rattle.shore_model.specs.declared.log_records.LogRecord.{LogRecord};
+ghost use Rattle.shore_logrec.specs.Text.{Fits};
+ghost use Rattle.shore_log.specs.Lists.{are_numbered};
+
+use shore_logrec::LogRecord;
+use shore_types::{Fault, Lsn};
+use std::alloc::{AllocError, Global};
+
+/// Takes the records of the core in their order and gives each its number.
+pub trait Tail {
+    /// The number of the first record that it has.
+    ghost first: { Self → ℕ };
+
+    /// The records that it has, in the order of their numbers.
+    ghost records: { Self → List LogRecord };
+
+    /// Adds a record and answers its number. A refused record is handed back and none is added: 27 where a growth was
+    /// refused.
+    fn push(&mut self, logged: LogRecord) -> Result<Lsn, (Fault, LogRecord)>
+        requires text { Fits logged }
+        requires previous { logged.previous < first self.old + length (records self.old) }
+        requires numbers { first self.old + length (records self.old) < 2 ^ 62 }
+        ensures number { IfOk result (λ n. n ≡ first self.old + length (records self.old)) }
+        ensures added { OnOk result (records self.new ≡ records self.old ++ logged ∷ []) }
+        ensures refused { IfErr result (λ e. (e.0 ≡ Fault.Memory) × (e.1 ≡ logged)) }
+        ensures none_added { OnErr result (records self.new ≡ records self.old) }
+        ensures first { first self.new ≡ first self.old };
+
+    /// The number that the next record will have.
+    fn next(&self) -> Lsn
+        requires { first self.now + length (records self.now) < 2 ^ 63 }
+        ensures { result ≡ first self.now + length (records self.now) };
+}
+
+/// A tail for one caller's thread: the records wait in memory until the log device takes them.
+#[derive(Debug, Drop)]
+pub struct PlainTail {
+    first: u64,
+    waiting: Vec<LogRecord>,
+    ghost numbered: { IsTrue (are_numbered first waiting.items) },
+    ghost few: { first + length waiting.items ≤ 2 ^ 62 },
+}
+
+impl PlainTail {
+    ghost use Rattle.shore_log.specs.PlainTails.{first_of, waiting_in};
+
+    /// A tail with no record, whose next has this number.
+    pub fn new(alloc: Global, next: Lsn) -> PlainTail
+        requires { next ≤ 2 ^ 62 }
+        ensures first { first_of result ≡ next }
+        ensures waiting { waiting_in result ≡ [] }
+    {
+        PlainTail {
+            first: next.0,
+            waiting: Vec::new(alloc),
+        }
+    }
+
+    /// Moves the records that wait to the end of a list. Where the growth is refused they stay.
+    pub fn hand_over(&mut self, records: &mut Vec<LogRecord>) -> Result<(), AllocError>
+        ensures ok { OnOk result (records.new.items ≡ records.old.items ++ waiting_in self.old) }
+        ensures emptied { OnOk result (waiting_in self.new ≡ []) }
+        ensures next { first_of self.new + length (waiting_in self.new) ≡ first_of self.old + length (waiting_in self.old) }
+        ensures err { OnErr result (records.new.items ≡ records.old.items) }
+        ensures stay { OnErr result (waiting_in self.new ≡ waiting_in self.old) }
+    {
+        let count = self.waiting.len() as u64;
+        records.append(&mut self.waiting)?;
+        self.first += count;
+        Ok(())
+    }
+
+    /// The records that wait, in the order of their numbers.
+    pub fn waiting(&self) -> &[LogRecord]
+        ensures { result.now ≡ waiting_in self.now }
+    {
+        &self.waiting
+    }
+}
+
+impl Tail for PlainTail {
+    ghost use Rattle.shore_log.specs.PlainTails.{first_of, waiting_in};
+
+    ghost first = { first_of };
+
+    ghost records = { waiting_in };
+
+    fn push(&mut self, logged: LogRecord) -> Result<Lsn, (Fault, LogRecord)> {
+        let number = self.first + self.waiting.len() as u64;
+        match self.waiting.push(logged) {
+            Ok(()) => Ok(Lsn(number)),
+            Err(refused) => Err((Fault::Memory, refused.value)),
+        }
+    }
+
+    fn next(&self) -> Lsn {
+        Lsn(self.first + self.waiting.len() as u64)
+    }
+}

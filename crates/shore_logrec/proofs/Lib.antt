@@ -1,0 +1,5 @@
+pub mod TextLengths
+pub mod Numbers
+pub mod Puttings
+pub mod Readers
+pub mod Records

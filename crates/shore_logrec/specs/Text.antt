@@ -1,0 +1,97 @@
+-- The one text of each log record.
+use Rattle.std.specs.Prelude.{ℕ, ◌+◌, ◌<◌, ◌≤◌, ◌^◌, ◌⊎◌, List, [], ◌∷◌, ◌++◌, length, Option, Some, None, IfSome, IsSome}
+use Rattle.std.specs.List.{flat_map}
+use Rattle.byteorder.specs.Endian.{little_bytes}
+use Rattle.shore_types.specs.declared.ids.Rid.{Rid}
+use Rattle.shore_types.specs.declared.layout.TheConstants.{MAX_RECORD_BYTES}
+use Rattle.shore_model.specs.Records.{Image}
+use Rattle.shore_model.specs.declared.log_records.LogRecord.{LogRecord}
+use Rattle.shore_model.specs.declared.log_records.Payload.{Payload}
+use Rattle.shore_model.specs.declared.log_records.Payload.TheVariants.{Change, Compensation, Commit, End, Prepare, RollbackDecided, CheckpointBegin, CheckpointEnd, Anchor}
+
+-- the number that the text begins with
+abbrev pub kind_of : Payload → ℕ
+kind_of (Change id before after) = 1
+kind_of (Compensation id after undo_next) = 2
+kind_of Commit = 3
+kind_of End = 4
+kind_of (Prepare global granules) = 5
+kind_of RollbackDecided = 6
+kind_of CheckpointBegin = 7
+kind_of (CheckpointEnd begin next txns dirty) = 8
+kind_of (Anchor checkpoint tail) = 9
+
+-- store, page and slot
+unfoldable pub rid_text : Rid → List ℕ
+rid_text r = little_bytes 4 r.page.store ++ little_bytes 4 r.page.page ++ little_bytes 2 r.slot
+
+-- the number of bytes in n bytes, and the bytes
+unfoldable pub string_text : ℕ → List ℕ → List ℕ
+string_text n bytes = little_bytes n (length bytes) ++ bytes
+
+-- 0 for absent; 1, and the bytes behind their number, for present
+abbrev pub image_text : Image → List ℕ
+image_text None = 0 ∷ []
+image_text (Some bytes) = 1 ∷ string_text 2 bytes
+
+-- the id, and the images before and after
+abbrev pub change_text : Rid → Image → Image → List ℕ
+change_text id before after = rid_text id ++ image_text before ++ image_text after
+
+-- the fields of a kind that is served
+abbrev pub payload_text : Payload → List ℕ
+payload_text (Change id before after) = change_text id before after
+payload_text _ = []
+
+-- 21 bytes: the kind, the transaction, the number of its record before, and how many bytes the payload has
+unfoldable pub head_text : LogRecord → List ℕ
+head_text r =
+    (kind_of r.payload ∷ []) ++ little_bytes 8 r.txn ++ little_bytes 8 r.previous
+    ++ little_bytes 4 (length (payload_text r.payload))
+
+-- the head, and then the payload
+unfoldable pub text : LogRecord → List ℕ
+text r = head_text r ++ payload_text r.payload
+
+-- the texts of records, one after another
+abbrev pub texts : List LogRecord → List ℕ
+texts rs = flat_map text rs
+
+-- each number has its place in the text
+pub record RidFits (r : Rid) : Type 0 where
+  pub store : r.page.store < 2 ^ 32
+  pub page : r.page.page < 2 ^ 32
+  pub slot : r.slot < 2 ^ 16
+
+abbrev pub ImageFits : Image → Type 0
+ImageFits image = IfSome image (λ bytes. length bytes ≤ MAX_RECORD_BYTES)
+
+-- a change that is one: an image before, after, or both
+pub record ChangeFits (id : Rid) (before after : Image) : Type 0 where
+  pub rid : RidFits id
+  pub old : ImageFits before
+  pub new : ImageFits after
+  pub some : IsSome before ⊎ IsSome after
+
+-- what has a text, of the kinds that are served
+abbrev pub PayloadFits : Payload → Type 0
+PayloadFits (Change id before after) = ChangeFits id before after
+PayloadFits Commit = Unit {0}
+PayloadFits _ = ⊥
+
+-- what has a text
+pub record Fits (r : LogRecord) : Type 0 where
+  pub some : 1 ≤ r.txn
+  pub txn_fits : r.txn < 2 ^ 64
+  pub previous_fits : r.previous < 2 ^ 64
+  pub payload_fits : PayloadFits r.payload
+
+-- What a record takes of the log's room: its text, and 13 bytes for its share of a frame, which has a gate, a length and
+-- a first number beside its records.
+abbrev pub cost_of : Payload → ℕ
+cost_of p = 34 + length (payload_text p)
+
+-- the bytes of an image's text, by the number of the image's bytes
+abbrev pub image_text_len : Option ℕ → ℕ
+image_text_len None = 1
+image_text_len (Some n) = 3 + n

@@ -1,0 +1,33 @@
+//! What records take of the log's room, in bytes, by the lengths of their images.
+ghost use Rattle.std.specs.Prelude.{◌≡◌, ◌≤◌, ◌+◌, length, option_map};
+ghost use Rattle.std.specs.Option.{ForSome};
+ghost use Rattle.shore_types.specs.declared.ids.Rid.{Rid};
+ghost use Rattle.shore_types.specs.declared.layout.TheConstants.{MAX_RECORD_BYTES};
+ghost use Rattle.shore_model.specs.Records.{Image};
+ghost use Rattle.shore_model.specs.declared.log_records.Payload.TheVariants.{Change};
+ghost use Rattle.shore_logrec.specs.Text.{cost_of, image_text_len};
+
+use crate::lengths::{LSN_BYTES, RID_BYTES, image_len};
+
+/// The cost of a record that has no payload, as a Commit or an End.
+pub const ENDING_COST: u64 = 34;
+
+/// The cost of a Change whose images have these lengths, None where one is absent.
+#[tactic(auto, using(crate::proofs::TextLengths::lengths))]
+pub fn change_cost(before: Option<usize>, after: Option<usize>) -> u64
+    requires before { ForSome before (λ n. n ≤ MAX_RECORD_BYTES) }
+    requires after { ForSome after (λ n. n ≤ MAX_RECORD_BYTES) }
+    ensures sum { result ≡ 44 + image_text_len before + image_text_len after }
+    ensures cost { (id : Rid) (b a : Image) → option_map length b ≡ before → option_map length a ≡ after
+        → result ≡ cost_of (Change id b a) }
+{
+    ENDING_COST + (RID_BYTES + image_len(before) + image_len(after)) as u64
+}
+
+/// The cost of a Compensation whose image has this length, None where it is absent.
+pub fn compensation_cost(image: Option<usize>) -> u64
+    requires { ForSome image (λ n. n ≤ MAX_RECORD_BYTES) }
+    ensures { result ≡ 52 + image_text_len image }
+{
+    ENDING_COST + (RID_BYTES + image_len(image) + LSN_BYTES) as u64
+}

@@ -1,0 +1,17 @@
+//! Log records and their texts, version 1 of the format. Kinds 1 (Change) and 3 (Commit) are served.
+#![tactic(auto)]
+
+mod costs;
+mod laws;
+mod lengths;
+mod reading;
+#[cfg(test)]
+mod tests;
+mod writing;
+
+pub use costs::{ENDING_COST, change_cost, compensation_cost};
+pub use laws::no_text_begins_another;
+pub use lengths::{MAX_TEXT_BYTES, encoded_len};
+pub use reading::{decode, u32_at, u64_at};
+pub use shore_model::{LogRecord, Payload};
+pub use writing::encode;

@@ -1,0 +1,138 @@
+//! Texts from their records.
+ghost use Rattle.std.specs.Prelude.{◌≡◌, ◌++◌, length, OnOk, OnErr};
+ghost use Rattle.byteorder.specs.Endian.{little_bytes};
+ghost use Rattle.shore_logrec.specs.Text.{Fits, ImageFits, ChangeFits, PayloadFits, kind_of};
+ghost use Rattle.shore_logrec.specs.Text.{rid_text, image_text, change_text, payload_text, head_text, text};
+ghost use Rattle.shore_logrec.specs.Room.{HasRoom, Puts};
+
+use crate::lengths::{encoded_len, payload_len};
+use byteorder::{ByteOrder, LittleEndian};
+use shore_model::{LogRecord, Payload};
+use shore_types::{Bytes, Rid};
+use std::alloc::AllocError;
+
+// Puts the bytes into room that is there.
+fn put(out: &mut Vec<u8>, bytes: &[u8])
+    requires { HasRoom out.old (length bytes.now) }
+    ensures { Puts out.old out.new bytes.now }
+{
+    // There is room, so it cannot fail.
+    let _ = out.extend_from_slice(bytes);
+}
+
+fn put_u16(out: &mut Vec<u8>, number: u16)
+    requires { HasRoom out.old 2 }
+    ensures { Puts out.old out.new (little_bytes 2 number) }
+{
+    let mut word = [0u8; 2];
+    LittleEndian::write_u16(&mut word, number);
+    put(out, &word);
+}
+
+fn put_u32(out: &mut Vec<u8>, number: u32)
+    requires { HasRoom out.old 4 }
+    ensures { Puts out.old out.new (little_bytes 4 number) }
+{
+    let mut word = [0u8; 4];
+    LittleEndian::write_u32(&mut word, number);
+    put(out, &word);
+}
+
+fn put_u64(out: &mut Vec<u8>, number: u64)
+    requires { HasRoom out.old 8 }
+    ensures { Puts out.old out.new (little_bytes 8 number) }
+{
+    let mut word = [0u8; 8];
+    LittleEndian::write_u64(&mut word, number);
+    put(out, &word);
+}
+
+#[tactic(auto, using(crate::proofs::TextLengths::lengths), unfolding(crate::specs::Text::rid_text))]
+fn put_rid(out: &mut Vec<u8>, id: Rid)
+    requires { HasRoom out.old 10 }
+    ensures { Puts out.old out.new (rid_text id) }
+{
+    put_u32(out, id.page.store.0);
+    put_u32(out, id.page.page);
+    put_u16(out, id.slot);
+}
+
+#[tactic(auto, using(crate::proofs::TextLengths::lengths), unfolding(crate::specs::Text::string_text))]
+fn put_image(out: &mut Vec<u8>, image: &Option<Bytes>)
+    requires fits { ImageFits image.now }
+    requires room { HasRoom out.old (length (image_text image.now)) }
+    ensures { Puts out.old out.new (image_text image.now) }
+{
+    match image {
+        None => put(out, &[0]),
+        Some(bytes) => {
+            put(out, &[1]);
+            put_u16(out, bytes.as_slice().len() as u16);
+            put(out, bytes.as_slice());
+        }
+    }
+}
+
+#[tactic(auto, using(crate::proofs::TextLengths::lengths))]
+fn put_change(out: &mut Vec<u8>, id: Rid, before: &Option<Bytes>, after: &Option<Bytes>)
+    requires fits { ChangeFits id before.now after.now }
+    requires room { HasRoom out.old (length (change_text id before.now after.now)) }
+    ensures { Puts out.old out.new (change_text id before.now after.now) }
+{
+    put_rid(out, id);
+    put_image(out, before);
+    put_image(out, after);
+}
+
+#[tactic(auto, using(crate::proofs::TextLengths::lengths))]
+fn put_payload(out: &mut Vec<u8>, payload: &Payload)
+    requires fits { PayloadFits payload.now }
+    requires room { HasRoom out.old (length (payload_text payload.now)) }
+    ensures { Puts out.old out.new (payload_text payload.now) }
+{
+    match payload {
+        Payload::Change { id, before, after } => put_change(out, *id, before, after),
+        _ => {}
+    }
+}
+
+fn kind_of(payload: &Payload) -> u8
+    ensures { result ≡ kind_of payload.now }
+{
+    match payload {
+        Payload::Change { .. } => 1,
+        Payload::Compensation { .. } => 2,
+        Payload::Commit => 3,
+        Payload::End => 4,
+        Payload::Prepare { .. } => 5,
+        Payload::RollbackDecided => 6,
+        Payload::CheckpointBegin => 7,
+        Payload::CheckpointEnd { .. } => 8,
+        Payload::Anchor { .. } => 9,
+    }
+}
+
+#[tactic(auto, using(crate::proofs::TextLengths::lengths), unfolding(crate::specs::Text::head_text))]
+fn put_head(out: &mut Vec<u8>, logged: &LogRecord)
+    requires fits { Fits logged.now }
+    requires room { HasRoom out.old 21 }
+    ensures { Puts out.old out.new (head_text logged.now) }
+{
+    put(out, &[kind_of(&logged.payload)]);
+    put_u64(out, logged.txn.0);
+    put_u64(out, logged.previous.0);
+    put_u32(out, payload_len(&logged.payload) as u32);
+}
+
+/// Appends the record's text. Where the growth is refused nothing is appended.
+#[tactic(auto, using(crate::proofs::TextLengths::lengths), unfolding(crate::specs::Text::text))]
+pub fn encode(logged: &LogRecord, out: &mut Vec<u8>) -> Result<(), AllocError>
+    requires { Fits logged.now }
+    ensures ok { OnOk result (out.new.items ≡ out.old.items ++ text logged.now) }
+    ensures err { OnErr result (out.new.items ≡ out.old.items) }
+{
+    out.reserve(encoded_len(logged))?;
+    put_head(out, logged);
+    put_payload(out, &logged.payload);
+    Ok(())
+}

@@ -1,0 +1,135 @@
+//! The records of the log.
+ghost use Rattle.std.specs.Prelude.{◌≡◌, ◌↔◌, IsTrue};
+ghost use Rattle.shore_model.specs.declared.log_records.Payload.{Payload};
+ghost use Rattle.shore_model.specs.Logs as logs;
+
+use shore_types::{Bytes, GlobalId, Granule, Lsn, PageId, Rid, Sequence, TxnId};
+
+/// What a checkpoint says of a transaction's state.
+#[derive(Clone, Copy, Debug, PartialEq, Eq)]
+pub enum TxnState {
+    Active,
+    Prepared,
+    RollingBack,
+}
+
+impl TxnState {
+    pub fn is_prepared(self) -> bool
+        ensures { result ≡ logs.is_prepared self }
+    {
+        matches!(self, TxnState::Prepared)
+    }
+}
+
+/// A transaction in the table of a checkpoint.
+#[derive(Clone, Copy, Debug, PartialEq, Eq)]
+pub struct LogTxn {
+    pub txn: TxnId,
+    pub state: TxnState,
+    pub first: Lsn,
+    pub last: Lsn,
+    pub undo_next: Lsn,
+    /// The number of its Prepare, 0 if none.
+    pub prepare: Lsn,
+}
+
+/// A page in the table of a checkpoint: redo of it begins at this number.
+#[derive(Clone, Copy, Debug, PartialEq, Eq)]
+pub struct DirtyPage {
+    pub page: PageId,
+    pub recovery: Lsn,
+}
+
+/// What a record says.
+#[derive(Debug, Drop, PartialEq)]
+pub enum Payload {
+    Change {
+        id: Rid,
+        before: Option<Bytes>,
+        after: Option<Bytes>,
+    },
+    Compensation {
+        id: Rid,
+        after: Option<Bytes>,
+        undo_next: Lsn,
+    },
+    Commit,
+    End,
+    Prepare {
+        global: GlobalId,
+        granules: Sequence<Granule>,
+    },
+    RollbackDecided,
+    CheckpointBegin,
+    CheckpointEnd {
+        begin: Lsn,
+        next: TxnId,
+        txns: Sequence<LogTxn>,
+        dirty: Sequence<DirtyPage>,
+    },
+    Anchor {
+        checkpoint: Lsn,
+        tail: Lsn,
+    },
+}
+
+impl Payload {
+    pub fn is_commit(&self) -> bool
+        ensures { result ≡ logs.is_commit self.now }
+    {
+        matches!(self, Payload::Commit)
+    }
+
+    pub fn is_end(&self) -> bool
+        ensures { result ≡ logs.is_end self.now }
+    {
+        matches!(self, Payload::End)
+    }
+
+    pub fn is_prepare(&self) -> bool
+        ensures { result ≡ logs.is_prepare self.now }
+    {
+        matches!(self, Payload::Prepare { .. })
+    }
+
+    pub fn is_rollback(&self) -> bool
+        ensures { result ≡ logs.is_rollback self.now }
+    {
+        matches!(self, Payload::RollbackDecided)
+    }
+
+    pub fn is_checkpoint_begin(&self) -> bool
+        ensures { IsTrue result ↔ (self.now ≡ Payload.CheckpointBegin) }
+    {
+        matches!(self, Payload::CheckpointBegin)
+    }
+
+    /// The record is a checkpoint's, and of no transaction.
+    pub fn is_of_checkpoint(&self) -> bool
+        ensures { result ≡ logs.is_of_checkpoint self.now }
+    {
+        matches!(
+            self,
+            Payload::CheckpointBegin | Payload::CheckpointEnd { .. } | Payload::Anchor { .. }
+        )
+    }
+
+    /// The id that the record changes.
+    pub fn id(&self) -> Option<Rid>
+        ensures { result ≡ logs.id_in self.now }
+    {
+        match self {
+            Payload::Change { id, .. } | Payload::Compensation { id, .. } => Some(*id),
+            _ => None,
+        }
+    }
+}
+
+/// A record: its transaction (0 for a checkpoint's), the number of that transaction's record before it (0 if none), and
+/// what it says.
+#[derive(Debug, Drop, PartialEq)]
+pub struct LogRecord {
+    pub txn: TxnId,
+    pub previous: Lsn,
+    pub payload: Payload,
+}

@@ -1,0 +1,5 @@
+//! Worked runs, with answers, records and waits written out by hand.
+mod histories;
+mod locks;
+mod logs;
+mod trail;

@@ -1,0 +1,9 @@
+-- The lines of the script whose calls are served.
+use Rattle.shore_core.specs.Served.{IsServed}
+use Rattle.shore_prog.specs.declared.command.Command.{Command}
+use Rattle.shore_prog.specs.declared.command.Command.TheVariants as command
+
+-- a call that is served, and every other line
+abbrev pub IsServedCommand : Command → Type 0
+IsServedCommand (command.Ask call) = IsServed call
+IsServedCommand _ = Unit {0}

@@ -1,0 +1,113 @@
+//! A line of the script.
+ghost use Rattle.std.specs.Prelude.{IfOk, IfSome};
+ghost use Rattle.shore_core.specs.Served.{IsServed};
+ghost use Rattle.shore_prog.specs.Commands.{IsServedCommand};
+
+use crate::words;
+use shore_disk::Pick;
+use shore_model::Call;
+use shore_types::SessionId;
+use std::alloc::{AllocError, Global};
+
+/// The one session that is served as yet.
+pub const SESSION: SessionId = SessionId(1);
+
+/// What a line of the script asks for.
+#[derive(Debug, Drop, PartialEq)]
+pub enum Command {
+    /// An empty line, or a remark.
+    Nothing,
+    /// A call of the session.
+    Ask(Call),
+    /// Every waiting record is forced.
+    Force,
+    /// The power is lost, and the manager opened again.
+    Crash(Pick),
+    /// The log device lets so many more writes and syncs pass.
+    Fuse(u64),
+    /// Every record in place.
+    Dump,
+    /// Every record of the log.
+    Log,
+}
+
+/// What the line asks for; an inner None is for a line that is none of the script's.
+pub fn parse(alloc: Global, line: &str) -> Result<Option<Command>, AllocError>
+    ensures { IfOk result (λ found. IfSome found IsServedCommand) }
+{
+    if line.is_empty() || line.starts_with('#') {
+        return Ok(Some(Command::Nothing));
+    }
+    let words: Vec<&str> = line.split(' ').collect(alloc)?;
+    match words.as_slice() {
+        [session, call @ ..] if words::session(session) == Some(SESSION) => {
+            match call_of(alloc, call)? {
+                Some(call) => Ok(Some(Command::Ask(call))),
+                None => Ok(None),
+            }
+        }
+        words => Ok(plain_command(words)),
+    }
+}
+
+fn plain_command(words: &[&str]) -> Option<Command>
+    ensures { IfSome result IsServedCommand }
+{
+    match words {
+        [word] => match *word {
+            "force" => Some(Command::Force),
+            "crash" => Some(Command::Crash(Pick::Old)),
+            "dump" => Some(Command::Dump),
+            "log" => Some(Command::Log),
+            _ => None,
+        },
+        [word, pick] if *word == "crash" => Some(Command::Crash(pick_of(pick)?)),
+        [word, device, calls] if *word == "fuse" && *device == "log" => {
+            Some(Command::Fuse(words::number(calls)?))
+        }
+        _ => None,
+    }
+}
+
+fn pick_of(word: &str) -> Option<Pick> {
+    match word {
+        "old" => Some(Pick::Old),
+        "new" => Some(Pick::New),
+        "noise" => Some(Pick::Noise),
+        _ => None,
+    }
+}
+
+fn call_of(alloc: Global, words: &[&str]) -> Result<Option<Call>, AllocError>
+    ensures { IfOk result (λ found. IfSome found IsServed) }
+{
+    match words {
+        [word] => match *word {
+            "begin" => Ok(Some(Call::Begin)),
+            "commit" => Ok(Some(Call::Commit)),
+            _ => Ok(None),
+        },
+        [word, record] if *word == "get" => Ok(get_of(record)),
+        [word, store, bytes] if *word == "insert" => insert_of(alloc, store, bytes),
+        _ => Ok(None),
+    }
+}
+
+fn get_of(record: &str) -> Option<Call>
+    ensures { IfSome result IsServed }
+{
+    let id = words::record(record)?;
+    Some(Call::Get(id))
+}
+
+fn insert_of(alloc: Global, store: &str, bytes: &str) -> Result<Option<Call>, AllocError>
+    ensures { IfOk result (λ found. IfSome found IsServed) }
+{
+    let Some(store) = words::store(store) else {
+        return Ok(None);
+    };
+    match words::bytes(alloc, bytes)? {
+        Some(bytes) => Ok(Some(Call::Insert(store, bytes))),
+        None => Ok(None),
+    }
+}

@@ -1,0 +1,183 @@
+//! A run of the program.
+ghost use Rattle.std.specs.Prelude.{IfOk, IfSome};
+ghost use Rattle.shore_prog.specs.Commands.{IsServedCommand};
+
+use crate::command::{Command, parse};
+use crate::manager::Manager;
+use crate::render;
+use crate::settings::{Settings, read_settings};
+use shore_types::{ConfigPlace, Fault};
+use std::alloc::{AllocError, Global};
+use std::io::{self, Read, Write};
+use std::process::ExitCode;
+
+/// The exit status of a run.
+#[derive(Clone, Copy, Debug, PartialEq, Eq)]
+enum Status {
+    Done,
+    /// The settings or a line of the script are bad, or input or output failed.
+    Bad,
+    /// The first format or open was refused, or the last open of the script was.
+    Refused,
+}
+
+impl Status {
+    fn exit_code(self) -> ExitCode {
+        ExitCode::from(match self {
+            Status::Done => 0,
+            Status::Bad => 1,
+            Status::Refused => 2,
+        })
+    }
+}
+
+// Why a run ends before its script.
+enum Stop {
+    Output,
+    Memory,
+}
+
+impl From<AllocError> for Stop {
+    fn from(_: AllocError) -> Stop {
+        Stop::Memory
+    }
+}
+
+impl From<io::Error> for Stop {
+    fn from(_: io::Error) -> Stop {
+        Stop::Output
+    }
+}
+
+/// Runs the script of the input under its settings, and writes the answers to the output. Exit status 0: done. 1: bad settings
+/// or a bad line, where the run ends, or input or output failed. 2: the first format or open was refused, or the last open of
+/// the script was, or memory ended.
+pub fn run<R: Read + Drop, W: Write + Drop>(
+    alloc: Global,
+    mut input: R,
+    mut output: W,
+) -> ExitCode {
+    let mut text = Vec::new(alloc);
+    if input.read_to_end(&mut text).is_err() {
+        return Status::Bad.exit_code();
+    }
+    let status = match run_text(alloc, &text, &mut output) {
+        Ok(status) => status,
+        Err(Stop::Output) => Status::Bad,
+        Err(Stop::Memory) => {
+            let _ = output.write_all(b"fault 27 Memory\n");
+            let _ = output.flush();
+            Status::Refused
+        }
+    };
+    status.exit_code()
+}
+
+fn run_text<W: Write>(alloc: Global, text: &[u8], output: &mut W) -> Result<Status, Stop> {
+    let mut line = String::new(alloc);
+    let status = match begin(alloc, text) {
+        Ok((manager, script)) => return run_script(alloc, manager, script, output),
+        Err(Refusal::Settings(fault)) => {
+            render::fault(&mut line, None, &fault)?;
+            Status::Bad
+        }
+        Err(Refusal::Open(fault)) => {
+            render::open_fault(&mut line, &fault)?;
+            Status::Refused
+        }
+        Err(Refusal::Memory) => return Err(Stop::Memory),
+    };
+    output.write_all(line.as_bytes())?;
+    output.flush()?;
+    Ok(status)
+}
+
+// Why no line of the script was run.
+enum Refusal {
+    Settings(Fault),
+    Open(Fault),
+    Memory,
+}
+
+fn begin(alloc: Global, text: &[u8]) -> Result<(Manager, &[u8]), Refusal> {
+    let toml = Fault::BadConfig(ConfigPlace::Toml);
+    let Some((settings, script)) = parts(text) else {
+        return Err(Refusal::Settings(toml));
+    };
+    let Ok(settings) = str::from_utf8(settings) else {
+        return Err(Refusal::Settings(toml));
+    };
+    let settings = match read_settings(alloc, settings) {
+        Ok(settings) => settings,
+        Err(Fault::Memory) => return Err(Refusal::Memory),
+        Err(fault) => return Err(Refusal::Settings(fault)),
+    };
+    match Manager::start(alloc, &settings) {
+        Ok(manager) => Ok((manager, script)),
+        Err(fault) => Err(Refusal::Open(fault)),
+    }
+}
+
+// What stands before the first line `---`, and what stands behind it.
+fn parts(text: &[u8]) -> Option<(&[u8], &[u8])> {
+    let mut rest = text;
+    for _ in 0..=text.len() {
+        let (line, after) = first_line(rest);
+        if line == b"---".as_slice() {
+            let front = text.len().saturating_sub(rest.len());
+            return Some((text.get(..front)?, after));
+        }
+        if after.is_empty() {
+            return None;
+        }
+        rest = after;
+    }
+    None
+}
+
+// A line, and what stands behind its end.
+fn first_line(text: &[u8]) -> (&[u8], &[u8]) {
+    match text.iter().position(|byte| *byte == b'\n') {
+        Some(end) => {
+            let (line, after) = text.split_at(end);
+            (line, after.get(1..).unwrap_or(&[]))
+        }
+        None => (text, &[]),
+    }
+}
+
+fn run_script<W: Write>(
+    alloc: Global,
+    mut manager: Manager,
+    script: &[u8],
+    output: &mut W,
+) -> Result<Status, Stop> {
+    let mut answers = String::new(alloc);
+    for (number, line) in (1u64..u64::MAX).zip(script.split(|byte| *byte == b'\n')) {
+        let Some(command) = command_of(alloc, line)? else {
+            let place = Fault::BadConfig(ConfigPlace::Line(number));
+            render::fault(&mut answers, None, &place)?;
+            output.write_all(answers.as_bytes())?;
+            output.flush()?;
+            return Ok(Status::Bad);
+        };
+        manager = manager.execute(alloc, command, &mut answers)?;
+        output.write_all(answers.as_bytes())?;
+        answers.clear();
+    }
+    output.flush()?;
+    Ok(if manager.is_open() {
+        Status::Done
+    } else {
+        Status::Refused
+    })
+}
+
+fn command_of(alloc: Global, line: &[u8]) -> Result<Option<Command>, AllocError>
+    ensures { IfOk result (λ found. IfSome found IsServedCommand) }
+{
+    match str::from_utf8(line) {
+        Ok(line) => parse(alloc, line),
+        Err(_) => Ok(None),
+    }
+}

@@ -1,0 +1,161 @@
+//! The settings, read from a TOML text.
+use shore_types::layout::{MAX_LOG_BYTES, MAX_POOL_FRAMES, MIN_LOG_BYTES, MIN_POOL_FRAMES};
+use shore_types::{ConfigPlace, Fault, Geometry, Sequence, Setting, Text};
+use std::alloc::{AllocError, Global};
+use toml::{Table, Value};
+
+const DEFAULT_PAIR: u64 = 1;
+
+const DEFAULT_LOG_BYTES: u64 = 1_052_672;
+
+const DEFAULT_STORE_PAGES: u32 = 2;
+
+const DEFAULT_MAX_LOCKS: u32 = 1024;
+
+const DEFAULT_POOL_FRAMES: u32 = 64;
+
+/// How the manager is made: over devices in memory, which are formatted at the start.
+#[derive(Debug, Drop, PartialEq)]
+pub struct Settings {
+    pub geometry: Geometry,
+    /// The length of the log device.
+    pub log_bytes: u64,
+    /// The frames of the page pool; checked, and not used before pages are stolen.
+    pub pool: u32,
+}
+
+fn refused(setting: Setting) -> Fault {
+    Fault::BadConfig(ConfigPlace::Setting(setting))
+}
+
+/// The settings of a TOML text. Each key has a default. Refused by 31: a text that is no TOML; then the least unknown key by
+/// bytes; then the first key, in the order of the settings, with a wrong value. 27 where a growth was refused.
+pub fn read_settings(alloc: Global, text: &str) -> Result<Settings, Fault> {
+    let table = match toml::table_from_str(alloc, text) {
+        Ok(table) => table,
+        Err(error) if error.is_memory() => return Err(Fault::Memory),
+        Err(_) => return Err(Fault::BadConfig(ConfigPlace::Toml)),
+    };
+    refuse_unknown(alloc, &table)?;
+    check_devices(&table)?;
+    check_files(&table)?;
+    let pair = number_or(&table, Setting::Pair, DEFAULT_PAIR)?;
+    let log_bytes = number_or(&table, Setting::LogBytes, DEFAULT_LOG_BYTES)?;
+    if log_bytes < MIN_LOG_BYTES || log_bytes > MAX_LOG_BYTES {
+        return Err(refused(Setting::LogBytes));
+    }
+    let stores = stores_of(alloc, &table)?;
+    let max_locks = short_number_or(&table, Setting::MaxLocks, DEFAULT_MAX_LOCKS);
+    let geometry = Geometry {
+        pair,
+        max_locks: max_locks.unwrap_or(0),
+        stores,
+    };
+    if let Some(setting) = geometry.outside_limits() {
+        return Err(refused(setting));
+    }
+    let pool = short_number_or(&table, Setting::Pool, DEFAULT_POOL_FRAMES)
+        .filter(|frames| (MIN_POOL_FRAMES..=MAX_POOL_FRAMES).contains(&(*frames as usize)))
+        .ok_or(refused(Setting::Pool))?;
+    Ok(Settings {
+        geometry,
+        log_bytes,
+        pool,
+    })
+}
+
+const KNOWN: [Setting; 9] = [
+    Setting::Devices,
+    Setting::Format,
+    Setting::LogPath,
+    Setting::VolumePath,
+    Setting::Pair,
+    Setting::LogBytes,
+    Setting::Stores,
+    Setting::MaxLocks,
+    Setting::Pool,
+];
+
+// The table keeps its keys in the order of their bytes.
+fn refuse_unknown(alloc: Global, table: &Table) -> Result<(), Fault> {
+    for key in table.keys() {
+        if !KNOWN.iter().any(|setting| setting.key() == key.as_str()) {
+            let name = Text::of(String::from_str(alloc, key.as_str())?);
+            return Err(Fault::BadConfig(ConfigPlace::UnknownKey(name)));
+        }
+    }
+    Ok(())
+}
+
+fn value_of<'a>(table: &'a Table, setting: Setting) -> Option<&'a Value> {
+    table.get(setting.key())
+}
+
+// Files are not served as yet.
+fn check_devices(table: &Table) -> Result<(), Fault> {
+    match value_of(table, Setting::Devices) {
+        None => Ok(()),
+        Some(value) if value.as_str() == Some("memory") => Ok(()),
+        Some(_) => Err(refused(Setting::Devices)),
+    }
+}
+
+// The keys of files, which devices in memory don't use.
+fn check_files(table: &Table) -> Result<(), Fault> {
+    if let Some(value) = value_of(table, Setting::Format)
+        && value.as_bool().is_none()
+    {
+        return Err(refused(Setting::Format));
+    }
+    check_path(table, Setting::LogPath)?;
+    check_path(table, Setting::VolumePath)
+}
+
+fn check_path(table: &Table, setting: Setting) -> Result<(), Fault> {
+    match value_of(table, setting) {
+        Some(value) if value.as_str().is_none() => Err(refused(setting)),
+        _ => Ok(()),
+    }
+}
+
+// A whole number from 0.
+fn number_in(value: &Value) -> Option<u64> {
+    u64::try_from(value.as_integer()?).ok()
+}
+
+fn number_or(table: &Table, setting: Setting, default: u64) -> Result<u64, Fault> {
+    match value_of(table, setting) {
+        None => Ok(default),
+        Some(value) => number_in(value).ok_or(refused(setting)),
+    }
+}
+
+fn short_number_or(table: &Table, setting: Setting, default: u32) -> Option<u32> {
+    match value_of(table, setting) {
+        None => Some(default),
+        Some(value) => u32::try_from(number_in(value)?).ok(),
+    }
+}
+
+fn stores_of(alloc: Global, table: &Table) -> Result<Sequence<u32>, Fault> {
+    let Some(value) = value_of(table, Setting::Stores) else {
+        return one_store(alloc).map_err(|_| Fault::Memory);
+    };
+    let Some(counts) = value.as_array() else {
+        return Err(refused(Setting::Stores));
+    };
+    let mut stores = Sequence::new(alloc);
+    for count in counts {
+        match number_in(count).and_then(|pages| u32::try_from(pages).ok()) {
+            Some(pages) => stores.push(pages).map_err(|_| Fault::Memory)?,
+            None => return Err(refused(Setting::Stores)),
+        }
+    }
+    Ok(stores)
+}
+
+fn one_store(alloc: Global) -> Result<Sequence<u32>, AllocError> {
+    let mut stores = Sequence::new(alloc);
+    stores.push(DEFAULT_STORE_PAGES)?;
+    Ok(stores)
+}

@@ -1,0 +1,6 @@
+pub mod Config
+pub mod Faults
+pub mod Ids
+pub mod Layout
+pub mod Locking
+pub mod Names

@@ -1,0 +1,121 @@
+//! The limits of version 1, and the layout of a volume.
+ghost use Rattle.std.specs.Prelude.{◌≡◌, ◌↔◌, Some, None, IsTrue};
+ghost use Rattle.shore_types.specs.Layout.{HasStore, HasPage, HasSlot, StoresInLimits, LocksInLimits, IsInLimits};
+ghost use Rattle.shore_types.specs.declared.config.Setting.TheVariants.{Stores, MaxLocks};
+
+use crate::{PageId, Rid, Sequence, Setting, StoreId};
+
+/// The version of all formats.
+pub const VERSION: u16 = 1;
+
+/// The bytes of a page.
+pub const PAGE_BYTES: usize = 8192;
+/// The bytes of a page's header, at its front.
+pub const PAGE_HEADER_BYTES: usize = 24;
+/// The bytes of a slot's entry in the slot table, at the page's end.
+pub const SLOT_ENTRY_BYTES: usize = 4;
+/// The most bytes of a record, which may have none.
+pub const MAX_RECORD_BYTES: usize = 4000;
+/// The most slots of a page: as many entries as the header leaves room for.
+pub const MAX_SLOTS: u16 = 2042;
+
+/// The most stores of a volume, which has at least one.
+pub const MAX_STORES: usize = 64;
+/// The most pages of all stores together. Each store has at least one.
+pub const MAX_PAGES: u32 = 65_536;
+/// The fewest lock nodes that a volume may be made for.
+pub const LEAST_MAX_LOCKS: u32 = 16;
+/// The most lock nodes that a volume may be made for.
+pub const MOST_MAX_LOCKS: u32 = 4096;
+
+/// The most transactions in the table.
+pub const MAX_TRANSACTIONS: usize = 256;
+/// The most savepoints of a transaction that stand at once.
+pub const MAX_SAVEPOINTS: usize = 64;
+/// The most bytes of a global id, which has at least one.
+pub const MAX_GLOBAL_ID_BYTES: usize = 64;
+
+/// The fewest frames of a pool.
+pub const MIN_POOL_FRAMES: usize = 8;
+/// The most frames of a pool.
+pub const MAX_POOL_FRAMES: usize = 1024;
+/// The most pages of one batch, which has at least one.
+pub const MAX_BATCH_PAGES: usize = 32;
+
+/// The most bytes of the records of one frame.
+pub const MAX_FRAME_BYTES: usize = 65_536;
+/// The bytes of the longest frame: its gate, length and first number, the most bytes of records.
+pub const LONGEST_FRAME: u64 = 65_549;
+/// The most that a whole checkpoint costs: its begin, its end with full tables, and the anchor.
+pub const GREATEST_CHECKPOINT: u64 = 27_018;
+/// The fewest bytes of a log device.
+pub const MIN_LOG_BYTES: u64 = 135_168;
+/// The most bytes of a log device.
+pub const MAX_LOG_BYTES: u64 = 1_073_741_824;
+
+/// How a pair of devices is laid out.
+#[derive(Debug, Drop, PartialEq)]
+pub struct Geometry {
+    /// The number of the pair, on both labels.
+    pub pair: u64,
+    /// The most lock nodes.
+    pub max_locks: u32,
+    /// The pages of each store.
+    pub stores: Sequence<u32>,
+}
+
+impl Geometry {
+    pub fn has_store(&self, id: StoreId) -> bool
+        ensures { IsTrue result ↔ HasStore self.now id }
+    {
+        (id.0 as usize) < self.stores.as_slice().len()
+    }
+
+    pub fn has_page(&self, id: PageId) -> bool
+        ensures { IsTrue result ↔ HasPage self.now id }
+    {
+        match self.stores.as_slice().get(id.store.0 as usize) {
+            Some(pages) => id.page < *pages,
+            None => false,
+        }
+    }
+
+    /// Whether a record may have this id.
+    pub fn has_slot(&self, id: Rid) -> bool
+        ensures { IsTrue result ↔ HasSlot self.now id }
+    {
+        self.has_page(id.page) && id.slot < MAX_SLOTS
+    }
+
+    /// The first setting, stores before lock nodes, that breaks the limits of version 1.
+    pub fn outside_limits(&self) -> Option<Setting>
+        ensures none { (result ≡ None) ↔ IsInLimits self.now }
+        ensures stores { (result ≡ Some Stores) ↔ ¬ StoresInLimits self.now }
+        ensures locks { (result ≡ Some MaxLocks) ↔ (StoresInLimits self.now × ¬ LocksInLimits self.now) }
+    {
+        if !self.has_stores_in_limits() {
+            return Some(Setting::Stores);
+        }
+        if self.max_locks < LEAST_MAX_LOCKS || self.max_locks > MOST_MAX_LOCKS {
+            return Some(Setting::MaxLocks);
+        }
+        None
+    }
+
+    fn has_stores_in_limits(&self) -> bool
+        ensures { IsTrue result ↔ StoresInLimits self.now }
+    {
+        let stores = self.stores.as_slice();
+        if stores.is_empty() || stores.len() > MAX_STORES {
+            return false;
+        }
+        let mut left = MAX_PAGES;
+        for pages in stores {
+            if *pages == 0 || *pages > left {
+                return false;
+            }
+            left -= *pages;
+        }
+        true
+    }
+}

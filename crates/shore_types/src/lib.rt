@@ -1,0 +1,17 @@
+//! The names that every layer of the storage manager shares, and its faults.
+#![tactic(auto)]
+
+pub mod config;
+pub mod faults;
+mod growths;
+pub mod ids;
+pub mod layout;
+pub mod locking;
+pub mod sequences;
+
+pub use config::{ConfigPlace, Setting, Text};
+pub use faults::{Device, Fault};
+pub use ids::{GlobalId, Lsn, PageId, Rid, SessionId, StoreId, Ticket, TxnId};
+pub use layout::Geometry;
+pub use locking::{Granule, Level, Mode};
+pub use sequences::{Bytes, Sequence};

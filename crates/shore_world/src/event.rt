@@ -1,0 +1,33 @@
+//! What the world is told to do.
+ghost use Rattle.std.specs.Prelude.{◌≡◌, IfOk};
+
+use shore_model::Call;
+use shore_types::SessionId;
+use std::alloc::{AllocError, Global};
+
+/// One event.
+#[derive(Debug, Drop, PartialEq)]
+pub enum Event {
+    /// A session makes a call.
+    Call(SessionId, Call),
+    /// A session goes on with its call that waits.
+    Resume(SessionId),
+    /// The longest list of waiting records that one frame holds is written behind a closed gate.
+    ForceStage,
+    /// The gate of the staged frame is opened.
+    ForceOpen,
+}
+
+impl Event {
+    /// A second event that does the same.
+    pub fn try_clone(&self, alloc: Global) -> Result<Event, AllocError>
+        ensures { IfOk result (λ event. event ≡ self.now) }
+    {
+        Ok(match self {
+            Event::Call(session, call) => Event::Call(*session, call.try_clone(alloc)?),
+            Event::Resume(session) => Event::Resume(*session),
+            Event::ForceStage => Event::ForceStage,
+            Event::ForceOpen => Event::ForceOpen,
+        })
+    }
+}

@@ -1,0 +1,175 @@
+//! The plain world: a core and its log device, one event at a time. There is no volume yet; the records in place are the
+//! core's, and an open makes them anew from the log.
+ghost use Rattle.std.specs.Prelude.{◌≡◌, ◌+◌, ◌++◌, All, IsTrue, IfOk, OnOk, OnErr, length};
+ghost use Rattle.shore_log.specs.Settled.{list_of};
+ghost use Rattle.shore_log.specs.PlainTails.{first_of, waiting_in};
+ghost use Rattle.shore_core.specs.Cores.{tail_of, has_failed, records_of};
+ghost use Rattle.shore_world.specs.Events.{IsServedEvent};
+
+use crate::Event;
+use crate::front::{Front, damaged, read_front};
+use shore_core::{Core, OpenError, Step};
+use shore_disk::{Disk, FuseDisk};
+use shore_log::{LogDev, LogRecord, PlainTail};
+use shore_model::{Answer, RidMap};
+use shore_types::{Bytes, Fault, Geometry, Lsn};
+use std::alloc::Global;
+use std::iter::Chain;
+use std::slice::Iter;
+
+/// The records of the log, in the order of their numbers.
+pub type Records<'a> = Chain<Iter<'a, LogRecord>, Iter<'a, LogRecord>>;
+
+/// A manager over its log device.
+#[derive(Drop)]
+pub struct World<D: Disk> {
+    core: Core<PlainTail>,
+    log: LogDev<D>,
+    ghost numbers: { first_of (tail_of core) ≡ 1 + length (list_of log) },
+}
+
+impl<D: Disk> World<D> {
+    /// Opens the manager of a formatted log device: a barrier, the label, the anchors, the frames, and then the records in place
+    /// as the log tells them. Refused by 29, 26 or 25 with the place where the device is not in order, by 23 where it failed, by
+    /// 27 where a growth was refused; the device is handed back, and may be opened again.
+    pub fn open(alloc: Global, mut log: D) -> Result<World<D>, (Fault, D)> {
+        let Front {
+            geometry,
+            anchor_place,
+        } = match read_front(alloc, &mut log) {
+            Ok(front) => front,
+            Err(fault) => return Err((fault, log)),
+        };
+        let mut log = LogDev::open(alloc, log)?;
+        match open_core(alloc, geometry, &log) {
+            Ok(core) => Ok(World { core, log }),
+            Err(error) => {
+                let fault = fault_of(error, anchor_place, &mut log);
+                Err((fault, log.into_device()))
+            }
+        }
+    }
+
+    /// Hands the device back.
+    pub fn into_devices(self) -> D {
+        self.log.into_device()
+    }
+
+    /// The records in place, decided or not, as a map in place order. No locks are taken.
+    pub fn dump(&self) -> &RidMap<Bytes> {
+        self.core.records()
+    }
+
+    /// Every record of the log from the tail number on, those that wait for a force last.
+    pub fn records(&self) -> Records<'_> {
+        self.log.records().iter().chain(self.core.waiting())
+    }
+
+    /// The number of the last durable record, 0 if there is none.
+    pub fn durable(&self) -> Lsn {
+        self.log.durable().number()
+    }
+
+    /// A device has failed: every call answers 24 until the devices are opened again.
+    pub fn has_failed(&self) -> bool {
+        self.core.has_failed()
+    }
+
+    /// One event.
+    pub fn step(&mut self, alloc: Global, event: Event) -> Step
+        requires { IsServedEvent event }
+    {
+        match event {
+            Event::Call(_, call) => self.core.call(alloc, call),
+            Event::Resume(_) => self.core.resume(),
+            Event::ForceStage => self.force_stage(alloc),
+            Event::ForceOpen => self.force_open(),
+        }
+    }
+
+    fn force_stage(&mut self, alloc: Global) -> Step {
+        if self.core.has_failed() {
+            return Step::Refused(Fault::Failed);
+        }
+        if self.log.is_staged() {
+            return Step::Nothing;
+        }
+        if let Err(fault) = self.core.hand_over(&mut self.log) {
+            return Step::Refused(fault);
+        }
+        match self.log.stage(alloc) {
+            Ok(Some(number)) => Step::Done(Answer::Staged(number)),
+            Ok(None) => Step::Nothing,
+            Err(fault) => self.refuse(fault),
+        }
+    }
+
+    fn force_open(&mut self) -> Step {
+        if self.core.has_failed() {
+            return Step::Refused(Fault::Failed);
+        }
+        let opened = match self.log.open_staged() {
+            Ok(opened) => opened,
+            Err(fault) => return self.refuse(fault),
+        };
+        let Some(durable) = opened else {
+            return Step::Nothing;
+        };
+        self.core.told(durable);
+        Step::Done(Answer::Forced(self.log.durable().number()))
+    }
+
+    // After a failure of the device every call is refused.
+    fn refuse(&mut self, fault: Fault) -> Step {
+        if fault == Fault::Device {
+            self.core.fail();
+        }
+        Step::Refused(fault)
+    }
+
+    /// The events, one step each. 27 where there is no room for the answers, and then no event was made.
+    pub fn run(&mut self, alloc: Global, events: &[Event], out: &mut Vec<Step>) -> Result<(), Fault>
+        requires { All IsServedEvent events.now }
+        ensures steps { OnOk result (length out.new.items ≡ length out.old.items + length events.now) }
+        ensures none { OnErr result (out.new.items ≡ out.old.items) }
+    {
+        out.reserve(events.len())?;
+        for event in events {
+            let step = match event.try_clone(alloc) {
+                Ok(event) => self.step(alloc, event),
+                Err(_) => Step::Refused(Fault::Memory),
+            };
+            out.push_reserved(step);
+        }
+        Ok(())
+    }
+}
+
+impl<D: Disk> World<FuseDisk<D>> {
+    /// Lets so many more writes and syncs of the device pass; then every call of it fails.
+    pub fn set_fuse(&mut self, calls: u64) {
+        self.log.set_fuse(calls);
+    }
+}
+
+fn open_core<D: Disk>(
+    alloc: Global,
+    geometry: Geometry,
+    log: &LogDev<D>,
+) -> Result<Core<PlainTail>, OpenError>
+    ensures numbers { IfOk result (λ core. first_of (tail_of core) ≡ 1 + length (list_of log.now)) }
+{
+    Core::open(alloc, geometry, log.records(), log.size(), log.durable())
+}
+
+// What an open is refused with, by the place that the error speaks of.
+fn fault_of<D: Disk>(error: OpenError, anchor_place: u64, log: &mut LogDev<D>) -> Fault {
+    match error {
+        OpenError::Memory => Fault::Memory,
+        OpenError::NoRoom => damaged(anchor_place),
+        OpenError::BadRecord(number) => match log.frame_of(number) {
+            Ok(place) => damaged(place),
+            Err(fault) => fault,
+        },
+    }
+}
