@@ -3,7 +3,7 @@ use Rattle.std.proofs.Common.{◌≡◌, ◌≤◌, ◌<◌, ◌^◌, ℕ, List,
 use Rattle.shore_types.specs.declared.ids.Rid.{Rid}
 use Rattle.shore_model.specs.declared.log_records.Payload.TheVariants.{Change}
 use Rattle.shore_logrec.specs.Text.{Fits, RidFits}
-use Rattle.shore_core.specs.declared.core.Active.{Active}
+use Rattle.shore_core.specs.declared.calls.Active.{Active}
 
 -- what holds of the transaction that is put there
 pub at_some : (P : Active → Type 0) (made a : Active) → Some made ≡ Some a → P made → P a

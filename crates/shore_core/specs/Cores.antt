@@ -4,7 +4,7 @@ use Rattle.shore_types.specs.declared.ids.Lsn.{Lsn}
 use Rattle.shore_log.specs.declared.tail.Tail.{Ghosts}
 use Rattle.shore_model.specs.Records.{Records}
 use Rattle.shore_core.specs.RecordMaps.{records_in}
-use Rattle.shore_core.specs.declared.core.Core.{Core}
+use Rattle.shore_core.specs.declared.calls.Core.{Core}
 
 -- the records in place
 abbrev pub records_of : {T : Type 0} {G : Ghosts T} → Core T G → Records

@@ -2,14 +2,14 @@
 //! room of the log, and hands the records of the log over to a tail.
 #![tactic(auto)]
 
-mod core;
+mod calls;
 mod place;
 mod records;
 mod replay;
 mod room;
 mod step;
 
-pub use crate::core::Core;
+pub use calls::Core;
 pub use records::RecordMap;
 pub use replay::OpenError;
 pub use room::LogRoom;

@@ -1,7 +1,7 @@
 use Rattle.std.proofs.Common.{◌≡◌, ◌+◌, ◌^◌, ◌≤◌, ◌<◌, [], ◌∷◌, List, ℕ, length, length-append, refl, ap, sym, ◌∙◌, arith}
-use Rattle.shore_core.specs.declared.core.Active.{Active}
+use Rattle.shore_core.specs.declared.calls.Active.{Active}
 use Rattle.shore_core.proofs.CoreLemmas.{at_some, Fits-insert}
-use Rattle.shore_core.proofs.core.Core.insert.Goals as goal
+use Rattle.shore_core.proofs.calls.Core.insert.Goals as goal
 
 pub push-requires-clause-text : goal.push-requires-clause-text
 push-requires-clause-text g c =

@@ -7,7 +7,7 @@ ghost use Rattle.shore_logrec.specs.Text.{Fits};
 ghost use Rattle.shore_logrec.specs.declared.costs.TheConstants.{ENDING_COST};
 ghost use Rattle.shore_log.specs.Settled.{list_of};
 ghost use Rattle.shore_log.specs.PlainTails.{first_of, waiting_in};
-ghost use Rattle.shore_core.specs.declared.core.TheConstants.{LAST_LSN, LAST_TXN};
+ghost use Rattle.shore_core.specs.declared.calls.TheConstants.{LAST_LSN, LAST_TXN};
 ghost use Rattle.shore_core.specs.Room.{Admits};
 ghost use Rattle.shore_core.specs.Served.{IsServed};
 

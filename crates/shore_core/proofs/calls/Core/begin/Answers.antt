@@ -1,7 +1,7 @@
 use Rattle.std.proofs.Common.{◌+◌, ◌^◌, ◌≤◌, ◌<◌, length, refl, arith}
-use Rattle.shore_core.specs.declared.core.Active.{Active}
+use Rattle.shore_core.specs.declared.calls.Active.{Active}
 use Rattle.shore_core.proofs.CoreLemmas.{at_some}
-use Rattle.shore_core.proofs.core.Core.begin.Goals as goal
+use Rattle.shore_core.proofs.calls.Core.begin.Goals as goal
 
 pub invariant_of-self : goal.invariant_of-self
 invariant_of-self g c =

@@ -1,5 +1,5 @@
 use Rattle.std.proofs.Common.{arith}
-use Rattle.shore_core.proofs.core.Core.commit.Goals as goal
+use Rattle.shore_core.proofs.calls.Core.commit.Goals as goal
 
 pub push-requires-clause-text : goal.push-requires-clause-text
 push-requires-clause-text g c =
