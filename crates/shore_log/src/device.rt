@@ -252,6 +252,21 @@ impl<D: Disk> LogDev<D> {
         }
     }
 
+    /// Reads the stable records from the device once more, from the tail number on. 25 at the byte of the first frame that is none,
+    /// 23 where the device failed, 27 where a growth was refused; nothing has changed.
+    pub fn read_from(&mut self, alloc: Global) -> Result<Vec<LogRecord>, Fault>
+        ensures found { IsTrue (D.is_honest self.old.device) → IfOk result (λ read. Gives read.items (seen (D.history self.old.device))) }
+        ensures only { IsTrue (D.is_honest self.old.device) → (rs : List LogRecord) → Gives rs (seen (D.history self.old.device))
+            → IfOk result (λ read. read.items ≡ rs) }
+        ensures refused { IfErr result RefusesReading }
+        ensures same { IsTrue (D.is_honest self.old.device) → D.history self.new.device ≡ D.history self.old.device }
+        ensures list { (list_of self.new ≡ list_of self.old) × (stable self.new ≡ stable self.old) }
+        ensures cause { HasCause result (D.faults self.old.device) (D.faults self.new.device) }
+    {
+        let read = read_stream(alloc, &mut self.device, self.limit, STREAM)?;
+        Ok(read.records)
+    }
+
     /// The byte of the frame that holds a record. 23 where the device failed.
     pub fn frame_of(&mut self, number: Lsn) -> Result<u64, Fault> {
         let end = STREAM + self.place;
