@@ -5,3 +5,4 @@ pub mod StoreLemmas
 pub mod LabelLemmas
 pub mod AnchorLemmas
 pub mod ChoiceLemmas
+pub mod WidthLemmas

@@ -1,8 +1,8 @@
 //! The two anchors of a log, from which its reading begins. They are written in turn, so one is always whole.
 ghost use Rattle.std.specs.Prelude.{◌≡◌, ◌+◌, ◌≤◌, ◌⊎◌, List, ℕ, length, IsTrue, IfOk, IfErr, MatchResult, Ok, Err};
-ghost use Rattle.shore_disk.specs.Device.{size, seen, Writes, CountsFault};
+ghost use Rattle.shore_disk.specs.Device.{size, seen, CountsFault};
 ghost use Rattle.shore_disk.specs.Cause.{HasCause};
-ghost use Rattle.shore_gate.specs.Anchor.{place_of, other_of, slot_bytes, anchor_bytes, damaged, may_count, open_anchor, counted, chosen, anchors_verdict, verdict_of, Counts};
+ghost use Rattle.shore_gate.specs.Anchor.{place_of, other_of, slot_bytes, damaged, may_count, open_anchor, counted, chosen, anchors_verdict, verdict_of, Counts};
 
 use crate::is_open;
 use crate::numbers::{are_zero, u64_at};
@@ -11,7 +11,7 @@ use shore_types::layout::LONGEST_FRAME;
 use shore_types::{Device, Fault, Lsn};
 
 /// The bytes of an anchor, its gate among them.
-const ANCHOR_BYTES: usize = 40;
+pub const ANCHOR_BYTES: usize = 40;
 
 /// The greatest number that the first record of the kept log may have.
 const MAX_TAIL: u64 = (1 << 46) + (1 << 32);
@@ -93,31 +93,22 @@ impl Anchors {
     }
 }
 
-/// Writes an anchor behind the gate of its slot, which is left as it is: the gate is closed before and opened after it.
-pub fn write_anchor<D: Disk>(disk: &mut D, slot: Slot, anchor: &Anchor) -> Result<(), Fault>
-    requires { 2088 ≤ size (D.history disk.old) }
-    ensures written { IsTrue (D.is_honest disk.old) → Writes (place_of slot + 1) (anchor_bytes anchor.now) result (D.history disk.old) (D.history disk.new) }
-    ensures only_device { IfErr result (λ fault. fault ≡ Fault.Device) }
-    ensures honest { D.is_honest disk.new ≡ D.is_honest disk.old }
-    ensures size { size (D.history disk.new) ≡ size (D.history disk.old) }
-    ensures cause { HasCause result (D.faults disk.old) (D.faults disk.new) }
-{
-    disk.write_at(slot.place() + 1, &encode_anchor(anchor))?;
-    Ok(())
-}
+impl Anchor {
+    ghost use Rattle.shore_gate.specs.Anchor.{anchor_bytes};
 
-// The bytes behind the gate.
-#[tactic(auto, unfolding(crate::specs::Anchor::anchor_bytes))]
-fn encode_anchor(anchor: &Anchor) -> [u8; ANCHOR_BYTES - 1]
-    ensures text { result ≡ anchor_bytes anchor.now }
-    ensures len { length result ≡ 39 }
-{
-    let mut bytes = [0; ANCHOR_BYTES - 1];
-    bytes[7..15].copy_from_slice(&anchor.sequence.to_le_bytes());
-    bytes[15..23].copy_from_slice(&anchor.checkpoint.0.to_le_bytes());
-    bytes[23..31].copy_from_slice(&anchor.tail.0.to_le_bytes());
-    bytes[31..39].copy_from_slice(&anchor.tail_place.to_le_bytes());
-    bytes
+    /// The bytes that stand for it behind the gate of a slot.
+    #[tactic(auto, unfolding(crate::specs::Anchor::anchor_bytes))]
+    pub fn to_bytes(&self) -> [u8; ANCHOR_BYTES - 1]
+        ensures text { result ≡ anchor_bytes self.now }
+        ensures len { length result ≡ 39 }
+    {
+        let mut bytes = [0; ANCHOR_BYTES - 1];
+        bytes[7..15].copy_from_slice(&self.sequence.to_le_bytes());
+        bytes[15..23].copy_from_slice(&self.checkpoint.0.to_le_bytes());
+        bytes[23..31].copy_from_slice(&self.tail.0.to_le_bytes());
+        bytes[31..39].copy_from_slice(&self.tail_place.to_le_bytes());
+        bytes
+    }
 }
 
 fn read_slot<D: Disk>(disk: &mut D, slot: Slot) -> Result<[u8; ANCHOR_BYTES], DiskFault>

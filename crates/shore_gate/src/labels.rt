@@ -6,7 +6,7 @@ ghost use Rattle.shore_disk.specs.Device.{size, Writes};
 ghost use Rattle.shore_disk.specs.Cause.{HasCause};
 ghost use Rattle.shore_gate.specs.Checks.{judged, IsFromOutside};
 ghost use Rattle.shore_gate.specs.Numbers.{number_at};
-ghost use Rattle.shore_gate.specs.Label.{kind_of, label_bytes, label_head, HoldsLabel, kind_checks, field_checks, store_checks, end_checks, may_be_long, is_filled, label_verdict, stores_of, HasLabel, verdict_of};
+ghost use Rattle.shore_gate.specs.Label.{kind_of, label_bytes, label_head, HoldsLabel, IsLabel, kind_checks, field_checks, store_checks, end_checks, may_be_long, is_filled, label_verdict, stores_of, HasLabel, verdict_of};
 
 use crate::is_open;
 use crate::numbers::{are_zero, u16_at, u32_at, u32s_at, u64_at};
@@ -73,6 +73,8 @@ pub fn read_label<D: Disk>(alloc: Global, disk: &mut D, device: Device) -> Resul
     ensures found { IsTrue (D.is_honest disk.old) → IfOk result (HasLabel device (D.history disk.old)) }
     ensures only { (label : Label) → IsTrue (D.is_honest disk.old) → HasLabel device (D.history disk.old) label
         → MatchResult result (λ read. read ≡ label) IsFromOutside }
+
+    ensures limits { IfOk result (IsLabel device (size (D.history disk.old))) }
 
     // What is refused goes by the checks in their order.
     ensures passed { IsTrue (D.is_honest disk.old) → OnOk result (verdict_of device (D.history disk.old) ≡ Ok tt) }

@@ -9,6 +9,6 @@ mod numbers;
 #[cfg(test)]
 mod tests;
 
-pub use anchors::{Anchor, Anchors, Slot, write_anchor};
+pub use anchors::{ANCHOR_BYTES, Anchor, Anchors, Slot};
 pub use gates::{CLOSED, OPEN, close_gate, is_open, open_gate};
 pub use labels::{LABEL_BYTES, Label, read_label, write_label};

@@ -197,8 +197,7 @@ fn an_anchor_is_written(rt: HostRuntime) -> Result<(), Fail> {
         tail_place: 70,
     };
     let mut disk = zeros(alloc, 4096)?;
-    let written = disk.len() == 4096 && write_anchor(&mut disk, Slot::B, &anchor).is_ok();
-    assert!(rt; written);
+    assert!(rt; put(&mut disk, 2049, &anchor.to_bytes()));
     assert!(rt; open(&mut disk, 2048));
     let slot = disk.bytes().get(2048..2088);
     assert!(rt; slot == Some(ANCHOR.as_slice()));

@@ -233,6 +233,10 @@ pub on_ok : {T E : Type 0} (r : Result T E) (P Q : Type 0) → (P → Q) → OnO
 on_ok (Ok x) P Q f p = f p
 on_ok (Err e) P Q f p = p
 
+pub on_ok_two : {T E : Type 0} (r : Result T E) (P Q R : Type 0) → (P → Q → R) → OnOk r P → OnOk r Q → OnOk r R
+on_ok_two (Ok x) P Q R f p q = f p q
+on_ok_two (Err e) P Q R f p q = p
+
 -- the definition says what the test says
 pub test-AreNumbered : (n : ℕ) (rs : List LogRecord) → AreNumbered n rs → IsTrue (are_numbered n rs)
 test-AreNumbered n [] are = refl

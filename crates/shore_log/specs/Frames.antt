@@ -41,9 +41,13 @@ joined gs = flat_map (λ g. g) gs
 abbrev pub Gives : List LogRecord → List ℕ → Type 0
 Gives rs image = (gs : List (List LogRecord)) × Frames 1 (drop 4096 image) gs × (rs ≡ joined gs)
 
--- they give this list, with one group more or without it
-abbrev pub GivesWithOrWithout : List LogRecord → List LogRecord → List ℕ → Type 0
-GivesWithOrWithout rs more image = Gives rs image ⊎ Gives (rs ++ more) image
+-- they give this list behind a front of 4,096 bytes, which no frame reaches
+abbrev pub GivesBehind : List ℕ → List LogRecord → List ℕ → Type 0
+GivesBehind front rs image = (take 4096 image ≡ front) × Gives rs image
+
+-- they give it with one group more, or without it
+abbrev pub GivesWithOrWithout : List ℕ → List LogRecord → List LogRecord → List ℕ → Type 0
+GivesWithOrWithout front rs more image = GivesBehind front rs image ⊎ GivesBehind front (rs ++ more) image
 
 -- the first so many of these records fit one frame, and one more would not
 pub record IsLongest (rs : List LogRecord) (count : ℕ) : Type 0 where

@@ -21,34 +21,32 @@ stable log = take log.forced log.records.items
 abbrev pub waiting : {D : Type 0} {G : Ghosts D} → LogDev D G → List LogRecord
 waiting log = drop log.forced log.records.items
 
--- The device is honest and holds the stable records in frames and a closed gate behind them, all of it stable. The next
--- frame goes to the place of that gate.
-pub record IsSettled {D : Type 0} {G : Ghosts D} (log : LogDev D G) : Type 0 where
+-- The device is honest and holds this front, the stable records in frames and a closed gate behind them, all of it stable.
+-- The next frame goes to the place of that gate.
+pub record IsSettled {D : Type 0} {G : Ghosts D} (log : LogDev D G) (front : List ℕ) : Type 0 where
   pub honest : IsTrue (G.is_honest log.device)
   pub groups : List (List LogRecord)
-  pub head : List ℕ
   pub gate : ℕ
   pub rest : List ℕ
-  pub head_long : length head ≡ 4096
+  pub front_long : length front ≡ 4096
   pub shut : gate ≢ OPEN
   pub are : AreGroups 1 groups
   pub forced : stable log ≡ joined groups
-  pub stands : Stands (G.history log.device) (head ++ (text 1 groups ++ gate ∷ rest))
+  pub stands : Stands (G.history log.device) (front ++ (text 1 groups ++ gate ∷ rest))
   pub place : log.place ≡ length (text 1 groups)
 
 -- One frame more, of these records, stands behind the closed gate, and a closed gate behind it, all of it stable.
-pub record IsStaged {D : Type 0} {G : Ghosts D} (log : LogDev D G) (group : List LogRecord) : Type 0 where
+pub record IsStaged {D : Type 0} {G : Ghosts D} (log : LogDev D G) (front : List ℕ) (group : List LogRecord) : Type 0 where
   pub honest : IsTrue (G.is_honest log.device)
   pub groups : List (List LogRecord)
-  pub head : List ℕ
   pub gate : ℕ
   pub rest : List ℕ
-  pub head_long : length head ≡ 4096
+  pub front_long : length front ≡ 4096
   pub shut : gate ≢ OPEN
   pub are : AreGroups 1 (groups ++ group ∷ [])
   pub forced : stable log ≡ joined groups
   pub first : take (length group) (waiting log) ≡ group
-  pub stands : Stands (G.history log.device) (head ++ (text 1 groups ++ gate ∷ (behind_gate (log.forced + 1) (texts group) ++ 0 ∷ rest)))
+  pub stands : Stands (G.history log.device) (front ++ (text 1 groups ++ gate ∷ (behind_gate (log.forced + 1) (texts group) ++ 0 ∷ rest)))
   pub place : log.place ≡ length (text 1 groups)
   pub waits : log.staged ≡ Some record { count = length group; len = length (texts group) }
 

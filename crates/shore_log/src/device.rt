@@ -7,7 +7,7 @@ ghost use Rattle.shore_disk.specs.Cause.{HasCause};
 ghost use Rattle.shore_model.specs.declared.log_records.LogRecord.{LogRecord};
 ghost use Rattle.shore_logrec.specs.Text.{Fits};
 ghost use Rattle.shore_log.specs.Lists.{are_numbered};
-ghost use Rattle.shore_log.specs.Frames.{Gives, GivesWithOrWithout, IsLongest};
+ghost use Rattle.shore_log.specs.Frames.{Gives, GivesBehind, GivesWithOrWithout, IsLongest};
 ghost use Rattle.shore_log.specs.Places.{IsBadAt, RefusesReading};
 
 use crate::group::{HEAD_BYTES, frame_bytes, longest_group};
@@ -98,8 +98,8 @@ impl<D: Disk> LogDev<D> {
     /// 9 where the device has no room for the frame, 27 where a growth was refused; after both nothing has changed.
     pub fn stage(&mut self, alloc: Global) -> Result<Option<Lsn>, Fault>
         // The staged records are the longest list that one frame holds.
-        ensures staged { IsSettled self.old → self.old.staged ≡ None → IfOk result (λ n. IfSome n (λ last.
-            IsStaged self.new (take (last - self.old.forced) (waiting self.old)))) }
+        ensures staged { (front : List ℕ) → IsSettled self.old front → self.old.staged ≡ None → IfOk result (λ n. IfSome n (λ last.
+            IsStaged self.new front (take (last - self.old.forced) (waiting self.old)))) }
         ensures longest { self.old.staged ≡ None → IfOk result (λ n. IfSome n (λ last.
             (self.old.forced < last) × IsLongest (waiting self.old) (last - self.old.forced))) }
         ensures none_waits { self.old.staged ≡ None → result ≡ Ok None → waiting self.old ≡ [] }
@@ -107,8 +107,8 @@ impl<D: Disk> LogDev<D> {
         ensures nothing { result ≡ Ok None → self.new ≡ self.old }
 
         // A crash at any moment of the call leaves the stable list.
-        ensures any_moment { IsSettled self.old → self.old.staged ≡ None
-            → LeavesOnly (D.history self.old.device) (D.history self.new.device) (Gives (stable self.old)) }
+        ensures any_moment { (front : List ℕ) → IsSettled self.old front → self.old.staged ≡ None
+            → LeavesOnly (D.history self.old.device) (D.history self.new.device) (GivesBehind front (stable self.old)) }
 
         ensures same { (list_of self.new ≡ list_of self.old) × (stable self.new ≡ stable self.old) }
         ensures refused { IfErr result (λ fault. (fault ≡ Fault.Device) ⊎ (self.new ≡ self.old)) }
@@ -135,16 +135,16 @@ impl<D: Disk> LogDev<D> {
 
     /// Opens the gate of the staged frame, and syncs. Answers the last durable number, and None where no frame is staged.
     pub fn open_staged(&mut self) -> Result<Option<Durable>, Fault>
-        ensures settled { (group : List LogRecord) → IsStaged self.old group
-            → OnOk result (IsSettled self.new × (stable self.new ≡ stable self.old ++ group)) }
+        ensures settled { (front : List ℕ) (group : List LogRecord) → IsStaged self.old front group
+            → OnOk result (IsSettled self.new front × (stable self.new ≡ stable self.old ++ group)) }
         ensures opened { IfOk result (λ n. IsSome n ↔ IsSome self.old.staged) }
         ensures none_staged { OnOk result (self.new.staged ≡ None) }
         ensures durable { IfOk result (λ n. IfSome n (λ durable. durable.lsn ≡ length (stable self.new))) }
         ensures nothing { result ≡ Ok None → self.new ≡ self.old }
 
         // A crash at any moment of the call leaves the stable list, with the frame that is staged or without it.
-        ensures any_moment { (group : List LogRecord) → IsStaged self.old group
-            → LeavesOnly (D.history self.old.device) (D.history self.new.device) (GivesWithOrWithout (stable self.old) group) }
+        ensures any_moment { (front : List ℕ) (group : List LogRecord) → IsStaged self.old front group
+            → LeavesOnly (D.history self.old.device) (D.history self.new.device) (GivesWithOrWithout front (stable self.old) group) }
 
         ensures same { list_of self.new ≡ list_of self.old }
         ensures only_device { IfErr result (λ fault. fault ≡ Fault.Device) }
@@ -163,13 +163,13 @@ impl<D: Disk> LogDev<D> {
 
     /// Forces one frame: stages it and opens its gate.
     pub fn append_frame(&mut self, alloc: Global) -> Result<Option<Durable>, Fault>
-        ensures settled { IsSettled self.old → self.old.staged ≡ None → OnOk result (IsSettled self.new × (self.new.staged ≡ None)) }
-        ensures forced { IsSettled self.old → self.old.staged ≡ None → (count : ℕ) → IsLongest (waiting self.old) count
+        ensures settled { (front : List ℕ) → IsSettled self.old front → self.old.staged ≡ None → OnOk result (IsSettled self.new front × (self.new.staged ≡ None)) }
+        ensures forced { (front : List ℕ) → IsSettled self.old front → self.old.staged ≡ None → (count : ℕ) → IsLongest (waiting self.old) count
             → OnOk result (stable self.new ≡ stable self.old ++ take count (waiting self.old)) }
 
         // A crash at any moment of the call leaves the stable list, with the longest group of waiting records or without it.
-        ensures any_moment { IsSettled self.old → self.old.staged ≡ None → (count : ℕ) → IsLongest (waiting self.old) count
-            → LeavesOnly (D.history self.old.device) (D.history self.new.device) (GivesWithOrWithout (stable self.old) (take count (waiting self.old))) }
+        ensures any_moment { (front : List ℕ) → IsSettled self.old front → self.old.staged ≡ None → (count : ℕ) → IsLongest (waiting self.old) count
+            → LeavesOnly (D.history self.old.device) (D.history self.new.device) (GivesWithOrWithout front (stable self.old) (take count (waiting self.old))) }
 
         ensures same { list_of self.new ≡ list_of self.old }
         ensures cause { HasCause result (D.faults self.old.device) (D.faults self.new.device) }
@@ -210,7 +210,7 @@ impl<D: Disk> LogDev<D> {
     /// growth was refused. The device is handed back then.
     pub fn open(alloc: Global, device: D) -> Result<LogDev<D>, (Fault, D)>
         // What is opened is settled, and all of its records are stable.
-        ensures settled { IsTrue (D.is_honest device) → (image : List ℕ) → Stands (D.history device) image → IfOk result IsSettled }
+        ensures settled { IsTrue (D.is_honest device) → (image : List ℕ) → Stands (D.history device) image → IfOk result (λ log. IsSettled log (take 4096 image)) }
         ensures none_waits { IfOk result (λ log. (log.staged ≡ None) × (stable log ≡ list_of log)) }
 
         // The records are those that the device's frames give, and no others.
@@ -300,7 +300,9 @@ impl<D: Disk> LogDev<D> {
     }
 
     /// Gives the device back.
-    pub fn into_device(self) -> D {
+    pub fn into_device(self) -> D
+        ensures { result ≡ self.device }
+    {
         self.device
     }
 }

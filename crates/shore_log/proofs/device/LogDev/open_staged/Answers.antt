@@ -12,30 +12,30 @@ use Rattle.shore_log.proofs.ListLemmas.{take-more_group}
 use Rattle.shore_log.proofs.device.LogDev.open_staged.Goals as goal
 
 pub returns-in_err-open_gate-clause-any_moment : goal.returns-in_err-open_gate-clause-any_moment
-returns-in_err-open_gate-clause-any_moment g c group s =
+returns-in_err-open_gate-clause-any_moment g c front group s =
     let old = c.args.self.now in
-    widened _ _ (TornFrom (4096 + old.place) 1 (g.D.Disk.history old.device)) (GivesWithOrWithout (stable old) group) (c.open_gate.ensures.any_moment s.honest)
-    (λ i torn. subst (λ rs. GivesWithOrWithout rs group i) (sym s.forced)
-    (torn_gate s.head s.head_long s.groups old.place s.place group s.gate s.rest (old.forced + 1) (number_of_staged old group s) i (AreGroups-front 1 s.groups group s.are) s.are
+    widened _ _ (TornFrom (4096 + old.place) 1 (g.D.Disk.history old.device)) (GivesWithOrWithout front (stable old) group) (c.open_gate.ensures.any_moment s.honest)
+    (λ i torn. subst (λ rs. GivesWithOrWithout front rs group i) (sym s.forced)
+    (torn_gate front s.front_long s.groups old.place s.place group s.gate s.rest (old.forced + 1) (number_of_staged old front group s) i (AreGroups-front 1 s.groups group s.are) s.are
     (subst (λ d. Torn (4096 + old.place) 1 d i) (s.stands.only torn.0 torn.1) torn.2)))
 
 pub returns-clause-any_moment : goal.returns-clause-any_moment
-returns-clause-any_moment g c group s =
+returns-clause-any_moment g c front group s =
     let old = c.args.self.now in
-    widened _ _ (TornFrom (4096 + old.place) 1 (g.D.Disk.history old.device)) (GivesWithOrWithout (stable old) group) (c.open_gate.ensures.any_moment s.honest)
-    (λ i torn. subst (λ rs. GivesWithOrWithout rs group i) (sym s.forced)
-    (torn_gate s.head s.head_long s.groups old.place s.place group s.gate s.rest (old.forced + 1) (number_of_staged old group s) i (AreGroups-front 1 s.groups group s.are) s.are
+    widened _ _ (TornFrom (4096 + old.place) 1 (g.D.Disk.history old.device)) (GivesWithOrWithout front (stable old) group) (c.open_gate.ensures.any_moment s.honest)
+    (λ i torn. subst (λ rs. GivesWithOrWithout front rs group i) (sym s.forced)
+    (torn_gate front s.front_long s.groups old.place s.place group s.gate s.rest (old.forced + 1) (number_of_staged old front group s) i (AreGroups-front 1 s.groups group s.are) s.are
     (subst (λ d. Torn (4096 + old.place) 1 d i) (s.stands.only torn.0 torn.1) torn.2)))
 
 pub returns-clause-settled : goal.returns-clause-settled
-returns-clause-settled g c group s =
+returns-clause-settled g c front group s =
     let old = c.args.self.now in
     let place = old.place in
     let behind = behind_gate (old.forced + 1) (texts group) in
-    let opened : overwritten (image s.head s.head_long s.groups place s.place (s.gate ∷ (behind ++ 0 ∷ s.rest))) (4096 + place) (OPEN ∷ []) ≡ s.head ++ (text 1 (s.groups ++ group ∷ []) ++ 0 ∷ s.rest) =
-    over_gate s.head s.head_long s.groups place s.place s.gate OPEN (behind ++ 0 ∷ s.rest)
-    ∙ ap (λ (n : ℕ). s.head ++ (text 1 s.groups ++ OPEN ∷ (behind_gate n (texts group) ++ 0 ∷ s.rest))) (number_of_staged old group s)
-    ∙ ap (λ (l : List ℕ). s.head ++ l) (sym (text-push 1 s.groups group (0 ∷ s.rest))) in
+    let opened : overwritten (image front s.front_long s.groups place s.place (s.gate ∷ (behind ++ 0 ∷ s.rest))) (4096 + place) (OPEN ∷ []) ≡ front ++ (text 1 (s.groups ++ group ∷ []) ++ 0 ∷ s.rest) =
+    over_gate front s.front_long s.groups place s.place s.gate OPEN (behind ++ 0 ∷ s.rest)
+    ∙ ap (λ (n : ℕ). front ++ (text 1 s.groups ++ OPEN ∷ (behind_gate n (texts group) ++ 0 ∷ s.rest))) (number_of_staged old front group s)
+    ∙ ap (λ (l : List ℕ). front ++ l) (sym (text-push 1 s.groups group (0 ∷ s.rest))) in
     let len : c.in-Some.staged.len ≡ length (texts group) = cc (c.in-Some.is, s.waits) in
     let count : c.in-Some.staged.count ≡ length group = cc (c.in-Some.is, s.waits) in
     let longer : take (old.forced + c.in-Some.staged.count) old.records.items ≡ stable old ++ group =
@@ -43,10 +43,9 @@ returns-clause-settled g c group s =
       record {
         honest = subst IsTrue (sym c.open_gate.ensures.honest) s.honest;
         groups = s.groups ++ group ∷ [];
-        head = s.head;
         gate = 0;
         rest = s.rest;
-        head_long = s.head_long;
+        front_long = s.front_long;
         shut = omega arith;
         are = s.are;
         forced = longer ∙ ap (λ (l : List LogRecord). l ++ group) s.forced ∙ sym (joined-push s.groups group);
