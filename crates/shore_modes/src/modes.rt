@@ -80,7 +80,7 @@ pub fn parent_mode(mode: Mode) -> Mode
 }
 
 /// Whether a granule of the level may be asked in the mode.
-pub fn is_allowed(level: Level, mode: Mode) -> bool
+pub fn allowed(level: Level, mode: Mode) -> bool
     ensures { result ≡ modes.is_allowed level mode }
 {
     match (level, mode) {

@@ -1,5 +1,5 @@
 -- Facts on the tables of modes, each computed at every mode.
-use Rattle.std.proofs.Common.{Bool, true, false, refl}
+use Rattle.std.proofs.Common.{◌≡◌, Bool, true, false, refl}
 use Rattle.std.specs.Prelude.{◌&&◌, ◌||◌, not, IsTrue}
 use Rattle.shore_types.specs.declared.locking.Mode.{Mode}
 use Rattle.shore_types.specs.declared.locking.Mode.TheVariants.{IS, IX, SH, SIX, EX, UD}
@@ -34,6 +34,12 @@ each_mode p h SIX = (six (p IS) (p IX) (p SH) (p SIX) (p EX) (p UD) h).3
 each_mode p h EX = (six (p IS) (p IX) (p SH) (p SIX) (p EX) (p UD) h).4
 each_mode p h UD = (six (p IS) (p IX) (p SH) (p SIX) (p EX) (p UD) h).5
 
+each_two : (t : Mode → Mode → Bool) → IsTrue (at_each (λ a. at_each (t a))) → (a b : Mode) → IsTrue (t a b)
+each_two t h a b = each_mode (t a) (each_mode (λ a. at_each (t a)) h a) b
+
+each_three : (t : Mode → Mode → Mode → Bool) → IsTrue (at_each (λ a. at_each (λ b. at_each (t a b)))) → (a b c : Mode) → IsTrue (t a b c)
+each_three t h a b c = each_mode (t a b) (each_two (λ a b. at_each (t a b)) h a b) c
+
 implied : (a b : Bool) → IsTrue (not a || b) → IsTrue a → IsTrue b
 implied true b h p = h
 implied false b h p = cc
@@ -54,16 +60,15 @@ least_test a b m = not (is_at_most a m) || (not (is_at_most b m) || is_at_most (
 
 left_of : (a b : Mode) → IsTrue (left_test a b)
 unfolding left_test
-left_of a b = each_mode (left_test a) (each_mode (λ a. at_each (left_test a)) refl a) b
+left_of = each_two left_test refl
 
 right_of : (a b : Mode) → IsTrue (right_test a b)
 unfolding right_test
-right_of a b = each_mode (right_test a) (each_mode (λ a. at_each (right_test a)) refl a) b
+right_of = each_two right_test refl
 
 least_of : (a b m : Mode) → IsTrue (least_test a b m)
 unfolding least_test
-least_of a b m =
-    each_mode (least_test a b) (each_mode (λ b. at_each (least_test a b)) (each_mode (λ a. at_each (λ b. at_each (least_test a b))) refl a) b) m
+least_of = each_three least_test refl
 
 pub sup_least : (a b : Mode) → IsLeastAbove a b (sup a b)
 unfolding left_test right_test least_test
@@ -78,7 +83,7 @@ write_test a b = not (is_write a && coexist a b)
 
 write_of : (a b : Mode) → IsTrue (write_test a b)
 unfolding write_test
-write_of a b = each_mode (write_test a) (each_mode (λ a. at_each (write_test a)) refl a) b
+write_of = each_two write_test refl
 
 -- a writer stands with nobody
 pub writer_alone : (a b : Mode) → IsTrue (is_write a) → IsTrue (coexist a b) → ⊥
@@ -90,7 +95,7 @@ read_test a b = not (is_at_most IX a) || not (is_read b && coexist a b)
 
 read_of : (a b : Mode) → IsTrue (read_test a b)
 unfolding read_test
-read_of a b = each_mode (read_test a) (each_mode (λ a. at_each (read_test a)) refl a) b
+read_of = each_two read_test refl
 
 -- an intention to write, or more, stands with no reader
 pub intention_without_readers : (a b : Mode) → IsTrue (is_at_most IX a) → IsTrue (is_read b) → IsTrue (coexist a b) → ⊥
@@ -102,7 +107,7 @@ swap_test a b = not (coexist a b) || coexist b a
 
 swap_of : (a b : Mode) → IsTrue (swap_test a b)
 unfolding swap_test
-swap_of a b = each_mode (swap_test a) (each_mode (λ a. at_each (swap_test a)) refl a) b
+swap_of = each_two swap_test refl
 
 pub coexist-swap : (a b : Mode) → IsTrue (coexist a b) → IsTrue (coexist b a)
 unfolding swap_test
@@ -113,9 +118,47 @@ grant_test a b = not (grants a b) || coexist a b
 
 grant_of : (a b : Mode) → IsTrue (grant_test a b)
 unfolding grant_test
-grant_of a b = each_mode (grant_test a) (each_mode (λ a. at_each (grant_test a)) refl a) b
+grant_of = each_two grant_test refl
 
 -- what a held mode grants may stand beside it
 pub grants-coexist : (a b : Mode) → IsTrue (grants a b) → IsTrue (coexist a b)
 unfolding grant_test
 grants-coexist a b h = implied (grants a b) (coexist a b) (grant_of a b) h
+
+pub at_most-refl : (a : Mode) → IsTrue (is_at_most a a)
+at_most-refl = each_mode (λ a. is_at_most a a) refl
+
+follow_test : Mode → Mode → Mode → Bool
+follow_test a b c = not (is_at_most a b) || (not (is_at_most b c) || is_at_most a c)
+
+follow_of : (a b c : Mode) → IsTrue (follow_test a b c)
+unfolding follow_test
+follow_of = each_three follow_test refl
+
+pub at_most-trans : (a b c : Mode) → IsTrue (is_at_most a b) → IsTrue (is_at_most b c) → IsTrue (is_at_most a c)
+unfolding follow_test
+at_most-trans a b c p q =
+    implied (is_at_most b c) (is_at_most a c) (implied (is_at_most a b) (not (is_at_most b c) || is_at_most a c) (follow_of a b c) p) q
+
+-- two modes that allow the same are one
+pub at_most-antisym : (a b : Mode) → IsTrue (is_at_most a b) → IsTrue (is_at_most b a) → a ≡ b
+at_most-antisym IS IS p q = refl
+at_most-antisym IX IX p q = refl
+at_most-antisym SH SH p q = refl
+at_most-antisym SIX SIX p q = refl
+at_most-antisym EX EX p q = refl
+at_most-antisym UD UD p q = refl
+at_most-antisym _ _ p q = cc
+
+weaker_test : Mode → Mode → Mode → Bool
+weaker_test a b c = not (is_at_most a b) || (not (coexist b c) || coexist a c)
+
+weaker_of : (a b c : Mode) → IsTrue (weaker_test a b c)
+unfolding weaker_test
+weaker_of = each_three weaker_test refl
+
+-- what a mode stands together with, each weaker one does too
+pub weaker-coexist : (a b c : Mode) → IsTrue (is_at_most a b) → IsTrue (coexist b c) → IsTrue (coexist a c)
+unfolding weaker_test
+weaker-coexist a b c p q =
+    implied (coexist b c) (coexist a c) (implied (is_at_most a b) (not (coexist b c) || coexist a c) (weaker_of a b c) p) q
