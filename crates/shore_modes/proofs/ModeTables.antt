@@ -149,16 +149,3 @@ at_most-antisym SIX SIX p q = refl
 at_most-antisym EX EX p q = refl
 at_most-antisym UD UD p q = refl
 at_most-antisym _ _ p q = cc
-
-weaker_test : Mode → Mode → Mode → Bool
-weaker_test a b c = not (is_at_most a b) || (not (coexist b c) || coexist a c)
-
-weaker_of : (a b c : Mode) → IsTrue (weaker_test a b c)
-unfolding weaker_test
-weaker_of = each_three weaker_test refl
-
--- what a mode stands together with, each weaker one does too
-pub weaker-coexist : (a b c : Mode) → IsTrue (is_at_most a b) → IsTrue (coexist b c) → IsTrue (coexist a c)
-unfolding weaker_test
-weaker-coexist a b c p q =
-    implied (coexist b c) (coexist a c) (implied (is_at_most a b) (not (coexist b c) || coexist a c) (weaker_of a b c) p) q

@@ -20,11 +20,6 @@ pub fn standing_together_is_mutual()
     ensures { (a b : Mode) → IsTrue (coexist a b) → IsTrue (coexist b a) }
 {}
 
-/// What a mode stands together with, each weaker one does too.
-pub fn weaker_mode_stands()
-    ensures { (a b other : Mode) → IsTrue (is_at_most a b) → IsTrue (coexist b other) → IsTrue (coexist a other) }
-{}
-
 /// What a held mode grants may stand beside it.
 pub fn grant_stands()
     ensures { (held asked : Mode) → IsTrue (grants held asked) → IsTrue (coexist held asked) }

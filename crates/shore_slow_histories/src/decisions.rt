@@ -5,7 +5,7 @@ ghost use Rattle.shore_model.specs.declared.histories.Doubt.{Doubt};
 ghost use Rattle.shore_model.specs.Histories as histories;
 ghost use Rattle.shore_model.specs.Histories.{Kept, is_ended_by, is_prepare_of, is_undecided, decision_of, acknowledged_by, asked_by, prepared_by};
 
-use crate::{Call, Decision, Doubt, Entry, Opening, Outcome};
+use shore_model::{Call, Decision, Doubt, Entry, Opening, Outcome};
 use shore_types::{GlobalId, Sequence, TxnId};
 use std::alloc::{AllocError, Global};
 

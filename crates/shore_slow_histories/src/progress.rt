@@ -5,81 +5,84 @@ ghost use Rattle.shore_types.specs.declared.ids.Rid.{Rid};
 ghost use Rattle.std.specs.FinMap.{get};
 ghost use Rattle.shore_model.specs.Histories.{calls_of, exchange_of};
 ghost use Rattle.shore_model.specs.Records.{WriteSet};
-ghost use Rattle.shore_model.specs.Alone.{Alone, IsAbsent, IsRight, MayRefuse, MayReply, MayReplyAll, start, after, after_answer, after_reply, named};
+ghost use Rattle.shore_model.specs.Alone as alone_runs;
+ghost use Rattle.shore_model.specs.Alone.{Alone, IsAbsent, IsRight, MayRefuse, MayReply, MayReplyAll, after, after_answer, after_reply, named};
 
-use crate::rid_map::{copy_writes, overlaid};
-use crate::{Answer, Call, Entry, Exchange, RidMap};
+use shore_model::rid_map::{copy_writes, overlaid};
+use shore_model::{Answer, Call, Entry, Exchange, Progress, RidMap};
 use shore_types::layout::MAX_SLOTS;
 use shore_types::{Bytes, Fault, Granule, Rid, Sequence, StoreId, TxnId};
 use std::alloc::{AllocError, Global};
 
-/// How far a transaction has come: what it has written, and what it had written at each savepoint that stands.
-#[derive(Debug, Drop)]
-pub struct Progress {
-    pub writes: RidMap<Option<Bytes>>,
-    pub saved: Sequence<RidMap<Option<Bytes>>>,
+/// How far a transaction has come that has called nothing yet.
+pub fn start(alloc: Global) -> Progress
+    ensures { result ≡ alone_runs.start }
+{
+    Progress {
+        writes: RidMap::new(alloc),
+        saved: Sequence::new(alloc),
+    }
 }
 
-impl Progress {
-    pub fn start(alloc: Global) -> Progress
-        ensures { result ≡ start }
-    {
-        Progress {
-            writes: RidMap::new(alloc),
-            saved: Sequence::new(alloc),
+// Goes on by an answer.
+fn take_answer(
+    alloc: Global,
+    progress: &mut Progress,
+    call: &Call,
+    answer: &Answer,
+) -> Result<(), AllocError>
+    ensures { OnOk result (progress.new ≡ after_answer progress.old call.now answer.now) }
+{
+    match (call, answer) {
+        (Call::Insert(_, bytes), Answer::Inserted(id)) => {
+            progress.writes.insert(*id, Some(bytes.try_clone(alloc)?))?;
         }
+        (Call::Update(id, bytes), _) => {
+            progress.writes.insert(*id, Some(bytes.try_clone(alloc)?))?;
+        }
+        (Call::Delete(id), _) => progress.writes.insert(*id, None)?,
+        (Call::Savepoint, _) => progress.saved.push(copy_writes(alloc, &progress.writes)?)?,
+        (Call::BackTo(k), _) => go_back(alloc, progress, *k)?,
+        _ => {}
     }
+    Ok(())
+}
 
-    // Goes on by an answer.
-    fn answer(&mut self, alloc: Global, call: &Call, answer: &Answer) -> Result<(), AllocError>
-        ensures { OnOk result (self.new ≡ after_answer self.old call.now answer.now) }
-    {
-        match (call, answer) {
-            (Call::Insert(_, bytes), Answer::Inserted(id)) => {
-                self.writes.insert(*id, Some(bytes.try_clone(alloc)?))?;
-            }
-            (Call::Update(id, bytes), _) => {
-                self.writes.insert(*id, Some(bytes.try_clone(alloc)?))?;
-            }
-            (Call::Delete(id), _) => self.writes.insert(*id, None)?,
-            (Call::Savepoint, _) => self.saved.push(copy_writes(alloc, &self.writes)?)?,
-            (Call::BackTo(k), _) => self.go_back(alloc, *k)?,
-            _ => {}
-        }
-        Ok(())
+/// Goes on by an entry of a history, where it is a call of the transaction.
+pub fn enter(
+    alloc: Global,
+    progress: &mut Progress,
+    txn: TxnId,
+    entry: &Entry,
+) -> Result<(), AllocError>
+    ensures { OnOk result (progress.new ≡ after progress.old (calls_of txn (entry.now ∷ []))) }
+{
+    if let Some(exchange) = call_of(txn, entry) {
+        take_reply(alloc, progress, exchange)?;
     }
+    Ok(())
+}
 
-    // Goes on by an entry of a history, where it is a call of the transaction.
-    pub fn enter(&mut self, alloc: Global, txn: TxnId, entry: &Entry) -> Result<(), AllocError>
-        ensures { OnOk result (self.new ≡ after self.old (calls_of txn (entry.now ∷ []))) }
-    {
-        if let Some(exchange) = call_of(txn, entry) {
-            self.reply(alloc, exchange)?;
-        }
-        Ok(())
+// Goes on by a reply.
+fn take_reply(alloc: Global, progress: &mut Progress, exchange: &Exchange) -> Result<(), AllocError>
+    ensures { OnOk result (progress.new ≡ after_reply progress.old exchange.now.call exchange.now.reply) }
+{
+    if let Ok(answer) = &exchange.reply {
+        take_answer(alloc, progress, &exchange.call, answer)?;
     }
+    Ok(())
+}
 
-    // Goes on by a reply.
-    fn reply(&mut self, alloc: Global, exchange: &Exchange) -> Result<(), AllocError>
-        ensures { OnOk result (self.new ≡ after_reply self.old exchange.now.call exchange.now.reply) }
-    {
-        if let Ok(answer) = &exchange.reply {
-            self.answer(alloc, &exchange.call, answer)?;
-        }
-        Ok(())
+// Goes back to a savepoint. One that does not stand changes nothing.
+fn go_back(alloc: Global, progress: &mut Progress, index: usize) -> Result<(), AllocError>
+    ensures writes { OnOk result (progress.new.writes ≡ unwrap_or (slice_get progress.old.saved index) progress.old.writes) }
+    ensures saved { OnOk result (progress.new.saved ≡ take (index + 1) progress.old.saved) }
+{
+    if let Some(kept) = progress.saved.as_slice().get(index) {
+        progress.writes = copy_writes(alloc, kept)?;
+        progress.saved.truncate(index + 1);
     }
-
-    // Goes back to a savepoint. One that does not stand changes nothing.
-    fn go_back(&mut self, alloc: Global, index: usize) -> Result<(), AllocError>
-        ensures writes { OnOk result (self.new.writes ≡ unwrap_or (slice_get self.old.saved index) self.old.writes) }
-        ensures saved { OnOk result (self.new.saved ≡ take (index + 1) self.old.saved) }
-    {
-        if let Some(kept) = self.saved.as_slice().get(index) {
-            self.writes = copy_writes(alloc, kept)?;
-            self.saved.truncate(index + 1);
-        }
-        Ok(())
-    }
+    Ok(())
 }
 
 // The answer is right where the transaction finds these records and has this many savepoints.
@@ -248,12 +251,12 @@ pub fn alone(
     ensures found { IfOk result (λ found. IfSome found (λ writes. Alone records.now (calls_of txn entries.now) writes)) }
     ensures none { IfOk result (λ found. IfNone found ((writes : WriteSet) → Alone records.now (calls_of txn entries.now) writes → ⊥)) }
 {
-    let mut progress = Progress::start(alloc);
+    let mut progress = start(alloc);
     for entry in entries {
         if !may_enter(alloc, records, &progress, txn, entry)? {
             return Ok(None);
         }
-        progress.enter(alloc, txn, entry)?;
+        enter(alloc, &mut progress, txn, entry)?;
     }
     Ok(Some(progress.writes))
 }

@@ -6,8 +6,9 @@ ghost use Rattle.shore_model.specs.Histories.{History, given, writes_in, serial,
 ghost use Rattle.shore_model.specs.Records.{overlay, overlays};
 
 use crate::decisions::in_doubt;
-use crate::rid_map::{copy_records, copy_writes, overlaid};
-use crate::{Decision, Doubt, Entry, Opening, Progress, RidMap};
+use crate::progress::{enter, start};
+use shore_model::rid_map::{copy_records, copy_writes, overlaid};
+use shore_model::{Decision, Doubt, Entry, Opening, RidMap};
 use shore_types::{Bytes, TxnId};
 use std::alloc::{AllocError, Global};
 
@@ -23,9 +24,9 @@ pub fn writes_of_txn(
     if let Some(writes) = given_writes(opening.in_doubt.as_slice(), txn) {
         return copy_writes(alloc, writes);
     }
-    let mut progress = Progress::start(alloc);
+    let mut progress = start(alloc);
     for entry in entries {
-        progress.enter(alloc, txn, entry)?;
+        enter(alloc, &mut progress, txn, entry)?;
     }
     Ok(progress.writes)
 }

@@ -6,91 +6,83 @@ ghost use Rattle.shore_model.specs.Histories as histories;
 ghost use Rattle.shore_model.specs.Histories.{IsHistory, IsNewNumber, IsOfTxn, MayStand, begun_by};
 
 use crate::decisions::{all_prepared, decisions, has_prepared};
-use crate::{Answer, Call, Decision, Doubt, Entry, Exchange, Opening};
+use shore_model::{Answer, Call, Decision, Doubt, Entry, Exchange, Opening, Standing};
 use shore_types::{Fault, GlobalId, SessionId, TxnId};
 use std::alloc::{AllocError, Global};
 
-/// Where a session stands: its transaction, 0 if it has none, and whether that is prepared.
-#[derive(Clone, Copy, Debug, PartialEq, Eq)]
-pub struct Standing {
-    pub txn: TxnId,
-    pub prepared: bool,
+/// A session that stands in no transaction.
+pub fn free() -> Standing
+    ensures { result ≡ histories.free }
+{
+    Standing {
+        txn: TxnId(0),
+        prepared: false,
+    }
 }
 
-impl Standing {
-    pub fn free() -> Standing
-        ensures { result ≡ histories.free }
-    {
-        Standing {
-            txn: TxnId(0),
+fn after_own_reply(stands: Standing, reply: &Result<Answer, Fault>) -> Standing
+    ensures { result ≡ histories.after_own_reply stands reply.now }
+{
+    match reply {
+        Ok(Answer::Began(txn)) => Standing {
+            txn: *txn,
             prepared: false,
-        }
+        },
+        Ok(Answer::Committed) => free(),
+        Ok(Answer::Aborted) => free(),
+        _ => stands,
     }
+}
 
-    fn after_own_reply(self, reply: &Result<Answer, Fault>) -> Standing
-        ensures { result ≡ histories.after_own_reply self reply.now }
-    {
-        match reply {
-            Ok(Answer::Began(txn)) => Standing {
-                txn: *txn,
-                prepared: false,
-            },
-            Ok(Answer::Committed) => Standing::free(),
-            Ok(Answer::Aborted) => Standing::free(),
-            _ => self,
-        }
+fn after_decision(stands: Standing, decision: &Decision) -> Standing
+    ensures { result ≡ histories.after_decision stands decision.now }
+{
+    match decision {
+        Decision::Prepare(txn, _) => once_prepared(stands, *txn),
+        Decision::Commit(txn) => once_decided(stands, *txn),
+        Decision::RollBack(txn) => once_decided(stands, *txn),
     }
+}
 
-    fn after_decision(self, decision: &Decision) -> Standing
-        ensures { result ≡ histories.after_decision self decision.now }
-    {
-        match decision {
-            Decision::Prepare(txn, _) => self.prepared_by(*txn),
-            Decision::Commit(txn) => self.freed_by(*txn),
-            Decision::RollBack(txn) => self.freed_by(*txn),
+fn once_prepared(stands: Standing, txn: TxnId) -> Standing
+    ensures { result ≡ histories.once_prepared stands txn }
+{
+    if stands.txn == txn {
+        Standing {
+            txn,
+            prepared: true,
         }
+    } else {
+        stands
     }
+}
 
-    fn prepared_by(self, txn: TxnId) -> Standing
-        ensures { result ≡ histories.once_prepared self txn }
-    {
-        if self.txn == txn {
-            Standing {
-                txn,
-                prepared: true,
+fn once_decided(stands: Standing, txn: TxnId) -> Standing
+    ensures { result ≡ histories.once_decided stands txn }
+{
+    if stands.txn == txn && stands.prepared {
+        free()
+    } else {
+        stands
+    }
+}
+
+fn after_entry(session: SessionId, stands: Standing, entry: &Entry) -> Standing
+    ensures { result ≡ histories.after_entry session stands entry.now }
+{
+    match entry {
+        Entry::Exchanged {
+            session: of,
+            txn: _,
+            exchange,
+        } => {
+            if *of == session {
+                after_own_reply(stands, &exchange.reply)
+            } else {
+                stands
             }
-        } else {
-            self
         }
-    }
-
-    fn freed_by(self, txn: TxnId) -> Standing
-        ensures { result ≡ histories.once_decided self txn }
-    {
-        if self.txn == txn && self.prepared {
-            Standing::free()
-        } else {
-            self
-        }
-    }
-
-    fn after_entry(self, session: SessionId, entry: &Entry) -> Standing
-        ensures { result ≡ histories.after_entry session self entry.now }
-    {
-        match entry {
-            Entry::Exchanged {
-                session: of,
-                txn: _,
-                exchange,
-            } => {
-                if *of == session {
-                    self.after_own_reply(&exchange.reply)
-                } else {
-                    self
-                }
-            }
-            Entry::Decided(decision) => self.after_decision(decision),
-        }
+        Entry::Decided(decision) => after_decision(stands, decision),
     }
 }
 
@@ -98,9 +90,9 @@ impl Standing {
 pub fn standing_after(session: SessionId, entries: &[Entry]) -> Standing
     ensures { result ≡ histories.standing session histories.free entries.now }
 {
-    let mut stands = Standing::free();
+    let mut stands = free();
     for entry in entries {
-        stands = stands.after_entry(session, entry);
+        stands = after_entry(session, stands, entry);
     }
     stands
 }

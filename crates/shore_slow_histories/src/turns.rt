@@ -6,7 +6,7 @@ ghost use Rattle.shore_model.specs.Histories.{RunsAloneAfter, Sound, TakeTurns, 
 use crate::decisions::{decisions, has_prepared};
 use crate::progress::alone;
 use crate::replays::serial_records;
-use crate::{Decision, Entry, Opening};
+use shore_model::{Decision, Entry, Opening};
 use shore_types::TxnId;
 use std::alloc::{AllocError, Global};
 

@@ -12,7 +12,7 @@ use Rattle.shore_types.specs.declared.locking.Mode.TheVariants.{IS, IX, SH, SIX,
 use Rattle.shore_model.specs.declared.holds.Hold.{Hold}
 use Rattle.shore_model.specs.Modes.{is_at_most, parent_mode, is_read, is_write}
 use Rattle.shore_model.specs.Locks.{ancestors, path, OnOnePath, KeepApart, Agree, StandTogether, Harmony, HoldsAtLeast, IsRooted, WellRooted}
-use Rattle.shore_model.proofs.ModeTables.{writer_alone, intention_without_readers, coexist-swap}
+use Rattle.shore_modes.proofs.ModeTables.{writer_alone, intention_without_readers, coexist-swap}
 
 -- nothing is in the empty list
 none_contained : {A : Type 0} (x : A) → Contains [] x → ⊥

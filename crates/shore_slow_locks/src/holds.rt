@@ -1,18 +1,11 @@
-//! Locks, as lists of what is held and asked.
+//! Whether locks that are held are in harmony and well rooted, decided slowly.
 ghost use Rattle.std.specs.Prelude.{◌≡◌, ◌↔◌, ◌∷◌, [], IsTrue, All, Contains};
 ghost use Rattle.std.specs.List.{AllByRecursion};
 ghost use Rattle.shore_model.specs.Locks.{Agree, Harmony, KeepApart, OnOnePath, StandTogether, HoldsAtLeast, IsRooted, WellRooted, ancestors, path};
 
-use crate::modes::{coexist, is_at_most, is_read, is_write, parent_mode};
+use shore_model::Hold;
+use shore_modes::{coexist, is_at_most, is_read, is_write, parent_mode};
 use shore_types::{Granule, Mode, PageId, StoreId, TxnId};
-
-/// A transaction holds a granule in a mode.
-#[derive(Clone, Copy, Debug, PartialEq, Eq)]
-pub struct Hold {
-    pub txn: TxnId,
-    pub granule: Granule,
-    pub mode: Mode,
-}
 
 /// On each granule the modes of different holders stand together.
 pub fn stand_together(held: &[Hold]) -> bool

@@ -1,30 +1,13 @@
-//! Requests for locks in one list, and who waits for whom.
+//! The queues of requests for locks, and who waits for whom, computed slowly.
 ghost use Rattle.std.specs.Prelude.{◌≡◌, ◌↔◌, ◌∷◌, ◌++◌, [], All, Contains, IfOk, IsTrue, OnOk, false, filter, not};
 ghost use Rattle.std.specs.List.{filter_map};
 ghost use Rattle.shore_model.specs.Requests as asked;
 ghost use Rattle.shore_model.specs.Requests.{AreRequests, Before, IsBehind, IsCycle, IsRefusedBy, WaitsFor, WaitsIn, Walk, are_alike, hold_of, is_in_group, requests_at};
 
-use crate::Hold;
-use crate::modes::grants;
-use shore_types::{Granule, Mode, Sequence, TxnId};
+use shore_model::{Group, Hold, Request};
+use shore_modes::grants;
+use shore_types::{Granule, Sequence, TxnId};
 use std::alloc::{AllocError, Global};
-
-/// What a transaction holds and wants of a granule. A conversion has both.
-#[derive(Clone, Copy, Debug, PartialEq, Eq)]
-pub struct Request {
-    pub txn: TxnId,
-    pub granule: Granule,
-    pub held: Option<Mode>,
-    pub wanted: Option<Mode>,
-}
-
-/// The groups of a granule's queue, in their order.
-#[derive(Clone, Copy, Debug, PartialEq, Eq)]
-pub enum Group {
-    Holders,
-    Conversions,
-    NewWaiters,
-}
 
 /// The queue of a granule: those that want nothing, then waiting conversions, then new waiters, each in list order.
 pub fn queue_at(

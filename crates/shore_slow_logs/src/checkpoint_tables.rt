@@ -5,7 +5,7 @@ ghost use Rattle.shore_model.specs.Logs as logs;
 use crate::log_lists::{
     first_of, is_in_doubt, is_over, last_of, prepare_number, unanswered, undo_next_of,
 };
-use crate::{LogRecord, LogTxn};
+use shore_model::{LogRecord, LogTxn};
 use shore_types::{Lsn, TxnId};
 use std::alloc::{AllocError, Global};
 
@@ -90,7 +90,7 @@ fn is_listed(records: &[LogRecord], txns: &[LogTxn], earlier: &LogRecord) -> boo
     earlier.txn == TxnId(0) || is_over(records, earlier.txn) || lists(txns, earlier.txn)
 }
 
-#[tactic(auto, unfolding(crate::specs::Logs::Lists))]
+#[tactic(auto, unfolding(shore_model::specs::Logs::Lists))]
 fn lists(txns: &[LogTxn], txn: TxnId) -> bool
     ensures { IsTrue result ↔ logs.Lists txns.now txn }
 {

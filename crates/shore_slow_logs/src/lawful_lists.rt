@@ -9,7 +9,7 @@ use crate::log_lists::{
     is_in_doubt, is_over, is_undoable, is_unprepared, last_of, unanswered, undo_next_of,
 };
 use crate::told_records::last_images;
-use crate::{LogRecord, Payload, UnansweredChange};
+use shore_model::{LogRecord, Payload, UnansweredChange};
 use shore_types::{Bytes, Granule, Lsn, Rid, TxnId};
 use std::alloc::{AllocError, Global};
 
@@ -208,7 +208,7 @@ fn keeps_under(earlier: &LogRecord, txn: TxnId, granules: &[Granule]) -> bool
     }
 }
 
-#[tactic(auto, unfolding(crate::specs::Logs::LiesUnder))]
+#[tactic(auto, unfolding(shore_model::specs::Logs::LiesUnder))]
 fn lies_under(granules: &[Granule], id: Rid) -> bool
     ensures { IsTrue result ↔ logs.LiesUnder granules.now id }
 {

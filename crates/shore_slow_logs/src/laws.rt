@@ -1,34 +1,15 @@
-//! Laws over the definitions, each the contract of a function with nothing to do.
-ghost use Rattle.std.specs.Prelude.{◌≡◌, ◌++◌, ◌∷◌, [], ℕ, List, take, All, IsTrue, false};
+//! Laws of lists of log records, and of the records that they tell, each the contract of a function with nothing to do.
+ghost use Rattle.std.specs.Prelude.{◌≡◌, ◌++◌, ◌∷◌, [], ℕ, List, take, false};
 ghost use Rattle.shore_types.specs.declared.locking.Granule.{Granule};
-ghost use Rattle.shore_types.specs.declared.locking.Mode.{Mode};
-ghost use Rattle.shore_model.specs.declared.holds.Hold.{Hold};
 ghost use Rattle.shore_model.specs.declared.log_records.LogRecord.{LogRecord};
 ghost use Rattle.shore_model.specs.declared.log_records.Payload.{Payload};
 ghost use Rattle.shore_model.specs.Records.{OverlayAnswers, overlay};
 ghost use Rattle.shore_model.specs.FirstPath.{ListTellsWhatIsShown};
-ghost use Rattle.shore_model.specs.Modes.{coexist, grants, sup, IsLeastAbove};
-ghost use Rattle.shore_model.specs.Locks.{Agree, Harmony, IsRooted, StandTogether, WellRooted};
 ghost use Rattle.shore_model.specs.Logs.{Lawful, MayFollow, told, in_doubt_in, has, is_commit, is_decision, is_in_doubt, is_prepare, is_rollback, logged_writes};
 
 /// An overlay answers from the write set first.
 pub fn overlay_answers()
     ensures { OverlayAnswers }
-{}
-
-/// A conversion asks for the least mode above what is held and what is asked.
-pub fn sup_is_least_above()
-    ensures { (a b : Mode) → IsLeastAbove a b (sup a b) }
-{}
-
-/// What a held mode grants may stand beside it.
-pub fn grant_stands()
-    ensures { (held asked : Mode) → IsTrue (grants held asked) → IsTrue (coexist held asked) }
-{}
-
-/// Locks with their intentions, whose holders stand together on each granule, are in harmony along every path.
-pub fn intentions_give_harmony()
-    ensures { (held : List Hold) → StandTogether held → WellRooted held → Harmony held }
 {}
 
 /// A beginning of a lawful list is lawful.
@@ -65,10 +46,4 @@ pub fn others_tell_nothing()
 /// What the list of a first path tells is what its decisions show.
 pub fn first_list_tells_what_is_shown()
     ensures { ListTellsWhatIsShown }
-{}
-
-/// A lock whose intentions are held, and whose mode stands with those of the other holders, keeps harmony.
-pub fn grant_keeps_harmony()
-    ensures { (held : List Hold) (new : Hold) → StandTogether held → WellRooted held → IsRooted held new → All (Agree new) held →
-        Harmony (new ∷ held) × WellRooted (new ∷ held) }
 {}

@@ -2,18 +2,10 @@
 ghost use Rattle.std.specs.Prelude.{◌≡◌, reverse, IfOk, OnOk};
 ghost use Rattle.shore_model.specs.Logs as logs;
 
-use crate::rid_map::copy_image;
-use crate::{LogRecord, Payload};
-use shore_types::{Bytes, Lsn, Rid, TxnId};
+use shore_model::rid_map::copy_image;
+use shore_model::{LogRecord, Payload, UnansweredChange};
+use shore_types::{Lsn, TxnId};
 use std::alloc::{AllocError, Global};
-
-/// A Change that no Compensation has answered.
-#[derive(Debug, Drop)]
-pub struct UnansweredChange {
-    pub number: Lsn,
-    pub id: Rid,
-    pub before: Option<Bytes>,
-}
 
 /// The number of a transaction's last record, 0 if it has none.
 pub fn last_of(records: &[LogRecord], txn: TxnId) -> Lsn

@@ -5,8 +5,8 @@ ghost use Rattle.shore_model.specs.Logs as logs;
 ghost use Rattle.shore_model.specs.Records.{overlays};
 
 use crate::log_lists::is_in_doubt;
-use crate::rid_map::{copy_image, overlaid};
-use crate::{LogRecord, Payload, RidMap};
+use shore_model::rid_map::{copy_image, overlaid};
+use shore_model::{LogRecord, Payload, RidMap};
 use shore_types::{Bytes, TxnId};
 use std::alloc::{AllocError, Global};
 

@@ -1,7 +1,7 @@
 use Rattle.std.proofs.Common.{◌≡◌, ◌++◌, drop, map}
 use Rattle.std.specs.List.{filter_map}
 use Rattle.shore_model.specs.Histories.{all_prepared, prepared_by}
-use Rattle.shore_model.proofs.decisions.all_prepared.Given as goal
+use Rattle.shore_slow_histories.proofs.decisions.all_prepared.Given as goal
 
 abbrev pub invariant-loop-doubt : goal.invariant-loop-doubt
 invariant-loop-doubt l =

@@ -2,7 +2,7 @@ use Rattle.std.proofs.Common.{◌<◌, ◌++◌, [], length, arith, ap, ◌∙�
 use Rattle.std.specs.List.{cons_option, filter_map}
 use Rattle.shore_model.specs.Histories.{decision_of}
 use Rattle.shore_model.proofs.Steps.{one_part, found_parts}
-use Rattle.shore_model.proofs.decisions.decisions.Goals as goal
+use Rattle.shore_slow_histories.proofs.decisions.decisions.Goals as goal
 
 pub loop-entry-preserved : goal.loop-entry-preserved
 loop-entry-preserved c =

@@ -1,7 +1,7 @@
 use Rattle.std.proofs.Common.{◌≡◌, ◌<◌, ◌≤◌, length, arith, refl, true, false}
 use Rattle.std.specs.Prelude.{Contains}
 use Rattle.shore_model.proofs.Scans.{All-more_at, All-whole, All-spoiled}
-use Rattle.shore_model.proofs.decisions.holds_each.Goals as goal
+use Rattle.shore_slow_histories.proofs.decisions.holds_each.Goals as goal
 
 pub loop-decision-preserved : goal.loop-decision-preserved
 loop-decision-preserved c =

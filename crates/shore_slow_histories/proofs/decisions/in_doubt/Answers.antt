@@ -2,7 +2,7 @@ use Rattle.std.proofs.Common.{◌<◌, ℕ, List, length, arith}
 use Rattle.std.specs.Prelude.{filter}
 use Rattle.shore_model.specs.Histories.{is_undecided}
 use Rattle.shore_model.proofs.Steps.{one_part, kept_parts}
-use Rattle.shore_model.proofs.decisions.in_doubt.Goals as goal
+use Rattle.shore_slow_histories.proofs.decisions.in_doubt.Goals as goal
 
 pub loop-pair-preserved : goal.loop-pair-preserved
 loop-pair-preserved c =

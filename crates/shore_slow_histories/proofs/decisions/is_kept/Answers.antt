@@ -1,6 +1,6 @@
 use Rattle.std.proofs.Common.{◌∙◌}
-use Rattle.shore_model.proofs.Beginnings.{kept_iff}
-use Rattle.shore_model.proofs.decisions.is_kept.Goals as goal
+use Rattle.shore_slow_histories.proofs.Beginnings.{kept_iff}
+use Rattle.shore_slow_histories.proofs.decisions.is_kept.Goals as goal
 
 pub returns : goal.returns
 returns c =

@@ -2,7 +2,7 @@ use Rattle.std.proofs.Common.{◌<◌, ◌+◌, ℕ, List, length, arith, drop, 
 use Rattle.shore_model.specs.Records.{overlay, overlays}
 use Rattle.shore_model.specs.Histories.{History, writes_in}
 use Rattle.shore_model.proofs.Steps.{at_place}
-use Rattle.shore_model.proofs.replays.shown_records.Goals as goal
+use Rattle.shore_slow_histories.proofs.replays.shown_records.Goals as goal
 
 pub loop-doubt-preserved : goal.loop-doubt-preserved
 loop-doubt-preserved c =

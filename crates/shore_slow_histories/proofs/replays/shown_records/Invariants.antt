@@ -1,7 +1,7 @@
 use Rattle.std.proofs.Common.{◌≡◌, drop, map}
 use Rattle.shore_model.specs.Records.{overlays}
 use Rattle.shore_model.specs.Histories.{History, shown, writes_in}
-use Rattle.shore_model.proofs.replays.shown_records.Given as goal
+use Rattle.shore_slow_histories.proofs.replays.shown_records.Given as goal
 
 -- the records so far, overlaid for those that are left
 abbrev pub invariant-loop-doubt : goal.invariant-loop-doubt

@@ -2,7 +2,7 @@ use Rattle.std.proofs.Common.{◌≡◌, ◌<◌, ◌≤◌, length, arith, refl
 use Rattle.std.specs.Prelude.{IfSome}
 use Rattle.shore_model.specs.Histories.{began}
 use Rattle.shore_model.proofs.Scans.{All-more_at, All-whole, All-spoiled}
-use Rattle.shore_model.proofs.sessions.is_above_begun.Goals as goal
+use Rattle.shore_slow_histories.proofs.sessions.is_above_begun.Goals as goal
 
 pub loop-entry-preserved : goal.loop-entry-preserved
 loop-entry-preserved c =

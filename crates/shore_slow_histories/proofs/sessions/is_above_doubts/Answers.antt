@@ -1,7 +1,7 @@
 use Rattle.std.proofs.Common.{◌≡◌, ◌<◌, ◌≤◌, length, arith, refl, true, false}
 use Rattle.shore_model.specs.declared.histories.Doubt.{Doubt}
 use Rattle.shore_model.proofs.Scans.{All-more_at, All-whole, All-spoiled}
-use Rattle.shore_model.proofs.sessions.is_above_doubts.Goals as goal
+use Rattle.shore_slow_histories.proofs.sessions.is_above_doubts.Goals as goal
 
 pub loop-doubt-preserved : goal.loop-doubt-preserved
 loop-doubt-preserved c =

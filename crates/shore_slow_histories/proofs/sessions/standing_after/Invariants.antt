@@ -1,6 +1,6 @@
 use Rattle.std.proofs.Common.{◌≡◌, drop}
 use Rattle.shore_model.specs.Histories.{standing, free}
-use Rattle.shore_model.proofs.sessions.standing_after.Given as goal
+use Rattle.shore_slow_histories.proofs.sessions.standing_after.Given as goal
 
 -- where the session comes to with what is left
 abbrev pub invariant-loop-entry : goal.invariant-loop-entry

@@ -1,5 +1,5 @@
-use Rattle.shore_model.proofs.Harmonies.{harmony_from_apart, apart_from_harmony}
-use Rattle.shore_model.proofs.holds.harmony.Goals as goal
+use Rattle.shore_slow_locks.proofs.Harmonies.{harmony_from_apart, apart_from_harmony}
+use Rattle.shore_slow_locks.proofs.holds.harmony.Goals as goal
 
 pub returns-then-stand_together : goal.returns-then-stand_together
 returns-then-stand_together c = (

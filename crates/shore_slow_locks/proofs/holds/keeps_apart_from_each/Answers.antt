@@ -1,7 +1,7 @@
 use Rattle.std.proofs.Common.{◌≡◌, ◌<◌, ◌≤◌, length, arith, refl, true, false}
 use Rattle.shore_model.specs.Locks.{KeepApart}
 use Rattle.shore_model.proofs.Scans.{All-more_at, All-whole, All-spoiled}
-use Rattle.shore_model.proofs.holds.keeps_apart_from_each.Goals as goal
+use Rattle.shore_slow_locks.proofs.holds.keeps_apart_from_each.Goals as goal
 
 pub loop-other-preserved : goal.loop-other-preserved
 loop-other-preserved c =

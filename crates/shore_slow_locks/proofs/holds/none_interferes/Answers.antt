@@ -2,7 +2,7 @@ use Rattle.std.proofs.Common.{◌≡◌, ◌<◌, ◌≤◌, length, arith, refl
 use Rattle.std.specs.Prelude.{All}
 use Rattle.shore_model.specs.Locks.{KeepApart}
 use Rattle.shore_model.proofs.Scans.{All-more_at, All-whole, All-spoiled}
-use Rattle.shore_model.proofs.holds.none_interferes.Goals as goal
+use Rattle.shore_slow_locks.proofs.holds.none_interferes.Goals as goal
 
 pub loop-hold-preserved : goal.loop-hold-preserved
 loop-hold-preserved c =

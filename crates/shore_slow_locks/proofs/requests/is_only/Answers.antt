@@ -1,7 +1,7 @@
 use Rattle.std.proofs.Common.{◌≡◌, ◌<◌, ◌≤◌, length, arith, refl, false}
 use Rattle.shore_model.specs.Requests.{are_alike}
 use Rattle.shore_model.proofs.Scans.{All-more_at, All-whole}
-use Rattle.shore_model.proofs.requests.is_only.Goals as goal
+use Rattle.shore_slow_locks.proofs.requests.is_only.Goals as goal
 
 pub loop-other-preserved : goal.loop-other-preserved
 loop-other-preserved c =

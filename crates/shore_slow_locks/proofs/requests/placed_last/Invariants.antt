@@ -1,7 +1,7 @@
 use Rattle.std.proofs.Common.{◌≡◌, ◌++◌, drop}
 use Rattle.std.specs.Prelude.{filter, not}
 use Rattle.shore_model.specs.Requests.{are_alike}
-use Rattle.shore_model.proofs.requests.placed_last.Given as goal
+use Rattle.shore_slow_locks.proofs.requests.placed_last.Given as goal
 
 abbrev pub invariant-loop-request : goal.invariant-loop-request
 invariant-loop-request l =

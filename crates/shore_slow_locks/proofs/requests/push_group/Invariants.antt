@@ -1,7 +1,7 @@
 use Rattle.std.proofs.Common.{◌≡◌, ◌++◌, drop}
 use Rattle.std.specs.Prelude.{filter}
 use Rattle.shore_model.specs.Requests.{is_in_group, requests_at}
-use Rattle.shore_model.proofs.requests.push_group.Given as goal
+use Rattle.shore_slow_locks.proofs.requests.push_group.Given as goal
 
 abbrev pub invariant-loop-request : goal.invariant-loop-request
 invariant-loop-request l =

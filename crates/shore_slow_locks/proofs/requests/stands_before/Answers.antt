@@ -1,6 +1,6 @@
 use Rattle.std.proofs.Common.{◌≡◌, ◌<◌, ◌+◌, length, arith, refl, true, false}
-use Rattle.shore_model.proofs.WaitLemmas.{Before-found, Before-passed, rest_of}
-use Rattle.shore_model.proofs.requests.stands_before.Goals as goal
+use Rattle.shore_slow_locks.proofs.WaitLemmas.{Before-found, Before-passed, rest_of}
+use Rattle.shore_slow_locks.proofs.requests.stands_before.Goals as goal
 
 pub loop-place-preserved : goal.loop-place-preserved
 loop-place-preserved c =

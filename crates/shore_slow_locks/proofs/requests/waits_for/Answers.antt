@@ -1,8 +1,8 @@
 use Rattle.std.proofs.Common.{◌≡◌, ◌<◌, ◌≤◌, length, arith, true, false}
 use Rattle.std.proofs.lemmas.List.Elements.{All-contains}
 use Rattle.shore_model.proofs.Scans.{All-more_at, All-whole}
-use Rattle.shore_model.proofs.WaitLemmas.{WaitsAs}
-use Rattle.shore_model.proofs.requests.waits_for.Goals as goal
+use Rattle.shore_slow_locks.proofs.WaitLemmas.{WaitsAs}
+use Rattle.shore_slow_locks.proofs.requests.waits_for.Goals as goal
 
 pub loop-waiter-preserved : goal.loop-waiter-preserved
 loop-waiter-preserved c =

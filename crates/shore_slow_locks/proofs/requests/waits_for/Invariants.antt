@@ -1,7 +1,7 @@
 use Rattle.std.proofs.Common.{take}
 use Rattle.std.specs.Prelude.{All}
-use Rattle.shore_model.proofs.WaitLemmas.{WaitsAs}
-use Rattle.shore_model.proofs.requests.waits_for.Given as goal
+use Rattle.shore_slow_locks.proofs.WaitLemmas.{WaitsAs}
+use Rattle.shore_slow_locks.proofs.requests.waits_for.Given as goal
 
 -- none so far waits
 abbrev pub invariant-loop-waiter : goal.invariant-loop-waiter

@@ -1,6 +1,6 @@
 use Rattle.std.proofs.Common.{◌≡◌, ◌<◌, length, arith, true, false}
-use Rattle.shore_model.proofs.WaitLemmas.{WalksOn-more, WalksOn-stop}
-use Rattle.shore_model.proofs.requests.walks.Goals as goal
+use Rattle.shore_slow_locks.proofs.WaitLemmas.{WalksOn-more, WalksOn-stop}
+use Rattle.shore_slow_locks.proofs.requests.walks.Goals as goal
 
 pub loop-to-preserved : goal.loop-to-preserved
 loop-to-preserved c =

@@ -1,6 +1,6 @@
 use Rattle.std.proofs.Common.{◌≡◌, ◌<◌, length, arith, refl, true, false}
-use Rattle.shore_model.proofs.LawfulScans.{LawfulBelow-more, LawfulBelow-whole, Lawful-at}
-use Rattle.shore_model.proofs.lawful_lists.is_lawful.Goals as goal
+use Rattle.shore_slow_logs.proofs.LawfulScans.{LawfulBelow-more, LawfulBelow-whole, Lawful-at}
+use Rattle.shore_slow_logs.proofs.lawful_lists.is_lawful.Goals as goal
 
 pub loop-index-preserved : goal.loop-index-preserved
 loop-index-preserved c =

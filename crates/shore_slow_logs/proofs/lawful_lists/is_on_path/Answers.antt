@@ -4,7 +4,7 @@ use Rattle.std.proofs.lemmas.Bool.Decides.{Decides-eqb}
 use Rattle.shore_types.specs.declared.ids.Rid.{Rid}
 use Rattle.shore_types.specs.declared.locking.Granule.TheVariants.{Store, Record}
 use Rattle.shore_model.specs.Locks.{path}
-use Rattle.shore_model.proofs.lawful_lists.is_on_path.Goals as goal
+use Rattle.shore_slow_logs.proofs.lawful_lists.is_on_path.Goals as goal
 
 -- a record's path has one store, the record's
 store_on_path : (id : Rid) (s : ℕ) → s ≡ id.page.store → Contains (path (Record id)) (Store s)

@@ -1,4 +1,4 @@
-use Rattle.shore_model.proofs.lawful_lists.may_say.Goals as goal
+use Rattle.shore_slow_logs.proofs.lawful_lists.may_say.Goals as goal
 
 pub returns-in-Change : goal.returns-in-Change
 returns-in-Change c = rw c.in-Change.is c.change_may_follow.ensures

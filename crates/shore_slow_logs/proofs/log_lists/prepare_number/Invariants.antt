@@ -2,7 +2,7 @@ use Rattle.std.proofs.Common.{◌≡◌, ◌+◌, drop}
 use Rattle.std.specs.Prelude.{◌==◌, ◌&&◌, filter}
 use Rattle.std.specs.List.{enumerate_from}
 use Rattle.shore_model.specs.Logs.{is_prepare, prepare_number, first_number}
-use Rattle.shore_model.proofs.log_lists.prepare_number.Given as goal
+use Rattle.shore_slow_logs.proofs.log_lists.prepare_number.Given as goal
 
 -- the first among the records that are left is the first of all
 abbrev pub invariant-loop-index : goal.invariant-loop-index

@@ -4,7 +4,7 @@ use Rattle.std.specs.List.{filter_map}
 use Rattle.std.specs.FinMap.{empty}
 use Rattle.shore_model.specs.Records.{overlays}
 use Rattle.shore_model.specs.Logs.{told, logged_writes, committed_in, is_in_doubt, prepare_of}
-use Rattle.shore_model.proofs.told_records.told.Given as goal
+use Rattle.shore_slow_logs.proofs.told_records.told.Given as goal
 
 -- what is found so far, with the writes of those committed that are left
 abbrev pub invariant-loop-record : goal.invariant-loop-record
