@@ -1,11 +1,11 @@
 //! Histories: which are sound, what they show, and what of them is kept.
 use super::trail::{STORE, Trail, bytes, has, nothing, one_record, rid};
-use crate::decisions::{in_doubt, is_kept};
-use crate::progress::alone;
-use crate::replays::shown_records;
-use crate::sessions::is_history;
-use crate::turns::is_sound;
-use crate::{Answer, Call, Decision, Doubt, Opening, Outcome, RidMap};
+use shore_model::{Answer, Call, Decision, Doubt, Opening, Outcome, RidMap};
+use shore_slow_histories::decisions::{in_doubt, is_kept};
+use shore_slow_histories::progress::alone;
+use shore_slow_histories::replays::shown_records;
+use shore_slow_histories::sessions::is_history;
+use shore_slow_histories::turns::is_sound;
 use shore_types::{Bytes, Fault, Geometry, PageId, Rid, Sequence, TxnId};
 use std::alloc::{AllocError, Global};
 

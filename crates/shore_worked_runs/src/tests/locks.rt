@@ -1,8 +1,10 @@
 //! Locks: the tables of modes, harmony along paths, and who waits for whom.
-use crate::holds::{harmony, stand_together, well_rooted};
-use crate::modes::{coexist, covers, grants, is_allowed, parent_mode, sup};
-use crate::requests::{are_requests, held_by_all, is_cycle, placed_last, queue_at, waits_for};
-use crate::{Hold, Request};
+use shore_model::{Hold, Request};
+use shore_modes::{allowed, coexist, covers, grants, parent_mode, sup};
+use shore_slow_locks::holds::{harmony, stand_together, well_rooted};
+use shore_slow_locks::requests::{
+    are_requests, held_by_all, is_cycle, placed_last, queue_at, waits_for,
+};
 use shore_types::{Granule, Level, Mode, PageId, Rid, StoreId, TxnId};
 use std::alloc::AllocError;
 
@@ -67,8 +69,8 @@ fn mode_tables(rt: HostRuntime) {
         covers(Mode::SIX, Mode::SH) && !covers(Mode::SIX, Mode::IX) && !covers(Mode::SH, Mode::UD)
     );
     assert!(rt; parent_mode(Mode::SH) == Mode::IS && parent_mode(Mode::UD) == Mode::IX);
-    assert!(rt; is_allowed(Level::Record, Mode::UD) && !is_allowed(Level::Store, Mode::UD));
-    assert!(rt; is_allowed(Level::Page, Mode::SIX) && !is_allowed(Level::Record, Mode::IX));
+    assert!(rt; allowed(Level::Record, Mode::UD) && !allowed(Level::Store, Mode::UD));
+    assert!(rt; allowed(Level::Page, Mode::SIX) && !allowed(Level::Record, Mode::IX));
 }
 
 // 1 holds SIX and 2 IS on the store, below IX and IS on the volume; 3 wants IX on the store.

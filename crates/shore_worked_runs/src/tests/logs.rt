@@ -1,7 +1,7 @@
 //! Logs of worked runs, written out by hand, with what they tell, and lists that no run leaves.
-use crate::lawful_lists::is_lawful;
-use crate::told_records::told;
-use crate::{DirtyPage, LogRecord, LogTxn, Payload, TxnState};
+use shore_model::{DirtyPage, LogRecord, LogTxn, Payload, TxnState};
+use shore_slow_logs::lawful_lists::is_lawful;
+use shore_slow_logs::told_records::told;
 use shore_types::{Bytes, Granule, Lsn, PageId, Rid, Sequence, StoreId, TxnId};
 use std::alloc::{AllocError, Global};
 

@@ -1,5 +1,5 @@
 //! Entries of a history, written one after another.
-use crate::{Answer, Call, Decision, Entry, Exchange, Opening, RidMap};
+use shore_model::{Answer, Call, Decision, Entry, Exchange, Opening, RidMap};
 use shore_types::{Bytes, Fault, PageId, Rid, Sequence, SessionId, StoreId, TxnId};
 use std::alloc::{AllocError, Global};
 
