@@ -1,4 +1,4 @@
-//! Sessions.
+//! Where a session stands.
 use shore_types::TxnId;
 
 /// Where a session stands: its transaction, 0 if it has none, and whether that is prepared.
