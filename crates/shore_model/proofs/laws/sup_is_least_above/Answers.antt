@@ -1,5 +1,0 @@
-use Rattle.shore_model.proofs.ModeTables.{sup_least}
-use Rattle.shore_model.proofs.laws.sup_is_least_above.Goals as goal
-
-pub returns : goal.returns
-returns c = sup_least

@@ -1,0 +1,4 @@
+pub mod Beginnings
+pub mod Places
+pub mod Runs
+pub mod TurnLemmas

@@ -1,0 +1,2 @@
+pub mod Harmonies
+pub mod WaitLemmas

@@ -1,0 +1,49 @@
+//! Laws of lists of log records, and of the records that they tell, each the contract of a function with nothing to do.
+ghost use Rattle.std.specs.Prelude.{◌≡◌, ◌++◌, ◌∷◌, [], ℕ, List, take, false};
+ghost use Rattle.shore_types.specs.declared.locking.Granule.{Granule};
+ghost use Rattle.shore_model.specs.declared.log_records.LogRecord.{LogRecord};
+ghost use Rattle.shore_model.specs.declared.log_records.Payload.{Payload};
+ghost use Rattle.shore_model.specs.Records.{OverlayAnswers, overlay};
+ghost use Rattle.shore_model.specs.FirstPath.{ListTellsWhatIsShown};
+ghost use Rattle.shore_model.specs.Logs.{Lawful, MayFollow, told, in_doubt_in, has, is_commit, is_decision, is_in_doubt, is_prepare, is_rollback, logged_writes};
+
+/// An overlay answers from the write set first.
+pub fn overlay_answers()
+    ensures { OverlayAnswers }
+{}
+
+/// A beginning of a lawful list is lawful.
+pub fn beginning_is_lawful()
+    ensures { (rs : List LogRecord) (n : ℕ) → Lawful rs → Lawful (take n rs) }
+{}
+
+/// A lawful list with a record that may follow it is lawful.
+pub fn next_is_lawful()
+    ensures { (rs : List LogRecord) (r : LogRecord) → Lawful rs → MayFollow rs r → Lawful (rs ++ r ∷ []) }
+{}
+
+/// A Commit lays its transaction's writes over what the list tells, where none is in doubt.
+pub fn told_after_commit()
+    ensures { (rs : List LogRecord) (t p : ℕ) → in_doubt_in rs ≡ [] →
+        told (rs ++ record { txn = t; previous = p; payload = Payload.Commit } ∷ []) ≡ overlay (told rs) (logged_writes rs t) }
+{}
+
+/// A Prepare lays its transaction's writes over what the list tells.
+pub fn told_after_prepare()
+    ensures { (rs : List LogRecord) (t p : ℕ) (global : List ℕ) (granules : List Granule) →
+        has is_prepare t rs ≡ false → has is_commit t rs ≡ false → has is_rollback t rs ≡ false →
+        told (rs ++ record { txn = t; previous = p; payload = Payload.Prepare global granules } ∷ []) ≡ overlay (told rs) (logged_writes rs t) }
+{}
+
+/// A record that decides nothing, of a transaction that is neither committed nor in doubt, leaves what the list tells, and
+/// who is in doubt: so does the undo of a loser.
+pub fn others_tell_nothing()
+    ensures { (rs : List LogRecord) (r : LogRecord) → is_decision r.payload ≡ false →
+        has is_commit r.txn rs ≡ false → is_in_doubt r.txn rs ≡ false →
+        (told (rs ++ r ∷ []) ≡ told rs) × (in_doubt_in (rs ++ r ∷ []) ≡ in_doubt_in rs) }
+{}
+
+/// What the list of a first path tells is what its decisions show.
+pub fn first_list_tells_what_is_shown()
+    ensures { ListTellsWhatIsShown }
+{}
