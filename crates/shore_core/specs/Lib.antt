@@ -1,4 +1,3 @@
 pub mod Cores
 pub mod RecordMaps
 pub mod Room
-pub mod Served

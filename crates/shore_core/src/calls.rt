@@ -1,23 +1,25 @@
 //! The calls of a session, and what the log device tells.
-ghost use Rattle.std.specs.Prelude.{◌≡◌, ◌≢◌, ◌⊎◌, ◌↔◌, ◌+◌, ◌≤◌, ◌<◌, ◌++◌, [], ℕ, All, IsTrue, false, IsSomeAnd, IfOk, IfErr, OnOk, OnErr, None, Some, Err, length};
+ghost use Rattle.std.specs.Prelude.{◌≡◌, ◌≢◌, ◌⊎◌, ◌↔◌, ◌+◌, ◌≤◌, ◌<◌, ◌++◌, [], ℕ, List, All, IsTrue, false, IsSomeAnd, IfOk, IfErr, OnOk, OnErr, None, Some, Err, length};
 ghost use Rattle.std.specs.FinMap as map;
 ghost use Rattle.std.specs.Option.{ForSome};
-ghost use Rattle.shore_types.specs.Layout.{HasPage};
+ghost use Rattle.shore_types.specs.Layout.{HasStore, HasPage};
 ghost use Rattle.shore_logrec.specs.Text.{Fits};
 ghost use Rattle.shore_logrec.specs.declared.costs.TheConstants.{ENDING_COST};
-ghost use Rattle.shore_log.specs.Settled.{list_of};
+ghost use Rattle.shore_log.specs.Settled.{list_of, stable, IsSettled};
 ghost use Rattle.shore_log.specs.PlainTails.{first_of, waiting_in};
 ghost use Rattle.shore_core.specs.declared.calls.TheConstants.{LAST_LSN, LAST_TXN};
 ghost use Rattle.shore_core.specs.Room.{Admits};
-ghost use Rattle.shore_core.specs.Served.{IsServed};
+ghost use Rattle.shore_model.specs.declared.log_records.LogRecord.{LogRecord};
+ghost use Rattle.shore_machine.specs.Served.{IsServed};
+ghost use Rattle.shore_machine.specs.Steps.{CallStep, ResumeStep, told_durable, with_failure};
 
 use crate::records::RecordMap;
 use crate::replay::{OpenError, cost_of_all, next_transaction, replay};
 use crate::room::LogRoom;
-use crate::{Step, Wait};
 use shore_disk::Disk;
 use shore_log::{Durable, LogDev, PlainTail, Tail};
 use shore_logrec::{ENDING_COST, LogRecord, Payload, change_cost, compensation_cost};
+use shore_machine::{Step, Wait};
 use shore_model::{Answer, Call, RidMap};
 use shore_types::layout::MAX_RECORD_BYTES;
 use shore_types::{Bytes, Fault, Geometry, Lsn, PageId, Rid, StoreId, TxnId};
@@ -63,7 +65,7 @@ pub struct Core<T: Tail> {
 }
 
 impl<T: Tail> Core<T> {
-    ghost use Rattle.shore_core.specs.Cores.{records_of, durable_of, committing_of, has_failed};
+    ghost use Rattle.shore_core.specs.Cores.{records_of, durable_of, committing_of, has_failed, geometry_of, state_of, Replies};
 
     /// A call of the session. Refused in this order: 24 after a failure of a device, 14 while its earlier call waits, 2 or 1 for a
     /// transaction that is there or missing, and then as the call says; 27 where a growth was refused. A refused call has
@@ -71,11 +73,11 @@ impl<T: Tail> Core<T> {
     pub fn call(&mut self, alloc: Global, call: Call) -> Step
         requires { IsServed call }
 
-        // A commit is never answered here, but by the resume that finds its record durable.
-        ensures not_committed { result ≢ Step.Done Answer.Committed }
-        ensures failed { IsTrue (has_failed self.old) → result ≡ Step.Refused Fault.Failed }
+        // It is the step of the machine, whatever records were handed on before those that the tail has.
+        ensures step { (before : List LogRecord) → T.Tail.first self.old.tail ≡ 1 + length before
+            → CallStep (geometry_of self.old) (state_of before self.old) call result (state_of before self.new) }
         ensures durable { durable_of self.new ≡ durable_of self.old }
-        ensures same { has_failed self.new ≡ has_failed self.old }
+        ensures geometry { geometry_of self.new ≡ geometry_of self.old }
         ensures first { T.Tail.first self.new.tail ≡ T.Tail.first self.old.tail }
     {
         if self.failed {
@@ -92,9 +94,10 @@ impl<T: Tail> Core<T> {
 
     fn answer(&mut self, alloc: Global, call: Call) -> Result<Step, Fault>
         requires { IsServed call }
-        ensures not_committed { IfOk result (λ step. step ≢ Step.Done Answer.Committed) }
+        ensures replies { (before : List LogRecord) → T.Tail.first self.old.tail ≡ 1 + length before
+            → Replies (geometry_of self.old) (state_of before self.old) call result (state_of before self.new) }
         ensures durable { durable_of self.new ≡ durable_of self.old }
-        ensures same { has_failed self.new ≡ has_failed self.old }
+        ensures geometry { geometry_of self.new ≡ geometry_of self.old }
         ensures first { T.Tail.first self.new.tail ≡ T.Tail.first self.old.tail }
     {
         match call {
@@ -114,9 +117,10 @@ impl<T: Tail> Core<T> {
     }
 
     fn begin(&mut self) -> Result<Step, Fault>
-        ensures not_committed { IfOk result (λ step. step ≢ Step.Done Answer.Committed) }
+        ensures replies { (before : List LogRecord) → T.Tail.first self.old.tail ≡ 1 + length before
+            → Replies (geometry_of self.old) (state_of before self.old) Call.Begin result (state_of before self.new) }
         ensures durable { durable_of self.new ≡ durable_of self.old }
-        ensures same { has_failed self.new ≡ has_failed self.old }
+        ensures geometry { geometry_of self.new ≡ geometry_of self.old }
         ensures first { T.Tail.first self.new.tail ≡ T.Tail.first self.old.tail }
     {
         if self.active.is_some() {
@@ -137,8 +141,8 @@ impl<T: Tail> Core<T> {
     }
 
     fn get(&self, alloc: Global, id: Rid) -> Result<Step, Fault>
-        ensures found { IfOk result (λ step. IsSomeAnd (map.get (records_of self.now) id) (λ bytes. step ≡ Step.Done (Answer.Got bytes))) }
-        ensures absent { result ≡ Err Fault.NoRecord → map.get (records_of self.now) id ≡ None }
+        ensures replies { (before : List LogRecord)
+            → Replies (geometry_of self.now) (state_of before self.now) (Call.Get id) result (state_of before self.now) }
     {
         if self.active.is_none() {
             return Err(Fault::NoTransaction);
@@ -153,6 +157,8 @@ impl<T: Tail> Core<T> {
     // The store has to be there, and then the page.
     fn check_page(&self, id: PageId) -> Result<(), Fault>
         ensures page { OnOk result (HasPage self.now.geometry id) }
+        ensures store { result ≡ Err Fault.NoStore → ¬ HasStore self.now.geometry id.store }
+        ensures no_page { result ≡ Err Fault.NoPage → HasStore self.now.geometry id.store × ¬ HasPage self.now.geometry id }
         ensures other { IfErr result (λ fault. (fault ≡ Fault.NoStore) ⊎ (fault ≡ Fault.NoPage)) }
     {
         let store = id.store;
@@ -166,9 +172,10 @@ impl<T: Tail> Core<T> {
     }
 
     fn insert(&mut self, alloc: Global, store: StoreId, bytes: Bytes) -> Result<Step, Fault>
-        ensures not_committed { IfOk result (λ step. step ≢ Step.Done Answer.Committed) }
+        ensures replies { (before : List LogRecord) → T.Tail.first self.old.tail ≡ 1 + length before
+            → Replies (geometry_of self.old) (state_of before self.old) (Call.Insert store bytes) result (state_of before self.new) }
         ensures durable { durable_of self.new ≡ durable_of self.old }
-        ensures same { has_failed self.new ≡ has_failed self.old }
+        ensures geometry { geometry_of self.new ≡ geometry_of self.old }
         ensures first { T.Tail.first self.new.tail ≡ T.Tail.first self.old.tail }
     {
         let Some(active) = self.active else {
@@ -220,9 +227,10 @@ impl<T: Tail> Core<T> {
 
     // The record of the commit was reserved for at the begin, so it is never refused for room.
     fn commit(&mut self) -> Result<Step, Fault>
-        ensures not_committed { IfOk result (λ step. step ≢ Step.Done Answer.Committed) }
+        ensures replies { (before : List LogRecord) → T.Tail.first self.old.tail ≡ 1 + length before
+            → Replies (geometry_of self.old) (state_of before self.old) Call.Commit result (state_of before self.new) }
         ensures durable { durable_of self.new ≡ durable_of self.old }
-        ensures same { has_failed self.new ≡ has_failed self.old }
+        ensures geometry { geometry_of self.new ≡ geometry_of self.old }
         ensures first { T.Tail.first self.new.tail ≡ T.Tail.first self.old.tail }
     {
         let Some(active) = self.active else {
@@ -248,11 +256,9 @@ impl<T: Tail> Core<T> {
     /// Goes on with the session's call that waits: it is answered once its record is durable.
     pub fn resume(&mut self) -> Step
         // A commit is answered only where the force of its record was told.
-        ensures committed { result ≡ Step.Done Answer.Committed → IsSomeAnd (committing_of self.old) (λ n. n ≤ durable_of self.old) }
-        ensures waits { (n : ℕ) → result ≡ Step.Waits (Wait.Durable n) → (committing_of self.old ≡ Some n) × (durable_of self.old < n) }
-        ensures nothing { result ≡ Step.Nothing → self.new ≡ self.old }
-        ensures failed { IsTrue (has_failed self.old) → result ≡ Step.Refused Fault.Failed }
-        ensures records { records_of self.new ≡ records_of self.old }
+        ensures step { (before : List LogRecord) → ResumeStep (state_of before self.old) result (state_of before self.new) }
+        ensures durable { durable_of self.new ≡ durable_of self.old }
+        ensures geometry { geometry_of self.new ≡ geometry_of self.old }
         ensures first { T.Tail.first self.new.tail ≡ T.Tail.first self.old.tail }
     {
         if self.failed {
@@ -272,9 +278,9 @@ impl<T: Tail> Core<T> {
 
     /// The log device has forced its records up to this number.
     pub fn told(&mut self, durable: Durable)
-        ensures told { durable_of self.new ≡ durable.lsn }
-        ensures records { records_of self.new ≡ records_of self.old }
-        ensures same { has_failed self.new ≡ has_failed self.old }
+        ensures told { (before : List LogRecord) → state_of before self.new ≡ told_durable durable.lsn (state_of before self.old) }
+        ensures durable { durable_of self.new ≡ durable.lsn }
+        ensures geometry { geometry_of self.new ≡ geometry_of self.old }
         ensures first { T.Tail.first self.new.tail ≡ T.Tail.first self.old.tail }
     {
         self.durable = durable.number();
@@ -282,8 +288,9 @@ impl<T: Tail> Core<T> {
 
     /// A device has failed: every later call answers 24.
     pub fn fail(&mut self)
-        ensures failed { IsTrue (has_failed self.new) }
-        ensures records { records_of self.new ≡ records_of self.old }
+        ensures failed { (before : List LogRecord) → state_of before self.new ≡ with_failure (state_of before self.old) }
+        ensures durable { durable_of self.new ≡ durable_of self.old }
+        ensures geometry { geometry_of self.new ≡ geometry_of self.old }
         ensures first { T.Tail.first self.new.tail ≡ T.Tail.first self.old.tail }
     {
         self.failed = true;
@@ -304,7 +311,7 @@ impl<T: Tail> Core<T> {
 }
 
 impl Core<PlainTail> {
-    ghost use Rattle.shore_core.specs.Cores.{records_of, durable_of, has_failed};
+    ghost use Rattle.shore_core.specs.Cores.{durable_of, has_failed, geometry_of, state_of};
 
     /// The core of a log: its records in place are those that the log tells. `size` is the length of the log's stream, and
     /// `durable` the last number of the log.
@@ -351,11 +358,13 @@ impl Core<PlainTail> {
     /// Hands the records that wait in the tail over to the log device. 27 where a growth was refused: they stay.
     pub fn hand_over<D: Disk>(&mut self, log: &mut LogDev<D>) -> Result<(), Fault>
         requires { first_of self.old.tail ≡ 1 + length (list_of log.old) }
-        ensures taken { OnOk result (list_of log.new ≡ list_of log.old ++ waiting_in self.old.tail) }
+        ensures state { state_of (list_of log.new) self.new ≡ state_of (list_of log.old) self.old }
+        ensures geometry { geometry_of self.new ≡ geometry_of self.old }
+        ensures emptied { OnOk result (waiting_in self.new.tail ≡ []) }
         ensures numbers { first_of self.new.tail ≡ 1 + length (list_of log.new) }
-        ensures refused { OnErr result (list_of log.new ≡ list_of log.old) }
-        ensures records { records_of self.new ≡ records_of self.old }
-        ensures same { has_failed self.new ≡ has_failed self.old }
+        ensures only_memory { IfErr result (λ fault. fault ≡ Fault.Memory) }
+        ensures still { (log.new.device ≡ log.old.device) × (log.new.staged ≡ log.old.staged) × (stable log.new ≡ stable log.old) }
+        ensures settled { (front : List ℕ) → IsSettled log.old front → IsSettled log.new front }
     {
         log.take_in(&mut self.tail)
     }

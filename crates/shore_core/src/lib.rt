@@ -7,11 +7,10 @@ mod place;
 mod records;
 mod replay;
 mod room;
-mod step;
 
 pub use calls::Core;
 pub use records::RecordMap;
 pub use replay::OpenError;
 pub use room::LogRoom;
 pub use shore_model::{Answer, Call};
-pub use step::{Step, Wait};
+pub use shore_machine::{Step, Wait};

@@ -67,6 +67,7 @@ pub struct LogDev<D: Disk> {
     ghost staged_inside: { ForSome staged (λ s. 4096 + place + s.len + 13 < limit) },
     ghost staged_waits: { ForSome staged (λ s. forced + s.count ≤ length records.items) },
     ghost staged_short: { ForSome staged (λ s. s.len ≤ 65536) },
+    ghost staged_some: { ForSome staged (λ s. 1 ≤ s.count) },
     ghost inside: { limit ≤ size (D.Disk.history device) },
 }
 
@@ -88,6 +89,9 @@ impl<D: Disk> LogDev<D> {
         ensures emptied { OnOk result (waiting_in tail.new ≡ []) }
         ensures next { first_of tail.new + length (waiting_in tail.new) ≡ first_of tail.old + length (waiting_in tail.old) }
         ensures refused { OnErr result ((list_of self.new ≡ list_of self.old) × (waiting_in tail.new ≡ waiting_in tail.old)) }
+        ensures only_memory { IfErr result (λ fault. fault ≡ Fault.Memory) }
+        ensures still { (self.new.device ≡ self.old.device) × (self.new.staged ≡ self.old.staged) × (stable self.new ≡ stable self.old) }
+        ensures settled { (front : List ℕ) → IsSettled self.old front → IsSettled self.new front }
     {
         tail.hand_over(&mut self.records)?;
         Ok(())
@@ -112,6 +116,7 @@ impl<D: Disk> LogDev<D> {
 
         ensures same { (list_of self.new ≡ list_of self.old) × (stable self.new ≡ stable self.old) }
         ensures refused { IfErr result (λ fault. (fault ≡ Fault.Device) ⊎ (self.new ≡ self.old)) }
+        ensures others { IfErr result (λ fault. (fault ≡ Fault.Device) ⊎ (fault ≡ Fault.Memory) ⊎ (fault ≡ Fault.LogFull)) }
         ensures none_staged { OnErr result (self.new.staged ≡ None) }
         ensures cause { HasCause result (D.faults self.old.device) (D.faults self.new.device) }
     {
@@ -138,6 +143,8 @@ impl<D: Disk> LogDev<D> {
         ensures settled { (front : List ℕ) (group : List LogRecord) → IsStaged self.old front group
             → OnOk result (IsSettled self.new front × (stable self.new ≡ stable self.old ++ group)) }
         ensures opened { IfOk result (λ n. IsSome n ↔ IsSome self.old.staged) }
+        ensures grown { IfOk result (λ n. IfSome n (λ durable. (length (stable self.old) < durable.lsn) × (durable.lsn ≤ length (list_of self.new)))) }
+        ensures waited { OnErr result (IsSome self.old.staged) }
         ensures none_staged { OnOk result (self.new.staged ≡ None) }
         ensures durable { IfOk result (λ n. IfSome n (λ durable. durable.lsn ≡ length (stable self.new))) }
         ensures nothing { result ≡ Ok None → self.new ≡ self.old }

@@ -1,5 +1,5 @@
 -- The lines of the script whose calls are served.
-use Rattle.shore_core.specs.Served.{IsServed}
+use Rattle.shore_machine.specs.Served.{IsServed}
 use Rattle.shore_prog.specs.declared.command.Command.{Command}
 use Rattle.shore_prog.specs.declared.command.Command.TheVariants as command
 

@@ -1,6 +1,6 @@
 //! A line of the script.
 ghost use Rattle.std.specs.Prelude.{IfOk, IfSome};
-ghost use Rattle.shore_core.specs.Served.{IsServed};
+ghost use Rattle.shore_machine.specs.Served.{IsServed};
 ghost use Rattle.shore_prog.specs.Commands.{IsServedCommand};
 
 use crate::words;

@@ -1,5 +1,5 @@
 //! The manager that a script works with: a world over a log device in memory, behind a fuse.
-ghost use Rattle.shore_core.specs.Served.{IsServed};
+ghost use Rattle.shore_machine.specs.Served.{IsServed};
 ghost use Rattle.shore_prog.specs.Commands.{IsServedCommand};
 
 use crate::command::{Command, SESSION};
@@ -234,7 +234,8 @@ fn dump(world: &World<Device>, out: &mut String) -> Result<(), AllocError> {
 
 fn log(world: &World<Device>, out: &mut String) -> Result<(), AllocError> {
     let mut is_empty = true;
-    for (number, record) in (1u64..u64::MAX).zip(world.records()) {
+    let (forced, waiting) = world.records();
+    for (number, record) in (1u64..u64::MAX).zip(forced.iter().chain(waiting)) {
         is_empty = false;
         render::log_record(out, number, record)?;
     }

@@ -1,10 +1,16 @@
 -- The events that are served as yet.
 use Rattle.std.specs.Prelude.{◌≡◌}
-use Rattle.shore_core.specs.Served.{IsServed}
+use Rattle.shore_machine.specs.Served.{IsServed}
 use Rattle.shore_world.specs.declared.event.Event.{Event}
 use Rattle.shore_world.specs.declared.event.Event.TheVariants as event
 
--- a call that is served, and every other event
+-- a call that is served, of the one session, and every other event
 abbrev pub IsServedEvent : Event → Type 0
-IsServedEvent (event.Call session call) = IsServed call
+IsServedEvent (event.Call session call) = (session ≡ 1) × IsServed call
+IsServedEvent (event.Resume session) = session ≡ 1
 IsServedEvent _ = Unit {0}
+
+-- an event that owns memory
+abbrev pub IsCall : Event → Type 0
+IsCall (event.Call session call) = Unit {0}
+IsCall _ = ⊥

@@ -1,3 +1,4 @@
 pub mod Events
 pub mod Faults
 pub mod Fronts
+pub mod Worlds

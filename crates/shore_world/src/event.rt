@@ -1,5 +1,6 @@
 //! What the world is told to do.
-ghost use Rattle.std.specs.Prelude.{◌≡◌, IfOk};
+ghost use Rattle.std.specs.Prelude.{◌≡◌, IfOk, OnErr};
+ghost use Rattle.shore_world.specs.Events.{IsCall};
 
 use shore_model::Call;
 use shore_types::SessionId;
@@ -21,7 +22,8 @@ pub enum Event {
 impl Event {
     /// A second event that does the same.
     pub fn try_clone(&self, alloc: Global) -> Result<Event, AllocError>
-        ensures { IfOk result (λ event. event ≡ self.now) }
+        ensures event { IfOk result (λ event. event ≡ self.now) }
+        ensures refused { OnErr result (IsCall self.now) }
     {
         Ok(match self {
             Event::Call(session, call) => Event::Call(*session, call.try_clone(alloc)?),

@@ -9,4 +9,4 @@ mod world;
 pub use event::Event;
 pub use front::format;
 pub use shore_core::{Step, Wait};
-pub use world::{Records, World};
+pub use world::World;

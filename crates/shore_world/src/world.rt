@@ -1,9 +1,13 @@
 //! The plain world: a core and its log device, one event at a time. There is no volume yet; the records in place are the
 //! core's, and an open makes them anew from the log.
-ghost use Rattle.std.specs.Prelude.{◌≡◌, ◌+◌, ◌++◌, All, IsTrue, IfOk, OnOk, OnErr, length};
-ghost use Rattle.shore_log.specs.Settled.{list_of};
+ghost use Rattle.std.specs.Prelude.{◌≡◌, ◌≢◌, ◌⊎◌, ◌+◌, ◌++◌, List, All, IsTrue, IfOk, OnOk, OnErr, length, take};
+ghost use Rattle.shore_disk.specs.Device.{History, size, seen, may_leave, LeavesOnly};
+ghost use Rattle.shore_disk.specs.Cause.{HasCause};
+ghost use Rattle.shore_log.specs.Frames.{Gives};
+ghost use Rattle.shore_log.specs.Settled.{list_of, stable};
 ghost use Rattle.shore_log.specs.PlainTails.{first_of, waiting_in};
-ghost use Rattle.shore_core.specs.Cores.{tail_of, has_failed, records_of};
+ghost use Rattle.shore_machine.specs.Steps.{with_failure};
+ghost use Rattle.shore_core.specs.Cores.{tail_of, durable_of};
 ghost use Rattle.shore_world.specs.Events.{IsServedEvent};
 
 use crate::Event;
@@ -14,11 +18,6 @@ use shore_log::{LogDev, LogRecord, PlainTail};
 use shore_model::{Answer, RidMap};
 use shore_types::{Bytes, Fault, Geometry, Lsn};
 use std::alloc::Global;
-use std::iter::Chain;
-use std::slice::Iter;
-
-/// The records of the log, in the order of their numbers.
-pub type Records<'a> = Chain<Iter<'a, LogRecord>, Iter<'a, LogRecord>>;
 
 /// A manager over its log device.
 #[derive(Drop)]
@@ -26,9 +25,13 @@ pub struct World<D: Disk> {
     core: Core<PlainTail>,
     log: LogDev<D>,
     ghost numbers: { first_of (tail_of core) ≡ 1 + length (list_of log) },
+    ghost told: { durable_of core ≡ length (stable log) },
 }
 
 impl<D: Disk> World<D> {
+    ghost use Rattle.shore_world.specs.Fronts.{HasFront};
+    ghost use Rattle.shore_world.specs.Worlds.{Steps, Runs, IsKept, state_in, geometry_in, device_in, fault_in};
+
     /// Opens the manager of a formatted log device: a barrier, the label, the anchors, the frames, and then the records in place
     /// as the log tells them. Refused by 29, 26 or 25 with the place where the device is not in order, by 23 where it failed, by
     /// 27 where a growth was refused; the device is handed back, and may be opened again.
@@ -51,33 +54,45 @@ impl<D: Disk> World<D> {
     }
 
     /// Hands the device back.
-    pub fn into_devices(self) -> D {
+    pub fn into_devices(self) -> D
+        ensures { result ≡ self.log.device }
+    {
         self.log.into_device()
     }
 
     /// The records in place, decided or not, as a map in place order. No locks are taken.
-    pub fn dump(&self) -> &RidMap<Bytes> {
+    pub fn dump(&self) -> &RidMap<Bytes>
+        ensures { result.now ≡ (state_in self.now).records }
+    {
         self.core.records()
     }
 
-    /// Every record of the log from the tail number on, those that wait for a force last.
-    pub fn records(&self) -> Records<'_> {
-        self.log.records().iter().chain(self.core.waiting())
+    /// Every record of the log from the tail number on, in two parts: those that the log device has, and those that have not
+    /// been handed to it yet.
+    pub fn records(&self) -> (&[LogRecord], &[LogRecord])
+        ensures { result.0.now ++ result.1.now ≡ (state_in self.now).list }
+    {
+        (self.log.records(), self.core.waiting())
     }
 
     /// The number of the last durable record, 0 if there is none.
-    pub fn durable(&self) -> Lsn {
+    pub fn durable(&self) -> Lsn
+        ensures { result ≡ (state_in self.now).durable }
+    {
         self.log.durable().number()
     }
 
     /// A device has failed: every call answers 24 until the devices are opened again.
-    pub fn has_failed(&self) -> bool {
+    pub fn has_failed(&self) -> bool
+        ensures { result ≡ (state_in self.now).failed }
+    {
         self.core.has_failed()
     }
 
     /// One event.
     pub fn step(&mut self, alloc: Global, event: Event) -> Step
         requires { IsServedEvent event }
+        ensures { Steps self.old event result self.new }
     {
         match event {
             Event::Call(_, call) => self.core.call(alloc, call),
@@ -87,7 +102,9 @@ impl<D: Disk> World<D> {
         }
     }
 
-    fn force_stage(&mut self, alloc: Global) -> Step {
+    fn force_stage(&mut self, alloc: Global) -> Step
+        ensures { Steps self.old Event.ForceStage result self.new }
+    {
         if self.core.has_failed() {
             return Step::Refused(Fault::Failed);
         }
@@ -104,7 +121,9 @@ impl<D: Disk> World<D> {
         }
     }
 
-    fn force_open(&mut self) -> Step {
+    fn force_open(&mut self) -> Step
+        ensures { Steps self.old Event.ForceOpen result self.new }
+    {
         if self.core.has_failed() {
             return Step::Refused(Fault::Failed);
         }
@@ -120,7 +139,13 @@ impl<D: Disk> World<D> {
     }
 
     // After a failure of the device every call is refused.
-    fn refuse(&mut self, fault: Fault) -> Step {
+    fn refuse(&mut self, fault: Fault) -> Step
+        ensures refused { result ≡ Step.Refused fault }
+        ensures state { ((fault ≡ Fault.Device) × (state_in self.new ≡ with_failure (state_in self.old)))
+            ⊎ ((fault ≢ Fault.Device) × (state_in self.new ≡ state_in self.old)) }
+        ensures geometry { geometry_in self.new ≡ geometry_in self.old }
+        ensures log { self.new.log ≡ self.old.log }
+    {
         if fault == Fault::Device {
             self.core.fail();
         }
@@ -130,18 +155,26 @@ impl<D: Disk> World<D> {
     /// The events, one step each. 27 where there is no room for the answers, and then no event was made.
     pub fn run(&mut self, alloc: Global, events: &[Event], out: &mut Vec<Step>) -> Result<(), Fault>
         requires { All IsServedEvent events.now }
-        ensures steps { OnOk result (length out.new.items ≡ length out.old.items + length events.now) }
-        ensures none { OnErr result (out.new.items ≡ out.old.items) }
+        ensures runs { OnOk result ((steps : List Step) × (out.new.items ≡ out.old.items ++ steps) × Runs self.old events.now steps self.new) }
+        ensures none { OnErr result ((out.new.items ≡ out.old.items) × (self.new ≡ self.old)) }
     {
         out.reserve(events.len())?;
         for event in events {
-            let step = match event.try_clone(alloc) {
-                Ok(event) => self.step(alloc, event),
-                Err(_) => Step::Refused(Fault::Memory),
-            };
+            let step = self.step_of(alloc, event);
             out.push_reserved(step);
         }
         Ok(())
+    }
+
+    // One event, which is copied: a copy that is refused is answered by 27, and nothing has changed.
+    fn step_of(&mut self, alloc: Global, event: &Event) -> Step
+        requires { IsServedEvent event.now }
+        ensures { Steps self.old event.now result self.new }
+    {
+        match event.try_clone(alloc) {
+            Ok(event) => self.step(alloc, event),
+            Err(_) => Step::Refused(Fault::Memory),
+        }
     }
 }
 
@@ -158,6 +191,7 @@ fn open_core<D: Disk>(
     log: &LogDev<D>,
 ) -> Result<Core<PlainTail>, OpenError>
     ensures numbers { IfOk result (λ core. first_of (tail_of core) ≡ 1 + length (list_of log.now)) }
+    ensures told { IfOk result (λ core. durable_of core ≡ length (stable log.now)) }
 {
     Core::open(alloc, geometry, log.records(), log.size(), log.durable())
 }

@@ -1,6 +1,13 @@
-use Rattle.std.proofs.Common.{◌≡◌, ◌+◌, ◌^◌, ◌≤◌, ◌<◌, [], ◌∷◌, List, ℕ, length, length-append, refl, ap, sym, ◌∙◌, arith}
+use Rattle.std.proofs.Common.{◌≡◌, ◌+◌, ◌^◌, ◌≤◌, ◌<◌, [], ◌∷◌, ◌++◌, List, ℕ, length, length-append, refl, inl, ap, sym, ◌∙◌, arith}
 use Rattle.shore_core.specs.declared.calls.Active.{Active}
-use Rattle.shore_core.proofs.CoreLemmas.{at_some, Fits-insert}
+use Rattle.shore_core.proofs.CoreLemmas.{at_some, Fits-insert, remove_inserted, same_state}
+use Rattle.std.specs.FinMap.{remove}
+use Rattle.shore_types.specs.declared.faults.Fault.{Fault}
+use Rattle.shore_model.specs.Records.{Records}
+use Rattle.shore_model.specs.declared.calls.Call.TheVariants.{Insert}
+use Rattle.shore_model.specs.declared.log_records.LogRecord.{LogRecord}
+use Rattle.shore_machine.specs.Steps.{IsRefusal}
+use Rattle.shore_core.specs.Cores.{records_of, state_of}
 use Rattle.shore_core.proofs.calls.Core.insert.Goals as goal
 
 pub push-requires-clause-text : goal.push-requires-clause-text
@@ -30,3 +37,14 @@ invariant_of-self-in-Ok g c =
       ending = λ a is. at_some (λ (x : Active). 34 ≤ x.reserved) _ a is (omega (arith, old.ending c.in-Some.active c.in-Some.is));
       number = λ a is. omega (arith, risen, low);
     }
+
+pub returns-clause-replies : goal.returns-clause-replies
+returns-clause-replies g c before first =
+    let old = c.args.self.now in
+    (
+      inl c.in-Err.ensures.refused.0,
+      same_state (state_of before old) _ _
+      (c.undo_insert.ensures ∙ ap (λ (R : Records). remove R c.in-Some-place_for.place.id) c.in_ok-insert.ensures.ok
+      ∙ remove_inserted (records_of old) c.in-Some-place_for.place.id _ c.in-Some-place_for.ensures.absent)
+      (ap (λ (l : List LogRecord). before ++ l) c.in-Err.ensures.none_added),
+    )

@@ -18,6 +18,7 @@ invariant_of-result g c =
       staged_inside = λ s is. absurd cc;
       staged_waits = λ s is. absurd cc;
       staged_short = λ s is. absurd cc;
+      staged_some = λ s is. absurd cc;
       inside = omega (arith, c.read_stream.ensures.size);
     }
 

@@ -1,9 +1,11 @@
-use Rattle.std.proofs.Common.{◌≡◌, ◌+◌, ◌-◌, ◌≤◌, length, vec_len}
+use Rattle.std.proofs.Common.{◌≡◌, ◌+◌, ◌-◌, ◌≤◌, ◌++◌, List, take, length, vec_len}
 use Rattle.std.specs.Prelude.{vec_capacity}
+use Rattle.shore_machine.specs.declared.step.Step.{Step}
+use Rattle.shore_world.specs.Worlds.{Runs}
 use Rattle.shore_world.proofs.world.World.run.Given as goal
 
 abbrev pub invariant-loop-event : goal.invariant-loop-event
 invariant-loop-event g l = record {
-  steps : length l.out.items ≡ length l.initial.out.items + l.event-index;
   room : vec_len l.out + (length l.events - l.event-index) ≤ vec_capacity l.out;
+  runs : (steps : List Step) × (l.out.items ≡ l.initial.out.items ++ steps) × Runs l.initial.self (take l.event-index l.events) steps l.self;
 }

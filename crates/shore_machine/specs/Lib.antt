@@ -1,0 +1,4 @@
+pub mod Served
+pub mod States
+pub mod Steps
+pub mod Trails

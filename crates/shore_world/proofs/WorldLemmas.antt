@@ -1,0 +1,211 @@
+-- What an event leaves of a world, by what it did to the log device.
+use Rattle.std.proofs.Common.{◌≡◌, ◌≢◌, ◌⊎◌, inl, inr, ℕ, ◌+◌, ◌≤◌, ◌<◌, List, [], ◌∷◌, ◌++◌, length, take, drop, Bool, true, false, Option, Some, None, IsTrue, refl, sym, ◌∙◌, ap, subst, arith, append_assoc, append-nil, length-append, length-drop}
+use Rattle.std.specs.Prelude.{◌↔◌, IsSome}
+use Rattle.std.proofs.lemmas.List.{take-append-le, length-take, length-take-le}
+use Rattle.shore_disk.specs.Device.{History, may_leave, LeavesOnly}
+use Rattle.shore_disk.specs.declared.device.Disk.{Ghosts}
+use Rattle.shore_disk.proofs.Moments.{started, widened, at_end}
+use Rattle.shore_model.specs.declared.log_records.LogRecord.{LogRecord}
+use Rattle.shore_machine.specs.declared.step.Step.{Step}
+use Rattle.shore_machine.specs.States.{State}
+use Rattle.shore_machine.specs.Steps.{with_failure}
+use Rattle.shore_machine.proofs.Growth.{Grows, same_grows}
+use Rattle.shore_log.specs.Frames.{GivesBehind, GivesWithOrWithout}
+use Rattle.shore_log.specs.Settled.{list_of, stable, waiting, IsSettled, IsStaged}
+use Rattle.shore_log.specs.declared.device.LogDev.{LogDev}
+use Rattle.shore_log.proofs.ForceLemmas.{settled_gives}
+use Rattle.shore_log.proofs.ListLemmas.{take-more_group}
+use Rattle.shore_log.specs.PlainTails.{waiting_in}
+use Rattle.shore_core.specs.Cores.{tail_of}
+use Rattle.shore_world.specs.declared.event.Event.{Event}
+use Rattle.shore_world.specs.declared.world.World.{World}
+use Rattle.shore_types.specs.declared.faults.Fault.TheVariants.{Memory}
+use Rattle.shore_types.specs.declared.layout.Geometry.{Geometry}
+use Rattle.shore_machine.specs.declared.step.Step.TheVariants.{Refused}
+use Rattle.shore_world.specs.declared.event.Event.TheVariants as event
+use Rattle.shore_world.specs.Events.{IsCall}
+use Rattle.shore_world.specs.Worlds.{Runs, state_in, geometry_in, history_in, EventStep, GivesBeginning, IsReady, IsKept, Steps}
+
+-- ---- what gives a beginning of the list
+
+-- of a longer list too
+pub longer : (front : List ℕ) (least : ℕ) (rs more : List LogRecord) (c : List ℕ) → GivesBeginning front least rs c → GivesBeginning front least (rs ++ more) c
+longer front least rs more c g = (
+  g.0,
+  g.1,
+  omega (arith, g.2, length-append rs more),
+  subst (λ (l : List LogRecord). GivesBehind front l c) (sym (take-append-le g.0 rs more g.2)) g.3,
+)
+
+pub not_left : {A B : Type 0} → A ⊎ B → (A → ⊥) → B
+not_left (inl a) isnt = absurd (isnt a)
+not_left (inr b) isnt = b
+
+pub still_running : (s new : State) → new ≡ with_failure s → new.failed ≡ false → ⊥
+still_running s new is runs = let clash : true ≡ false = sym (ap (λ (x : State). x.failed) is) ∙ runs in absurd cc
+
+pub some_stands : {A : Type 0} (o : Option A) → IsSome o → o ≢ None
+some_stands (Some a) some is = absurd cc
+some_stands None some is = absurd cc
+
+none_where : {A : Type 0} (o : Option A) → (IsSome o → ⊥) → o ≡ None
+none_where None isnt = refl
+none_where (Some a) isnt = absurd (isnt refl)
+
+module _ {D : Type 0} {G : Ghosts D} where
+  pub length-stable : (log : LogDev D G) → length (stable log) ≡ log.forced
+  length-stable log = length-take-le log.forced log.records.items log.forced_inside
+
+  pub durable_within : (w : World D G) → (state_in w).durable ≤ length (state_in w).list
+  durable_within w = omega (arith, w.told, length-stable w.log, w.log.forced_inside, length-append w.log.records.items (waiting_in (tail_of w.core)))
+
+  pub stable_is : (w : World D G) → take (state_in w).durable (state_in w).list ≡ stable w.log
+  stable_is w =
+      ap (λ n. take n (w.log.records.items ++ waiting_in (tail_of w.core))) (w.told ∙ length-stable w.log)
+      ∙ take-append-le w.log.forced w.log.records.items (waiting_in (tail_of w.core)) w.log.forced_inside
+
+  pub stable_gives : (w : World D G) (front c : List ℕ) → GivesBehind front (stable w.log) c → GivesBeginning front (state_in w).durable (state_in w).list c
+  stable_gives w front c gives = ((state_in w).durable, omega arith, durable_within w, subst (λ (l : List LogRecord). GivesBehind front l c) (sym (stable_is w)) gives)
+
+  -- the stable records and those of a staged frame
+  module _ (w : World D G) (front : List ℕ) (group : List LogRecord) (staged : IsStaged w.log front group) where
+    abbrev rest : List LogRecord
+    rest = waiting_in (tail_of w.core)
+
+    within_records : w.log.forced + length group ≤ length w.log.records.items
+    within_records = omega (arith, ap length staged.first, length-take (length group) (waiting w.log), length-drop w.log.forced w.log.records.items, w.log.forced_inside)
+
+    more_is : take (w.log.forced + length group) (state_in w).list ≡ stable w.log ++ group
+    more_is =
+        take-append-le (w.log.forced + length group) w.log.records.items rest within_records
+        ∙ take-more_group w.log.records.items w.log.forced group w.log.forced_inside staged.first
+
+    pub more_gives : (c : List ℕ) → GivesBehind front (stable w.log ++ group) c → GivesBeginning front (state_in w).durable (state_in w).list c
+    more_gives c gives = (
+      w.log.forced + length group,
+      omega (arith, w.told, length-stable w.log),
+      omega (arith, within_records, length-append w.log.records.items (waiting_in (tail_of w.core))),
+      subst (λ (l : List LogRecord). GivesBehind front l c) (sym more_is) gives,
+    )
+
+    pub either_gives : (c : List ℕ) → GivesWithOrWithout front (stable w.log) group c → GivesBeginning front (state_in w).durable (state_in w).list c
+    either_gives c (inl without) = stable_gives w front c without
+    either_gives c (inr with) = more_gives c with
+
+  -- ---- an event for which the device stands still
+
+  pub unmoved : (old new : World D G) (e : Event) (step : Step) → geometry_in new ≡ geometry_in old → EventStep (geometry_in old) (state_in old) e step (state_in new)
+      → new.log.device ≡ old.log.device → Grows (state_in old) (state_in new) → ((front : List ℕ) → IsReady old front → IsReady new front) → Steps old e step new
+  unmoved old new e step geometry state device grows ready =
+      let same : history_in new ≡ history_in old = ap G.history device in
+      let gives : (front c : List ℕ) → GivesBeginning front (state_in old).durable (state_in old).list c → GivesBeginning front (state_in old).durable (state_in new).list c =
+      λ front c g. subst (λ (l : List LogRecord). GivesBeginning front (state_in old).durable l c) (sym grows.list) (longer front (state_in old).durable (state_in old).list grows.more c g) in
+      record {
+        geometry = geometry;
+        state = state;
+        kept = λ front k. record {
+          images = λ c left. subst (λ n. GivesBeginning front n (state_in new).list c) (sym grows.durable) (gives front c (k.images c (subst (λ (h : History). may_leave h c) same left)));
+          ready = λ running. ready front (k.ready (grows.running running));
+        };
+        any_moment = λ front k. subst (λ (h : History). LeavesOnly (history_in old) h (GivesBeginning front (state_in old).durable (state_in new).list)) (sym same)
+            (started (history_in old) (GivesBeginning front (state_in old).durable (state_in new).list) (λ c left. gives front c (k.images c left)));
+      }
+
+  pub none_staged : (log : LogDev D G) (is : Bool) → (IsTrue is ↔ IsSome log.staged) → is ≡ false → log.staged ≡ None
+  none_staged log is tells isnt = none_where log.staged (λ some. let clash : true ≡ false = sym (tells.1 some) ∙ isnt in absurd cc)
+
+  -- records that were handed over leave a settled log settled
+  pub ready_kept : (old new : World D G) → old.log.staged ≡ None → new.log.staged ≡ old.log.staged → ((front : List ℕ) → IsSettled old.log front → IsSettled new.log front)
+      → (front : List ℕ) → IsReady old front → IsReady new front
+  ready_kept old new none same settled front (inl s) = inl (settled front s.0, same ∙ none)
+  ready_kept old new none same settled front (inr s) = absurd (let clash = s.1.waits in cc)
+
+  -- .. and do nothing else
+  pub handed : (old new : World D G) (e : Event) (step : Step) → geometry_in new ≡ geometry_in old → EventStep (geometry_in old) (state_in old) e step (state_in new)
+      → new.log.device ≡ old.log.device → state_in new ≡ state_in old → old.log.staged ≡ None → new.log.staged ≡ old.log.staged → ((front : List ℕ) → IsSettled old.log front → IsSettled new.log front)
+      → Steps old e step new
+  handed old new e step geometry state device same none waits settled = unmoved old new e step geometry state device (same_grows _ _ same) (ready_kept old new none waits settled)
+
+  -- an event that does nothing
+  pub nothing_done : (old new : World D G) (e : Event) (step : Step) → geometry_in new ≡ geometry_in old → EventStep (geometry_in old) (state_in old) e step (state_in new)
+      → new.log ≡ old.log → state_in new ≡ state_in old → Steps old e step new
+  nothing_done old new e step geometry state log same =
+      unmoved old new e step geometry state (ap (λ (l : LogDev D G). l.device) log) (same_grows _ _ same)
+      (λ front ready. subst (λ (l : LogDev D G). (IsSettled l front × (l.staged ≡ None)) ⊎ ((group : List LogRecord) × IsStaged l front group)) (sym log) ready)
+
+  -- ---- a frame is staged, or it fails as it is
+
+  pub staging : (old new : World D G) (mid : LogDev D G) (e : Event) (step : Step) → geometry_in new ≡ geometry_in old → EventStep (geometry_in old) (state_in old) e step (state_in new)
+      → (state_in old).failed ≡ false → old.log.staged ≡ None → mid.device ≡ old.log.device → mid.staged ≡ old.log.staged → stable mid ≡ stable old.log
+      → (state_in new).list ≡ (state_in old).list → (state_in new).durable ≡ (state_in old).durable
+      → ((front : List ℕ) → IsSettled old.log front → IsSettled mid front)
+      → ((front : List ℕ) → IsSettled mid front → mid.staged ≡ None → LeavesOnly (G.history mid.device) (history_in new) (GivesBehind front (stable mid)))
+      → ((front : List ℕ) → IsSettled mid front → (state_in new).failed ≡ false → IsReady new front) → Steps old e step new
+  staging old new mid e step geometry state running none device waits same list durable settled moments ready =
+      let settled_now : (front : List ℕ) → IsKept old front → IsSettled old.log front = λ front k. elim (k.ready running) [
+        | inl s ↦ s.0
+        | inr s ↦ absurd (let clash = s.1.waits in cc)
+      ] in
+      let leaves : (front : List ℕ) → IsKept old front → LeavesOnly (history_in old) (history_in new) (GivesBeginning front (state_in old).durable (state_in new).list) =
+      λ front k. subst (λ (d : D). LeavesOnly (G.history d) (history_in new) (GivesBeginning front (state_in old).durable (state_in new).list)) device
+      (widened (G.history mid.device) (history_in new) (GivesBehind front (stable mid)) (GivesBeginning front (state_in old).durable (state_in new).list) (moments front (settled front (settled_now front k)) (waits ∙ none))
+      (λ c gives. subst (λ (l : List LogRecord). GivesBeginning front (state_in old).durable l c) (sym list) (stable_gives old front c (subst (λ (l : List LogRecord). GivesBehind front l c) same gives)))) in
+      record {
+        geometry = geometry;
+        state = state;
+        kept = λ front k. record {
+          images = λ c left. subst (λ n. GivesBeginning front n (state_in new).list c) (sym durable) (at_end (history_in old) (history_in new) (GivesBeginning front (state_in old).durable (state_in new).list) (leaves front k) c left);
+          ready = λ run. ready front (settled front (settled_now front k)) run;
+        };
+        any_moment = leaves;
+      }
+
+  -- ---- its gate is opened, or it fails
+
+  pub opening_gate : (old new : World D G) (e : Event) (step : Step) → geometry_in new ≡ geometry_in old → EventStep (geometry_in old) (state_in old) e step (state_in new)
+      → (state_in old).failed ≡ false → old.log.staged ≢ None → (state_in new).list ≡ (state_in old).list
+      → ((front : List ℕ) (group : List LogRecord) → IsStaged old.log front group → LeavesOnly (history_in old) (history_in new) (GivesWithOrWithout front (stable old.log) group))
+      → ((front : List ℕ) (group : List LogRecord) → IsStaged old.log front group → ((state_in new).durable ≡ (state_in old).durable × ((state_in new).failed ≡ false → ⊥)) ⊎ (IsSettled new.log front × (new.log.staged ≡ None)))
+      → Steps old e step new
+  opening_gate old new e step geometry state running some list moments after =
+      let staged_now : (front : List ℕ) → IsKept old front → (group : List LogRecord) × IsStaged old.log front group = λ front k. elim (k.ready running) [
+        | inl s ↦ absurd (some s.1)
+        | inr s ↦ s
+      ] in
+      let leaves : (front : List ℕ) → IsKept old front → LeavesOnly (history_in old) (history_in new) (GivesBeginning front (state_in old).durable (state_in new).list) =
+      λ front k. let s = staged_now front k in
+      widened (history_in old) (history_in new) (GivesWithOrWithout front (stable old.log) s.0) (GivesBeginning front (state_in old).durable (state_in new).list) (moments front s.0 s.1)
+      (λ c gives. subst (λ (l : List LogRecord). GivesBeginning front (state_in old).durable l c) (sym list) (either_gives old front s.0 s.1 c gives)) in
+      record {
+        geometry = geometry;
+        state = state;
+        kept = λ front k. let s = staged_now front k in elim (after front s.0 s.1) [
+          | inl failed ↦ record {
+            images = λ c left. subst (λ n. GivesBeginning front n (state_in new).list c) (sym failed.0) (at_end (history_in old) (history_in new) (GivesBeginning front (state_in old).durable (state_in new).list) (leaves front k) c left);
+            ready = λ run. absurd (failed.1 run);
+          }
+          | inr settled ↦ record {
+            images = λ c left. stable_gives new front c (settled_gives new.log front settled.0 c left);
+            ready = λ run. inl settled;
+          }
+        ];
+        any_moment = leaves;
+      }
+
+-- ---- a run of events
+
+module _ {D : Type 0} {G : Ghosts D} where
+  pub no_event : (w : World D G) → Runs w [] [] w
+  no_event w = refl
+
+  pub one_more : (old : World D G) (es : List Event) (steps : List Step) (mid : World D G) (e : Event) (step : Step) (new : World D G)
+      → Runs old es steps mid → Steps mid e step new → Runs old (es ++ e ∷ []) (steps ++ step ∷ []) new
+  one_more old [] [] mid e step new runs one = (new, subst (λ (w : World D G). Steps w e step new) runs one, refl)
+  one_more old (first ∷ es) (s ∷ steps) mid e step new runs one = (runs.0, runs.1, one_more runs.0 es steps mid e step new runs.2 one)
+  one_more old [] (s ∷ steps) mid e step new runs one = absurd runs
+  one_more old (first ∷ es) [] mid e step new runs one = absurd runs
+
+-- an event that could not be copied is refused, and nothing has changed
+pub not_copied : (g : Geometry) (s : State) (e : Event) → IsCall e → EventStep g s e (Refused Memory) s
+not_copied g s (event.Call session call) is = (inl refl, refl)
+not_copied g s _ is = absurd is

@@ -1,0 +1,87 @@
+use Rattle.std.proofs.Common.{◌≡◌, inl, inr, ℕ, ◌+◌, ◌-◌, ◌≤◌, ◌<◌, List, length, take, None, Some, Ok, Err, false, true, refl, sym, ◌∙◌, ap, subst, arith, length-append, length-drop}
+use Rattle.shore_disk.specs.Device.{History, LeavesOnly}
+use Rattle.shore_model.specs.declared.log_records.LogRecord.{LogRecord}
+use Rattle.shore_machine.specs.States.{State}
+use Rattle.shore_machine.specs.Steps.{with_failure}
+use Rattle.shore_machine.proofs.Growth.{same_grows}
+use Rattle.shore_log.specs.Frames.{GivesBehind}
+use Rattle.shore_log.specs.Settled.{list_of, waiting, stable, IsSettled}
+use Rattle.shore_log.specs.PlainTails.{waiting_in}
+use Rattle.shore_log.specs.declared.device.LogDev.{LogDev}
+use Rattle.shore_core.specs.Cores.{state_of, tail_of}
+use Rattle.shore_world.specs.Worlds.{state_in, EventStep}
+use Rattle.shore_world.specs.declared.event.Event.TheVariants.{ForceStage}
+use Rattle.shore_world.proofs.WorldLemmas.{unmoved, staging, handed, none_staged, length-stable, still_running, not_left}
+use Rattle.shore_world.proofs.world.World.force_stage.Goals as goal
+
+pub returns-then-has_failed : goal.returns-then-has_failed
+returns-then-has_failed g c =
+    let old = c.args.self.now in
+    unmoved old old ForceStage _ refl (inl (sym c.has_failed.ensures ∙ c.if-has_failed.true, refl, refl)) refl (same_grows _ _ refl) (λ front ready. ready)
+
+pub returns-then-is_staged : goal.returns-then-is_staged
+returns-then-is_staged g c =
+    let old = c.args.self.now in
+    unmoved old old ForceStage _ refl (sym c.has_failed.ensures ∙ c.if-has_failed.false, refl) refl (same_grows _ _ refl) (λ front ready. ready)
+
+pub returns-in-Err : goal.returns-in-Err
+returns-in-Err g c =
+    let old = c.args.self.now in
+    let none = none_staged old.log c.is_staged.result c.is_staged.ensures c.if-is_staged.false in
+    let running = sym c.has_failed.ensures ∙ c.if-has_failed.false in
+    let same = c.hand_over.ensures.state in
+    handed old _ ForceStage _ c.hand_over.ensures.geometry (inr (inr (running, inl c.in-Err.ensures.only_memory, same))) c.hand_over.ensures.still.0 same none c.hand_over.ensures.still.1 c.hand_over.ensures.settled
+
+pub returns-in-Ok-None : goal.returns-in-Ok-None
+returns-in-Ok-None g c =
+    let old = c.args.self.now in
+    let none = none_staged old.log c.is_staged.result c.is_staged.ensures c.if-is_staged.false in
+    let running = sym c.has_failed.ensures ∙ c.if-has_failed.false in
+    let still = c.hand_over.ensures.still in
+    let unchanged = c.stage.ensures.nothing (c.in-Ok-None.is ∙ ap (λ n. Ok n) c.in-Ok-None.field-0-is) in
+    let same = ap (λ (l : LogDev g.row.D.Denot g.D.Disk). state_of (list_of l) c.hand_over.new.self) unchanged ∙ c.hand_over.ensures.state in
+    handed old _ ForceStage _ c.hand_over.ensures.geometry (running, same) (ap (λ (l : LogDev g.row.D.Denot g.D.Disk). l.device) unchanged ∙ still.0) same none
+    (ap (λ (l : LogDev g.row.D.Denot g.D.Disk). l.staged) unchanged ∙ still.1)
+    (λ front s. subst (λ (l : LogDev g.row.D.Denot g.D.Disk). IsSettled l front) (sym unchanged) (c.hand_over.ensures.settled front s))
+
+pub returns-in-Ok-Some : goal.returns-in-Ok-Some
+returns-in-Ok-Some g c =
+    let old = c.args.self.now in
+    let mid = c.hand_over.new.log in
+    let none = none_staged old.log c.is_staged.result c.is_staged.ensures c.if-is_staged.false in
+    let running = sym c.has_failed.ensures ∙ c.if-has_failed.false in
+    let still = c.hand_over.ensures.still in
+    let same = ap (λ (l : List LogRecord). state_of l c.hand_over.new.self) c.stage.ensures.same.0 ∙ c.hand_over.ensures.state in
+    let longest = rw c.in-Ok-Some.field-0-is at (c.in-Ok-Some.ensures.longest (still.1 ∙ none)) in
+    let forced : (state_in old).durable ≡ mid.forced = old.told ∙ sym (ap length still.2) ∙ length-stable mid in
+    let all : length (mid.records.items) ≤ length (state_in old).list = omega (arith, ap (λ (s : State). length s.list) c.hand_over.ensures.state, length-append mid.records.items (waiting_in (tail_of c.hand_over.new.self))) in
+    staging old _ mid ForceStage _ c.hand_over.ensures.geometry
+    (running, omega (arith, forced, longest.0), omega (arith, all, longest.0, longest.1.within, length-drop mid.forced mid.records.items), same)
+    running none still.0 still.1 still.2 (ap (λ (s : State). s.list) same) (ap (λ (s : State). s.durable) same) c.hand_over.ensures.settled c.stage.ensures.any_moment
+    (λ front s run. inr (take (c.in-Ok-Some.number - mid.forced) (waiting mid), rw c.in-Ok-Some.field-0-is at (c.in-Ok-Some.ensures.staged front s (still.1 ∙ none))))
+
+pub returns-in-Err-stage : goal.returns-in-Err-stage
+returns-in-Err-stage g c =
+    let old = c.args.self.now in
+    let new = c.refuse.new.self in
+    let mid = c.hand_over.new.log in
+    let fault = c.in-Err-stage.fault in
+    let none = none_staged old.log c.is_staged.result c.is_staged.ensures c.if-is_staged.false in
+    let running = sym c.has_failed.ensures ∙ c.if-has_failed.false in
+    let still = c.hand_over.ensures.still in
+    let geometry = c.refuse.ensures.geometry ∙ c.hand_over.ensures.geometry in
+    let same = ap (λ (l : List LogRecord). state_of l c.hand_over.new.self) c.stage.ensures.same.0 ∙ c.hand_over.ensures.state in
+    rw c.refuse.ensures.refused (elim c.refuse.ensures.state [
+      | inl failed ↦
+          let last = failed.1 ∙ ap with_failure same in
+          staging old new mid ForceStage _ geometry (inr (inl (running, failed.0, last))) running none still.0 still.1 still.2
+          (ap (λ (s : State). s.list) last) (ap (λ (s : State). s.durable) last) c.hand_over.ensures.settled
+          (λ front s waits. subst (λ (l : LogDev g.row.D.Denot g.D.Disk). LeavesOnly (g.D.Disk.history mid.device) (g.D.Disk.history l.device) (GivesBehind front (stable mid))) (sym c.refuse.ensures.log) (c.stage.ensures.any_moment front s waits))
+          (λ front s run. absurd (still_running (state_in old) (state_in new) last run))
+      | inr other ↦
+          let unchanged = c.refuse.ensures.log ∙ not_left c.in-Err-stage.ensures.refused other.0 in
+          let last = other.1 ∙ same in
+          handed old new ForceStage _ geometry (inr (inr (running, not_left c.in-Err-stage.ensures.others other.0, last))) (ap (λ (l : LogDev g.row.D.Denot g.D.Disk). l.device) unchanged ∙ still.0) last none
+          (ap (λ (l : LogDev g.row.D.Denot g.D.Disk). l.staged) unchanged ∙ still.1)
+          (λ front s. subst (λ (l : LogDev g.row.D.Denot g.D.Disk). IsSettled l front) (sym unchanged) (c.hand_over.ensures.settled front s))
+    ])

@@ -1,0 +1,93 @@
+-- What a world is, what an event does to it, and what a crash leaves of it.
+use Rattle.std.specs.Prelude.{◌≡◌, ◌⊎◌, ℕ, ◌<◌, ◌≤◌, List, [], ◌∷◌, ◌++◌, Bool, true, false, IsTrue, None, Result, Ok, Err, length, take}
+use Rattle.shore_types.specs.declared.faults.Fault.{Fault}
+use Rattle.shore_types.specs.declared.faults.Fault.TheVariants.{Device, Failed, Memory, LogFull}
+use Rattle.shore_types.specs.declared.layout.Geometry.{Geometry}
+use Rattle.shore_disk.specs.Device.{History, may_leave, LeavesOnly}
+use Rattle.shore_disk.specs.declared.device.Disk.{Ghosts}
+use Rattle.shore_model.specs.declared.calls.Answer.TheVariants.{Staged, Forced}
+use Rattle.shore_model.specs.declared.log_records.LogRecord.{LogRecord}
+use Rattle.shore_machine.specs.declared.step.Step.{Step}
+use Rattle.shore_machine.specs.declared.step.Step.TheVariants.{Done, Waits, Refused, Nothing}
+use Rattle.shore_machine.specs.States.{State}
+use Rattle.shore_machine.specs.Steps.{CallStep, ResumeStep, told_durable, with_failure}
+use Rattle.shore_log.specs.Frames.{GivesBehind}
+use Rattle.shore_log.specs.Settled.{list_of, IsSettled, IsStaged}
+use Rattle.shore_core.specs.Cores.{state_of, geometry_of}
+use Rattle.shore_world.specs.declared.event.Event.{Event}
+use Rattle.shore_world.specs.declared.event.Event.TheVariants as event
+use Rattle.shore_world.specs.declared.world.World.{World}
+
+-- ---- as the machine that it is
+
+-- the log device has the records before those that wait in the core's tail
+abbrev pub state_in : {D : Type 0} {G : Ghosts D} → World D G → State
+state_in w = state_of (list_of w.log) w.core
+
+abbrev pub geometry_in : {D : Type 0} {G : Ghosts D} → World D G → Geometry
+geometry_in w = geometry_of w.core
+
+-- the calls of its device
+abbrev pub history_in : {D : Type 0} {G : Ghosts D} → World D G → History
+history_in {G = G} w = G.history w.log.device
+
+-- a step of a force was refused: a device had failed before; or it fails now, which the core is told; or nothing was done
+abbrev pub ForceRefused : State → Fault → State → Type 0
+ForceRefused s fault new =
+    (IsTrue s.failed × (fault ≡ Failed) × (new ≡ s))
+    ⊎ ((s.failed ≡ false) × (fault ≡ Device) × (new ≡ with_failure s))
+    ⊎ ((s.failed ≡ false) × ((fault ≡ Memory) ⊎ (fault ≡ LogFull)) × (new ≡ s))
+
+-- What an event does to the state. A force is made in two steps, and only the second makes records durable.
+abbrev pub EventStep : Geometry → State → Event → Step → State → Type 0
+EventStep g s (event.Call session call) step new = CallStep g s call step new
+EventStep g s (event.Resume session) step new = ResumeStep s step new
+EventStep g s event.ForceStage (Done (Staged n)) new = (s.failed ≡ false) × (s.durable < n) × (n ≤ length s.list) × (new ≡ s)
+EventStep g s event.ForceStage Nothing new = (s.failed ≡ false) × (new ≡ s)
+EventStep g s event.ForceStage (Refused fault) new = ForceRefused s fault new
+EventStep g s event.ForceOpen (Done (Forced n)) new = (s.failed ≡ false) × (s.durable < n) × (n ≤ length s.list) × (new ≡ told_durable n s)
+EventStep g s event.ForceOpen Nothing new = (s.failed ≡ false) × (new ≡ s)
+EventStep g s event.ForceOpen (Refused fault) new = ForceRefused s fault new
+EventStep g s event step new = ⊥
+
+-- ---- what a crash leaves
+
+-- behind this front the frames give a beginning of the list, of this many records at least
+abbrev pub GivesBeginning : List ℕ → ℕ → List LogRecord → List ℕ → Type 0
+GivesBeginning front least rs image = (n : ℕ) × (least ≤ n) × (n ≤ length rs) × GivesBehind front (take n rs) image
+
+-- the log device is settled, or a frame of its waiting records is staged
+abbrev pub IsReady : {D : Type 0} {G : Ghosts D} → World D G → List ℕ → Type 0
+IsReady w front = (IsSettled w.log front × (w.log.staged ≡ None)) ⊎ ((group : List LogRecord) × IsStaged w.log front group)
+
+-- Behind this front a crash now leaves a beginning of the list with all that is durable; and as long as no device has failed
+-- the next force can be made.
+pub record IsKept {D : Type 0} {G : Ghosts D} (w : World D G) (front : List ℕ) : Type 0 where
+  pub images : (c : List ℕ) → may_leave (history_in w) c → GivesBeginning front (state_in w).durable (state_in w).list c
+  pub ready : (state_in w).failed ≡ false → IsReady w front
+
+-- One event: a step of the machine; and at each moment of it a crash leaves a beginning of the list as it is then, with all that
+-- was durable before.
+pub record Steps {D : Type 0} {G : Ghosts D} (old : World D G) (e : Event) (step : Step) (new : World D G) : Type 0 where
+  pub geometry : geometry_in new ≡ geometry_in old
+  pub state : EventStep (geometry_in old) (state_in old) e step (state_in new)
+  pub kept : (front : List ℕ) → IsKept old front → IsKept new front
+  pub any_moment : (front : List ℕ) → IsKept old front → LeavesOnly (history_in old) (history_in new) (GivesBeginning front (state_in old).durable (state_in new).list)
+
+-- the events, one step each, from a world to another
+abbrev pub Runs : {D : Type 0} {G : Ghosts D} → World D G → List Event → List Step → World D G → Type 0
+Runs old [] [] new = new ≡ old
+Runs {D = D} {G = G} old (e ∷ es) (step ∷ steps) new = (mid : World D G) × Steps old e step mid × Runs mid es steps new
+Runs old _ _ new = ⊥
+
+-- ---- what an open answers
+
+-- the device, whether a world stands on it or it is handed back
+abbrev pub device_in : {D : Type 0} {G : Ghosts D} → Result (World D G) (Fault × D) → D
+device_in (Ok w) = w.log.device
+device_in (Err refused) = refused.1
+
+-- the answer with no device at the fault
+abbrev pub fault_in : {D : Type 0} {G : Ghosts D} → Result (World D G) (Fault × D) → Result (World D G) Fault
+fault_in (Ok w) = Ok w
+fault_in (Err refused) = Err refused.0
