@@ -1,1 +1,2 @@
 pub mod CoreLemmas
+pub mod Tellings

@@ -1,4 +1,6 @@
+pub mod Changes
 pub mod Cores
+pub mod Opened
 pub mod RecordMaps
 pub mod Room
 pub mod Served

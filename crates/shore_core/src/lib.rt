@@ -3,6 +3,7 @@
 #![tactic(auto)]
 
 mod calls;
+mod changes;
 mod place;
 mod records;
 mod replay;

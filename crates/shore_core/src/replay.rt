@@ -1,5 +1,6 @@
 //! What an open makes of the log: the records that it tells, and the sums.
-ghost use Rattle.std.specs.Prelude.{◌≡◌, ◌≤◌, All};
+ghost use Rattle.std.specs.Prelude.{◌≡◌, ◌≤◌, ◌<◌, ◌-◌, ◌^◌, ℕ, All, min};
+ghost use Rattle.shore_core.specs.Opened.{cost_of_log};
 ghost use Rattle.shore_logrec.specs.Text.{Fits};
 ghost use Rattle.shore_core.specs.declared.replay.OpenError.TheVariants.{Memory};
 
@@ -99,9 +100,11 @@ fn apply(
     Ok(())
 }
 
-/// What the records cost together, each its text and its share of a frame.
+/// What the records cost together, each its text and its share of a frame. It stays at the greatest number where the sum is
+/// above it.
 pub fn cost_of_all(log: &[LogRecord]) -> u64
     requires { All Fits log.now }
+    ensures { result ≡ min (cost_of_log log.now) (2 ^ 64 - 1) }
 {
     let mut sum = 0u64;
     for logged in log {
@@ -110,10 +113,16 @@ pub fn cost_of_all(log: &[LogRecord]) -> u64
     sum
 }
 
-/// The number after the greatest transaction of the log.
+/// The number after the greatest transaction of the log, 1 where it has none. It stays at the greatest number where that is
+/// a transaction's.
 pub fn next_transaction(log: &[LogRecord]) -> u64
-    ensures { 1 ≤ result }
+    ensures some { 1 ≤ result }
+    ensures above { result < 2 ^ 64 - 1 → All (λ r. r.txn < result) log.now }
+    ensures least { (n : ℕ) → 1 ≤ n → All (λ r. r.txn < n) log.now → result ≤ n }
 {
-    let greatest = log.iter().map(|record| record.txn.0).max().unwrap_or(0);
-    greatest.saturating_add(1)
+    let mut next = 1u64;
+    for logged in log {
+        next = next.max(logged.txn.0.saturating_add(1));
+    }
+    next
 }
