@@ -1,2 +1,6 @@
 pub mod CoreLemmas
+pub mod KeepLemmas
+pub mod PageLemmas
+pub mod PlaceLemmas
 pub mod Tellings
+pub mod UseLemmas

@@ -1,6 +1,8 @@
 pub mod Changes
 pub mod Cores
 pub mod Opened
+pub mod Pages
 pub mod RecordMaps
 pub mod Room
 pub mod Served
+pub mod Uses

@@ -9,6 +9,7 @@ mod records;
 mod replay;
 mod room;
 mod step;
+mod uses;
 
 pub use calls::Core;
 pub use records::RecordMap;

@@ -1,15 +1,17 @@
 //! What an open makes of the log: the records that it tells, and the sums.
-ghost use Rattle.std.specs.Prelude.{◌≡◌, ◌≤◌, ◌<◌, ◌-◌, ◌^◌, ℕ, All, min};
+ghost use Rattle.std.specs.Prelude.{◌≡◌, ◌≤◌, ◌<◌, ◌-◌, ◌^◌, ℕ, ◌≢◌, Err, IfOk, IfErr, All, min};
 ghost use Rattle.shore_core.specs.Opened.{cost_of_log};
 ghost use Rattle.shore_logrec.specs.Text.{Fits};
-ghost use Rattle.shore_core.specs.declared.replay.OpenError.TheVariants.{Memory};
+ghost use Rattle.shore_core.specs.declared.replay.OpenError.TheVariants.{Memory, NoRoom, BadRecord};
+ghost use Rattle.shore_core.specs.Pages.{FitPages};
+ghost use Rattle.shore_core.specs.RecordMaps.{IsOn, records_in};
+ghost use Rattle.shore_model.specs.Logs.{told};
 
-use crate::records::RecordMap;
-use crate::room::LogRoom;
-use shore_logrec::{LogRecord, Payload, encoded_len};
-use shore_types::{Fault, Geometry, Lsn, TxnId};
-use std::alloc::{AllocError, AllocFailed, Global};
-use std::collections::BTreeMap;
+use crate::changes::records_told;
+use crate::records::{Misfit, RecordMap};
+use shore_logrec::{LogRecord, encoded_len};
+use shore_types::{Geometry, Lsn, Rid};
+use std::alloc::{AllocError, Global};
 
 // What a record costs beside its text: the gate, the length and the first number of a frame of its own.
 const FRAME_SHARE: u64 = 13;
@@ -21,7 +23,7 @@ pub enum OpenError {
     Memory,
     /// The log's records leave no room for the longest frame, or its numbers none for a record more.
     NoRoom,
-    /// The record of this number changes a page that is not there, or that has no room for it.
+    /// A record that is too long, or whose page is not there or has no room for it, was left by the change of this number.
     BadRecord(Lsn),
 }
 
@@ -33,71 +35,37 @@ impl From<AllocError> for OpenError {
     }
 }
 
-/// The records that the committed transactions of a log leave: the changes of each, in their order, where its Commit stands.
-/// What other transactions changed is passed over.
+/// The records that a log tells, on the pages of a geometry.
 pub fn replay(
     alloc: Global,
     geometry: &Geometry,
     log: &[LogRecord],
-) -> Result<RecordMap, OpenError> {
-    let mut records = RecordMap::new(alloc, geometry)?;
-    let mut changes = Changes::new(alloc);
-    for (index, record) in log.iter().enumerate() {
-        match &record.payload {
-            Payload::Change { .. } => changes.note(alloc, record.txn, index)?,
-            Payload::Commit => apply(alloc, &mut records, log, &changes.take(alloc, record.txn))?,
-            _ => {}
-        }
-    }
-    Ok(records)
-}
+) -> Result<RecordMap, OpenError>
+    requires { All Fits log.now }
+    ensures told { IfOk result (λ m. records_in m ≡ told log.now) }
+    ensures pages { IfOk result (IsOn geometry.now) }
 
-// The places in the log of each undecided transaction's changes, in their order.
-#[derive(Drop)]
-struct Changes {
-    of: BTreeMap<u64, Vec<usize>>,
-}
-
-impl Changes {
-    fn new(alloc: Global) -> Changes {
-        Changes {
-            of: BTreeMap::new(alloc),
-        }
-    }
-
-    fn note(&mut self, alloc: Global, txn: TxnId, index: usize) -> Result<(), AllocError> {
-        let places = self.of.entry(txn.0)?.or_insert(Vec::new(alloc));
-        places.push(index)?;
-        Ok(())
-    }
-
-    fn take(&mut self, alloc: Global, txn: TxnId) -> Vec<usize> {
-        self.of.remove(&txn.0).unwrap_or(Vec::new(alloc))
+    // Where the pages have room for what the log tells, only memory may be wanting.
+    ensures earned { FitPages geometry.now (told log.now) → IfErr result (λ error. error ≡ Memory) }
+    ensures cause { IfErr result (λ error. error ≢ NoRoom) }
+{
+    let told = records_told(alloc, log)?;
+    match RecordMap::of(alloc, geometry, told) {
+        Ok(records) => Ok(records),
+        Err(Misfit::Memory) => Err(OpenError::Memory),
+        Err(Misfit::At(id)) => Err(OpenError::BadRecord(last_change(log, id))),
     }
 }
 
-fn apply(
-    alloc: Global,
-    records: &mut RecordMap,
-    log: &[LogRecord],
-    places: &[usize],
-) -> Result<(), OpenError> {
-    for place in places {
-        if let Some(record) = log.get(*place)
-            && let Payload::Change {
-                id,
-                before: _,
-                after,
-            } = &record.payload
-        {
-            match records.put_copy(alloc, *id, after) {
-                Ok(()) => {}
-                Err(Fault::Memory) => return Err(OpenError::Memory),
-                Err(_) => return Err(OpenError::BadRecord(Lsn(*place as u64 + 1))),
-            }
+// The number of the last record that changes an id, 0 where there is none.
+fn last_change(log: &[LogRecord], id: Rid) -> Lsn {
+    let mut last = Lsn(0);
+    for (number, logged) in (1..u64::MAX).zip(log) {
+        if logged.payload.id() == Some(id) {
+            last = Lsn(number);
         }
     }
-    Ok(())
+    last
 }
 
 /// What the records cost together, each its text and its share of a frame. It stays at the greatest number where the sum is
