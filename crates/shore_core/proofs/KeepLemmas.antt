@@ -28,7 +28,7 @@ by_test false f g = g refl
 abbrev pub Sets : PageUses → PageId → PageUse → PageUses → Type 0
 Sets old id changed new = (p : PageId) → use_at new p ≡ cond (is_page p id) (Some changed) (use_at old p)
 
-set_is_some : (old new : PageUses) (id : PageId) (changed : PageUse) → Sets old id changed new → (p : PageId) → is_some (use_at old p) ≡ true → is_some (use_at new p) ≡ true
+pub set_is_some : (old new : PageUses) (id : PageId) (changed : PageUse) → Sets old id changed new → (p : PageId) → is_some (use_at old p) ≡ true → is_some (use_at new p) ≡ true
 set_is_some old new id changed set p h = ap is_some (set p) ∙ some_of (is_page p id) changed (use_at old p) h
 
 module _ (R : Records) (k : Rid) (bytes : List ℕ) (empty : get R k ≡ None) where

@@ -1,3 +1,4 @@
+pub mod BuildLemmas
 pub mod CoreLemmas
 pub mod KeepLemmas
 pub mod PageLemmas

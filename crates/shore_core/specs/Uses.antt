@@ -8,7 +8,7 @@ use Rattle.shore_types.specs.declared.ids.Rid.{Rid}
 use Rattle.shore_core.specs.declared.place.PageUse.{PageUse}
 use Rattle.shore_core.specs.declared.uses.PageUses.{PageUses}
 use Rattle.shore_core.specs.Pages.{is_page, lying_on, bytes_of, slots_of}
-use Rattle.shore_types.specs.declared.layout.TheConstants.{MAX_SLOTS, SLOT_ENTRY_BYTES}
+use Rattle.shore_types.specs.declared.layout.TheConstants.{MAX_RECORD_BYTES, MAX_SLOTS, SLOT_ENTRY_BYTES}
 use Rattle.shore_core.specs.declared.place.TheConstants.{PAGE_ROOM}
 
 -- the use of a page, if it is there
@@ -43,14 +43,15 @@ pub record IsUnused (used : PageUse) : Type 0 where
 
 -- a record more of this length was counted on its page, and nothing else
 pub record Adds (old new : PageUses) (id : Rid) (len : ℕ) : Type 0 where
+  pub short : len ≤ MAX_RECORD_BYTES
   pub used : PageUse
   pub after : PageUse
   pub was : use_at old id.page ≡ Some used
   pub with_it : IsWith used id.slot len after
   pub now : (p : PageId) → use_at new p ≡ (if is_page p id.page then Some after else use_at old p)
 
--- the page is not there, or has no room for a record more of this length
+-- a record more of this length is too long, or its page is not there or has no room for it
 abbrev pub HasNoRoom : PageUses → Rid → ℕ → Type 0
 HasNoRoom uses id len =
-    (used : PageUse) → use_at uses id.page ≡ Some used → max used.slots (id.slot + 1) ≤ MAX_SLOTS
+    len ≤ MAX_RECORD_BYTES → (used : PageUse) → use_at uses id.page ≡ Some used → max used.slots (id.slot + 1) ≤ MAX_SLOTS
     → SLOT_ENTRY_BYTES * max used.slots (id.slot + 1) + used.bytes + len ≤ PAGE_ROOM → ⊥

@@ -16,7 +16,7 @@ ghost use Rattle.shore_core.specs.Uses.{Counts, use_at, slot_on};
 use crate::place::PageUse;
 use crate::uses::PageUses;
 use shore_model::RidMap;
-use shore_types::layout::{MAX_RECORD_BYTES, MAX_SLOTS};
+use shore_types::layout::MAX_SLOTS;
 use shore_types::{Bytes, Geometry, PageId, Rid, StoreId};
 use std::alloc::{AllocError, Global};
 
@@ -67,8 +67,7 @@ impl RecordMap {
     {
         let mut uses = PageUses::new(alloc, geometry)?;
         for (id, bytes) in map.iter() {
-            let len = bytes.as_slice().len();
-            if len > MAX_RECORD_BYTES || !uses.add(*id, len) {
+            if !uses.add(*id, bytes.as_slice().len()) {
                 return Err(Misfit::At(*id));
             }
         }

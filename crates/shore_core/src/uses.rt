@@ -5,6 +5,7 @@ ghost use Rattle.shore_types.specs.declared.ids.PageId.{PageId};
 ghost use Rattle.shore_core.specs.declared.place.PageUse.{PageUse};
 
 use crate::place::PageUse;
+use shore_types::layout::MAX_RECORD_BYTES;
 use shore_types::{Geometry, PageId, Rid, StoreId};
 use std::alloc::{AllocError, Global};
 
@@ -64,12 +65,16 @@ impl PageUses {
         }
     }
 
-    /// Counts a record more of so many bytes. False where its page is not there or has no room for it; then nothing has changed.
+    /// Counts a record more of so many bytes. False where it is too long, or its page is not there or has no room for it; then
+    /// nothing has changed.
     pub fn add(&mut self, id: Rid, len: usize) -> bool
         ensures added { IsTrue result → Adds self.old self.new id len }
         ensures refused { result ≡ false → HasNoRoom self.old id len }
         ensures pages { page_counts self.new ≡ page_counts self.old }
     {
+        if len > MAX_RECORD_BYTES {
+            return false;
+        }
         let Some(used) = self.get(id.page) else {
             return false;
         };
