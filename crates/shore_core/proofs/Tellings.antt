@@ -1,9 +1,9 @@
 -- What the records of a log leave, by their places, and what committed transactions leave together.
-use Rattle.std.proofs.Common.{◌≡◌, ◌<◌, ◌+◌, ℕ, suc, List, [], ◌∷◌, ◌++◌, Bool, true, false, cond, Option, Some, None, get_or, length, take, refl, sym, ap, ◌∙◌, arith, append-nil, map, All}
+use Rattle.std.proofs.Common.{◌≡◌, ◌≢◌, ◌<◌, ◌+◌, ℕ, suc, List, [], ◌∷◌, ◌++◌, Bool, true, false, cond, Option, Some, None, get_or, length, take, refl, sym, ap, ◌∙◌, arith, append-nil, map, All}
 use Rattle.std.specs.Prelude.{◌==◌, filter, reverse, slice_get, option_to_list, is_some}
 use Rattle.std.specs.List.{filter_map, cons_option}
 use Rattle.std.specs.Option.{option_and_then}
-use Rattle.std.specs.FinMap.{get, empty, from_entries, get-from_entries, same_map}
+use Rattle.std.specs.FinMap.{find, get, empty, get-empty, from_entries, get-from_entries, same_map}
 use Rattle.std.proofs.lemmas.List.{take_more, reverse-append}
 use Rattle.std.proofs.lemmas.List.Elements.{filter-append, filter_map-append}
 use Rattle.shore_types.specs.declared.ids.Rid.{Rid}
@@ -12,10 +12,12 @@ use Rattle.shore_model.specs.declared.log_records.LogRecord.{LogRecord}
 use Rattle.shore_model.specs.declared.log_records.Payload.{Payload}
 use Rattle.shore_model.specs.declared.log_records.Payload.TheVariants.{Change, Compensation, Commit, End, Prepare, RollbackDecided, CheckpointBegin, CheckpointEnd, Anchor}
 use Rattle.std.specs.Prelude.{unwrap_or}
-use Rattle.shore_model.specs.Records.{Records, Image, put_image, laid_over, overlay, overlays}
+use Rattle.shore_model.specs.Records.{Records, WriteSet, Image, put_image, laid_over, overlay, overlays}
 use Rattle.shore_model.specs.Logs.{image_in, id_in, is_prepare, prepare_of, is_in_doubt, committed_in, logged_writes, told}
 use Rattle.shore_logrec.specs.Text.{Fits, PayloadFits}
 use Rattle.shore_model.proofs.Overlays.{get-laid_over, get-overlay}
+use Rattle.std.specs.Ordering.{eq_by_cmp}
+use Rattle.shore_core.proofs.PageLemmas.{exact}
 use Rattle.shore_core.specs.Changes.{image_at, images_at, images_of}
 
 -- ---- images, by places
@@ -124,5 +126,66 @@ no_prepares (r ∷ rs) h =
 pub told_committed : (rs : List LogRecord) → All Fits rs → told rs ≡ overlays empty (map (logged_writes rs) (committed_in rs))
 told_committed rs h =
     ap (λ us. overlays (overlays empty (map (logged_writes rs) (committed_in rs))) (map (logged_writes rs) (filter (λ t. is_in_doubt t rs) us))) (no_prepares rs h)
+
+-- ---- an id that no record changes
+
+find_none-append : (q : Rid) (es fs : List (Rid × Image)) → find rid_cmp q es ≡ None → find rid_cmp q fs ≡ None → find rid_cmp q (es ++ fs) ≡ None
+find_none-append q [] fs e f = f
+find_none-append q (x ∷ es) fs e f =
+    elim (eq_by_cmp rid_cmp q x.0) as (λ b. cond b (Some x.1) (find rid_cmp q es) ≡ None → cond b (Some x.1) (find rid_cmp q (es ++ fs)) ≡ None) [
+      | true ↦ λ e. e
+      | false ↦ λ e. find_none-append q es fs e f
+    ] e
+
+find_none-reverse : (q : Rid) (es : List (Rid × Image)) → find rid_cmp q es ≡ None → find rid_cmp q (reverse es) ≡ None
+find_none-reverse q [] e = refl
+find_none-reverse q (x ∷ es) e =
+    elim (eq_by_cmp rid_cmp q x.0) as (λ b. eq_by_cmp rid_cmp q x.0 ≡ b → cond b (Some x.1) (find rid_cmp q es) ≡ None → find rid_cmp q (reverse (x ∷ es)) ≡ None) [
+      | true ↦ λ t e. cc
+      | false ↦ λ t e. ap (find rid_cmp q) (reverse-append (x ∷ []) es)
+          ∙ find_none-append q (reverse es) (x ∷ []) (find_none-reverse q es e) (ap (λ b. cond b (Some x.1) None) t)
+    ] refl e
+
+at_other : (q : Rid) (id : Rid) (image : Image) (es : List (Rid × Image)) → Some id ≢ Some q → find rid_cmp q es ≡ None → find rid_cmp q ((id, image) ∷ es) ≡ None
+at_other q id image es other rest =
+    elim (eq_by_cmp rid_cmp q id) as (λ b. eq_by_cmp rid_cmp q id ≡ b → cond b (Some image) (find rid_cmp q es) ≡ None) [
+      | true ↦ λ t. absurd (other (ap (λ (x : Rid). Some x) (sym (exact q id t))))
+      | false ↦ λ t. rest
+    ] refl
+
+image_first : (p : Payload) (q : Rid) (es : List (Rid × Image)) → id_in p ≢ Some q → find rid_cmp q es ≡ None → find rid_cmp q (cons_option (image_in p) es) ≡ None
+image_first (Change id before image) q es other rest = at_other q id image es other rest
+image_first (Compensation id image undo_next) q es other rest = at_other q id image es other rest
+image_first Commit q es other rest = rest
+image_first End q es other rest = rest
+image_first (Prepare global granules) q es other rest = rest
+image_first RollbackDecided q es other rest = rest
+image_first CheckpointBegin q es other rest = rest
+image_first (CheckpointEnd begin next txns dirty) q es other rest = rest
+image_first (Anchor checkpoint tail) q es other rest = rest
+
+-- the image of a record, if it is of this transaction
+image_if : (b : Bool) (q : Rid) (r : LogRecord) (rs : List LogRecord) → (id_in r.payload ≢ Some q) → find rid_cmp q (filter_map (λ r. image_in r.payload) rs) ≡ None
+    → find rid_cmp q (filter_map (λ r. image_in r.payload) (cond b (r ∷ rs) rs)) ≡ None
+image_if false q r rs other rest = rest
+image_if true q r rs other rest = image_first r.payload q (filter_map (λ r. image_in r.payload) rs) other rest
+
+images_none : (q : Rid) (t : ℕ) (rs : List LogRecord) → All (λ r. id_in r.payload ≢ Some q) rs → find rid_cmp q (images_of t rs) ≡ None
+images_none q t [] h = refl
+images_none q t (r ∷ rs) h =
+    image_if (r.txn == t) q r (filter (λ r. r.txn == t) rs) (h 0 r (omega arith)) (images_none q t rs (λ k d within. h (suc k) d (omega (arith, within))))
+
+overlays_none : (q : Rid) (W : ℕ → WriteSet) → ((t : ℕ) → get (W t) q ≡ None) → (R : Records) → get R q ≡ None → (ts : List ℕ) → get (overlays R (map W ts)) q ≡ None
+overlays_none q W none R e [] = e
+overlays_none q W none R e (t ∷ ts) =
+    overlays_none q W none (overlay R (W t)) (get-overlay R (W t) q ∙ ap (λ o. unwrap_or o (get R q)) (none t) ∙ e) ts
+
+-- it is not told
+pub untold : (rs : List LogRecord) (q : Rid) → All Fits rs → All (λ r. id_in r.payload ≢ Some q) rs → get (told rs) q ≡ None
+untold rs q fit h =
+    ap (λ R. get R q) (told_committed rs fit)
+    ∙ overlays_none q (logged_writes rs)
+      (λ t. get-from_entries rids_total (reverse (images_of t rs)) q ∙ find_none-reverse q (images_of t rs) (images_none q t rs h))
+      empty (get-empty rid_cmp q) (committed_in rs)
 
 pub ruleset tellings = (laid_writes, told_committed)

@@ -1,11 +1,12 @@
 //! What an open makes of the log: the records that it tells, and the sums.
-ghost use Rattle.std.specs.Prelude.{◌≡◌, ◌≤◌, ◌<◌, ◌-◌, ◌^◌, ℕ, ◌≢◌, Err, IfOk, IfErr, All, min};
-ghost use Rattle.shore_core.specs.Opened.{cost_of_log};
+ghost use Rattle.std.specs.Prelude.{◌≡◌, ◌≤◌, ◌<◌, ◌-◌, ◌^◌, ℕ, ◌≢◌, ◌↔◌, Err, Some, IsTrue, IfOk, IfErr, All, min};
+ghost use Rattle.shore_core.specs.Opened.{ChangesAt, cost_of_log};
 ghost use Rattle.shore_logrec.specs.Text.{Fits};
 ghost use Rattle.shore_core.specs.declared.replay.OpenError.TheVariants.{Memory, NoRoom, BadRecord};
 ghost use Rattle.shore_core.specs.Pages.{FitPages};
 ghost use Rattle.shore_core.specs.RecordMaps.{IsOn, records_in};
-ghost use Rattle.shore_model.specs.Logs.{told};
+ghost use Rattle.shore_model.specs.Logs.{id_in, told};
+ghost use Rattle.shore_types.specs.declared.ids.Rid.{Rid};
 
 use crate::changes::records_told;
 use crate::records::{Misfit, RecordMap};
@@ -47,25 +48,38 @@ pub fn replay(
 
     // Where the pages have room for what the log tells, only memory may be wanting.
     ensures earned { FitPages geometry.now (told log.now) → IfErr result (λ error. error ≡ Memory) }
+    ensures bad { (n : ℕ) → result ≡ Err (BadRecord n) → (id : Rid) × ChangesAt log.now id n }
     ensures cause { IfErr result (λ error. error ≢ NoRoom) }
 {
     let told = records_told(alloc, log)?;
     match RecordMap::of(alloc, geometry, told) {
         Ok(records) => Ok(records),
         Err(Misfit::Memory) => Err(OpenError::Memory),
-        Err(Misfit::At(id)) => Err(OpenError::BadRecord(last_change(log, id))),
+        Err(Misfit::At(id)) => Err(OpenError::BadRecord(last_change(log, &id))),
     }
 }
 
 // The number of the last record that changes an id, 0 where there is none.
-fn last_change(log: &[LogRecord], id: Rid) -> Lsn {
-    let mut last = Lsn(0);
-    for (number, logged) in (1..u64::MAX).zip(log) {
-        if logged.payload.id() == Some(id) {
-            last = Lsn(number);
+fn last_change(log: &[LogRecord], id: &Rid) -> Lsn
+    ensures change { 0 < result → ChangesAt log.now id.now result }
+    ensures none { result ≡ 0 → All (λ r. id_in r.payload ≢ Some id.now) log.now }
+{
+    let mut last = 0;
+    for place in 0..log.len() {
+        if is_change(&log[place], id) {
+            last = place + 1;
         }
     }
-    last
+    Lsn(last as u64)
+}
+
+fn is_change(logged: &LogRecord, id: &Rid) -> bool
+    ensures { IsTrue result ↔ (id_in logged.now.payload ≡ Some id.now) }
+{
+    match logged.payload.id() {
+        Some(changed) => changed == *id,
+        None => false,
+    }
 }
 
 /// What the records cost together, each its text and its share of a frame. It stays at the greatest number where the sum is
