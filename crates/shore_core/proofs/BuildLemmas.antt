@@ -113,7 +113,7 @@ is_so : (b : Bool) → T b → b ≡ true
 is_so true h = refl
 is_so false h = absurd h
 
-some_use : {P : Type 0} (o : Option PageUse) → is_some o ≡ true → ((used : PageUse) → o ≡ Some used → P) → P
+pub some_use : {P : Type 0} (o : Option PageUse) → is_some o ≡ true → ((used : PageUse) → o ≡ Some used → P) → P
 some_use None h f = absurd cc
 some_use (Some used) h f = f used refl
 

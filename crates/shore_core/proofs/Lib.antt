@@ -1,5 +1,6 @@
 pub mod BuildLemmas
 pub mod CoreLemmas
+pub mod FitLemmas
 pub mod KeepLemmas
 pub mod PageLemmas
 pub mod PlaceLemmas

@@ -94,7 +94,7 @@ pub some_of : {A : Type 0} (b : Bool) (x : A) (o : Option A) → is_some o ≡ t
 some_of true x o h = refl
 some_of false x o h = h
 
-some_at : {A : Type 0} (b : Bool) (x : A) (o : Option A) → b ≡ true → is_some (cond b (Some x) o) ≡ true
+pub some_at : {A : Type 0} (b : Bool) (x : A) (o : Option A) → b ≡ true → is_some (cond b (Some x) o) ≡ true
 some_at b x o h = ap (λ b. is_some (cond b (Some x) o)) h
 
 pub tied : (k : Rid) → eq_by_cmp rid_cmp k k ≡ true

@@ -15,7 +15,7 @@ use Rattle.shore_core.proofs.PageLemmas.{counts_with, is_page-refl, exact, slots
 use Rattle.shore_core.proofs.KeepLemmas.{by_test, gains}
 
 -- the table reaches to each record of its page
-slot_below : (es : List (Rid × List ℕ)) (q : Rid) → is_some (find rid_cmp q es) ≡ true → q.slot + 1 ≤ slots_of (lying_on q.page es)
+pub slot_below : (es : List (Rid × List ℕ)) (q : Rid) → is_some (find rid_cmp q es) ≡ true → q.slot + 1 ≤ slots_of (lying_on q.page es)
 slot_below [] q h = cc
 slot_below (e ∷ es) q h =
     let whole : slots_of (lying_on q.page (e ∷ es)) ≡ max (cond (is_page q.page e.0.page) (e.0.slot + 1) 0) (slots_of (lying_on q.page es)) = slots-cons q.page e es in
@@ -29,7 +29,7 @@ slot_below (e ∷ es) q h =
         let rest = slot_below es q (ap (λ b. is_some (cond b (Some e.1) (find rid_cmp q es))) (sym t) ∙ h) in
         omega (arith, whole, rest))
 
-find_of : (R : Records) (q : Rid) → is_some (get R q) ≡ true → is_some (find rid_cmp q (entries R)) ≡ true
+pub find_of : (R : Records) (q : Rid) → is_some (get R q) ≡ true → is_some (find rid_cmp q (entries R)) ≡ true
 find_of R q h = ap is_some (sym (get-entries R q)) ∙ h
 
 get_of : (R : Records) (q : Rid) → is_some (find rid_cmp q (entries R)) ≡ true → is_some (get R q) ≡ true

@@ -4,6 +4,7 @@
 
 mod calls;
 mod changes;
+pub mod laws;
 mod place;
 mod records;
 mod replay;

@@ -45,6 +45,7 @@ pub fn replay(
     requires { All Fits log.now }
     ensures told { IfOk result (λ m. records_in m ≡ told log.now) }
     ensures pages { IfOk result (IsOn geometry.now) }
+    ensures fits { IfOk result (λ m. FitPages geometry.now (records_in m)) }
 
     // Where the pages have room for what the log tells, only memory may be wanting.
     ensures earned { FitPages geometry.now (told log.now) → IfErr result (λ error. error ≡ Memory) }

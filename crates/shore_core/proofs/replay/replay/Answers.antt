@@ -5,6 +5,7 @@ use Rattle.std.proofs.lemmas.Bool.{ltb-true, ltb-false}
 use Rattle.shore_model.specs.Records.{Records}
 use Rattle.shore_core.specs.Opened.{ChangesAt}
 use Rattle.shore_core.specs.Pages.{FitPages}
+use Rattle.shore_core.proofs.FitLemmas.{fits_pages}
 use Rattle.shore_core.proofs.KeepLemmas.{by_test}
 use Rattle.shore_core.proofs.Tellings.{untold}
 use Rattle.shore_core.proofs.replay.replay.Goals as goal
@@ -26,3 +27,6 @@ returns-in-Err-At-clause-bad c n is =
         let no : is_some (get c.in_ok-told.told id) ≡ false = ap is_some none in
         absurd cc) in
     (id, subst (ChangesAt log id) same (c.last_change.ensures.change some))
+
+pub returns-in-Ok-clause-fits : goal.returns-in-Ok-clause-fits
+returns-in-Ok-clause-fits c = let k = c.in-Ok.ensures.ok in fits_pages c.args.geometry.now c.in-Ok.records c.in-Ok.ensures.ok.1
