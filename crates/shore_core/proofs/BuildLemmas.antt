@@ -85,10 +85,10 @@ CountedFrom-more {uses = uses} h id bytes rest is new adds =
           let now : cond (is_page p id.page) (Some adds.after) (use_at uses p) ≡ Some u = sym (adds.now p) ∙ e in
           by_test (is_page p id.page)
           (λ on.
-              let here : p ≡ id.page = is_page-same p id.page on in
-              let u_is : adds.after ≡ u = same_some adds.after u (ap (λ c. cond c (Some adds.after) (use_at uses p)) (sym on) ∙ now) in
-              subst (Counts (h.done ++ (id, bytes) ∷ []) p) u_is
-              (counts_with h.done id (length bytes) (h.done ++ (id, bytes) ∷ []) more p adds.used (h.counted p adds.used (ap (use_at uses) here ∙ adds.was)) here adds.after adds.with_it))
+          let here : p ≡ id.page = is_page-same p id.page on in
+          let u_is : adds.after ≡ u = same_some adds.after u (ap (λ c. cond c (Some adds.after) (use_at uses p)) (sym on) ∙ now) in
+          subst (Counts (h.done ++ (id, bytes) ∷ []) p) u_is
+          (counts_with h.done id (length bytes) (h.done ++ (id, bytes) ∷ []) more p adds.used (h.counted p adds.used (ap (use_at uses) here ∙ adds.was)) here adds.after adds.with_it))
           (λ off. counts_same h.done id (length bytes) (h.done ++ (id, bytes) ∷ []) more p u (h.counted p u (ap (λ c. cond c (Some adds.after) (use_at uses p)) (sym off) ∙ now)) off);
       placed = λ q b found. elim (find-push q id bytes h.done b found) as (λ _. is_some (use_at new q.page) ≡ true) [
         | inl old ↦ set_is_some uses new id.page adds.after adds.now q.page (h.placed q b old)
@@ -137,5 +137,5 @@ module _ {all left : List (Rid × List ℕ)} {uses : PageUses} (h : CountedFrom 
       let next_bytes : bytes_of (lying_on p ((id, bytes) ∷ rest)) ≡ length bytes + bytes_of (lying_on p rest) = bytes-cons p (id, bytes) rest ∙ ap (λ b. cond b (length bytes) 0 + bytes_of (lying_on p rest)) (is_page-refl p) in
       let page = fits.pages p in
       some_use (use_at uses p) (use_of_page g uses on p there.0.0) (λ used e.
-          let counts = h.counted p used e in
-          no_room there.1 used e (omega (arith, counts.slots, slots, next_slots, page.few)) (omega (arith, counts.slots, counts.bytes, slots, next_slots, bytes_there, next_bytes, page.within)))
+      let counts = h.counted p used e in
+      no_room there.1 used e (omega (arith, counts.slots, slots, next_slots, page.few)) (omega (arith, counts.slots, counts.bytes, slots, next_slots, bytes_there, next_bytes, page.within)))

@@ -31,9 +31,9 @@ nothing_on p [] none = refl
 nothing_on p (e ∷ es) none =
     by_test (is_page p e.0.page)
     (λ on.
-        let there : is_some (find rid_cmp e.0 (e ∷ es)) ≡ true = some_at (eq_by_cmp rid_cmp e.0 e.0) e.1 (find rid_cmp e.0 es) (tied e.0) in
-        let no = none e.0 (sym (is_page-same p e.0.page on)) in
-        absurd cc)
+    let there : is_some (find rid_cmp e.0 (e ∷ es)) ≡ true = some_at (eq_by_cmp rid_cmp e.0 e.0) e.1 (find rid_cmp e.0 es) (tied e.0) in
+    let no = none e.0 (sym (is_page-same p e.0.page on)) in
+    absurd cc)
     (λ off. ap (λ b. cond b (e ∷ lying_on p es) (lying_on p es)) off ∙ nothing_on p es (λ q here. rest_none (eq_by_cmp rid_cmp q e.0) e.1 (find rid_cmp q es) (none q here)))
 
 by_use : {P : Type 0} (o : Option PageUse) → (o ≡ None → P) → ((used : PageUse) → o ≡ Some used → P) → P
@@ -59,19 +59,19 @@ module _ (g : Geometry) (R : Records) (uses : PageUses) (keeps : Keeps R uses) (
   slot_inside : (id : Rid) (bytes : List ℕ) → get R id ≡ Some bytes → id.slot < 2042
   slot_inside id bytes e =
       some_use (use_at uses id.page) (keeps.placed id bytes e) (λ used is.
-          omega (arith, slot_below (entries R) id (find_of R id (ap is_some e)), (keeps.counted id.page used is).slots, used.few))
+      omega (arith, slot_below (entries R) id (find_of R id (ap is_some e)), (keeps.counted id.page used is).slots, used.few))
 
   fits_of : FitPages g R
   fits_of = record {
     are_records = λ id bytes e. ((page_of_use g uses on id.page (keeps.placed id bytes e), slot_inside id bytes e), keeps.short id bytes e);
     pages = λ p. by_use (use_at uses p)
         (λ none.
-            let slots : slots_of (lying_on p (entries R)) ≡ 0 = ap slots_of (none_there p none) in
-            let bytes : bytes_of (lying_on p (entries R)) ≡ 0 = ap bytes_of (none_there p none) in
-            record { few = omega (arith, slots); within = omega (arith, slots, bytes) })
+        let slots : slots_of (lying_on p (entries R)) ≡ 0 = ap slots_of (none_there p none) in
+        let bytes : bytes_of (lying_on p (entries R)) ≡ 0 = ap bytes_of (none_there p none) in
+        record { few = omega (arith, slots); within = omega (arith, slots, bytes) })
         (λ used is.
-            let counts = keeps.counted p used is in
-            record { few = omega (arith, counts.slots, used.few); within = omega (arith, counts.slots, counts.bytes, used.within) });
+        let counts = keeps.counted p used is in
+        record { few = omega (arith, counts.slots, used.few); within = omega (arith, counts.slots, counts.bytes, used.within) });
   }
 
 -- so it is of each record map

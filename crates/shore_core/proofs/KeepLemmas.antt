@@ -57,8 +57,8 @@ module _ (R : Records) (k : Rid) (bytes : List ℕ) (empty : get R k ≡ None) w
   removed_again = same_map rids_total exact_rids _ _ (λ q.
       get-remove rids_total (insert R k bytes) k q
       ∙ by_test (eq_by_cmp rid_cmp q k)
-        (λ t. ap (λ c. cond c None (get (insert R k bytes) q)) t ∙ sym (ap (get R) (exact q k t) ∙ empty))
-        (λ t. ap (λ c. cond c None (get (insert R k bytes) q)) t ∙ get-insert rids_total R k bytes q ∙ ap (λ c. cond c (Some bytes) (get R q)) t))
+      (λ t. ap (λ c. cond c None (get (insert R k bytes) q)) t ∙ sym (ap (get R) (exact q k t) ∙ empty))
+      (λ t. ap (λ c. cond c None (get (insert R k bytes) q)) t ∙ get-insert rids_total R k bytes q ∙ ap (λ c. cond c (Some bytes) (get R q)) t))
 
   -- a record comes
   pub Keeps-insert : (uses new : PageUses) (used after : PageUse) → Keeps R uses → use_at uses k.page ≡ Some used → IsWith used k.slot (length bytes) after
@@ -68,10 +68,10 @@ module _ (R : Records) (k : Rid) (bytes : List ℕ) (empty : get R k ≡ None) w
         let is : cond (is_page p k.page) (Some after) (use_at uses p) ≡ Some u = sym (set p) ∙ e in
         by_test (is_page p k.page)
         (λ on.
-            let here : p ≡ k.page = is_page-same p k.page on in
-            let u_is : after ≡ u = same_some after u (ap (λ c. cond c (Some after) (use_at uses p)) (sym on) ∙ is) in
-            subst (Counts (entries (insert R k bytes)) p) u_is
-            (counts_with (entries R) k (length bytes) (entries (insert R k bytes)) gains p used (keeps.counted p used (ap (use_at uses) here ∙ was)) here after with_it))
+        let here : p ≡ k.page = is_page-same p k.page on in
+        let u_is : after ≡ u = same_some after u (ap (λ c. cond c (Some after) (use_at uses p)) (sym on) ∙ is) in
+        subst (Counts (entries (insert R k bytes)) p) u_is
+        (counts_with (entries R) k (length bytes) (entries (insert R k bytes)) gains p used (keeps.counted p used (ap (use_at uses) here ∙ was)) here after with_it))
         (λ off. counts_same (entries R) k (length bytes) (entries (insert R k bytes)) gains p u (keeps.counted p u (ap (λ c. cond c (Some after) (use_at uses p)) (sym off) ∙ is)) off);
     placed = λ id b h. elim (found_there id b h) as (λ _. is_some (use_at new id.page) ≡ true) [
       | inl old ↦ set_is_some uses new k.page after set id.page (keeps.placed id b old)
@@ -91,7 +91,7 @@ module _ (R : Records) (k : Rid) (bytes : List ℕ) (empty : get R k ≡ None) w
     filled = λ s h.
         let q = slot_on p s in
         let there : is_some (cond (eq_by_cmp rid_cmp q k) (Some bytes) (find rid_cmp q (entries R))) ≡ true =
-            ap is_some (sym (find-put rid_cmp rids_total q k bytes (entries R))) ∙ ap (λ es. is_some (find rid_cmp q es)) (sym (entries-insert rids_total R k bytes)) ∙ counts.filled s h in
+        ap is_some (sym (find-put rid_cmp rids_total q k bytes (entries R))) ∙ ap (λ es. is_some (find rid_cmp q es)) (sym (entries-insert rids_total R k bytes)) ∙ counts.filled s h in
         by_test (eq_by_cmp rid_cmp q k)
         (λ t. let on : is_page p k.page ≡ true = ap (λ (x : Rid). is_page p x.page) (sym (exact q k t)) ∙ is_page-refl p in cc)
         (λ t. ap (λ c. is_some (cond c (Some bytes) (find rid_cmp q (entries R)))) (sym t) ∙ there);
@@ -104,8 +104,8 @@ module _ (R : Records) (k : Rid) (bytes : List ℕ) (empty : get R k ≡ None) w
         let is : cond (is_page p k.page) (Some before) (use_at uses p) ≡ Some u = sym (set p) ∙ e in
         by_test (is_page p k.page)
         (λ on.
-            let u_is : before ≡ u = same_some before u (ap (λ c. cond c (Some before) (use_at uses p)) (sym on) ∙ is) in
-            subst (λ (q : PageId). Counts (entries R) q u) (sym (is_page-same p k.page on)) (subst (Counts (entries R) k.page) u_is was))
+        let u_is : before ≡ u = same_some before u (ap (λ c. cond c (Some before) (use_at uses p)) (sym on) ∙ is) in
+        subst (λ (q : PageId). Counts (entries R) q u) (sym (is_page-same p k.page on)) (subst (Counts (entries R) k.page) u_is was))
         (λ off. counts_back p u off (keeps.counted p u (ap (λ c. cond c (Some before) (use_at uses p)) (sym off) ∙ is)));
     placed = λ id b h. set_is_some uses new k.page before set id.page (keeps.placed id b (other_there id b h));
     short = λ id b h. keeps.short id b (other_there id b h);
@@ -114,3 +114,21 @@ module _ (R : Records) (k : Rid) (bytes : List ℕ) (empty : get R k ≡ None) w
 -- a record that was put is found
 pub found_itself : (R : Records) (k : Rid) (bytes : List ℕ) → get (insert R k bytes) k ≡ Some bytes
 found_itself R k bytes = get-insert rids_total R k bytes k ∙ ap (λ c. cond c (Some bytes) (get R k)) (tied k)
+
+-- the mark of the first slots that are full is moved
+pub Keeps-mark : (R : Records) (uses new : PageUses) (p : PageId) (used marked : PageUse) → Keeps R uses → use_at uses p ≡ Some used → marked.slots ≡ used.slots → marked.bytes ≡ used.bytes
+    → ((s : ℕ) → s < marked.filled → is_some (get R (slot_on p s)) ≡ true) → Sets uses p marked new → Keeps R new
+Keeps-mark R uses new p used marked keeps was slots bytes full set =
+    let counts = keeps.counted p used was in
+    let now : Counts (entries R) p marked = record { slots = slots ∙ counts.slots; bytes = bytes ∙ counts.bytes; filled = λ s h. ap is_some (sym (get-entries R (slot_on p s))) ∙ full s h } in
+    record {
+      counted = λ q u e.
+          let is : cond (is_page q p) (Some marked) (use_at uses q) ≡ Some u = sym (set q) ∙ e in
+          by_test (is_page q p)
+          (λ on.
+          let u_is : marked ≡ u = same_some marked u (ap (λ c. cond c (Some marked) (use_at uses q)) (sym on) ∙ is) in
+          subst (λ (x : PageId). Counts (entries R) x u) (sym (is_page-same q p on)) (subst (Counts (entries R) p) u_is now))
+          (λ off. keeps.counted q u (ap (λ c. cond c (Some marked) (use_at uses q)) (sym off) ∙ is));
+      placed = λ id b h. set_is_some uses new p marked set id.page (keeps.placed id b h);
+      short = keeps.short;
+    }

@@ -176,9 +176,9 @@ module _ (es : Entries) (k : Rid) (len : ℕ) (fs : Entries) (more : Gains es k 
       let on : is_page p k.page ≡ true = ap (is_page p) (sym here) ∙ is_page-refl p in
       record {
         slots = with_it.slots ∙ ap (λ n. max n (k.slot + 1)) counts.slots ∙ max_turned (slots_of (lying_on p es)) (k.slot + 1)
-          ∙ sym (more.slots p ∙ ap (λ b. max (cond b (k.slot + 1) 0) (slots_of (lying_on p es))) on);
+            ∙ sym (more.slots p ∙ ap (λ b. max (cond b (k.slot + 1) 0) (slots_of (lying_on p es))) on);
         bytes = with_it.bytes ∙ ap (λ n. n + len) counts.bytes ∙ sum_turned (bytes_of (lying_on p es)) len
-          ∙ sym (more.bytes p ∙ ap (λ b. cond b len 0 + bytes_of (lying_on p es)) on);
+            ∙ sym (more.bytes p ∙ ap (λ b. cond b len 0 + bytes_of (lying_on p es)) on);
         filled = λ s h. elim (with_it.filled s h) as (λ _. is_some (find rid_cmp (slot_on p s) fs) ≡ true) [
           | inl below ↦ more.kept (slot_on p s) (counts.filled s below)
           | inr is ↦ ap (λ q. is_some (find rid_cmp q fs)) (same_id k p s here is) ∙ more.has

@@ -21,13 +21,13 @@ slot_below (e ∷ es) q h =
     let whole : slots_of (lying_on q.page (e ∷ es)) ≡ max (cond (is_page q.page e.0.page) (e.0.slot + 1) 0) (slots_of (lying_on q.page es)) = slots-cons q.page e es in
     by_test (eq_by_cmp rid_cmp q e.0)
     (λ t.
-        let is = exact q e.0 t in
-        let on : is_page q.page e.0.page ≡ true = ap (λ (x : Rid). is_page q.page x.page) (sym is) ∙ is_page-refl q.page in
-        let first : cond (is_page q.page e.0.page) (e.0.slot + 1) 0 ≡ q.slot + 1 = ap (λ b. cond b (e.0.slot + 1) 0) on ∙ ap (λ (x : Rid). x.slot + 1) (sym is) in
-        omega (arith, whole, first))
+    let is = exact q e.0 t in
+    let on : is_page q.page e.0.page ≡ true = ap (λ (x : Rid). is_page q.page x.page) (sym is) ∙ is_page-refl q.page in
+    let first : cond (is_page q.page e.0.page) (e.0.slot + 1) 0 ≡ q.slot + 1 = ap (λ b. cond b (e.0.slot + 1) 0) on ∙ ap (λ (x : Rid). x.slot + 1) (sym is) in
+    omega (arith, whole, first))
     (λ t.
-        let rest = slot_below es q (ap (λ b. is_some (cond b (Some e.1) (find rid_cmp q es))) (sym t) ∙ h) in
-        omega (arith, whole, rest))
+    let rest = slot_below es q (ap (λ b. is_some (cond b (Some e.1) (find rid_cmp q es))) (sym t) ∙ h) in
+    omega (arith, whole, rest))
 
 pub find_of : (R : Records) (q : Rid) → is_some (get R q) ≡ true → is_some (find rid_cmp q (entries R)) ≡ true
 find_of R q h = ap is_some (sym (get-entries R q)) ∙ h
@@ -42,7 +42,7 @@ candidate_at R p (suc n) full = omega (arith, slot_below (entries R) (slot_on p 
 
 module _ (R : Records) (p : PageId) (used : PageUse) (counts : Counts (entries R) p used) where
   -- with the first slots, all below a slot are full
-  all_below : (n : ℕ) → ((s : ℕ) → used.filled ≤ s → s < n → is_some (get R (slot_on p s)) ≡ true) → (s : ℕ) → s < n → is_some (get R (slot_on p s)) ≡ true
+  pub all_below : (n : ℕ) → ((s : ℕ) → used.filled ≤ s → s < n → is_some (get R (slot_on p s)) ≡ true) → (s : ℕ) → s < n → is_some (get R (slot_on p s)) ≡ true
   all_below n full s below =
       by_test (nat_lt s used.filled)
       (λ t. get_of R (slot_on p s) (counts.filled s (ltb-true s used.filled t)))
@@ -53,9 +53,9 @@ module _ (R : Records) (p : PageId) (used : PageUse) (counts : Counts (entries R
   none_below n full id here empty =
       by_test (nat_lt id.slot n)
       (λ t.
-          let there : is_some (get R id) ≡ true = ap (λ (q : PageId). is_some (get R (slot_on q id.slot))) here ∙ all_below n full id.slot (ltb-true id.slot n t) in
-          let no : is_some (get R id) ≡ false = ap is_some empty in
-          absurd cc)
+      let there : is_some (get R id) ≡ true = ap (λ (q : PageId). is_some (get R (slot_on q id.slot))) here ∙ all_below n full id.slot (ltb-true id.slot n t) in
+      let no : is_some (get R id) ≡ false = ap is_some empty in
+      absurd cc)
       (λ t. ltb-false id.slot n t)
 
   pub takes_at : (id : Rid) (bytes : List ℕ) (after : PageUse) → id.page ≡ p → get R id ≡ None → IsWith used id.slot (length bytes) after

@@ -185,7 +185,7 @@ pub untold : (rs : List LogRecord) (q : Rid) → All Fits rs → All (λ r. id_i
 untold rs q fit h =
     ap (λ R. get R q) (told_committed rs fit)
     ∙ overlays_none q (logged_writes rs)
-      (λ t. get-from_entries rids_total (reverse (images_of t rs)) q ∙ find_none-reverse q (images_of t rs) (images_none q t rs h))
-      empty (get-empty rid_cmp q) (committed_in rs)
+    (λ t. get-from_entries rids_total (reverse (images_of t rs)) q ∙ find_none-reverse q (images_of t rs) (images_none q t rs h))
+    empty (get-empty rid_cmp q) (committed_in rs)
 
 pub ruleset tellings = (laid_writes, told_committed)

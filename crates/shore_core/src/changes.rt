@@ -114,11 +114,7 @@ fn put_all(
 }
 
 // Puts what a record has left.
-fn put_left(
-    alloc: Global,
-    records: &mut RidMap<Bytes>,
-    payload: &Payload,
-) -> Result<(), AllocError>
+fn put_left(alloc: Global, records: &mut RidMap<Bytes>, payload: &Payload) -> Result<(), AllocError>
     ensures { OnOk result (records.new ≡ laid_over records.old (option_to_list (image_in payload.now))) }
 {
     match payload {

@@ -43,6 +43,27 @@ impl PageUse {
         self.filled
     }
 
+    /// The slots of its table.
+    pub fn slots(&self) -> u16
+        ensures { result ≡ self.now.slots }
+    {
+        self.slots
+    }
+
+    /// The same use, with so many slots from the first on known to be full.
+    pub fn with_filled(&self, filled: u16) -> PageUse
+        requires { filled ≤ self.now.slots }
+        ensures slots { result.slots ≡ self.now.slots }
+        ensures bytes { result.bytes ≡ self.now.bytes }
+        ensures filled { result.filled ≡ filled }
+    {
+        PageUse {
+            slots: self.slots,
+            filled,
+            bytes: self.bytes,
+        }
+    }
+
     /// Whether so many bytes more have room, with no slot more.
     pub fn has_room(&self, len: usize) -> bool
         ensures { IsTrue result ↔ (SLOT_ENTRY_BYTES * self.now.slots + self.now.bytes + len ≤ PAGE_ROOM) }
@@ -66,7 +87,11 @@ impl PageUse {
         }
         Some(PageUse {
             slots,
-            filled: if slot == self.filled { slot + 1 } else { self.filled },
+            filled: if slot == self.filled {
+                slot + 1
+            } else {
+                self.filled
+            },
             bytes: self.bytes + len,
         })
     }

@@ -94,6 +94,7 @@ impl RecordMap {
         ensures absent { IfSome result (λ place. maps.get (records_in self.now) place.id ≡ None) }
         ensures store { IfSome result (λ place. place.id.page.store ≡ store) }
         ensures slot { IfSome result (λ place. place.id.slot < MAX_SLOTS) }
+        ensures inside { (g : Geometry) → IsOn g self.now → IfSome result (λ place. HasPage g place.id.page) }
         ensures place { IfSome result (IsPlace self.now len) }
         ensures takes { (bytes : List ℕ) → length bytes ≡ len → IfSome result (λ place. Takes (records_in self.now) place.id bytes) }
         ensures first { (id : Rid) (bytes : List ℕ) → length bytes ≡ len → id.page.store ≡ store → Takes (records_in self.now) id bytes
@@ -180,7 +181,33 @@ impl RecordMap {
     {
         self.map.insert(place.id, bytes)?;
         self.uses.set(place.id.page, place.after);
+        self.mark_filled(place.id.page);
         Ok(())
+    }
+
+    // Marks the first slots of a page that are full, up to its lowest empty one, so that no search passes them again.
+    fn mark_filled(&mut self, page: PageId)
+        ensures records { records_in self.new ≡ records_in self.old }
+        ensures pages { (g : Geometry) → IsOn g self.old → IsOn g self.new }
+    {
+        let PageId { store, page } = page;
+        if let Some(used) = self.uses.get(PageId { store, page }) {
+            let filled = self.lowest_gap(PageId { store, page }, &used);
+            self.uses
+                .set(PageId { store, page }, used.with_filled(filled));
+        }
+    }
+
+    // The lowest empty slot of a page, or where its table ends.
+    fn lowest_gap(&self, page: PageId, used: &PageUse) -> u16
+        requires { use_at self.now.uses page ≡ Some used.now }
+        ensures inside { result ≤ used.now.slots }
+        ensures full { (s : ℕ) → s < result → is_some (maps.get (records_in self.now) (slot_on page s)) ≡ true }
+    {
+        match self.empty_slot(page, used.first_candidate()) {
+            Some(id) => id.slot.min(used.slots()),
+            None => used.slots(),
+        }
     }
 
     /// Takes a new record away again: the map is what it was before.

@@ -37,11 +37,7 @@ impl From<AllocError> for OpenError {
 }
 
 /// The records that a log tells, on the pages of a geometry.
-pub fn replay(
-    alloc: Global,
-    geometry: &Geometry,
-    log: &[LogRecord],
-) -> Result<RecordMap, OpenError>
+pub fn replay(alloc: Global, geometry: &Geometry, log: &[LogRecord]) -> Result<RecordMap, OpenError>
     requires { All Fits log.now }
     ensures told { IfOk result (λ m. records_in m ≡ told log.now) }
     ensures pages { IfOk result (IsOn geometry.now) }

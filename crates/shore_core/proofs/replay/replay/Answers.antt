@@ -22,10 +22,10 @@ returns-in-Err-At-clause-bad c n is =
     let same : last ≡ n = cc in
     let there : is_some (get c.in_ok-told.told id) ≡ true = (c.in-Err-At.ensures.misfit id (ap Err c.in-Err-At.field-0-is)).1 in
     let some : 0 < last = by_test (nat_lt 0 last) (λ t. ltb-true 0 last t) (λ t.
-        let zero_is : last ≡ 0 = omega (arith, ltb-false 0 last t) in
-        let none : get c.in_ok-told.told id ≡ None = ap (λ (R : Records). get R id) c.in_ok-told.ensures ∙ untold log id c.requires (c.last_change.ensures.none zero_is) in
-        let no : is_some (get c.in_ok-told.told id) ≡ false = ap is_some none in
-        absurd cc) in
+    let zero_is : last ≡ 0 = omega (arith, ltb-false 0 last t) in
+    let none : get c.in_ok-told.told id ≡ None = ap (λ (R : Records). get R id) c.in_ok-told.ensures ∙ untold log id c.requires (c.last_change.ensures.none zero_is) in
+    let no : is_some (get c.in_ok-told.told id) ≡ false = ap is_some none in
+    absurd cc) in
     (id, subst (ChangesAt log id) same (c.last_change.ensures.change some))
 
 pub returns-in-Ok-clause-fits : goal.returns-in-Ok-clause-fits

@@ -16,7 +16,7 @@ returns-in_err-id-clause-full c there id bytes len here takes =
     let counts = c.args.self.now.counted c.args.page used (sym c.in_ok-used.ensures) in
     let room = room_of c.args.self.now.map c.args.page used counts id bytes here takes in
     let past : 2042 ≤ id.slot = none_below c.args.self.now.map c.args.page used counts 2042
-        (λ s h below. c.in_err-id.ensures.full s (omega (arith, h, c.first_candidate.ensures)) below) id here takes.empty in
+    (λ s h below. c.in_err-id.ensures.full s (omega (arith, h, c.first_candidate.ensures)) below) id here takes.empty in
     absurd (omega (arith, past, room.0))
 
 pub returns-in_err-after-clause-full : goal.returns-in_err-after-clause-full
@@ -25,7 +25,7 @@ returns-in_err-after-clause-full c there id bytes len here takes =
     let counts = c.args.self.now.counted c.args.page used (sym c.in_ok-used.ensures) in
     let room = room_of c.args.self.now.map c.args.page used counts id bytes here takes in
     let low : c.in_ok-id.id.slot ≤ id.slot = none_below c.args.self.now.map c.args.page used counts c.in_ok-id.id.slot
-        (λ s h below. c.in_ok-id.ensures.below s (omega (arith, h, c.first_candidate.ensures)) below) id here takes.empty in
+    (λ s h below. c.in_ok-id.ensures.below s (omega (arith, h, c.first_candidate.ensures)) below) id here takes.empty in
     let no : false ≡ true = c.in_err-after.ensures.some.1 (omega (arith, low, room.0), omega (arith, low, room.1, len)) in
     absurd cc
 

@@ -19,8 +19,8 @@ invariant_of-self c =
     let was = c.requires.1 in
     let keeps_old = subst (λ (S : Records). Keeps S old.uses) was.is (record { counted = old.counted; placed = old.placed; short = old.short }) in
     let keeps = subst (λ (S : Records). Keeps S c.set.new.self)
-        (sym (c.remove.ensures ∙ ap (λ (S : Records). remove S id) was.is ∙ removed_again R id was.bytes was.empty))
-        (Keeps-undo R id was.bytes was.empty old.uses c.set.new.self c.args.place.now.before keeps_old was.before c.set.ensures.set) in
+    (sym (c.remove.ensures ∙ ap (λ (S : Records). remove S id) was.is ∙ removed_again R id was.bytes was.empty))
+    (Keeps-undo R id was.bytes was.empty old.uses c.set.new.self c.args.place.now.before keeps_old was.before c.set.ensures.set) in
     record { counted = keeps.counted; placed = keeps.placed; short = keeps.short }
 
 pub returns-clause-undone : goal.returns-clause-undone

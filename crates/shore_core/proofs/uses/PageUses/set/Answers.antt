@@ -15,6 +15,6 @@ returns-in_default-get_mut-clause-set c p =
     let at = ap (λ (q : PageId). slice_get c.args.self.now.stores.items q.store) c.id.view_is in
     let past = ap (λ (q : PageId). slice_get c.in-Some.pages.now.items q.page) c.id.view_is in
     absurd (not_there c.args.self.now c.args.id c.in-Some.pages.now
-      (sym at ∙ slice_get_read _ _ _ _ refl c.in-Some.ensures.item.3.0 c.in-Some.ensures.value)
-      (sym past ∙ slice_get_past _ _ c.in_default-get_mut.ensures.item.3)
-      c.requires)
+    (sym at ∙ slice_get_read _ _ _ _ refl c.in-Some.ensures.item.3.0 c.in-Some.ensures.value)
+    (sym past ∙ slice_get_past _ _ c.in_default-get_mut.ensures.item.3)
+    c.requires)
