@@ -1,12 +1,11 @@
 -- The use of the pages, counted record by record in place order.
-use Rattle.std.proofs.Common.{◌≡◌, ◌+◌, ◌*◌, ◌<◌, ◌≤◌, ◌⊎◌, ℕ, List, [], ◌∷◌, ◌++◌, Bool, true, false, cond, Option, Some, None, length, inl, inr, refl, sym, ap, subst, ◌∙◌, arith, append_assoc, append-nil}
+use Rattle.std.proofs.Common.{◌≡◌, ◌+◌, ◌≤◌, ℕ, List, [], ◌∷◌, ◌++◌, Bool, true, false, cond, Option, Some, None, length, inl, inr, refl, sym, ap, subst, ◌∙◌, arith, append_assoc, append-nil}
 use Rattle.std.specs.Prelude.{is_some, max, ◌&&◌, T}
 use Rattle.std.specs.declared.cmp.Ordering.{Ordering}
 use Rattle.std.specs.declared.cmp.Ordering.TheVariants.{Less, Equal, Greater}
 use Rattle.std.specs.Ordering.{eq_by_cmp, is_eq, is_lt, ordering_reverse}
 use Rattle.std.specs.FinMap.{find, is_sorted, entries, entries_sorted, get, get-entries}
 use Rattle.std.specs.FinMap.Entries.{below_all}
-use Rattle.shore_types.specs.Layout.{HasPage}
 use Rattle.shore_types.specs.declared.ids.PageId.{PageId}
 use Rattle.shore_types.specs.declared.ids.Rid.{Rid}
 use Rattle.shore_types.specs.declared.layout.Geometry.{Geometry}
@@ -14,11 +13,11 @@ use Rattle.shore_types.specs.Ids.{rid_cmp, rids_total}
 use Rattle.shore_model.specs.Records.{Records}
 use Rattle.shore_core.specs.declared.place.PageUse.{PageUse}
 use Rattle.shore_core.specs.declared.uses.PageUses.{PageUses}
-use Rattle.shore_core.specs.Pages.{is_page, lying_on, bytes_of, slots_of, slots_on, bytes_on, FitsPage, FitPages}
-use Rattle.shore_core.specs.Uses.{Adds, Counts, HasNoRoom, IsUnused, IsWith, page_counts, slot_on, use_at}
+use Rattle.shore_core.specs.Pages.{is_page, lying_on, bytes_of, slots_of, slots_on, bytes_on, FitPages}
+use Rattle.shore_core.specs.Uses.{Adds, Counts, HasNoRoom, IsUnused, page_counts, use_at}
 use Rattle.shore_core.proofs.UseLemmas.{use_of_page}
 use Rattle.shore_core.proofs.PageLemmas.{Gains-push, bytes-cons, slots-cons, counts_with, counts_same, find-push, is_page-refl, is_page-same, same_some, tied}
-use Rattle.shore_core.proofs.KeepLemmas.{Keeps, Sets, by_test, set_is_some}
+use Rattle.shore_core.proofs.KeepLemmas.{Keeps, by_test, set_is_some}
 
 -- ---- lists of entries in order
 

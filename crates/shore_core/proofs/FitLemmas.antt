@@ -1,9 +1,8 @@
 -- Each page has room for the records of a map whose use is kept right.
-use Rattle.std.proofs.Common.{◌≡◌, ◌+◌, ◌*◌, ◌<◌, ◌≤◌, ℕ, List, [], ◌∷◌, Bool, true, false, cond, Option, Some, None, length, refl, sym, ap, subst, ◌∙◌, arith}
+use Rattle.std.proofs.Common.{◌≡◌, ◌<◌, ℕ, List, [], ◌∷◌, Bool, true, false, cond, Option, Some, None, refl, sym, ap, ◌∙◌, arith}
 use Rattle.std.specs.Prelude.{is_some}
 use Rattle.std.specs.Ordering.{eq_by_cmp}
 use Rattle.std.specs.FinMap.{find, entries, get, get-entries}
-use Rattle.shore_types.specs.Layout.{HasPage}
 use Rattle.shore_types.specs.declared.ids.PageId.{PageId}
 use Rattle.shore_types.specs.declared.ids.Rid.{Rid}
 use Rattle.shore_types.specs.declared.layout.Geometry.{Geometry}
@@ -12,9 +11,9 @@ use Rattle.shore_model.specs.Records.{Records}
 use Rattle.shore_core.specs.declared.place.PageUse.{PageUse}
 use Rattle.shore_core.specs.declared.records.RecordMap.{RecordMap}
 use Rattle.shore_core.specs.declared.uses.PageUses.{PageUses}
-use Rattle.shore_core.specs.Pages.{is_page, lying_on, bytes_of, slots_of, FitsPage, FitPages}
+use Rattle.shore_core.specs.Pages.{is_page, lying_on, bytes_of, slots_of, FitPages}
 use Rattle.shore_core.specs.RecordMaps.{IsOn, records_in}
-use Rattle.shore_core.specs.Uses.{Counts, page_counts, use_at}
+use Rattle.shore_core.specs.Uses.{page_counts, use_at}
 use Rattle.shore_core.proofs.UseLemmas.{page_of_use}
 use Rattle.shore_core.proofs.PageLemmas.{is_page-same, some_at, tied}
 use Rattle.shore_core.proofs.KeepLemmas.{Keeps, by_test}

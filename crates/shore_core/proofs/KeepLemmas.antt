@@ -1,8 +1,8 @@
 -- What is kept of the pages' use stays right as a record comes or goes.
-use Rattle.std.proofs.Common.{◌≡◌, ◌+◌, ◌<◌, ◌≤◌, ◌⊎◌, ℕ, List, [], ◌∷◌, Bool, true, false, cond, Option, Some, None, length, inl, inr, refl, sym, ap, subst, ◌∙◌, arith}
+use Rattle.std.proofs.Common.{◌≡◌, ◌+◌, ◌<◌, ◌≤◌, ◌⊎◌, ℕ, List, Bool, true, false, cond, Some, None, length, inl, inr, refl, sym, ap, subst, ◌∙◌}
 use Rattle.std.specs.Prelude.{is_some, max}
 use Rattle.std.specs.Ordering.{eq_by_cmp}
-use Rattle.std.specs.FinMap.{find, put, entries, entries-insert, get, insert, remove, get-entries, get-insert, get-remove, same_map}
+use Rattle.std.specs.FinMap.{find, entries, entries-insert, get, insert, remove, get-entries, get-insert, get-remove, same_map}
 use Rattle.std.specs.FinMap.Entries.{find-put}
 use Rattle.shore_types.specs.declared.ids.PageId.{PageId}
 use Rattle.shore_types.specs.declared.ids.Rid.{Rid}

@@ -1,5 +1,5 @@
 -- What records take of their pages, when one more comes among them.
-use Rattle.std.proofs.Common.{◌≡◌, ◌≢◌, ◌+◌, ◌<◌, ◌≤◌, ◌⊎◌, ℕ, suc, zero, List, [], ◌∷◌, ◌++◌, Bool, true, false, cond, Option, Some, None, length, inl, inr, refl, sym, ap, subst, ◌∙◌, arith}
+use Rattle.std.proofs.Common.{◌≡◌, ◌+◌, ◌⊎◌, ℕ, List, [], ◌∷◌, ◌++◌, Bool, true, false, cond, Option, Some, None, length, inl, inr, refl, sym, ap, ◌∙◌, arith}
 use Rattle.std.specs.Prelude.{◌==◌, ◌&&◌, is_some, max}
 use Rattle.std.proofs.lemmas.Bool.{eq-eqb, eqb-true}
 use Rattle.std.specs.declared.cmp.Ordering.{Ordering}
@@ -13,7 +13,7 @@ use Rattle.shore_types.specs.declared.ids.Rid.{Rid}
 use Rattle.shore_types.specs.Ids.{rid_cmp, rids_total, exact_rids}
 use Rattle.shore_core.specs.declared.place.PageUse.{PageUse}
 use Rattle.shore_core.specs.Pages.{is_page, lying_on, bytes_of, slots_of}
-use Rattle.shore_core.specs.Uses.{Counts, IsWith, IsUnused, slot_on}
+use Rattle.shore_core.specs.Uses.{Counts, IsWith, slot_on}
 
 abbrev Entries : Type 0
 Entries = List (Rid × List ℕ)

@@ -1,5 +1,5 @@
 -- Which slot of a page takes a new record.
-use Rattle.std.proofs.Common.{◌≡◌, ◌+◌, ◌*◌, ◌<◌, ◌≤◌, ℕ, suc, zero, List, [], ◌∷◌, Bool, true, false, cond, Option, Some, None, length, refl, sym, ap, subst, ◌∙◌, arith}
+use Rattle.std.proofs.Common.{◌≡◌, ◌+◌, ◌*◌, ◌<◌, ◌≤◌, ℕ, suc, zero, List, [], ◌∷◌, true, false, cond, Some, None, length, sym, ap, subst, ◌∙◌, arith}
 use Rattle.std.specs.Prelude.{is_some, max, nat_lt}
 use Rattle.std.proofs.lemmas.Bool.{ltb-true, ltb-false}
 use Rattle.std.specs.Ordering.{eq_by_cmp}
@@ -9,7 +9,7 @@ use Rattle.shore_types.specs.declared.ids.Rid.{Rid}
 use Rattle.shore_types.specs.Ids.{rid_cmp}
 use Rattle.shore_model.specs.Records.{Records}
 use Rattle.shore_core.specs.declared.place.PageUse.{PageUse}
-use Rattle.shore_core.specs.Pages.{is_page, lying_on, bytes_of, slots_of, slots_on, bytes_on, FitsPage, Takes}
+use Rattle.shore_core.specs.Pages.{is_page, lying_on, slots_of, slots_on, bytes_on, FitsPage, Takes}
 use Rattle.shore_core.specs.Uses.{Counts, IsWith, slot_on}
 use Rattle.shore_core.proofs.PageLemmas.{counts_with, is_page-refl, exact, slots-cons}
 use Rattle.shore_core.proofs.KeepLemmas.{by_test, gains}

@@ -1,4 +1,4 @@
-use Rattle.std.proofs.Common.{◌≡◌, ◌+◌, ◌^◌, ◌≤◌, ◌<◌, [], ◌∷◌, List, ℕ, length, length-append, refl, ap, sym, ◌∙◌, arith}
+use Rattle.std.proofs.Common.{◌≡◌, ◌+◌, ◌^◌, ◌≤◌, ◌<◌, [], ◌∷◌, length, length-append, refl, ap, ◌∙◌, arith}
 use Rattle.shore_core.specs.declared.calls.Active.{Active}
 use Rattle.shore_core.proofs.CoreLemmas.{at_some, Fits-insert}
 use Rattle.shore_core.proofs.calls.Core.insert.Goals as goal

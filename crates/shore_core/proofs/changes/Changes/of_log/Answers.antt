@@ -1,5 +1,5 @@
-use Rattle.std.proofs.Common.{◌≡◌, ◌<◌, Some, length, refl, ◌∙◌, sym, arith, ap}
-use Rattle.std.specs.Prelude.{slice_get, is_some}
+use Rattle.std.proofs.Common.{◌<◌, length, refl, ◌∙◌, sym, arith, ap}
+use Rattle.std.specs.Prelude.{is_some}
 use Rattle.std.proofs.lemmas.Option.{slice_get_read}
 use Rattle.shore_core.proofs.Tellings.{kept-more, kept-same}
 use Rattle.shore_core.specs.Changes.{places_in, images_at}

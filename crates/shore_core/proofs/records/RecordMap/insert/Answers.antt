@@ -1,5 +1,4 @@
-use Rattle.std.proofs.Common.{sym, subst, ◌∙◌, ap}
-use Rattle.std.specs.FinMap.{insert}
+use Rattle.std.proofs.Common.{sym, subst, ◌∙◌}
 use Rattle.shore_model.specs.Records.{Records}
 use Rattle.shore_core.proofs.KeepLemmas.{Keeps, Keeps-insert}
 use Rattle.shore_core.proofs.records.RecordMap.insert.Goals as goal

@@ -1,4 +1,4 @@
-use Rattle.std.proofs.Common.{◌≡◌, ◌<◌, ◌≤◌, ℕ, arith}
+use Rattle.std.proofs.Common.{arith}
 use Rattle.shore_core.proofs.PlaceLemmas.{all_below}
 use Rattle.shore_core.proofs.records.RecordMap.lowest_gap.Goals as goal
 

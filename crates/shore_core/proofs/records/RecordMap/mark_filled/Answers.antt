@@ -1,4 +1,4 @@
-use Rattle.std.proofs.Common.{◌≡◌, ◌<◌, ℕ, sym, subst, ◌∙◌, arith}
+use Rattle.std.proofs.Common.{sym, arith}
 use Rattle.shore_core.proofs.KeepLemmas.{Keeps-mark}
 use Rattle.shore_core.proofs.records.RecordMap.mark_filled.Goals as goal
 

@@ -1,5 +1,5 @@
 use Rattle.std.proofs.Common.{sym, subst, ◌∙◌, ap}
-use Rattle.std.specs.FinMap.{get, insert, remove}
+use Rattle.std.specs.FinMap.{get, remove}
 use Rattle.shore_model.specs.Records.{Records}
 use Rattle.shore_core.proofs.KeepLemmas.{Keeps, Keeps-undo, found_itself, removed_again}
 use Rattle.shore_core.proofs.records.RecordMap.undo_insert.Goals as goal

@@ -3,7 +3,7 @@ use Rattle.std.proofs.lemmas.List.{length-replicate}
 use Rattle.std.specs.Global.{Vec}
 use Rattle.shore_core.specs.declared.place.PageUse.{PageUse}
 use Rattle.shore_core.specs.Uses.{IsUnused}
-use Rattle.shore_core.proofs.UseLemmas.{AllAt, AllAt-push, AllAt-replicate, AreUnused, count_of, counts-push, unused_at}
+use Rattle.shore_core.proofs.UseLemmas.{AllAt, AllAt-push, AllAt-replicate, AreUnused, count_of, counts-push}
 use Rattle.shore_core.proofs.uses.PageUses.new.Goals as goal
 
 pub loop-pages-preserved : goal.loop-pages-preserved
