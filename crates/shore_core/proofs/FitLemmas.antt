@@ -2,7 +2,7 @@
 use Rattle.std.proofs.Common.{◌≡◌, ◌<◌, ℕ, List, [], ◌∷◌, Bool, true, false, cond, Option, Some, None, refl, sym, ap, ◌∙◌, arith}
 use Rattle.std.specs.Prelude.{is_some}
 use Rattle.std.specs.Ordering.{eq_by_cmp}
-use Rattle.std.specs.FinMap.{find, entries, get, get-entries}
+use Rattle.std.specs.FinMap.{find, entries, get, insert, get-entries}
 use Rattle.shore_types.specs.declared.ids.PageId.{PageId}
 use Rattle.shore_types.specs.declared.ids.Rid.{Rid}
 use Rattle.shore_types.specs.declared.layout.Geometry.{Geometry}
@@ -16,7 +16,7 @@ use Rattle.shore_core.specs.RecordMaps.{IsOn, records_in}
 use Rattle.shore_core.specs.Uses.{page_counts, use_at}
 use Rattle.shore_core.proofs.UseLemmas.{page_of_use}
 use Rattle.shore_core.proofs.PageLemmas.{is_page-same, some_at, tied}
-use Rattle.shore_core.proofs.KeepLemmas.{Keeps, by_test}
+use Rattle.shore_core.proofs.KeepLemmas.{Keeps, by_test, gains, other_there}
 use Rattle.shore_core.proofs.PlaceLemmas.{slot_below, find_of}
 use Rattle.shore_core.proofs.BuildLemmas.{some_use}
 
@@ -78,3 +78,14 @@ pub fits_pages : (g : Geometry) (m : RecordMap) → IsOn g m → FitPages g (rec
 fits_pages g m on = fits_of g m.map m.uses (record { counted = m.counted; placed = m.placed; short = m.short }) on
 
 pub ruleset fits = (fits_pages)
+
+-- pages that have room for one record more have room without it
+pub fits_without : (g : Geometry) (R : Records) (id : Rid) (bytes : List ℕ) → get R id ≡ None → FitPages g (insert R id bytes) → FitPages g R
+fits_without g R id bytes empty fits =
+    let more = gains R id bytes empty in
+    record {
+      are_records = λ q b e. fits.are_records q b (other_there R id bytes empty q b e);
+      pages = λ p.
+          let page = fits.pages p in
+          record { few = omega (arith, page.few, more.slots p); within = omega (arith, page.within, more.slots p, more.bytes p) };
+    }

@@ -47,7 +47,7 @@ module _ (R : Records) (k : Rid) (bytes : List ℕ) (empty : get R k ≡ None) w
       (λ t. inl (ap (λ c. cond c (Some bytes) (get R q)) (sym t) ∙ is))
 
   -- an id that is found without it is another
-  other_there : (q : Rid) (b : List ℕ) → get R q ≡ Some b → get (insert R k bytes) q ≡ Some b
+  pub other_there : (q : Rid) (b : List ℕ) → get R q ≡ Some b → get (insert R k bytes) q ≡ Some b
   other_there q b h =
       by_test (eq_by_cmp rid_cmp q k)
       (λ t. let none : get R q ≡ None = ap (get R) (exact q k t) ∙ empty in let no : Some b ≡ None = sym h ∙ none in cc)
