@@ -1,3 +1,7 @@
+pub mod Changes
 pub mod Cores
+pub mod Opened
+pub mod Pages
 pub mod RecordMaps
 pub mod Room
+pub mod Uses

@@ -1,6 +1,33 @@
--- The records that a record map has in place.
+-- The records that a record map has in place, and where it puts a new one.
+use Rattle.std.specs.Prelude.{◌≡◌, ◌≤◌, ℕ, List, Some, None}
+use Rattle.std.specs.FinMap.{entries, get, insert}
+use Rattle.shore_types.specs.declared.ids.Rid.{Rid}
+use Rattle.shore_types.specs.declared.layout.Geometry.{Geometry}
 use Rattle.shore_model.specs.Records.{Records}
+use Rattle.shore_core.specs.declared.records.Place.{Place}
 use Rattle.shore_core.specs.declared.records.RecordMap.{RecordMap}
+use Rattle.shore_core.specs.Uses.{Counts, IsWith, page_counts, use_at}
 
 abbrev pub records_in : RecordMap → Records
 records_in m = m.map
+
+-- it keeps the use of the pages of this geometry
+abbrev pub IsOn : Geometry → RecordMap → Type 0
+IsOn g m = page_counts m.uses ≡ g.stores
+
+-- a new record of so many bytes may be put in this place of the map
+pub record IsPlace (m : RecordMap) (len : ℕ) (place : Place) : Type 0 where
+  pub empty : get (records_in m) place.id ≡ None
+  pub before : use_at m.uses place.id.page ≡ Some place.before
+  pub after : IsWith place.before place.id.slot len place.after
+
+-- these records have had one more put in this place, and nothing else has changed since
+pub record WasPut (m : RecordMap) (place : Place) (R : Records) : Type 0 where
+  pub bytes : List ℕ
+  pub empty : get R place.id ≡ None
+  pub is : records_in m ≡ insert R place.id bytes
+  pub before : Counts (entries R) place.id.page place.before
+
+-- among an id and others of its store it stands first: by page, and then by slot
+abbrev pub StandsFirst : Rid → Rid → Type 0
+StandsFirst a b = (a.page.page ≤ b.page.page) × (b.page.page ≡ a.page.page → a.slot ≤ b.slot)

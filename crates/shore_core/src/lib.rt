@@ -3,10 +3,13 @@
 #![tactic(auto)]
 
 mod calls;
+mod changes;
+pub mod laws;
 mod place;
 mod records;
 mod replay;
 mod room;
+mod uses;
 
 pub use calls::Core;
 pub use records::RecordMap;

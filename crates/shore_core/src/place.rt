@@ -1,5 +1,5 @@
 //! The room of pages. The free bytes of a page are what its header, its slot table and its records leave of it.
-ghost use Rattle.std.specs.Prelude.{◌≡◌, ◌+◌, ◌*◌, ◌-◌, ◌≤◌, ◌<◌, ◌↔◌, IsTrue, IfSome};
+ghost use Rattle.std.specs.Prelude.{◌≡◌, ◌+◌, ◌*◌, ◌≤◌, ◌↔◌, IsTrue, IsSome, IfSome, max};
 ghost use Rattle.shore_types.specs.declared.layout.TheConstants.{MAX_SLOTS, SLOT_ENTRY_BYTES};
 ghost use Rattle.shore_core.specs.declared.place.TheConstants.{PAGE_ROOM};
 
@@ -11,72 +11,88 @@ pub const PAGE_ROOM: usize = PAGE_BYTES - PAGE_HEADER_BYTES;
 /// What is used of a page.
 #[derive(Clone, Copy, Debug, PartialEq, Eq)]
 pub struct PageUse {
-    /// The slots of its table, empty ones too.
+    /// The slots of its table, up to the last full one.
     slots: u16,
-    /// The full ones of them.
-    full: u16,
+    /// So many slots from the first on are known to be full.
+    filled: u16,
     /// The bytes of its records.
     bytes: usize,
     ghost few: { slots ≤ MAX_SLOTS },
     ghost within: { SLOT_ENTRY_BYTES * slots + bytes ≤ PAGE_ROOM },
+    ghost front: { filled ≤ slots },
 }
 
 impl PageUse {
+    ghost use Rattle.shore_core.specs.Uses.{IsUnused, IsWith};
+
     /// A page with no slot.
-    pub const fn empty() -> PageUse {
+    pub const fn empty() -> PageUse
+        ensures { IsUnused result }
+    {
         PageUse {
             slots: 0,
-            full: 0,
+            filled: 0,
             bytes: 0,
         }
     }
 
-    fn free_bytes(&self) -> usize {
-        PAGE_ROOM - SLOT_ENTRY_BYTES * self.slots as usize - self.bytes
-    }
-
-    fn has_empty_slot(&self) -> bool {
-        self.full < self.slots
-    }
-
     /// The lowest slot that may be empty.
-    pub fn first_candidate(&self) -> u16 {
-        if self.has_empty_slot() { 0 } else { self.slots }
+    pub fn first_candidate(&self) -> u16
+        ensures { result ≡ self.now.filled }
+    {
+        self.filled
     }
 
-    /// Whether a new record of so many bytes fits: in an empty slot, or in one that the table gains.
-    pub fn takes(&self, len: usize) -> bool {
-        if self.has_empty_slot() {
-            len <= self.free_bytes()
-        } else {
-            self.slots < MAX_SLOTS && len <= self.free_bytes().saturating_sub(SLOT_ENTRY_BYTES)
+    /// The slots of its table.
+    pub fn slots(&self) -> u16
+        ensures { result ≡ self.now.slots }
+    {
+        self.slots
+    }
+
+    /// The same use, with so many slots from the first on known to be full.
+    pub fn with_filled(&self, filled: u16) -> PageUse
+        requires { filled ≤ self.now.slots }
+        ensures slots { result.slots ≡ self.now.slots }
+        ensures bytes { result.bytes ≡ self.now.bytes }
+        ensures filled { result.filled ≡ filled }
+    {
+        PageUse {
+            slots: self.slots,
+            filled,
+            bytes: self.bytes,
         }
     }
 
-    /// What is used with a slot changed from one length to another, where none is an empty slot. None where the page has no
-    /// room for it.
-    pub fn with_change(
-        &self,
-        slot: u16,
-        old: Option<usize>,
-        new: Option<usize>,
-    ) -> Option<PageUse> {
-        let slots = if slot < self.slots {
-            self.slots
-        } else {
-            slot.checked_add(1)?
-        };
-        let others = self.bytes.checked_sub(old.unwrap_or(0))?;
-        let bytes = others.checked_add(new.unwrap_or(0))?;
-        let room = PAGE_ROOM.checked_sub(SLOT_ENTRY_BYTES * slots as usize)?;
-        if slots > MAX_SLOTS || bytes > room {
+    /// Whether so many bytes more have room, with no slot more.
+    pub fn has_room(&self, len: usize) -> bool
+        ensures { IsTrue result ↔ (SLOT_ENTRY_BYTES * self.now.slots + self.now.bytes + len ≤ PAGE_ROOM) }
+    {
+        len <= PAGE_ROOM - SLOT_ENTRY_BYTES * self.slots as usize - self.bytes
+    }
+
+    /// What is used with a new record of so many bytes in an empty slot. None where the page has no room for it.
+    pub fn with_record(&self, slot: u16, len: usize) -> Option<PageUse>
+        ensures with { IfSome result (IsWith self.now slot len) }
+        ensures some { IsSome result ↔ ((max self.now.slots (slot + 1) ≤ MAX_SLOTS)
+            × (SLOT_ENTRY_BYTES * max self.now.slots (slot + 1) + self.now.bytes + len ≤ PAGE_ROOM)) }
+    {
+        if slot >= MAX_SLOTS {
             return None;
         }
-        let full = self.full.checked_sub(u16::from(old.is_some()))?;
+        let slots = self.slots.max(slot + 1);
+        let free = PAGE_ROOM - SLOT_ENTRY_BYTES * slots as usize;
+        if self.bytes > free || len > free - self.bytes {
+            return None;
+        }
         Some(PageUse {
             slots,
-            full: full.checked_add(u16::from(new.is_some()))?,
-            bytes,
+            filled: if slot == self.filled {
+                slot + 1
+            } else {
+                self.filled
+            },
+            bytes: self.bytes + len,
         })
     }
 }

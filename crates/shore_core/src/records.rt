@@ -1,13 +1,23 @@
 //! The records in place, and the room that is left on each page.
-ghost use Rattle.std.specs.Prelude.{◌≡◌, ◌<◌, None, Some, IfSome, is_some, IfOk, OnOk, OnErr, OnSome};
+ghost use Rattle.std.specs.Prelude.{◌≡◌, ◌<◌, ◌≤◌, ℕ, List, None, Some, Err, IfSome, IfNone, is_some, true, IsSome, IfOk, OnOk, OnErr, length};
 ghost use Rattle.std.specs.Option.{option_copied};
-ghost use Rattle.std.specs.FinMap as map;
-ghost use Rattle.shore_model.specs.Records.{put_image};
+ghost use Rattle.std.specs.FinMap as maps;
+ghost use Rattle.shore_types.specs.Layout.{HasPage};
+ghost use Rattle.shore_types.specs.declared.ids.PageId.{PageId};
+ghost use Rattle.shore_types.specs.declared.ids.Rid.{Rid};
+ghost use Rattle.shore_types.specs.declared.layout.Geometry.{Geometry};
+ghost use Rattle.shore_types.specs.declared.layout.TheConstants.{MAX_RECORD_BYTES, MAX_SLOTS};
+ghost use Rattle.shore_model.specs.Records.{Records};
+ghost use Rattle.shore_core.specs.declared.place.PageUse.{PageUse};
+ghost use Rattle.shore_core.specs.declared.records.Misfit.TheVariants.{Memory};
+ghost use Rattle.shore_core.specs.Pages.{FitPages, Takes};
+ghost use Rattle.shore_core.specs.Uses.{Counts, use_at, slot_on};
 
 use crate::place::PageUse;
+use crate::uses::PageUses;
 use shore_model::RidMap;
 use shore_types::layout::MAX_SLOTS;
-use shore_types::{Bytes, Fault, Geometry, PageId, Rid, StoreId};
+use shore_types::{Bytes, Geometry, PageId, Rid, StoreId};
 use std::alloc::{AllocError, Global};
 
 /// Where a new record goes.
@@ -19,34 +29,54 @@ pub struct Place {
     after: PageUse,
 }
 
-/// The records of a volume, as a map from their ids.
+/// Why records are not taken as those of a volume.
+#[derive(Clone, Copy, Debug, PartialEq, Eq)]
+pub enum Misfit {
+    /// A growth was refused.
+    Memory,
+    /// The record at this id is too long, or its page is not there or has no room for it.
+    At(Rid),
+}
+
+impl From<AllocError> for Misfit {
+    ghost from_gives = { λ _ error. error ≡ Memory };
+
+    fn from(_: AllocError) -> Misfit {
+        Misfit::Memory
+    }
+}
+
+/// The records of a volume, as a map from their ids. Each page has room for its own.
 #[derive(Debug, Drop)]
 pub struct RecordMap {
     map: RidMap<Bytes>,
-    // By store and page.
-    uses: Vec<Vec<PageUse>>,
+    uses: PageUses,
+    ghost counted: { (p : PageId) (used : PageUse) → use_at uses p ≡ Some used → Counts (maps.entries map) p used },
+    ghost placed: { (id : Rid) (bytes : List ℕ) → maps.get map id ≡ Some bytes → is_some (use_at uses id.page) ≡ true },
+    ghost short: { (id : Rid) (bytes : List ℕ) → maps.get map id ≡ Some bytes → length bytes ≤ MAX_RECORD_BYTES },
 }
 
 impl RecordMap {
-    ghost use Rattle.shore_core.specs.RecordMaps.{records_in};
+    ghost use Rattle.shore_core.specs.RecordMaps.{IsOn, IsPlace, StandsFirst, WasPut, records_in};
 
-    /// No record, on the pages of a geometry.
-    pub fn new(alloc: Global, geometry: &Geometry) -> Result<RecordMap, AllocError>
-        ensures { IfOk result (λ m. records_in m ≡ map.empty) }
+    /// These records, on the pages of a geometry. Refused by the id of one that is too long, or whose page is not there or has no
+    /// room for it.
+    pub fn of(alloc: Global, geometry: &Geometry, map: RidMap<Bytes>) -> Result<RecordMap, Misfit>
+        ensures ok { IfOk result (λ m. (records_in m ≡ map) × IsOn geometry.now m) }
+        ensures misfit { (id : Rid) → result ≡ Err (Misfit.At id) → (¬ FitPages geometry.now map) × IsSome (maps.get map id) }
     {
-        let mut uses = Vec::new(alloc);
-        for pages in geometry.stores.as_slice() {
-            uses.push(Vec::from_elem(alloc, PageUse::empty(), *pages as usize)?)?;
+        let mut uses = PageUses::new(alloc, geometry)?;
+        for (id, bytes) in map.iter() {
+            if !uses.add(*id, bytes.as_slice().len()) {
+                return Err(Misfit::At(*id));
+            }
         }
-        Ok(RecordMap {
-            map: RidMap::new(alloc),
-            uses,
-        })
+        Ok(RecordMap { map, uses })
     }
 
     /// The record at an id.
     pub fn get(&self, id: Rid) -> Option<&Bytes>
-        ensures { option_copied result ≡ map.get (records_in self.now) id }
+        ensures { option_copied result ≡ maps.get (records_in self.now) id }
     {
         self.map.get(id)
     }
@@ -58,54 +88,22 @@ impl RecordMap {
         &self.map
     }
 
-    /// Whether an id lies on a page that is there.
-    fn use_of(&self, id: PageId) -> Option<PageUse> {
-        let pages = self.uses.get(id.store.0 as usize)?;
-        pages.get(id.page as usize).copied()
-    }
-
-    /// Puts a copy of an image in its place. Refused by `Memory`, or by `StoreFull` where the page is not there or has no room
-    /// for it; then nothing has changed.
-    pub fn put_copy(&mut self, alloc: Global, id: Rid, image: &Option<Bytes>) -> Result<(), Fault>
-        ensures ok { OnOk result (records_in self.new ≡ put_image (records_in self.old) id image.now) }
-        ensures err { OnErr result (records_in self.new ≡ records_in self.old) }
-    {
-        let Some(changed) = self.changed_use(id, length_of(image)) else {
-            return Err(Fault::StoreFull);
-        };
-        match image {
-            Some(bytes) => self.map.insert(id, bytes.try_clone(alloc)?)?,
-            None => self.map.remove(id),
-        }
-        self.set_use(id.page, changed);
-        Ok(())
-    }
-
-    // What is used of a page with a slot changed to this length.
-    fn changed_use(&self, id: Rid, new: Option<usize>) -> Option<PageUse> {
-        let old = self.map.get(id).map(|bytes| bytes.as_slice().len());
-        self.use_of(id.page)?.with_change(id.slot, old, new)
-    }
-
-    fn set_use(&mut self, id: PageId, changed: PageUse)
-        ensures { records_in self.new ≡ records_in self.old }
-    {
-        if let Some(pages) = self.uses.get_mut(id.store.0 as usize)
-            && let Some(page) = pages.get_mut(id.page as usize)
-        {
-            *page = changed;
-        }
-    }
-
-    /// Where a new record of so many bytes goes: the lowest page of the store, and on it the lowest slot, that takes it.
+    /// Where a new record of so many bytes goes: the lowest page of the store, and on it the lowest slot, that takes it. None
+    /// where no page of the store does.
     pub fn place_for(&self, store: StoreId, len: usize) -> Option<Place>
-        ensures absent { IfSome result (λ place. map.get (records_in self.now) place.id ≡ None) }
+        ensures absent { IfSome result (λ place. maps.get (records_in self.now) place.id ≡ None) }
         ensures store { IfSome result (λ place. place.id.page.store ≡ store) }
         ensures slot { IfSome result (λ place. place.id.slot < MAX_SLOTS) }
+        ensures inside { (g : Geometry) → IsOn g self.now → IfSome result (λ place. HasPage g place.id.page) }
+        ensures place { IfSome result (IsPlace self.now len) }
+        ensures takes { (bytes : List ℕ) → length bytes ≡ len → IfSome result (λ place. Takes (records_in self.now) place.id bytes) }
+        ensures first { (id : Rid) (bytes : List ℕ) → length bytes ≡ len → id.page.store ≡ store → Takes (records_in self.now) id bytes
+            → IfSome result (λ place. StandsFirst place.id id) }
+        ensures full { (g : Geometry) → IsOn g self.now → (id : Rid) (bytes : List ℕ) → length bytes ≡ len → id.page.store ≡ store → HasPage g id.page
+            → Takes (records_in self.now) id bytes → IsSome result }
     {
-        let pages = self.uses.get(store.0 as usize)?;
-        for (page, used) in (0..u32::MAX).zip(pages) {
-            if let Some(place) = self.place_on(PageId { store, page }, *used, len) {
+        for page in 0..self.uses.page_count(store) {
+            if let Some(place) = self.place_on(PageId { store, page }, len) {
                 return Some(place);
             }
         }
@@ -113,16 +111,23 @@ impl RecordMap {
     }
 
     // Where a new record of so many bytes goes on a page.
-    fn place_on(&self, page: PageId, used: PageUse, len: usize) -> Option<Place>
-        ensures absent { IfSome result (λ place. map.get (records_in self.now) place.id ≡ None) }
+    fn place_on(&self, page: PageId, len: usize) -> Option<Place>
         ensures page { IfSome result (λ place. place.id.page ≡ page) }
         ensures slot { IfSome result (λ place. place.id.slot < MAX_SLOTS) }
+        ensures place { IfSome result (IsPlace self.now len) }
+        ensures takes { (bytes : List ℕ) → length bytes ≡ len → IfSome result (λ place. Takes (records_in self.now) place.id bytes) }
+        ensures first { (id : Rid) (bytes : List ℕ) → length bytes ≡ len → id.page ≡ page → Takes (records_in self.now) id bytes
+            → IfSome result (λ place. place.id.slot ≤ id.slot) }
+        ensures full { is_some (use_at self.now.uses page) ≡ true → (id : Rid) (bytes : List ℕ) → length bytes ≡ len → id.page ≡ page
+            → Takes (records_in self.now) id bytes → IsSome result }
     {
-        if !used.takes(len) {
+        let PageId { store, page } = page;
+        let used = self.uses.get(PageId { store, page })?;
+        if !used.has_room(len) {
             return None;
         }
-        let id = self.empty_slot(page, used.first_candidate())?;
-        let after = used.with_change(id.slot, None, Some(len))?;
+        let id = self.empty_slot(PageId { store, page }, used.first_candidate())?;
+        let after = used.with_record(id.slot, len)?;
         Some(Place {
             id,
             before: used,
@@ -132,9 +137,11 @@ impl RecordMap {
 
     // The lowest empty slot of a page from this one on.
     fn empty_slot(&self, page: PageId, first: u16) -> Option<Rid>
-        ensures absent { IfSome result (λ id. map.get (records_in self.now) id ≡ None) }
+        ensures absent { IfSome result (λ id. maps.get (records_in self.now) id ≡ None) }
         ensures page { IfSome result (λ id. id.page ≡ page) }
         ensures slot { IfSome result (λ id. id.slot < MAX_SLOTS) }
+        ensures below { IfSome result (λ id. (s : ℕ) → first ≤ s → s < id.slot → is_some (maps.get (records_in self.now) (slot_on page s)) ≡ true) }
+        ensures full { IfNone result ((s : ℕ) → first ≤ s → s < MAX_SLOTS → is_some (maps.get (records_in self.now) (slot_on page s)) ≡ true) }
     {
         let PageId { store, page } = page;
         for slot in first..MAX_SLOTS {
@@ -147,7 +154,7 @@ impl RecordMap {
     }
 
     fn has(&self, store: StoreId, page: u32, slot: u16) -> bool
-        ensures { result ≡ is_some (map.get (records_in self.now) record { page = record { store = store; page = page }; slot = slot }) }
+        ensures { result ≡ is_some (maps.get (records_in self.now) record { page = record { store = store; page = page }; slot = slot }) }
     {
         let page = PageId { store, page };
         self.map.get(Rid { page, slot }).is_some()
@@ -155,7 +162,7 @@ impl RecordMap {
 
     /// A copy of the record at an id.
     pub fn copy_of(&self, alloc: Global, id: Rid) -> Result<Option<Bytes>, AllocError>
-        ensures { IfOk result (λ copy. copy ≡ map.get (records_in self.now) id) }
+        ensures { IfOk result (λ copy. copy ≡ maps.get (records_in self.now) id) }
     {
         match self.map.get(id) {
             Some(bytes) => Ok(Some(bytes.try_clone(alloc)?)),
@@ -165,23 +172,52 @@ impl RecordMap {
 
     /// Puts a new record in its place. Where the growth is refused nothing has changed.
     pub fn insert(&mut self, place: &Place, bytes: Bytes) -> Result<(), AllocError>
-        ensures ok { OnOk result (records_in self.new ≡ map.insert (records_in self.old) place.now.id bytes) }
-        ensures err { OnErr result (records_in self.new ≡ records_in self.old) }
+        requires place { IsPlace self.old (length bytes) place.now }
+        requires short { length bytes ≤ MAX_RECORD_BYTES }
+        ensures ok { OnOk result (records_in self.new ≡ maps.insert (records_in self.old) place.now.id bytes) }
+        ensures put { OnOk result (WasPut self.new place.now (records_in self.old)) }
+        ensures err { OnErr result (self.new ≡ self.old) }
+        ensures pages { (g : Geometry) → IsOn g self.old → IsOn g self.new }
     {
         self.map.insert(place.id, bytes)?;
-        self.set_use(place.id.page, place.after);
+        self.uses.set(place.id.page, place.after);
+        self.mark_filled(place.id.page);
         Ok(())
     }
 
-    /// Takes a new record away again.
+    // Marks the first slots of a page that are full, up to its lowest empty one, so that no search passes them again.
+    fn mark_filled(&mut self, page: PageId)
+        ensures records { records_in self.new ≡ records_in self.old }
+        ensures pages { (g : Geometry) → IsOn g self.old → IsOn g self.new }
+    {
+        let PageId { store, page } = page;
+        if let Some(used) = self.uses.get(PageId { store, page }) {
+            let filled = self.lowest_gap(PageId { store, page }, &used);
+            self.uses
+                .set(PageId { store, page }, used.with_filled(filled));
+        }
+    }
+
+    // The lowest empty slot of a page, or where its table ends.
+    fn lowest_gap(&self, page: PageId, used: &PageUse) -> u16
+        requires { use_at self.now.uses page ≡ Some used.now }
+        ensures inside { result ≤ used.now.slots }
+        ensures full { (s : ℕ) → s < result → is_some (maps.get (records_in self.now) (slot_on page s)) ≡ true }
+    {
+        match self.empty_slot(page, used.first_candidate()) {
+            Some(id) => id.slot.min(used.slots()),
+            None => used.slots(),
+        }
+    }
+
+    /// Takes a new record away again: the map is what it was before.
     pub fn undo_insert(&mut self, place: &Place)
-        ensures { records_in self.new ≡ map.remove (records_in self.old) place.now.id }
+        requires { (R : Records) × WasPut self.old place.now R }
+        ensures removed { records_in self.new ≡ maps.remove (records_in self.old) place.now.id }
+        ensures undone { (R : Records) → WasPut self.old place.now R → records_in self.new ≡ R }
+        ensures pages { (g : Geometry) → IsOn g self.old → IsOn g self.new }
     {
         self.map.remove(place.id);
-        self.set_use(place.id.page, place.before);
+        self.uses.set(place.id.page, place.before);
     }
-}
-
-fn length_of(image: &Option<Bytes>) -> Option<usize> {
-    image.as_ref().map(|bytes| bytes.as_slice().len())
 }

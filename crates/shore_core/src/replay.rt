@@ -1,14 +1,18 @@
 //! What an open makes of the log: the records that it tells, and the sums.
-ghost use Rattle.std.specs.Prelude.{◌≡◌, ◌≤◌, All};
+ghost use Rattle.std.specs.Prelude.{◌≡◌, ◌≤◌, ◌<◌, ◌-◌, ◌^◌, ℕ, ◌≢◌, ◌↔◌, Err, Some, IsTrue, IfOk, IfErr, All, min};
+ghost use Rattle.shore_core.specs.Opened.{ChangesAt, cost_of_log};
 ghost use Rattle.shore_logrec.specs.Text.{Fits};
-ghost use Rattle.shore_core.specs.declared.replay.OpenError.TheVariants.{Memory};
+ghost use Rattle.shore_core.specs.declared.replay.OpenError.TheVariants.{Memory, NoRoom, BadRecord};
+ghost use Rattle.shore_core.specs.Pages.{FitPages};
+ghost use Rattle.shore_core.specs.RecordMaps.{IsOn, records_in};
+ghost use Rattle.shore_model.specs.Logs.{id_in, told};
+ghost use Rattle.shore_types.specs.declared.ids.Rid.{Rid};
 
-use crate::records::RecordMap;
-use crate::room::LogRoom;
-use shore_logrec::{LogRecord, Payload, encoded_len};
-use shore_types::{Fault, Geometry, Lsn, TxnId};
-use std::alloc::{AllocError, AllocFailed, Global};
-use std::collections::BTreeMap;
+use crate::changes::records_told;
+use crate::records::{Misfit, RecordMap};
+use shore_logrec::{LogRecord, encoded_len};
+use shore_types::{Geometry, Lsn, Rid};
+use std::alloc::{AllocError, Global};
 
 // What a record costs beside its text: the gate, the length and the first number of a frame of its own.
 const FRAME_SHARE: u64 = 13;
@@ -20,7 +24,7 @@ pub enum OpenError {
     Memory,
     /// The log's records leave no room for the longest frame, or its numbers none for a record more.
     NoRoom,
-    /// The record of this number changes a page that is not there, or that has no room for it.
+    /// A record that is too long, or whose page is not there or has no room for it, was left by the change of this number.
     BadRecord(Lsn),
 }
 
@@ -32,76 +36,54 @@ impl From<AllocError> for OpenError {
     }
 }
 
-/// The records that the committed transactions of a log leave: the changes of each, in their order, where its Commit stands.
-/// What other transactions changed is passed over.
-pub fn replay(
-    alloc: Global,
-    geometry: &Geometry,
-    log: &[LogRecord],
-) -> Result<RecordMap, OpenError> {
-    let mut records = RecordMap::new(alloc, geometry)?;
-    let mut changes = Changes::new(alloc);
-    for (index, record) in log.iter().enumerate() {
-        match &record.payload {
-            Payload::Change { .. } => changes.note(alloc, record.txn, index)?,
-            Payload::Commit => apply(alloc, &mut records, log, &changes.take(alloc, record.txn))?,
-            _ => {}
+/// The records that a log tells, on the pages of a geometry.
+pub fn replay(alloc: Global, geometry: &Geometry, log: &[LogRecord]) -> Result<RecordMap, OpenError>
+    requires { All Fits log.now }
+    ensures told { IfOk result (λ m. records_in m ≡ told log.now) }
+    ensures pages { IfOk result (IsOn geometry.now) }
+    ensures fits { IfOk result (λ m. FitPages geometry.now (records_in m)) }
+
+    // Where the pages have room for what the log tells, only memory may be wanting.
+    ensures earned { FitPages geometry.now (told log.now) → IfErr result (λ error. error ≡ Memory) }
+    ensures bad { (n : ℕ) → result ≡ Err (BadRecord n) → (id : Rid) × ChangesAt log.now id n }
+    ensures cause { IfErr result (λ error. error ≢ NoRoom) }
+{
+    let told = records_told(alloc, log)?;
+    match RecordMap::of(alloc, geometry, told) {
+        Ok(records) => Ok(records),
+        Err(Misfit::Memory) => Err(OpenError::Memory),
+        Err(Misfit::At(id)) => Err(OpenError::BadRecord(last_change(log, &id))),
+    }
+}
+
+// The number of the last record that changes an id, 0 where there is none.
+fn last_change(log: &[LogRecord], id: &Rid) -> Lsn
+    ensures change { 0 < result → ChangesAt log.now id.now result }
+    ensures none { result ≡ 0 → All (λ r. id_in r.payload ≢ Some id.now) log.now }
+{
+    let mut last = 0;
+    for place in 0..log.len() {
+        if is_change(&log[place], id) {
+            last = place + 1;
         }
     }
-    Ok(records)
+    Lsn(last as u64)
 }
 
-// The places in the log of each undecided transaction's changes, in their order.
-#[derive(Drop)]
-struct Changes {
-    of: BTreeMap<u64, Vec<usize>>,
-}
-
-impl Changes {
-    fn new(alloc: Global) -> Changes {
-        Changes {
-            of: BTreeMap::new(alloc),
-        }
-    }
-
-    fn note(&mut self, alloc: Global, txn: TxnId, index: usize) -> Result<(), AllocError> {
-        let places = self.of.entry(txn.0)?.or_insert(Vec::new(alloc));
-        places.push(index)?;
-        Ok(())
-    }
-
-    fn take(&mut self, alloc: Global, txn: TxnId) -> Vec<usize> {
-        self.of.remove(&txn.0).unwrap_or(Vec::new(alloc))
+fn is_change(logged: &LogRecord, id: &Rid) -> bool
+    ensures { IsTrue result ↔ (id_in logged.now.payload ≡ Some id.now) }
+{
+    match logged.payload.id() {
+        Some(changed) => changed == *id,
+        None => false,
     }
 }
 
-fn apply(
-    alloc: Global,
-    records: &mut RecordMap,
-    log: &[LogRecord],
-    places: &[usize],
-) -> Result<(), OpenError> {
-    for place in places {
-        if let Some(record) = log.get(*place)
-            && let Payload::Change {
-                id,
-                before: _,
-                after,
-            } = &record.payload
-        {
-            match records.put_copy(alloc, *id, after) {
-                Ok(()) => {}
-                Err(Fault::Memory) => return Err(OpenError::Memory),
-                Err(_) => return Err(OpenError::BadRecord(Lsn(*place as u64 + 1))),
-            }
-        }
-    }
-    Ok(())
-}
-
-/// What the records cost together, each its text and its share of a frame.
+/// What the records cost together, each its text and its share of a frame. It stays at the greatest number where the sum is
+/// above it.
 pub fn cost_of_all(log: &[LogRecord]) -> u64
     requires { All Fits log.now }
+    ensures { result ≡ min (cost_of_log log.now) (2 ^ 64 - 1) }
 {
     let mut sum = 0u64;
     for logged in log {
@@ -110,10 +92,16 @@ pub fn cost_of_all(log: &[LogRecord]) -> u64
     sum
 }
 
-/// The number after the greatest transaction of the log.
+/// The number after the greatest transaction of the log, 1 where it has none. It stays at the greatest number where that is
+/// a transaction's.
 pub fn next_transaction(log: &[LogRecord]) -> u64
-    ensures { 1 ≤ result }
+    ensures some { 1 ≤ result }
+    ensures above { result < 2 ^ 64 - 1 → All (λ r. r.txn < result) log.now }
+    ensures least { (n : ℕ) → 1 ≤ n → All (λ r. r.txn < n) log.now → result ≤ n }
 {
-    let greatest = log.iter().map(|record| record.txn.0).max().unwrap_or(0);
-    greatest.saturating_add(1)
+    let mut next = 1u64;
+    for logged in log {
+        next = next.max(logged.txn.0.saturating_add(1));
+    }
+    next
 }

@@ -44,7 +44,7 @@ returns-clause-replies g c before first =
     (
       inl c.in-Err.ensures.refused.0,
       same_state (state_of before old) _ _
-      (c.undo_insert.ensures ∙ ap (λ (R : Records). remove R c.in-Some-place_for.place.id) c.in_ok-insert.ensures.ok
+      (c.undo_insert.ensures.removed ∙ ap (λ (R : Records). remove R c.in-Some-place_for.place.id) c.in_ok-insert.ensures.ok
       ∙ remove_inserted (records_of old) c.in-Some-place_for.place.id _ c.in-Some-place_for.ensures.absent)
       (ap (λ (l : List LogRecord). before ++ l) c.in-Err.ensures.none_added),
     )

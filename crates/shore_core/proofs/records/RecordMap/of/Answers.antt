@@ -1,0 +1,36 @@
+use Rattle.std.proofs.Common.{◌≡◌, List, ℕ, refl, ap, subst, ◌∙◌, length}
+use Rattle.std.specs.Prelude.{IsSome, is_some}
+use Rattle.std.specs.FinMap.{entries, get}
+use Rattle.shore_types.specs.declared.ids.Rid.{Rid}
+use Rattle.shore_core.specs.Uses.{Adds, HasNoRoom}
+use Rattle.shore_core.proofs.BuildLemmas.{CountedFrom-none, CountedFrom-more, CountedFrom-all, next_there, refused_right}
+use Rattle.shore_core.proofs.records.RecordMap.of.Goals as goal
+
+pub loop-id-init : goal.loop-id-init
+loop-id-init c = record { so_far = CountedFrom-none _ _ c.in_ok-uses.ensures.unused; pages = c.in_ok-uses.ensures.pages }
+
+pub loop-id-preserved : goal.loop-id-preserved
+loop-id-preserved c =
+    let adds = subst (λ (bytes : List ℕ). Adds c.loop-id.uses c.add.new.self c.in-Some.id.now (length bytes)) c.as_slice.ensures (c.if-not-add.ensures.added refl) in
+    record {
+      so_far = CountedFrom-more c.loop-id.invariant.so_far c.in-Some.id.now c.in-Some.bytes.now c.next.new.self c.in-Some.ensures.steps c.add.new.self adds;
+      pages = c.add.ensures.pages ∙ c.loop-id.invariant.pages;
+    }
+
+pub returns-then-not-add-clause-misfit : goal.returns-then-not-add-clause-misfit
+returns-then-not-add-clause-misfit c id is =
+    let so_far = c.loop-id.invariant.so_far in
+    let same : c.into_iter-id-iterator.result ≡ entries c.args.map = c.into_iter-id-iterator.ensures.into_iter_gives ∙ c.iter-id-items.ensures in
+    let here : c.in-Some.id.now ≡ id = cc in
+    let no_room = subst (λ (bytes : List ℕ). HasNoRoom c.loop-id.uses c.in-Some.id.now (length bytes)) c.as_slice.ensures (c.if-not-add.ensures.refused refl) in
+    let there = next_there so_far c.in-Some.id.now c.in-Some.bytes.now c.next.new.self c.in-Some.ensures.steps c.args.map same in (
+      refused_right so_far c.in-Some.id.now c.in-Some.bytes.now c.next.new.self c.in-Some.ensures.steps c.args.map same no_room c.args.geometry.now c.loop-id.invariant.pages,
+      subst (λ (q : Rid). IsSome (get c.args.map q)) here (ap is_some there),
+    )
+
+pub invariant_of-result : goal.invariant_of-result
+invariant_of-result c =
+    let left = c.in-None.ensures.steps.0 in
+    let same : c.into_iter-id-iterator.result ≡ entries c.args.map = c.into_iter-id-iterator.ensures.into_iter_gives ∙ c.iter-id-items.ensures in
+    let keeps = CountedFrom-all (rw left at c.loop-id.invariant.so_far) c.args.map same in
+    record { counted = keeps.counted; placed = keeps.placed; short = keeps.short }

@@ -1,0 +1,13 @@
+use Rattle.std.proofs.Common.{◌≡◌, ◌≢◌, ◌<◌, ◌≤◌, Some}
+use Rattle.std.specs.List.{AllWithin}
+use Rattle.shore_model.specs.declared.log_records.LogRecord.{LogRecord}
+use Rattle.shore_model.specs.Logs.{id_in}
+use Rattle.shore_core.specs.Opened.{ChangesAt}
+use Rattle.shore_core.proofs.replay.last_change.Given as goal
+
+abbrev pub invariant-loop-place : goal.invariant-loop-place
+invariant-loop-place l = record {
+  so_far : l.last ≤ l.place;
+  change : 0 < l.last → ChangesAt l.log l.id l.last;
+  none : l.last ≡ 0 → AllWithin (λ (r : LogRecord). id_in r.payload ≢ Some l.id) l.log 0 l.place;
+}
