@@ -1,0 +1,9 @@
+pub mod Calls
+pub mod Entries
+pub mod Gains
+pub mod Goings
+pub mod Overlaid
+pub mod OwnReplies
+pub mod Quiet
+pub mod Replies
+pub mod Turns

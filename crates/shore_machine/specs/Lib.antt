@@ -1,0 +1,5 @@
+pub mod Bookkeeping
+pub mod Served
+pub mod States
+pub mod Steps
+pub mod Trails

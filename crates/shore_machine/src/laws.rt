@@ -1,0 +1,43 @@
+//! Laws over the definitions, each the contract of a function with nothing to do.
+ghost use Rattle.std.specs.Prelude.{◌≡◌, ◌≤◌, ℕ, List, take, length};
+ghost use Rattle.shore_types.specs.declared.layout.Geometry.{Geometry};
+ghost use Rattle.shore_model.specs.declared.calls.Call.{Call};
+ghost use Rattle.shore_model.specs.declared.histories.Decision.{Decision};
+ghost use Rattle.shore_model.specs.declared.log_records.LogRecord.{LogRecord};
+ghost use Rattle.shore_model.specs.Histories.{History, Kept, decisions, serial, writes_in};
+ghost use Rattle.shore_model.specs.Logs.{told};
+ghost use Rattle.shore_machine.specs.Served.{IsServed};
+ghost use Rattle.shore_machine.specs.States.{State};
+ghost use Rattle.shore_machine.specs.Steps.{CallStep, ResumeStep, told_durable, with_failure};
+ghost use Rattle.shore_machine.specs.Trails.{IsAfter, IsOpened, KeepsDurable, after_call, after_resume, opened_on};
+ghost use Rattle.shore_machine.specs.declared.step.Step.{Step};
+
+/// Each call goes on with the history: it stays sound, and the state is what it leaves.
+pub fn call_goes_on()
+    ensures { (g : Geometry) (opened : List LogRecord) (h : History) (old new : State) (call : Call) (step : Step) →
+        IsServed call → IsAfter opened h old → CallStep g old call step new → IsAfter opened (after_call h 1 call step) new }
+{}
+
+/// So does each resume.
+pub fn resume_goes_on()
+    ensures { (opened : List LogRecord) (h : History) (old new : State) (step : Step) →
+        IsAfter opened h old → ResumeStep old step new → IsAfter opened (after_resume h 1 step) new }
+{}
+
+/// A force that is told, and a failure, leave the history as it is.
+pub fn telling_goes_on()
+    ensures told { (opened : List LogRecord) (h : History) (s : State) (n : ℕ) →
+        IsAfter opened h s → s.durable ≤ n → n ≤ length s.list → IsAfter opened h (told_durable n s) }
+    ensures failed { (opened : List LogRecord) (h : History) (s : State) → IsAfter opened h s → IsAfter opened h (with_failure s) }
+{}
+
+/// A manager that was opened on a list is after the history in which nothing has happened yet.
+pub fn open_begins()
+    ensures { (opened : List LogRecord) (s : State) → IsOpened opened s → IsAfter opened (opened_on opened) s }
+{}
+
+/// What a crash keeps of the list tells the serial records of a beginning of the decisions that holds every acknowledged one.
+pub fn crash_keeps_acknowledged()
+    ensures { (opened : List LogRecord) (h : History) (s : State) (n : ℕ) → IsAfter opened h s → KeepsDurable s n →
+        (kept : List Decision) × Kept h.entries kept × (told (take n s.list) ≡ serial (writes_in h) h.opening.records kept) }
+{}
