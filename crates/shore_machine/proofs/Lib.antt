@@ -6,4 +6,5 @@ pub mod Overlaid
 pub mod OwnReplies
 pub mod Quiet
 pub mod Replies
+pub mod Resumes
 pub mod Turns
