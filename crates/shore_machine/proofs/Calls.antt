@@ -1,32 +1,29 @@
 -- Each call goes on with the history, by what it is and how it is answered.
-use Rattle.std.proofs.Common.{◌≡◌, ◌⊎◌, ⊎_elim, inl, inr, ◌++◌, ◌<◌, ◌≤◌, ℕ, List, [], ◌∷◌, Bool, true, false, Option, Some, None, Result, Ok, Err, refl, sym, ap, subst, ◌∙◌, length}
+use Rattle.std.proofs.Common.{◌≡◌, ⊎_elim, inl, inr, ◌++◌, ℕ, List, [], ◌∷◌, Option, Some, None, Ok, Err, refl, sym, ap, subst, ◌∙◌}
 use Rattle.std.specs.Prelude.{IsSome, IsSomeAnd}
 use Rattle.std.specs.FinMap.{get}
 use Rattle.shore_types.specs.declared.faults.Fault.{Fault}
-use Rattle.shore_types.specs.declared.faults.Fault.TheVariants.{NoRecord, Busy, Failed, Memory}
+use Rattle.shore_types.specs.declared.faults.Fault.TheVariants.{NoRecord, Busy, Failed}
 use Rattle.shore_types.specs.declared.ids.Rid.{Rid}
 use Rattle.shore_types.specs.declared.layout.Geometry.{Geometry}
 use Rattle.shore_model.specs.declared.calls.Call.{Call}
 use Rattle.shore_model.specs.declared.calls.Call.TheVariants as call
 use Rattle.shore_model.specs.declared.calls.Answer.{Answer}
-use Rattle.shore_model.specs.declared.calls.Answer.TheVariants.{Began, Got, Inserted, Committed}
-use Rattle.shore_model.specs.declared.calls.Exchange.{Exchange}
+use Rattle.shore_model.specs.declared.calls.Answer.TheVariants.{Began, Got, Inserted}
 use Rattle.shore_model.specs.declared.histories.Decision.TheVariants as decision
 use Rattle.shore_model.specs.declared.histories.Entry.{Entry}
 use Rattle.shore_model.specs.declared.histories.Entry.TheVariants.{Exchanged, Decided}
 use Rattle.shore_model.specs.declared.log_records.LogRecord.{LogRecord}
-use Rattle.shore_model.specs.declared.sessions.Standing.{Standing}
 use Rattle.shore_model.specs.Records.{Records, overlay}
-use Rattle.shore_model.specs.Alone.{MayReply, start, after}
-use Rattle.shore_model.specs.Histories.{MayStand, calls_of}
+use Rattle.shore_model.specs.Histories.{MayStand}
 use Rattle.shore_model.specs.FirstPath.{IsFirst}
 use Rattle.shore_machine.specs.declared.step.Step.{Step}
 use Rattle.shore_machine.specs.declared.step.Step.TheVariants.{Done, Waits, Refused, Nothing}
 use Rattle.shore_machine.specs.declared.step.Wait.{Wait}
-use Rattle.shore_machine.specs.Bookkeeping.{session_after, in_txn}
+use Rattle.shore_machine.specs.Bookkeeping.{session_after}
 use Rattle.shore_machine.specs.Served.{IsServed}
 use Rattle.shore_machine.specs.States.{State, Active}
-use Rattle.shore_machine.specs.Steps.{CallStep, Refuses, IsRefusal, Answers, IsFree, begun, inserted, committed}
+use Rattle.shore_machine.specs.Steps.{CallStep, Refuses, IsRefusal, Answers, IsFree, inserted, committed}
 use Rattle.shore_machine.specs.Trails.{IsAfter, after_call, called_by, opening_of, serial_now}
 use Rattle.shore_machine.proofs.Goings.{records_found, under_way, read_goes_on, insert_goes_on, begin_goes_on, commit_is_decided}
 use Rattle.shore_machine.proofs.Quiet.{refused, refusal_goes_on}

@@ -1,9 +1,9 @@
 -- What a history logs, with one entry more: the records gained, what they commit, and what is durable of them.
-use Rattle.std.proofs.Common.{◌≡◌, ◌≢◌, ◌++◌, ◌≤◌, ◌<◌, ◌+◌, ◌-◌, ℕ, List, [], ◌∷◌, Bool, true, false, cond, Option, Some, None, refl, sym, ap, subst, ◌∙◌, append-nil, arith, map, length, take, drop}
-use Rattle.std.specs.Prelude.{All, Contains, IsTrue}
+use Rattle.std.proofs.Common.{◌≡◌, ◌≢◌, ◌++◌, ◌≤◌, ◌+◌, ◌-◌, ℕ, List, [], ◌∷◌, Bool, true, false, cond, Some, None, refl, sym, ap, subst, ◌∙◌, append-nil, arith, map, length, take, drop}
+use Rattle.std.specs.Prelude.{All, Contains}
 use Rattle.std.specs.List.{filter_map, cons_option, AllByRecursion}
 use Rattle.std.proofs.lemmas.List.{length-map, length_push, get_or-map, map-append, take-take, take-append-drop, take-append-le, map_push}
-use Rattle.std.proofs.lemmas.List.Elements.{filter_map-append, Contains-append_left, All-same, All-weaker}
+use Rattle.std.proofs.lemmas.List.Elements.{filter_map-append, Contains-append_left, All-weaker}
 use Rattle.shore_model.specs.declared.histories.Decision.{Decision}
 use Rattle.shore_model.specs.declared.histories.Decision.TheVariants as decision
 use Rattle.shore_model.specs.declared.histories.Entry.{Entry}
@@ -13,7 +13,7 @@ use Rattle.shore_model.specs.Histories.{decisions, acknowledged, acknowledged_by
 use Rattle.shore_model.specs.FirstPath.{IsFirstEntry, IsLogOf, said_by}
 use Rattle.shore_model.specs.Logs.{committed_in, commit_of, is_commit}
 use Rattle.shore_model.proofs.FirstPaths.{said, said_commit, commits_said, entry_commits, commit_in}
-use Rattle.shore_machine.specs.Bookkeeping.{IsAbove, EndWithCommits, IsForced, commits_in}
+use Rattle.shore_machine.specs.Bookkeeping.{EndWithCommits, IsForced, commits_in}
 use Rattle.shore_machine.proofs.Entries.{recursion-push}
 use Rattle.shore_machine.proofs.Turns.{txn_in}
 
@@ -74,12 +74,12 @@ rest_of : (b : Bool) (P : ℕ → Type 0) (u : ℕ) (us : List ℕ) → AllByRec
 rest_of true P u us h = h.1
 rest_of false P u us h = h
 
-
 pub ended_push : (rs : List LogRecord) (r : LogRecord) → EndWithCommits rs → AllByRecursion (λ u. u ≢ r.txn) (committed_in rs) → EndWithCommits (rs ++ r ∷ [])
 ended_push [] r h undecided = ((λ _. tt), tt)
-ended_push (q ∷ rs) r h undecided =
-    ((λ commits. recursion-push (λ p. p.txn ≢ q.txn) rs r (h.0 commits) (λ e. others_last (is_commit q.payload) r.txn q.txn (committed_in rs) commits undecided (sym e))),
-    ended_push rs r h.1 (rest_of (is_commit q.payload) (λ u. u ≢ r.txn) q.txn (committed_in rs) undecided))
+ended_push (q ∷ rs) r h undecided = (
+  (λ commits. recursion-push (λ p. p.txn ≢ q.txn) rs r (h.0 commits) (λ e. others_last (is_commit q.payload) r.txn q.txn (committed_in rs) commits undecided (sym e))),
+  ended_push rs r h.1 (rest_of (is_commit q.payload) (λ u. u ≢ r.txn) q.txn (committed_in rs) undecided),
+)
 
 -- ---- what is durable
 
@@ -94,15 +94,15 @@ take_more_of m n xs le = sym (take-append-drop m (take n xs)) ∙ ap (λ ys. ys 
 pub committed_more : (m n : ℕ) (rs : List LogRecord) (t : ℕ) → m ≤ n → Contains (committed_in (take m rs)) t → Contains (committed_in (take n rs)) t
 committed_more m n rs t le c =
     let split : committed_in (take n rs) ≡ committed_in (take m rs) ++ committed_in (drop m (take n rs)) =
-        ap committed_in (take_more_of m n rs le) ∙ filter_map-append commit_of (take m rs) (drop m (take n rs)) in
+    ap committed_in (take_more_of m n rs le) ∙ filter_map-append commit_of (take m rs) (drop m (take n rs)) in
     subst (λ us. Contains us t) (sym split) (Contains-append_left (committed_in (take m rs)) (committed_in (drop m (take n rs))) t c)
 
 pub commits_more : (m n : ℕ) (rs : List LogRecord) (d : Decision) → m ≤ n → Contains (commits_in (take m rs)) d → Contains (commits_in (take n rs)) d
 commits_more m n rs d le c =
     let more = drop m (take n rs) in
     let split : commits_in (take n rs) ≡ commits_in (take m rs) ++ commits_in more =
-        ap commits_in (take_more_of m n rs le) ∙ ap (map decision.Commit) (filter_map-append commit_of (take m rs) more)
-        ∙ map-append decision.Commit (committed_in (take m rs)) (committed_in more) in
+    ap commits_in (take_more_of m n rs le) ∙ ap (map decision.Commit) (filter_map-append commit_of (take m rs) more)
+    ∙ map-append decision.Commit (committed_in (take m rs)) (committed_in more) in
     subst (λ ds. Contains ds d) (sym split) (Contains-append_left (commits_in (take m rs)) (commits_in more) d c)
 
 pub acknowledged_none : (es : List Entry) (e : Entry) → acknowledged_by e ≡ None → acknowledged (es ++ e ∷ []) ≡ acknowledged es

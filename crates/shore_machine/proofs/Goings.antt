@@ -1,8 +1,8 @@
 -- The calls that go on: a begin, a get, an insert, and a commit that is decided.
-use Rattle.std.proofs.Common.{◌≡◌, ◌≢◌, ◌++◌, ◌≤◌, ◌<◌, ◌+◌, ◌-◌, ℕ, List, [], ◌∷◌, Bool, true, false, cond, Option, Some, None, Result, Ok, Err, refl, sym, ap, subst, ◌∙◌, append_assoc, append-nil, arith, length, take}
-use Rattle.std.specs.Prelude.{All, Contains, IfSome, ◌==◌, ◌&&◌}
+use Rattle.std.proofs.Common.{◌≡◌, ◌≢◌, ◌++◌, ◌≤◌, ◌<◌, ◌+◌, ◌-◌, ℕ, List, [], ◌∷◌, Bool, true, false, cond, Option, Some, None, Result, Ok, refl, sym, ap, subst, ◌∙◌, append_assoc, append-nil, arith, length}
+use Rattle.std.specs.Prelude.{Contains, IfSome, ◌==◌, ◌&&◌}
 use Rattle.std.specs.List.{AllByRecursion, cons_option}
-use Rattle.std.specs.FinMap.{empty, get, insert}
+use Rattle.std.specs.FinMap.{get, insert}
 use Rattle.std.proofs.lemmas.Bool.{ne_eqb}
 use Rattle.std.proofs.lemmas.List.{length-append, length_push, take_all}
 use Rattle.std.proofs.lemmas.List.Elements.{All-nil, All-push, All-weaker, Contains-push}
@@ -20,10 +20,10 @@ use Rattle.shore_model.specs.declared.log_records.LogRecord.{LogRecord}
 use Rattle.shore_model.specs.declared.sessions.Standing.{Standing}
 use Rattle.shore_model.specs.Records.{Records, overlay}
 use Rattle.shore_model.specs.Alone.{MayReply, MayReplyAll, start, after, after_reply}
-use Rattle.shore_model.specs.Histories.{MayStand, calls_of, decisions, serial, free, standing, began, after_own_reply, acknowledged_by}
-use Rattle.shore_model.specs.FirstPath.{IsFirst, IsFirstEntry, IsLogOf, said_by}
+use Rattle.shore_model.specs.Histories.{MayStand, calls_of, decisions, serial, free, began, after_own_reply, acknowledged_by}
+use Rattle.shore_model.specs.FirstPath.{IsFirst, IsFirstEntry, said_by}
 use Rattle.shore_model.specs.Logs.{committed_in}
-use Rattle.shore_machine.specs.Bookkeeping.{AreNumbered, BeginsBelow, IsCalledBelow, IsAbove, IsSession, IsUnderWay, IsDecided, session_after, in_txn}
+use Rattle.shore_machine.specs.Bookkeeping.{BeginsBelow, IsCalledBelow, IsAbove, IsSession, IsUnderWay, session_after, in_txn}
 use Rattle.shore_machine.specs.States.{State, Active, next_number}
 use Rattle.shore_machine.specs.Steps.{begun, inserted, committed, insert_record, commit_record, IsFree}
 use Rattle.shore_machine.specs.Trails.{IsAfter, in_place, opening_of, serial_now}
@@ -166,14 +166,14 @@ module _ (opened : List LogRecord) (es : List Entry) (s : State) (k : IsAfter op
       let gained = k.gained ++ r ∷ [] in
       let u = under_way in
       let stands : session_after more ≡ in_txn a.txn =
-          standing-push 1 free es e ∙ ap (λ p. cond ((p.txn == a.txn) && p.prepared) free p) u.stands
-          ∙ unprepared (a.txn == a.txn) (in_txn a.txn) free in
+      standing-push 1 free es e ∙ ap (λ p. cond ((p.txn == a.txn) && p.prepared) free p) u.stands
+      ∙ unprepared (a.txn == a.txn) (in_txn a.txn) free in
       let all_kept : AreKept es more (decisions es) = recursion-each (λ d. IsKept es more (txn_in d)) (λ d. kept_by_decided es (txn_in d) (decision.Commit a.txn)) (decisions es) in
       let R = (opening_of opened).records in
       let total : serial_now (history_on opened more) ≡ overlay now (written es a.txn) =
-          ap (serial (written more) R) (decisions-decided es (decision.Commit a.txn)) ∙ serial-push (written more) R (decisions es) a.txn
-          ∙ ap (λ S. overlay S (written more a.txn)) (serial_kept opened es more R (decisions es) all_kept)
-          ∙ ap (overlay now) (kept_by_decided es a.txn (decision.Commit a.txn)).writes in
+      ap (serial (written more) R) (decisions-decided es (decision.Commit a.txn)) ∙ serial-push (written more) R (decisions es) a.txn
+      ∙ ap (λ S. overlay S (written more a.txn)) (serial_kept opened es more R (decisions es) all_kept)
+      ∙ ap (overlay now) (kept_by_decided es a.txn (decision.Commit a.txn)).writes in
       let adds : committed_in gained ≡ committed_in k.gained ++ a.txn ∷ [] = committed_push k.gained r true refl in
       let lengths : length s.list ≡ length opened + length k.gained = ap length k.list ∙ length-append opened k.gained in
       let more_gained : length gained ≡ length k.gained + 1 = length_push k.gained r in
@@ -242,7 +242,7 @@ module _ (opened : List LogRecord) (es : List Entry) (s : State) (k : IsAfter op
       let more = es ++ e ∷ [] in
       let none : calls_of s.next es ≡ [] = no_calls_at s.next es k.numbers.called in
       let undecided : AllByRecursion (λ u. u ≢ s.next) (committed_in k.gained) =
-          of_committed (λ u. u ≢ s.next) k.gained (recursion-weaker (λ r. r.txn < s.next) (λ r. r.txn ≢ s.next) (λ r less same. omega arith) k.gained k.numbers.over_gained) in
+      of_committed (λ u. u ≢ s.next) k.gained (recursion-weaker (λ r. r.txn < s.next) (λ r. r.txn ≢ s.next) (λ r less same. omega arith) k.gained k.numbers.over_gained) in
       let now_same = own_now opened k.gained es k.first k.logged s.next x undecided in
       let stands : session_after more ≡ in_txn s.next = standing-push 1 free es e in
       let R = serial_now (history_on opened more) in

@@ -1,4 +1,5 @@
 pub mod Calls
+pub mod Crashes
 pub mod Entries
 pub mod Gains
 pub mod Goings

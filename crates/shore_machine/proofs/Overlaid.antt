@@ -1,8 +1,8 @@
 -- Records with a write set laid over them: a write more, and none.
-use Rattle.std.proofs.Common.{◌≡◌, ℕ, List, [], Bool, true, false, cond, Option, Some, None, refl, sym, ap, ◌∙◌}
+use Rattle.std.proofs.Common.{◌≡◌, ℕ, List, Bool, true, false, cond, Option, Some, refl, sym, ap, ◌∙◌}
 use Rattle.std.specs.Prelude.{unwrap_or}
 use Rattle.std.specs.Ordering.{eq_by_cmp}
-use Rattle.std.specs.FinMap.{empty, entries, get, insert, get-insert, same_map, len-entries, len-empty}
+use Rattle.std.specs.FinMap.{empty, get, insert, get-insert, same_map, len-entries, len-empty}
 use Rattle.std.proofs.lemmas.List.{nil_from_length}
 use Rattle.shore_types.specs.Ids.{rid_cmp, rids_total, exact_rids}
 use Rattle.shore_types.specs.declared.ids.Rid.{Rid}

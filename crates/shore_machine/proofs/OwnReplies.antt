@@ -1,11 +1,10 @@
 -- Replies to a transaction that is not decided: they leave the decided ones.
-use Rattle.std.proofs.Common.{◌≡◌, ◌≢◌, ◌++◌, ℕ, List, [], ◌∷◌, refl, sym, ap, subst, ◌∙◌}
+use Rattle.std.proofs.Common.{◌≡◌, ◌≢◌, ◌++◌, ℕ, List, [], ◌∷◌, sym, ap, subst, ◌∙◌}
 use Rattle.std.specs.List.{AllByRecursion}
 use Rattle.shore_model.specs.declared.calls.Exchange.{Exchange}
 use Rattle.shore_model.specs.declared.histories.Entry.{Entry}
 use Rattle.shore_model.specs.declared.histories.Entry.TheVariants.{Exchanged}
 use Rattle.shore_model.specs.declared.log_records.LogRecord.{LogRecord}
-use Rattle.shore_model.specs.Records.{Records}
 use Rattle.shore_model.specs.Alone.{MayReply, MayReplyAll, start, after, after_reply}
 use Rattle.shore_model.specs.Histories.{Sound, calls_of, decisions, serial}
 use Rattle.shore_model.specs.FirstPath.{IsFirstEntry, IsLogOf}

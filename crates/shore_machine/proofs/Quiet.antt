@@ -1,14 +1,12 @@
 -- Replies that leave every transaction where it was: a refusal, and the reply to a commit.
-use Rattle.std.proofs.Common.{◌≡◌, ◌≢◌, ◌++◌, ◌≤◌, ◌<◌, ℕ, List, [], ◌∷◌, Option, Some, None, Result, Ok, Err, refl, sym, ap, subst, ◌∙◌, arith}
+use Rattle.std.proofs.Common.{◌≡◌, ◌++◌, ◌≤◌, ◌<◌, ℕ, List, [], ◌∷◌, Option, Some, None, Ok, Err, refl, sym, ap, subst, ◌∙◌, arith}
 use Rattle.std.specs.Prelude.{All, Contains, IsSomeAnd, take, length, ◌-◌}
 use Rattle.std.proofs.lemmas.List.Elements.{All-push}
 use Rattle.shore_types.specs.declared.faults.Fault.{Fault}
 use Rattle.shore_model.specs.declared.calls.Call.{Call}
 use Rattle.shore_model.specs.declared.calls.Call.TheVariants as call
-use Rattle.shore_model.specs.declared.calls.Answer.{Answer}
 use Rattle.shore_model.specs.declared.calls.Answer.TheVariants.{Committed}
 use Rattle.shore_model.specs.declared.calls.Exchange.{Exchange}
-use Rattle.shore_model.specs.declared.histories.Decision.{Decision}
 use Rattle.shore_model.specs.declared.histories.Decision.TheVariants as decision
 use Rattle.shore_model.specs.declared.histories.Entry.{Entry}
 use Rattle.shore_model.specs.declared.histories.Entry.TheVariants.{Exchanged}
@@ -16,12 +14,12 @@ use Rattle.shore_model.specs.declared.log_records.LogRecord.{LogRecord}
 use Rattle.shore_model.specs.Records.{Records, overlay}
 use Rattle.shore_model.specs.Histories.{MayStand, decisions, serial, acknowledged, free}
 use Rattle.shore_model.specs.FirstPath.{IsFirst, IsFirstEntry}
-use Rattle.shore_machine.specs.Bookkeeping.{AreNumbered, BeginsBelow, IsCalledBelow, IsSession, IsDecided, IsForced, session_after, in_txn, commits_in}
+use Rattle.shore_machine.specs.Bookkeeping.{BeginsBelow, IsCalledBelow, IsSession, IsDecided, session_after, commits_in}
 use Rattle.shore_machine.specs.States.{State, Active}
 use Rattle.shore_machine.specs.Steps.{answered}
 use Rattle.shore_machine.specs.Trails.{IsAfter, in_place, opening_of, serial_now}
 use Rattle.shore_machine.proofs.Entries.{recursion-push, recursion-each, standing-push, decisions-exchanged, history-push}
-use Rattle.shore_machine.proofs.Gains.{logged_none, forced_none, commits_more, Contains-map, committed_more, acknowledged_one}
+use Rattle.shore_machine.proofs.Gains.{logged_none, forced_none, Contains-map, committed_more, acknowledged_one}
 use Rattle.shore_machine.proofs.Replies.{IsQuiet, commit_is_quiet}
 use Rattle.shore_machine.proofs.Turns.{history_on, written, IsKept, AreKept, txn_in, kept_by_quiet, serial_kept, sound_stays}
 
@@ -116,8 +114,8 @@ commit_goes_on opened es s k forced =
     let le : w.n - length opened ≤ s.durable - length opened = let l = w.forced in omega arith in
     let own : u ≡ w.decided.txn = ap (λ p. p.txn) w.decided.stands in
     let durable_one : Contains (commits_in (take (s.durable - length opened) k.gained)) (decision.Commit u) =
-        subst (λ t. Contains (commits_in (take (s.durable - length opened) k.gained)) (decision.Commit t)) (sym own)
-        (Contains-map decision.Commit _ w.decided.txn (committed_more (w.n - length opened) (s.durable - length opened) k.gained w.decided.txn le w.decided.numbered)) in
+    subst (λ t. Contains (commits_in (take (s.durable - length opened) k.gained)) (decision.Commit t)) (sym own)
+    (Contains-map decision.Commit _ w.decided.txn (committed_more (w.n - length opened) (s.durable - length opened) k.gained w.decided.txn le w.decided.numbered)) in
     record {
       opening = refl;
       first = recursion-push IsFirstEntry es e k.first tt;

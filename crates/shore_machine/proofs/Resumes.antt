@@ -1,19 +1,17 @@
 -- Each resume goes on with the history.
-use Rattle.std.proofs.Common.{◌≡◌, ◌++◌, ℕ, List, [], ◌∷◌, Bool, true, false, cond, Result, Ok, Err, refl, sym, subst}
+use Rattle.std.proofs.Common.{List, true, false, cond, Err, refl, sym, subst}
 use Rattle.shore_types.specs.declared.faults.Fault.{Fault}
 use Rattle.shore_types.specs.declared.faults.Fault.TheVariants.{Failed}
 use Rattle.shore_model.specs.declared.calls.Call.TheVariants as call
 use Rattle.shore_model.specs.declared.calls.Answer.{Answer}
 use Rattle.shore_model.specs.declared.calls.Answer.TheVariants.{Committed}
 use Rattle.shore_model.specs.declared.histories.Entry.{Entry}
-use Rattle.shore_model.specs.declared.histories.Entry.TheVariants.{Exchanged}
 use Rattle.shore_model.specs.declared.log_records.LogRecord.{LogRecord}
-use Rattle.shore_model.specs.Histories.{History}
 use Rattle.shore_machine.specs.declared.step.Step.{Step}
 use Rattle.shore_machine.specs.declared.step.Step.TheVariants.{Done, Waits, Refused, Nothing}
 use Rattle.shore_machine.specs.Bookkeeping.{session_after}
 use Rattle.shore_machine.specs.States.{State}
-use Rattle.shore_machine.specs.Steps.{ResumeStep, answered}
+use Rattle.shore_machine.specs.Steps.{ResumeStep}
 use Rattle.shore_machine.specs.Trails.{IsAfter, after_resume, waits_in, and_entry, exchanged}
 use Rattle.shore_machine.proofs.Quiet.{refusal_goes_on, commit_goes_on}
 use Rattle.shore_machine.proofs.Replies.{refusal_is_quiet}

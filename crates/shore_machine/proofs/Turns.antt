@@ -1,21 +1,20 @@
 -- The turns of the decisions, when entries are added: what was decided stays as it was.
-use Rattle.std.proofs.Common.{◌≡◌, ◌≢◌, ◌++◌, ⊎_elim, ℕ, List, [], ◌∷◌, Bool, true, false, cond, Option, Some, None, refl, sym, ap, subst, ◌∙◌, append-nil}
+use Rattle.std.proofs.Common.{◌≡◌, ◌≢◌, ◌++◌, ⊎_elim, ℕ, List, [], ◌∷◌, Bool, true, false, cond, Some, None, refl, sym, ap, subst, ◌∙◌, append-nil}
 use Rattle.std.specs.Prelude.{◌==◌, slice_get, take, IfSome}
-use Rattle.std.specs.List.{AllByRecursion, cons_option}
+use Rattle.std.specs.List.{AllByRecursion}
 use Rattle.shore_model.specs.declared.calls.Exchange.{Exchange}
 use Rattle.shore_model.specs.declared.histories.Decision.{Decision}
 use Rattle.shore_model.specs.declared.histories.Decision.TheVariants.{Commit, Prepare, RollBack}
 use Rattle.shore_model.specs.declared.histories.Entry.{Entry}
 use Rattle.shore_model.specs.declared.histories.Entry.TheVariants.{Exchanged, Decided}
-use Rattle.shore_model.specs.declared.histories.Opening.{Opening}
 use Rattle.shore_model.specs.declared.log_records.LogRecord.{LogRecord}
 use Rattle.shore_model.specs.Records.{Records, WriteSet, overlay}
 use Rattle.shore_model.specs.Alone.{MayReplyAll, start, after, writes_of}
-use Rattle.shore_model.specs.Histories.{History, Sound, TakesTurn, RunsAloneAfter, calls_of, decisions, serial, has_prepared, turn_of}
+use Rattle.shore_model.specs.Histories.{History, Sound, TakesTurn, RunsAloneAfter, calls_of, decisions, serial, has_prepared}
 use Rattle.shore_model.proofs.Beginnings.{slice_get-push}
 use Rattle.shore_machine.specs.Trails.{opening_of}
 use Rattle.shore_machine.proofs.Replies.{IsQuiet, after-push, replies-push}
-use Rattle.shore_machine.proofs.Entries.{recursion-at, recursion-take, recursion-weaker, recursion-each, calls-exchanged, calls-own, calls-other, calls-decided, decisions-decided}
+use Rattle.shore_machine.proofs.Entries.{recursion-at, recursion-take, recursion-weaker, recursion-each, calls-exchanged, calls-other, calls-decided, decisions-decided}
 
 abbrev pub history_on : List LogRecord → List Entry → History
 history_on opened es = record { opening = opening_of opened; entries = es }
@@ -115,7 +114,7 @@ sound_commit opened es t sound replies n d at =
     let kept : AreKept es more ds = recursion-each (λ d. IsKept es more (txn_in d)) (λ d. kept_by_decided es (txn_in d) (Commit t)) ds in
     let same : decisions more ≡ ds ++ Commit t ∷ [] = decisions-decided es (Commit t) in
     let now : RunsAloneAfter (history_on opened more) ds t =
-        (subst (λ R. MayReplyAll R start (calls_of t more)) (sym (serial_kept opened es more (opening_of opened).records ds kept)) ((kept_by_decided es t (Commit t)).replies _ replies), refl) in
+    (subst (λ R. MayReplyAll R start (calls_of t more)) (sym (serial_kept opened es more (opening_of opened).records ds kept)) ((kept_by_decided es t (Commit t)).replies _ replies), refl) in
     subst (λ ds. TakesTurn (history_on opened more) (take n ds) d) (sym same)
     (⊎_elim
     (λ old. subst (λ before. TakesTurn (history_on opened more) before d) (sym old.1) (turn_stays opened es more kept sound n d old.0))

@@ -1,5 +1,4 @@
 -- The calls that are served as yet: those of one session that begins, gets, inserts and commits.
-use Rattle.std.specs.Prelude.{ℕ}
 use Rattle.shore_model.specs.declared.calls.Call.{Call}
 use Rattle.shore_model.specs.declared.calls.Call.TheVariants.{Begin, Get, Insert, Commit}
 

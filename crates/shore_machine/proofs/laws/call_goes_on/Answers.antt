@@ -1,5 +1,4 @@
 use Rattle.std.proofs.Common.{sym, subst}
-use Rattle.shore_machine.specs.Steps.{CallStep}
 use Rattle.shore_machine.specs.Trails.{IsAfter, after_call}
 use Rattle.shore_machine.proofs.Calls.{steps_on}
 use Rattle.shore_machine.proofs.laws.call_goes_on.Goals as goal
