@@ -15,7 +15,7 @@ use Rattle.shore_model.specs.declared.histories.Entry.{Entry}
 use Rattle.shore_model.specs.declared.histories.Entry.TheVariants.{Exchanged, Decided}
 use Rattle.shore_model.specs.declared.log_records.LogRecord.{LogRecord}
 use Rattle.shore_model.specs.Records.{Records, overlay}
-use Rattle.shore_model.specs.Histories.{MayStand}
+use Rattle.shore_model.specs.Histories.{History, MayStand}
 use Rattle.shore_model.specs.FirstPath.{IsFirst}
 use Rattle.shore_machine.specs.declared.step.Step.{Step}
 use Rattle.shore_machine.specs.declared.step.Step.TheVariants.{Done, Waits, Refused, Nothing}
@@ -144,8 +144,13 @@ module _ (g : Geometry) (opened : List LogRecord) (es : List Entry) (s : State) 
       subst (λ (c : Call). GoesOn c (Waits wait) new) (sym h.0)
       (subst (λ (new : State). GoesOn call.Commit (Waits wait) new) (sym one.2.1) (commit_waits one.0 one.1 h.2 wait))
 
-  pub steps_on : (c : Call) (step : Step) (new : State) → IsServed c → CallStep g s c step new → GoesOn c step new
+  steps_on : (c : Call) (step : Step) (new : State) → IsServed c → CallStep g s c step new → GoesOn c step new
   steps_on c (Refused fault) new served h = subst (λ (new : State). GoesOn c (Refused fault) new) (sym h.1) (refusal c fault served h.0)
   steps_on c (Done answer) new served h = done c answer new served h.1 h.2
   steps_on c (Waits wait) new served h = waits c wait new h
   steps_on c Nothing new served h = absurd h
+
+pub call_on : (g : Geometry) (opened : List LogRecord) (h : History) (s new : State) (c : Call) (step : Step) → IsServed c → IsAfter opened h s → CallStep g s c step new → IsAfter opened (after_call h 1 c step) new
+call_on g opened h s new c step served k moves =
+    subst (λ o. IsAfter opened (after_call (record { opening = o; entries = h.entries }) 1 c step) new) (sym k.opening)
+    (steps_on g opened h.entries s (subst (λ o. IsAfter opened (record { opening = o; entries = h.entries }) s) k.opening k) c step new served moves)

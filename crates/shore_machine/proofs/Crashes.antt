@@ -1,5 +1,5 @@
 -- What a beginning of the list tells: the serial records of the decisions whose Commit it has.
-use Rattle.std.proofs.Common.{◌≡◌, ◌≢◌, ◌++◌, ◌≤◌, ◌<◌, ◌+◌, ◌-◌, ℕ, zero, suc, List, [], ◌∷◌, Bool, true, false, cond, Some, None, refl, sym, ap, ◌∙◌, append-nil, arith, map, length, take, drop}
+use Rattle.std.proofs.Common.{◌≡◌, ◌≢◌, ◌++◌, ◌≤◌, ◌<◌, ◌+◌, ◌-◌, ℕ, zero, suc, List, [], ◌∷◌, Bool, true, false, cond, Some, None, refl, sym, ap, ◌∙◌, append-nil, arith, map, subst, length, take, drop}
 use Rattle.std.specs.Prelude.{Contains, IsTrue, filter, ◌==◌, ◌||◌}
 use Rattle.std.specs.List.{filter_map, cons_option, AllByRecursion}
 use Rattle.std.specs.FinMap.{empty}
@@ -14,7 +14,7 @@ use Rattle.shore_model.specs.declared.log_records.LogRecord.{LogRecord}
 use Rattle.shore_model.specs.declared.log_records.Payload.{Payload}
 use Rattle.shore_model.specs.declared.log_records.Payload.TheVariants.{Change, Commit}
 use Rattle.shore_model.specs.Records.{Records, WriteSet, overlay, overlays}
-use Rattle.shore_model.specs.Histories.{Kept, decisions, acknowledged, serial}
+use Rattle.shore_model.specs.Histories.{History, writes_in, Kept, decisions, acknowledged, serial}
 use Rattle.shore_model.specs.Logs.{told, committed_in, commit_of, prepare_of, is_prepare, is_commit, is_in_doubt, last_images, logged_writes}
 use Rattle.shore_model.proofs.FirstPaths.{logged_written, logged_unprepared}
 use Rattle.shore_model.proofs.Overlays.{overlays-append}
@@ -188,5 +188,11 @@ module _ (opened : List LogRecord) (es : List Entry) (s : State) (k : IsAfter op
       ∙ ap (overlays (told opened)) (map_agree (logged_writes kept_gained) (written es) (committed_in kept_gained) writes_kept)
       ∙ serial_commits (written es) (told opened) (committed_in kept_gained)
 
-  pub crash_keeps : (ds : List Decision) × Kept es ds × (told (take n s.list) ≡ serial (written es) (told opened) ds)
+  crash_keeps : (ds : List Decision) × Kept es ds × (told (take n s.list) ≡ serial (written es) (told opened) ds)
   crash_keeps = (kept_decisions, kept, told_kept)
+
+pub crash_on : (opened : List LogRecord) (h : History) (s : State) (n : ℕ) → IsAfter opened h s → KeepsDurable s n
+    → (kept : List Decision) × Kept h.entries kept × (told (take n s.list) ≡ serial (writes_in h) h.opening.records kept)
+crash_on opened h s n k keeps =
+    subst (λ o. (kept : List Decision) × Kept h.entries kept × (told (take n s.list) ≡ serial (writes_in (record { opening = o; entries = h.entries })) o.records kept)) (sym k.opening)
+    (crash_keeps opened h.entries s (subst (λ o. IsAfter opened (record { opening = o; entries = h.entries }) s) k.opening k) n keeps)

@@ -8,4 +8,6 @@ pub mod OwnReplies
 pub mod Quiet
 pub mod Replies
 pub mod Resumes
+pub mod RunsOn
+pub mod Tellings
 pub mod Turns

@@ -7,6 +7,7 @@ use Rattle.shore_model.specs.declared.calls.Answer.{Answer}
 use Rattle.shore_model.specs.declared.calls.Answer.TheVariants.{Committed}
 use Rattle.shore_model.specs.declared.histories.Entry.{Entry}
 use Rattle.shore_model.specs.declared.log_records.LogRecord.{LogRecord}
+use Rattle.shore_model.specs.Histories.{History}
 use Rattle.shore_machine.specs.declared.step.Step.{Step}
 use Rattle.shore_machine.specs.declared.step.Step.TheVariants.{Done, Waits, Refused, Nothing}
 use Rattle.shore_machine.specs.Bookkeeping.{session_after}
@@ -29,7 +30,7 @@ module _ (opened : List LogRecord) (es : List Entry) (s : State) (k : IsAfter op
         | false ↦ k
       ]
 
-  pub resumes_on : (step : Step) (new : State) → ResumeStep s step new → ResumesOn step new
+  resumes_on : (step : Step) (new : State) → ResumeStep s step new → ResumesOn step new
   resumes_on (Refused fault) new h =
       subst (λ (fault : Fault). ResumesOn (Refused fault) new) (sym h.0) (subst (λ (new : State). ResumesOn (Refused Failed) new) (sym h.2) refusal)
   resumes_on (Done answer) new h =
@@ -37,3 +38,8 @@ module _ (opened : List LogRecord) (es : List Entry) (s : State) (k : IsAfter op
       (subst (λ (new : State). ResumesOn (Done Committed) new) (sym h.3) (commit_goes_on opened es s k h.2))
   resumes_on (Waits wait) new h = subst (λ (new : State). ResumesOn (Waits wait) new) (sym h.2) k
   resumes_on Nothing new h = subst (λ (new : State). ResumesOn Nothing new) (sym h.2) k
+
+pub resume_on : (opened : List LogRecord) (h : History) (s new : State) (step : Step) → IsAfter opened h s → ResumeStep s step new → IsAfter opened (after_resume h 1 step) new
+resume_on opened h s new step k moves =
+    subst (λ o. IsAfter opened (after_resume (record { opening = o; entries = h.entries }) 1 step) new) (sym k.opening)
+    (resumes_on opened h.entries s (subst (λ o. IsAfter opened (record { opening = o; entries = h.entries }) s) k.opening k) step new moves)
