@@ -1,1 +1,14 @@
+pub mod Calls
+pub mod Crashes
+pub mod Entries
+pub mod Gains
+pub mod Goings
+pub mod Overlaid
+pub mod OwnReplies
+pub mod Quiet
+pub mod Replies
+pub mod Resumes
+pub mod RunsOn
+pub mod Tellings
+pub mod Turns
 pub mod Growth

@@ -1,3 +1,5 @@
+pub mod Bookkeeping
+pub mod Runs
 pub mod Served
 pub mod States
 pub mod Steps

@@ -1,5 +1,5 @@
 -- What the events do to the state, and what each is answered.
-use Rattle.std.specs.Prelude.{◌≡◌, ◌⊎◌, ℕ, ◌+◌, ◌-◌, ◌<◌, ◌≤◌, List, [], ◌∷◌, ◌++◌, Bool, true, false, Option, None, Some, IsTrue, IsSome, IsSomeAnd, length}
+use Rattle.std.specs.Prelude.{◌≡◌, ◌⊎◌, ℕ, ◌+◌, ◌-◌, ◌<◌, ◌≤◌, List, [], ◌∷◌, ◌++◌, true, false, None, Some, IsTrue, IsSome, IsSomeAnd, length}
 use Rattle.std.specs.FinMap.{get, insert}
 use Rattle.shore_types.specs.Layout.{HasStore, HasPage}
 use Rattle.shore_types.specs.declared.faults.Fault.{Fault}
@@ -14,7 +14,7 @@ use Rattle.shore_model.specs.declared.calls.Call.TheVariants as call
 use Rattle.shore_model.specs.declared.log_records.LogRecord.{LogRecord}
 use Rattle.shore_model.specs.declared.log_records.Payload.TheVariants as payload
 use Rattle.shore_model.specs.Records.{Records}
-use Rattle.shore_machine.specs.States.{State, Active, Room, next_number, Admits, MayBegin}
+use Rattle.shore_machine.specs.States.{State, Active, next_number, Admits, MayBegin}
 use Rattle.shore_machine.specs.declared.step.Step.{Step}
 use Rattle.shore_machine.specs.declared.step.Step.TheVariants.{Done, Waits, Refused, Nothing}
 use Rattle.shore_machine.specs.declared.step.Wait.TheVariants.{Durable}

@@ -1,12 +1,11 @@
 -- The history that the steps of the machine make, and what holds of a state after it. No value keeps the history: it is spoken
 -- of as what was called and answered since an opening.
-use Rattle.std.specs.Prelude.{◌≡◌, ℕ, ◌<◌, ◌≤◌, List, [], ◌∷◌, ◌++◌, ◌||◌, Bool, true, false, Option, None, Some, Result, Ok, Err, IsTrue, IfSome, if◌then◌else◌, unwrap_or, length, All, map}
+use Rattle.std.specs.Prelude.{◌≡◌, ℕ, ◌<◌, ◌≤◌, List, [], ◌∷◌, ◌++◌, Bool, false, Option, None, Some, Result, Ok, Err, IsTrue, if◌then◌else◌, unwrap_or, length, All}
 use Rattle.std.specs.List.{AllByRecursion, list_any}
 use Rattle.shore_types.specs.declared.faults.Fault.{Fault}
 use Rattle.shore_model.specs.declared.calls.Answer.{Answer}
 use Rattle.shore_model.specs.declared.calls.Call.{Call}
 use Rattle.shore_model.specs.declared.calls.Call.TheVariants as call
-use Rattle.shore_model.specs.declared.calls.Exchange.{Exchange}
 use Rattle.shore_model.specs.declared.histories.Decision.TheVariants as decision
 use Rattle.shore_model.specs.declared.histories.Entry.{Entry}
 use Rattle.shore_model.specs.declared.histories.Entry.TheVariants.{Exchanged, Decided}
@@ -16,12 +15,11 @@ use Rattle.shore_model.specs.Records.{Records, overlay}
 use Rattle.shore_model.specs.Alone.{writes_of}
 use Rattle.shore_model.specs.Histories.{History, IsHistory, Sound, standing, free, begun_by, calls_of, decisions, serial, writes_in, is_ended_by}
 use Rattle.shore_model.specs.FirstPath.{IsFirstEntry, IsLogOf}
-use Rattle.shore_model.specs.declared.log_records.Payload.{Payload}
-use Rattle.shore_model.specs.declared.log_records.Payload.TheVariants.{Change}
-use Rattle.shore_model.specs.Logs.{told, is_commit}
+use Rattle.shore_model.specs.Logs.{told}
 use Rattle.shore_machine.specs.declared.step.Step.{Step}
 use Rattle.shore_machine.specs.declared.step.Step.TheVariants.{Done, Waits, Refused, Nothing}
 use Rattle.shore_machine.specs.States.{State, Active}
+use Rattle.shore_machine.specs.Bookkeeping.{AreNumbered, IsSession, AreOrdered, IsForced, is_plain}
 
 -- ---- what a step adds
 
@@ -64,6 +62,10 @@ after_resume h session _ = h
 abbrev pub opening_of : List LogRecord → Opening
 opening_of rs = record { records = told rs; in_doubt = [] }
 
+-- the serial records of all decisions so far
+abbrev pub serial_now : History → Records
+serial_now h = serial (writes_in h) h.opening.records (decisions h.entries)
+
 -- the write set of the session's transaction, laid over the serial records
 abbrev pub in_place : Records → History → Option Active → Records
 in_place R h None = R
@@ -79,7 +81,12 @@ pub record IsAfter (opened : List LogRecord) (h : History) (s : State) : Type 0 
   pub gained : List LogRecord
   pub list : s.list ≡ opened ++ gained
   pub logged : IsLogOf h.entries gained
-  pub records : s.records ≡ in_place (serial (writes_in h) h.opening.records (decisions h.entries)) h s.active
+  pub records : s.records ≡ in_place (serial_now h) h s.active
+  -- the numbers of transactions, the session's own one, the order of the records, and what is forced of them
+  pub numbers : AreNumbered opened gained h.entries s.next
+  pub session : IsSession opened gained h (serial_now h) s.active s.committing
+  pub ordered : AreOrdered opened gained
+  pub forced : IsForced opened gained h.entries s.durable
 
 -- What a crash keeps: of the list its first so many records, of which the durable are some.
 abbrev pub KeepsDurable : State → ℕ → Type 0
@@ -88,14 +95,6 @@ KeepsDurable s n = (s.durable ≤ n) × (n ≤ length s.list)
 -- the history of a manager that was opened on a list and has not been called yet
 abbrev pub opened_on : List LogRecord → History
 opened_on rs = record { opening = opening_of rs; entries = [] }
-
-abbrev pub is_change : Payload → Bool
-is_change (Change id before image) = true
-is_change _ = false
-
--- a record of the two kinds that are written as yet
-abbrev pub is_plain : LogRecord → Bool
-is_plain r = is_commit r.payload || is_change r.payload
 
 -- what an open leaves: the records that the list tells, no transaction, a number above all of the list's, and all of it durable
 pub record IsOpened (rs : List LogRecord) (s : State) : Type 0 where

@@ -1,1 +1,59 @@
 //! Laws over the definitions, each the contract of a function with nothing to do.
+ghost use Rattle.std.specs.Prelude.{◌≡◌, ◌≤◌, ℕ, List, [], take, length, map};
+ghost use Rattle.shore_types.specs.declared.layout.Geometry.{Geometry};
+ghost use Rattle.shore_model.specs.declared.calls.Call.{Call};
+ghost use Rattle.shore_model.specs.declared.histories.Decision.{Decision};
+ghost use Rattle.shore_model.specs.declared.log_records.LogRecord.{LogRecord};
+ghost use Rattle.shore_model.specs.Histories.{History, Kept, decisions, serial, writes_in};
+ghost use Rattle.shore_model.specs.Lives.{IsLife, Span};
+ghost use Rattle.shore_model.specs.Logs.{told};
+ghost use Rattle.shore_machine.specs.Runs.{AreRuns, Event, MovesBy, Run, after_events, made_by};
+ghost use Rattle.shore_machine.specs.Served.{IsServed};
+ghost use Rattle.shore_machine.specs.States.{State};
+ghost use Rattle.shore_machine.specs.Steps.{CallStep, ResumeStep, told_durable, with_failure};
+ghost use Rattle.shore_machine.specs.Trails.{IsAfter, IsOpened, KeepsDurable, after_call, after_resume, opened_on, opening_of};
+ghost use Rattle.shore_machine.specs.declared.step.Step.{Step};
+
+/// Each call goes on with the history: it stays sound, and the state is what it leaves.
+pub fn call_goes_on()
+    ensures { (g : Geometry) (opened : List LogRecord) (h : History) (old new : State) (call : Call) (step : Step) →
+        IsServed call → IsAfter opened h old → CallStep g old call step new → IsAfter opened (after_call h 1 call step) new }
+{}
+
+/// So does each resume.
+pub fn resume_goes_on()
+    ensures { (opened : List LogRecord) (h : History) (old new : State) (step : Step) →
+        IsAfter opened h old → ResumeStep old step new → IsAfter opened (after_resume h 1 step) new }
+{}
+
+/// A force that is told, and a failure, leave the history as it is.
+pub fn telling_goes_on()
+    ensures told { (opened : List LogRecord) (h : History) (s : State) (n : ℕ) →
+        IsAfter opened h s → s.durable ≤ n → n ≤ length s.list → IsAfter opened h (told_durable n s) }
+    ensures failed { (opened : List LogRecord) (h : History) (s : State) → IsAfter opened h s → IsAfter opened h (with_failure s) }
+{}
+
+/// A manager that was opened on a list is after the history in which nothing has happened yet.
+pub fn open_begins()
+    ensures { (opened : List LogRecord) (s : State) → IsOpened opened s → IsAfter opened (opened_on opened) s }
+{}
+
+/// What a crash keeps of the list tells the serial records of a beginning of the decisions that holds every acknowledged one.
+pub fn crash_keeps_acknowledged()
+    ensures { (opened : List LogRecord) (h : History) (s : State) (n : ℕ) → IsAfter opened h s → KeepsDurable s n →
+        (kept : List Decision) × Kept h.entries kept × (told (take n s.list) ≡ serial (writes_in h) h.opening.records kept) }
+{}
+
+/// After any events from an open on, the history that they made is sound, and the state is what it leaves.
+pub fn events_go_on()
+    ensures { (g : Geometry) (opened : List LogRecord) (first last : State) (events : List Event) →
+        IsOpened opened first → MovesBy g first events last → IsAfter opened (after_events (opened_on opened) events) last }
+{}
+
+/// A format, and then any number of runs, each opened on what the crash before it kept: the entries that the runs made are
+/// those of a life. So what the next open shows is what nothing becomes by the committed transactions of each run in turn,
+/// of a beginning of its decisions with every acknowledged one, each running alone in their order.
+pub fn runs_are_a_life()
+    ensures { (g : Geometry) (runs : List Run) (last : List LogRecord) → AreRuns g [] runs last →
+        (spans : List Span) × (map (λ s. s.entries) spans ≡ map (λ r. made_by r.events) runs) × IsLife (opening_of []) spans (opening_of last) }
+{}

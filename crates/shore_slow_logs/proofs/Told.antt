@@ -9,7 +9,8 @@ use Rattle.shore_types.specs.declared.ids.Rid.{Rid}
 use Rattle.shore_model.specs.declared.log_records.LogRecord.{LogRecord}
 use Rattle.shore_model.specs.declared.log_records.Payload.{Payload}
 use Rattle.shore_model.specs.declared.log_records.Payload.TheVariants.{Commit}
-use Rattle.shore_model.specs.Records.{Records, WriteSet, Image, overlay, overlays}
+use Rattle.shore_model.specs.Records.{WriteSet, Image, overlay, overlays}
+use Rattle.shore_model.proofs.Overlays.{overlays-append}
 use Rattle.shore_model.specs.Logs.{image_in, logged_writes, has, is_commit, is_prepare, is_rollback, is_in_doubt, committed_in, commit_of, in_doubt_in, prepare_of, told}
 
 abbrev images_in : List LogRecord → List (Rid × Image)
@@ -64,10 +65,6 @@ none_in_doubt rs t p h =
     let after = rs ++ commit_record t p ∷ [] in
     ap (filter (λ u. is_in_doubt u after)) (filter_map-append prepare_of rs (commit_record t p ∷ []) ∙ append-nil (filter_map prepare_of rs))
     ∙ filter_none (λ u. is_in_doubt u rs) (λ u. is_in_doubt u after) (not_in_doubt rs t p) (filter_map prepare_of rs) h
-
-pub overlays-append : (R : Records) (xs ys : List WriteSet) → overlays R (xs ++ ys) ≡ overlays (overlays R xs) ys
-overlays-append R [] ys = refl
-overlays-append R (x ∷ xs) ys = overlays-append (overlay R x) xs ys
 
 pub map_push : (f : ℕ → WriteSet) (xs : List ℕ) (x : ℕ) → map f (xs ++ x ∷ []) ≡ map f xs ++ f x ∷ []
 map_push f [] x = refl

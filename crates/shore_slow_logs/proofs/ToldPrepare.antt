@@ -12,7 +12,8 @@ use Rattle.shore_model.specs.declared.log_records.Payload.{Payload}
 use Rattle.shore_model.specs.declared.log_records.Payload.TheVariants.{Prepare}
 use Rattle.shore_model.specs.Records.{overlay, overlays}
 use Rattle.shore_model.specs.Logs.{logged_writes, has, is_commit, is_prepare, is_rollback, is_in_doubt, committed_in, in_doubt_in, prepare_of, told}
-use Rattle.shore_slow_logs.proofs.Told.{logged_writes-push, overlays-append, map_push}
+use Rattle.shore_model.proofs.Overlays.{overlays-append}
+use Rattle.shore_slow_logs.proofs.Told.{logged_writes-push, map_push}
 use Rattle.shore_slow_logs.proofs.ToldSame.{AreOthers, or_none, other_or, committed-same}
 
 -- one that has no Prepare is not among the prepared

@@ -1,0 +1,67 @@
+-- Whole runs of the machine: what happens to a manager from its open to a crash, and one manager after another.
+use Rattle.std.specs.Prelude.{◌≡◌, ℕ, ◌≤◌, List, [], ◌∷◌, length, take}
+use Rattle.shore_types.specs.declared.layout.Geometry.{Geometry}
+use Rattle.shore_model.specs.declared.calls.Call.{Call}
+use Rattle.shore_model.specs.declared.histories.Entry.{Entry}
+use Rattle.shore_model.specs.declared.log_records.LogRecord.{LogRecord}
+use Rattle.shore_model.specs.Histories.{History}
+use Rattle.shore_machine.specs.declared.step.Step.{Step}
+use Rattle.shore_machine.specs.Served.{IsServed}
+use Rattle.shore_machine.specs.States.{State}
+use Rattle.shore_machine.specs.Steps.{CallStep, ResumeStep, told_durable, with_failure}
+use Rattle.shore_machine.specs.Trails.{IsOpened, KeepsDurable, after_call, after_resume, opened_on}
+
+-- what happens to a manager: a call and a resume, each with what it came to, a force that is told, and a device's failure
+pub data Event : Type 0 where
+  Called : Call → Step → Event
+  Resumed : Step → Event
+  Forced : ℕ → Event
+  HasFailed : Event
+
+-- the event may leave this
+abbrev pub Moves : Geometry → State → Event → State → Type 0
+Moves g s (Called c step) new = IsServed c × CallStep g s c step new
+Moves g s (Resumed step) new = ResumeStep s step new
+Moves g s (Forced n) new = (s.durable ≤ n) × (n ≤ length s.list) × (new ≡ told_durable n s)
+Moves g s HasFailed new = new ≡ with_failure s
+
+-- events may, one after another, leave this
+abbrev pub MovesBy : Geometry → State → List Event → State → Type 0
+MovesBy g s [] last = last ≡ s
+MovesBy g s (e ∷ events) last = (new : State) × Moves g s e new × MovesBy g new events last
+
+-- the history with what an event adds
+abbrev pub after_event : History → Event → History
+after_event h (Called c step) = after_call h 1 c step
+after_event h (Resumed step) = after_resume h 1 step
+after_event h (Forced n) = h
+after_event h HasFailed = h
+
+abbrev pub after_events : History → List Event → History
+after_events h [] = h
+after_events h (e ∷ events) = after_events (after_event h e) events
+
+-- the entries that events make, from an open on
+abbrev pub made_by : List Event → List Entry
+made_by events = (after_events (opened_on []) events).entries
+
+-- one manager from its open to a crash: the state that the open left, the events, the state that they left, and how many
+-- records of its list the crash kept
+pub record Run : Type 0 where
+  pub first : State
+  pub events : List Event
+  pub last : State
+  pub kept : ℕ
+
+-- a run of a manager that was opened on a list
+abbrev pub IsRun : Geometry → List LogRecord → Run → Type 0
+IsRun g rs r = IsOpened rs r.first × MovesBy g r.first r.events r.last × KeepsDurable r.last r.kept
+
+-- the list that a run leaves to the next open
+abbrev pub list_left : Run → List LogRecord
+list_left r = take r.kept r.last.list
+
+-- runs one after another from a list: each opens what the crash before it kept
+abbrev pub AreRuns : Geometry → List LogRecord → List Run → List LogRecord → Type 0
+AreRuns g rs [] last = last ≡ rs
+AreRuns g rs (r ∷ runs) last = IsRun g rs r × AreRuns g (list_left r) runs last
