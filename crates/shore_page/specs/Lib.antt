@@ -1,0 +1,3 @@
+pub mod Slots
+pub mod Room
+pub mod Text
