@@ -1,1 +1,3 @@
 pub mod RoomLemmas
+pub mod WritingLemmas
+pub mod SlotsWritten

@@ -1,3 +1,4 @@
 pub mod Slots
 pub mod Room
 pub mod Text
+pub mod Writing

@@ -3,5 +3,6 @@
 
 mod page;
 mod slots;
+mod writing;
 
 pub use page::Page;

@@ -3,8 +3,11 @@ ghost use Rattle.std.specs.Prelude.{◌≡◌, ◌≢◌, ◌+◌, ◌-◌, ◌*
 ghost use Rattle.std.specs.Option.{option_copied};
 ghost use Rattle.shore_page.specs.Slots.{image_len, image_at, with_change, with_image};
 ghost use Rattle.shore_page.specs.Room.{free_bytes, need, Fits, HasRoom, ChangesOne, raised, lowered};
+ghost use Rattle.shore_types.specs.declared.layout.TheConstants.{PAGE_BYTES};
+ghost use Rattle.shore_page.specs.Text.{IsPageText, images_of};
 
-use crate::slots::{Slot, image_len};
+use crate::slots::Slot;
+use crate::writing::put_page;
 use shore_types::layout::{MAX_RECORD_BYTES, PAGE_BYTES, PAGE_HEADER_BYTES, SLOT_ENTRY_BYTES};
 use shore_types::{Bytes, Lsn, PageId, Sequence};
 use std::alloc::{AllocError, Global};
@@ -162,6 +165,14 @@ impl Page {
         let claim = slot.claim();
         slot.lower(bytes);
         self.claimed -= claim - slot.claim();
+    }
+
+    /// Fills bytes with the page's text.
+    pub fn to_bytes(&self, out: &mut [u8])
+        requires { length out.old ≡ PAGE_BYTES }
+        ensures { IsPageText out.new self.now.id self.now.number (images_of self.now.slots) }
+    {
+        put_page(out, self.id, self.number, &self.slots);
     }
 
     // Puts an image into a slot, or into a new one behind the last.
