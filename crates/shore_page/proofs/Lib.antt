@@ -1,3 +1,4 @@
 pub mod RoomLemmas
 pub mod WritingLemmas
 pub mod SlotsWritten
+pub mod SlotsRead

@@ -2,6 +2,7 @@
 #![tactic(auto)]
 
 mod page;
+mod reading;
 mod slots;
 mod writing;
 

@@ -1,11 +1,12 @@
 //! A page as a map of its slots.
-ghost use Rattle.std.specs.Prelude.{◌≡◌, ◌≢◌, ◌+◌, ◌-◌, ◌*◌, ◌<◌, ◌≤◌, ◌↔◌, ℕ, [], length, slice_get, Some, None, option_map, IsTrue, OnOk, OnErr};
+ghost use Rattle.std.specs.Prelude.{◌≡◌, ◌≢◌, ◌+◌, ◌-◌, ◌*◌, ◌<◌, ◌≤◌, ◌↔◌, ℕ, [], length, slice_get, Some, None, option_map, IsTrue, OnOk, OnErr, IfOk, IfSome, List};
 ghost use Rattle.std.specs.Option.{option_copied};
-ghost use Rattle.shore_page.specs.Slots.{image_len, image_at, with_change, with_image};
+ghost use Rattle.shore_page.specs.Slots.{Image, image_len, image_at, with_change, with_image};
 ghost use Rattle.shore_page.specs.Room.{free_bytes, need, Fits, HasRoom, ChangesOne, raised, lowered};
 ghost use Rattle.shore_types.specs.declared.layout.TheConstants.{PAGE_BYTES};
-ghost use Rattle.shore_page.specs.Text.{IsPageText, images_of};
+ghost use Rattle.shore_page.specs.Text.{IsPageText, images_of, settled_page};
 
+use crate::reading::{check_slots, read_header, read_slots};
 use crate::slots::Slot;
 use crate::writing::put_page;
 use shore_types::layout::{MAX_RECORD_BYTES, PAGE_BYTES, PAGE_HEADER_BYTES, SLOT_ENTRY_BYTES};
@@ -173,6 +174,35 @@ impl Page {
         ensures { IsPageText out.new self.now.id self.now.number (images_of self.now.slots) }
     {
         put_page(out, self.id, self.number, &self.slots);
+    }
+
+    /// The page of this id whose text the bytes are; None where they are no text of it. Each slot claims what its record takes.
+    /// It takes memory for the records, and for a mark for each byte.
+    pub fn from_bytes(alloc: Global, id: PageId, bytes: &[u8]) -> Result<Option<Page>, AllocError>
+        // What is answered is a page whose text the bytes are.
+        ensures found { IfOk result (λ found. IfSome found (λ page. IsPageText bytes.now id page.number (images_of page.slots))) }
+        // Where they are a text of the page, it is found.
+        ensures only { (number : ℕ) (images : List Image) → IsPageText bytes.now id number images
+            → IfOk result (λ found. found ≡ Some (settled_page id number images)) }
+    {
+        if bytes.len() != PAGE_BYTES {
+            return Ok(None);
+        }
+        let Some(header) = read_header(&id, bytes) else {
+            return Ok(None);
+        };
+        let mut marks = Vec::from_elem(alloc, false, PAGE_ROOM - SLOT_ENTRY_BYTES * header.slots)?;
+        let Some(claimed) = check_slots(bytes, header.slots, &mut marks) else {
+            return Ok(None);
+        };
+        let slots = read_slots(alloc, bytes, header.slots)?;
+        Ok(Some(Page {
+            alloc,
+            id,
+            number: header.number,
+            slots,
+            claimed,
+        }))
     }
 
     // Puts an image into a slot, or into a new one behind the last.
