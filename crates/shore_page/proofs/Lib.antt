@@ -1,4 +1,5 @@
 pub mod RoomLemmas
+pub mod UndoLemmas
 pub mod WritingLemmas
 pub mod SlotsWritten
 pub mod SlotsRead

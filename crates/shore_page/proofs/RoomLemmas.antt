@@ -1,10 +1,10 @@
 -- What a change of one slot does to the claims and to the room of a page.
-use Rattle.std.proofs.Common.{◌≡◌, ◌≢◌, ℕ, zero, suc, ◌+◌, ◌-◌, ◌*◌, ◌<◌, ◌≤◌, max, min, nat_lt, List, [], ◌∷◌, ◌++◌, length, get_or, None, refl, sym, ap, subst, ◌∙◌, arith}
+use Rattle.std.proofs.Common.{inl, inr, ◌≡◌, ◌≢◌, ℕ, zero, suc, ◌+◌, ◌-◌, ◌*◌, ◌<◌, ◌≤◌, max, min, nat_lt, List, [], ◌∷◌, ◌++◌, length, get_or, None, refl, sym, ap, subst, ◌∙◌, arith}
 use Rattle.std.proofs.Math.ListN.{set}
-use Rattle.std.proofs.lemmas.List.{length-set, length-append}
+use Rattle.std.proofs.lemmas.List.{get_or_default, length-set, length-append}
 use Rattle.std.proofs.lemmas.List.Elements.{All-set, All-push, All-get_or}
 use Rattle.std.proofs.lemmas.List.Sums.{sum_by-set, sum_by_push}
-use Rattle.std.proofs.lemmas.Bool.{lt-ltb, le-ltb, cond-true, cond-false}
+use Rattle.std.proofs.lemmas.Bool.{cases_lt, lt-ltb, le-ltb, cond-true, cond-false}
 use Rattle.std.proofs.lemmas.Option.{slice_get_past, slice_get_read}
 use Rattle.std.specs.List.{slice_get}
 use Rattle.shore_page.specs.Slots.{Image, Slot, PageState, image_len, with_change, with_image, holding}
@@ -52,7 +52,7 @@ set_kept_less slots claimed i x y kept inside here holds falls =
       room = record { room = omega arith; each = All-set HoldsItsImage slots i y holds kept.room.each };
     }
 
-need_inside : (slots : List Slot) (i bytes : ℕ) (x : Slot) → i < length slots → x ≡ get_or slots i x → need slots i bytes ≡ bytes - x.claim
+pub need_inside : (slots : List Slot) (i bytes : ℕ) (x : Slot) → i < length slots → x ≡ get_or slots i x → need slots i bytes ≡ bytes - x.claim
 need_inside slots i bytes x inside here =
     let claim = claim_is slots i x inside here in
     rw (lt-ltb i (length slots) inside) (omega arith)
@@ -67,7 +67,8 @@ hold_kept slots claimed i image x y kept inside here is fits =
     let claim : y.claim ≡ max x.claim (image_len image) = ap (λ (s : Slot). s.claim) is in
     let held : image_len y.image ≡ image_len image = ap (λ (s : Slot). image_len s.image) is in
     let room : image_len image - x.claim ≤ free_bytes slots = omega (arith, need_inside slots i (image_len image) x inside here, fits.room) in
-    set_kept slots claimed i x y kept inside here (omega arith, omega (arith, fits.most)) (omega arith) (omega arith)
+    let old : HoldsItsImage x = subst HoldsItsImage (sym here) (All-get_or HoldsItsImage slots i x inside kept.room.each) in
+    set_kept slots claimed i x y kept inside here (omega arith, omega (arith, fits.most, old.1)) (omega arith) (omega arith)
 
 pub hold_one : (slots : List Slot) (claimed i : ℕ) (image : Image) (x y : Slot) → IsKept slots claimed → i < length slots → x ≡ get_or slots i x → y ≡ holding image x
     → Fits slots i (image_len image) → ChangesOne slots (set slots i y) i (image_len image)
@@ -157,3 +158,20 @@ lower_kept slots claimed i bytes x y kept inside here is =
     let held : image_len y.image ≡ image_len x.image = ap (λ (s : Slot). image_len s.image) is in
     let old : HoldsItsImage x = subst HoldsItsImage (sym here) (All-get_or HoldsItsImage slots i x inside kept.room.each) in
     set_kept_less slots claimed i x y kept inside here (omega (arith, old.0), omega (arith, old.1)) (omega arith)
+
+-- a page with an image that fits has room again
+pub with_image_room : (slots : List Slot) (i : ℕ) (image : Image) → HasRoom slots → Fits slots i (image_len image) → HasRoom (with_image slots i image)
+with_image_room slots i image room fits = elim (cases_lt i (length slots)) [
+  | inl inside ↦
+      let x = get_or slots i nothing in
+      let here : x ≡ get_or slots i x = get_or_default slots i nothing x inside in
+      subst HasRoom (hold_is slots i image x (holding image x) inside here refl) (hold_kept slots (claims slots) i image x (holding image x) kept inside here refl fits).room
+  | inr behind ↦
+      subst HasRoom (push_is slots i image _ behind refl) (push_kept slots (claims slots) i image _ kept behind refl fits).room
+]
+  where
+    nothing : Slot
+    nothing = record { image = None; claim = 0 }
+
+    kept : IsKept slots (claims slots)
+    kept = record { sum = refl; room = room }

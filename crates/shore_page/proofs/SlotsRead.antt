@@ -11,9 +11,9 @@ use Rattle.std.proofs.lemmas.Option.{slice_get-get_or, slice_get_within, get_or_
 use Rattle.std.specs.Prelude.{unwrap_or}
 use Rattle.std.specs.List.{between, sum_by}
 use Rattle.shore_types.specs.declared.ids.PageId.{PageId}
-use Rattle.shore_page.specs.Slots.{Image, Slot, image_len}
+use Rattle.shore_page.specs.Slots.{settled, Image, Slot, image_len}
 use Rattle.shore_page.specs.Room.{claims, HoldsItsImage, IsKept}
-use Rattle.shore_page.specs.Text.{table_of, offset_at, length_at, HasHeader, HasSlot, Covers, IsPageText, images_of, settled}
+use Rattle.shore_page.specs.Text.{table_of, offset_at, length_at, HasHeader, HasSlot, Covers, IsPageText, images_of}
 use Rattle.shore_page.specs.Reading.{IsEntry, IsTable, slot_image, images_in, marked, Marks, IsTaken}
 
 -- The first slots are in order, no two of their records overlap, and just their bytes are marked.

@@ -21,15 +21,15 @@ claim_at slots slot = option_map_or (λ s. s.claim) (slice_get slots slot) 0
 abbrev pub need : List Slot → ℕ → ℕ → ℕ
 need slots slot bytes = (bytes - claim_at slots slot) + (if nat_lt slot (length slots) then 0 else 4)
 
--- a slot, or the one behind the last, may have this many bytes
+-- A slot, or the one behind the last, may have this many bytes. A page of MAX_SLOTS slots has no free byte left, so none is new then.
 pub record Fits (slots : List Slot) (slot bytes : ℕ) : Type 0 where
   pub there : slot ≤ length slots
   pub most : bytes ≤ MAX_RECORD_BYTES
   pub room : need slots slot bytes ≤ free_bytes slots
 
--- each record is no longer than its slot's claim, and than any record may be
+-- a slot claims as many bytes as its record has at least, and as any record may have at most
 abbrev pub HoldsItsImage : Slot → Type 0
-HoldsItsImage s = (image_len s.image ≤ s.claim) × (image_len s.image ≤ MAX_RECORD_BYTES)
+HoldsItsImage s = (image_len s.image ≤ s.claim) × (s.claim ≤ MAX_RECORD_BYTES)
 
 -- what is true of each page: its entries and claims are in the page, so that nothing is taken off too little in `free_bytes`
 pub record HasRoom (slots : List Slot) : Type 0 where

@@ -37,8 +37,12 @@ with_change f (x ∷ rest) (suc place) = x ∷ with_change f rest place
 abbrev pub holding : Image → Slot → Slot
 holding image s = record { image = image; claim = max s.claim (image_len image) }
 
+-- a slot that claims what its record takes
+abbrev pub settled : Image → Slot
+settled image = record { image = image; claim = image_len image }
+
 -- the image put into a slot, or into a new one behind the last
 abbrev pub with_image : List Slot → ℕ → Image → List Slot
 with_image slots slot image = if nat_lt slot (length slots)
     then with_change (holding image) slots slot
-    else slots ++ record { image = image; claim = image_len image } ∷ []
+    else slots ++ settled image ∷ []

@@ -4,7 +4,7 @@ use Rattle.std.specs.List.{between}
 use Rattle.byteorder.specs.Endian.{little_number}
 use Rattle.shore_types.specs.declared.ids.PageId.{PageId}
 use Rattle.shore_types.specs.declared.layout.TheConstants.{PAGE_BYTES, MAX_RECORD_BYTES, MAX_SLOTS}
-use Rattle.shore_page.specs.Slots.{Image, Slot, PageState, image_len}
+use Rattle.shore_page.specs.Slots.{Image, Slot, PageState, settled}
 
 -- the number of so many bytes at a place, the lowest byte first
 abbrev pub number_at : List ℕ → ℕ → ℕ → ℕ
@@ -58,10 +58,6 @@ pub record IsPageText (bytes : List ℕ) (id : PageId) (number : ℕ) (images : 
 -- what stands in the slots, without the claims
 abbrev pub images_of : List Slot → List Image
 images_of slots = map (λ s. s.image) slots
-
--- a slot that claims what its record takes
-abbrev pub settled : Image → Slot
-settled image = record { image = image; claim = image_len image }
 
 -- a page whose slots claim what their records take
 abbrev pub settled_page : PageId → ℕ → List Image → PageState

@@ -3,7 +3,7 @@ ghost use Rattle.std.specs.Prelude.{◌≡◌, ◌≢◌, ◌+◌, ◌-◌, ◌*
 ghost use Rattle.std.specs.Option.{option_copied};
 ghost use Rattle.shore_page.specs.Slots.{Image, image_len, image_at, with_change, with_image};
 ghost use Rattle.shore_page.specs.Room.{free_bytes, need, Fits, HasRoom, ChangesOne, raised, lowered};
-ghost use Rattle.shore_types.specs.declared.layout.TheConstants.{PAGE_BYTES};
+ghost use Rattle.shore_types.specs.declared.layout.TheConstants.{PAGE_BYTES, MAX_SLOTS};
 ghost use Rattle.shore_page.specs.Text.{IsPageText, images_of, settled_page};
 
 use crate::reading::{check_slots, read_header, read_slots};
@@ -20,7 +20,7 @@ const PAGE_ROOM: usize = PAGE_BYTES - PAGE_HEADER_BYTES;
 /// A page: its id, the number of the last change that was logged for it, and its slots. A slot has a record or none, and
 /// a claim, the bytes of the page that are kept for it: never fewer than its record has, and more where a change that is not
 /// decided yet may be undone. A slot number never goes away.
-#[derive(Drop)]
+#[derive(Debug, Drop)]
 pub struct Page {
     alloc: Global,
     id: PageId,
@@ -70,10 +70,11 @@ impl Page {
     }
 
     /// How many slots there are, empty ones too.
-    pub fn slot_count(&self) -> usize
-        ensures { result ≡ length self.now.slots }
+    pub fn slot_count(&self) -> u16
+        ensures count { result ≡ length self.now.slots }
+        ensures most { result ≤ MAX_SLOTS }
     {
-        self.slots.len()
+        self.slots.len() as u16
     }
 
     /// The record in a slot; None in an empty slot, and where there is no such slot.

@@ -2,8 +2,8 @@
 ghost use Rattle.std.specs.Prelude.{◌≡◌, ◌+◌, ◌-◌, ◌*◌, ◌<◌, ◌≤◌, ◌↔◌, ℕ, false, length, map, replicate, sum, Some, None, IsTrue, IsSome, IfSome, IfOk};
 ghost use Rattle.std.specs.List.{sum_by};
 ghost use Rattle.shore_types.specs.declared.layout.TheConstants.{MAX_SLOTS};
-ghost use Rattle.shore_page.specs.Slots.{image_len};
-ghost use Rattle.shore_page.specs.Text.{number_at, table_of, offset_at, length_at, HasHeader, settled};
+ghost use Rattle.shore_page.specs.Slots.{settled, image_len};
+ghost use Rattle.shore_page.specs.Text.{number_at, table_of, offset_at, length_at, HasHeader};
 ghost use Rattle.shore_page.specs.Reading.{Lies, IsEntry, IsTable, slot_image, images_in, Marks, IsTaken};
 
 use crate::slots::Slot;

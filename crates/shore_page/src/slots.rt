@@ -1,12 +1,12 @@
 //! One slot of a page.
 ghost use Rattle.std.specs.Prelude.{◌≡◌, option_map};
-ghost use Rattle.shore_page.specs.Slots.{image_len, holding};
+ghost use Rattle.shore_page.specs.Slots.{image_len, settled, holding};
 ghost use Rattle.shore_page.specs.Room.{raised, lowered};
 
 use shore_types::Bytes;
 use std::marker::Model;
 
-#[derive(Drop)]
+#[derive(Debug, Drop)]
 pub struct Slot {
     image: Option<Bytes>,
     claim: usize,
@@ -33,7 +33,7 @@ pub fn image_len(image: &Option<Bytes>) -> usize
 impl Slot {
     /// A slot that claims what its record takes.
     pub fn of(image: Option<Bytes>) -> Slot
-        ensures { result ≡ record { image = image; claim = image_len image } }
+        ensures { result ≡ settled image }
     {
         let claim = image_len(&image);
         Slot { image, claim }

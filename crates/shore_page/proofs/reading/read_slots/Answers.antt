@@ -1,6 +1,6 @@
 use Rattle.std.proofs.Common.{◌++◌, ◌∷◌, [], List, map, sym, ap, ◌∙◌}
 use Rattle.shore_page.specs.Slots.{Slot}
-use Rattle.shore_page.specs.Text.{settled}
+use Rattle.shore_page.specs.Slots.{settled}
 use Rattle.shore_page.specs.Reading.{images_in}
 use Rattle.shore_page.proofs.SlotsRead.{images_more}
 use Rattle.shore_page.proofs.reading.read_slots.Goals as goal

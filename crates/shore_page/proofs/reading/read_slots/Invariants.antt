@@ -1,5 +1,5 @@
 use Rattle.std.proofs.Common.{◌≡◌, map}
-use Rattle.shore_page.specs.Text.{settled}
+use Rattle.shore_page.specs.Slots.{settled}
 use Rattle.shore_page.specs.Reading.{images_in}
 use Rattle.shore_page.proofs.reading.read_slots.Given as goal
 
