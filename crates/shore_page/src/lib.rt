@@ -5,6 +5,8 @@ pub mod laws;
 mod page;
 mod reading;
 mod slots;
+#[cfg(test)]
+mod tests;
 mod writing;
 
 pub use page::Page;
