@@ -1,7 +1,9 @@
-//! Laws of claims, as functions that do nothing: why no undo lacks room on its page.
+//! Laws, as functions that do nothing: why no undo lacks room on its page, and that bytes are read in one way.
 ghost use Rattle.std.specs.Prelude.{◌≡◌, List, ℕ, ◌∷◌, Some, slice_get};
 ghost use Rattle.shore_page.specs.Slots.{Image, image_len, with_change, with_image};
 ghost use Rattle.shore_page.specs.Room.{Fits, HasRoom, lowered};
+ghost use Rattle.shore_types.specs.declared.ids.PageId.{PageId};
+ghost use Rattle.shore_page.specs.Text.{IsPageText};
 ghost use Rattle.shore_page.specs.Undo.{Undecided, longest, claiming_all, with_undecided, undoing, deciding, UndoFits};
 
 /// Where a change fits, every undo of undecided changes fits after it, in whatever order the slots are taken.
@@ -30,4 +32,10 @@ pub fn undo_keeps_claims()
 pub fn decision_keeps_claims()
     ensures { (slots : List Undecided) (slot : ℕ)
         → with_change (lowered 0) (claiming_all slots) slot ≡ claiming_all (with_change deciding slots slot) }
+{}
+
+/// Bytes are the text of one page at most.
+pub fn text_is_of_one_page()
+    ensures { (bytes : List ℕ) (a b : PageId) (m n : ℕ) (images others : List Image)
+        → IsPageText bytes a m images → IsPageText bytes b n others → (a ≡ b) × (m ≡ n) × (images ≡ others) }
 {}
