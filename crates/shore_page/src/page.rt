@@ -87,7 +87,7 @@ impl Page {
     /// The bytes that are neither in the slot table nor claimed by a slot.
     pub fn free_bytes(&self) -> usize
         ensures free { result ≡ free_bytes self.now.slots }
-        ensures kept { HasRoom self.now.slots }
+        ensures room { HasRoom self.now.slots }
     {
         PAGE_ROOM - SLOT_ENTRY_BYTES * self.slots.len() - self.claimed
     }
@@ -110,7 +110,8 @@ impl Page {
     /// Puts a record into a slot, or into a new one behind the last. What was kept for the slot stays so.
     pub fn put(&mut self, slot: u16, bytes: &[u8]) -> Result<(), AllocError>
         requires { Fits self.old.slots slot (length bytes.now) }
-        ensures ok { OnOk result (self.new ≡ record self.old { slots = with_image self.old.slots slot (Some bytes.now) }) }
+        ensures ok { OnOk result
+            (self.new ≡ record self.old { slots = with_image self.old.slots slot (Some bytes.now) }) }
         ensures one { OnOk result (ChangesOne self.old.slots self.new.slots slot (length bytes.now)) }
         ensures err { OnErr result (self.new ≡ self.old) }
     {
@@ -181,7 +182,8 @@ impl Page {
     /// It takes memory for the records, and for a mark for each byte.
     pub fn from_bytes(alloc: Global, id: PageId, bytes: &[u8]) -> Result<Option<Page>, AllocError>
         // What is answered is a page whose text the bytes are.
-        ensures found { IfOk result (λ found. IfSome found (λ page. IsPageText bytes.now id page.number (images_of page.slots))) }
+        ensures found { IfOk result (λ found. IfSome found (λ page.
+            IsPageText bytes.now id page.number (images_of page.slots))) }
         // Where they are a text of the page, it is found.
         ensures only { (number : ℕ) (images : List Image) → IsPageText bytes.now id number images
             → IfOk result (λ found. found ≡ Some (settled_page id number images)) }

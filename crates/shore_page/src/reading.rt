@@ -48,7 +48,8 @@ pub struct Header {
 pub fn read_header(id: &PageId, bytes: &[u8]) -> Option<Header>
     requires { length bytes.now ≡ 8192 }
     ensures found { IfSome result (λ header. HasHeader bytes.now id.now header.number header.slots) }
-    ensures only { (number slots : ℕ) → HasHeader bytes.now id.now number slots → result ≡ Some record { number = number; slots = slots } }
+    ensures only { (number slots : ℕ) → HasHeader bytes.now id.now number slots
+        → result ≡ Some record { number = number; slots = slots } }
 {
     if u32_at(bytes, 0) != id.store.0 || u32_at(bytes, 4) != id.page || u32_at(bytes, 20) != 0 {
         return None;
@@ -119,8 +120,10 @@ fn take_entry(entry: Entry, table: usize, marks: &mut [bool]) -> bool
     requires small { entry.offset + entry.bytes < 131072 }
     requires marks { 24 + length marks.old ≡ table }
     ensures entry { IsTrue result → IsEntry table entry.offset entry.bytes }
-    ensures free { IsTrue result → Marks marks.old marks.new (entry.offset - 24) (entry.offset - 24 + entry.bytes) }
-    ensures taken { result ≡ false → IsEntry table entry.offset entry.bytes → IsTaken marks.old (entry.offset - 24) (entry.offset - 24 + entry.bytes) }
+    ensures free { let from = entry.offset - 24 in
+        IsTrue result → Marks marks.old marks.new from (from + entry.bytes) }
+    ensures taken { let from = entry.offset - 24 in result ≡ false
+        → IsEntry table entry.offset entry.bytes → IsTaken marks.old from (from + entry.bytes) }
     ensures len { length marks.new ≡ length marks.old }
 {
     if entry.offset == 0 && entry.bytes == 0 {
