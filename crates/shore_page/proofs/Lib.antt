@@ -3,3 +3,4 @@ pub mod UndoLemmas
 pub mod WritingLemmas
 pub mod SlotsWritten
 pub mod SlotsRead
+pub mod MarkLemmas

@@ -105,12 +105,11 @@ fn mark(marks: &mut [bool], from: usize, to: usize) -> bool
     ensures taken { result ≡ false → IsTaken marks.old from to }
     ensures len { length marks.new ≡ length marks.old }
 {
-    for place in from..to {
-        if marks[place] {
-            return false;
-        }
-        marks[place] = true;
+    let part = &mut marks[from..to];
+    if part.contains(&true) {
+        return false;
     }
+    part.fill(true);
     true
 }
 
