@@ -1,9 +1,8 @@
 -- The slots of a page's text that are read so far.
-use Rattle.std.proofs.Common.{◌≡◌, ℕ, zero, suc, ◌+◌, ◌-◌, ◌*◌, ◌<◌, ◌≤◌, inl, inr, Bool, true, false, cond, List, [], ◌∷◌, ◌++◌, length, get_or, map, replicate, Option, Some, None, refl, sym, ap, subst, ◌∙◌, arith}
-use Rattle.std.proofs.lemmas.List.{length-replicate, length-map, map_push, ext_get_or, get_or-map}
+use Rattle.std.proofs.Common.{◌≡◌, ℕ, ◌+◌, ◌-◌, ◌*◌, ◌<◌, ◌≤◌, inl, inr, Bool, true, false, List, [], ◌∷◌, ◌++◌, length, get_or, map, Option, Some, None, refl, sym, ap, subst, ◌∙◌, arith}
+use Rattle.std.proofs.lemmas.List.{length-map, map_push, ext_get_or, get_or-map}
 use Rattle.std.proofs.lemmas.List.Edits.{length-between}
-use Rattle.std.proofs.lemmas.List.Sums.{count_by-le-length, sum_by-cons}
-use Rattle.std.proofs.lemmas.List.Folds.{sum_by-replicate}
+use Rattle.std.proofs.lemmas.List.Sums.{sum_by-cons}
 use Rattle.std.proofs.lemmas.List.FromFn.{sum_by-map-range_with_len_more, map-range_with_len_more, length-map-range_with_len, get_or-map-range_with_len}
 use Rattle.std.proofs.lemmas.Bool.{cases_lt, ne_eqb, eq-eqb}
 use Rattle.std.proofs.lemmas.List.Elements.{All-from_get_or}
@@ -25,25 +24,6 @@ pub record Checked (bytes : List ℕ) (slots : ℕ) (marks : List Bool) (i taken
   pub owned : (place : ℕ) → get_or marks place false ≡ true → (j : ℕ) × (j < i) × Covers bytes j (24 + place)
   pub count : marked marks ≡ taken
   pub sum : taken ≡ sum_by image_len (images_in bytes i)
-
-pub checked_none : (bytes : List ℕ) (slots : ℕ) (marks : List Bool) → slots ≤ 2042 → marks ≡ replicate (8168 - 4 * slots) false → Checked bytes slots marks 0 0
-checked_none bytes slots marks few clear = record {
-  len = omega (arith, ap (λ (m : List Bool). length m) clear, length-replicate (8168 - 4 * slots) false);
-  each = λ j none. absurd (omega arith);
-  apart = λ a b place none. absurd (omega arith);
-  covered = λ j place none. absurd (omega arith);
-  owned = λ place here. absurd (no_mark (8168 - 4 * slots) place (ap (λ (m : List Bool). get_or m place false) (sym clear) ∙ here));
-  count = ap marked clear ∙ sum_by-replicate (λ (m : Bool). cond m 1 0) (8168 - 4 * slots) false ∙ zeros (8168 - 4 * slots);
-  sum = refl;
-}
-  where
-    no_mark : (n place : ℕ) → get_or (replicate n false) place false ≡ true → ⊥
-    no_mark zero place here = cc
-    no_mark (suc n) zero here = cc
-    no_mark (suc n) (suc place) here = no_mark n place here
-
-    zeros : (n : ℕ) → n * 0 ≡ 0
-    zeros n = omega arith
 
 added_less : (a b : ℕ) → a + b - a ≡ b
 added_less a b = omega arith
@@ -150,10 +130,6 @@ checked_all bytes slots marks i taken so_far reached inside = record {
   each = λ slot before. so_far.each slot (omega arith);
   apart = λ a b place before_a before_b. so_far.apart a b place (omega arith) (omega arith);
 }
-
--- as many bytes as are marked have room
-pub checked_room : (bytes : List ℕ) (slots : ℕ) (marks : List Bool) (i taken : ℕ) → slots ≤ 2042 → Checked bytes slots marks i taken → 4 * slots + taken ≤ 8168
-checked_room bytes slots marks i taken few so_far = omega (arith, so_far.len, so_far.count, count_by-le-length (λ (m : Bool). m) marks)
 
 -- ---- the images that a slot table names
 
