@@ -1,11 +1,14 @@
 -- What a change of one slot does to the claims and to the room of a page.
-use Rattle.std.proofs.Common.{inl, inr, ◌≡◌, ◌≢◌, ℕ, zero, suc, ◌+◌, ◌-◌, ◌*◌, ◌<◌, ◌≤◌, max, min, nat_lt, List, [], ◌∷◌, ◌++◌, length, get_or, None, refl, sym, ap, subst, ◌∙◌, arith}
+use Rattle.std.proofs.Common.{Option, Some, inl, inr, ◌≡◌, ◌≢◌, ℕ, zero, suc, ◌+◌, ◌-◌, ◌*◌, ◌<◌, ◌≤◌, max, min, nat_lt, List, [], ◌∷◌, ◌++◌, length, get_or, None, refl, sym, ap, subst, ◌∙◌, arith}
 use Rattle.std.proofs.Math.ListN.{set}
 use Rattle.std.proofs.lemmas.List.{get_or_default, length-set, length-append}
 use Rattle.std.proofs.lemmas.List.Elements.{All-set, All-push, All-get_or}
 use Rattle.std.proofs.lemmas.List.Sums.{sum_by-set, sum_by_push}
 use Rattle.std.proofs.lemmas.Bool.{cases_lt, lt-ltb, le-ltb, cond-true, cond-false}
 use Rattle.std.proofs.lemmas.Option.{slice_get_past, slice_get_read}
+use Rattle.std.specs.Option.{option_and_then, option_map_or}
+use Rattle.std.proofs.lemmas.List.{get_or_push, get_or-set_same}
+use Rattle.std.proofs.lemmas.Option.{slice_get-get_or}
 use Rattle.std.specs.List.{slice_get}
 use Rattle.shore_page.specs.Slots.{Image, Slot, PageState, image_len, with_change, with_image, holding}
 use Rattle.shore_page.specs.Room.{claims, claim_at, free_bytes, need, Fits, HasRoom, HoldsItsImage, IsKept, ChangesOne, raised, lowered}
@@ -71,7 +74,7 @@ hold_kept slots claimed i image x y kept inside here is fits =
     set_kept slots claimed i x y kept inside here (omega arith, omega (arith, fits.most, old.1)) (omega arith) (omega arith)
 
 pub hold_one : (slots : List Slot) (claimed i : ℕ) (image : Image) (x y : Slot) → IsKept slots claimed → i < length slots → x ≡ get_or slots i x → y ≡ holding image x
-    → Fits slots i (image_len image) → ChangesOne slots (set slots i y) i (image_len image)
+    → Fits slots i (image_len image) → ChangesOne slots (set slots i y) i image
 hold_one slots claimed i image x y kept inside here is fits =
     let claim : y.claim ≡ max x.claim (image_len image) = ap (λ (s : Slot). s.claim) is in
     let total = claims-set slots i x y inside here in
@@ -79,7 +82,15 @@ hold_one slots claimed i image x y kept inside here is fits =
     let new_free = free_is (set slots i y) (hold_kept slots claimed i image x y kept inside here is fits).room in
     let need_is = need_inside slots i (image_len image) x inside here in
     let len : length (set slots i y) ≡ length slots = length-set slots i y in
-    record { others = set_others slots i y; stay = omega arith; taken = omega arith }
+    let there : slice_get (set slots i y) i ≡ Some y = slice_get-get_or (set slots i y) i y (omega arith) ∙ ap (λ (s : Slot). Some s) (get_or-set_same slots i y y inside) in
+    let old_claim = claim_is slots i x inside here in
+    record {
+      here = ap (λ (o : Option Slot). option_and_then (λ (s : Slot). s.image) o) there ∙ ap (λ (s : Slot). s.image) is;
+      claim = ap (λ (o : Option Slot). option_map_or (λ (s : Slot). s.claim) o 0) there ∙ claim ∙ ap (λ (n : ℕ). max n (image_len image)) (sym old_claim);
+      others = set_others slots i y;
+      stay = omega arith;
+      taken = omega arith;
+    }
   where
     set_others : (slots : List Slot) (i : ℕ) (y : Slot) (other : ℕ) → other ≢ i → slice_get (set slots i y) other ≡ slice_get slots other
     set_others [] i y other apart = refl
@@ -104,7 +115,7 @@ push_kept slots claimed i image y kept behind is fits =
     }
 
 pub push_one : (slots : List Slot) (claimed i : ℕ) (image : Image) (y : Slot) → IsKept slots claimed → length slots ≤ i → y ≡ record { image = image; claim = image_len image }
-    → Fits slots i (image_len image) → ChangesOne slots (slots ++ y ∷ []) i (image_len image)
+    → Fits slots i (image_len image) → ChangesOne slots (slots ++ y ∷ []) i image
 push_one slots claimed i image y kept behind is fits =
     let claim : y.claim ≡ image_len image = ap (λ (s : Slot). s.claim) is in
     let total : claims (slots ++ y ∷ []) ≡ claims slots + y.claim = sum_by_push (λ (s : Slot). s.claim) slots y in
@@ -113,8 +124,21 @@ push_one slots claimed i image y kept behind is fits =
     let new_free = free_is (slots ++ y ∷ []) (push_kept slots claimed i image y kept behind is fits).room in
     let need_is = need_behind slots i (image_len image) behind in
     let last : i ≡ length slots = omega (arith, fits.there) in
-    record { others = λ other apart. push_others slots y other (λ (e : other ≡ length slots). apart (e ∙ sym last)); stay = omega arith; taken = omega arith }
+    let there : slice_get (slots ++ y ∷ []) i ≡ Some y = slice_get-get_or (slots ++ y ∷ []) i y (omega arith) ∙ ap (λ (s : Slot). Some s) (get_or_push slots y y i (sym last)) in
+    record {
+      here = ap (λ (o : Option Slot). option_and_then (λ (s : Slot). s.image) o) there ∙ ap (λ (s : Slot). s.image) is;
+      claim = ap (λ (o : Option Slot). option_map_or (λ (s : Slot). s.claim) o 0) there ∙ claim ∙ none (image_len image) ∙ ap (λ (n : ℕ). max n (image_len image)) (sym no_claim);
+      others = λ other apart. push_others slots y other (λ (e : other ≡ length slots). apart (e ∙ sym last));
+      stay = omega arith;
+      taken = omega arith;
+    }
   where
+    none : (n : ℕ) → n ≡ max 0 n
+    none n = omega arith
+
+    no_claim : claim_at slots i ≡ 0
+    no_claim = ap (λ (o : Option Slot). option_map_or (λ (s : Slot). s.claim) o 0) (slice_get_past slots i behind)
+
     push_others : (slots : List Slot) (y : Slot) (other : ℕ) → other ≢ length slots → slice_get (slots ++ y ∷ []) other ≡ slice_get slots other
     push_others [] y zero apart = absurd (apart refl)
     push_others [] y (suc other) apart = refl

@@ -3,7 +3,7 @@ use Rattle.std.specs.Prelude.{◌≡◌, ◌≢◌, ℕ, ◌+◌, ◌-◌, ◌*�
 use Rattle.std.specs.List.{sum_by}
 use Rattle.std.specs.Option.{option_map_or}
 use Rattle.shore_types.specs.declared.layout.TheConstants.{MAX_RECORD_BYTES}
-use Rattle.shore_page.specs.Slots.{Slot, image_len}
+use Rattle.shore_page.specs.Slots.{Image, Slot, image_len, image_at}
 
 -- the bytes that the slots keep together
 abbrev pub claims : List Slot → ℕ
@@ -49,9 +49,11 @@ pub record IsKept (slots : List Slot) (claimed : ℕ) : Type 0 where
   pub sum : claimed ≡ claims slots
   pub room : HasRoom slots
 
--- One slot changed, to an image of so many bytes: every other stands as it stood, none went away, and the free bytes lost what was
--- needed.
-pub record ChangesOne (old new : List Slot) (slot bytes : ℕ) : Type 0 where
+-- One slot changed: an image stands there, and the slot keeps what it claimed, or what the image takes. Every other slot stands as it
+-- stood, none went away, and the free bytes lost what was needed.
+pub record ChangesOne (old new : List Slot) (slot : ℕ) (image : Image) : Type 0 where
+  pub here : image_at new slot ≡ image
+  pub claim : claim_at new slot ≡ max (claim_at old slot) (image_len image)
   pub others : (other : ℕ) → other ≢ slot → slice_get new other ≡ slice_get old other
   pub stay : length old ≤ length new
-  pub taken : free_bytes new + need old slot bytes ≡ free_bytes old
+  pub taken : free_bytes new + need old slot (image_len image) ≡ free_bytes old

@@ -112,7 +112,7 @@ impl Page {
         requires { Fits self.old.slots slot (length bytes.now) }
         ensures ok { OnOk result
             (self.new ≡ record self.old { slots = with_image self.old.slots slot (Some bytes.now) }) }
-        ensures one { OnOk result (ChangesOne self.old.slots self.new.slots slot (length bytes.now)) }
+        ensures one { OnOk result (ChangesOne self.old.slots self.new.slots slot (Some bytes.now)) }
         ensures err { OnErr result (self.new ≡ self.old) }
     {
         let bytes = Sequence::from_vec(Vec::from_slice(self.alloc, bytes)?);
@@ -123,7 +123,7 @@ impl Page {
     pub fn remove(&mut self, slot: u16)
         requires { slot < length self.old.slots }
         ensures removed { self.new ≡ record self.old { slots = with_image self.old.slots slot None } }
-        ensures one { ChangesOne self.old.slots self.new.slots slot 0 }
+        ensures one { ChangesOne self.old.slots self.new.slots slot None }
     {
         self.slots[slot as usize].hold(None);
     }
@@ -134,7 +134,7 @@ impl Page {
         ensures ok { let after = option_map (λ bytes. bytes.now) after.entry in
             OnOk result (self.new ≡ record self.old { number = lsn; slots = with_image self.old.slots slot after }) }
         ensures one { let after = option_map (λ bytes. bytes.now) after.entry in
-            OnOk result (ChangesOne self.old.slots self.new.slots slot (image_len after)) }
+            OnOk result (ChangesOne self.old.slots self.new.slots slot after) }
         ensures err { OnErr result (self.new ≡ self.old) }
     {
         let after = match after {
@@ -212,7 +212,7 @@ impl Page {
     fn set(&mut self, slot: u16, image: Option<Bytes>) -> Result<(), AllocError>
         requires { Fits self.old.slots slot (image_len image) }
         ensures ok { OnOk result (self.new ≡ record self.old { slots = with_image self.old.slots slot image }) }
-        ensures one { OnOk result (ChangesOne self.old.slots self.new.slots slot (image_len image)) }
+        ensures one { OnOk result (ChangesOne self.old.slots self.new.slots slot image) }
         ensures err { OnErr result (self.new ≡ self.old) }
     {
         let index = slot as usize;
