@@ -1,14 +1,12 @@
 -- What a change of one slot does to the claims and to the room of a page.
-use Rattle.std.proofs.Common.{Option, Some, inl, inr, ◌≡◌, ◌≢◌, ℕ, zero, suc, ◌+◌, ◌-◌, ◌*◌, ◌<◌, ◌≤◌, max, min, nat_lt, List, [], ◌∷◌, ◌++◌, length, get_or, None, refl, sym, ap, subst, ◌∙◌, arith}
+use Rattle.std.proofs.Common.{◌≡◌, ◌≢◌, ℕ, zero, suc, ◌+◌, ◌-◌, ◌*◌, ◌<◌, ◌≤◌, max, min, nat_lt, inl, inr, List, [], ◌∷◌, ◌++◌, length, get_or, Option, Some, None, refl, sym, ap, subst, ◌∙◌, arith}
 use Rattle.std.proofs.Math.ListN.{set}
-use Rattle.std.proofs.lemmas.List.{get_or_default, length-set, length-append}
+use Rattle.std.proofs.lemmas.List.{get_or_default, get_or_push, get_or-set_same, length-set, length-append}
 use Rattle.std.proofs.lemmas.List.Elements.{All-set, All-push, All-get_or}
 use Rattle.std.proofs.lemmas.List.Sums.{sum_by-set, sum_by_push}
 use Rattle.std.proofs.lemmas.Bool.{cases_lt, lt-ltb, le-ltb, cond-true, cond-false}
-use Rattle.std.proofs.lemmas.Option.{slice_get_past, slice_get_read}
+use Rattle.std.proofs.lemmas.Option.{slice_get_past, slice_get_read, slice_get-get_or}
 use Rattle.std.specs.Option.{option_and_then, option_map_or}
-use Rattle.std.proofs.lemmas.List.{get_or_push, get_or-set_same}
-use Rattle.std.proofs.lemmas.Option.{slice_get-get_or}
 use Rattle.std.specs.List.{slice_get}
 use Rattle.shore_page.specs.Slots.{Image, Slot, PageState, image_len, with_change, with_image, holding}
 use Rattle.shore_page.specs.Room.{claims, claim_at, free_bytes, need, Fits, HasRoom, HoldsItsImage, IsKept, ChangesOne, raised, lowered}
