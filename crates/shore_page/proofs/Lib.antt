@@ -1,0 +1,6 @@
+pub mod RoomLemmas
+pub mod UndoLemmas
+pub mod WritingLemmas
+pub mod SlotsWritten
+pub mod SlotsRead
+pub mod MarkLemmas

@@ -1,0 +1,239 @@
+-- The slots of a page's text that are read so far.
+use Rattle.std.proofs.Common.{◌≡◌, ℕ, ◌+◌, ◌-◌, ◌*◌, ◌<◌, ◌≤◌, inl, inr, Bool, true, false, List, [], ◌∷◌, ◌++◌, length, get_or, map, Option, Some, None, refl, sym, ap, subst, ◌∙◌, arith}
+use Rattle.std.proofs.lemmas.List.{length-map, map_push, ext_get_or, get_or-map}
+use Rattle.std.proofs.lemmas.List.Edits.{length-between}
+use Rattle.std.proofs.lemmas.List.Sums.{sum_by-cons}
+use Rattle.std.proofs.lemmas.List.FromFn.{sum_by-map-range_with_len_more, map-range_with_len_more, length-map-range_with_len, get_or-map-range_with_len}
+use Rattle.std.proofs.lemmas.Bool.{cases_lt, ne_eqb, eq-eqb}
+use Rattle.std.proofs.lemmas.List.Elements.{All-from_get_or}
+use Rattle.std.proofs.lemmas.Option.{slice_get-get_or, slice_get_within, get_or_from_slice_get}
+use Rattle.std.specs.Prelude.{unwrap_or}
+use Rattle.std.specs.List.{between, sum_by}
+use Rattle.shore_types.specs.declared.ids.PageId.{PageId}
+use Rattle.shore_page.specs.Slots.{settled, Image, Slot, image_len}
+use Rattle.shore_page.specs.Room.{claims, HoldsItsImage, IsKept}
+use Rattle.shore_page.specs.Text.{table_of, offset_at, length_at, HasHeader, HasSlot, Covers, IsPageText, images_of}
+use Rattle.shore_page.specs.Reading.{IsEntry, IsTable, slot_image, images_in, marked, Marks, IsTaken}
+
+-- The first slots are in order, no two of their records overlap, and just their bytes are marked.
+pub record Checked (bytes : List ℕ) (slots : ℕ) (marks : List Bool) (i taken : ℕ) : Type 0 where
+  pub len : 24 + length marks ≡ table_of slots
+  pub each : (j : ℕ) → j < i → IsEntry (table_of slots) (offset_at bytes j) (length_at bytes j)
+  pub apart : (a b place : ℕ) → a < i → b < i → Covers bytes a place → Covers bytes b place → a ≡ b
+  pub covered : (j place : ℕ) → j < i → Covers bytes j place → get_or marks (place - 24) false ≡ true
+  pub owned : (place : ℕ) → get_or marks place false ≡ true → (j : ℕ) × (j < i) × Covers bytes j (24 + place)
+  pub count : marked marks ≡ taken
+  pub sum : taken ≡ sum_by image_len (images_in bytes i)
+
+added_less : (a b : ℕ) → a + b - a ≡ b
+added_less a b = omega arith
+
+-- the bytes of a slot's record
+slot_bytes : (bytes : List ℕ) (table slot : ℕ) → length bytes ≡ 8192 → table ≤ 8192 → IsEntry table (offset_at bytes slot) (length_at bytes slot) → image_len (slot_image bytes slot) ≡ length_at bytes slot
+unfolding slot_image
+slot_bytes bytes table slot whole inside (inl empty) = rw (eq-eqb (offset_at bytes slot) 0 empty.0) (sym empty.1)
+slot_bytes bytes table slot whole inside (inr lies) =
+    rw (ne_eqb (offset_at bytes slot) 0 (λ (e : offset_at bytes slot ≡ 0). omega (arith, lies.behind_header)))
+    (length-between bytes (offset_at bytes slot) (offset_at bytes slot + length_at bytes slot) (omega (arith, lies.before_table)) ∙ added_less (offset_at bytes slot) (length_at bytes slot))
+
+-- a byte of a record, counted from behind the header
+covers_place : (table offset bytes place : ℕ) → IsEntry table offset bytes → offset - 24 ≤ place → place < offset - 24 + bytes → (offset ≤ 24 + place) × (24 + place < offset + bytes)
+covers_place table offset bytes place (inl empty) low high = absurd (omega (arith, empty.0, empty.1))
+covers_place table offset bytes place (inr lies) low high = (omega (arith, lies.behind_header), omega (arith, lies.behind_header))
+
+place_covered : (table offset bytes place : ℕ) → IsEntry table offset bytes → offset ≤ place → place < offset + bytes → (offset - 24 ≤ place - 24) × (place - 24 < offset - 24 + bytes)
+place_covered table offset bytes place (inl empty) low high = absurd (omega (arith, empty.0, empty.1))
+place_covered table offset bytes place (inr lies) low high = (omega (arith, lies.behind_header), omega (arith, lies.behind_header))
+
+-- one slot more
+pub checked_more : (bytes : List ℕ) (slots : ℕ) (marks new : List Bool) (i taken : ℕ) → length bytes ≡ 8192 → Checked bytes slots marks i taken
+    → IsEntry (table_of slots) (offset_at bytes i) (length_at bytes i) → Marks marks new (offset_at bytes i - 24) (offset_at bytes i - 24 + length_at bytes i)
+    → Checked bytes slots new (i + 1) (taken + length_at bytes i)
+checked_more bytes slots marks new i taken whole so_far entry marks_more = record {
+  len = omega (arith, marks_more.len, so_far.len);
+  each = λ j before. elim (cases_lt j i) [
+    | inl earlier ↦ so_far.each j earlier
+    | inr late ↦ (let same : j ≡ i = omega arith in rw same entry)
+  ];
+  apart = λ a b place before_a before_b covers_a covers_b. elim (cases_lt a i) [
+    | inl a_earlier ↦ elim (cases_lt b i) [
+      | inl b_earlier ↦ so_far.apart a b place a_earlier b_earlier covers_a covers_b
+      | inr b_late ↦ absurd (clash a b place a_earlier (omega arith) covers_a covers_b)
+    ]
+    | inr a_late ↦ elim (cases_lt b i) [
+      | inl b_earlier ↦ absurd (clash b a place b_earlier (omega arith) covers_b covers_a)
+      | inr b_late ↦ (let same : a ≡ b = omega arith in same)
+    ]
+  ];
+  covered = λ j place before covers. elim (cases_lt j i) [
+    | inl earlier ↦ stays (place - 24) (so_far.covered j place earlier covers)
+    | inr late ↦ covered_here j place (omega arith) covers
+  ];
+  owned = λ place here. elim (cases_lt place from) [
+    | inl low ↦ owned_before place (sym (marks_more.below place low) ∙ here)
+    | inr from_on ↦ elim (cases_lt place (from + length_at bytes i)) [
+      | inl inside ↦ (i, omega arith, covers_place (table_of slots) (offset_at bytes i) (length_at bytes i) place entry from_on inside)
+      | inr high ↦ owned_before place (sym (marks_more.above place high) ∙ here)
+    ]
+  ];
+  count = omega (arith, marks_more.count, so_far.count);
+  sum = ap (λ (n : ℕ). n + length_at bytes i) so_far.sum ∙ sym (more ∙ ap (λ (n : ℕ). sum_by image_len (images_in bytes i) + n) (slot_bytes bytes (table_of slots) i whole (omega arith) entry));
+}
+  where
+    from : ℕ
+    from = offset_at bytes i - 24
+
+    more : sum_by image_len (images_in bytes (i + 1)) ≡ sum_by image_len (images_in bytes i) + image_len (slot_image bytes i)
+    more = sum_by-map-range_with_len_more image_len (slot_image bytes) 0 i i (omega arith)
+
+    -- what was marked stays so
+    stays : (place : ℕ) → get_or marks place false ≡ true → get_or new place false ≡ true
+    stays place here = elim (cases_lt place from) [
+      | inl low ↦ marks_more.below place low ∙ here
+      | inr from_on ↦ elim (cases_lt place (from + length_at bytes i)) [
+        | inl inside ↦ (marks_more.inside place from_on inside).1
+        | inr high ↦ marks_more.above place high ∙ here
+      ]
+    ]
+
+    owned_before : (place : ℕ) → get_or marks place false ≡ true → (j : ℕ) × (j < i + 1) × Covers bytes j (24 + place)
+    owned_before place here = let owner = so_far.owned place here in (owner.0, omega (arith, owner.1), owner.2)
+
+    covered_here : (j place : ℕ) → j ≡ i → Covers bytes j place → get_or new (place - 24) false ≡ true
+    covered_here j place same covers =
+        let here = subst (λ (k : ℕ). Covers bytes k place) same covers in
+        let inside = place_covered (table_of slots) (offset_at bytes i) (length_at bytes i) place entry here.0 here.1 in
+        (marks_more.inside (place - 24) inside.0 inside.1).1
+
+    -- a byte of an earlier record and of this one
+    clash : (a b place : ℕ) → a < i → b ≡ i → Covers bytes a place → Covers bytes b place → ⊥
+    clash a b place earlier same covers_a covers_b =
+        let here = subst (λ (k : ℕ). Covers bytes k place) same covers_b in
+        let inside = place_covered (table_of slots) (offset_at bytes i) (length_at bytes i) place entry here.0 here.1 in
+        let free = (marks_more.inside (place - 24) inside.0 inside.1).0 in
+        let taken = so_far.covered a place earlier covers_a in
+        cc
+
+-- a record that cannot be marked is none of a slot table
+pub checked_refused : (bytes : List ℕ) (slots : ℕ) (marks : List Bool) (i taken : ℕ) → Checked bytes slots marks i taken → i < slots
+    → (IsEntry (table_of slots) (offset_at bytes i) (length_at bytes i) → IsTaken marks (offset_at bytes i - 24) (offset_at bytes i - 24 + length_at bytes i)) → IsTable bytes slots → ⊥
+checked_refused bytes slots marks i taken so_far before refused table =
+    let entry = table.each i before in
+    let place = refused entry in
+    let owner = so_far.owned place.0 place.3 in
+    let same : owner.0 ≡ i = table.apart owner.0 i (24 + place.0) (omega (arith, owner.1)) before owner.2 (covers_place (table_of slots) (offset_at bytes i) (length_at bytes i) place.0 entry place.1 place.2) in
+    omega (arith, owner.1)
+
+-- all slots
+pub checked_all : (bytes : List ℕ) (slots : ℕ) (marks : List Bool) (i taken : ℕ) → Checked bytes slots marks i taken → slots ≤ i → i ≤ slots → IsTable bytes slots
+checked_all bytes slots marks i taken so_far reached inside = record {
+  each = λ slot before. so_far.each slot (omega arith);
+  apart = λ a b place before_a before_b. so_far.apart a b place (omega arith) (omega arith);
+}
+
+-- ---- the images that a slot table names
+
+pub images_more : (bytes : List ℕ) (i : ℕ) → map settled (images_in bytes (i + 1)) ≡ map settled (images_in bytes i) ++ settled (slot_image bytes i) ∷ []
+images_more bytes i = ap (map settled) (map-range_with_len_more (slot_image bytes) 0 i i (omega arith)) ∙ map_push settled (images_in bytes i) (slot_image bytes i)
+
+pub length-images_in : (bytes : List ℕ) (slots : ℕ) → length (images_in bytes slots) ≡ slots
+length-images_in bytes slots = length-map-range_with_len (slot_image bytes) 0 slots
+
+-- what stands in a slot has an entry
+entry_of_slot : (bytes : List ℕ) (table slot : ℕ) (image : Image) → HasSlot bytes table slot image → IsEntry table (offset_at bytes slot) (length_at bytes slot)
+entry_of_slot bytes table slot None empty = inl empty
+entry_of_slot bytes table slot (Some image) full = inr record {
+  behind_header = full.0.behind_header;
+  before_table = omega (arith, full.0.before_table, full.1);
+  most = omega (arith, full.0.most, full.1);
+}
+
+-- and is what the entry names
+image_of_slot : (bytes : List ℕ) (table slot : ℕ) (image : Image) → HasSlot bytes table slot image → slot_image bytes slot ≡ image
+unfolding slot_image
+image_of_slot bytes table slot None empty = rw (eq-eqb (offset_at bytes slot) 0 empty.0) refl
+image_of_slot bytes table slot (Some image) full =
+    rw (ne_eqb (offset_at bytes slot) 0 (λ (e : offset_at bytes slot ≡ 0). omega (arith, full.0.behind_header)))
+    (ap (λ (n : ℕ). Some (between (offset_at bytes slot) (offset_at bytes slot + n) bytes)) full.1 ∙ ap (λ (l : List ℕ). Some l) full.0.here)
+
+-- an entry names what stands in its slot
+slot_of_entry : (bytes : List ℕ) (table slot : ℕ) → length bytes ≡ 8192 → table ≤ 8192 → IsEntry table (offset_at bytes slot) (length_at bytes slot) → HasSlot bytes table slot (slot_image bytes slot)
+unfolding slot_image
+slot_of_entry bytes table slot whole inside (inl empty) = rw (eq-eqb (offset_at bytes slot) 0 empty.0) empty
+slot_of_entry bytes table slot whole inside (inr lies) =
+    let len : length (between (offset_at bytes slot) (offset_at bytes slot + length_at bytes slot) bytes) ≡ length_at bytes slot =
+    length-between bytes (offset_at bytes slot) (offset_at bytes slot + length_at bytes slot) (omega (arith, lies.before_table)) ∙ added_less (offset_at bytes slot) (length_at bytes slot) in
+    rw (ne_eqb (offset_at bytes slot) 0 (λ (e : offset_at bytes slot ≡ 0). omega (arith, lies.behind_header))) (
+      record {
+        behind_header = lies.behind_header;
+        before_table = omega (arith, lies.before_table);
+        most = omega (arith, lies.most);
+        here = ap (λ (n : ℕ). between (offset_at bytes slot) (offset_at bytes slot + n) bytes) len;
+      },
+      sym len,
+    )
+
+pub table_of_text : (bytes : List ℕ) (id : PageId) (number : ℕ) (images : List Image) → IsPageText bytes id number images → IsTable bytes (length images)
+table_of_text bytes id number images text = record {
+  each = λ slot before. entry_of_slot bytes (table_of (length images)) slot (get_or images slot None) (text.slots slot (get_or images slot None) (slice_get-get_or images slot None before));
+  apart = text.apart;
+}
+
+-- the images of a text are those that its slot table names
+pub images_are : (bytes : List ℕ) (id : PageId) (number : ℕ) (images : List Image) → IsPageText bytes id number images → images_in bytes (length images) ≡ images
+images_are bytes id number images text =
+    ext_get_or None (images_in bytes (length images)) images (length-images_in bytes (length images))
+    (λ slot before. get_or-map-range_with_len (slot_image bytes) 0 (length images) slot slot None (omega (arith, length-images_in bytes (length images))) (omega arith)
+    ∙ image_of_slot bytes (table_of (length images)) slot (get_or images slot None) (text.slots slot (get_or images slot None) (slice_get-get_or images slot None (omega (arith, length-images_in bytes (length images))))))
+
+-- a header and a slot table are a page's text
+pub text_of_table : (bytes : List ℕ) (id : PageId) (number slots : ℕ) → length bytes ≡ 8192 → HasHeader bytes id number slots → IsTable bytes slots → IsPageText bytes id number (images_in bytes slots)
+text_of_table bytes id number slots whole header table =
+    let same : slots ≡ length (images_in bytes slots) = sym (length-images_in bytes slots) in
+    record {
+      whole = whole;
+      header = subst (λ (n : ℕ). HasHeader bytes id number n) same header;
+      slots = λ slot image got.
+          let before : slot < slots = omega (arith, slice_get_within (images_in bytes slots) slot image got) in
+          let is : slot_image bytes slot ≡ image = sym (get_or-map-range_with_len (slot_image bytes) 0 slots slot slot None before (omega arith)) ∙ get_or_from_slice_get (images_in bytes slots) slot image None got in
+          subst (λ (n : ℕ). HasSlot bytes (table_of n) slot image) same
+          (subst (λ (i : Image). HasSlot bytes (table_of slots) slot i) is (slot_of_entry bytes (table_of slots) slot whole (omega arith) (table.each slot before)));
+      apart = λ a b place before_a before_b. table.apart a b place (omega arith) (omega arith);
+    }
+
+-- the records of a page alone, of slots that claim what their records take
+pub images_of-settled : (images : List Image) → images_of (map settled images) ≡ images
+images_of-settled [] = refl
+images_of-settled (image ∷ images) = ap (λ (l : List Image). image ∷ l) (images_of-settled images)
+
+pub claims-settled : (images : List Image) → claims (map settled images) ≡ sum_by image_len images
+claims-settled [] = refl
+claims-settled (image ∷ images) = omega (arith, claims-settled images, sum_by-cons (λ (s : Slot). s.claim) (settled image) (map settled images), sum_by-cons image_len image images)
+
+-- the slots that a slot table names, with their claims, are kept by a page
+pub table_kept : (bytes : List ℕ) (slots taken : ℕ) (items : List Slot) → length bytes ≡ 8192 → IsTable bytes slots → items ≡ map settled (images_in bytes slots)
+    → taken ≡ sum_by image_len (images_in bytes slots) → 4 * slots + taken ≤ 8168 → IsKept items taken
+table_kept bytes slots taken items whole table is sum room =
+    let read = map settled (images_in bytes slots) in
+    let len : length read ≡ slots = length-map (images_in bytes slots) settled ∙ length-images_in bytes slots in
+    let claimed : claims read ≡ taken = claims-settled (images_in bytes slots) ∙ sym sum in
+    let nothing : Slot = settled None in
+    subst (λ (l : List Slot). IsKept l taken) (sym is) record {
+      sum = sym claimed;
+      room = record {
+        room = omega arith;
+        each = All-from_get_or HoldsItsImage read nothing (λ i before.
+            let inside : i < slots = omega (arith, len) in
+            let here : get_or read i nothing ≡ settled (slot_image bytes i) =
+            get_or-map settled (images_in bytes slots) i None nothing (omega (arith, length-images_in bytes slots)) ∙ ap settled (get_or-map-range_with_len (slot_image bytes) 0 slots i i None inside (omega arith)) in
+            let short : image_len (slot_image bytes i) ≤ 4000 = omega (arith, slot_bytes bytes (table_of slots) i whole (omega arith) (table.each i inside), entry_short (table_of slots) (offset_at bytes i) (length_at bytes i) (table.each i inside)) in
+            subst HoldsItsImage (sym here) (omega arith, short));
+      };
+    }
+  where
+    entry_short : (table offset len : ℕ) → IsEntry table offset len → len ≤ 4000
+    entry_short table offset len (inl empty) = omega (arith, empty.1)
+    entry_short table offset len (inr lies) = lies.most
+
+pub some_is : {A : Type 0} (a b : A) → Some a ≡ Some b → a ≡ b
+some_is {A = A} a b same = ap (λ (o : Option A). unwrap_or o a) same

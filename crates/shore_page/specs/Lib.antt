@@ -1,0 +1,6 @@
+pub mod Slots
+pub mod Room
+pub mod Undo
+pub mod Text
+pub mod Writing
+pub mod Reading

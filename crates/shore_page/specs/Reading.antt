@@ -1,0 +1,47 @@
+-- What a page's slot table says: which entries it may have, and the images that they name.
+use Rattle.std.specs.Prelude.{◌≡◌, ◌⊎◌, ◌==◌, ℕ, ◌+◌, ◌-◌, ◌<◌, ◌≤◌, Bool, false, true, List, length, map, get_or, None, Some, if◌then◌else◌}
+use Rattle.std.specs.List.{between, count_by, range_with_len}
+use Rattle.shore_types.specs.declared.layout.TheConstants.{MAX_RECORD_BYTES}
+use Rattle.shore_page.specs.Slots.{Image}
+use Rattle.shore_page.specs.Text.{table_of, offset_at, length_at, Covers}
+
+-- so many bytes at an offset lie between the header and the slot table, and may be a record
+pub record Lies (table offset bytes : ℕ) : Type 0 where
+  pub behind_header : 24 ≤ offset
+  pub before_table : offset + bytes ≤ table
+  pub most : bytes ≤ MAX_RECORD_BYTES
+
+-- the entry of a slot: zeros, or that of a record
+abbrev pub IsEntry : ℕ → ℕ → ℕ → Type 0
+IsEntry table offset bytes = ((offset ≡ 0) × (bytes ≡ 0)) ⊎ Lies table offset bytes
+
+-- each entry of the slot table is one, and no byte belongs to two records
+pub record IsTable (bytes : List ℕ) (slots : ℕ) : Type 0 where
+  pub each : (slot : ℕ) → slot < slots → IsEntry (table_of slots) (offset_at bytes slot) (length_at bytes slot)
+  pub apart : (a b place : ℕ) → a < slots → b < slots → Covers bytes a place → Covers bytes b place → a ≡ b
+
+-- what the entry of a slot names
+unfoldable pub slot_image : List ℕ → ℕ → Image
+slot_image bytes slot = if offset_at bytes slot == 0
+    then None
+    else Some (between (offset_at bytes slot) (offset_at bytes slot + length_at bytes slot) bytes)
+
+-- what stands in the first slots
+abbrev pub images_in : List ℕ → ℕ → List Image
+images_in bytes slots = map (slot_image bytes) (range_with_len 0 slots)
+
+-- how many are marked
+abbrev pub marked : List Bool → ℕ
+marked marks = count_by (λ m. m) marks
+
+-- places were marked that had no mark, and no other
+pub record Marks (old new : List Bool) (from to : ℕ) : Type 0 where
+  pub len : length new ≡ length old
+  pub inside : (place : ℕ) → from ≤ place → place < to → (get_or old place false ≡ false) × (get_or new place false ≡ true)
+  pub below : (place : ℕ) → place < from → get_or new place false ≡ get_or old place false
+  pub above : (place : ℕ) → to ≤ place → get_or new place false ≡ get_or old place false
+  pub count : marked new ≡ marked old + (to - from)
+
+-- a place of these is marked
+abbrev pub IsTaken : List Bool → ℕ → ℕ → Type 0
+IsTaken marks from to = (place : ℕ) × (from ≤ place) × (place < to) × (get_or marks place false ≡ true)

@@ -1,0 +1,59 @@
+-- The room of a page: what its slots claim, what is free, and which changes fit.
+use Rattle.std.specs.Prelude.{◌≡◌, ◌≢◌, ℕ, ◌+◌, ◌-◌, ◌*◌, ◌≤◌, max, min, nat_lt, List, length, All, slice_get, if◌then◌else◌}
+use Rattle.std.specs.List.{sum_by}
+use Rattle.std.specs.Option.{option_map_or}
+use Rattle.shore_types.specs.declared.layout.TheConstants.{MAX_RECORD_BYTES}
+use Rattle.shore_page.specs.Slots.{Image, Slot, image_len, image_at}
+
+-- the bytes that the slots keep together
+abbrev pub claims : List Slot → ℕ
+claims slots = sum_by (λ s. s.claim) slots
+
+-- what the header, the slot table and the claims leave of a page
+abbrev pub free_bytes : List Slot → ℕ
+free_bytes slots = 8168 - 4 * length slots - claims slots
+
+-- the bytes kept for a slot, none for one that is not there
+abbrev pub claim_at : List Slot → ℕ → ℕ
+claim_at slots slot = option_map_or (λ s. s.claim) (slice_get slots slot) 0
+
+-- what a change to a slot takes of the free bytes: the new bytes past its claim, and an entry for a new slot
+abbrev pub need : List Slot → ℕ → ℕ → ℕ
+need slots slot bytes = (bytes - claim_at slots slot) + (if nat_lt slot (length slots) then 0 else 4)
+
+-- A slot, or the one behind the last, may have this many bytes. A page of MAX_SLOTS slots has no free byte left, so none is new then.
+pub record Fits (slots : List Slot) (slot bytes : ℕ) : Type 0 where
+  pub there : slot ≤ length slots
+  pub most : bytes ≤ MAX_RECORD_BYTES
+  pub room : need slots slot bytes ≤ free_bytes slots
+
+-- a slot claims as many bytes as its record has at least, and as any record may have at most
+abbrev pub HoldsItsImage : Slot → Type 0
+HoldsItsImage s = (image_len s.image ≤ s.claim) × (s.claim ≤ MAX_RECORD_BYTES)
+
+-- what is true of each page: its entries and claims are in the page, so that nothing is taken off too little in `free_bytes`
+pub record HasRoom (slots : List Slot) : Type 0 where
+  pub room : 4 * length slots + claims slots ≤ 8168
+  pub each : All HoldsItsImage slots
+
+-- the claim raised to so many bytes, where it is lower
+abbrev pub raised : ℕ → Slot → Slot
+raised bytes s = record { image = s.image; claim = max s.claim bytes }
+
+-- the claim lowered to so many bytes, but not below the record
+abbrev pub lowered : ℕ → Slot → Slot
+lowered bytes s = record { image = s.image; claim = min s.claim (max (image_len s.image) bytes) }
+
+-- what each page keeps: its slots have room, and the sum of their claims is at hand
+pub record IsKept (slots : List Slot) (claimed : ℕ) : Type 0 where
+  pub sum : claimed ≡ claims slots
+  pub room : HasRoom slots
+
+-- One slot changed: an image stands there, and the slot keeps what it claimed, or what the image takes. Every other slot stands as it
+-- stood, none went away, and the free bytes lost what was needed.
+pub record ChangesOne (old new : List Slot) (slot : ℕ) (image : Image) : Type 0 where
+  pub here : image_at new slot ≡ image
+  pub claim : claim_at new slot ≡ max (claim_at old slot) (image_len image)
+  pub others : (other : ℕ) → other ≢ slot → slice_get new other ≡ slice_get old other
+  pub stay : length old ≤ length new
+  pub taken : free_bytes new + need old slot (image_len image) ≡ free_bytes old

@@ -1,0 +1,48 @@
+-- What a page is: its id, the number of its last change, and its slots. A slot has an image and a claim.
+use Rattle.std.specs.Prelude.{ℕ, zero, suc, max, nat_lt, List, [], ◌∷◌, ◌++◌, length, slice_get, Option, Some, None, if◌then◌else◌}
+use Rattle.std.specs.Option.{option_and_then}
+use Rattle.shore_types.specs.declared.ids.PageId.{PageId}
+
+-- the bytes of a record, or none
+abbrev pub Image : Type 0
+Image = Option (List ℕ)
+
+-- what stands in a slot, and how many bytes of the page are kept for it
+pub record Slot : Type 0 where
+  pub image : Option (List ℕ)
+  pub claim : ℕ
+
+-- a page as data
+pub record PageState : Type 0 where
+  pub id : PageId
+  pub number : ℕ
+  pub slots : List Slot
+
+-- no record has no bytes
+abbrev pub image_len : Image → ℕ
+image_len None = 0
+image_len (Some bytes) = length bytes
+
+-- what stands in a slot; nothing in one that is not there
+abbrev pub image_at : List Slot → ℕ → Image
+image_at slots slot = option_and_then (λ s. s.image) (slice_get slots slot)
+
+-- one element changed, and no other
+abbrev pub with_change : {A : Type 0} → (A → A) → List A → ℕ → List A
+with_change f [] place = []
+with_change f (x ∷ rest) zero = f x ∷ rest
+with_change f (x ∷ rest) (suc place) = x ∷ with_change f rest place
+
+-- another image stands in a slot: it keeps its claim, or as many bytes as the image has
+abbrev pub holding : Image → Slot → Slot
+holding image s = record { image = image; claim = max s.claim (image_len image) }
+
+-- a slot that claims what its record takes
+abbrev pub settled : Image → Slot
+settled image = record { image = image; claim = image_len image }
+
+-- the image put into a slot, or into a new one behind the last
+abbrev pub with_image : List Slot → ℕ → Image → List Slot
+with_image slots slot image = if nat_lt slot (length slots)
+    then with_change (holding image) slots slot
+    else slots ++ settled image ∷ []

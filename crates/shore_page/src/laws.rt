@@ -1,0 +1,41 @@
+//! Laws, as functions that do nothing: why no undo lacks room on its page, and that bytes are read in one way.
+ghost use Rattle.std.specs.Prelude.{◌≡◌, List, ℕ, ◌∷◌, Some, slice_get};
+ghost use Rattle.shore_page.specs.Slots.{Image, image_len, with_change, with_image};
+ghost use Rattle.shore_page.specs.Room.{Fits, HasRoom, lowered};
+ghost use Rattle.shore_types.specs.declared.ids.PageId.{PageId};
+ghost use Rattle.shore_page.specs.Text.{IsPageText};
+ghost use Rattle.shore_page.specs.Undo.{Undecided, longest, claiming_all, with_undecided, undoing, deciding, UndoFits};
+
+/// Where a change fits, every undo of undecided changes fits after it, in whatever order the slots are taken.
+pub fn every_undo_fits()
+    ensures { (slots : List Undecided) (slot : ℕ) (after : Image) (turns : List ℕ)
+        → HasRoom (claiming_all slots) → Fits (claiming_all slots) slot (image_len after)
+        → UndoFits (with_undecided slots slot after) turns }
+{}
+
+/// Claims of undecided slots stay so where `Page::put`, `Page::remove` or `Page::apply` makes an undecided change.
+pub fn change_keeps_claims()
+    ensures { (slots : List Undecided) (slot : ℕ) (after : Image)
+        → with_image (claiming_all slots) slot after ≡ claiming_all (with_undecided slots slot after) }
+{}
+
+/// They stay so where `Page::apply` puts back the image before a slot's newest change, and `Page::unreserve` then keeps what the
+/// longest image that is left has.
+pub fn undo_keeps_claims()
+    ensures { (slots : List Undecided) (slot : ℕ) (image before : Image) (rest : List Image)
+        → slice_get slots slot ≡ Some record { image = image; befores = before ∷ rest }
+        → with_change (lowered (longest rest)) (with_image (claiming_all slots) slot before) slot
+        ≡ claiming_all (with_change undoing slots slot) }
+{}
+
+/// And where a slot's changes are decided and `Page::unreserve` keeps nothing for it but its record.
+pub fn decision_keeps_claims()
+    ensures { (slots : List Undecided) (slot : ℕ)
+        → with_change (lowered 0) (claiming_all slots) slot ≡ claiming_all (with_change deciding slots slot) }
+{}
+
+/// Bytes are the text of one page at most.
+pub fn text_is_of_one_page()
+    ensures { (bytes : List ℕ) (a b : PageId) (m n : ℕ) (images others : List Image)
+        → IsPageText bytes a m images → IsPageText bytes b n others → (a ≡ b) × (m ≡ n) × (images ≡ others) }
+{}

@@ -1,0 +1,12 @@
+//! A page of records in slots: what stands in each slot, the bytes that are kept for it, and the page's text.
+#![tactic(auto)]
+
+pub mod laws;
+mod page;
+mod reading;
+mod slots;
+#[cfg(test)]
+mod tests;
+mod writing;
+
+pub use page::Page;

@@ -1,0 +1,169 @@
+//! Pages by their bytes, and the arithmetic of their room.
+ghost use Rattle.std.specs.Prelude.{◌<◌};
+
+use super::*;
+use shore_types::layout::PAGE_BYTES;
+use shore_types::{Lsn, PageId, StoreId};
+use std::alloc::Global;
+use std::test::*;
+
+const ID: PageId = PageId {
+    store: StoreId(0),
+    page: 0,
+};
+
+/// The test of what a put asks, and the call.
+fn put(page: &mut Page, slot: u16, bytes: &[u8]) -> bool {
+    page.fits(slot, bytes.len()) && page.put(slot, bytes).is_ok()
+}
+
+/// The test of what an apply asks, and the call.
+fn apply(page: &mut Page, lsn: u64, slot: u16, bytes: &[u8]) -> bool {
+    page.fits(slot, bytes.len()) && page.apply(Lsn(lsn), slot, Some(bytes)).is_ok()
+}
+
+/// The test of what a remove asks, and the call.
+fn remove(page: &mut Page, slot: u16) -> bool {
+    if slot >= page.slot_count() {
+        return false;
+    }
+    page.remove(slot);
+    true
+}
+
+/// Whether two pages have the same number, and the same in each slot.
+fn are_alike(a: &Page, b: &Page) -> bool {
+    a.id() == b.id()
+        && a.number() == b.number()
+        && a.slot_count() == b.slot_count()
+        && (0..a.slot_count()).all(|slot| a.get(slot) == b.get(slot))
+}
+
+// The insert of one byte as the first change.
+#[test]
+fn worked_bytes(rt: HostRuntime) -> Result<(), Fail> {
+    let mut page = Page::new(rt.alloc(), ID);
+    assert!(&rt; apply(&mut page, 1, 0, &[0xaa]));
+    let mut text = [0xffu8; PAGE_BYTES];
+    page.to_bytes(&mut text);
+    let header = [
+        0u8, 0, 0, 0, 0, 0, 0, 0, 1, 0, 0, 0, 0, 0, 0, 0, 1, 0, 0xfc, 0x1f, 0, 0, 0, 0,
+    ];
+    assert_eq!(&rt; &text[..24], &header[..]);
+    assert_eq!(&rt; text[24], 0xaa);
+    assert_eq!(&rt; &text[8188..], &[0x18u8, 0, 1, 0][..]);
+    Ok(())
+}
+
+// The room of an undecided delete is kept until it is decided.
+#[test]
+fn room_of_an_undecided_delete(rt: HostRuntime) -> Result<(), Fail> {
+    let mut page = Page::new(rt.alloc(), ID);
+    assert!(&rt; put(&mut page, 0, &[0xaa; 4000]));
+    assert!(&rt; put(&mut page, 1, &[0xbb; 4000]));
+    assert!(&rt; !page.fits(2, 157));
+    assert!(&rt; put(&mut page, 2, &[0xcc; 156]));
+    assert_eq!(&rt; page.free_bytes(), 0);
+    assert!(&rt; remove(&mut page, 0));
+    assert_eq!(&rt; page.free_bytes(), 0);
+    assert!(&rt; !page.fits(3, 100));
+    assert!(&rt; page.fits(0, 4000));
+    if page.slot_count() > 0 {
+        page.unreserve(0, 0);
+    }
+    assert_eq!(&rt; page.free_bytes(), 4000);
+    assert!(&rt; put(&mut page, 0, &[0xdd; 100]));
+    assert_eq!(&rt; page.free_bytes(), 3900);
+    Ok(())
+}
+
+/// A fixed run of numbers that look like chance.
+#[derive(Drop)]
+struct Chance(u64);
+
+impl Chance {
+    fn below(&mut self, bound: u64) -> u64
+        requires { 0 < bound }
+        ensures { result < bound }
+    {
+        self.0 = self
+            .0
+            .wrapping_mul(6_364_136_223_846_793_005)
+            .wrapping_add(1_442_695_040_888_963_407);
+        (self.0 >> 33) % bound
+    }
+}
+
+/// A page after so many changes, some of which did not fit.
+fn some_page(alloc: Global, chance: &mut Chance, changes: u64, longest: u64) -> Page
+    requires { longest < 4000 }
+{
+    let mut page = Page::new(alloc, ID);
+    for change in 0..changes {
+        let slot = chance.below(u64::from(page.slot_count()) + 1) as u16;
+        let len = chance.below(longest + 1) as usize;
+        if chance.below(5) == 0 {
+            remove(&mut page, slot);
+        } else {
+            apply(
+                &mut page,
+                change,
+                slot,
+                &[(change % 251) as u8; 4000][..len],
+            );
+        }
+    }
+    page
+}
+
+#[test]
+fn pages_are_read_as_they_were_written(rt: HostRuntime) -> Result<(), Fail> {
+    let mut chance = Chance(7);
+    for longest in [0, 1, 20, 100, 700, 3999] {
+        let page = some_page(rt.alloc(), &mut chance, 600, longest);
+        let mut text = [0u8; PAGE_BYTES];
+        page.to_bytes(&mut text);
+        let read = Page::from_bytes(rt.alloc(), ID, &text)?;
+        assert!(&rt;
+            read.is_some_and(|read| are_alike(&page, &read)),
+            "at {longest}"
+        );
+        let other = PageId {
+            store: StoreId(0),
+            page: 1,
+        };
+        assert!(&rt; Page::from_bytes(rt.alloc(), other, &text)?.is_none());
+        assert!(&rt; Page::from_bytes(rt.alloc(), ID, &text[1..])?.is_none());
+    }
+    Ok(())
+}
+
+// Whatever stands in a byte, the bytes are refused, or are those of a page that can be written and read again.
+#[test]
+fn any_byte_gives_a_page_or_a_refusal(rt: HostRuntime) -> Result<(), Fail> {
+    let page = some_page(rt.alloc(), &mut Chance(11), 200, 300);
+    let mut text = [0u8; PAGE_BYTES];
+    page.to_bytes(&mut text);
+    let mut has_refused = false;
+    for place in 0..PAGE_BYTES {
+        let before = text[place];
+        for value in [0x00, 0xa5, 0xff] {
+            text[place] = value;
+            match Page::from_bytes(rt.alloc(), ID, &text)? {
+                None => has_refused = true,
+                Some(read) => {
+                    let mut again = [0u8; PAGE_BYTES];
+                    read.to_bytes(&mut again);
+                    let second = Page::from_bytes(rt.alloc(), ID, &again)?;
+                    assert!(&rt;
+                        second.is_some_and(|second| are_alike(&read, &second)),
+                        "at {place}"
+                    );
+                }
+            }
+        }
+        text[place] = before;
+    }
+    assert!(&rt; has_refused);
+    Ok(())
+}
