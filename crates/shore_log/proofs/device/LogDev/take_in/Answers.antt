@@ -16,5 +16,5 @@ invariant_of-self g c =
       staged_inside = old.staged_inside;
       staged_waits = λ s is. omega (arith, old.staged_waits s is, longer);
       staged_short = old.staged_short;
-      inside = old.inside;
+      as_long = old.as_long;
     }
