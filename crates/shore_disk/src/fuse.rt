@@ -1,5 +1,5 @@
 //! A device that fails from a chosen call on.
-ghost use Rattle.std.specs.Prelude.{◌≡◌, ◌+◌, ◌-◌, ◌<◌, ◌≤◌, length, take, drop, IsTrue, IsErr, OnOk};
+ghost use Rattle.std.specs.Prelude.{◌≡◌, ◌+◌, ◌-◌, ◌^◌, ◌<◌, ◌≤◌, min, length, take, drop, IsTrue, IsErr, OnOk};
 ghost use Rattle.shore_disk.specs.Device.{size, seen, Writes, Syncs, CountsFault};
 
 use crate::{Disk, DiskFault};
@@ -48,6 +48,7 @@ impl<D: Disk> FuseDisk<D> {
 pub fn refuse(refused: &mut u64) -> Result<(), DiskFault>
     ensures fails { IsErr result }
     ensures count { CountsFault result refused.old refused.new }
+    ensures one { refused.new ≡ min (refused.old + 1) (2 ^ 64 - 1) }
 {
     *refused = refused.saturating_add(1);
     Err(DiskFault)
