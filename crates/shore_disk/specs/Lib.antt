@@ -1,7 +1,9 @@
 pub mod Device
 pub mod Memory
 pub mod MemDisk
+pub mod FileDisk
 pub mod Fuse
 pub mod Once
 pub mod Pair
 pub mod Cause
+pub mod Counting

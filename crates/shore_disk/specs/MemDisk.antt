@@ -1,5 +1,5 @@
 -- What a device in memory shows of itself.
-use Rattle.std.specs.Prelude.{[]}
+use Rattle.std.specs.Prelude.{[], ℕ}
 use Rattle.shore_disk.specs.Device.{History}
 use Rattle.shore_disk.specs.Memory.{calls_onto}
 use Rattle.shore_disk.specs.declared.memory.MemDisk.{MemDisk}
@@ -7,3 +7,7 @@ use Rattle.shore_disk.specs.declared.memory.MemDisk.{MemDisk}
 -- what it held at first, and its calls since
 abbrev pub history_of : MemDisk → History
 history_of d = record { first = d.first.items; calls = calls_onto [] d.calls.items }
+
+-- how many of its calls have failed, up to 2^64 - 1
+abbrev pub failures_of : MemDisk → ℕ
+failures_of d = d.failures

@@ -66,4 +66,7 @@ pub trait Disk {
         ensures honest { is_honest self.new ≡ is_honest self.old }
         ensures size { size (history self.new) ≡ size (history self.old) }
         ensures cause { CountsFault result (faults self.old) (faults self.new) };
+
+    /// An honest device reads as many bytes as it is long.
+    ghost keeps_length: { (device : Self) → IsTrue (is_honest device) → length (seen (history device)) ≡ size (history device) };
 }

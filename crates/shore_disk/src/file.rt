@@ -1,4 +1,5 @@
 //! A device over a file, of whose bytes nothing is known.
+ghost use Rattle.std.specs.Prelude.{◌≡◌, IfOk};
 ghost use Rattle.shore_disk.specs.Device.{CountsFault};
 
 use crate::{Disk, DiskFault};
@@ -16,8 +17,12 @@ pub struct FileDisk {
 }
 
 impl FileDisk {
+    ghost use Rattle.shore_disk.specs.FileDisk.{failures_of};
+
     /// The device of a file that is open for reading and writing. It fails where the file does not tell its length.
-    pub fn new(file: File) -> io::Result<FileDisk> {
+    pub fn new(file: File) -> io::Result<FileDisk>
+        ensures { IfOk result (λ d. failures_of d ≡ 0) }
+    {
         let len = file.metadata()?.len();
         Ok(FileDisk {
             file,
@@ -39,13 +44,14 @@ fn count(answer: io::Result<()>, failures: &mut u64) -> Result<(), DiskFault>
 }
 
 impl Disk for FileDisk {
-    ghost use Rattle.std.specs.Prelude.{false, [], replicate};
+    ghost use Rattle.std.specs.Prelude.{false, [], replicate, refl};
+    ghost use Rattle.shore_disk.specs.FileDisk.{failures_of};
 
     ghost is_honest = { λ _. false };
 
     ghost history = { λ d. record { first = replicate d.len 0; calls = [] } };
 
-    ghost faults = { λ d. d.failures };
+    ghost faults = { failures_of };
 
     fn len(&self) -> u64 {
         self.len
@@ -66,4 +72,6 @@ impl Disk for FileDisk {
     fn sync(&mut self) -> Result<(), DiskFault> {
         count(self.file.sync_all(), &mut self.failures)
     }
+
+    ghost keeps_length = { λ _ _. refl };
 }

@@ -41,11 +41,12 @@ pub struct MemDisk {
 }
 
 impl MemDisk {
-    ghost use Rattle.shore_disk.specs.MemDisk.{history_of};
+    ghost use Rattle.shore_disk.specs.MemDisk.{history_of, failures_of};
 
     /// A device with these bytes, all of them stable.
     pub fn new(alloc: Global, bytes: Vec<u8>) -> Result<MemDisk, AllocError>
-        ensures { IfOk result (λ d. history_of d ≡ record { first = bytes.items; calls = [] }) }
+        ensures history { IfOk result (λ d. history_of d ≡ record { first = bytes.items; calls = [] }) }
+        ensures failures { IfOk result (λ d. failures_of d ≡ 0) }
     {
         let first = bytes.to_vec(alloc)?;
         let image = bytes.to_vec(alloc)?;
@@ -76,6 +77,7 @@ impl MemDisk {
     pub fn crash(&mut self, pick: Pick)
         ensures picked { history_of self.new ≡ record { first = picked_after pick (history_of self.old).first (history_of self.old).calls; calls = [] } }
         ensures left { may_leave (history_of self.old) (history_of self.new).first }
+        ensures failures { failures_of self.new ≡ failures_of self.old }
     {
         pick_image(
             &self.first,
@@ -91,13 +93,14 @@ impl MemDisk {
 }
 
 impl Disk for MemDisk {
-    ghost use Rattle.shore_disk.specs.MemDisk.{history_of};
+    ghost use Rattle.std.proofs.Common.{ap, sym, ◌∙◌};
+    ghost use Rattle.shore_disk.specs.MemDisk.{history_of, failures_of};
 
     ghost is_honest = { λ _. true };
 
     ghost history = { history_of };
 
-    ghost faults = { λ d. d.failures };
+    ghost faults = { failures_of };
 
     fn len(&self) -> u64 {
         self.first.len() as u64
@@ -129,6 +132,8 @@ impl Disk for MemDisk {
         }
         Ok(())
     }
+
+    ghost keeps_length = { λ d _. ap length (sym d.seen) ∙ d.as_long };
 }
 
 #[tactic(auto, using(crate::proofs::MemoryLemmas::notes))]

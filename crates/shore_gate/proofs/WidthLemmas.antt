@@ -1,10 +1,9 @@
 -- How long labels and anchors are.
-use Rattle.std.proofs.Common.{◌≡◌, ℕ, ◌+◌, ◌-◌, ◌*◌, ◌≤◌, List, [], ◌∷◌, ◌++◌, length, replicate, refl, arith, length-append}
+use Rattle.std.proofs.Common.{◌≡◌, ℕ, ◌-◌, ◌*◌, ◌≤◌, List, [], ◌∷◌, ◌++◌, length, replicate, refl, arith, length-append}
 use Rattle.std.proofs.lemmas.List.{length-replicate}
 use Rattle.std.specs.List.{flat_map}
 use Rattle.byteorder.specs.Endian.{little_bytes}
 use Rattle.shore_types.specs.declared.faults.Device.{Device}
-use Rattle.shore_types.specs.declared.faults.Device.TheVariants.{Log, Volume}
 use Rattle.shore_gate.specs.declared.labels.Label.{Label}
 use Rattle.shore_gate.specs.declared.anchors.Anchor.{Anchor}
 use Rattle.shore_gate.specs.Label.{label_head, label_bytes}

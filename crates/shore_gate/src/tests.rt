@@ -1,6 +1,6 @@
 //! Labels and anchors by their bytes.
 use super::*;
-use shore_disk::{Disk, MemDisk};
+use shore_disk::{Disk, MemDisk, OnceDisk};
 use shore_types::{Device, Fault, Lsn, Sequence};
 use std::alloc::Global;
 use std::test::*;
@@ -131,6 +131,22 @@ fn a_label_is_refused_at_its_first_bad_field(rt: HostRuntime) -> Result<(), Fail
     let mut disk = zeros(alloc, LOG_BYTES)?;
     assert!(rt; put(&mut disk, 0, &LOG_LABEL) && put(&mut disk, 25, &[0x10]));
     assert!(rt; read_label(alloc, &mut disk, Device::Log).is_ok());
+    Ok(())
+}
+
+#[test]
+fn a_read_that_fails_is_told_at_its_call_alone(rt: HostRuntime) -> Result<(), Fail> {
+    let alloc = rt.alloc();
+    let mut inner = zeros(alloc, LOG_BYTES)?;
+    assert!(rt; put(&mut inner, 0, &LOG_LABEL));
+    let mut disk = OnceDisk::new(inner, 1);
+    let before = read_label(alloc, &mut disk, Device::Log);
+    assert!(rt; before == Ok(a_label(alloc, LOG_BYTES as u64)?));
+    let chosen = read_label(alloc, &mut disk, Device::Log);
+    assert!(rt; chosen.err() == Some(Fault::Device));
+    let after = read_label(alloc, &mut disk, Device::Log);
+    assert!(rt; after == Ok(a_label(alloc, LOG_BYTES as u64)?));
+    assert!(rt; disk.failures() == 1);
     Ok(())
 }
 

@@ -4,3 +4,4 @@ pub mod ListLemmas
 pub mod ReadLemmas
 pub mod PlaceLemmas
 pub mod StreamLemmas
+pub mod WalkLemmas

@@ -31,12 +31,12 @@ head_is : (len first : ℕ) (rest : List ℕ) → frame_head len first ++ rest �
 unfolding frame_head
 head_is len first rest = append_assoc (little_bytes 4 len) (little_bytes 8 first) rest
 
-frame_is : (n : ℕ) (body rest : List ℕ) → behind_gate n body ++ rest ≡ frame_head (length body) n ++ (body ++ rest)
+pub frame_is : (n : ℕ) (body rest : List ℕ) → behind_gate n body ++ rest ≡ frame_head (length body) n ++ (body ++ rest)
 unfolding behind_gate
 frame_is n body rest = append_assoc (frame_head (length body) n) body rest
 
 -- bytes begin with one head
-same_head : (len first k n : ℕ) (xs ys : List ℕ) → len < 2 ^ 32 → first < 2 ^ 64 → k < 2 ^ 32 → n < 2 ^ 64
+pub same_head : (len first k n : ℕ) (xs ys : List ℕ) → len < 2 ^ 32 → first < 2 ^ 64 → k < 2 ^ 32 → n < 2 ^ 64
     → frame_head len first ++ xs ≡ frame_head k n ++ ys → (len ≡ k) × (first ≡ n) × (xs ≡ ys)
 same_head len first k n xs ys len_small first_small k_small n_small e =
     let both = sym (head_is len first xs) ∙ e ∙ head_is k n ys in

@@ -1,5 +1,5 @@
 -- What stands at a byte of an image of the log device.
-use Rattle.std.specs.Prelude.{◌≡◌, ◌≢◌, ◌⊎◌, ◌↔◌, ℕ, ◌+◌, ◌≤◌, Bool, IsTrue, List, ◌∷◌, ◌++◌, length, drop}
+use Rattle.std.specs.Prelude.{◌≡◌, ◌≢◌, ◌⊎◌, ◌↔◌, ℕ, ◌+◌, ◌<◌, ◌≤◌, Bool, IsTrue, List, ◌∷◌, ◌++◌, length, drop}
 use Rattle.shore_gate.specs.declared.gates.TheConstants.{OPEN}
 use Rattle.shore_types.specs.declared.faults.Device.TheVariants.{Log}
 use Rattle.shore_types.specs.declared.faults.Fault.{Fault}
@@ -44,6 +44,21 @@ pub record IsBadAt (from : ℕ) (image : List ℕ) (place : ℕ) : Type 0 where
   pub parts : drop from image ≡ text 1 front ++ drop place image
   pub place_is : place ≡ from + length (text 1 front)
   pub bad : NoneStands (number_behind 1 front) (drop place image)
+
+-- ---- where a record stands
+
+-- From one byte on stand frames of some groups, and one of them at this place: behind those of the groups before, with the record of
+-- this number among its own.
+pub record IsFrameOf (from : ℕ) (image : List ℕ) (number place : ℕ) : Type 0 where
+  pub before : List (List LogRecord)
+  pub group : List LogRecord
+  pub after : List (List LogRecord)
+  pub rest : List ℕ
+  pub groups : AreGroups 1 (before ++ group ∷ after)
+  pub parts : drop from image ≡ text 1 (before ++ group ∷ after) ++ rest
+  pub place_is : place ≡ from + length (text 1 before)
+  pub first : number_behind 1 before ≤ number
+  pub last : number < number_behind 1 before + length group
 
 -- what a log device's bytes are not read with: the device failed, memory ran out, or the log is damaged
 abbrev pub RefusesReading : Fault → Type 0

@@ -50,6 +50,13 @@ pub record IsStaged {D : Type 0} {G : Ghosts D} (log : LogDev D G) (front : List
   pub place : log.place ≡ length (text 1 groups)
   pub waits : log.staged ≡ Some record { count = length group; len = length (texts group) }
 
+-- The forced records and the frame under way are the same, and what was settled or staged is so still.
+pub record KeepsFrames {D : Type 0} {G : Ghosts D} (old new : LogDev D G) : Type 0 where
+  pub forced : stable new ≡ stable old
+  pub under_way : new.staged ≡ old.staged
+  pub settled : (front : List ℕ) → IsSettled old front → IsSettled new front
+  pub staged : (front : List ℕ) (group : List LogRecord) → IsStaged old front group → IsStaged new front group
+
 -- ---- what opening a log answers
 
 -- the device, whether a log stands on it or it is handed back

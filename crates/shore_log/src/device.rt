@@ -8,10 +8,10 @@ ghost use Rattle.shore_model.specs.declared.log_records.LogRecord.{LogRecord};
 ghost use Rattle.shore_logrec.specs.Text.{Fits};
 ghost use Rattle.shore_log.specs.Lists.{are_numbered};
 ghost use Rattle.shore_log.specs.Frames.{Gives, GivesBehind, GivesWithOrWithout, IsLongest};
-ghost use Rattle.shore_log.specs.Places.{IsBadAt, RefusesReading};
+ghost use Rattle.shore_log.specs.Places.{IsBadAt, IsFrameOf, RefusesReading};
 
 use crate::group::{HEAD_BYTES, frame_bytes, longest_group};
-use crate::reading::{Stream, damaged, read_head, read_stream};
+use crate::reading::{Stream, damaged, find_frame, read_stream};
 use crate::{PlainTail, Tail};
 use shore_disk::{Disk, FuseDisk, write_synced};
 use shore_gate::open_gate;
@@ -68,7 +68,7 @@ pub struct LogDev<D: Disk> {
     ghost staged_waits: { ForSome staged (λ s. forced + s.count ≤ length records.items) },
     ghost staged_short: { ForSome staged (λ s. s.len ≤ 65536) },
     ghost staged_some: { ForSome staged (λ s. 1 ≤ s.count) },
-    ghost inside: { limit ≤ size (D.Disk.history device) },
+    ghost as_long: { limit ≡ size (D.Disk.history device) },
 }
 
 // Whether a device of this length has a stream of frames, and is no longer than a log may be.
@@ -79,7 +79,7 @@ fn has_stream(limit: u64) -> bool
 }
 
 impl<D: Disk> LogDev<D> {
-    ghost use Rattle.shore_log.specs.Settled.{IsSettled, IsStaged, list_of, stable, waiting, device_of, fault_of};
+    ghost use Rattle.shore_log.specs.Settled.{IsSettled, IsStaged, KeepsFrames, list_of, stable, waiting, device_of, fault_of};
     ghost use Rattle.shore_log.specs.PlainTails.{first_of, waiting_in};
 
     /// Takes all records that wait in the tail. 27 where a growth was refused: each stays where it was.
@@ -90,8 +90,8 @@ impl<D: Disk> LogDev<D> {
         ensures next { first_of tail.new + length (waiting_in tail.new) ≡ first_of tail.old + length (waiting_in tail.old) }
         ensures refused { OnErr result ((list_of self.new ≡ list_of self.old) × (waiting_in tail.new ≡ waiting_in tail.old)) }
         ensures only_memory { IfErr result (λ fault. fault ≡ Fault.Memory) }
-        ensures still { (self.new.device ≡ self.old.device) × (self.new.staged ≡ self.old.staged) × (stable self.new ≡ stable self.old) }
-        ensures settled { (front : List ℕ) → IsSettled self.old front → IsSettled self.new front }
+        ensures frames { KeepsFrames self.old self.new }
+        ensures device { self.new.device ≡ self.old.device }
     {
         tail.hand_over(&mut self.records)?;
         Ok(())
@@ -226,9 +226,9 @@ impl<D: Disk> LogDev<D> {
             → IfOk result (λ log. list_of log ≡ rs) }
 
         // A device of a log's length with all of its frames within is opened.
-        ensures undamaged { IsTrue (D.is_honest device) → length (seen (D.history device)) ≤ size (D.history device) → size (D.history device) ≤ 2 ^ 30
+        ensures undamaged { IsTrue (D.is_honest device) → size (D.history device) ≤ 2 ^ 30
             → (rs : List LogRecord) → Gives rs (seen (D.history device)) → IfErr result (λ e. (e.0 ≡ Fault.Device) ⊎ (e.0 ≡ Fault.Memory)) }
-        ensures damaged { IsTrue (D.is_honest device) → length (seen (D.history device)) ≤ size (D.history device)
+        ensures damaged { IsTrue (D.is_honest device)
             → 4096 < size (D.history device) → size (D.history device) ≤ 2 ^ 30
             → (place : ℕ) → IfErr result (λ e. e.0 ≡ Fault.Damaged Device.Log place → IsBadAt 4096 (seen (D.history device)) place) }
         ensures outside { (size (D.history device) ≤ 4096) ⊎ (2 ^ 30 < size (D.history device))
@@ -265,31 +265,34 @@ impl<D: Disk> LogDev<D> {
         ensures found { IsTrue (D.is_honest self.old.device) → IfOk result (λ read. Gives read.items (seen (D.history self.old.device))) }
         ensures only { IsTrue (D.is_honest self.old.device) → (rs : List LogRecord) → Gives rs (seen (D.history self.old.device))
             → IfOk result (λ read. read.items ≡ rs) }
+        ensures undamaged { IsTrue (D.is_honest self.old.device) → (rs : List LogRecord) → Gives rs (seen (D.history self.old.device))
+            → IfErr result (λ fault. (fault ≡ Fault.Device) ⊎ (fault ≡ Fault.Memory)) }
+        ensures damaged { IsTrue (D.is_honest self.old.device) → (place : ℕ) → result ≡ Err (Fault.Damaged Device.Log place)
+            → IsBadAt 4096 (seen (D.history self.old.device)) place }
         ensures refused { IfErr result RefusesReading }
+        ensures frames { KeepsFrames self.old self.new }
+        ensures list { list_of self.new ≡ list_of self.old }
         ensures same { IsTrue (D.is_honest self.old.device) → D.history self.new.device ≡ D.history self.old.device }
-        ensures list { (list_of self.new ≡ list_of self.old) × (stable self.new ≡ stable self.old) }
+        ensures honest { D.is_honest self.new.device ≡ D.is_honest self.old.device }
         ensures cause { HasCause result (D.faults self.old.device) (D.faults self.new.device) }
     {
         let read = read_stream(alloc, &mut self.device, self.limit, STREAM)?;
         Ok(read.records)
     }
 
-    /// The byte of the frame that holds a record. 23 where the device failed.
-    pub fn frame_of(&mut self, number: Lsn) -> Result<u64, Fault> {
+    /// The byte of the frame that holds the record of a stable number. 23 where the device failed; nothing has changed.
+    pub fn frame_of(&mut self, number: Lsn) -> Result<u64, Fault>
+        ensures found { (front : List ℕ) → IsSettled self.old front → 1 ≤ number → number ≤ length (stable self.old)
+            → IfOk result (IsFrameOf 4096 (seen (D.history self.old.device)) number) }
+        ensures only_device { IfErr result (λ fault. fault ≡ Fault.Device) }
+        ensures frames { KeepsFrames self.old self.new }
+        ensures list { list_of self.new ≡ list_of self.old }
+        ensures same { IsTrue (D.is_honest self.old.device) → D.history self.new.device ≡ D.history self.old.device }
+        ensures honest { D.is_honest self.new.device ≡ D.is_honest self.old.device }
+        ensures cause { HasCause result (D.faults self.old.device) (D.faults self.new.device) }
+    {
         let end = STREAM + self.place;
-        let mut found = STREAM;
-        let mut at = STREAM;
-        while at < end {
-            let Some(head) = read_head(&mut self.device, self.limit, at)? else {
-                break;
-            };
-            if head.first > number.0 {
-                break;
-            }
-            found = at;
-            at += (1 + HEAD_BYTES) as u64 + u64::from(head.len);
-        }
-        Ok(found)
+        find_frame(&mut self.device, STREAM, end, number.0)
     }
 
     /// Whether a frame is staged and its gate not yet opened.
@@ -315,11 +318,12 @@ impl<D: Disk> LogDev<D> {
 }
 
 impl<D: Disk> LogDev<FuseDisk<D>> {
-    ghost use Rattle.shore_disk.specs.Fuse.{fuse_inner, fuse_refused};
+    ghost use Rattle.shore_disk.specs.Fuse.{fuse_inner, fuse_calls, fuse_refused};
 
     /// Lets so many more writes and syncs of the device pass; then every call of it fails.
     pub fn set_fuse(&mut self, calls: u64)
         ensures inner { fuse_inner self.new.device ≡ fuse_inner self.old.device }
+        ensures calls { fuse_calls self.new.device ≡ calls }
         ensures refused { fuse_refused self.new.device ≡ fuse_refused self.old.device }
         ensures list { (self.new.records ≡ self.old.records) × (self.new.forced ≡ self.old.forced) }
         ensures frame { (self.new.place ≡ self.old.place) × (self.new.staged ≡ self.old.staged) }

@@ -5,9 +5,9 @@ ghost use Rattle.shore_disk.specs.Cause.{HasCause};
 ghost use Rattle.shore_model.specs.declared.log_records.LogRecord.{LogRecord};
 ghost use Rattle.shore_logrec.specs.Text.{Fits, texts};
 ghost use Rattle.shore_logrec.specs.Text as logrec;
-ghost use Rattle.shore_log.specs.Frames.{AreNumbered, Frames, IsGroup, frame_head, joined, text};
+ghost use Rattle.shore_log.specs.Frames.{AreNumbered, AreGroups, Frames, IsGroup, frame_head, joined, text};
 ghost use Rattle.shore_log.specs.Reading.{Reads, ReadsOne};
-ghost use Rattle.shore_log.specs.Places.{GateAt, HeadAt, BodyAt, IsFrameAt, HasNoFrame, IsBadAt, RefusesReading};
+ghost use Rattle.shore_log.specs.Places.{GateAt, HeadAt, BodyAt, IsFrameAt, IsFrameOf, HasNoFrame, IsBadAt, RefusesReading};
 ghost use Rattle.shore_log.specs.declared.reading.ReadError.TheVariants.{Memory};
 
 use crate::group::HEAD_BYTES;
@@ -151,6 +151,35 @@ pub fn read_head<D: Disk>(device: &mut D, limit: u64, at: u64) -> Result<Option<
     let mut bytes = [0; HEAD_BYTES];
     device.read_at(begin, &mut bytes)?;
     Ok(Some(head_of(&bytes)))
+}
+
+/// The byte of the frame that holds the record of a number, where frames stand from a byte up to an end. It walks their heads.
+/// 23 where the device failed.
+pub fn find_frame<D: Disk>(device: &mut D, from: u64, end: u64, number: u64) -> Result<u64, Fault>
+    requires short { end < 2 ^ 30 }
+    requires size { end ≤ size (D.history device.old) }
+    ensures found { IsTrue (D.is_honest device.old) → (groups : List (List LogRecord)) (rest : List ℕ) → AreGroups 1 groups
+        → drop from (seen (D.history device.old)) ≡ text 1 groups ++ rest → end ≡ from + length (text 1 groups)
+        → 1 ≤ number → number ≤ length (joined groups) → IfOk result (IsFrameOf from (seen (D.history device.old)) number) }
+    ensures only_device { IfErr result (λ fault. fault ≡ Fault.Device) }
+    ensures same { IsTrue (D.is_honest device.old) → D.history device.new ≡ D.history device.old }
+    ensures honest { D.is_honest device.new ≡ D.is_honest device.old }
+    ensures size { size (D.history device.new) ≡ size (D.history device.old) }
+    ensures cause { HasCause result (D.faults device.old) (D.faults device.new) }
+{
+    let mut found = from;
+    let mut at = from;
+    while at < end {
+        let Some(head) = read_head(device, end, at)? else {
+            return Ok(found);
+        };
+        if head.first > number {
+            return Ok(found);
+        }
+        found = at;
+        at += (1 + HEAD_BYTES) as u64 + u64::from(head.len);
+    }
+    Ok(found)
 }
 
 fn head_of(bytes: &[u8]) -> Head

@@ -19,7 +19,7 @@ invariant_of-result g c =
       staged_waits = λ s is. absurd cc;
       staged_short = λ s is. absurd cc;
       staged_some = λ s is. absurd cc;
-      inside = omega (arith, c.read_stream.ensures.size);
+      as_long = omega (arith, c.read_stream.ensures.size);
     }
 
 pub returns-in-Ok-clause-settled : goal.returns-in-Ok-clause-settled
@@ -41,12 +41,15 @@ pub returns-in-Ok-clause-only : goal.returns-in-Ok-clause-only
 returns-in-Ok-clause-only g c honest rs gives = c.in-Ok.ensures.only honest gives.0 gives.1 ∙ sym gives.2
 
 pub returns-then-not-has_stream-clause-undamaged : goal.returns-then-not-has_stream-clause-undamaged
-returns-then-not-has_stream-clause-undamaged g c honest within short rs gives =
+returns-then-not-has_stream-clause-undamaged g c honest short rs gives =
+    let within = g.met.D.Disk.keeps_length c.args.device honest in
     let some = frames_some 4096 (seen (g.D.Disk.history c.args.device)) gives.0 gives.1 in
     not_both c.has_stream.result (c.has_stream.ensures.1 (omega (arith, some, within, c.len-limit.ensures), omega (arith, short, c.len-limit.ensures))) c.if-not-has_stream.true
 
 pub returns-in-Err-clause-undamaged : goal.returns-in-Err-clause-undamaged
-returns-in-Err-clause-undamaged g c honest within short rs gives = c.in-Err.ensures.undamaged honest (omega (arith, within, c.len-limit.ensures)) gives.0 gives.1
+returns-in-Err-clause-undamaged g c honest short rs gives =
+    c.in-Err.ensures.undamaged honest (omega (arith, g.met.D.Disk.keeps_length c.args.device honest, c.len-limit.ensures)) gives.0 gives.1
 
 pub returns-in-Err-clause-damaged : goal.returns-in-Err-clause-damaged
-returns-in-Err-clause-damaged g c honest within some short place is = c.in-Err.ensures.damaged honest (omega (arith, within, c.len-limit.ensures)) place (cc is)
+returns-in-Err-clause-damaged g c honest some short place is =
+    c.in-Err.ensures.damaged honest (omega (arith, g.met.D.Disk.keeps_length c.args.device honest, c.len-limit.ensures)) place (cc is)

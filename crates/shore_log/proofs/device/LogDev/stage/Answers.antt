@@ -32,7 +32,7 @@ write_synced-requires g c =
     let group = take c.longest_group-count.result.0 c.waiting_records-waiting.result.now in
     let long : length c.deref.result.now ≡ 13 + length (texts group) =
     ap length (c.deref.ensures.value ∙ c.in_ok-bytes.ensures) ∙ length-append (behind_gate (c.args.self.now.forced + 1) (texts group)) (0 ∷ []) ∙ omega (arith, length-behind_gate (c.args.self.now.forced + 1) (texts group)) in
-    omega (arith, long, c.longest_group-count.ensures.len, c.args.self.now.inside, c.if-self-len.false)
+    omega (arith, long, c.longest_group-count.ensures.len, c.args.self.now.as_long, c.if-self-len.false)
 
 pub returns-in_err-write_synced-clause-any_moment : goal.returns-in_err-write_synced-clause-any_moment
 returns-in_err-write_synced-clause-any_moment g c front s none =

@@ -17,5 +17,5 @@ invariant_of-self g c =
       staged_waits = λ s is. omega (arith, old.staged_waits s is, longer);
       staged_short = old.staged_short;
       staged_some = old.staged_some;
-      inside = old.inside;
+      as_long = old.as_long;
     }
