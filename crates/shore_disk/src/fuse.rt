@@ -77,7 +77,8 @@ impl<D: Disk> Disk for FuseDisk<D> {
         ensures blown { fuse_calls self.old ≡ 0 → IsErr result × (fuse_inner self.new ≡ fuse_inner self.old) }
         ensures passed { 0 < fuse_calls self.old → CountsFault result (D.faults (fuse_inner self.old)) (D.faults (fuse_inner self.new)) }
         ensures calls { fuse_calls self.new ≡ fuse_calls self.old }
-        ensures read { IsTrue (D.is_honest (fuse_inner self.old)) → OnOk result (out.new ≡ take (length out.old) (drop at (seen (D.history (fuse_inner self.old))))) }
+        ensures read { IsTrue (D.is_honest (fuse_inner self.old))
+            → OnOk result (out.new ≡ take (length out.old) (drop at (seen (D.history (fuse_inner self.old))))) }
         ensures same { IsTrue (D.is_honest (fuse_inner self.old)) → D.history (fuse_inner self.new) ≡ D.history (fuse_inner self.old) }
         ensures honest { D.is_honest (fuse_inner self.new) ≡ D.is_honest (fuse_inner self.old) }
         ensures size { size (D.history (fuse_inner self.new)) ≡ size (D.history (fuse_inner self.old)) }
@@ -94,7 +95,8 @@ impl<D: Disk> Disk for FuseDisk<D> {
         ensures blown { fuse_calls self.old ≡ 0 → IsErr result × (fuse_inner self.new ≡ fuse_inner self.old) }
         ensures passed { 0 < fuse_calls self.old → CountsFault result (D.faults (fuse_inner self.old)) (D.faults (fuse_inner self.new)) }
         ensures calls { fuse_calls self.new ≡ fuse_calls self.old - 1 }
-        ensures written { IsTrue (D.is_honest (fuse_inner self.old)) → Writes at bytes.now result (D.history (fuse_inner self.old)) (D.history (fuse_inner self.new)) }
+        ensures written { IsTrue (D.is_honest (fuse_inner self.old))
+            → Writes at bytes.now result (D.history (fuse_inner self.old)) (D.history (fuse_inner self.new)) }
         ensures honest { D.is_honest (fuse_inner self.new) ≡ D.is_honest (fuse_inner self.old) }
         ensures size { size (D.history (fuse_inner self.new)) ≡ size (D.history (fuse_inner self.old)) }
         ensures cause { CountsFault result (fuse_faults D.faults self.old) (fuse_faults D.faults self.new) }
@@ -110,7 +112,8 @@ impl<D: Disk> Disk for FuseDisk<D> {
         ensures blown { fuse_calls self.old ≡ 0 → IsErr result × (fuse_inner self.new ≡ fuse_inner self.old) }
         ensures passed { 0 < fuse_calls self.old → CountsFault result (D.faults (fuse_inner self.old)) (D.faults (fuse_inner self.new)) }
         ensures calls { fuse_calls self.new ≡ fuse_calls self.old - 1 }
-        ensures synced { IsTrue (D.is_honest (fuse_inner self.old)) → Syncs result (D.history (fuse_inner self.old)) (D.history (fuse_inner self.new)) }
+        ensures synced { IsTrue (D.is_honest (fuse_inner self.old))
+            → Syncs result (D.history (fuse_inner self.old)) (D.history (fuse_inner self.new)) }
         ensures honest { D.is_honest (fuse_inner self.new) ≡ D.is_honest (fuse_inner self.old) }
         ensures size { size (D.history (fuse_inner self.new)) ≡ size (D.history (fuse_inner self.old)) }
         ensures cause { CountsFault result (fuse_faults D.faults self.old) (fuse_faults D.faults self.new) }

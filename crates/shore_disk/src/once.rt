@@ -79,7 +79,8 @@ impl<D: Disk> Disk for OnceDisk<D> {
         ensures chosen { once_calls self.old ≡ Some 0 → IsErr result × (once_inner self.new ≡ once_inner self.old) }
         ensures passed { once_calls self.old ≢ Some 0 → CountsFault result (D.faults (once_inner self.old)) (D.faults (once_inner self.new)) }
         ensures calls { once_calls self.new ≡ one_call_on (once_calls self.old) }
-        ensures read { IsTrue (D.is_honest (once_inner self.old)) → OnOk result (out.new ≡ take (length out.old) (drop at (seen (D.history (once_inner self.old))))) }
+        ensures read { IsTrue (D.is_honest (once_inner self.old))
+            → OnOk result (out.new ≡ take (length out.old) (drop at (seen (D.history (once_inner self.old))))) }
         ensures same { IsTrue (D.is_honest (once_inner self.old)) → D.history (once_inner self.new) ≡ D.history (once_inner self.old) }
         ensures honest { D.is_honest (once_inner self.new) ≡ D.is_honest (once_inner self.old) }
         ensures size { size (D.history (once_inner self.new)) ≡ size (D.history (once_inner self.old)) }
@@ -94,7 +95,8 @@ impl<D: Disk> Disk for OnceDisk<D> {
         ensures chosen { once_calls self.old ≡ Some 0 → IsErr result × (once_inner self.new ≡ once_inner self.old) }
         ensures passed { once_calls self.old ≢ Some 0 → CountsFault result (D.faults (once_inner self.old)) (D.faults (once_inner self.new)) }
         ensures calls { once_calls self.new ≡ one_call_on (once_calls self.old) }
-        ensures written { IsTrue (D.is_honest (once_inner self.old)) → Writes at bytes.now result (D.history (once_inner self.old)) (D.history (once_inner self.new)) }
+        ensures written { IsTrue (D.is_honest (once_inner self.old))
+            → Writes at bytes.now result (D.history (once_inner self.old)) (D.history (once_inner self.new)) }
         ensures honest { D.is_honest (once_inner self.new) ≡ D.is_honest (once_inner self.old) }
         ensures size { size (D.history (once_inner self.new)) ≡ size (D.history (once_inner self.old)) }
         ensures cause { CountsFault result (once_faults D.faults self.old) (once_faults D.faults self.new) }
@@ -107,7 +109,8 @@ impl<D: Disk> Disk for OnceDisk<D> {
         ensures chosen { once_calls self.old ≡ Some 0 → IsErr result × (once_inner self.new ≡ once_inner self.old) }
         ensures passed { once_calls self.old ≢ Some 0 → CountsFault result (D.faults (once_inner self.old)) (D.faults (once_inner self.new)) }
         ensures calls { once_calls self.new ≡ one_call_on (once_calls self.old) }
-        ensures synced { IsTrue (D.is_honest (once_inner self.old)) → Syncs result (D.history (once_inner self.old)) (D.history (once_inner self.new)) }
+        ensures synced { IsTrue (D.is_honest (once_inner self.old))
+            → Syncs result (D.history (once_inner self.old)) (D.history (once_inner self.new)) }
         ensures honest { D.is_honest (once_inner self.new) ≡ D.is_honest (once_inner self.old) }
         ensures size { size (D.history (once_inner self.new)) ≡ size (D.history (once_inner self.old)) }
         ensures cause { CountsFault result (once_faults D.faults self.old) (once_faults D.faults self.new) }
