@@ -11,6 +11,7 @@ ghost use Rattle.shore_core.specs.declared.calls.TheConstants.{LAST_LSN, LAST_TX
 ghost use Rattle.shore_core.specs.Room.{Admits};
 ghost use Rattle.shore_model.specs.declared.log_records.LogRecord.{LogRecord};
 ghost use Rattle.shore_machine.specs.Served.{IsServed};
+ghost use Rattle.shore_machine.specs.Trails.{IsOpened};
 ghost use Rattle.shore_machine.specs.Steps.{CallStep, ResumeStep, told_durable, with_failure};
 
 use crate::records::RecordMap;
@@ -311,7 +312,7 @@ impl<T: Tail> Core<T> {
 }
 
 impl Core<PlainTail> {
-    ghost use Rattle.shore_core.specs.Cores.{durable_of, has_failed, geometry_of, state_of};
+    ghost use Rattle.shore_core.specs.Cores.{durable_of, geometry_of, state_of};
 
     /// The core of a log: its records in place are those that the log tells. `size` is the length of the log's stream, and
     /// `durable` the last number of the log.
@@ -322,11 +323,13 @@ impl Core<PlainTail> {
         size: u64,
         durable: Durable,
     ) -> Result<Core<PlainTail>, OpenError>
-        requires { All Fits log.now }
+        requires fit { All Fits log.now }
+        requires durable { durable.lsn ≡ length log.now }
+        ensures opened { IfOk result (λ core. IsOpened log.now (state_of log.now core)) }
+        ensures geometry { IfOk result (λ core. geometry_of core ≡ geometry) }
         ensures numbers { IfOk result (λ core. first_of core.tail ≡ 1 + length log.now) }
         ensures waiting { IfOk result (λ core. waiting_in core.tail ≡ []) }
         ensures durable { IfOk result (λ core. durable_of core ≡ durable.lsn) }
-        ensures open { IfOk result (λ core. has_failed core ≡ false) }
     {
         let records = replay(alloc, &geometry, log)?;
         let room = LogRoom::new(size, cost_of_all(log)).ok_or(OpenError::NoRoom)?;

@@ -290,6 +290,7 @@ impl<D: Disk> LogDev<D> {
         ensures same { IsTrue (D.is_honest self.old.device) → D.history self.new.device ≡ D.history self.old.device }
         ensures honest { D.is_honest self.new.device ≡ D.is_honest self.old.device }
         ensures cause { HasCause result (D.faults self.old.device) (D.faults self.new.device) }
+        ensures size { size (D.history self.new.device) ≡ size (D.history self.old.device) }
     {
         let end = STREAM + self.place;
         find_frame(&mut self.device, STREAM, end, number.0)

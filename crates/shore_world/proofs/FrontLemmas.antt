@@ -1,24 +1,22 @@
 -- The front of a log device, in parts.
-use Rattle.std.proofs.Common.{◌≡◌, ◌≢◌, ◌⊎◌, inl, inr, true, ◌&&◌, ◌==◌, ℕ, ◌+◌, ◌-◌, ◌^◌, ◌<◌, ◌≤◌, List, [], ◌∷◌, ◌++◌, length, take, drop, replicate, slice_index, Result, Ok, Err, refl, sym, ◌∙◌, ap, subst, arith, append_assoc, length-append}
+use Rattle.std.proofs.Common.{◌≡◌, inl, inr, true, ◌&&◌, ◌==◌, ℕ, ◌+◌, ◌-◌, ◌^◌, ◌<◌, ◌≤◌, List, [], ◌∷◌, ◌++◌, length, take, drop, replicate, slice_index, Result, refl, sym, ◌∙◌, ap, subst, arith, append_assoc, length-append}
 use Rattle.std.proofs.lemmas.Bool.{cases_eq, and_parts, eqb-true}
 use Rattle.std.proofs.lemmas.List.{take_at, take_all, drop_at, drop-drop, length-replicate}
 use Rattle.shore_types.specs.declared.faults.Device.TheVariants.{Log}
-use Rattle.shore_types.specs.declared.faults.Fault.{Fault}
 use Rattle.shore_types.specs.declared.layout.Geometry.{Geometry}
 use Rattle.shore_types.specs.Layout.{IsInLimits}
-use Rattle.shore_disk.specs.Device.{History, size, overwritten, Torn, TornFrom, may_leave, seen, Writes, Stands, LeavesOnly}
+use Rattle.shore_disk.specs.Device.{History, size, overwritten, Torn, TornFrom, Writes, Stands, LeavesOnly}
 use Rattle.shore_disk.proofs.Images.{overwritten-append}
 use Rattle.shore_disk.proofs.Moments.{at_end, started, joined, widened, write_leaves}
 use Rattle.shore_gate.specs.declared.gates.TheConstants.{OPEN, CLOSED}
 use Rattle.shore_gate.specs.declared.anchors.Anchor.{Anchor}
 use Rattle.shore_gate.specs.declared.anchors.Anchors.{Anchors}
 use Rattle.shore_gate.specs.declared.anchors.Slot.{Slot}
-use Rattle.shore_gate.specs.declared.anchors.Slot.TheVariants.{A, B}
+use Rattle.shore_gate.specs.declared.anchors.Slot.TheVariants.{A}
 use Rattle.shore_gate.specs.declared.labels.Label.{Label}
-use Rattle.shore_gate.specs.Label.{IsLabel, HoldsLabel, label_bytes}
+use Rattle.shore_gate.specs.Label.{HoldsLabel, label_bytes}
 use Rattle.shore_gate.specs.Anchor.{Counts, MayCount, anchor_bytes, place_of}
 use Rattle.shore_gate.proofs.WidthLemmas.{length-label_bytes, length-anchor_bytes}
-use Rattle.shore_log.specs.Frames.{Gives}
 use Rattle.shore_world.specs.Fronts.{IsLogLength, log_label, first_anchor, is_first, HasFront, StandsFor, behind_label, IsShut, LeftByFormat}
 
 -- zeros up to a length

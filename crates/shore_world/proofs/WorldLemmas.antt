@@ -1,17 +1,17 @@
 -- What an event leaves of a world, by what it did to the log device.
-use Rattle.std.proofs.Common.{◌≡◌, ◌≢◌, ◌⊎◌, inl, inr, ℕ, ◌+◌, ◌≤◌, ◌<◌, List, [], ◌∷◌, ◌++◌, length, take, drop, Bool, true, false, Option, Some, None, IsTrue, refl, sym, ◌∙◌, ap, subst, arith, append_assoc, append-nil, length-append, length-drop}
+use Rattle.std.proofs.Common.{◌≡◌, ◌≢◌, ◌⊎◌, inl, inr, ℕ, ◌+◌, ◌≤◌, List, [], ◌∷◌, ◌++◌, length, take, Bool, true, false, Option, Some, None, Ok, IsTrue, refl, sym, ◌∙◌, ap, subst, arith, length-append, length-drop}
 use Rattle.std.specs.Prelude.{◌↔◌, IsSome}
 use Rattle.std.proofs.lemmas.List.{take-append-le, length-take, length-take-le}
-use Rattle.shore_disk.specs.Device.{History, may_leave, LeavesOnly}
+use Rattle.shore_disk.specs.Device.{History, noted, synced, seen, Stands, may_leave, LeavesOnly}
 use Rattle.shore_disk.specs.declared.device.Disk.{Ghosts}
-use Rattle.shore_disk.proofs.Moments.{started, widened, at_end}
+use Rattle.shore_disk.proofs.Moments.{started, widened, at_end, sync_leaves}
 use Rattle.shore_model.specs.declared.log_records.LogRecord.{LogRecord}
 use Rattle.shore_machine.specs.declared.step.Step.{Step}
 use Rattle.shore_machine.specs.States.{State}
 use Rattle.shore_machine.specs.Steps.{with_failure}
 use Rattle.shore_machine.proofs.Growth.{Grows, same_grows}
 use Rattle.shore_log.specs.Frames.{GivesBehind, GivesWithOrWithout}
-use Rattle.shore_log.specs.Settled.{list_of, stable, waiting, IsSettled, IsStaged}
+use Rattle.shore_log.specs.Settled.{stable, waiting, IsSettled, IsStaged}
 use Rattle.shore_log.specs.declared.device.LogDev.{LogDev}
 use Rattle.shore_log.proofs.ForceLemmas.{settled_gives}
 use Rattle.shore_log.proofs.ListLemmas.{take-more_group}
@@ -107,8 +107,8 @@ module _ {D : Type 0} {G : Ghosts D} where
           images = λ c left. subst (λ n. GivesBeginning front n (state_in new).list c) (sym grows.durable) (gives front c (k.images c (subst (λ (h : History). may_leave h c) same left)));
           ready = λ running. ready front (k.ready (grows.running running));
         };
-        any_moment = λ front k. subst (λ (h : History). LeavesOnly (history_in old) h (GivesBeginning front (state_in old).durable (state_in new).list)) (sym same)
-            (started (history_in old) (GivesBeginning front (state_in old).durable (state_in new).list) (λ c left. gives front c (k.images c left)));
+        any_moment = λ front k. subst (λ (h : History). LeavesOnly (history_in old) h (GivesBeginning front (state_in old).durable (state_in old).list)) (sym same)
+            (started (history_in old) (GivesBeginning front (state_in old).durable (state_in old).list) k.images);
       }
 
   pub none_staged : (log : LogDev D G) (is : Bool) → (IsTrue is ↔ IsSome log.staged) → is ≡ false → log.staged ≡ None
@@ -135,6 +135,11 @@ module _ {D : Type 0} {G : Ghosts D} where
 
   -- ---- a frame is staged, or it fails as it is
 
+  as_before : (old new : World D G) (front c : List ℕ) → (state_in new).list ≡ (state_in old).list → (state_in new).durable ≡ (state_in old).durable
+      → GivesBeginning front (state_in old).durable (state_in old).list c → GivesBeginning front (state_in new).durable (state_in new).list c
+  as_before old new front c list durable gives =
+      subst (λ (l : List LogRecord). GivesBeginning front (state_in new).durable l c) (sym list) (subst (λ n. GivesBeginning front n (state_in old).list c) (sym durable) gives)
+
   pub staging : (old new : World D G) (mid : LogDev D G) (e : Event) (step : Step) → geometry_in new ≡ geometry_in old → EventStep (geometry_in old) (state_in old) e step (state_in new)
       → (state_in old).failed ≡ false → old.log.staged ≡ None → mid.device ≡ old.log.device → mid.staged ≡ old.log.staged → stable mid ≡ stable old.log
       → (state_in new).list ≡ (state_in old).list → (state_in new).durable ≡ (state_in old).durable
@@ -146,15 +151,15 @@ module _ {D : Type 0} {G : Ghosts D} where
         | inl s ↦ s.0
         | inr s ↦ absurd (let clash = s.1.waits in cc)
       ] in
-      let leaves : (front : List ℕ) → IsKept old front → LeavesOnly (history_in old) (history_in new) (GivesBeginning front (state_in old).durable (state_in new).list) =
-      λ front k. subst (λ (d : D). LeavesOnly (G.history d) (history_in new) (GivesBeginning front (state_in old).durable (state_in new).list)) device
-      (widened (G.history mid.device) (history_in new) (GivesBehind front (stable mid)) (GivesBeginning front (state_in old).durable (state_in new).list) (moments front (settled front (settled_now front k)) (waits ∙ none))
-      (λ c gives. subst (λ (l : List LogRecord). GivesBeginning front (state_in old).durable l c) (sym list) (stable_gives old front c (subst (λ (l : List LogRecord). GivesBehind front l c) same gives)))) in
+      let leaves : (front : List ℕ) → IsKept old front → LeavesOnly (history_in old) (history_in new) (GivesBeginning front (state_in old).durable (state_in old).list) =
+      λ front k. subst (λ (d : D). LeavesOnly (G.history d) (history_in new) (GivesBeginning front (state_in old).durable (state_in old).list)) device
+      (widened (G.history mid.device) (history_in new) (GivesBehind front (stable mid)) (GivesBeginning front (state_in old).durable (state_in old).list) (moments front (settled front (settled_now front k)) (waits ∙ none))
+      (λ c gives. stable_gives old front c (subst (λ (l : List LogRecord). GivesBehind front l c) same gives))) in
       record {
         geometry = geometry;
         state = state;
         kept = λ front k. record {
-          images = λ c left. subst (λ n. GivesBeginning front n (state_in new).list c) (sym durable) (at_end (history_in old) (history_in new) (GivesBeginning front (state_in old).durable (state_in new).list) (leaves front k) c left);
+          images = λ c left. as_before old new front c list durable (at_end (history_in old) (history_in new) (GivesBeginning front (state_in old).durable (state_in old).list) (leaves front k) c left);
           ready = λ run. ready front (settled front (settled_now front k)) run;
         };
         any_moment = leaves;
@@ -172,16 +177,16 @@ module _ {D : Type 0} {G : Ghosts D} where
         | inl s ↦ absurd (some s.1)
         | inr s ↦ s
       ] in
-      let leaves : (front : List ℕ) → IsKept old front → LeavesOnly (history_in old) (history_in new) (GivesBeginning front (state_in old).durable (state_in new).list) =
+      let leaves : (front : List ℕ) → IsKept old front → LeavesOnly (history_in old) (history_in new) (GivesBeginning front (state_in old).durable (state_in old).list) =
       λ front k. let s = staged_now front k in
-      widened (history_in old) (history_in new) (GivesWithOrWithout front (stable old.log) s.0) (GivesBeginning front (state_in old).durable (state_in new).list) (moments front s.0 s.1)
-      (λ c gives. subst (λ (l : List LogRecord). GivesBeginning front (state_in old).durable l c) (sym list) (either_gives old front s.0 s.1 c gives)) in
+      widened (history_in old) (history_in new) (GivesWithOrWithout front (stable old.log) s.0) (GivesBeginning front (state_in old).durable (state_in old).list) (moments front s.0 s.1)
+      (either_gives old front s.0 s.1) in
       record {
         geometry = geometry;
         state = state;
         kept = λ front k. let s = staged_now front k in elim (after front s.0 s.1) [
           | inl failed ↦ record {
-            images = λ c left. subst (λ n. GivesBeginning front n (state_in new).list c) (sym failed.0) (at_end (history_in old) (history_in new) (GivesBeginning front (state_in old).durable (state_in new).list) (leaves front k) c left);
+            images = λ c left. as_before old new front c list failed.0 (at_end (history_in old) (history_in new) (GivesBeginning front (state_in old).durable (state_in old).list) (leaves front k) c left);
             ready = λ run. absurd (failed.1 run);
           }
           | inr settled ↦ record {
@@ -209,3 +214,18 @@ module _ {D : Type 0} {G : Ghosts D} where
 pub not_copied : (g : Geometry) (s : State) (e : Event) → IsCall e → EventStep g s e (Refused Memory) s
 not_copied g s (event.Call session call) is = (inl refl, refl)
 not_copied g s _ is = absurd is
+
+-- ---- an open
+
+-- a device that was synced at most leaves what it could have left before
+pub synced_only : (old new : History) → (new ≡ old) ⊎ (new ≡ noted old synced) → LeavesOnly old new (may_leave old)
+synced_only old new (inl same) = subst (λ (h : History). LeavesOnly old h (may_leave old)) (sym same) (started old (may_leave old) (λ c left. left))
+synced_only old new (inr is) = sync_leaves {E = Unit {0}} (Ok tt) old new (may_leave old) is (λ c left. left)
+
+-- and holds what is read
+pub synced_stands : (old new : History) → new ≡ noted old synced → Stands new (seen old)
+synced_stands old new is = subst (λ (h : History). Stands h (seen old)) (sym is) (record { read = refl; only = λ c left. left })
+
+-- a world on a settled log
+pub settled_kept : {D : Type 0} {G : Ghosts D} (w : World D G) (front : List ℕ) → IsSettled w.log front → w.log.staged ≡ None → IsKept w front
+settled_kept w front settled none = record { images = λ c left. stable_gives w front c (settled_gives w.log front settled c left); ready = λ running. inl (settled, none) }

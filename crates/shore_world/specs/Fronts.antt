@@ -10,7 +10,7 @@ use Rattle.shore_gate.specs.declared.anchors.Anchor.{Anchor}
 use Rattle.shore_gate.specs.declared.anchors.Anchors.{Anchors}
 use Rattle.shore_gate.specs.declared.anchors.Slot.{Slot}
 use Rattle.shore_gate.specs.declared.labels.Label.{Label}
-use Rattle.shore_gate.specs.Label.{HoldsLabel, label_bytes, verdict_of}
+use Rattle.shore_gate.specs.Label.{HoldsLabel, verdict_of}
 use Rattle.shore_gate.specs.Anchor as anchors
 use Rattle.shore_gate.specs.Anchor.{Counts, anchor_bytes, place_of, damaged}
 use Rattle.shore_model.specs.declared.log_records.LogRecord.{LogRecord}

@@ -1,5 +1,5 @@
 -- What a world is, what an event does to it, and what a crash leaves of it.
-use Rattle.std.specs.Prelude.{◌≡◌, ◌⊎◌, ℕ, ◌<◌, ◌≤◌, List, [], ◌∷◌, ◌++◌, Bool, true, false, IsTrue, None, Result, Ok, Err, length, take}
+use Rattle.std.specs.Prelude.{◌≡◌, ◌⊎◌, ℕ, ◌<◌, ◌≤◌, List, [], ◌∷◌, false, IsTrue, None, Result, Ok, Err, length, take}
 use Rattle.shore_types.specs.declared.faults.Fault.{Fault}
 use Rattle.shore_types.specs.declared.faults.Fault.TheVariants.{Device, Failed, Memory, LogFull}
 use Rattle.shore_types.specs.declared.layout.Geometry.{Geometry}
@@ -8,7 +8,7 @@ use Rattle.shore_disk.specs.declared.device.Disk.{Ghosts}
 use Rattle.shore_model.specs.declared.calls.Answer.TheVariants.{Staged, Forced}
 use Rattle.shore_model.specs.declared.log_records.LogRecord.{LogRecord}
 use Rattle.shore_machine.specs.declared.step.Step.{Step}
-use Rattle.shore_machine.specs.declared.step.Step.TheVariants.{Done, Waits, Refused, Nothing}
+use Rattle.shore_machine.specs.declared.step.Step.TheVariants.{Done, Refused, Nothing}
 use Rattle.shore_machine.specs.States.{State}
 use Rattle.shore_machine.specs.Steps.{CallStep, ResumeStep, told_durable, with_failure}
 use Rattle.shore_log.specs.Frames.{GivesBehind}
@@ -66,13 +66,13 @@ pub record IsKept {D : Type 0} {G : Ghosts D} (w : World D G) (front : List ℕ)
   pub images : (c : List ℕ) → may_leave (history_in w) c → GivesBeginning front (state_in w).durable (state_in w).list c
   pub ready : (state_in w).failed ≡ false → IsReady w front
 
--- One event: a step of the machine; and at each moment of it a crash leaves a beginning of the list as it is then, with all that
--- was durable before.
+-- One event: a step of the machine; and at each moment of it a crash leaves a beginning of the list as it was before, with all
+-- that was durable then.
 pub record Steps {D : Type 0} {G : Ghosts D} (old : World D G) (e : Event) (step : Step) (new : World D G) : Type 0 where
   pub geometry : geometry_in new ≡ geometry_in old
   pub state : EventStep (geometry_in old) (state_in old) e step (state_in new)
   pub kept : (front : List ℕ) → IsKept old front → IsKept new front
-  pub any_moment : (front : List ℕ) → IsKept old front → LeavesOnly (history_in old) (history_in new) (GivesBeginning front (state_in old).durable (state_in new).list)
+  pub any_moment : (front : List ℕ) → IsKept old front → LeavesOnly (history_in old) (history_in new) (GivesBeginning front (state_in old).durable (state_in old).list)
 
 -- the events, one step each, from a world to another
 abbrev pub Runs : {D : Type 0} {G : Ghosts D} → World D G → List Event → List Step → World D G → Type 0

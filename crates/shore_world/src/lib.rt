@@ -4,6 +4,7 @@
 
 mod event;
 mod front;
+pub mod laws;
 mod world;
 
 pub use event::Event;

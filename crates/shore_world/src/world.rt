@@ -1,13 +1,16 @@
 //! The plain world: a core and its log device, one event at a time. There is no volume yet; the records in place are the
 //! core's, and an open makes them anew from the log.
-ghost use Rattle.std.specs.Prelude.{◌≡◌, ◌≢◌, ◌⊎◌, ◌+◌, ◌++◌, List, All, IsTrue, IfOk, OnOk, OnErr, length, take};
-ghost use Rattle.shore_disk.specs.Device.{History, size, seen, may_leave, LeavesOnly};
+ghost use Rattle.std.specs.Prelude.{◌≡◌, ◌≢◌, ◌⊎◌, ◌+◌, ◌++◌, List, All, IsTrue, IfOk, OnOk, OnErr, Err, length, take};
+ghost use Rattle.shore_types.specs.declared.layout.Geometry.{Geometry};
+ghost use Rattle.shore_model.specs.declared.log_records.LogRecord.{LogRecord};
+ghost use Rattle.shore_disk.specs.Device.{size, seen, may_leave, LeavesOnly};
 ghost use Rattle.shore_disk.specs.Cause.{HasCause};
 ghost use Rattle.shore_log.specs.Frames.{Gives};
 ghost use Rattle.shore_log.specs.Settled.{list_of, stable};
 ghost use Rattle.shore_log.specs.PlainTails.{first_of, waiting_in};
+ghost use Rattle.shore_machine.specs.Trails.{IsOpened};
 ghost use Rattle.shore_machine.specs.Steps.{with_failure};
-ghost use Rattle.shore_core.specs.Cores.{tail_of, durable_of};
+ghost use Rattle.shore_core.specs.Cores.{tail_of, durable_of, geometry_of, state_of};
 ghost use Rattle.shore_world.specs.Events.{IsServedEvent};
 
 use crate::Event;
@@ -35,7 +38,23 @@ impl<D: Disk> World<D> {
     /// Opens the manager of a formatted log device: a barrier, the label, the anchors, the frames, and then the records in place
     /// as the log tells them. Refused by 29, 26 or 25 with the place where the device is not in order, by 23 where it failed, by
     /// 27 where a growth was refused; the device is handed back, and may be opened again.
-    pub fn open(alloc: Global, mut log: D) -> Result<World<D>, (Fault, D)> {
+    pub fn open(alloc: Global, mut log: D) -> Result<World<D>, (Fault, D)>
+        // Its list is the one that stood there, and its geometry the label's.
+        ensures list { IsTrue (D.is_honest log) → IfOk result (λ w. Gives (state_in w).list (seen (D.history log))) }
+        ensures only { IsTrue (D.is_honest log) → (rs : List LogRecord) → Gives rs (seen (D.history log)) → IfOk result (λ w. (state_in w).list ≡ rs) }
+        ensures front { IsTrue (D.is_honest log) → IfOk result (λ w. HasFront (geometry_in w) (size (D.history log)) (seen (D.history log))) }
+        ensures geometry { IsTrue (D.is_honest log) → (g : Geometry) → HasFront g (size (D.history log)) (seen (D.history log)) → IfOk result (λ w. geometry_in w ≡ g) }
+        ensures opened { IfOk result (λ w. IsOpened (state_in w).list (state_in w)) }
+        ensures kept { IsTrue (D.is_honest log) → IfOk result (λ w. IsKept w (take 4096 (seen (D.history log)))) }
+
+        // A crash at any moment of the call leaves what it could have left before.
+        ensures any_moment { IsTrue (D.is_honest log) → LeavesOnly (D.history log) (D.history (device_in result)) (may_leave (D.history log)) }
+
+        ensures seen { IsTrue (D.is_honest log) → seen (D.history (device_in result)) ≡ seen (D.history log) }
+        ensures honest { D.is_honest (device_in result) ≡ D.is_honest log }
+        ensures size { size (D.history (device_in result)) ≡ size (D.history log) }
+        ensures cause { HasCause (fault_in result) (D.faults log) (D.faults (device_in result)) }
+    {
         let Front {
             geometry,
             anchor_place,
@@ -43,7 +62,10 @@ impl<D: Disk> World<D> {
             Ok(front) => front,
             Err(fault) => return Err((fault, log)),
         };
-        let mut log = LogDev::open(alloc, log)?;
+        let mut log = match LogDev::open(alloc, log) {
+            Ok(log) => log,
+            Err(refused) => return Err(refused),
+        };
         match open_core(alloc, geometry, &log) {
             Ok(core) => Ok(World { core, log }),
             Err(error) => {
@@ -190,6 +212,9 @@ fn open_core<D: Disk>(
     geometry: Geometry,
     log: &LogDev<D>,
 ) -> Result<Core<PlainTail>, OpenError>
+    requires { stable log.now ≡ list_of log.now }
+    ensures opened { IfOk result (λ core. IsOpened (list_of log.now) (state_of (list_of log.now) core)) }
+    ensures geometry { IfOk result (λ core. geometry_of core ≡ geometry) }
     ensures numbers { IfOk result (λ core. first_of (tail_of core) ≡ 1 + length (list_of log.now)) }
     ensures told { IfOk result (λ core. durable_of core ≡ length (stable log.now)) }
 {
@@ -197,7 +222,12 @@ fn open_core<D: Disk>(
 }
 
 // What an open is refused with, by the place that the error speaks of.
-fn fault_of<D: Disk>(error: OpenError, anchor_place: u64, log: &mut LogDev<D>) -> Fault {
+fn fault_of<D: Disk>(error: OpenError, anchor_place: u64, log: &mut LogDev<D>) -> Fault
+    ensures still { IsTrue (D.is_honest log.old.device) → D.history log.new.device ≡ D.history log.old.device }
+    ensures honest { D.is_honest log.new.device ≡ D.is_honest log.old.device }
+    ensures size { size (D.history log.new.device) ≡ size (D.history log.old.device) }
+    ensures cause { HasCause {T = Unit {0}} (Err result) (D.faults log.old.device) (D.faults log.new.device) }
+{
     match error {
         OpenError::Memory => Fault::Memory,
         OpenError::NoRoom => damaged(anchor_place),

@@ -1,4 +1,4 @@
-use Rattle.std.proofs.Common.{rules, ◌≡◌, inl, inr, ℕ, List, [], ◌∙◌, ap, ◌∷◌, ◌<◌, ◌^◌, IsTrue, subst, sym, arith}
+use Rattle.std.proofs.Common.{rules, ◌≡◌, ℕ, List, [], ◌∙◌, ap, ◌∷◌, IsTrue, subst, sym}
 use Rattle.shore_disk.specs.Device.{size, overwritten}
 use Rattle.shore_gate.specs.declared.gates.TheConstants.{OPEN}
 use Rattle.shore_world.specs.Fronts.{IsLogLength, log_label, StandsFor}

@@ -1,10 +1,10 @@
-use Rattle.std.proofs.Common.{◌≡◌, inl, inr, ℕ, List, Bool, true, false, IsTrue, take, subst, sym, ap, ◌∙◌, arith}
+use Rattle.std.proofs.Common.{◌≡◌, inl, ℕ, List, true, false, IsTrue, take, subst, sym, ap, ◌∙◌}
 use Rattle.std.proofs.lemmas.Result.{err_from_is_err_and}
 use Rattle.shore_types.specs.declared.faults.Device.TheVariants.{Log}
 use Rattle.shore_disk.specs.Device.{History, seen, size}
 use Rattle.shore_gate.specs.Label.{HoldsLabel}
 use Rattle.shore_gate.specs.Anchor.{Counts}
-use Rattle.shore_world.specs.Fronts.{is_first, first_anchor}
+use Rattle.shore_world.specs.Fronts.{first_anchor}
 use Rattle.shore_world.proofs.FrontLemmas.{found_front, first_found}
 use Rattle.shore_world.proofs.front.read_front.Goals as goal
 

@@ -1,15 +1,15 @@
-use Rattle.std.proofs.Common.{◌≡◌, inl, inr, ℕ, ◌+◌, ◌-◌, ◌≤◌, ◌<◌, List, length, take, None, Some, Ok, Err, false, true, refl, sym, ◌∙◌, ap, subst, arith, length-append}
+use Rattle.std.proofs.Common.{◌≡◌, inl, inr, ◌≤◌, List, length, Ok, refl, sym, ◌∙◌, ap, subst, arith, length-append}
 use Rattle.shore_disk.specs.Device.{LeavesOnly}
 use Rattle.shore_model.specs.declared.log_records.LogRecord.{LogRecord}
 use Rattle.shore_machine.specs.States.{State}
 use Rattle.shore_machine.specs.Steps.{with_failure, told_durable}
 use Rattle.shore_machine.proofs.Growth.{same_grows}
 use Rattle.shore_log.specs.Frames.{GivesWithOrWithout}
-use Rattle.shore_log.specs.Settled.{list_of, stable, IsSettled}
+use Rattle.shore_log.specs.Settled.{list_of, stable}
 use Rattle.shore_log.specs.declared.device.LogDev.{LogDev}
 use Rattle.shore_core.specs.Cores.{state_of, tail_of}
 use Rattle.shore_log.specs.PlainTails.{waiting_in}
-use Rattle.shore_world.specs.Worlds.{state_in, IsReady}
+use Rattle.shore_world.specs.Worlds.{state_in}
 use Rattle.shore_world.specs.declared.event.Event.TheVariants.{ForceOpen}
 use Rattle.shore_world.proofs.WorldLemmas.{unmoved, nothing_done, opening_gate, some_stands, still_running}
 use Rattle.shore_world.proofs.world.World.force_open.Goals as goal

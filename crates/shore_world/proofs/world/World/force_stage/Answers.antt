@@ -1,5 +1,5 @@
-use Rattle.std.proofs.Common.{◌≡◌, inl, inr, ℕ, ◌+◌, ◌-◌, ◌≤◌, ◌<◌, List, length, take, None, Some, Ok, Err, false, true, refl, sym, ◌∙◌, ap, subst, arith, length-append, length-drop}
-use Rattle.shore_disk.specs.Device.{History, LeavesOnly}
+use Rattle.std.proofs.Common.{◌≡◌, inl, inr, ◌-◌, ◌≤◌, List, length, take, Ok, refl, sym, ◌∙◌, ap, subst, arith, length-append, length-drop}
+use Rattle.shore_disk.specs.Device.{LeavesOnly}
 use Rattle.shore_model.specs.declared.log_records.LogRecord.{LogRecord}
 use Rattle.shore_machine.specs.States.{State}
 use Rattle.shore_machine.specs.Steps.{with_failure}
@@ -9,7 +9,7 @@ use Rattle.shore_log.specs.Settled.{list_of, waiting, stable, IsSettled}
 use Rattle.shore_log.specs.PlainTails.{waiting_in}
 use Rattle.shore_log.specs.declared.device.LogDev.{LogDev}
 use Rattle.shore_core.specs.Cores.{state_of, tail_of}
-use Rattle.shore_world.specs.Worlds.{state_in, EventStep}
+use Rattle.shore_world.specs.Worlds.{state_in}
 use Rattle.shore_world.specs.declared.event.Event.TheVariants.{ForceStage}
 use Rattle.shore_world.proofs.WorldLemmas.{unmoved, staging, handed, none_staged, length-stable, still_running, not_left}
 use Rattle.shore_world.proofs.world.World.force_stage.Goals as goal

@@ -1,0 +1,35 @@
+//! What the contracts of the calls come to over whole lives of a device. Each law is the contract of a function with nothing to do.
+ghost use Rattle.std.specs.Prelude.{◌≡◌, ℕ, List, [], All, map};
+ghost use Rattle.shore_types.specs.declared.layout.Geometry.{Geometry};
+ghost use Rattle.shore_model.specs.declared.log_records.LogRecord.{LogRecord};
+ghost use Rattle.shore_model.specs.Lives.{IsLife, Span};
+ghost use Rattle.shore_machine.specs.Runs.{MovesBy};
+ghost use Rattle.shore_machine.specs.States.{State};
+ghost use Rattle.shore_machine.specs.Trails.{IsOpened, opening_of};
+ghost use Rattle.shore_machine.specs.declared.step.Step.{Step};
+ghost use Rattle.shore_log.specs.Frames.{Gives};
+ghost use Rattle.shore_world.specs.declared.event.Event.{Event};
+ghost use Rattle.shore_world.specs.declared.world.World.{World};
+ghost use Rattle.shore_world.specs.Events.{IsServedEvent};
+ghost use Rattle.shore_world.specs.Managers.{AreManagers, Manager, all_moves, entries_of};
+ghost use Rattle.shore_world.specs.Worlds.{Runs, geometry_in, state_in};
+
+use shore_disk::Disk;
+
+/// A run of the world is one of the machine.
+pub fn a_run_moves_the_machine<D: Disk>()
+    ensures { (old new : World D D.Disk) (events : List Event) (steps : List Step) →
+        All IsServedEvent events → Runs old events steps new →
+        MovesBy (geometry_in old) (state_in old) (all_moves events steps) (state_in new) }
+{}
+
+/// Format, then any number of opens, runs and crashes at any moment, and an open: what it shows is what nothing becomes by the
+/// committed transactions of each run in turn, of a beginning of the run's decisions that holds every acknowledged one, each
+/// transaction alone, in the order of the commits. `first` is an image that a crash after the format leaves, `last` the one that
+/// is opened in the end, and `shown` what that open made of it.
+pub fn managers_are_a_life<D: Disk>()
+    ensures { (g : Geometry) (first last : List ℕ) (managers : List (Manager D D.Disk)) (shown : State) →
+        Gives [] first → AreManagers g first managers last → ((rs : List LogRecord) → Gives rs last → shown.list ≡ rs) → IsOpened shown.list shown →
+        (spans : List Span) × (map (λ s. s.entries) spans ≡ map entries_of managers)
+        × IsLife (opening_of []) spans (opening_of shown.list) × (shown.records ≡ (opening_of shown.list).records) }
+{}
