@@ -1,8 +1,11 @@
+pub mod Absences
 pub mod Calls
 pub mod Crashes
 pub mod Entries
+pub mod FirstLists
 pub mod Gains
 pub mod Goings
+pub mod OpensAgain
 pub mod Overlaid
 pub mod OwnReplies
 pub mod Quiet
@@ -10,4 +13,6 @@ pub mod Replies
 pub mod Resumes
 pub mod RunsOn
 pub mod Tellings
+pub mod ToldFronts
 pub mod Turns
+pub mod UnderWay

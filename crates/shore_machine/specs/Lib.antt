@@ -1,4 +1,5 @@
 pub mod Bookkeeping
+pub mod FirstLists
 pub mod Runs
 pub mod Served
 pub mod States

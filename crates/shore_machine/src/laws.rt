@@ -7,11 +7,12 @@ ghost use Rattle.shore_model.specs.declared.log_records.LogRecord.{LogRecord};
 ghost use Rattle.shore_model.specs.Histories.{History, Kept, decisions, serial, writes_in};
 ghost use Rattle.shore_model.specs.Lives.{IsLife, Span};
 ghost use Rattle.shore_model.specs.Logs.{told};
+ghost use Rattle.shore_machine.specs.FirstLists.{LawfulFirst};
 ghost use Rattle.shore_machine.specs.Runs.{AreRuns, Event, MovesBy, Run, after_events, made_by};
 ghost use Rattle.shore_machine.specs.Served.{IsServed};
 ghost use Rattle.shore_machine.specs.States.{State};
 ghost use Rattle.shore_machine.specs.Steps.{CallStep, ResumeStep, told_durable, with_failure};
-ghost use Rattle.shore_machine.specs.Trails.{IsAfter, IsOpened, KeepsDurable, after_call, after_resume, opened_on, opening_of};
+ghost use Rattle.shore_machine.specs.Trails.{IsAfter, IsOpened, KeepsDurable, after_call, after_resume, opened_on, opening_of, serial_now};
 ghost use Rattle.shore_machine.specs.declared.step.Step.{Step};
 
 /// Each call goes on with the history: it stays sound, and the state is what it leaves.
@@ -42,6 +43,18 @@ pub fn open_begins()
 pub fn crash_keeps_acknowledged()
     ensures { (opened : List LogRecord) (h : History) (s : State) (n : ℕ) → IsAfter opened h s → KeepsDurable s n →
         (kept : List Decision) × Kept h.entries kept × (told (take n s.list) ≡ serial (writes_in h) h.opening.records kept) }
+{}
+
+/// The whole list tells the serial records of all decisions.
+pub fn list_tells_all_decided()
+    ensures { (opened : List LogRecord) (h : History) (s : State) → IsAfter opened h s → told s.list ≡ serial_now h }
+{}
+
+/// The list is lawful in its first form, cut at any place, and the next manager can be opened on what is kept of it.
+pub fn list_is_lawful()
+    ensures lawful { (opened : List LogRecord) (h : History) (s : State) (n : ℕ) → IsAfter opened h s → LawfulFirst (take n s.list) }
+    ensures opens_again { (opened : List LogRecord) (h : History) (s : State) (n : ℕ) → IsAfter opened h s →
+        (next : State) × IsOpened (take n s.list) next }
 {}
 
 /// After any events from an open on, the history that they made is sound, and the state is what it leaves.

@@ -1,0 +1,72 @@
+-- What the list is at each moment: it tells all that is decided, and what is kept of it can be opened.
+use Rattle.std.proofs.Common.{◌≡◌, ◌+◌, ◌<◌, ℕ, List, [], ◌∷◌, false, None, refl, sym, ap, subst, ◌∙◌, arith, length, take}
+use Rattle.std.specs.Prelude.{IsTrue, max, ◌≤◌}
+use Rattle.std.specs.List.{AllByRecursion}
+use Rattle.std.proofs.lemmas.List.Elements.{All-from_recursion}
+use Rattle.shore_model.specs.declared.log_records.LogRecord.{LogRecord}
+use Rattle.shore_model.specs.Histories.{History}
+use Rattle.shore_model.specs.Logs.{told}
+use Rattle.shore_machine.specs.Bookkeeping.{is_plain}
+use Rattle.shore_machine.specs.FirstLists.{LawfulFirst}
+use Rattle.shore_machine.specs.States.{State}
+use Rattle.shore_machine.specs.Trails.{IsAfter, IsOpened, opening_of, serial_now}
+use Rattle.shore_machine.proofs.Entries.{recursion-take}
+use Rattle.shore_machine.proofs.FirstLists.{ArePlain, lawful_take}
+use Rattle.shore_machine.proofs.UnderWay.{list_is_plain, told_now}
+
+-- a number above all transactions of a list
+abbrev above_all : List LogRecord → ℕ
+above_all [] = 1
+above_all (r ∷ rs) = max (r.txn + 1) (above_all rs)
+
+some_above : (rs : List LogRecord) → 0 < above_all rs
+some_above [] = omega arith
+some_above (r ∷ rs) = omega (arith, some_above rs)
+
+each_below : (rs : List LogRecord) (n : ℕ) → above_all rs ≤ n → AllByRecursion (λ r. r.txn < n) rs
+each_below [] n le = tt
+each_below (r ∷ rs) n le = (omega arith, each_below rs n (omega arith))
+
+-- what an open may leave
+abbrev opened_state : List LogRecord → State
+opened_state rs = record {
+  records = told rs;
+  active = None;
+  committing = None;
+  next = above_all rs;
+  list = rs;
+  durable = length rs;
+  room = record { kept = 0; reserved = 0; stream = 0 };
+  failed = false;
+}
+
+can_be_opened : (rs : List LogRecord) → ArePlain rs → LawfulFirst rs → IsOpened rs (opened_state rs)
+can_be_opened rs plain lawful = record {
+  records = refl;
+  active = refl;
+  committing = refl;
+  list = refl;
+  plain = All-from_recursion (λ r. IsTrue (is_plain r)) rs plain;
+  lawful = lawful;
+  some_next = some_above rs;
+  next = All-from_recursion (λ r. r.txn < above_all rs) rs (each_below rs (above_all rs) (omega arith));
+  durable = refl;
+  running = refl;
+}
+
+module _ (opened : List LogRecord) (h : History) (s : State) (k : IsAfter opened h s) where
+  k_on : IsAfter opened (record { opening = opening_of opened; entries = h.entries }) s
+  k_on = subst (λ o. IsAfter opened (record { opening = o; entries = h.entries }) s) k.opening k
+
+  pub lawful_cut : (n : ℕ) → LawfulFirst (take n s.list)
+  lawful_cut n = lawful_take s.list n (subst LawfulFirst (sym k.list) k.ordered.lawful)
+
+  pub opens_again : (n : ℕ) → (next : State) × IsOpened (take n s.list) next
+  opens_again n =
+      let plain : ArePlain s.list = subst ArePlain (sym k_on.list) (list_is_plain opened h.entries s k_on) in
+      (opened_state (take n s.list), can_be_opened (take n s.list) (recursion-take (λ r. IsTrue (is_plain r)) n s.list plain) (lawful_cut n))
+
+  pub tells_all : told s.list ≡ serial_now h
+  tells_all =
+      subst (λ o. told s.list ≡ serial_now (record { opening = o; entries = h.entries })) (sym k.opening)
+      (ap told k_on.list ∙ told_now opened h.entries s k_on)
