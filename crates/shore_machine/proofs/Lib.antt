@@ -5,7 +5,7 @@ pub mod Entries
 pub mod FirstLists
 pub mod Gains
 pub mod Goings
-pub mod OpensAgain
+pub mod Moments
 pub mod Overlaid
 pub mod OwnReplies
 pub mod Quiet

@@ -1,4 +1,4 @@
-use Rattle.shore_machine.proofs.OpensAgain.{lawful_cut, opens_again}
+use Rattle.shore_machine.proofs.Moments.{lawful_cut, opens_again}
 use Rattle.shore_machine.proofs.laws.list_is_lawful.Goals as goal
 
 pub returns-clause-lawful : goal.returns-clause-lawful

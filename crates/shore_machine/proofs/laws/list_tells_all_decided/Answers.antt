@@ -1,4 +1,4 @@
-use Rattle.shore_machine.proofs.OpensAgain.{tells_all}
+use Rattle.shore_machine.proofs.Moments.{tells_all}
 use Rattle.shore_machine.proofs.laws.list_tells_all_decided.Goals as goal
 
 pub returns : goal.returns
