@@ -38,7 +38,7 @@ is_first (call.Insert store bytes) h = tt
 is_first call.Commit h = tt
 is_first _ h = absurd h
 
-some_and : {A : Type 0} (o : Option A) (P : A → Type 0) → IsSomeAnd o P → (a : A) × (o ≡ Some a) × P a
+pub some_and : {A : Type 0} (o : Option A) (P : A → Type 0) → IsSomeAnd o P → (a : A) × (o ≡ Some a) × P a
 some_and None P h = absurd h
 some_and (Some a) P h = (a, refl, h)
 

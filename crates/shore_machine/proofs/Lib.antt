@@ -11,6 +11,7 @@ pub mod OwnReplies
 pub mod Quiet
 pub mod Replies
 pub mod Resumes
+pub mod Rooms
 pub mod RunsOn
 pub mod Tellings
 pub mod ToldFronts

@@ -9,6 +9,7 @@ ghost use Rattle.shore_model.specs.Histories.{History, Kept, RunsAloneAfter, dec
 ghost use Rattle.shore_model.specs.Lives.{IsLife, Span};
 ghost use Rattle.shore_model.specs.Logs.{told};
 ghost use Rattle.shore_machine.specs.FirstLists.{LawfulFirst};
+ghost use Rattle.shore_machine.specs.Rooms.{HasRoom};
 ghost use Rattle.shore_machine.specs.Runs.{AreRuns, Event, MovesBy, Run, after_events, left_by, made_by};
 ghost use Rattle.shore_machine.specs.Served.{IsServed};
 ghost use Rattle.shore_machine.specs.States.{Active, State};
@@ -44,6 +45,14 @@ pub fn open_begins()
 pub fn crash_keeps_acknowledged()
     ensures { (opened : List LogRecord) (h : History) (s : State) (n : ℕ) → IsAfter opened h s → KeepsDurable s n →
         (kept : List Decision) × Kept h.entries kept × (told (take n s.list) ≡ serial (writes_in h) h.opening.records kept) }
+{}
+
+/// What was reserved is enough for each ending: no step of a log that has room leaves it without.
+pub fn room_is_kept()
+    ensures call { (g : Geometry) (old new : State) (call : Call) (step : Step) → HasRoom old → CallStep g old call step new → HasRoom new }
+    ensures resume { (old new : State) (step : Step) → HasRoom old → ResumeStep old step new → HasRoom new }
+    ensures told { (s : State) (n : ℕ) → HasRoom s → HasRoom (told_durable n s) }
+    ensures failed { (s : State) → HasRoom s → HasRoom (with_failure s) }
 {}
 
 /// Before it is decided, the session's transaction runs alone on the serial records of now.
