@@ -13,7 +13,7 @@ use Rattle.shore_model.specs.declared.log_records.Payload.TheVariants.{Change, C
 use Rattle.shore_model.specs.Records.{Records, WriteSet, Image, overlay, overlays}
 use Rattle.shore_model.specs.Logs.{image_in, image_at, is_commit, last_images}
 use Rattle.shore_model.proofs.Overlays.{get-overlay}
-use Rattle.shore_machine.specs.Bookkeeping.{is_plain, is_insert}
+use Rattle.shore_machine.specs.FirstLists.{is_insert}
 use Rattle.shore_machine.proofs.Entries.{recursion-push}
 
 abbrev images_in : List LogRecord → List (Rid × Image)
@@ -44,14 +44,14 @@ plain_put Commit es h rest = rest
 plain_put (Change id None (Some bytes)) es h rest = ((λ e. cc), rest)
 plain_put _ es h rest = cc
 
-puts_in : (rs : List LogRecord) → AllByRecursion (λ r. IsTrue (is_plain r)) rs → AllByRecursion IsPut (images_in rs)
+puts_in : (rs : List LogRecord) → AllByRecursion (λ r. IsTrue (is_commit r.payload || is_insert r.payload)) rs → AllByRecursion IsPut (images_in rs)
 puts_in [] h = tt
 puts_in (r ∷ rs) h = plain_put r.payload (images_in rs) h.0 (puts_in rs h.1)
 
 get-last_images : (rs : List LogRecord) (q : Rid) → get (last_images rs) q ≡ find rid_cmp q (reverse (images_in rs))
 get-last_images rs q = get-from_entries rids_total (reverse (images_in rs)) q
 
-pub never_gone : (rs : List LogRecord) → AllByRecursion (λ r. IsTrue (is_plain r)) rs → (q : Rid) → get (last_images rs) q ≢ Some None
+pub never_gone : (rs : List LogRecord) → AllByRecursion (λ r. IsTrue (is_commit r.payload || is_insert r.payload)) rs → (q : Rid) → get (last_images rs) q ≢ Some None
 never_gone rs plain q e = found_put q (reverse (images_in rs)) (all_reverse IsPut (images_in rs) (puts_in rs plain)) (sym (get-last_images rs q) ∙ e)
 
 module _ (id : Rid) where

@@ -16,15 +16,23 @@ use Rattle.shore_model.specs.Records.{overlay}
 use Rattle.shore_model.specs.Logs.{told, has, is_over, is_commit, is_end, is_prepare, is_unprepared, is_in_doubt, is_of_checkpoint, committed_in, records_of, last_of, first_number, logged_writes, id_in, image_in, MaySay, MayChange, MayCommit, LeavesFree}
 use Rattle.shore_model.proofs.Beginnings.{slice_get-push, slice_get_of_take, take_of_take}
 use Rattle.shore_model.proofs.LogSteps.{newest-push}
-use Rattle.shore_machine.specs.Bookkeeping.{is_plain, is_insert}
-use Rattle.shore_machine.specs.FirstLists.{seen_by, MayFollowFirst, LawfulFirst}
+use Rattle.shore_machine.specs.Bookkeeping.{is_plain, is_change}
+use Rattle.shore_machine.specs.FirstLists.{is_insert, seen_by, MayFollowFirst, LawfulFirst}
 use Rattle.shore_machine.proofs.Absences.{LeavesAlone, never_gone, left_alone, nothing_at, overlay_none, overlays_none}
 use Rattle.shore_machine.proofs.Entries.{recursion-weaker}
 use Rattle.shore_machine.proofs.Gains.{rest_of}
 use Rattle.shore_machine.proofs.ToldFronts.{HasNone, own, turned, recursion-zip, told_unprepared, unprepared}
 
-abbrev pub ArePlain : List LogRecord → Type 0
-ArePlain rs = AllByRecursion (λ r. IsTrue (is_plain r)) rs
+abbrev pub AreInserts : List LogRecord → Type 0
+AreInserts rs = AllByRecursion (λ r. IsTrue (is_commit r.payload || is_insert r.payload)) rs
+
+plain_insert : (p : Payload) → (is_commit p || is_insert p) ≡ true → (is_commit p || is_change p) ≡ true
+plain_insert Commit h = refl
+plain_insert (Change id before image) h = refl
+plain_insert _ h = cc
+
+pub plain_inserts : (rs : List LogRecord) → AreInserts rs → AllByRecursion (λ r. IsTrue (is_plain r)) rs
+plain_inserts rs h = recursion-weaker (λ r. IsTrue (is_commit r.payload || is_insert r.payload)) (λ r. IsTrue (is_plain r)) (λ r. plain_insert r.payload) rs h
 
 -- ---- filters
 
@@ -60,11 +68,11 @@ has_none_one false false false p q = refl
 has_none_one b true d p q = cc
 has_none_one b c true p q = cc
 
-none_ends : (u : ℕ) (rs : List LogRecord) → ArePlain rs → has is_end u rs ≡ false
+none_ends : (u : ℕ) (rs : List LogRecord) → AreInserts rs → has is_end u rs ≡ false
 none_ends u [] h = refl
 none_ends u (r ∷ rs) h = has_none_one (r.txn == u) (is_end r.payload) (has is_end u rs) (no_end r.payload h.0).0 (none_ends u rs h.1)
 
-pub none_prepares : (u : ℕ) (rs : List LogRecord) → ArePlain rs → has is_prepare u rs ≡ false
+pub none_prepares : (u : ℕ) (rs : List LogRecord) → AreInserts rs → has is_prepare u rs ≡ false
 none_prepares u [] h = refl
 none_prepares u (r ∷ rs) h = has_none_one (r.txn == u) (is_prepare r.payload) (has is_prepare u rs) (no_end r.payload h.0).1 (none_prepares u rs h.1)
 
@@ -91,7 +99,7 @@ or_first false true none h = cc
 or_first false false none h = h
 
 -- one that has ended has committed
-over_commits : (P : ℕ → Type 0) (u : ℕ) (rs : List LogRecord) → ArePlain rs → is_over u rs ≡ true → AllByRecursion P (committed_in rs) → P u
+over_commits : (P : ℕ → Type 0) (u : ℕ) (rs : List LogRecord) → AreInserts rs → is_over u rs ≡ true → AllByRecursion P (committed_in rs) → P u
 over_commits P u rs plain over all = has_commit P u rs (or_first (has is_commit u rs) (has is_end u rs) (none_ends u rs plain) over) all
 
 never_true : (b : Bool) → (b ≡ true → ⊥) → b ≡ false
@@ -99,7 +107,7 @@ never_true true f = absurd (f refl)
 never_true false f = refl
 
 -- one that has not committed has not ended
-pub not_over_yet : (t : ℕ) (rs : List LogRecord) → ArePlain rs → AllByRecursion (λ u. u ≢ t) (committed_in rs) → is_over t rs ≡ false
+pub not_over_yet : (t : ℕ) (rs : List LogRecord) → AreInserts rs → AllByRecursion (λ u. u ≢ t) (committed_in rs) → is_over t rs ≡ false
 not_over_yet t rs plain undecided = never_true (is_over t rs) (λ over. over_commits (λ u. u ≢ t) t rs plain over undecided refl)
 
 -- ---- the last record of a transaction
@@ -124,14 +132,14 @@ previous_is false n e = refl
 
 -- ---- an id at which the records in place have nothing
 
-module _ (rs : List LogRecord) (plain : ArePlain rs) (t : ℕ) (id : Rid) (absent : get (overlay (told rs) (logged_writes rs t)) id ≡ None) where
+module _ (rs : List LogRecord) (plain : AreInserts rs) (t : ℕ) (id : Rid) (absent : get (overlay (told rs) (logged_writes rs t)) id ≡ None) where
   both : (get (logged_writes rs t) id ≡ None) × (get (told rs) id ≡ None)
-  both = overlay_none id (told rs) (logged_writes rs t) (never_gone (own t rs) (filtered (λ r. IsTrue (is_plain r)) (λ r. r.txn == t) rs plain) id) absent
+  both = overlay_none id (told rs) (logged_writes rs t) (never_gone (own t rs) (filtered (λ r. IsTrue (is_commit r.payload || is_insert r.payload)) (λ r. r.txn == t) rs plain) id) absent
 
   committed_nothing : AllByRecursion (λ u. get (logged_writes rs u) id ≡ None) (committed_in rs)
   committed_nothing =
-      (overlays_none id (logged_writes rs) (λ u. never_gone (own u rs) (filtered (λ r. IsTrue (is_plain r)) (λ r. r.txn == u) rs plain) id) empty (committed_in rs)
-      (ap (λ R. get R id) (sym (told_unprepared rs (unprepared rs plain))) ∙ both.1)).1
+      (overlays_none id (logged_writes rs) (λ u. never_gone (own u rs) (filtered (λ r. IsTrue (is_commit r.payload || is_insert r.payload)) (λ r. r.txn == u) rs plain) id) empty (committed_in rs)
+      (ap (λ R. get R id) (sym (told_unprepared rs (unprepared rs (plain_inserts rs plain)))) ∙ both.1)).1
 
   -- each record of a transaction that left nothing
   abbrev AloneBy : ℕ → LogRecord → Type 0
@@ -163,7 +171,7 @@ module _ (rs : List LogRecord) (plain : ArePlain rs) (t : ℕ) (id : Rid) (absen
   other_id _ misses e = cc
 
   unprepared_seen : is_unprepared t (seen_by t rs) ≡ true
-  unprepared_seen = ap not (none_prepares t (seen_by t rs) (filtered (λ r. IsTrue (is_plain r)) (λ r. is_over r.txn rs || (r.txn == t)) rs plain))
+  unprepared_seen = ap not (none_prepares t (seen_by t rs) (filtered (λ r. IsTrue (is_commit r.payload || is_insert r.payload)) (λ r. is_over r.txn rs || (r.txn == t)) rs plain))
 
   pub may_insert : MayChange (seen_by t rs) t id None
   may_insert = (
@@ -173,9 +181,9 @@ module _ (rs : List LogRecord) (plain : ArePlain rs) (t : ℕ) (id : Rid) (absen
         (recursion-weaker (LeavesAlone id) (LeavesFree (seen_by t rs) t id) (λ r alone same other. absurd (other_id r.payload alone same)) (seen_by t rs) seen_alone),
   )
 
-pub may_commit : (rs : List LogRecord) (t : ℕ) → ArePlain rs → MayCommit (seen_by t rs) t
+pub may_commit : (rs : List LogRecord) (t : ℕ) → AreInserts rs → MayCommit (seen_by t rs) t
 may_commit rs t plain =
-    ap (λ b. not b || is_in_doubt t (seen_by t rs)) (none_prepares t (seen_by t rs) (filtered (λ r. IsTrue (is_plain r)) (λ r. is_over r.txn rs || (r.txn == t)) rs plain))
+    ap (λ b. not b || is_in_doubt t (seen_by t rs)) (none_prepares t (seen_by t rs) (filtered (λ r. IsTrue (is_commit r.payload || is_insert r.payload)) (λ r. is_over r.txn rs || (r.txn == t)) rs plain))
 
 -- ---- one record more
 
@@ -190,7 +198,7 @@ lawful_take rs n lawful k r h =
     subst (λ front. MayFollowFirst front r) (sym (take_of_take rs n k r h)) (lawful k r (slice_get_of_take rs n k r h))
 
 -- a transaction's next record, where it has not ended
-pub follows : (rs : List LogRecord) (r : LogRecord) → ArePlain rs → 0 < r.txn → is_of_checkpoint r.payload ≡ false → r.previous ≡ last_of r.txn rs
+pub follows : (rs : List LogRecord) (r : LogRecord) → AreInserts rs → 0 < r.txn → is_of_checkpoint r.payload ≡ false → r.previous ≡ last_of r.txn rs
     → AllByRecursion (λ u. u ≢ r.txn) (committed_in rs) → MaySay (seen_by r.txn rs) r.txn r.payload → MayFollowFirst rs r
 follows rs r plain some of previous undecided says =
     let not_zero : (r.txn == 0) ≡ false = ne_eqb r.txn 0 (λ e. omega arith) in

@@ -1,19 +1,19 @@
 -- What holds at each moment: the list tells all that is decided, what is kept of it can be opened, and the transaction under
 -- way runs alone on what is decided.
 use Rattle.std.proofs.Common.{◌≡◌, ◌+◌, ◌<◌, ℕ, List, [], ◌∷◌, false, Option, None, Some, refl, sym, ap, subst, ◌∙◌, arith, length, take}
-use Rattle.std.specs.Prelude.{IsTrue, max, ◌≤◌}
+use Rattle.std.specs.Prelude.{IsTrue, max, ◌≤◌, ◌||◌}
 use Rattle.std.specs.List.{AllByRecursion}
-use Rattle.std.proofs.lemmas.List.Elements.{All-from_recursion}
+use Rattle.std.proofs.lemmas.List.Elements.{All-from_recursion, All-take}
 use Rattle.shore_model.specs.declared.log_records.LogRecord.{LogRecord}
 use Rattle.shore_model.specs.Histories.{History, RunsAloneAfter, decisions}
 use Rattle.shore_model.specs.Records.{Records}
-use Rattle.shore_model.specs.Logs.{told}
+use Rattle.shore_model.specs.Logs.{told, is_commit}
 use Rattle.shore_machine.specs.Bookkeeping.{is_plain, IsSession, IsUnderWay}
-use Rattle.shore_machine.specs.FirstLists.{LawfulFirst}
+use Rattle.shore_machine.specs.FirstLists.{IsFirstList, is_insert}
 use Rattle.shore_machine.specs.States.{State, Active}
 use Rattle.shore_machine.specs.Trails.{IsAfter, IsOpened, opening_of, serial_now}
 use Rattle.shore_machine.proofs.Entries.{recursion-take}
-use Rattle.shore_machine.proofs.FirstLists.{ArePlain, lawful_take}
+use Rattle.shore_machine.proofs.FirstLists.{lawful_take}
 use Rattle.shore_machine.proofs.Turns.{history_on}
 use Rattle.shore_machine.proofs.UnderWay.{list_is_plain, told_now}
 
@@ -43,14 +43,13 @@ opened_state rs = record {
   failed = false;
 }
 
-can_be_opened : (rs : List LogRecord) → ArePlain rs → LawfulFirst rs → IsOpened rs (opened_state rs)
-can_be_opened rs plain lawful = record {
+can_be_opened : (rs : List LogRecord) → AllByRecursion (λ r. IsTrue (is_plain r)) rs → IsOpened rs (opened_state rs)
+can_be_opened rs plain = record {
   records = refl;
   active = refl;
   committing = refl;
   list = refl;
   plain = All-from_recursion (λ r. IsTrue (is_plain r)) rs plain;
-  lawful = lawful;
   some_next = some_above rs;
   next = All-from_recursion (λ r. r.txn < above_all rs) rs (each_below rs (above_all rs) (omega arith));
   durable = refl;
@@ -61,13 +60,15 @@ module _ (opened : List LogRecord) (h : History) (s : State) (k : IsAfter opened
   k_on : IsAfter opened (record { opening = opening_of opened; entries = h.entries }) s
   k_on = subst (λ o. IsAfter opened (record { opening = o; entries = h.entries }) s) k.opening k
 
-  pub lawful_cut : (n : ℕ) → LawfulFirst (take n s.list)
-  lawful_cut n = lawful_take s.list n (subst LawfulFirst (sym k.list) k.ordered.lawful)
+  pub first_list_cut : (n : ℕ) → IsFirstList opened → IsFirstList (take n s.list)
+  first_list_cut n start =
+      let all : IsFirstList s.list = subst IsFirstList (sym k.list) (k.ordered.lawful start) in
+      record { kinds = All-take (λ r. IsTrue (is_commit r.payload || is_insert r.payload)) n s.list all.kinds; lawful = lawful_take s.list n all.lawful }
 
   pub opens_again : (n : ℕ) → (next : State) × IsOpened (take n s.list) next
   opens_again n =
-      let plain : ArePlain s.list = subst ArePlain (sym k_on.list) (list_is_plain opened h.entries s k_on) in
-      (opened_state (take n s.list), can_be_opened (take n s.list) (recursion-take (λ r. IsTrue (is_plain r)) n s.list plain) (lawful_cut n))
+      let plain : AllByRecursion (λ r. IsTrue (is_plain r)) s.list = subst (AllByRecursion (λ r. IsTrue (is_plain r))) (sym k_on.list) (list_is_plain opened h.entries s k_on) in
+      (opened_state (take n s.list), can_be_opened (take n s.list) (recursion-take (λ r. IsTrue (is_plain r)) n s.list plain))
 
   pub tells_all : told s.list ≡ serial_now h
   tells_all =

@@ -2,6 +2,7 @@
 use Rattle.std.proofs.Common.{◌≡◌, ◌++◌, ℕ, List, [], ◌∷◌, Bool, true, false, cond, Result, Ok, Err, refl, sym, ap, subst, ◌∙◌, map, take}
 use Rattle.std.specs.Prelude.{filter}
 use Rattle.std.specs.List.{filter_map}
+use Rattle.std.proofs.lemmas.List.Elements.{All-nil}
 use Rattle.std.proofs.lemmas.List.{take-map}
 use Rattle.shore_types.specs.declared.layout.Geometry.{Geometry}
 use Rattle.shore_types.specs.declared.faults.Fault.{Fault}
@@ -17,12 +18,14 @@ use Rattle.shore_model.specs.Histories.{History, IsHistory, Sound, Kept, serial,
 use Rattle.shore_model.specs.Lives.{IsLife, Span, history_of, next_opening}
 use Rattle.shore_model.specs.Logs.{told, committed_in}
 use Rattle.shore_machine.specs.declared.step.Step.TheVariants.{Done, Waits, Refused, Nothing}
-use Rattle.shore_machine.specs.Runs.{Event, Called, Resumed, Forced, HasFailed, Moves, MovesBy, left_by, after_event, after_events, made_by, Run, AreRuns, list_left}
+use Rattle.shore_machine.specs.Runs.{Event, Called, Resumed, Forced, HasFailed, Moves, MovesBy, left_by, after_event, after_events, made_by, Run, IsRun, AreRuns, list_left}
+use Rattle.shore_machine.specs.FirstLists.{IsFirstList}
 use Rattle.shore_machine.specs.States.{State}
 use Rattle.shore_machine.specs.Trails.{IsAfter, KeepsDurable, waits_in, and_entry, exchanged, called_by, opened_on, opening_of}
 use Rattle.shore_machine.proofs.Calls.{call_on}
 use Rattle.shore_machine.proofs.Crashes.{crash_on}
 use Rattle.shore_machine.proofs.Gains.{decisions_logged}
+use Rattle.shore_machine.proofs.Moments.{first_list_cut}
 use Rattle.shore_machine.proofs.Resumes.{resume_on}
 use Rattle.shore_machine.proofs.Turns.{written}
 use Rattle.shore_machine.proofs.Tellings.{open_on, force_on, failure_on}
@@ -107,6 +110,17 @@ module _ (rs : List LogRecord) (h : History) (s : State) (n : ℕ) (k : IsAfter 
   span_is_sound =
       subst (λ o. IsHistory (record { opening = o; entries = h.entries }) × Sound (record { opening = o; entries = h.entries }) × Kept h.entries span.kept) k.opening
       (k.history, k.sound, kept_is)
+
+run_lawful : (g : Geometry) (rs : List LogRecord) (r : Run) → IsRun g rs r → IsFirstList rs → IsFirstList (list_left r)
+run_lawful g rs r run start =
+    first_list_cut rs (after_events (opened_on rs) r.events) r.last (events_on g rs (opened_on rs) r.first r.events r.last (open_on rs r.first run.0) run.1) r.kept start
+
+runs_lawful : (g : Geometry) (rs : List LogRecord) (runs : List Run) (last : List LogRecord) → AreRuns g rs runs last → IsFirstList rs → IsFirstList last
+runs_lawful g rs [] last h start = subst IsFirstList (sym h) start
+runs_lawful g rs (r ∷ runs) last h start = runs_lawful g (list_left r) runs last h.1 (run_lawful g rs r h.0 start)
+
+pub runs_from_nothing_lawful : (g : Geometry) (runs : List Run) (last : List LogRecord) → AreRuns g [] runs last → IsFirstList last
+runs_from_nothing_lawful g runs last h = runs_lawful g [] runs last h (record { kinds = All-nil _; lawful = λ n r at. cc })
 
 -- what runs from a list come to
 abbrev ComeTo : List LogRecord → List Run → List LogRecord → Type 0

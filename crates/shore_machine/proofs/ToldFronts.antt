@@ -17,7 +17,7 @@ use Rattle.shore_model.specs.Logs.{told, committed_in, commit_of, prepare_of, is
 use Rattle.shore_model.proofs.FirstPaths.{logged_written, logged_unprepared}
 use Rattle.shore_model.proofs.Overlays.{overlays-append}
 use Rattle.shore_model.specs.FirstPath.{IsFirstEntry, IsLogOf}
-use Rattle.shore_machine.specs.Bookkeeping.{AreOrdered, IsAbove, EndWithCommits, commits_in, is_plain, is_insert}
+use Rattle.shore_machine.specs.Bookkeeping.{AreOrdered, IsAbove, EndWithCommits, commits_in, is_plain, is_change}
 use Rattle.shore_machine.proofs.Entries.{recursion-take, recursion-weaker, recursion-each}
 use Rattle.shore_machine.proofs.Gains.{of_committed}
 use Rattle.shore_machine.proofs.Turns.{written}
@@ -85,9 +85,9 @@ writes_by_commit m rs t none = sym (writes_in_front (take m rs) (drop m rs) t no
 pub told_unprepared : (rs : List LogRecord) → filter_map prepare_of rs ≡ [] → told rs ≡ overlays empty (map (logged_writes rs) (committed_in rs))
 told_unprepared rs none = ap (λ us. overlays (overlays empty (map (logged_writes rs) (committed_in rs))) (map (logged_writes rs) (filter (λ t. is_in_doubt t rs) us))) none
 
-plain_unprepared : (t : ℕ) (p : Payload) → (is_commit p || is_insert p) ≡ true → cond (is_prepare p) (Some t) None ≡ None
+plain_unprepared : (t : ℕ) (p : Payload) → (is_commit p || is_change p) ≡ true → cond (is_prepare p) (Some t) None ≡ None
 plain_unprepared t Commit h = refl
-plain_unprepared t (Change id None (Some bytes)) h = refl
+plain_unprepared t (Change id before image) h = refl
 plain_unprepared t _ h = cc
 
 pub unprepared : (rs : List LogRecord) → AllByRecursion (λ r. IsTrue (is_plain r)) rs → filter_map prepare_of rs ≡ []

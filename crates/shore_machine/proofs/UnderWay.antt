@@ -4,7 +4,7 @@ use Rattle.std.specs.Prelude.{IsTrue, ◌||◌}
 use Rattle.std.specs.List.{AllByRecursion, cons_option, filter_map}
 use Rattle.std.proofs.Math.Seq.{take-length}
 use Rattle.std.specs.FinMap.{get}
-use Rattle.std.proofs.lemmas.List.Elements.{filter_map-append, recursion_from_All}
+use Rattle.std.proofs.lemmas.List.Elements.{All-push, filter_map-append, recursion_from_All}
 use Rattle.shore_types.specs.declared.faults.Fault.{Fault}
 use Rattle.shore_types.specs.declared.ids.Rid.{Rid}
 use Rattle.shore_model.specs.declared.calls.Call.{Call}
@@ -20,7 +20,7 @@ use Rattle.shore_model.specs.Histories.{serial}
 use Rattle.shore_model.proofs.FirstPaths.{said}
 use Rattle.shore_model.specs.FirstPath.{IsLogOf, Said, said_by_image, image_by, IsFirst, IsFirstEntry, said_by}
 use Rattle.shore_model.specs.Logs.{told, committed_in, commit_of, is_commit, last_of, logged_writes}
-use Rattle.shore_machine.specs.Bookkeeping.{is_plain, is_insert, commits_in, IsSession, IsUnderWay}
+use Rattle.shore_machine.specs.Bookkeeping.{is_plain, commits_in, IsSession, IsUnderWay}
 use Rattle.shore_machine.specs.States.{State, Active}
 use Rattle.shore_machine.specs.Steps.{insert_record, commit_record}
 use Rattle.shore_machine.specs.Trails.{IsAfter, in_place, serial_now}
@@ -28,8 +28,8 @@ use Rattle.shore_machine.proofs.Entries.{recursion-weaker}
 use Rattle.shore_machine.proofs.Gains.{decisions_logged, of_committed}
 use Rattle.shore_machine.proofs.Turns.{history_on, written}
 use Rattle.shore_model.specs.Logs.{is_of_checkpoint, MaySay}
-use Rattle.shore_machine.specs.FirstLists.{LawfulFirst, seen_by}
-use Rattle.shore_machine.proofs.FirstLists.{ArePlain, may_insert, may_commit, follows, lawful_push}
+use Rattle.shore_machine.specs.FirstLists.{IsFirstList, is_insert, seen_by}
+use Rattle.shore_machine.proofs.FirstLists.{AreInserts, plain_inserts, may_insert, may_commit, follows, lawful_push}
 use Rattle.shore_machine.proofs.ToldFronts.{told_front, logged_since, HasNone, above_is_none}
 
 pub recursion-append : {A : Type 0} (P : A → Type 0) (xs ys : List A) → AllByRecursion P xs → AllByRecursion P ys → AllByRecursion P (xs ++ ys)
@@ -38,37 +38,41 @@ recursion-append P (x ∷ xs) ys p q = (p.0, recursion-append P xs ys p.1 q)
 
 -- ---- what a first path has logged
 
-abbrev IsPlainSaid : Said → Type 0
-IsPlainSaid r = IsTrue (is_commit r.1 || is_insert r.1)
+abbrev IsInsertSaid : Said → Type 0
+IsInsertSaid r = IsTrue (is_commit r.1 || is_insert r.1)
 
-reply_plain : (u : ℕ) (c : Call) (reply : Result Answer Fault) (rs : List Said) → IsFirst c → AllByRecursion IsPlainSaid rs → AllByRecursion IsPlainSaid (cons_option (said_by_image u (image_by c reply)) rs)
-reply_plain u c (Err fault) rs first h = h
-reply_plain u call.Begin (Ok answer) rs first h = h
-reply_plain u (call.Get id) (Ok answer) rs first h = h
-reply_plain u (call.Insert store bytes) (Ok (Inserted id)) rs first h = (refl, h)
-reply_plain u (call.Insert store bytes) (Ok _) rs first h = h
-reply_plain u call.Commit (Ok answer) rs first h = h
-reply_plain u _ (Ok answer) rs first h = absurd first
+reply_inserts : (u : ℕ) (c : Call) (reply : Result Answer Fault) (rs : List Said) → IsFirst c → AllByRecursion IsInsertSaid rs → AllByRecursion IsInsertSaid (cons_option (said_by_image u (image_by c reply)) rs)
+reply_inserts u c (Err fault) rs first h = h
+reply_inserts u call.Begin (Ok answer) rs first h = h
+reply_inserts u (call.Get id) (Ok answer) rs first h = h
+reply_inserts u (call.Insert store bytes) (Ok (Inserted id)) rs first h = (refl, h)
+reply_inserts u (call.Insert store bytes) (Ok _) rs first h = h
+reply_inserts u call.Commit (Ok answer) rs first h = h
+reply_inserts u _ (Ok answer) rs first h = absurd first
 
-said_plain : (es : List Entry) → AllByRecursion IsFirstEntry es → AllByRecursion IsPlainSaid (filter_map said_by es)
-said_plain [] h = tt
-said_plain (Exchanged session u x ∷ es) h = reply_plain u x.call x.reply (filter_map said_by es) h.0 (said_plain es h.1)
-said_plain (Decided (decision.Commit u) ∷ es) h = (refl, said_plain es h.1)
-said_plain (Decided (decision.Prepare u g) ∷ es) h = absurd h.0
-said_plain (Decided (decision.RollBack u) ∷ es) h = absurd h.0
+said_inserts : (es : List Entry) → AllByRecursion IsFirstEntry es → AllByRecursion IsInsertSaid (filter_map said_by es)
+said_inserts [] h = tt
+said_inserts (Exchanged session u x ∷ es) h = reply_inserts u x.call x.reply (filter_map said_by es) h.0 (said_inserts es h.1)
+said_inserts (Decided (decision.Commit u) ∷ es) h = (refl, said_inserts es h.1)
+said_inserts (Decided (decision.Prepare u g) ∷ es) h = absurd h.0
+said_inserts (Decided (decision.RollBack u) ∷ es) h = absurd h.0
 
-plain_of_said : (rs : List LogRecord) → AllByRecursion IsPlainSaid (map said rs) → ArePlain rs
-plain_of_said [] h = tt
-plain_of_said (r ∷ rs) h = (h.0, plain_of_said rs h.1)
+inserts_of_said : (rs : List LogRecord) → AllByRecursion IsInsertSaid (map said rs) → AreInserts rs
+inserts_of_said [] h = tt
+inserts_of_said (r ∷ rs) h = (h.0, inserts_of_said rs h.1)
 
-logged_plain : (es : List Entry) (rs : List LogRecord) → AllByRecursion IsFirstEntry es → IsLogOf es rs → ArePlain rs
-logged_plain es rs first is = plain_of_said rs (subst (AllByRecursion IsPlainSaid) (sym is) (said_plain es first))
+logged_inserts : (es : List Entry) (rs : List LogRecord) → AllByRecursion IsFirstEntry es → IsLogOf es rs → AreInserts rs
+logged_inserts es rs first is = inserts_of_said rs (subst (AllByRecursion IsInsertSaid) (sym is) (said_inserts es first))
 
 module _ (opened : List LogRecord) (es : List Entry) (s : State) (k : IsAfter opened (history_on opened es) s) where
-  pub list_is_plain : ArePlain (opened ++ k.gained)
+  pub list_is_plain : AllByRecursion (λ r. IsTrue (is_plain r)) (opened ++ k.gained)
   list_is_plain =
       recursion-append (λ r. IsTrue (is_plain r)) opened k.gained (recursion_from_All (λ r. IsTrue (is_plain r)) opened k.ordered.plain)
-      (logged_plain es k.gained k.first k.logged)
+      (plain_inserts k.gained (logged_inserts es k.gained k.first k.logged))
+
+  list_inserts : IsFirstList opened → AreInserts (opened ++ k.gained)
+  list_inserts start =
+      recursion_from_All (λ r. IsTrue (is_commit r.payload || is_insert r.payload)) (opened ++ k.gained) (k.ordered.lawful start).kinds
 
   pub told_now : told (opened ++ k.gained) ≡ serial_now (history_on opened es)
   told_now =
@@ -106,22 +110,26 @@ module _ (opened : List LogRecord) (es : List Entry) (s : State) (k : IsAfter op
       (of_committed (λ u. u ≢ a.txn) opened (above_is_none opened a.txn under_way.above)) under_way.undecided)
 
   -- the list with a record of the transaction's is lawful
-  lawful_with : (r : LogRecord) → r.txn ≡ a.txn → r.previous ≡ a.last → is_of_checkpoint r.payload ≡ false → MaySay (seen_by r.txn (opened ++ k.gained)) r.txn r.payload
-      → LawfulFirst (opened ++ (k.gained ++ r ∷ []))
-  lawful_with r own previous of says =
-      subst LawfulFirst (append_assoc opened k.gained (r ∷ []))
-      (lawful_push (opened ++ k.gained) r k.ordered.lawful
-      (follows (opened ++ k.gained) r (list_is_plain opened es s k) (subst (λ t. 0 < t) (sym own) under_way.some) of
-      (previous ∙ under_way.last_is ∙ ap (λ t. last_of t (opened ++ k.gained)) (sym own))
-      (subst (λ t. AllByRecursion (λ u. u ≢ t) (committed_in (opened ++ k.gained))) (sym own) undecided_in_all) says))
+  lawful_with : IsFirstList opened → (r : LogRecord) → r.txn ≡ a.txn → r.previous ≡ a.last → is_of_checkpoint r.payload ≡ false → IsTrue (is_commit r.payload || is_insert r.payload)
+      → MaySay (seen_by r.txn (opened ++ k.gained)) r.txn r.payload → IsFirstList (opened ++ (k.gained ++ r ∷ []))
+  lawful_with start r own previous of kind says =
+      let before = k.ordered.lawful start in
+      subst IsFirstList (append_assoc opened k.gained (r ∷ []))
+      (record {
+        kinds = All-push (λ r. IsTrue (is_commit r.payload || is_insert r.payload)) (opened ++ k.gained) r before.kinds kind;
+        lawful = lawful_push (opened ++ k.gained) r before.lawful
+            (follows (opened ++ k.gained) r (list_inserts opened es s k start) (subst (λ t. 0 < t) (sym own) under_way.some) of
+            (previous ∙ under_way.last_is ∙ ap (λ t. last_of t (opened ++ k.gained)) (sym own))
+            (subst (λ t. AllByRecursion (λ u. u ≢ t) (committed_in (opened ++ k.gained))) (sym own) undecided_in_all) says);
+      })
 
-  pub insert_is_lawful : (id : Rid) (bytes : List ℕ) → get s.records id ≡ None → LawfulFirst (opened ++ (k.gained ++ insert_record a id bytes ∷ []))
-  insert_is_lawful id bytes absent =
+  pub insert_is_lawful : (id : Rid) (bytes : List ℕ) → get s.records id ≡ None → IsFirstList opened → IsFirstList (opened ++ (k.gained ++ insert_record a id bytes ∷ []))
+  insert_is_lawful id bytes absent start =
       let found : s.records ≡ overlay (told (opened ++ k.gained)) (logged_writes (opened ++ k.gained) a.txn) =
       records_found ∙ ap (λ R. overlay R (written es a.txn)) (sym (told_now opened es s k))
       ∙ ap (overlay (told (opened ++ k.gained))) (sym (logged_since opened k.gained es k.first k.logged k.ordered 0 a.txn under_way.above)) in
-      lawful_with (insert_record a id bytes) refl refl refl
-      (may_insert (opened ++ k.gained) (list_is_plain opened es s k) a.txn id (subst (λ R. get R id ≡ None) found absent))
+      lawful_with start (insert_record a id bytes) refl refl refl refl
+      (may_insert (opened ++ k.gained) (list_inserts opened es s k start) a.txn id (subst (λ R. get R id ≡ None) found absent))
 
-  pub commit_is_lawful : LawfulFirst (opened ++ (k.gained ++ commit_record a ∷ []))
-  commit_is_lawful = lawful_with (commit_record a) refl refl refl (may_commit (opened ++ k.gained) a.txn (list_is_plain opened es s k))
+  pub commit_is_lawful : IsFirstList opened → IsFirstList (opened ++ (k.gained ++ commit_record a ∷ []))
+  commit_is_lawful start = lawful_with start (commit_record a) refl refl refl refl (may_commit (opened ++ k.gained) a.txn (list_inserts opened es s k start))

@@ -14,7 +14,7 @@ use Rattle.shore_model.specs.Records.{Records}
 use Rattle.shore_model.specs.Alone.{MayReplyAll, start}
 use Rattle.shore_model.specs.Histories.{History, standing, free, began, calls_of, acknowledged}
 use Rattle.shore_model.specs.Logs.{is_commit, committed_in, last_of}
-use Rattle.shore_machine.specs.FirstLists.{LawfulFirst}
+use Rattle.shore_machine.specs.FirstLists.{IsFirstList}
 use Rattle.shore_machine.specs.States.{Active}
 
 -- ---- numbers of transactions
@@ -76,27 +76,26 @@ IsSession opened gained h R (Some a) (Some n) = ⊥
 
 -- ---- the records
 
--- the Change of an insert
-abbrev pub is_insert : Payload → Bool
-is_insert (Change id None (Some bytes)) = true
-is_insert _ = false
+abbrev pub is_change : Payload → Bool
+is_change (Change id before image) = true
+is_change _ = false
 
 -- a record of the two kinds that are written as yet
 abbrev pub is_plain : LogRecord → Bool
-is_plain r = is_commit r.payload || is_insert r.payload
+is_plain r = is_commit r.payload || is_change r.payload
 
 -- a Commit is the last record of its transaction
 abbrev pub EndWithCommits : List LogRecord → Type 0
 EndWithCommits [] = Unit {0}
 EndWithCommits (r ∷ rs) = (IsTrue (is_commit r.payload) → AllByRecursion (λ q. q.txn ≢ r.txn) rs) × EndWithCommits rs
 
--- the opening's list has Changes of inserts and Commits, and no transaction that the gained records have; with them it is
--- lawful in its first form
+-- the opening's list has Changes and Commits, and no transaction that the gained records have. With these it is as lawful as
+-- it was
 pub record AreOrdered (opened gained : List LogRecord) : Type 0 where
   pub plain : All (λ r. IsTrue (is_plain r)) opened
   pub above : AllByRecursion (λ r. IsAbove opened r.txn) gained
   pub ended : EndWithCommits gained
-  pub lawful : LawfulFirst (opened ++ gained)
+  pub lawful : IsFirstList opened → IsFirstList (opened ++ gained)
 
 -- ---- what is durable
 

@@ -1,8 +1,10 @@
 -- Lawful lists of records in their first form, as long as the records of losers stay in the log: what a transaction has left
 -- that has neither committed nor ended is looked past.
-use Rattle.std.specs.Prelude.{◌≡◌, ◌==◌, ◌||◌, ℕ, List, false, Some, filter, take, slice_get}
+use Rattle.std.specs.Prelude.{◌≡◌, ◌==◌, ◌||◌, ℕ, List, Bool, true, false, None, Some, IsTrue, All, filter, take, slice_get}
 use Rattle.shore_model.specs.declared.log_records.LogRecord.{LogRecord}
-use Rattle.shore_model.specs.Logs.{is_over, is_of_checkpoint, previous_of, MaySay}
+use Rattle.shore_model.specs.declared.log_records.Payload.{Payload}
+use Rattle.shore_model.specs.declared.log_records.Payload.TheVariants.{Change}
+use Rattle.shore_model.specs.Logs.{is_commit, is_over, is_of_checkpoint, previous_of, MaySay}
 
 -- the records that count for a transaction's next one: its own, and those of transactions that have ended
 abbrev pub seen_by : ℕ → List LogRecord → List LogRecord
@@ -18,3 +20,13 @@ pub record MayFollowFirst (rs : List LogRecord) (r : LogRecord) : Type 0 where
 -- each record may stand after those before it
 abbrev pub LawfulFirst : List LogRecord → Type 0
 LawfulFirst rs = (n : ℕ) (r : LogRecord) → slice_get rs n ≡ Some r → MayFollowFirst (take n rs) r
+
+-- the Change of an insert
+abbrev pub is_insert : Payload → Bool
+is_insert (Change id None (Some bytes)) = true
+is_insert _ = false
+
+-- a list as managers leave it that begin, insert and commit: each record an insert's Change or a Commit, and lawful
+pub record IsFirstList (rs : List LogRecord) : Type 0 where
+  pub kinds : All (λ r. IsTrue (is_commit r.payload || is_insert r.payload)) rs
+  pub lawful : LawfulFirst rs

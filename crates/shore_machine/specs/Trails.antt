@@ -19,7 +19,6 @@ use Rattle.shore_model.specs.Logs.{told}
 use Rattle.shore_machine.specs.declared.step.Step.{Step}
 use Rattle.shore_machine.specs.declared.step.Step.TheVariants.{Done, Waits, Refused, Nothing}
 use Rattle.shore_machine.specs.States.{State, Active}
-use Rattle.shore_machine.specs.FirstLists.{LawfulFirst}
 use Rattle.shore_machine.specs.Bookkeeping.{AreNumbered, IsSession, AreOrdered, IsForced, is_plain}
 
 -- ---- what a step adds
@@ -97,15 +96,13 @@ KeepsDurable s n = (s.durable ≤ n) × (n ≤ length s.list)
 abbrev pub opened_on : List LogRecord → History
 opened_on rs = record { opening = opening_of rs; entries = [] }
 
--- what an open leaves, of a list that is lawful in its first form: the records that the list tells, no transaction, a number
--- above all of the list's, and all of it durable
+-- what an open leaves: the records that the list tells, no transaction, a number above all of the list's, and all of it durable
 pub record IsOpened (rs : List LogRecord) (s : State) : Type 0 where
   pub records : s.records ≡ told rs
   pub active : s.active ≡ None
   pub committing : s.committing ≡ None
   pub list : s.list ≡ rs
   pub plain : All (λ r. IsTrue (is_plain r)) rs
-  pub lawful : LawfulFirst rs
   pub some_next : 0 < s.next
   pub next : All (λ r. r.txn < s.next) rs
   pub durable : s.durable ≡ length rs

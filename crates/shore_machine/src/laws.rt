@@ -8,7 +8,7 @@ ghost use Rattle.shore_model.specs.declared.log_records.LogRecord.{LogRecord};
 ghost use Rattle.shore_model.specs.Histories.{History, Kept, RunsAloneAfter, decisions, serial, writes_in};
 ghost use Rattle.shore_model.specs.Lives.{IsLife, Span};
 ghost use Rattle.shore_model.specs.Logs.{told};
-ghost use Rattle.shore_machine.specs.FirstLists.{LawfulFirst};
+ghost use Rattle.shore_machine.specs.FirstLists.{IsFirstList};
 ghost use Rattle.shore_machine.specs.Rooms.{HasRoom};
 ghost use Rattle.shore_machine.specs.Runs.{AreRuns, Event, MovesBy, Run, after_events, left_by, made_by};
 ghost use Rattle.shore_machine.specs.Served.{IsServed};
@@ -66,9 +66,11 @@ pub fn list_tells_all_decided()
     ensures { (opened : List LogRecord) (h : History) (s : State) → IsAfter opened h s → told s.list ≡ serial_now h }
 {}
 
-/// The list is lawful in its first form, cut at any place, and the next manager can be opened on what is kept of it.
+/// A list that was lawful in its first form stays so, cut at any place too. And on what is kept of a list the next manager
+/// can be opened.
 pub fn list_is_lawful()
-    ensures lawful { (opened : List LogRecord) (h : History) (s : State) (n : ℕ) → IsAfter opened h s → LawfulFirst (take n s.list) }
+    ensures lawful { (opened : List LogRecord) (h : History) (s : State) (n : ℕ) →
+        IsAfter opened h s → IsFirstList opened → IsFirstList (take n s.list) }
     ensures opens_again { (opened : List LogRecord) (h : History) (s : State) (n : ℕ) → IsAfter opened h s →
         (next : State) × IsOpened (take n s.list) next }
 {}
@@ -83,7 +85,8 @@ pub fn events_go_on()
 /// those of a life. What the next open shows is what nothing becomes by the committed transactions of each run in turn, of
 /// a beginning of its decisions with every acknowledged one, each running alone in their order.
 pub fn runs_are_a_life()
-    ensures { (g : Geometry) (runs : List Run) (last : List LogRecord) → AreRuns g [] runs last →
+    ensures lawful { (g : Geometry) (runs : List Run) (last : List LogRecord) → AreRuns g [] runs last → IsFirstList last }
+    ensures life { (g : Geometry) (runs : List Run) (last : List LogRecord) → AreRuns g [] runs last →
         (spans : List Span) × (map (λ s. s.entries) spans ≡ map (λ r. made_by r.events) runs)
         × IsLife (opening_of []) spans (opening_of last) × (told last ≡ left_by empty spans) }
 {}
