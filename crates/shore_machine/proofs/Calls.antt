@@ -25,7 +25,8 @@ use Rattle.shore_machine.specs.Served.{IsServed}
 use Rattle.shore_machine.specs.States.{State, Active}
 use Rattle.shore_machine.specs.Steps.{CallStep, Refuses, IsRefusal, Answers, IsFree, inserted, committed}
 use Rattle.shore_machine.specs.Trails.{IsAfter, after_call, called_by, opening_of, serial_now}
-use Rattle.shore_machine.proofs.Goings.{records_found, under_way, read_goes_on, insert_goes_on, begin_goes_on, commit_is_decided}
+use Rattle.shore_machine.proofs.UnderWay.{records_found, under_way}
+use Rattle.shore_machine.proofs.Goings.{read_goes_on, insert_goes_on, begin_goes_on, commit_is_decided}
 use Rattle.shore_machine.proofs.Quiet.{refused, refusal_goes_on}
 use Rattle.shore_machine.proofs.Replies.{IsQuietFault, quiet_or_no_record, refusal_is_quiet}
 use Rattle.shore_machine.proofs.Turns.{history_on, written}
@@ -37,7 +38,7 @@ is_first (call.Insert store bytes) h = tt
 is_first call.Commit h = tt
 is_first _ h = absurd h
 
-some_and : {A : Type 0} (o : Option A) (P : A → Type 0) → IsSomeAnd o P → (a : A) × (o ≡ Some a) × P a
+pub some_and : {A : Type 0} (o : Option A) (P : A → Type 0) → IsSomeAnd o P → (a : A) × (o ≡ Some a) × P a
 some_and None P h = absurd h
 some_and (Some a) P h = (a, refl, h)
 

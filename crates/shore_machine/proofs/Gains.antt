@@ -70,7 +70,7 @@ others_last : (b : Bool) (t u : ℕ) (us : List ℕ) → b ≡ true → AllByRec
 others_last true t u us e h = h.0
 others_last false t u us e h = cc
 
-rest_of : (b : Bool) (P : ℕ → Type 0) (u : ℕ) (us : List ℕ) → AllByRecursion P (cons_option (cond b (Some u) None) us) → AllByRecursion P us
+pub rest_of : (b : Bool) (P : ℕ → Type 0) (u : ℕ) (us : List ℕ) → AllByRecursion P (cons_option (cond b (Some u) None) us) → AllByRecursion P us
 rest_of true P u us h = h.1
 rest_of false P u us h = h
 

@@ -18,11 +18,11 @@ use Rattle.shore_model.specs.declared.histories.Entry.{Entry}
 use Rattle.shore_model.specs.declared.histories.Entry.TheVariants.{Exchanged, Decided}
 use Rattle.shore_model.specs.declared.log_records.LogRecord.{LogRecord}
 use Rattle.shore_model.specs.declared.sessions.Standing.{Standing}
-use Rattle.shore_model.specs.Records.{Records, overlay}
+use Rattle.shore_model.specs.Records.{overlay}
 use Rattle.shore_model.specs.Alone.{MayReply, MayReplyAll, start, after, after_reply}
 use Rattle.shore_model.specs.Histories.{MayStand, calls_of, decisions, serial, free, began, after_own_reply, acknowledged_by}
 use Rattle.shore_model.specs.FirstPath.{IsFirst, IsFirstEntry, said_by}
-use Rattle.shore_model.specs.Logs.{committed_in}
+use Rattle.shore_model.specs.Logs.{committed_in, last_of}
 use Rattle.shore_machine.specs.Bookkeeping.{BeginsBelow, IsCalledBelow, IsAbove, IsSession, IsUnderWay, session_after, in_txn}
 use Rattle.shore_machine.specs.States.{State, Active, next_number}
 use Rattle.shore_machine.specs.Steps.{begun, inserted, committed, insert_record, commit_record, IsFree}
@@ -31,30 +31,20 @@ use Rattle.shore_machine.proofs.Entries.{recursion-push, recursion-each, recursi
 use Rattle.shore_machine.proofs.Gains.{logged_none, logged_one, committed_push, of_committed, ended_push, forced_none, forced_gain}
 use Rattle.shore_machine.proofs.Overlaid.{insert_overlaid, overlay_empty}
 use Rattle.shore_machine.proofs.OwnReplies.{own_now, own_sound, own_replies, own_writes}
+use Rattle.shore_machine.proofs.FirstLists.{last_of_none, last_of_own}
+use Rattle.shore_machine.proofs.UnderWay.{now, under_way, records_found, own_below, none_of_next, insert_is_lawful, commit_is_lawful}
 use Rattle.shore_machine.proofs.Turns.{history_on, written, IsKept, AreKept, txn_in, kept_by_decided, serial_kept, serial-push, sound_commit}
 
 -- ---- in a transaction under way
 
 module _ (opened : List LogRecord) (es : List Entry) (s : State) (k : IsAfter opened (history_on opened es) s) (a : Active) (active : s.active ≡ Some a) (quiet : s.committing ≡ None) where
-  abbrev now : Records
-  now = serial_now (history_on opened es)
-
-  abbrev pub under_way : IsUnderWay opened k.gained es now a.txn
-  under_way =
-      subst (λ c. IsSession opened k.gained (history_on opened es) now (Some a) c) quiet
-      (subst (λ o. IsSession opened k.gained (history_on opened es) now o s.committing) active k.session)
-
-  -- the records in place are what the transaction finds
-  pub records_found : s.records ≡ overlay now (written es a.txn)
-  records_found = k.records ∙ ap (in_place now (history_on opened es)) active
-
-  own_below : a.txn < s.next
-  own_below = subst (λ p. p.txn < s.next) under_way.stands k.numbers.own
+  abbrev u : IsUnderWay opened k.gained es (now opened es s k a active quiet) a.txn a.last
+  u = under_way opened es s k a active quiet
 
   -- a reply that leaves the transaction where it was, and logs nothing
   pub read_goes_on : (c : Call) (reply : Result Answer Fault) → IsFirst c
       → MayStand (opening_of opened) es (Exchanged 1 a.txn (record { call = c; reply = reply }))
-      → MayReply now (after start (calls_of a.txn es)) c reply
+      → MayReply (now opened es s k a active quiet) (after start (calls_of a.txn es)) c reply
       → after_reply (after start (calls_of a.txn es)) c reply ≡ after start (calls_of a.txn es)
       → ((p : Standing) → after_own_reply p reply ≡ p) → BeginsBelow s.next (Exchanged 1 a.txn (record { call = c; reply = reply }))
       → said_by (Exchanged 1 a.txn (record { call = c; reply = reply })) ≡ None → acknowledged_by (Exchanged 1 a.txn (record { call = c; reply = reply })) ≡ None
@@ -63,7 +53,6 @@ module _ (opened : List LogRecord) (es : List Entry) (s : State) (k : IsAfter op
       let x : Exchange = record { call = c; reply = reply } in
       let e = Exchanged 1 a.txn x in
       let more = es ++ e ∷ [] in
-      let u = under_way in
       let same : session_after more ≡ session_after es = standing-push 1 free es e ∙ stands (session_after es) in
       let now_same = own_now opened k.gained es k.first k.logged a.txn x u.undecided in
       record {
@@ -75,13 +64,13 @@ module _ (opened : List LogRecord) (es : List Entry) (s : State) (k : IsAfter op
         list = k.list;
         logged = logged_none es k.gained e says k.logged;
         records =
-            records_found ∙ ap (λ R. overlay R (written es a.txn)) (sym now_same)
+            (records_found opened es s k a active quiet) ∙ ap (λ R. overlay R (written es a.txn)) (sym now_same)
             ∙ ap (overlay (serial_now (history_on opened more))) (sym (own_writes opened k.gained es k.first k.logged a.txn x u.undecided ∙ ap (λ p. p.writes) leaves))
             ∙ ap (in_place (serial_now (history_on opened more)) (history_on opened more)) (sym active);
         numbers = record {
           some = k.numbers.some;
           begun = All-push (BeginsBelow s.next) es e k.numbers.begun begins;
-          called = recursion-push (IsCalledBelow s.next) es e k.numbers.called own_below;
+          called = recursion-push (IsCalledBelow s.next) es e k.numbers.called (own_below opened es s k a active quiet);
           own = subst (λ p. p.txn < s.next) (sym same) k.numbers.own;
           over_opened = k.numbers.over_opened;
           over_gained = k.numbers.over_gained;
@@ -94,6 +83,7 @@ module _ (opened : List LogRecord) (es : List Entry) (s : State) (k : IsAfter op
               some = u.some;
               above = u.above;
               undecided = u.undecided;
+              last_is = u.last_is;
               replies = own_replies opened k.gained es k.first k.logged a.txn x u.undecided u.replies right;
             }));
         ordered = k.ordered;
@@ -109,11 +99,10 @@ module _ (opened : List LogRecord) (es : List Entry) (s : State) (k : IsAfter op
       let e = insert_entry store id bytes in
       let more = es ++ e ∷ [] in
       let r = insert_record a id bytes in
-      let u = under_way in
       let same : session_after more ≡ session_after es = standing-push 1 free es e in
       let now_same = own_now opened k.gained es k.first k.logged a.txn x u.undecided in
       let uncommitted : committed_in (k.gained ++ r ∷ []) ≡ committed_in k.gained = committed_push k.gained r false refl ∙ append-nil (committed_in k.gained) in
-      let absent : get (overlay now (written es a.txn)) id ≡ None = subst (λ R. get R id ≡ None) records_found is_free.absent in
+      let absent : get (overlay (now opened es s k a active quiet) (written es a.txn)) id ≡ None = subst (λ R. get R id ≡ None) (records_found opened es s k a active quiet) is_free.absent in
       record {
         opening = refl;
         first = recursion-push IsFirstEntry es e k.first tt;
@@ -123,16 +112,16 @@ module _ (opened : List LogRecord) (es : List Entry) (s : State) (k : IsAfter op
         list = ap (λ rs. rs ++ r ∷ []) k.list ∙ append_assoc opened k.gained (r ∷ []);
         logged = logged_one es k.gained e r refl k.logged;
         records =
-            ap (λ R. insert R id bytes) records_found ∙ insert_overlaid now (written es a.txn) id bytes
+            ap (λ R. insert R id bytes) (records_found opened es s k a active quiet) ∙ insert_overlaid (now opened es s k a active quiet) (written es a.txn) id bytes
             ∙ ap (λ R. overlay R (insert (written es a.txn) id (Some bytes))) (sym now_same)
             ∙ ap (overlay (serial_now (history_on opened more))) (sym (own_writes opened k.gained es k.first k.logged a.txn x u.undecided));
         numbers = record {
           some = k.numbers.some;
           begun = All-push (BeginsBelow s.next) es e k.numbers.begun tt;
-          called = recursion-push (IsCalledBelow s.next) es e k.numbers.called own_below;
+          called = recursion-push (IsCalledBelow s.next) es e k.numbers.called (own_below opened es s k a active quiet);
           own = subst (λ p. p.txn < s.next) (sym same) k.numbers.own;
           over_opened = k.numbers.over_opened;
-          over_gained = recursion-push (λ r. r.txn < s.next) k.gained r k.numbers.over_gained own_below;
+          over_gained = recursion-push (λ r. r.txn < s.next) k.gained r k.numbers.over_gained (own_below opened es s k a active quiet);
         };
         session =
             subst (λ c. IsSession opened (k.gained ++ r ∷ []) (history_on opened more) (serial_now (history_on opened more)) (inserted s a id bytes).active c) (sym quiet)
@@ -140,13 +129,15 @@ module _ (opened : List LogRecord) (es : List Entry) (s : State) (k : IsAfter op
               stands = same ∙ u.stands;
               some = u.some;
               above = u.above;
-              undecided = subst (AllByRecursion (λ u. u ≢ a.txn)) (sym uncommitted) u.undecided;
+              undecided = subst (AllByRecursion (λ t. t ≢ a.txn)) (sym uncommitted) u.undecided;
+              last_is = ap (λ rs. 1 + length rs) k.list ∙ sym (last_of_own (opened ++ k.gained) r) ∙ ap (last_of a.txn) (append_assoc opened k.gained (r ∷ []));
               replies = own_replies opened k.gained es k.first k.logged a.txn x u.undecided u.replies (id, refl, is_free.of_store, absent);
             });
         ordered = record {
           plain = k.ordered.plain;
           above = recursion-push (λ r. IsAbove opened r.txn) k.gained r k.ordered.above u.above;
           ended = ended_push k.gained r k.ordered.ended u.undecided;
+          lawful = insert_is_lawful opened es s k a active quiet id bytes is_free.absent;
         };
         forced = forced_none opened (k.gained ++ r ∷ []) es s.durable (forced_gain opened k.gained es s.durable k.forced r) e refl;
       }
@@ -164,16 +155,15 @@ module _ (opened : List LogRecord) (es : List Entry) (s : State) (k : IsAfter op
       let more = es ++ e ∷ [] in
       let r = commit_record a in
       let gained = k.gained ++ r ∷ [] in
-      let u = under_way in
       let stands : session_after more ≡ in_txn a.txn =
       standing-push 1 free es e ∙ ap (λ p. cond ((p.txn == a.txn) && p.prepared) free p) u.stands
       ∙ unprepared (a.txn == a.txn) (in_txn a.txn) free in
       let all_kept : AreKept es more (decisions es) = recursion-each (λ d. IsKept es more (txn_in d)) (λ d. kept_by_decided es (txn_in d) (decision.Commit a.txn)) (decisions es) in
       let R = (opening_of opened).records in
-      let total : serial_now (history_on opened more) ≡ overlay now (written es a.txn) =
+      let total : serial_now (history_on opened more) ≡ overlay (now opened es s k a active quiet) (written es a.txn) =
       ap (serial (written more) R) (decisions-decided es (decision.Commit a.txn)) ∙ serial-push (written more) R (decisions es) a.txn
       ∙ ap (λ S. overlay S (written more a.txn)) (serial_kept opened es more R (decisions es) all_kept)
-      ∙ ap (overlay now) (kept_by_decided es a.txn (decision.Commit a.txn)).writes in
+      ∙ ap (overlay (now opened es s k a active quiet)) (kept_by_decided es a.txn (decision.Commit a.txn)).writes in
       let adds : committed_in gained ≡ committed_in k.gained ++ a.txn ∷ [] = committed_push k.gained r true refl in
       let lengths : length s.list ≡ length opened + length k.gained = ap length k.list ∙ length-append opened k.gained in
       let more_gained : length gained ≡ length k.gained + 1 = length_push k.gained r in
@@ -186,14 +176,14 @@ module _ (opened : List LogRecord) (es : List Entry) (s : State) (k : IsAfter op
         gained = gained;
         list = ap (λ rs. rs ++ r ∷ []) k.list ∙ append_assoc opened k.gained (r ∷ []);
         logged = logged_one es k.gained e r refl k.logged;
-        records = records_found ∙ sym total;
+        records = (records_found opened es s k a active quiet) ∙ sym total;
         numbers = record {
           some = k.numbers.some;
           begun = All-push (BeginsBelow s.next) es e k.numbers.begun tt;
           called = recursion-push (IsCalledBelow s.next) es e k.numbers.called tt;
-          own = subst (λ p. p.txn < s.next) (sym stands) own_below;
+          own = subst (λ p. p.txn < s.next) (sym stands) (own_below opened es s k a active quiet);
           over_opened = k.numbers.over_opened;
-          over_gained = recursion-push (λ r. r.txn < s.next) k.gained r k.numbers.over_gained own_below;
+          over_gained = recursion-push (λ r. r.txn < s.next) k.gained r k.numbers.over_gained (own_below opened es s k a active quiet);
         };
         session = record {
           txn = a.txn;
@@ -206,6 +196,7 @@ module _ (opened : List LogRecord) (es : List Entry) (s : State) (k : IsAfter op
           plain = k.ordered.plain;
           above = recursion-push (λ r. IsAbove opened r.txn) k.gained r k.ordered.above u.above;
           ended = ended_push k.gained r k.ordered.ended u.undecided;
+          lawful = commit_is_lawful opened es s k a active quiet;
         };
         forced = forced_none opened gained es s.durable (forced_gain opened k.gained es s.durable k.forced r) e refl;
       }
@@ -272,6 +263,7 @@ module _ (opened : List LogRecord) (es : List Entry) (s : State) (k : IsAfter op
               some = k.numbers.some;
               above = k.numbers.over_opened;
               undecided = undecided;
+              last_is = sym (last_of_none s.next (opened ++ k.gained) (none_of_next opened es s k));
               replies = own_replies opened k.gained es k.first k.logged s.next x undecided (subst (MayReplyAll (serial_now (history_on opened es)) start) (sym none) tt) (s.next, refl);
             });
         ordered = k.ordered;

@@ -34,7 +34,7 @@ module _ (opened : List LogRecord) (es : List Entry) where
 
   session_kept : (more : List Entry) (gained : List LogRecord) (R : Records) (a : Option Active) (c : Option ℕ) → ((t : ℕ) → IsKept es more t) → session_after more ≡ session_after es
       → IsSession opened gained (history_on opened es) R a c → IsSession opened gained (history_on opened more) R a c
-  session_kept more gained R (Some a) None kept same k = record { stands = same ∙ k.stands; some = k.some; above = k.above; undecided = k.undecided; replies = (kept a.txn).replies R k.replies }
+  session_kept more gained R (Some a) None kept same k = record { stands = same ∙ k.stands; some = k.some; above = k.above; undecided = k.undecided; replies = (kept a.txn).replies R k.replies; last_is = k.last_is }
   session_kept more gained R None (Some n) kept same k = record { txn = k.txn; stands = same ∙ k.stands; numbered = k.numbered }
   session_kept more gained R None None kept same k = same ∙ k
   session_kept more gained R (Some a) (Some n) kept same k = k

@@ -2,6 +2,7 @@
 use Rattle.std.proofs.Common.{◌≡◌, ◌++◌, ℕ, List, [], ◌∷◌, Bool, true, false, cond, Result, Ok, Err, refl, sym, ap, subst, ◌∙◌, map, take}
 use Rattle.std.specs.Prelude.{filter}
 use Rattle.std.specs.List.{filter_map}
+use Rattle.std.proofs.lemmas.List.Elements.{All-nil}
 use Rattle.std.proofs.lemmas.List.{take-map}
 use Rattle.shore_types.specs.declared.layout.Geometry.{Geometry}
 use Rattle.shore_types.specs.declared.faults.Fault.{Fault}
@@ -17,13 +18,16 @@ use Rattle.shore_model.specs.Histories.{History, IsHistory, Sound, Kept, serial,
 use Rattle.shore_model.specs.Lives.{IsLife, Span, history_of, next_opening}
 use Rattle.shore_model.specs.Logs.{told, committed_in}
 use Rattle.shore_machine.specs.declared.step.Step.TheVariants.{Done, Waits, Refused, Nothing}
-use Rattle.shore_machine.specs.Runs.{Event, Called, Resumed, Forced, HasFailed, Moves, MovesBy, after_event, after_events, made_by, Run, AreRuns, list_left}
+use Rattle.shore_machine.specs.Runs.{Event, Called, Resumed, Forced, HasFailed, Moves, MovesBy, left_by, after_event, after_events, made_by, Run, IsRun, AreRuns, list_left}
+use Rattle.shore_machine.specs.FirstLists.{IsFirstList}
 use Rattle.shore_machine.specs.States.{State}
 use Rattle.shore_machine.specs.Trails.{IsAfter, KeepsDurable, waits_in, and_entry, exchanged, called_by, opened_on, opening_of}
 use Rattle.shore_machine.proofs.Calls.{call_on}
 use Rattle.shore_machine.proofs.Crashes.{crash_on}
 use Rattle.shore_machine.proofs.Gains.{decisions_logged}
+use Rattle.shore_machine.proofs.Moments.{first_list_cut}
 use Rattle.shore_machine.proofs.Resumes.{resume_on}
+use Rattle.shore_machine.proofs.Turns.{written}
 use Rattle.shore_machine.proofs.Tellings.{open_on, force_on, failure_on}
 
 -- ---- events
@@ -92,26 +96,38 @@ module _ (rs : List LogRecord) (h : History) (s : State) (n : ℕ) (k : IsAfter 
       ∙ take-map_commits kept_is.beginning.0 (committed_in k.gained))
 
   -- the next open finds what the list tells that is left
+  pub span_tells : told (take n s.list) ≡ serial (written h.entries) (told rs) span.kept
+  span_tells =
+      subst (λ o. told (take n s.list) ≡ serial (writes_in (record { opening = o; entries = h.entries })) o.records span.kept) k.opening (crash_on rs h s n k keeps).2
+
   next_is : next_opening (opening_of rs) span ≡ opening_of (take n s.list)
-  next_is =
-      let tells : told (take n s.list) ≡ serial (writes_in (history_of (opening_of rs) span)) (told rs) span.kept =
-      subst (λ o. told (take n s.list) ≡ serial (writes_in (record { opening = o; entries = h.entries })) o.records span.kept) k.opening (crash_on rs h s n k keeps).2 in
-      λ i. record {
-        records = sym tells i;
-        in_doubt = map (λ p. record { txn = p.0; global = p.1; writes = writes_in (history_of (opening_of rs) span) p.0 }) (none_in_doubt i);
-      }
+  next_is = λ i. record {
+    records = sym span_tells i;
+    in_doubt = map (λ p. record { txn = p.0; global = p.1; writes = writes_in (history_of (opening_of rs) span) p.0 }) (none_in_doubt i);
+  }
 
   span_is_sound : IsHistory (history_of (opening_of rs) span) × Sound (history_of (opening_of rs) span) × Kept h.entries span.kept
   span_is_sound =
       subst (λ o. IsHistory (record { opening = o; entries = h.entries }) × Sound (record { opening = o; entries = h.entries }) × Kept h.entries span.kept) k.opening
       (k.history, k.sound, kept_is)
 
+run_lawful : (g : Geometry) (rs : List LogRecord) (r : Run) → IsRun g rs r → IsFirstList rs → IsFirstList (list_left r)
+run_lawful g rs r run start =
+    first_list_cut rs (after_events (opened_on rs) r.events) r.last (events_on g rs (opened_on rs) r.first r.events r.last (open_on rs r.first run.0) run.1) r.kept start
+
+runs_lawful : (g : Geometry) (rs : List LogRecord) (runs : List Run) (last : List LogRecord) → AreRuns g rs runs last → IsFirstList rs → IsFirstList last
+runs_lawful g rs [] last h start = subst IsFirstList (sym h) start
+runs_lawful g rs (r ∷ runs) last h start = runs_lawful g (list_left r) runs last h.1 (run_lawful g rs r h.0 start)
+
+pub runs_from_nothing_lawful : (g : Geometry) (runs : List Run) (last : List LogRecord) → AreRuns g [] runs last → IsFirstList last
+runs_from_nothing_lawful g runs last h = runs_lawful g [] runs last h (record { kinds = All-nil _; lawful = λ n r at. cc })
+
 -- what runs from a list come to
 abbrev ComeTo : List LogRecord → List Run → List LogRecord → Type 0
-ComeTo rs runs last = (spans : List Span) × (map (λ s. s.entries) spans ≡ map (λ r. made_by r.events) runs) × IsLife (opening_of rs) spans (opening_of last)
+ComeTo rs runs last = (spans : List Span) × (map (λ s. s.entries) spans ≡ map (λ r. made_by r.events) runs) × IsLife (opening_of rs) spans (opening_of last) × (told last ≡ left_by (told rs) spans)
 
 pub runs_on : (g : Geometry) (rs : List LogRecord) (runs : List Run) (last : List LogRecord) → AreRuns g rs runs last → ComeTo rs runs last
-runs_on g rs [] last h = ([], refl, ap opening_of h)
+runs_on g rs [] last h = ([], refl, ap opening_of h, ap told h)
 runs_on g rs (r ∷ runs) last h =
     let run = h.0 in
     let k : IsAfter rs (after_events (opened_on rs) r.events) r.last = events_on g rs (opened_on rs) r.first r.events r.last (open_on rs r.first run.0) run.1 in
@@ -122,4 +138,5 @@ runs_on g rs (r ∷ runs) last h =
       s ∷ rest.0,
       ap (λ es. es ∷ map (λ s. s.entries) rest.0) (events_same (opened_on rs) (opened_on []) r.events refl) ∙ ap (λ ess. made_by r.events ∷ ess) rest.1,
       (sound.0, sound.1, sound.2, subst (λ o. IsLife o rest.0 (opening_of last)) (sym (next_is rs history r.last r.kept k run.2)) rest.2),
+      rest.3 ∙ ap (λ R. left_by R rest.0) (span_tells rs history r.last r.kept k run.2),
     )

@@ -6,6 +6,7 @@ use Rattle.std.proofs.lemmas.List.Elements.{All-nil}
 use Rattle.shore_model.specs.declared.log_records.LogRecord.{LogRecord}
 use Rattle.shore_model.specs.Histories.{History}
 use Rattle.shore_machine.specs.Bookkeeping.{IsSession, BeginsBelow, commits_in}
+use Rattle.shore_machine.specs.FirstLists.{IsFirstList}
 use Rattle.shore_machine.specs.States.{State}
 use Rattle.shore_machine.specs.Steps.{told_durable, with_failure}
 use Rattle.shore_machine.specs.Trails.{IsAfter, IsOpened, in_place, opened_on, serial_now}
@@ -29,7 +30,7 @@ open_on rs s o =
       session =
           subst (λ a. IsSession rs [] h (serial_now h) a s.committing) (sym o.active)
           (subst (λ c. IsSession rs [] h (serial_now h) None c) (sym o.committing) refl);
-      ordered = record { plain = o.plain; above = tt; ended = tt };
+      ordered = record { plain = o.plain; above = tt; ended = tt; lawful = subst IsFirstList (sym (append-nil rs)) };
       forced = record { least = omega arith; most = omega arith; acknowledged = All-nil (Contains (commits_in (take (s.durable - length rs) []))) };
     }
 

@@ -1,6 +1,6 @@
 -- What ties the entries of a history, the list that a manager was opened on, the records that it has gained, and the plain
 -- data of the state. No promise of its own: it is what the laws carry from step to step.
-use Rattle.std.specs.Prelude.{◌≡◌, ◌≢◌, ◌<◌, ◌≤◌, ◌-◌, ◌+◌, ◌||◌, ℕ, List, [], ◌∷◌, Bool, true, false, Option, None, Some, IsTrue, IfSome, All, Contains, length, map, take}
+use Rattle.std.specs.Prelude.{◌≡◌, ◌≢◌, ◌<◌, ◌≤◌, ◌-◌, ◌+◌, ◌||◌, ℕ, List, [], ◌∷◌, ◌++◌, Bool, true, false, Option, None, Some, IsTrue, IfSome, All, Contains, length, map, take}
 use Rattle.std.specs.List.{AllByRecursion}
 use Rattle.shore_model.specs.declared.histories.Decision.{Decision}
 use Rattle.shore_model.specs.declared.histories.Decision.TheVariants as decision
@@ -13,7 +13,8 @@ use Rattle.shore_model.specs.declared.sessions.Standing.{Standing}
 use Rattle.shore_model.specs.Records.{Records}
 use Rattle.shore_model.specs.Alone.{MayReplyAll, start}
 use Rattle.shore_model.specs.Histories.{History, standing, free, began, calls_of, acknowledged}
-use Rattle.shore_model.specs.Logs.{is_commit, committed_in}
+use Rattle.shore_model.specs.Logs.{is_commit, committed_in, last_of}
+use Rattle.shore_machine.specs.FirstLists.{IsFirstList}
 use Rattle.shore_machine.specs.States.{Active}
 
 -- ---- numbers of transactions
@@ -51,13 +52,14 @@ abbrev pub in_txn : ℕ → Standing
 in_txn t = record { txn = t; prepared = false }
 
 -- the transaction under way is above those of the opening's list, it is not decided, and its replies may come to it alone
--- on the serial records of now
-pub record IsUnderWay (opened gained : List LogRecord) (es : List Entry) (R : Records) (t : ℕ) : Type 0 where
+-- on the serial records of now. Its last record is the list's last one of it
+pub record IsUnderWay (opened gained : List LogRecord) (es : List Entry) (R : Records) (t last : ℕ) : Type 0 where
   pub stands : session_after es ≡ in_txn t
   pub some : 0 < t
   pub above : IsAbove opened t
   pub undecided : AllByRecursion (λ u. u ≢ t) (committed_in gained)
   pub replies : MayReplyAll R start (calls_of t es)
+  pub last_is : last ≡ last_of t (opened ++ gained)
 
 -- the session's transaction is decided, and its Commit is among the records up to the number that its call waits for
 pub record IsDecided (opened gained : List LogRecord) (es : List Entry) (n : ℕ) : Type 0 where
@@ -67,7 +69,7 @@ pub record IsDecided (opened gained : List LogRecord) (es : List Entry) (n : ℕ
 
 -- how the session stands: in a transaction under way, in one whose commit waits, or in none
 abbrev pub IsSession : List LogRecord → List LogRecord → History → Records → Option Active → Option ℕ → Type 0
-IsSession opened gained h R (Some a) None = IsUnderWay opened gained h.entries R a.txn
+IsSession opened gained h R (Some a) None = IsUnderWay opened gained h.entries R a.txn a.last
 IsSession opened gained h R None (Some n) = IsDecided opened gained h.entries n
 IsSession opened gained h R None None = session_after h.entries ≡ free
 IsSession opened gained h R (Some a) (Some n) = ⊥
@@ -87,11 +89,13 @@ abbrev pub EndWithCommits : List LogRecord → Type 0
 EndWithCommits [] = Unit {0}
 EndWithCommits (r ∷ rs) = (IsTrue (is_commit r.payload) → AllByRecursion (λ q. q.txn ≢ r.txn) rs) × EndWithCommits rs
 
--- the opening's list has Changes and Commits, and no transaction that the gained records have
+-- the opening's list has Changes and Commits, and no transaction that the gained records have. With these it is as lawful as
+-- it was
 pub record AreOrdered (opened gained : List LogRecord) : Type 0 where
   pub plain : All (λ r. IsTrue (is_plain r)) opened
   pub above : AllByRecursion (λ r. IsAbove opened r.txn) gained
   pub ended : EndWithCommits gained
+  pub lawful : IsFirstList opened → IsFirstList (opened ++ gained)
 
 -- ---- what is durable
 

@@ -4,7 +4,10 @@ use Rattle.shore_types.specs.declared.layout.Geometry.{Geometry}
 use Rattle.shore_model.specs.declared.calls.Call.{Call}
 use Rattle.shore_model.specs.declared.histories.Entry.{Entry}
 use Rattle.shore_model.specs.declared.log_records.LogRecord.{LogRecord}
-use Rattle.shore_model.specs.Histories.{History}
+use Rattle.shore_model.specs.Alone.{writes_of}
+use Rattle.shore_model.specs.Histories.{History, calls_of, serial}
+use Rattle.shore_model.specs.Lives.{Span}
+use Rattle.shore_model.specs.Records.{Records}
 use Rattle.shore_machine.specs.declared.step.Step.{Step}
 use Rattle.shore_machine.specs.Served.{IsServed}
 use Rattle.shore_machine.specs.States.{State}
@@ -60,6 +63,11 @@ IsRun g rs r = IsOpened rs r.first × MovesBy g r.first r.events r.last × Keeps
 -- the list that a run leaves to the next open
 abbrev pub list_left : Run → List LogRecord
 list_left r = take r.kept r.last.list
+
+-- the records that spans of a life leave: over those that each found, the write sets of its kept decisions in their order
+abbrev pub left_by : Records → List Span → Records
+left_by R [] = R
+left_by R (s ∷ spans) = left_by (serial (λ t. writes_of (calls_of t s.entries)) R s.kept) spans
 
 -- runs one after another from a list: each opens what the crash before it kept
 abbrev pub AreRuns : Geometry → List LogRecord → List Run → List LogRecord → Type 0

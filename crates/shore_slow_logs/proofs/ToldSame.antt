@@ -10,7 +10,7 @@ use Rattle.shore_model.specs.declared.log_records.LogRecord.{LogRecord}
 use Rattle.shore_model.specs.declared.log_records.Payload.{Payload}
 use Rattle.shore_model.specs.Records.{WriteSet, overlays}
 use Rattle.shore_model.specs.Logs.{last_images, logged_writes, has, is_commit, is_prepare, is_rollback, is_decision, is_in_doubt, committed_in, commit_of, in_doubt_in, prepare_of, told}
-use Rattle.shore_slow_logs.proofs.LogSteps.{logged_writes-one_more}
+use Rattle.shore_model.proofs.LogSteps.{logged_writes-one_more}
 
 none_of : (a b c : Bool) → (a || b || c) ≡ false → (a ≡ false) × (b ≡ false) × (c ≡ false)
 none_of false false false h = (refl, refl, refl)

@@ -1,6 +1,9 @@
 use Rattle.std.proofs.Common.{[]}
-use Rattle.shore_machine.proofs.RunsOn.{runs_on}
+use Rattle.shore_machine.proofs.RunsOn.{runs_from_nothing_lawful, runs_on}
 use Rattle.shore_machine.proofs.laws.runs_are_a_life.Goals as goal
 
-pub returns : goal.returns
-returns c g runs last h = runs_on g [] runs last h
+pub returns-clause-lawful : goal.returns-clause-lawful
+returns-clause-lawful c g runs last h = runs_from_nothing_lawful g runs last h
+
+pub returns-clause-life : goal.returns-clause-life
+returns-clause-life c g runs last h = runs_on g [] runs last h

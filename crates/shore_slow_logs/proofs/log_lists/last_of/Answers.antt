@@ -1,5 +1,5 @@
 use Rattle.std.proofs.Common.{◌<◌, length, arith, sym, ◌∙◌}
-use Rattle.shore_slow_logs.proofs.LogSteps.{last_of-more, last_of-same}
+use Rattle.shore_model.proofs.LogSteps.{last_of-more, last_of-same}
 use Rattle.shore_slow_logs.proofs.log_lists.last_of.Goals as goal
 use Rattle.shore_slow_logs.proofs.log_lists.last_of.Goals.{then-eq, else-eq}
 

@@ -1,6 +1,6 @@
 use Rattle.std.proofs.Common.{◌<◌, ◌+◌, length, reverse, arith, sym, ap, ◌∙◌}
 use Rattle.shore_model.specs.Logs.{answered_by}
-use Rattle.shore_slow_logs.proofs.LogSteps.{unanswered-more, unanswered-same}
+use Rattle.shore_model.proofs.LogSteps.{unanswered-more, unanswered-same}
 use Rattle.shore_slow_logs.proofs.log_lists.unanswered.Goals as goal
 use Rattle.shore_slow_logs.proofs.log_lists.unanswered.Goals.{then-eq+in_ok-answer, else-eq}
 

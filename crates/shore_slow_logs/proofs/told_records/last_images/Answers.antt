@@ -1,6 +1,6 @@
 use Rattle.std.proofs.Common.{◌<◌, length, arith, sym, ap, ◌∙◌}
 use Rattle.shore_model.specs.Logs.{with_image, image_in}
-use Rattle.shore_slow_logs.proofs.LogSteps.{last_images-more}
+use Rattle.shore_model.proofs.LogSteps.{last_images-more}
 use Rattle.shore_slow_logs.proofs.told_records.last_images.Goals as goal
 
 pub loop-record-preserved : goal.loop-record-preserved

@@ -1,6 +1,6 @@
 use Rattle.std.proofs.Common.{◌<◌, length, arith, sym, ap, ◌∙◌}
 use Rattle.shore_model.specs.Logs.{with_image, image_in}
-use Rattle.shore_slow_logs.proofs.LogSteps.{logged_writes-more, logged_writes-same}
+use Rattle.shore_model.proofs.LogSteps.{logged_writes-more, logged_writes-same}
 use Rattle.shore_slow_logs.proofs.told_records.logged_writes.Goals as goal
 use Rattle.shore_slow_logs.proofs.told_records.logged_writes.Goals.{then-eq+in_ok-put_image, else-eq}
 

@@ -1,7 +1,7 @@
 use Rattle.std.proofs.Common.{◌<◌, ◌+◌, ℕ, length, arith, drop, sym, ap, ◌∙◌}
 use Rattle.std.specs.List.{filter_map}
 use Rattle.shore_model.specs.Logs.{logged_writes, is_in_doubt, prepare_of}
-use Rattle.shore_slow_logs.proofs.LogSteps.{laid_where, laid-prepare}
+use Rattle.shore_model.proofs.LogSteps.{laid_where, laid-prepare}
 use Rattle.shore_slow_logs.proofs.told_records.told.Goals as goal
 
 pub loop-record-2-preserved : goal.loop-record-2-preserved

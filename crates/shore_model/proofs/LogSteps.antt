@@ -33,7 +33,7 @@ reverse-next : (b : Bool) (e : ℕ × LogRecord) (es : List (ℕ × LogRecord)) 
 reverse-next true e es = reverse-append es (e ∷ [])
 reverse-next false e es = ap reverse (append-nil es)
 
-newest-push : (t : ℕ) (rs : List LogRecord) (r : LogRecord)
+pub newest-push : (t : ℕ) (rs : List LogRecord) (r : LogRecord)
     → reverse (records_of t (rs ++ r ∷ [])) ≡ cond (r.txn == t) ((1 + length rs, r) ∷ reverse (records_of t rs)) (reverse (records_of t rs))
 newest-push t rs r =
     ap (λ es. reverse (filter (λ e. e.1.txn == t) es)) (enumerate-push 1 rs r)
