@@ -13,7 +13,7 @@ use Rattle.shore_types.specs.Ids.{rid_cmp, rids_total}
 use Rattle.shore_model.specs.Records.{Records}
 use Rattle.shore_core.specs.declared.place.PageUse.{PageUse}
 use Rattle.shore_core.specs.declared.uses.PageUses.{PageUses}
-use Rattle.shore_core.specs.Pages.{is_page, lying_on, bytes_of, slots_of, slots_on, bytes_on, FitPages}
+use Rattle.shore_machine.specs.Pages.{is_page, lying_on, bytes_of, slots_of, slots_on, bytes_on, FitPages}
 use Rattle.shore_core.specs.Uses.{Adds, Counts, HasNoRoom, IsUnused, page_counts, use_at}
 use Rattle.shore_core.proofs.UseLemmas.{use_of_page}
 use Rattle.shore_core.proofs.PageLemmas.{Gains-push, bytes-cons, slots-cons, counts_with, counts_same, find-push, is_page-refl, is_page-same, same_some, tied}

@@ -1,5 +1,5 @@
 -- The session's transaction, and the records that it logs.
-use Rattle.std.proofs.Common.{◌≡◌, ◌≤◌, ◌<◌, ◌^◌, ℕ, List, Bool, true, false, cond, Some, None, length, inl, inr, refl, sym, ap, ◌∙◌, subst, arith}
+use Rattle.std.proofs.Common.{◌≡◌, ◌≤◌, ◌<◌, ◌^◌, ℕ, List, Bool, true, false, cond, Some, None, length, inr, refl, sym, ap, ◌∙◌, subst}
 use Rattle.std.specs.FinMap.{get, insert, remove, get-insert, get-remove, same_map}
 use Rattle.std.specs.Ordering.{eq_by_cmp}
 use Rattle.std.proofs.lemmas.Map.Views.{tells_apart}

@@ -11,7 +11,7 @@ use Rattle.shore_model.specs.Records.{Records}
 use Rattle.shore_core.specs.declared.place.PageUse.{PageUse}
 use Rattle.shore_core.specs.declared.records.RecordMap.{RecordMap}
 use Rattle.shore_core.specs.declared.uses.PageUses.{PageUses}
-use Rattle.shore_core.specs.Pages.{is_page, lying_on, bytes_of, slots_of, FitPages}
+use Rattle.shore_machine.specs.Pages.{is_page, lying_on, bytes_of, slots_of, FitPages}
 use Rattle.shore_core.specs.RecordMaps.{IsOn, records_in}
 use Rattle.shore_core.specs.Uses.{page_counts, use_at}
 use Rattle.shore_core.proofs.UseLemmas.{page_of_use}

@@ -12,7 +12,7 @@ use Rattle.shore_types.specs.declared.ids.PageId.{PageId}
 use Rattle.shore_types.specs.declared.ids.Rid.{Rid}
 use Rattle.shore_types.specs.Ids.{rid_cmp, rids_total, exact_rids}
 use Rattle.shore_core.specs.declared.place.PageUse.{PageUse}
-use Rattle.shore_core.specs.Pages.{is_page, lying_on, bytes_of, slots_of}
+use Rattle.shore_machine.specs.Pages.{is_page, lying_on, bytes_of, slots_of}
 use Rattle.shore_core.specs.Uses.{Counts, IsWith, slot_on}
 
 abbrev Entries : Type 0

@@ -1,7 +1,6 @@
 pub mod Changes
 pub mod Cores
 pub mod Opened
-pub mod Pages
 pub mod RecordMaps
 pub mod Room
 pub mod Uses

@@ -1,7 +1,6 @@
 -- The records that a record map has in place, and where it puts a new one.
-use Rattle.std.specs.Prelude.{◌≡◌, ◌≤◌, ℕ, List, Some, None}
+use Rattle.std.specs.Prelude.{◌≡◌, ℕ, List, Some, None}
 use Rattle.std.specs.FinMap.{entries, get, insert}
-use Rattle.shore_types.specs.declared.ids.Rid.{Rid}
 use Rattle.shore_types.specs.declared.layout.Geometry.{Geometry}
 use Rattle.shore_model.specs.Records.{Records}
 use Rattle.shore_core.specs.declared.records.Place.{Place}
@@ -27,7 +26,3 @@ pub record WasPut (m : RecordMap) (place : Place) (R : Records) : Type 0 where
   pub empty : get R place.id ≡ None
   pub is : records_in m ≡ insert R place.id bytes
   pub before : Counts (entries R) place.id.page place.before
-
--- among an id and others of its store it stands first: by page, and then by slot
-abbrev pub StandsFirst : Rid → Rid → Type 0
-StandsFirst a b = (a.page.page ≤ b.page.page) × (b.page.page ≡ a.page.page → a.slot ≤ b.slot)

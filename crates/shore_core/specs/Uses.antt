@@ -7,9 +7,9 @@ use Rattle.shore_types.specs.declared.ids.PageId.{PageId}
 use Rattle.shore_types.specs.declared.ids.Rid.{Rid}
 use Rattle.shore_core.specs.declared.place.PageUse.{PageUse}
 use Rattle.shore_core.specs.declared.uses.PageUses.{PageUses}
-use Rattle.shore_core.specs.Pages.{is_page, lying_on, bytes_of, slots_of}
+use Rattle.shore_machine.specs.Pages.{is_page, lying_on, bytes_of, slots_of}
 use Rattle.shore_types.specs.declared.layout.TheConstants.{MAX_RECORD_BYTES, MAX_SLOTS, SLOT_ENTRY_BYTES}
-use Rattle.shore_core.specs.declared.place.TheConstants.{PAGE_ROOM}
+use Rattle.shore_types.specs.declared.layout.TheConstants.{PAGE_ROOM}
 
 -- the use of a page, if it is there
 abbrev pub use_at : PageUses → PageId → Option PageUse

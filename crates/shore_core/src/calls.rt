@@ -8,6 +8,7 @@ ghost use Rattle.shore_logrec.specs.declared.costs.TheConstants.{ENDING_COST};
 ghost use Rattle.shore_log.specs.Settled.{list_of, stable, IsSettled};
 ghost use Rattle.shore_log.specs.PlainTails.{first_of, waiting_in};
 ghost use Rattle.shore_core.specs.declared.calls.TheConstants.{LAST_LSN, LAST_TXN};
+ghost use Rattle.shore_core.specs.RecordMaps.{IsOn};
 ghost use Rattle.shore_core.specs.Room.{Admits};
 ghost use Rattle.shore_model.specs.declared.log_records.LogRecord.{LogRecord};
 ghost use Rattle.shore_machine.specs.Served.{IsServed};
@@ -54,6 +55,7 @@ pub struct Core<T: Tail> {
     room: LogRoom,
     durable: Lsn,
     failed: bool,
+    ghost pages: { IsOn geometry records },
     ghost some_txn: { 1 ≤ next_txn },
     ghost some_number: { 1 ≤ T.Tail.first tail + length (T.Tail.records tail) },
     ghost few: { T.Tail.first tail + length (T.Tail.records tail) ≤ LAST_LSN + 2 },

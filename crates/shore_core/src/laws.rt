@@ -4,7 +4,7 @@ ghost use Rattle.std.specs.FinMap.{get, insert};
 ghost use Rattle.shore_types.specs.declared.ids.Rid.{Rid};
 ghost use Rattle.shore_types.specs.declared.layout.Geometry.{Geometry};
 ghost use Rattle.shore_model.specs.Records.{Records};
-ghost use Rattle.shore_core.specs.Pages.{FitPages};
+ghost use Rattle.shore_machine.specs.Pages.{FitPages};
 ghost use Rattle.shore_core.specs.RecordMaps.{IsOn, records_in};
 ghost use Rattle.shore_core.specs.declared.records.RecordMap.{RecordMap};
 

@@ -15,5 +15,5 @@ pub use calls::Core;
 pub use records::RecordMap;
 pub use replay::OpenError;
 pub use room::LogRoom;
-pub use shore_model::{Answer, Call};
 pub use shore_machine::{Step, Wait};
+pub use shore_model::{Answer, Call};

@@ -1,12 +1,9 @@
 //! The room of pages. The free bytes of a page are what its header, its slot table and its records leave of it.
 ghost use Rattle.std.specs.Prelude.{◌≡◌, ◌+◌, ◌*◌, ◌≤◌, ◌↔◌, IsTrue, IsSome, IfSome, max};
 ghost use Rattle.shore_types.specs.declared.layout.TheConstants.{MAX_SLOTS, SLOT_ENTRY_BYTES};
-ghost use Rattle.shore_core.specs.declared.place.TheConstants.{PAGE_ROOM};
+ghost use Rattle.shore_types.specs.declared.layout.TheConstants.{PAGE_ROOM};
 
-use shore_types::layout::{MAX_SLOTS, PAGE_BYTES, PAGE_HEADER_BYTES, SLOT_ENTRY_BYTES};
-
-/// The bytes of a page that its slot table and its records share.
-pub const PAGE_ROOM: usize = PAGE_BYTES - PAGE_HEADER_BYTES;
+use shore_types::layout::{MAX_SLOTS, PAGE_ROOM, SLOT_ENTRY_BYTES};
 
 /// What is used of a page.
 #[derive(Clone, Copy, Debug, PartialEq, Eq)]

@@ -10,7 +10,7 @@ ghost use Rattle.shore_types.specs.declared.layout.TheConstants.{MAX_RECORD_BYTE
 ghost use Rattle.shore_model.specs.Records.{Records};
 ghost use Rattle.shore_core.specs.declared.place.PageUse.{PageUse};
 ghost use Rattle.shore_core.specs.declared.records.Misfit.TheVariants.{Memory};
-ghost use Rattle.shore_core.specs.Pages.{FitPages, Takes};
+ghost use Rattle.shore_machine.specs.Pages.{FitPages, Takes};
 ghost use Rattle.shore_core.specs.Uses.{Counts, use_at, slot_on};
 
 use crate::place::PageUse;
@@ -57,7 +57,8 @@ pub struct RecordMap {
 }
 
 impl RecordMap {
-    ghost use Rattle.shore_core.specs.RecordMaps.{IsOn, IsPlace, StandsFirst, WasPut, records_in};
+    ghost use Rattle.shore_core.specs.RecordMaps.{IsOn, IsPlace, WasPut, records_in};
+    ghost use Rattle.shore_machine.specs.Pages.{StandsFirst};
 
     /// These records, on the pages of a geometry. Refused by the id of one that is too long, or whose page is not there or has no
     /// room for it.

@@ -3,7 +3,7 @@ ghost use Rattle.std.specs.Prelude.{◌≡◌, ◌≤◌, ◌<◌, ◌-◌, ◌^
 ghost use Rattle.shore_core.specs.Opened.{ChangesAt, cost_of_log};
 ghost use Rattle.shore_logrec.specs.Text.{Fits};
 ghost use Rattle.shore_core.specs.declared.replay.OpenError.TheVariants.{Memory, NoRoom, BadRecord};
-ghost use Rattle.shore_core.specs.Pages.{FitPages};
+ghost use Rattle.shore_machine.specs.Pages.{FitPages};
 ghost use Rattle.shore_core.specs.RecordMaps.{IsOn, records_in};
 ghost use Rattle.shore_model.specs.Logs.{id_in, told};
 ghost use Rattle.shore_types.specs.declared.ids.Rid.{Rid};

@@ -17,7 +17,7 @@ pub struct PageUses {
 }
 
 impl PageUses {
-    ghost use Rattle.shore_core.specs.Pages.{is_page};
+    ghost use Rattle.shore_machine.specs.Pages.{is_page};
     ghost use Rattle.shore_core.specs.Uses.{Adds, HasNoRoom, IsUnused, page_counts, use_at};
 
     /// The pages of a geometry, with no record.

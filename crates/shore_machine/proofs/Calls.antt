@@ -23,7 +23,8 @@ use Rattle.shore_machine.specs.declared.step.Wait.{Wait}
 use Rattle.shore_machine.specs.Bookkeeping.{session_after}
 use Rattle.shore_machine.specs.Served.{IsServed}
 use Rattle.shore_machine.specs.States.{State, Active}
-use Rattle.shore_machine.specs.Steps.{CallStep, Refuses, IsRefusal, Answers, IsFree, inserted, committed}
+use Rattle.shore_machine.specs.Steps.{CallStep, Refuses, IsRefusal, Answers, inserted, committed}
+use Rattle.shore_machine.specs.Pages.{IsFree}
 use Rattle.shore_machine.specs.Trails.{IsAfter, after_call, called_by, opening_of, serial_now}
 use Rattle.shore_machine.proofs.UnderWay.{records_found, under_way}
 use Rattle.shore_machine.proofs.Goings.{read_goes_on, insert_goes_on, begin_goes_on, commit_is_decided}
@@ -135,7 +136,7 @@ module _ (g : Geometry) (opened : List LogRecord) (es : List Entry) (s : State) 
       let ins = one.2 in
       let id = ins.0 in
       subst (λ (answer : Answer). GoesOn (call.Insert store bytes) (Done answer) new) (sym ins.4)
-      (subst (λ (new : State). GoesOn (call.Insert store bytes) (Done (Inserted id)) new) (sym ins.5) (insert_done a one.1 quiet store bytes id ins.2))
+      (subst (λ (new : State). GoesOn (call.Insert store bytes) (Done (Inserted id)) new) (sym ins.5) (insert_done a one.1 quiet store bytes id ins.2.free))
   done call.Commit answer new served quiet h = absurd h
   done _ answer new served quiet h = absurd served
 

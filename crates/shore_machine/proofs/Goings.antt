@@ -25,7 +25,8 @@ use Rattle.shore_model.specs.FirstPath.{IsFirst, IsFirstEntry, said_by}
 use Rattle.shore_model.specs.Logs.{committed_in, last_of}
 use Rattle.shore_machine.specs.Bookkeeping.{BeginsBelow, IsCalledBelow, IsAbove, IsSession, IsUnderWay, session_after, in_txn}
 use Rattle.shore_machine.specs.States.{State, Active, next_number}
-use Rattle.shore_machine.specs.Steps.{begun, inserted, committed, insert_record, commit_record, IsFree}
+use Rattle.shore_machine.specs.Steps.{begun, inserted, committed, insert_record, commit_record}
+use Rattle.shore_machine.specs.Pages.{IsFree}
 use Rattle.shore_machine.specs.Trails.{IsAfter, in_place, opening_of, serial_now}
 use Rattle.shore_machine.proofs.Entries.{recursion-push, recursion-each, recursion-weaker, standing-push, decisions-decided, history-push}
 use Rattle.shore_machine.proofs.Gains.{logged_none, logged_one, committed_push, of_committed, ended_push, forced_none, forced_gain}

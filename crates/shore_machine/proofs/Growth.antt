@@ -7,8 +7,8 @@ use Rattle.shore_model.specs.declared.calls.Call.{Call}
 use Rattle.shore_model.specs.declared.calls.Call.TheVariants.{Begin, Get, Insert, Commit}
 use Rattle.shore_model.specs.declared.log_records.LogRecord.{LogRecord}
 use Rattle.shore_machine.specs.Served.{IsServed}
-use Rattle.shore_machine.specs.States.{State, Active}
-use Rattle.shore_machine.specs.Steps.{Answers, CallStep, ResumeStep, begun, inserted, insert_record, committed, commit_record, answered}
+use Rattle.shore_machine.specs.States.{State}
+use Rattle.shore_machine.specs.Steps.{Answers, CallStep, ResumeStep, insert_record, commit_record}
 use Rattle.shore_machine.specs.declared.step.Step.{Step}
 use Rattle.shore_machine.specs.declared.step.Step.TheVariants.{Done, Waits, Refused, Nothing}
 

@@ -1,5 +1,6 @@
 pub mod Bookkeeping
 pub mod FirstLists
+pub mod Pages
 pub mod Rooms
 pub mod Runs
 pub mod Served

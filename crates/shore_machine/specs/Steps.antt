@@ -6,14 +6,14 @@ use Rattle.shore_types.specs.declared.faults.Fault.{Fault}
 use Rattle.shore_types.specs.declared.faults.Fault.TheVariants.{NoTransaction, AlreadyActive, NoStore, NoPage, NoRecord, TooLong, StoreFull, LogFull, Busy, Failed, Memory}
 use Rattle.shore_types.specs.declared.ids.Rid.{Rid}
 use Rattle.shore_types.specs.declared.layout.Geometry.{Geometry}
-use Rattle.shore_types.specs.declared.layout.TheConstants.{MAX_RECORD_BYTES, MAX_SLOTS}
+use Rattle.shore_types.specs.declared.layout.TheConstants.{MAX_RECORD_BYTES}
 use Rattle.shore_model.specs.declared.calls.Answer.{Answer}
 use Rattle.shore_model.specs.declared.calls.Answer.TheVariants.{Began, Got, Inserted, Committed}
 use Rattle.shore_model.specs.declared.calls.Call.{Call}
 use Rattle.shore_model.specs.declared.calls.Call.TheVariants as call
 use Rattle.shore_model.specs.declared.log_records.LogRecord.{LogRecord}
 use Rattle.shore_model.specs.declared.log_records.Payload.TheVariants as payload
-use Rattle.shore_model.specs.Records.{Records}
+use Rattle.shore_machine.specs.Pages.{IsPlaceFor, TakesNone}
 use Rattle.shore_machine.specs.States.{State, Active, next_number, Admits, MayBegin}
 use Rattle.shore_machine.specs.declared.step.Step.{Step}
 use Rattle.shore_machine.specs.declared.step.Step.TheVariants.{Done, Waits, Refused, Nothing}
@@ -78,7 +78,8 @@ IsRefusal g s (call.Get id) NoRecord = IsSome s.active × HasPage g id.page × (
 IsRefusal g s (call.Insert store bytes) NoTransaction = s.active ≡ None
 IsRefusal g s (call.Insert store bytes) TooLong = IsSome s.active × (MAX_RECORD_BYTES < length bytes)
 IsRefusal g s (call.Insert store bytes) NoStore = IsSome s.active × (length bytes ≤ MAX_RECORD_BYTES) × ¬ HasStore g store
-IsRefusal g s (call.Insert store bytes) StoreFull = IsSome s.active × (length bytes ≤ MAX_RECORD_BYTES) × HasStore g store
+IsRefusal g s (call.Insert store bytes) StoreFull =
+    IsSome s.active × (length bytes ≤ MAX_RECORD_BYTES) × HasStore g store × TakesNone g s.records store bytes
 IsRefusal g s (call.Insert store bytes) LogFull =
     IsSome s.active × (length bytes ≤ MAX_RECORD_BYTES) × HasStore g store × ¬ Admits s (insert_cost bytes + insert_undo)
 IsRefusal g s call.Commit NoTransaction = s.active ≡ None
@@ -92,19 +93,13 @@ Refuses g s c fault =
     ⊎ ((s.failed ≡ false) × IsSome s.committing × (fault ≡ Busy))
     ⊎ ((s.failed ≡ false) × (s.committing ≡ None) × IsRefusal g s c fault)
 
--- where a new record of a store may go: no record is there
-pub record IsFree (R : Records) (store : ℕ) (id : Rid) : Type 0 where
-  pub absent : get R id ≡ None
-  pub of_store : id.page.store ≡ store
-  pub slot : id.slot < MAX_SLOTS
-
 -- a call is answered, and leaves this
 abbrev pub Answers : Geometry → State → Call → Answer → State → Type 0
 Answers g s call.Begin answer new = (s.active ≡ None) × MayBegin s × (answer ≡ Began s.next) × (new ≡ begun s)
 Answers g s (call.Get id) answer new =
     IsSome s.active × HasPage g id.page × IsSomeAnd (get s.records id) (λ bytes. answer ≡ Got bytes) × (new ≡ s)
 Answers g s (call.Insert store bytes) answer new = IsSomeAnd s.active (λ a. (id : Rid)
-    × (length bytes ≤ MAX_RECORD_BYTES) × IsFree s.records store id × Admits s (insert_cost bytes + insert_undo)
+    × (length bytes ≤ MAX_RECORD_BYTES) × IsPlaceFor g s.records store bytes id × Admits s (insert_cost bytes + insert_undo)
     × (answer ≡ Inserted id) × (new ≡ inserted s a id bytes))
 Answers g s _ answer new = ⊥
 

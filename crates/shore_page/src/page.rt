@@ -9,13 +9,10 @@ ghost use Rattle.shore_page.specs.Text.{IsPageText, images_of, settled_page};
 use crate::reading::{check_slots, read_header, read_slots};
 use crate::slots::Slot;
 use crate::writing::put_page;
-use shore_types::layout::{MAX_RECORD_BYTES, PAGE_BYTES, PAGE_HEADER_BYTES, SLOT_ENTRY_BYTES};
+use shore_types::layout::{MAX_RECORD_BYTES, PAGE_BYTES, PAGE_ROOM, SLOT_ENTRY_BYTES};
 use shore_types::{Bytes, Lsn, PageId, Sequence};
 use std::alloc::{AllocError, Global};
 use std::marker::Model;
-
-/// The bytes of a page that its slot table and its records share.
-const PAGE_ROOM: usize = PAGE_BYTES - PAGE_HEADER_BYTES;
 
 /// A page: its id, the number of the last change that was logged for it, and its slots. A slot has a record or none, and
 /// a claim, the bytes of the page that are kept for it: never fewer than its record has, and more where a change that is not

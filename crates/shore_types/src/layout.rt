@@ -12,6 +12,8 @@ pub const VERSION: u16 = 1;
 pub const PAGE_BYTES: usize = 8192;
 /// The bytes of a page's header, at its front.
 pub const PAGE_HEADER_BYTES: usize = 24;
+/// The bytes of a page that its records and its slot table share.
+pub const PAGE_ROOM: usize = PAGE_BYTES - PAGE_HEADER_BYTES;
 /// The bytes of a slot's entry in the slot table, at the page's end.
 pub const SLOT_ENTRY_BYTES: usize = 4;
 /// The most bytes of a record, which may have none.

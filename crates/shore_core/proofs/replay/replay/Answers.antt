@@ -4,7 +4,7 @@ use Rattle.std.specs.FinMap.{get}
 use Rattle.std.proofs.lemmas.Bool.{ltb-true, ltb-false}
 use Rattle.shore_model.specs.Records.{Records}
 use Rattle.shore_core.specs.Opened.{ChangesAt}
-use Rattle.shore_core.specs.Pages.{FitPages}
+use Rattle.shore_machine.specs.Pages.{FitPages}
 use Rattle.shore_core.proofs.FitLemmas.{fits_pages}
 use Rattle.shore_core.proofs.KeepLemmas.{by_test}
 use Rattle.shore_core.proofs.Tellings.{untold}

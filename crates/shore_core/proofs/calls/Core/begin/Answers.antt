@@ -8,6 +8,7 @@ invariant_of-self g c =
     let old = c.args.self.now in
     let next = g.T.Tail.first old.tail + length (g.T.Tail.records old.tail) in
     record {
+      pages = old.pages;
       some_txn = omega arith;
       some_number = old.some_number;
       few = old.few;

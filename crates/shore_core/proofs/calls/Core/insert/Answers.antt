@@ -1,12 +1,9 @@
-use Rattle.std.proofs.Common.{◌≡◌, ◌+◌, ◌^◌, ◌≤◌, ◌<◌, [], ◌∷◌, ◌++◌, List, ℕ, length, length-append, refl, inl, ap, sym, ◌∙◌, arith}
+use Rattle.std.proofs.Common.{◌≡◌, ◌+◌, ◌^◌, ◌≤◌, ◌<◌, [], ◌∷◌, ◌++◌, List, length, length-append, refl, inl, ap, ◌∙◌, arith}
 use Rattle.shore_core.specs.declared.calls.Active.{Active}
 use Rattle.shore_core.proofs.CoreLemmas.{at_some, Fits-insert, remove_inserted, same_state}
 use Rattle.std.specs.FinMap.{remove}
-use Rattle.shore_types.specs.declared.faults.Fault.{Fault}
 use Rattle.shore_model.specs.Records.{Records}
-use Rattle.shore_model.specs.declared.calls.Call.TheVariants.{Insert}
 use Rattle.shore_model.specs.declared.log_records.LogRecord.{LogRecord}
-use Rattle.shore_machine.specs.Steps.{IsRefusal}
 use Rattle.shore_core.specs.Cores.{records_of, state_of}
 use Rattle.shore_core.proofs.calls.Core.insert.Goals as goal
 
@@ -27,6 +24,7 @@ invariant_of-self-in-Ok g c =
     let low : before ≤ 2 ^ 46 = (c.if-not-admits.ensures.0 refl).0 in
     let owed = old.owed c.in-Some.active c.in-Some.is in
     record {
+      pages = c.insert.ensures.pages old.geometry old.pages;
       some_txn = old.some_txn;
       some_number = omega (arith, risen, old.some_number);
       few = omega (arith, risen, low);
@@ -40,11 +38,27 @@ invariant_of-self-in-Ok g c =
 
 pub returns-clause-replies : goal.returns-clause-replies
 returns-clause-replies g c before first =
-    let old = c.args.self.now in
-    (
+    let old = c.args.self.now in (
       inl c.in-Err.ensures.refused.0,
       same_state (state_of before old) _ _
-      (c.undo_insert.ensures.removed ∙ ap (λ (R : Records). remove R c.in-Some-place_for.place.id) c.in_ok-insert.ensures.ok
-      ∙ remove_inserted (records_of old) c.in-Some-place_for.place.id _ c.in-Some-place_for.ensures.absent)
-      (ap (λ (l : List LogRecord). before ++ l) c.in-Err.ensures.none_added),
+          (c.undo_insert.ensures.removed ∙ ap (λ (R : Records). remove R c.in-Some-place_for.place.id) c.in_ok-insert.ensures.ok
+          ∙ remove_inserted (records_of old) c.in-Some-place_for.place.id _ c.in-Some-place_for.ensures.absent)
+          (ap (λ (l : List LogRecord). before ++ l) c.in-Err.ensures.none_added),
     )
+
+pub invariant_of-self-in-Err : goal.invariant_of-self-in-Err
+invariant_of-self-in-Err g c =
+    let old = c.args.self.now in
+    let same : g.T.Tail.first c.push.new.self + length (g.T.Tail.records c.push.new.self) ≡ g.T.Tail.first old.tail + length (g.T.Tail.records old.tail) = omega (arith, c.push.ensures.first, ap length c.in-Err.ensures.none_added) in
+    record {
+      pages = c.undo_insert.ensures.pages old.geometry (c.insert.ensures.pages old.geometry old.pages);
+      some_txn = old.some_txn;
+      some_number = omega (arith, same, old.some_number);
+      few = omega (arith, same, old.few);
+      begun = old.begun;
+      below = old.below;
+      earlier = λ a is. omega (arith, same, old.earlier a is);
+      owed = old.owed;
+      ending = old.ending;
+      number = λ a is. omega (arith, same, old.number a is);
+    }

@@ -1,6 +1,6 @@
 use Rattle.std.proofs.Common.{◌≡◌, ◌<◌, List, ℕ, length}
 use Rattle.shore_types.specs.declared.ids.Rid.{Rid}
-use Rattle.shore_core.specs.Pages.{Takes}
+use Rattle.shore_machine.specs.Pages.{Takes}
 use Rattle.shore_core.specs.RecordMaps.{records_in}
 use Rattle.shore_core.proofs.records.RecordMap.place_for.Given as goal
 

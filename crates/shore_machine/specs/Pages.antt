@@ -1,12 +1,13 @@
 -- What records take of their pages, and which of them the pages of a geometry have room for.
-use Rattle.std.specs.Prelude.{◌≡◌, ◌==◌, ◌&&◌, ◌+◌, ◌*◌, ◌≤◌, ℕ, List, [], ◌∷◌, Bool, None, filter, length, max}
+use Rattle.std.specs.Prelude.{◌≡◌, ◌==◌, ◌&&◌, ◌+◌, ◌*◌, ◌≤◌, ◌<◌, ℕ, List, [], ◌∷◌, Bool, None, filter, length, max}
 use Rattle.std.specs.FinMap.{entries, get, insert}
 use Rattle.shore_types.specs.declared.ids.PageId.{PageId}
 use Rattle.shore_types.specs.declared.ids.Rid.{Rid}
+use Rattle.shore_types.specs.Layout.{HasPage}
 use Rattle.shore_types.specs.declared.layout.Geometry.{Geometry}
 use Rattle.shore_types.specs.declared.layout.TheConstants.{MAX_SLOTS, SLOT_ENTRY_BYTES}
 use Rattle.shore_model.specs.Records.{Records, AreRecords}
-use Rattle.shore_core.specs.declared.place.TheConstants.{PAGE_ROOM}
+use Rattle.shore_types.specs.declared.layout.TheConstants.{PAGE_ROOM}
 
 -- the pages are one
 abbrev pub is_page : PageId → PageId → Bool
@@ -50,3 +51,24 @@ pub record Takes (R : Records) (id : Rid) (bytes : List ℕ) : Type 0 where
   pub empty : get R id ≡ None
   pub candidate : id.slot ≤ slots_on id.page R
   pub fits : FitsPage (insert R id bytes) id.page
+
+-- where a new record of a store may go: no record is there
+pub record IsFree (R : Records) (store : ℕ) (id : Rid) : Type 0 where
+  pub absent : get R id ≡ None
+  pub of_store : id.page.store ≡ store
+  pub slot : id.slot < MAX_SLOTS
+
+-- among an id and others of its store it stands first: by page, and then by slot
+abbrev pub StandsFirst : Rid → Rid → Type 0
+StandsFirst a b = (a.page.page ≤ b.page.page) × (b.page.page ≡ a.page.page → a.slot ≤ b.slot)
+
+-- where a new record of a store goes: of all ids of the store that take it the first
+pub record IsPlaceFor (g : Geometry) (R : Records) (store : ℕ) (bytes : List ℕ) (id : Rid) : Type 0 where
+  pub free : IsFree R store id
+  pub inside : HasPage g id.page
+  pub takes : Takes R id bytes
+  pub first : (other : Rid) → other.page.store ≡ store → Takes R other bytes → StandsFirst id other
+
+-- no page of the store takes it
+abbrev pub TakesNone : Geometry → Records → ℕ → List ℕ → Type 0
+TakesNone g R store bytes = (id : Rid) → id.page.store ≡ store → HasPage g id.page → Takes R id bytes → ⊥
