@@ -6,3 +6,4 @@ pub mod PageLemmas
 pub mod PlaceLemmas
 pub mod Tellings
 pub mod UseLemmas
+pub mod BoundLemmas

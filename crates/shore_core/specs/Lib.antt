@@ -1,3 +1,4 @@
+pub mod Bounds
 pub mod Changes
 pub mod Cores
 pub mod Opened

@@ -7,7 +7,11 @@ ghost use Rattle.shore_logrec.specs.Text.{Fits};
 ghost use Rattle.shore_logrec.specs.declared.costs.TheConstants.{ENDING_COST};
 ghost use Rattle.shore_log.specs.Settled.{list_of, stable, IsSettled};
 ghost use Rattle.shore_log.specs.PlainTails.{first_of, waiting_in};
-ghost use Rattle.shore_core.specs.declared.calls.TheConstants.{LAST_LSN, LAST_TXN};
+ghost use Rattle.shore_core.specs.declared.calls.TheConstants.{LAST_LSN, LAST_OPENED, LAST_TXN};
+ghost use Rattle.shore_types.specs.declared.layout.TheConstants.{MAX_LOG_BYTES};
+ghost use Rattle.shore_machine.specs.Pages.{FitPages};
+ghost use Rattle.shore_core.specs.Bounds.{AreInBounds, InBounds, IsBounded};
+ghost use Rattle.shore_core.specs.Opened.{cost_of_log};
 ghost use Rattle.shore_core.specs.RecordMaps.{IsOn};
 ghost use Rattle.shore_core.specs.Room.{Admits};
 ghost use Rattle.shore_model.specs.declared.log_records.LogRecord.{LogRecord};
@@ -29,6 +33,8 @@ use std::alloc::Global;
 
 /// Where the number of the last record is this or more, no room is given to new work.
 const LAST_LSN: u64 = 1 << 46;
+/// The numbers of all records are below this one.
+const LAST_OPENED: u64 = LAST_LSN + (1 << 32);
 /// Where the next transaction's number is this or more, none begins.
 const LAST_TXN: u64 = 1 << 62;
 
@@ -58,7 +64,7 @@ pub struct Core<T: Tail> {
     ghost pages: { IsOn geometry records },
     ghost some_txn: { 1 ≤ next_txn },
     ghost some_number: { 1 ≤ T.Tail.first tail + length (T.Tail.records tail) },
-    ghost few: { T.Tail.first tail + length (T.Tail.records tail) ≤ LAST_LSN + 2 },
+    ghost few: { T.Tail.first tail + length (T.Tail.records tail) ≤ LAST_OPENED },
     ghost begun: { ForSome active (λ a. 1 ≤ a.txn) },
     ghost below: { ForSome active (λ a. a.txn ≤ LAST_TXN) },
     ghost earlier: { ForSome active (λ a. a.last < T.Tail.first tail + length (T.Tail.records tail)) },
@@ -313,6 +319,13 @@ impl<T: Tail> Core<T> {
     }
 }
 
+// Whether the last record and the next transaction have numbers in their bounds.
+fn has_numbers(last: u64, next_txn: u64) -> bool
+    ensures { IsTrue result ↔ ((last < LAST_OPENED) × (next_txn ≤ LAST_TXN)) }
+{
+    last < LAST_OPENED && next_txn <= LAST_TXN
+}
+
 impl Core<PlainTail> {
     ghost use Rattle.shore_core.specs.Cores.{durable_of, geometry_of, state_of};
 
@@ -329,6 +342,12 @@ impl Core<PlainTail> {
         requires durable { durable.lsn ≡ length log.now }
         ensures opened { IfOk result (λ core. IsOpened log.now (state_of log.now core)) }
         ensures geometry { IfOk result (λ core. geometry_of core ≡ geometry) }
+        ensures fits { IfOk result (λ core. FitPages geometry (state_of log.now core).records) }
+        ensures room { size ≤ MAX_LOG_BYTES → IfOk result (λ core. (state_of log.now core).room ≡ record { kept = cost_of_log log.now; reserved = 0; stream = size }) }
+
+        // A log that is in bounds gives a core, unless memory is wanting; where each of its beginnings is, so is the core.
+        ensures bounded { size ≤ MAX_LOG_BYTES → AreInBounds geometry size log.now → IfOk result (λ core. IsBounded geometry size (state_of log.now core)) }
+        ensures in_bounds { size ≤ MAX_LOG_BYTES → InBounds geometry size log.now → IfErr result (λ error. error ≡ OpenError.Memory) }
         ensures numbers { IfOk result (λ core. first_of core.tail ≡ 1 + length log.now) }
         ensures waiting { IfOk result (λ core. waiting_in core.tail ≡ []) }
         ensures durable { IfOk result (λ core. durable_of core ≡ durable.lsn) }
@@ -337,7 +356,7 @@ impl Core<PlainTail> {
         let room = LogRoom::new(size, cost_of_all(log)).ok_or(OpenError::NoRoom)?;
         let last = log.len() as u64;
         let next_txn = next_transaction(log);
-        if last >= LAST_LSN || next_txn > LAST_TXN {
+        if !has_numbers(last, next_txn) {
             return Err(OpenError::NoRoom);
         }
         Ok(Core {

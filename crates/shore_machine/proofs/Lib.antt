@@ -18,3 +18,4 @@ pub mod ToldFronts
 pub mod Turns
 pub mod UnderWay
 pub mod Growth
+pub mod StepTellings

@@ -1,6 +1,7 @@
 //! Laws over the definitions, each the contract of a function with nothing to do.
-ghost use Rattle.std.specs.Prelude.{◌≡◌, ◌≤◌, ℕ, List, [], Some, take, length, map};
+ghost use Rattle.std.specs.Prelude.{◌≡◌, ◌≤◌, ◌∷◌, ◌++◌, ℕ, List, [], Some, None, take, length, map};
 ghost use Rattle.std.specs.FinMap.{empty};
+ghost use Rattle.shore_types.specs.declared.ids.Rid.{Rid};
 ghost use Rattle.shore_types.specs.declared.layout.Geometry.{Geometry};
 ghost use Rattle.shore_model.specs.declared.calls.Call.{Call};
 ghost use Rattle.shore_model.specs.declared.histories.Decision.{Decision};
@@ -13,7 +14,8 @@ ghost use Rattle.shore_machine.specs.Rooms.{HasRoom};
 ghost use Rattle.shore_machine.specs.Runs.{AreRuns, Event, MovesBy, Run, after_events, left_by, made_by};
 ghost use Rattle.shore_machine.specs.Served.{IsServed};
 ghost use Rattle.shore_machine.specs.States.{Active, State};
-ghost use Rattle.shore_machine.specs.Steps.{CallStep, ResumeStep, told_durable, with_failure};
+ghost use Rattle.shore_machine.specs.Pages.{IsFree};
+ghost use Rattle.shore_machine.specs.Steps.{CallStep, ResumeStep, commit_record, insert_record, told_durable, with_failure};
 ghost use Rattle.shore_machine.specs.Trails.{IsAfter, IsOpened, KeepsDurable, after_call, after_resume, opened_on, opening_of, serial_now};
 ghost use Rattle.shore_machine.specs.declared.step.Step.{Step};
 
@@ -89,4 +91,13 @@ pub fn runs_are_a_life()
     ensures life { (g : Geometry) (runs : List Run) (last : List LogRecord) → AreRuns g [] runs last →
         (spans : List Span) × (map (λ s. s.entries) spans ≡ map (λ r. made_by r.events) runs)
         × IsLife (opening_of []) spans (opening_of last) × (told last ≡ left_by empty spans) }
+{}
+
+/// The Change of an insert tells nothing yet, and a Commit makes the list tell all that is in place.
+pub fn a_commit_tells_all()
+    ensures insert { (opened : List LogRecord) (h : History) (s : State) (a : Active) (store : ℕ) (bytes : List ℕ) (id : Rid) →
+        IsAfter opened h s → s.active ≡ Some a → s.committing ≡ None → IsFree s.records store id →
+        told (s.list ++ insert_record a id bytes ∷ []) ≡ told s.list }
+    ensures commit { (opened : List LogRecord) (h : History) (s : State) (a : Active) →
+        IsAfter opened h s → s.active ≡ Some a → s.committing ≡ None → told (s.list ++ commit_record a ∷ []) ≡ s.records }
 {}

@@ -16,6 +16,7 @@ use Rattle.shore_gate.specs.declared.anchors.Slot.TheVariants.{A}
 use Rattle.shore_gate.specs.declared.labels.Label.{Label}
 use Rattle.shore_gate.specs.Label.{HoldsLabel, label_bytes}
 use Rattle.shore_gate.specs.Anchor.{Counts, MayCount, anchor_bytes, place_of}
+use Rattle.shore_core.proofs.BoundLemmas.{none_in_bounds}
 use Rattle.shore_gate.proofs.WidthLemmas.{length-label_bytes, length-anchor_bytes}
 use Rattle.shore_world.specs.Fronts.{IsLogLength, log_label, first_anchor, is_first, HasFront, StandsFor, behind_label, IsShut, LeftByFormat}
 
@@ -127,6 +128,7 @@ formatted g bytes tail pair fits limits =
         };
       };
       log = ([], (CLOSED, tail, (λ is. absurd (omega (arith, is))), part_stream L Z1 N Z2 Z3 tail l z1 n z2 z3), refl);
+      bounds = none_in_bounds g (bytes - 4096) (omega (arith, fits.0));
     }
 
 pub made : (g : Geometry) (bytes : ℕ) (label : Label) (tail : List ℕ) → label ≡ log_label g bytes → label.pair < 2 ^ 64 → IsLogLength bytes → IsInLimits g

@@ -1,7 +1,8 @@
 -- Runs of the world as runs of the machine, and managers one after another.
-use Rattle.std.proofs.Common.{◌≡◌, inl, inr, List, ℕ, [], ◌∷◌, ◌++◌, arith, refl, sym, ◌∙◌, ap, subst}
+use Rattle.std.proofs.Common.{◌≡◌, inl, inr, List, ℕ, ◌+◌, ◌-◌, ◌≤◌, [], ◌∷◌, ◌++◌, length, take, drop, arith, refl, sym, ◌∙◌, ap, subst}
 use Rattle.std.specs.Prelude.{All, map}
 use Rattle.std.specs.List.{AllByRecursion}
+use Rattle.std.proofs.lemmas.List.{take-take, drop-take, length-take}
 use Rattle.std.proofs.lemmas.List.Elements.{recursion_from_All}
 use Rattle.shore_types.specs.declared.faults.Fault.{Fault}
 use Rattle.shore_types.specs.declared.layout.Geometry.{Geometry}
@@ -11,16 +12,30 @@ use Rattle.shore_model.specs.declared.log_records.LogRecord.{LogRecord}
 use Rattle.shore_machine.specs.declared.step.Step.{Step}
 use Rattle.shore_machine.specs.declared.step.Step.TheVariants.{Done, Refused, Nothing}
 use Rattle.shore_machine.specs.Runs as machine
-use Rattle.shore_machine.specs.Runs.{MovesBy, Run, AreRuns, list_left, made_by}
+use Rattle.shore_machine.specs.Runs.{MovesBy, Run, after_events, AreRuns, list_left, made_by}
+use Rattle.shore_model.specs.Histories.{History}
+use Rattle.shore_machine.specs.Pages.{FitPages}
 use Rattle.shore_machine.specs.States.{State}
-use Rattle.shore_machine.specs.Trails.{IsOpened}
+use Rattle.shore_machine.specs.Steps.{with_failure}
+use Rattle.shore_machine.specs.Trails.{IsAfter, IsOpened, opened_on}
+use Rattle.shore_machine.proofs.RunsOn.{events_on}
+use Rattle.shore_machine.proofs.Tellings.{open_on}
+use Rattle.shore_core.specs.Bounds.{InBounds, IsBounded}
+use Rattle.shore_core.proofs.BoundLemmas.{call_bounded, resume_bounded}
+use Rattle.shore_core.proofs.FitLemmas.{fits_pages}
+use Rattle.shore_types.specs.declared.faults.Device.TheVariants.{Log}
+use Rattle.shore_gate.specs.declared.anchors.Slot.{Slot}
+use Rattle.shore_gate.specs.declared.anchors.Slot.TheVariants.{A, B}
+use Rattle.shore_gate.specs.Label.{HoldsLabel}
+use Rattle.shore_gate.specs.Anchor.{HoldsAnchor, IsOlder, other_of, slot_bytes}
+use Rattle.shore_world.specs.Fronts.{HasFront, StandsFor, first_anchor, log_label}
 use Rattle.shore_log.specs.Frames.{Gives}
 use Rattle.shore_world.specs.declared.event.Event.{Event}
 use Rattle.shore_world.specs.declared.event.Event.TheVariants.{Call, Resume, ForceStage, ForceOpen}
 use Rattle.shore_world.specs.declared.world.World.{World}
 use Rattle.shore_world.specs.Events.{IsServedEvent}
 use Rattle.shore_world.specs.Worlds.{state_in, geometry_in, EventStep, ForceRefused, Runs}
-use Rattle.shore_world.specs.Managers.{Manager, AreManagers, failure_by, moves_by, all_moves, entries_of}
+use Rattle.shore_world.specs.Managers.{Manager, IsManager, AreManagers, failure_by, moves_by, all_moves, entries_of}
 
 -- ---- one event
 
@@ -86,3 +101,86 @@ module _ {D : Type 0} {G : Ghosts D} where
         gives = later.gives;
         entries = ap (λ l. entries_of m ∷ l) later.entries;
       }
+
+-- ---- what a manager leaves stands
+
+slot_within : (p m : ℕ) (image : List ℕ) → 40 ≤ m → take 40 (drop p image) ≡ take 40 (drop p (take (p + m) image))
+slot_within p m image le = sym (ap (take 40) (drop-take p m image) ∙ take-take 40 m (drop p image) le)
+
+same_slot : (slot : Slot) (image c : List ℕ) → take 4096 c ≡ take 4096 image → slot_bytes slot c ≡ slot_bytes slot image
+same_slot A image c same = slot_within 1024 3072 c (omega arith) ∙ ap (λ (l : List ℕ). take 40 (drop 1024 l)) same ∙ sym (slot_within 1024 3072 image (omega arith))
+same_slot B image c same = slot_within 2048 2048 c (omega arith) ∙ ap (λ (l : List ℕ). take 40 (drop 2048 l)) same ∙ sym (slot_within 2048 2048 image (omega arith))
+
+-- the front is what the first 4,096 bytes say
+pub front_stays : (g : Geometry) (bytes : ℕ) (image c : List ℕ) → HasFront g bytes image → take 4096 c ≡ take 4096 image → HasFront g bytes c
+front_stays g bytes image c has same =
+    let label : take 512 c ≡ take 512 image = sym (take-take 512 4096 c (omega arith)) ∙ ap (take 512) same ∙ take-take 512 4096 image (omega arith) in
+    record {
+      label = subst (λ (l : List ℕ). HoldsLabel Log bytes l (log_label g bytes)) (sym label) has.label;
+      slot = has.slot;
+      anchor = record {
+        here = subst (λ (l : List ℕ). HoldsAnchor l first_anchor) (sym (same_slot has.slot image c same)) has.anchor.here;
+        older = subst (λ (l : List ℕ). IsOlder l first_anchor.sequence) (sym (same_slot (other_of has.slot) image c same)) has.anchor.older;
+        limits = has.anchor.limits;
+      };
+    }
+
+module _ (g : Geometry) (stream : ℕ) where
+  with_failure_bounded : (s : State) → IsBounded g stream s → IsBounded g stream (with_failure s)
+  with_failure_bounded s b = record { as_long = b.as_long; beginnings = b.beginnings; kept = b.kept; fits = b.fits; own = b.own }
+
+  refused_bounded : (s : State) (f : Fault) (new : State) → IsBounded g stream s → ForceRefused s f new → IsBounded g stream new
+  refused_bounded s f new b (inl p) = subst (IsBounded g stream) (sym p.2) b
+  refused_bounded s f new b (inr (inl p)) = subst (IsBounded g stream) (sym p.2) (with_failure_bounded s b)
+  refused_bounded s f new b (inr (inr p)) = subst (IsBounded g stream) (sym p.2) b
+
+  event_bounded : (opened : List LogRecord) (h : History) (s : State) (e : Event) (step : Step) (new : State) → IsAfter opened h s → IsBounded g stream s → FitPages g s.records → IsServedEvent e
+      → EventStep g s e step new → IsBounded g stream new
+  event_bounded opened h s (Call session call) step new k b fit served p = call_bounded g stream opened h s k b call step new served.1 fit p
+  event_bounded opened h s (Resume session) step new k b fit served p = resume_bounded g stream s step new b p
+  event_bounded opened h s ForceStage (Done (Staged n)) new k b fit served p = subst (IsBounded g stream) (sym p.3) b
+  event_bounded opened h s ForceStage Nothing new k b fit served p = subst (IsBounded g stream) (sym p.1) b
+  event_bounded opened h s ForceStage (Refused f) new k b fit served p = refused_bounded s f new b p
+  event_bounded opened h s ForceOpen (Done (Forced n)) new k b fit served p =
+      subst (IsBounded g stream) (sym p.3) (record { as_long = b.as_long; beginnings = b.beginnings; kept = b.kept; fits = b.fits; own = b.own })
+  event_bounded opened h s ForceOpen Nothing new k b fit served p = subst (IsBounded g stream) (sym p.1) b
+  event_bounded opened h s ForceOpen (Refused f) new k b fit served p = refused_bounded s f new b p
+  event_bounded opened h s ForceStage step new k b fit served p = absurd p
+  event_bounded opened h s ForceOpen step new k b fit served p = absurd p
+
+module _ {D : Type 0} {G : Ghosts D} where
+  pages_fit : (w : World D G) → FitPages (geometry_in w) (state_in w).records
+  pages_fit w = fits_pages w.core.geometry w.core.records w.core.pages
+
+  pub run_bounded : (g : Geometry) (stream : ℕ) (opened : List LogRecord) (old : World D G) (h : History) (events : List Event) (steps : List Step) (new : World D G) → geometry_in old ≡ g
+      → AllByRecursion IsServedEvent events → IsAfter opened h (state_in old) → IsBounded g stream (state_in old) → Runs old events steps new → IsBounded g stream (state_in new)
+  run_bounded g stream opened old h [] [] new at served k b runs = subst (λ (w : World D G). IsBounded g stream (state_in w)) (sym runs) b
+  run_bounded g stream opened old h (e ∷ es) (step ∷ steps) new at served k b runs =
+      let first = subst (λ (x : Geometry). EventStep x (state_in old) e step (state_in runs.0)) at runs.1.state in
+      let moves = one_move g (state_in old) e step (state_in runs.0) served.0 first in
+      let fit = subst (λ (x : Geometry). FitPages x (state_in old).records) at (pages_fit old) in
+      run_bounded g stream opened runs.0 (after_events h (moves_by e step)) es steps new (runs.1.geometry ∙ at) served.1
+      (events_on g opened h (state_in old) (moves_by e step) (state_in runs.0) k moves)
+      (event_bounded g stream opened h (state_in old) e step (state_in runs.0) k b fit served.0 first) runs.2
+  run_bounded g stream opened old h [] (step ∷ steps) new at served k b runs = absurd runs
+  run_bounded g stream opened old h (e ∷ es) [] new at served k b runs = absurd runs
+
+  pub left_stands : (g : Geometry) (bytes : ℕ) (image : List ℕ) (m : Manager D G) → HasFront g bytes image → IsManager g image m → IsBounded g (bytes - 4096) (state_in m.opened)
+      → (n : ℕ) × ((state_in m.ended).durable ≤ n) × (n ≤ length (state_in m.ended).list) × StandsFor g bytes (take n (state_in m.ended).list) m.left
+  left_stands g bytes image m has is b =
+      let keeps = is.keeps in
+      let list = (state_in m.opened).list in
+      let last = run_bounded g (bytes - 4096) list m.opened (opened_on list) m.events m.steps m.ended is.geometry (all_served m.events is.served) (open_on list (state_in m.opened) is.opened) b is.runs in (
+        keeps.0,
+        keeps.1,
+        keeps.2,
+        record {
+          front = front_stays g bytes image m.left has keeps.3.0;
+          log = keeps.3.1;
+          bounds = λ k le.
+              let within : k ≤ keeps.0 = omega (arith, le, length-take keeps.0 (state_in m.ended).list) in
+              let room = last.beginnings k (omega (arith, within, keeps.2)) in
+              subst (λ n. InBounds g n (take k (take keeps.0 (state_in m.ended).list))) last.as_long
+              (subst (InBounds g (state_in m.ended).room.stream) (sym (take-take k keeps.0 (state_in m.ended).list within)) room);
+        },
+      )

@@ -1,7 +1,7 @@
 -- What an event leaves of a world, by what it did to the log device.
-use Rattle.std.proofs.Common.{◌≡◌, ◌≢◌, ◌⊎◌, inl, inr, ℕ, ◌+◌, ◌≤◌, List, [], ◌∷◌, ◌++◌, length, take, Bool, true, false, Option, Some, None, Ok, IsTrue, refl, sym, ◌∙◌, ap, subst, arith, length-append, length-drop}
+use Rattle.std.proofs.Common.{◌≡◌, ◌≢◌, ◌⊎◌, inl, inr, ℕ, ◌+◌, ◌-◌, ◌≤◌, List, [], ◌∷◌, ◌++◌, length, take, Bool, true, false, Option, Some, None, Ok, IsTrue, refl, sym, ◌∙◌, ap, subst, arith, length-append, length-drop}
 use Rattle.std.specs.Prelude.{◌↔◌, IsSome}
-use Rattle.std.proofs.lemmas.List.{take-append-le, length-take, length-take-le}
+use Rattle.std.proofs.lemmas.List.{take-append-le, take_all, length-take, length-take-le}
 use Rattle.shore_disk.specs.Device.{History, noted, synced, seen, Stands, may_leave, LeavesOnly}
 use Rattle.shore_disk.specs.declared.device.Disk.{Ghosts}
 use Rattle.shore_disk.proofs.Moments.{started, widened, at_end, sync_leaves}
@@ -16,6 +16,7 @@ use Rattle.shore_log.specs.declared.device.LogDev.{LogDev}
 use Rattle.shore_log.proofs.ForceLemmas.{settled_gives}
 use Rattle.shore_log.proofs.ListLemmas.{take-more_group}
 use Rattle.shore_log.specs.PlainTails.{waiting_in}
+use Rattle.shore_core.specs.Bounds.{AreInBounds, InBounds, IsBounded}
 use Rattle.shore_core.specs.Cores.{tail_of}
 use Rattle.shore_world.specs.declared.event.Event.{Event}
 use Rattle.shore_world.specs.declared.world.World.{World}
@@ -229,3 +230,15 @@ synced_stands old new is = subst (λ (h : History). Stands h (seen old)) (sym is
 -- a world on a settled log
 pub settled_kept : {D : Type 0} {G : Ghosts D} (w : World D G) (front : List ℕ) → IsSettled w.log front → w.log.staged ≡ None → IsKept w front
 settled_kept w front settled none = record { images = λ c left. stable_gives w front c (settled_gives w.log front settled c left); ready = λ running. inl (settled, none) }
+
+-- bounds, as the opened log tells its length and its list
+pub bounds_at : (g h : Geometry) (bytes limit : ℕ) (rs list : List LogRecord) → h ≡ g → limit ≡ bytes → list ≡ rs → AreInBounds g (bytes - 4096) rs → AreInBounds h (limit - 4096) list
+bounds_at g h bytes limit rs list at long same each =
+    subst (λ (l : List LogRecord). AreInBounds h (limit - 4096) l) (sym same)
+    (subst (λ n. AreInBounds h (n - 4096) rs) (sym long) (subst (λ (x : Geometry). AreInBounds x (bytes - 4096) rs) (sym at) each))
+
+pub all_bounds : (g : Geometry) (stream : ℕ) (rs : List LogRecord) → AreInBounds g stream rs → InBounds g stream rs
+all_bounds g stream rs each = subst (InBounds g stream) (take_all (length rs) rs (omega arith)) (each (length rs) (omega arith))
+
+pub moved : (g h : Geometry) (bytes limit : ℕ) (s : State) → h ≡ g → limit ≡ bytes → IsBounded h (limit - 4096) s → IsBounded g (bytes - 4096) s
+moved g h bytes limit s at long b = subst (λ n. IsBounded g (n - 4096) s) long (subst (λ (x : Geometry). IsBounded x (limit - 4096) s) at b)

@@ -1,5 +1,5 @@
 -- What stands at the front of a log device, and what a device stands for.
-use Rattle.std.specs.Prelude.{◌≡◌, ◌≢◌, ◌⊎◌, ◌≤◌, ◌&&◌, ◌==◌, ℕ, List, [], ◌∷◌, ◌++◌, Bool, Result, Ok, Err, if◌then◌else◌, take, replicate}
+use Rattle.std.specs.Prelude.{◌≡◌, ◌≢◌, ◌⊎◌, ◌≤◌, ◌-◌, ◌&&◌, ◌==◌, ℕ, List, [], ◌∷◌, ◌++◌, Bool, Result, Ok, Err, if◌then◌else◌, take, replicate}
 use Rattle.shore_types.specs.declared.faults.Device.TheVariants.{Log}
 use Rattle.shore_types.specs.declared.layout.Geometry.{Geometry}
 use Rattle.shore_types.specs.declared.layout.TheConstants.{MIN_LOG_BYTES, MAX_LOG_BYTES}
@@ -15,6 +15,7 @@ use Rattle.shore_gate.specs.Anchor as anchors
 use Rattle.shore_gate.specs.Anchor.{Counts, anchor_bytes, place_of, damaged}
 use Rattle.shore_model.specs.declared.log_records.LogRecord.{LogRecord}
 use Rattle.shore_log.specs.Frames.{Gives}
+use Rattle.shore_core.specs.Bounds.{AreInBounds}
 use Rattle.shore_world.specs.declared.front.Front.{Front}
 
 -- a log device may be so long
@@ -57,10 +58,12 @@ and_then (Err fault) later = Err fault
 abbrev pub front_verdict : History → Result Unit Fault
 front_verdict history = and_then (verdict_of Log history) (first_checked (anchors.verdict_of (seen history)))
 
--- Stands for, as long as there is one device and no page: the front is in order, and the frames give just these records.
+-- Stands for, as long as there is one device and no page: the front is in order, the frames give just these records, and they
+-- are in bounds with each beginning of them.
 pub record StandsFor (g : Geometry) (bytes : ℕ) (rs : List LogRecord) (image : List ℕ) : Type 0 where
   pub front : HasFront g bytes image
   pub log : Gives rs image
+  pub bounds : AreInBounds g (bytes - 4096) rs
 
 -- ---- what a format writes and leaves
 

@@ -1,6 +1,6 @@
 //! The plain world: a core and its log device, one event at a time. There is no volume yet; the records in place are the
 //! core's, and an open makes them anew from the log.
-ghost use Rattle.std.specs.Prelude.{◌≡◌, ◌≢◌, ◌⊎◌, ◌+◌, ◌++◌, List, All, IsTrue, IfOk, OnOk, OnErr, Err, length, take};
+ghost use Rattle.std.specs.Prelude.{◌≡◌, ◌≢◌, ◌⊎◌, ◌+◌, ◌-◌, ◌≤◌, ◌++◌, List, All, IsTrue, IfOk, IfErr, OnOk, OnErr, Err, length, take};
 ghost use Rattle.shore_types.specs.declared.layout.Geometry.{Geometry};
 ghost use Rattle.shore_model.specs.declared.log_records.LogRecord.{LogRecord};
 ghost use Rattle.shore_disk.specs.Device.{size, seen, may_leave, LeavesOnly};
@@ -10,6 +10,9 @@ ghost use Rattle.shore_log.specs.Settled.{list_of, stable};
 ghost use Rattle.shore_log.specs.PlainTails.{first_of, waiting_in};
 ghost use Rattle.shore_machine.specs.Trails.{IsOpened};
 ghost use Rattle.shore_machine.specs.Steps.{with_failure};
+ghost use Rattle.shore_types.specs.declared.layout.TheConstants.{MAX_LOG_BYTES};
+ghost use Rattle.shore_gate.specs.Checks.{IsFromOutside};
+ghost use Rattle.shore_core.specs.Bounds.{AreInBounds, InBounds, IsBounded};
 ghost use Rattle.shore_core.specs.Cores.{tail_of, durable_of, geometry_of, state_of};
 ghost use Rattle.shore_world.specs.Events.{IsServedEvent};
 
@@ -32,7 +35,7 @@ pub struct World<D: Disk> {
 }
 
 impl<D: Disk> World<D> {
-    ghost use Rattle.shore_world.specs.Fronts.{HasFront};
+    ghost use Rattle.shore_world.specs.Fronts.{HasFront, StandsFor};
     ghost use Rattle.shore_world.specs.Worlds.{Steps, Runs, IsKept, state_in, geometry_in, device_in, fault_in};
 
     /// Opens the manager of a formatted log device: a barrier, the label, the anchors, the frames, and then the records in place
@@ -46,6 +49,12 @@ impl<D: Disk> World<D> {
         ensures geometry { IsTrue (D.is_honest log) → (g : Geometry) → HasFront g (size (D.history log)) (seen (D.history log)) → IfOk result (λ w. geometry_in w ≡ g) }
         ensures opened { IfOk result (λ w. IsOpened (state_in w).list (state_in w)) }
         ensures kept { IsTrue (D.is_honest log) → IfOk result (λ w. IsKept w (take 4096 (seen (D.history log)))) }
+
+        // An image that stands for a list is opened, unless the device fails or memory is wanting; and the world is in bounds.
+        ensures stands { IsTrue (D.is_honest log) → (g : Geometry) (rs : List LogRecord) → StandsFor g (size (D.history log)) rs (seen (D.history log))
+            → IfErr result (λ e. IsFromOutside e.0) }
+        ensures bounded { IsTrue (D.is_honest log) → (g : Geometry) (rs : List LogRecord) → StandsFor g (size (D.history log)) rs (seen (D.history log))
+            → IfOk result (λ w. IsBounded g (size (D.history log) - 4096) (state_in w)) }
 
         // A crash at any moment of the call leaves what it could have left before.
         ensures any_moment { IsTrue (D.is_honest log) → LeavesOnly (D.history log) (D.history (device_in result)) (may_leave (D.history log)) }
@@ -214,6 +223,9 @@ fn open_core<D: Disk>(
 ) -> Result<Core<PlainTail>, OpenError>
     requires { stable log.now ≡ list_of log.now }
     ensures opened { IfOk result (λ core. IsOpened (list_of log.now) (state_of (list_of log.now) core)) }
+    ensures in_bounds { log.now.limit ≤ MAX_LOG_BYTES → InBounds geometry (log.now.limit - 4096) (list_of log.now) → IfErr result (λ error. error ≡ OpenError.Memory) }
+    ensures bounded { log.now.limit ≤ MAX_LOG_BYTES → AreInBounds geometry (log.now.limit - 4096) (list_of log.now)
+        → IfOk result (λ core. IsBounded geometry (log.now.limit - 4096) (state_of (list_of log.now) core)) }
     ensures geometry { IfOk result (λ core. geometry_of core ≡ geometry) }
     ensures numbers { IfOk result (λ core. first_of (tail_of core) ≡ 1 + length (list_of log.now)) }
     ensures told { IfOk result (λ core. durable_of core ≡ length (stable log.now)) }
@@ -223,6 +235,7 @@ fn open_core<D: Disk>(
 
 // What an open is refused with, by the place that the error speaks of.
 fn fault_of<D: Disk>(error: OpenError, anchor_place: u64, log: &mut LogDev<D>) -> Fault
+    ensures memory { error ≡ OpenError.Memory → result ≡ Fault.Memory }
     ensures still { IsTrue (D.is_honest log.old.device) → D.history log.new.device ≡ D.history log.old.device }
     ensures honest { D.is_honest log.new.device ≡ D.is_honest log.old.device }
     ensures size { size (D.history log.new.device) ≡ size (D.history log.old.device) }

@@ -1,0 +1,37 @@
+-- What fits a log device and the pages of a geometry, beside what its frames say.
+use Rattle.std.specs.Prelude.{◌≡◌, ℕ, ◌+◌, ◌^◌, ◌<◌, ◌≤◌, List, IfSome, All, length, take}
+use Rattle.shore_types.specs.declared.layout.Geometry.{Geometry}
+use Rattle.shore_types.specs.declared.layout.TheConstants.{LONGEST_FRAME}
+use Rattle.shore_model.specs.declared.log_records.LogRecord.{LogRecord}
+use Rattle.shore_model.specs.Logs.{told}
+use Rattle.shore_machine.specs.Pages.{FitPages}
+use Rattle.shore_machine.specs.States.{State, Active, next_number}
+use Rattle.shore_core.specs.Opened.{cost_of_log}
+
+-- a list that an open takes: the pages have room for what it tells, the stream for its records and the longest frame, and its
+-- numbers and those of its transactions are in their bounds
+pub record InBounds (g : Geometry) (stream : ℕ) (rs : List LogRecord) : Type 0 where
+  pub pages : FitPages g (told rs)
+  pub room : cost_of_log rs + LONGEST_FRAME ≤ stream
+  pub numbers : length rs < 2 ^ 46 + 2 ^ 32
+  pub txns : All (λ r. r.txn < 2 ^ 62) rs
+
+-- so is each beginning of it, which a crash may leave
+abbrev pub AreInBounds : Geometry → ℕ → List LogRecord → Type 0
+AreInBounds g stream rs = (n : ℕ) → n ≤ length rs → InBounds g stream (take n rs)
+
+-- of what is reserved in all, and the next record's number: what the session's transaction may still log has its room and number
+pub record HasOwnRoom (reserved number : ℕ) (a : Active) : Type 0 where
+  pub ending : 34 ≤ a.reserved
+  pub within : a.reserved ≤ reserved
+  pub txn : a.txn < 2 ^ 62
+  pub few : number ≤ 2 ^ 46 + 1
+
+-- a state over a stream of this length, whose list is in bounds with each of its beginnings, whose sums are those of the list, and which has the room that
+-- it owes
+pub record IsBounded (g : Geometry) (stream : ℕ) (s : State) : Type 0 where
+  pub as_long : s.room.stream ≡ stream
+  pub beginnings : AreInBounds g s.room.stream s.list
+  pub kept : s.room.kept ≡ cost_of_log s.list
+  pub fits : s.room.kept + s.room.reserved + LONGEST_FRAME ≤ s.room.stream
+  pub own : IfSome s.active (HasOwnRoom s.room.reserved (next_number s))
