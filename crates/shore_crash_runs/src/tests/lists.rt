@@ -1,0 +1,93 @@
+//! The lists of events, one after another, and the cases of each.
+use super::crashes::{check_crash, check_history, check_next_life};
+use super::doings::{Doing, EACH};
+use super::lives::{Start, live};
+use super::trouble::Trouble;
+use shore_disk::Pick;
+use std::alloc::{AllocError, Global};
+use std::test::Fail;
+
+const PICKS: [Pick; 3] = [Pick::Old, Pick::New, Pick::Noise];
+
+// How many lists there are of no event, of one, and so on.
+const LISTS_BY_LENGTH: [(u32, u32); 6] = [(0, 1), (1, 7), (2, 49), (3, 343), (4, 2401), (5, 16807)];
+
+/// How much was run: lists of events, and for each of them a case for each fuse and pick.
+#[derive(Clone, Copy, Debug, PartialEq, Eq)]
+pub struct Counts {
+    pub lists: u64,
+    pub cases: u64,
+}
+
+/// Every list of up to five events, with each fuse and each pick.
+pub fn check_lists(alloc: Global, start: &Start) -> Result<Counts, Fail> {
+    let calls_before = live(alloc, start, &[], None)?.device.calls().len();
+    let mut counts = Counts { lists: 0, cases: 0 };
+    for (length, lists) in LISTS_BY_LENGTH {
+        for number in 0..lists {
+            let list = list_of(alloc, length, number)?;
+            check_list(alloc, start, &list, calls_before, &mut counts)?;
+        }
+    }
+    Ok(counts)
+}
+
+// So many events, as the digits of the number say.
+fn list_of(alloc: Global, length: u32, number: u32) -> Result<Vec<Doing>, AllocError> {
+    let mut list = Vec::new(alloc);
+    let mut digits = number;
+    for _ in 0..length {
+        list.push(EACH[(digits % 7) as usize])?;
+        digits /= 7;
+    }
+    Ok(list)
+}
+
+// The list with no fuse, and with a fuse for each number of its device calls.
+fn check_list(
+    alloc: Global,
+    start: &Start,
+    list: &[Doing],
+    calls_before: usize,
+    counts: &mut Counts,
+) -> Result<(), Fail> {
+    let whole = live(alloc, start, list, None)?;
+    let calls = whole.device.calls().len().saturating_sub(calls_before);
+    check_picks(alloc, start, list, None, counts)?;
+    for fuse in 0..=calls {
+        check_picks(alloc, start, list, Some(fuse as u64), counts)?;
+    }
+    counts.lists = counts.lists.saturating_add(1);
+    Ok(())
+}
+
+fn check_picks(
+    alloc: Global,
+    start: &Start,
+    list: &[Doing],
+    fuse: Option<u64>,
+    counts: &mut Counts,
+) -> Result<(), Fail> {
+    for pick in PICKS {
+        if let Err(trouble) = check_case(alloc, start, list, fuse, pick) {
+            return Err(Fail::new(format_args!(
+                "{trouble:?}: {list:?}, fuse {fuse:?}, pick {pick:?}"
+            )));
+        }
+        counts.cases = counts.cases.saturating_add(1);
+    }
+    Ok(())
+}
+
+fn check_case(
+    alloc: Global,
+    start: &Start,
+    list: &[Doing],
+    fuse: Option<u64>,
+    pick: Pick,
+) -> Result<(), Trouble> {
+    let life = live(alloc, start, list, fuse)?;
+    check_history(alloc, &start.ground, &life)?;
+    let left = check_crash(alloc, &start.ground, life, pick)?;
+    check_next_life(alloc, left, pick)
+}
