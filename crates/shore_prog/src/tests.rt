@@ -1,4 +1,7 @@
 //! Worked runs of the program: what it writes for a script, with its exit status, and the bytes that a force leaves.
+ghost use Rattle.std.specs.Prelude.{All, IfOk};
+ghost use Rattle.shore_world.specs.Events.{IsServedEvent};
+
 use crate::run;
 use shore_disk::MemDisk;
 use shore_model::Call;
@@ -154,9 +157,24 @@ const FRAME: [u8; 71] = [
     0, 0, 0, 0, 0, 0, 0, 0, 0, 0, 0,
 ];
 
-#[test]
-fn the_bytes_of_a_force(rt: HostRuntime) -> Result<(), Fail> {
-    let alloc = rt.alloc();
+// The events of the setup, with its force.
+fn setup_events(alloc: Global) -> Result<[Event; 6], Fail>
+    ensures { IfOk result (λ events. All IsServedEvent events) }
+{
+    let session = SessionId(1);
+    let bytes = Sequence::from_vec(vec![in alloc; 0xaau8]?);
+    Ok([
+        Event::Call(session, Call::Begin),
+        Event::Call(session, Call::Insert(StoreId(0), bytes)),
+        Event::Call(session, Call::Commit),
+        Event::ForceStage,
+        Event::ForceOpen,
+        Event::Resume(session),
+    ])
+}
+
+// The device that the setup leaves.
+fn device_after_setup(alloc: Global) -> Result<MemDisk, Fail> {
     let mut disk = MemDisk::new(alloc, vec![in alloc; 0u8; 135168]?)?;
     let geometry = Geometry {
         pair: 1,
@@ -165,21 +183,56 @@ fn the_bytes_of_a_force(rt: HostRuntime) -> Result<(), Fail> {
     };
     format(alloc, &mut disk, &geometry)?;
     let mut world = World::open(alloc, disk).ok().ok_or("opened")?;
-    let session = SessionId(1);
-    let bytes = Sequence::from_vec(vec![in alloc; 0xaau8]?);
-    let events = [
-        Event::Call(session, Call::Begin),
-        Event::Call(session, Call::Insert(StoreId(0), bytes)),
-        Event::Call(session, Call::Commit),
-        Event::ForceStage,
-        Event::ForceOpen,
-        Event::Resume(session),
-    ];
     let mut steps = Vec::new(alloc);
-    world.run(alloc, &events, &mut steps)?;
-    assert_eq!(rt; steps.len(), 6);
-    let disk = world.into_devices();
+    world.run(alloc, &setup_events(alloc)?, &mut steps)?;
+    Ok(world.into_devices())
+}
+
+#[test]
+fn the_bytes_of_a_force(rt: HostRuntime) -> Result<(), Fail> {
+    let disk = device_after_setup(rt.alloc())?;
     let frame = disk.bytes().get(4096..4167).ok_or("a frame")?;
     assert_eq!(rt; frame, FRAME.as_slice());
+    Ok(())
+}
+
+// What an open of these bytes is refused with.
+fn refusal(alloc: Global, bytes: Vec<u8>) -> Result<String, Fail> {
+    let disk = MemDisk::new(alloc, bytes)?;
+    match World::open(alloc, disk) {
+        Ok(_) => Ok(String::from_str(alloc, "opened")?),
+        Err((fault, _)) => Ok(format!(in alloc; "{fault}")?),
+    }
+}
+
+// One byte of the setup's device is changed.
+#[test]
+fn changed_bytes_are_refused(rt: HostRuntime) -> Result<(), Fail> {
+    let alloc = rt.alloc();
+    let disk = device_after_setup(alloc)?;
+    let cases = [
+        (0, 0x00, "29 NotFormatted"),
+        (1, 0x56, "29 NotFormatted"),
+        (2, 0x03, "26 WrongVersion"),
+        (25, 0x00, "25 Damaged log 24"),
+        (1024, 0x00, "25 Damaged log 1024"),
+        (4096, 0x00, "opened"),
+        (4097, 0x38, "25 Damaged log 4096"),
+        (4101, 0x02, "25 Damaged log 4096"),
+        (4109, 0x0a, "25 Damaged log 4096"),
+        (4166, 0xa5, "25 Damaged log 4166"),
+    ];
+    for (place, value, wanted) in cases {
+        let mut bytes = disk.bytes().to_vec(alloc)?;
+        if let Some(byte) = bytes.get_mut(place) {
+            *byte = value;
+        }
+        assert_eq!(rt; refusal(alloc, bytes)?.as_str(), wanted);
+    }
+    for (length, wanted) in [(135167, "25 Damaged log 16"), (4095, "29 NotFormatted")] {
+        let mut bytes = disk.bytes().to_vec(alloc)?;
+        bytes.truncate(length);
+        assert_eq!(rt; refusal(alloc, bytes)?.as_str(), wanted);
+    }
     Ok(())
 }
