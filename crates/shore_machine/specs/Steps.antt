@@ -81,7 +81,8 @@ IsRefusal g s (call.Insert store bytes) NoStore = IsSome s.active × (length byt
 IsRefusal g s (call.Insert store bytes) StoreFull =
     IsSome s.active × (length bytes ≤ MAX_RECORD_BYTES) × HasStore g store × TakesNone g s.records store bytes
 IsRefusal g s (call.Insert store bytes) LogFull =
-    IsSome s.active × (length bytes ≤ MAX_RECORD_BYTES) × HasStore g store × ¬ Admits s (insert_cost bytes + insert_undo)
+    IsSome s.active × (length bytes ≤ MAX_RECORD_BYTES) × HasStore g store × ¬ TakesNone g s.records store bytes
+    × ¬ Admits s (insert_cost bytes + insert_undo)
 IsRefusal g s call.Commit NoTransaction = s.active ≡ None
 IsRefusal g s _ _ = ⊥
 

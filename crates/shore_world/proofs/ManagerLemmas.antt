@@ -29,13 +29,12 @@ use Rattle.shore_gate.specs.declared.anchors.Slot.TheVariants.{A, B}
 use Rattle.shore_gate.specs.Label.{HoldsLabel}
 use Rattle.shore_gate.specs.Anchor.{HoldsAnchor, IsOlder, other_of, slot_bytes}
 use Rattle.shore_world.specs.Fronts.{HasFront, StandsFor, first_anchor, log_label}
-use Rattle.shore_log.specs.Frames.{Gives}
 use Rattle.shore_world.specs.declared.event.Event.{Event}
 use Rattle.shore_world.specs.declared.event.Event.TheVariants.{Call, Resume, ForceStage, ForceOpen}
 use Rattle.shore_world.specs.declared.world.World.{World}
 use Rattle.shore_world.specs.Events.{IsServedEvent}
-use Rattle.shore_world.specs.Worlds.{state_in, geometry_in, EventStep, ForceRefused, Runs}
-use Rattle.shore_world.specs.Managers.{Manager, IsManager, AreManagers, failure_by, moves_by, all_moves, entries_of}
+use Rattle.shore_world.specs.Worlds.{state_in, geometry_in, EventStep, ForceRefused, GivesBeginning, IsKept, Runs}
+use Rattle.shore_world.specs.Managers.{Manager, IsManager, IsLeft, AreManagers, failure_by, moves_by, all_moves, entries_of}
 
 -- ---- one event
 
@@ -76,31 +75,6 @@ module _ {D : Type 0} {G : Ghosts D} where
       (one_move g (state_in old) e step (state_in runs.0) served.0 first) (run_moves g runs.0 es steps new (runs.1.geometry ∙ at) served.1 runs.2)
   run_moves g old [] (step ∷ steps) new at served runs = absurd runs
   run_moves g old (e ∷ es) [] new at served runs = absurd runs
-
-  -- ---- managers
-
-  pub record Chained (g : Geometry) (rs : List LogRecord) (ms : List (Manager D G)) (last : List ℕ) : Type 0 where
-    pub runs : List Run
-    pub end : List LogRecord
-    pub are : AreRuns g rs runs end
-    pub gives : Gives end last
-    pub entries : map (λ (r : Run). made_by r.events) runs ≡ map entries_of ms
-
-  pub chained : (g : Geometry) (rs : List LogRecord) (image : List ℕ) (ms : List (Manager D G)) (last : List ℕ) → Gives rs image → AreManagers g image ms last → Chained g rs ms last
-  chained g rs image [] last gives are = record { runs = []; end = rs; are = refl; gives = subst (Gives rs) (sym are) gives; entries = refl }
-  chained g rs image (m ∷ ms) last gives are =
-      let one = are.0 in
-      let list = one.list rs gives in
-      let run : Run = record { first = state_in m.opened; events = all_moves m.events m.steps; last = state_in m.ended; kept = one.keeps.0 } in
-      let opened : IsOpened rs (state_in m.opened) = subst (λ (l : List LogRecord). IsOpened l (state_in m.opened)) list one.opened in
-      let later = chained g (list_left run) m.left ms last one.keeps.3.1 are.1 in
-      record {
-        runs = run ∷ later.runs;
-        end = later.end;
-        are = ((opened, run_moves g m.opened m.events m.steps m.ended one.geometry (all_served m.events one.served) one.runs, (one.keeps.1, one.keeps.2)), later.are);
-        gives = later.gives;
-        entries = ap (λ l. entries_of m ∷ l) later.entries;
-      }
 
 -- ---- what a manager leaves stands
 
@@ -165,22 +139,73 @@ module _ {D : Type 0} {G : Ghosts D} where
   run_bounded g stream opened old h [] (step ∷ steps) new at served k b runs = absurd runs
   run_bounded g stream opened old h (e ∷ es) [] new at served k b runs = absurd runs
 
-  pub left_stands : (g : Geometry) (bytes : ℕ) (image : List ℕ) (m : Manager D G) → HasFront g bytes image → IsManager g image m → IsBounded g (bytes - 4096) (state_in m.opened)
-      → (n : ℕ) × ((state_in m.ended).durable ≤ n) × (n ≤ length (state_in m.ended).list) × StandsFor g bytes (take n (state_in m.ended).list) m.left
-  left_stands g bytes image m has is b =
-      let keeps = is.keeps in
-      let list = (state_in m.opened).list in
-      let last = run_bounded g (bytes - 4096) list m.opened (opened_on list) m.events m.steps m.ended is.geometry (all_served m.events is.served) (open_on list (state_in m.opened) is.opened) b is.runs in (
-        keeps.0,
-        keeps.1,
-        keeps.2,
-        record {
-          front = front_stays g bytes image m.left has keeps.3.0;
+  -- ---- a crash at any moment
+
+  runs_kept : (front : List ℕ) (old : World D G) (events : List Event) (steps : List Step) (new : World D G) → IsKept old front → Runs old events steps new → IsKept new front
+  runs_kept front old [] [] new k runs = subst (λ (w : World D G). IsKept w front) (sym runs) k
+  runs_kept front old (e ∷ es) (step ∷ steps) new k runs = runs_kept front runs.0 es steps new (runs.1.kept front k) runs.2
+  runs_kept front old [] (step ∷ steps) new k runs = absurd runs
+  runs_kept front old (e ∷ es) [] new k runs = absurd runs
+
+  left_keeps : (front : List ℕ) (w : World D G) (c : List ℕ) → IsKept w front → IsLeft w c → GivesBeginning front (state_in w).durable (state_in w).list c
+  left_keeps front w c k (inl now) = k.images c now
+  left_keeps front w c k (inr under_way) = (under_way.3.any_moment front k).each c under_way.4
+
+  -- ---- one manager
+
+  -- what one manager does for the chain
+  pub record Managed (g : Geometry) (bytes : ℕ) (rs : List LogRecord) (m : Manager D G) : Type 0 where
+    pub kept : ℕ
+    pub opened : IsOpened rs (state_in m.opened)
+    pub moves : MovesBy g (state_in m.opened) (all_moves m.events m.steps) (state_in m.ended)
+    pub durable : (state_in m.ended).durable ≤ kept
+    pub within : kept ≤ length (state_in m.ended).list
+    pub stands : StandsFor g bytes (take kept (state_in m.ended).list) m.left
+
+  managed : (g : Geometry) (bytes : ℕ) (rs : List LogRecord) (image : List ℕ) (m : Manager D G) → StandsFor g bytes rs image → IsManager bytes image m → Managed g bytes rs m
+  managed g bytes rs image m stood is =
+      let list = is.list rs stood.log in
+      let at = is.geometry g stood.front in
+      let served = all_served m.events is.served in
+      let opened : IsOpened rs (state_in m.opened) = subst (λ (l : List LogRecord). IsOpened l (state_in m.opened)) list is.opened in
+      let keeps = left_keeps (take 4096 image) m.ended m.left (runs_kept (take 4096 image) m.opened m.events m.steps m.ended is.kept is.runs) is.crash in
+      let last = run_bounded g (bytes - 4096) rs m.opened (opened_on rs) m.events m.steps m.ended at served (open_on rs (state_in m.opened) opened) (is.bounded g rs stood) is.runs in
+      record {
+        kept = keeps.0;
+        opened = opened;
+        moves = run_moves g m.opened m.events m.steps m.ended at served is.runs;
+        durable = keeps.1;
+        within = keeps.2;
+        stands = record {
+          front = front_stays g bytes image m.left stood.front keeps.3.0;
           log = keeps.3.1;
           bounds = λ k le.
               let within : k ≤ keeps.0 = omega (arith, le, length-take keeps.0 (state_in m.ended).list) in
               let room = last.beginnings k (omega (arith, within, keeps.2)) in
               subst (λ n. InBounds g n (take k (take keeps.0 (state_in m.ended).list))) last.as_long
               (subst (InBounds g (state_in m.ended).room.stream) (sym (take-take k keeps.0 (state_in m.ended).list within)) room);
-        },
-      )
+        };
+      }
+
+  -- ---- managers one after another
+
+  pub record Chained (g : Geometry) (bytes : ℕ) (rs : List LogRecord) (ms : List (Manager D G)) (last : List ℕ) : Type 0 where
+    pub runs : List Run
+    pub end : List LogRecord
+    pub are : AreRuns g rs runs end
+    pub stands : StandsFor g bytes end last
+    pub entries : map (λ (r : Run). made_by r.events) runs ≡ map entries_of ms
+
+  pub chained : (g : Geometry) (bytes : ℕ) (rs : List LogRecord) (image : List ℕ) (ms : List (Manager D G)) (last : List ℕ) → StandsFor g bytes rs image → AreManagers bytes image ms last → Chained g bytes rs ms last
+  chained g bytes rs image [] last stood are = record { runs = []; end = rs; are = refl; stands = subst (StandsFor g bytes rs) (sym are) stood; entries = refl }
+  chained g bytes rs image (m ∷ ms) last stood are =
+      let one = managed g bytes rs image m stood are.0 in
+      let run : Run = record { first = state_in m.opened; events = all_moves m.events m.steps; last = state_in m.ended; kept = one.kept } in
+      let later = chained g bytes (list_left run) m.left ms last one.stands are.1 in
+      record {
+        runs = run ∷ later.runs;
+        end = later.end;
+        are = ((one.opened, one.moves, (one.durable, one.within)), later.are);
+        stands = later.stands;
+        entries = ap (λ l. entries_of m ∷ l) later.entries;
+      }

@@ -1,9 +1,10 @@
 -- Managers one after another over one device: each opens what the crash before it left. Each condition is what a contract says of
 -- the call that it names.
-use Rattle.std.specs.Prelude.{◌≡◌, ℕ, List, [], ◌∷◌, ◌++◌, All, take}
+use Rattle.std.specs.Prelude.{◌≡◌, ◌⊎◌, ℕ, ◌-◌, List, [], ◌∷◌, ◌++◌, All, take}
 use Rattle.shore_types.specs.declared.faults.Fault.{Fault}
 use Rattle.shore_types.specs.declared.faults.Fault.TheVariants.{Device}
 use Rattle.shore_types.specs.declared.layout.Geometry.{Geometry}
+use Rattle.shore_disk.specs.Device.{may_leave, moment, left_since}
 use Rattle.shore_disk.specs.declared.device.Disk.{Ghosts}
 use Rattle.shore_model.specs.declared.calls.Answer.TheVariants.{Forced}
 use Rattle.shore_model.specs.declared.histories.Entry.{Entry}
@@ -13,12 +14,14 @@ use Rattle.shore_machine.specs.declared.step.Step.TheVariants.{Done, Refused}
 use Rattle.shore_machine.specs.Runs as machine
 use Rattle.shore_machine.specs.Runs.{made_by}
 use Rattle.shore_machine.specs.Trails.{IsOpened}
+use Rattle.shore_core.specs.Bounds.{IsBounded}
 use Rattle.shore_log.specs.Frames.{Gives}
 use Rattle.shore_world.specs.declared.event.Event.{Event}
 use Rattle.shore_world.specs.declared.event.Event.TheVariants as event
 use Rattle.shore_world.specs.declared.world.World.{World}
 use Rattle.shore_world.specs.Events.{IsServedEvent}
-use Rattle.shore_world.specs.Worlds.{state_in, geometry_in, GivesBeginning, Runs}
+use Rattle.shore_world.specs.Fronts.{HasFront, StandsFor}
+use Rattle.shore_world.specs.Worlds.{state_in, geometry_in, history_in, IsKept, Steps, Runs}
 
 -- ---- an event of the world, as the machine has it
 
@@ -42,8 +45,7 @@ all_moves _ _ = []
 
 -- ---- one manager
 
--- One manager on a device with this image: it is opened, it makes these events, and a crash within the next one, or after the
--- last, leaves another image.
+-- One manager on a device: it is opened and makes these events, and then a crash leaves an image.
 pub record Manager (D : Type 0) (G : Ghosts D) : Type 0 where
   pub opened : World D G
   pub events : List Event
@@ -51,21 +53,31 @@ pub record Manager (D : Type 0) (G : Ghosts D) : Type 0 where
   pub ended : World D G
   pub left : List ℕ
 
-pub record IsManager {D : Type 0} {G : Ghosts D} (g : Geometry) (image : List ℕ) (m : Manager D G) : Type 0 where
-  -- of the open
-  pub geometry : geometry_in m.opened ≡ g
+-- a crash after the events, or at any moment of a further event that is under way, may leave this image
+abbrev pub IsLeft : {D : Type 0} {G : Ghosts D} → World D G → List ℕ → Type 0
+IsLeft {D = D} {G = G} w image =
+    may_leave (history_in w) image
+    ⊎ ((e : Event) × (step : Step) × (later : World D G) × Steps w e step later × left_since (history_in later) (moment (history_in w)) image)
+
+-- The device has this length and read as this image when the manager was opened.
+pub record IsManager {D : Type 0} {G : Ghosts D} (bytes : ℕ) (image : List ℕ) (m : Manager D G) : Type 0 where
+  -- what an open says
+  pub geometry : (g : Geometry) → HasFront g bytes image → geometry_in m.opened ≡ g
   pub list : (rs : List LogRecord) → Gives rs image → (state_in m.opened).list ≡ rs
   pub opened : IsOpened (state_in m.opened).list (state_in m.opened)
-  -- of the run
+  pub bounded : (g : Geometry) (rs : List LogRecord) → StandsFor g bytes rs image → IsBounded g (bytes - 4096) (state_in m.opened)
+  pub kept : IsKept m.opened (take 4096 image)
+  -- what a run says
   pub served : All IsServedEvent m.events
   pub runs : Runs m.opened m.events m.steps m.ended
-  pub keeps : GivesBeginning (take 4096 image) (state_in m.ended).durable (state_in m.ended).list m.left
+  -- a crash at any moment
+  pub crash : IsLeft m.ended m.left
 
 -- the entries of the history that it made
 abbrev pub entries_of : {D : Type 0} {G : Ghosts D} → Manager D G → List Entry
 entries_of m = made_by (all_moves m.events m.steps)
 
 -- each opens what the crash before it left
-abbrev pub AreManagers : {D : Type 0} {G : Ghosts D} → Geometry → List ℕ → List (Manager D G) → List ℕ → Type 0
-AreManagers g image [] last = last ≡ image
-AreManagers g image (m ∷ ms) last = IsManager g image m × AreManagers g m.left ms last
+abbrev pub AreManagers : {D : Type 0} {G : Ghosts D} → ℕ → List ℕ → List (Manager D G) → List ℕ → Type 0
+AreManagers bytes image [] last = last ≡ image
+AreManagers bytes image (m ∷ ms) last = IsManager bytes image m × AreManagers bytes m.left ms last

@@ -1,5 +1,5 @@
 -- What a world is, what an event does to it, and what a crash leaves of it.
-use Rattle.std.specs.Prelude.{◌≡◌, ◌⊎◌, ℕ, ◌<◌, ◌≤◌, List, [], ◌∷◌, false, IsTrue, None, Result, Ok, Err, length, take}
+use Rattle.std.specs.Prelude.{◌≡◌, ◌⊎◌, ℕ, ◌<◌, ◌≤◌, List, [], ◌∷◌, false, IsTrue, IsSome, None, Result, Ok, Err, length, take}
 use Rattle.shore_types.specs.declared.faults.Fault.{Fault}
 use Rattle.shore_types.specs.declared.faults.Fault.TheVariants.{Device, Failed, Memory, LogFull}
 use Rattle.shore_types.specs.declared.layout.Geometry.{Geometry}
@@ -65,6 +65,10 @@ IsReady w front = (IsSettled w.log front × (w.log.staged ≡ None)) ⊎ ((group
 pub record IsKept {D : Type 0} {G : Ghosts D} (w : World D G) (front : List ℕ) : Type 0 where
   pub images : (c : List ℕ) → may_leave (history_in w) c → GivesBeginning front (state_in w).durable (state_in w).list c
   pub ready : (state_in w).failed ≡ false → IsReady w front
+
+-- there is no frame to stage: one is under way, or every record is durable
+abbrev pub IsIdle : {D : Type 0} {G : Ghosts D} → World D G → Type 0
+IsIdle w = IsSome w.log.staged ⊎ ((state_in w).durable ≡ length (state_in w).list)
 
 -- One event: a step of the machine; and at each moment of it a crash leaves a beginning of the list as it was before, with all
 -- that was durable then.

@@ -1,5 +1,5 @@
 //! What the contracts of the calls come to over whole lives of a device. Each law is the contract of a function with nothing to do.
-ghost use Rattle.std.specs.Prelude.{◌≡◌, ◌-◌, ◌≤◌, ℕ, List, [], All, length, map, take};
+ghost use Rattle.std.specs.Prelude.{◌≡◌, ℕ, List, [], All, map};
 ghost use Rattle.shore_types.specs.declared.layout.Geometry.{Geometry};
 ghost use Rattle.shore_model.specs.declared.log_records.LogRecord.{LogRecord};
 ghost use Rattle.shore_model.specs.Lives.{IsLife, Span};
@@ -8,12 +8,11 @@ ghost use Rattle.shore_machine.specs.States.{State};
 ghost use Rattle.shore_machine.specs.Trails.{IsOpened, opening_of};
 ghost use Rattle.shore_machine.specs.declared.step.Step.{Step};
 ghost use Rattle.shore_log.specs.Frames.{Gives};
-ghost use Rattle.shore_core.specs.Bounds.{IsBounded};
-ghost use Rattle.shore_world.specs.Fronts.{HasFront, StandsFor};
+ghost use Rattle.shore_world.specs.Fronts.{StandsFor};
 ghost use Rattle.shore_world.specs.declared.event.Event.{Event};
 ghost use Rattle.shore_world.specs.declared.world.World.{World};
 ghost use Rattle.shore_world.specs.Events.{IsServedEvent};
-ghost use Rattle.shore_world.specs.Managers.{AreManagers, IsManager, Manager, all_moves, entries_of};
+ghost use Rattle.shore_world.specs.Managers.{AreManagers, Manager, all_moves, entries_of};
 ghost use Rattle.shore_world.specs.Worlds.{Runs, geometry_in, state_in};
 
 use shore_disk::Disk;
@@ -27,20 +26,14 @@ pub fn a_run_moves_the_machine<D: Disk>()
 
 /// Format, then any number of opens, runs and crashes at any moment, and an open: what it shows is what nothing becomes by the
 /// committed transactions of each run in turn, of a beginning of the run's decisions that holds every acknowledged one, each
-/// transaction alone, in the order of the commits. `first` is an image that a crash after the format leaves, `last` the one that
-/// is opened in the end, and `shown` what that open made of it.
+/// transaction alone, in the order of the commits. And each image on the way stands for a list, so that its open answers unless
+/// the device fails or memory is wanting. `first` is an image that a crash after the format leaves, `last` the one that is opened
+/// in the end, and `shown` what that open made of it.
 pub fn managers_are_a_life<D: Disk>()
-    ensures { (g : Geometry) (first last : List ℕ) (managers : List (Manager D D.Disk)) (shown : State) →
-        Gives [] first → AreManagers g first managers last → ((rs : List LogRecord) → Gives rs last → shown.list ≡ rs) → IsOpened shown.list shown →
+    ensures { (g : Geometry) (bytes : ℕ) (first last : List ℕ) (managers : List (Manager D D.Disk)) (shown : State) →
+        StandsFor g bytes [] first → AreManagers bytes first managers last →
+        ((rs : List LogRecord) → Gives rs last → shown.list ≡ rs) → IsOpened shown.list shown →
         (spans : List Span) × (map (λ s. s.entries) spans ≡ map entries_of managers)
-        × IsLife (opening_of []) spans (opening_of shown.list) × (shown.records ≡ (opening_of shown.list).records) }
-{}
-
-/// What a manager leaves behind stands for a beginning of its list with all that was durable: so the next open answers, unless
-/// the device fails or memory is wanting. `image` is what it was opened on.
-pub fn what_is_left_stands<D: Disk>()
-    ensures { (g : Geometry) (bytes : ℕ) (image : List ℕ) (m : Manager D D.Disk) →
-        HasFront g bytes image → IsManager g image m → IsBounded g (bytes - 4096) (state_in m.opened) →
-        (n : ℕ) × ((state_in m.ended).durable ≤ n) × (n ≤ length (state_in m.ended).list)
-        × StandsFor g bytes (take n (state_in m.ended).list) m.left }
+        × IsLife (opening_of []) spans (opening_of shown.list) × (shown.records ≡ (opening_of shown.list).records)
+        × StandsFor g bytes shown.list last }
 {}

@@ -1,6 +1,6 @@
 //! The plain world: a core and its log device, one event at a time. There is no volume yet; the records in place are the
 //! core's, and an open makes them anew from the log.
-ghost use Rattle.std.specs.Prelude.{◌≡◌, ◌≢◌, ◌⊎◌, ◌+◌, ◌-◌, ◌≤◌, ◌++◌, List, All, IsTrue, IfOk, IfErr, OnOk, OnErr, Err, length, take};
+ghost use Rattle.std.specs.Prelude.{◌≡◌, ◌≢◌, ◌⊎◌, ◌+◌, ◌-◌, ◌≤◌, ◌++◌, List, All, IsTrue, IfOk, IfErr, OnOk, OnErr, Err, None, length, take};
 ghost use Rattle.shore_types.specs.declared.layout.Geometry.{Geometry};
 ghost use Rattle.shore_model.specs.declared.log_records.LogRecord.{LogRecord};
 ghost use Rattle.shore_disk.specs.Device.{size, seen, may_leave, LeavesOnly};
@@ -36,7 +36,7 @@ pub struct World<D: Disk> {
 
 impl<D: Disk> World<D> {
     ghost use Rattle.shore_world.specs.Fronts.{HasFront, StandsFor};
-    ghost use Rattle.shore_world.specs.Worlds.{Steps, Runs, IsKept, state_in, geometry_in, device_in, fault_in};
+    ghost use Rattle.shore_world.specs.Worlds.{Steps, Runs, IsIdle, IsKept, state_in, geometry_in, device_in, fault_in};
 
     /// Opens the manager of a formatted log device: a barrier, the label, the anchors, the frames, and then the records in place
     /// as the log tells them. Refused by 29, 26 or 25 with the place where the device is not in order, by 23 where it failed, by
@@ -123,7 +123,11 @@ impl<D: Disk> World<D> {
     /// One event.
     pub fn step(&mut self, alloc: Global, event: Event) -> Step
         requires { IsServedEvent event }
-        ensures { Steps self.old event result self.new }
+        ensures steps { Steps self.old event result self.new }
+
+        // A force has nothing to do only where every record is durable or a frame is under way, or where none is.
+        ensures idle { event ≡ Event.ForceStage → result ≡ Step.Nothing → IsIdle self.old }
+        ensures shut { event ≡ Event.ForceOpen → result ≡ Step.Nothing → self.old.log.staged ≡ None }
     {
         match event {
             Event::Call(_, call) => self.core.call(alloc, call),
@@ -134,7 +138,8 @@ impl<D: Disk> World<D> {
     }
 
     fn force_stage(&mut self, alloc: Global) -> Step
-        ensures { Steps self.old Event.ForceStage result self.new }
+        ensures steps { Steps self.old Event.ForceStage result self.new }
+        ensures idle { result ≡ Step.Nothing → IsIdle self.old }
     {
         if self.core.has_failed() {
             return Step::Refused(Fault::Failed);
@@ -153,7 +158,8 @@ impl<D: Disk> World<D> {
     }
 
     fn force_open(&mut self) -> Step
-        ensures { Steps self.old Event.ForceOpen result self.new }
+        ensures steps { Steps self.old Event.ForceOpen result self.new }
+        ensures shut { result ≡ Step.Nothing → self.old.log.staged ≡ None }
     {
         if self.core.has_failed() {
             return Step::Refused(Fault::Failed);

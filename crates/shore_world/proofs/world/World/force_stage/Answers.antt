@@ -14,26 +14,26 @@ use Rattle.shore_world.specs.declared.event.Event.TheVariants.{ForceStage}
 use Rattle.shore_world.proofs.WorldLemmas.{unmoved, staging, handed, none_staged, length-stable, still_running, not_left}
 use Rattle.shore_world.proofs.world.World.force_stage.Goals as goal
 
-pub returns-then-has_failed : goal.returns-then-has_failed
-returns-then-has_failed g c =
+pub returns-then-has_failed-clause-steps : goal.returns-then-has_failed-clause-steps
+returns-then-has_failed-clause-steps g c =
     let old = c.args.self.now in
     unmoved old old ForceStage _ refl (inl (sym c.has_failed.ensures ∙ c.if-has_failed.true, refl, refl)) refl (same_grows _ _ refl) (λ front ready. ready)
 
-pub returns-then-is_staged : goal.returns-then-is_staged
-returns-then-is_staged g c =
+pub returns-then-is_staged-clause-steps : goal.returns-then-is_staged-clause-steps
+returns-then-is_staged-clause-steps g c =
     let old = c.args.self.now in
     unmoved old old ForceStage _ refl (sym c.has_failed.ensures ∙ c.if-has_failed.false, refl) refl (same_grows _ _ refl) (λ front ready. ready)
 
-pub returns-in-Err : goal.returns-in-Err
-returns-in-Err g c =
+pub returns-in-Err-clause-steps : goal.returns-in-Err-clause-steps
+returns-in-Err-clause-steps g c =
     let old = c.args.self.now in
     let none = none_staged old.log c.is_staged.result c.is_staged.ensures c.if-is_staged.false in
     let running = sym c.has_failed.ensures ∙ c.if-has_failed.false in
     let same = c.hand_over.ensures.state in
     handed old _ ForceStage _ c.hand_over.ensures.geometry (inr (inr (running, inl c.in-Err.ensures.only_memory, same))) c.hand_over.ensures.still.0 same none c.hand_over.ensures.still.1 c.hand_over.ensures.settled
 
-pub returns-in-Ok-None : goal.returns-in-Ok-None
-returns-in-Ok-None g c =
+pub returns-in-Ok-None-clause-steps : goal.returns-in-Ok-None-clause-steps
+returns-in-Ok-None-clause-steps g c =
     let old = c.args.self.now in
     let none = none_staged old.log c.is_staged.result c.is_staged.ensures c.if-is_staged.false in
     let running = sym c.has_failed.ensures ∙ c.if-has_failed.false in
@@ -44,8 +44,8 @@ returns-in-Ok-None g c =
     (ap (λ (l : LogDev g.row.D.Denot g.D.Disk). l.staged) unchanged ∙ still.1)
     (λ front s. subst (λ (l : LogDev g.row.D.Denot g.D.Disk). IsSettled l front) (sym unchanged) (c.hand_over.ensures.settled front s))
 
-pub returns-in-Ok-Some : goal.returns-in-Ok-Some
-returns-in-Ok-Some g c =
+pub returns-in-Ok-Some-clause-steps : goal.returns-in-Ok-Some-clause-steps
+returns-in-Ok-Some-clause-steps g c =
     let old = c.args.self.now in
     let mid = c.hand_over.new.log in
     let none = none_staged old.log c.is_staged.result c.is_staged.ensures c.if-is_staged.false in
@@ -60,8 +60,8 @@ returns-in-Ok-Some g c =
     running none still.0 still.1 still.2 (ap (λ (s : State). s.list) same) (ap (λ (s : State). s.durable) same) c.hand_over.ensures.settled c.stage.ensures.any_moment
     (λ front s run. inr (take (c.in-Ok-Some.number - mid.forced) (waiting mid), rw c.in-Ok-Some.field-0-is at (c.in-Ok-Some.ensures.staged front s (still.1 ∙ none))))
 
-pub returns-in-Err-stage : goal.returns-in-Err-stage
-returns-in-Err-stage g c =
+pub returns-in-Err-stage-clause-steps : goal.returns-in-Err-stage-clause-steps
+returns-in-Err-stage-clause-steps g c =
     let old = c.args.self.now in
     let new = c.refuse.new.self in
     let mid = c.hand_over.new.log in
