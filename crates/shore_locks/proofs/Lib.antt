@@ -1,0 +1,5 @@
+mod Fits
+mod Keys
+mod Members
+mod Passes
+mod Scans
