@@ -121,11 +121,11 @@ found_any p (y ∷ ys) e =
 pub none_any : {A : Type 0} (p : A → Bool) (xs : List A) → list_any p xs ≡ false → (x : A) → In x xs → p x ≡ false
 none_any p xs e x h = ⊎_elim (λ yes. absurd (let f = any_of p xs x h yes in cc)) (λ no. no) (either (p x))
 
-granted_of : (b : Bool) → not b ≡ false → IsTrue b
+pub granted_of : (b : Bool) → not b ≡ false → IsTrue b
 granted_of true e = refl
 granted_of false e = cc
 
-no_of : (b : Bool) → not b ≡ true → b ≡ false
+pub no_of : (b : Bool) → not b ≡ true → b ≡ false
 no_of true e = cc
 no_of false e = refl
 
@@ -138,21 +138,21 @@ granted_none w ws rs cannot = rw cannot refl
 refused_apart : (b c : Bool) → (not b && c) ≡ false → b ≡ false → c ≡ false
 refused_apart b c e other = let f : (not b && c) ≡ c = rw other refl in sym f ∙ e
 
-stands_as_granted : (wanted held : Option Mode) → is_refused wanted held ≡ false → StandBoth wanted held
+pub stands_as_granted : (wanted held : Option Mode) → is_refused wanted held ≡ false → StandBoth wanted held
 stands_as_granted (Some asked) (Some held) e = coexist-swap held asked (grants-coexist held asked (granted_of (grants held asked) e))
 stands_as_granted None (Some held) e = tt
 stands_as_granted (Some asked) None e = tt
 stands_as_granted None None e = tt
 
-of_use_held : (held wanted : Option Mode) → is_some held ≡ true → IsTrue (is_some held || is_some wanted)
+pub of_use_held : (held wanted : Option Mode) → is_some held ≡ true → IsTrue (is_some held || is_some wanted)
 of_use_held None wanted e = cc
 of_use_held (Some m) wanted e = refl
 
-rises_none : (held : Option Mode) → Rises held None
+pub rises_none : (held : Option Mode) → Rises held None
 rises_none None = tt
 rises_none (Some m) = tt
 
-wants_nothing : (wanted : Option Mode) → wanted ≡ None → is_some wanted ≡ true → ⊥
+pub wants_nothing : (wanted : Option Mode) → wanted ≡ None → is_some wanted ≡ true → ⊥
 wants_nothing None n e = cc
 wants_nothing (Some m) n e = cc
 

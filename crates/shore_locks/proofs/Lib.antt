@@ -1,5 +1,10 @@
+mod Counts
+mod Entering
 mod Fits
 mod Keys
 mod Members
+mod Others
 mod Passes
 mod Scans
+mod Tables
+mod Waiting

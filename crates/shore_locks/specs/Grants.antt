@@ -1,9 +1,13 @@
 -- How requests come into the list, are granted, and leave it.
-use Rattle.std.specs.Prelude.{◌==◌, ◌&&◌, ◌||◌, ℕ, List, [], ◌∷◌, ◌++◌, Bool, true, false, not, cond, Option, None, Some, is_some, find, filter, map}
+use Rattle.std.specs.Prelude.{◌==◌, ◌&&◌, ◌||◌, ℕ, List, [], ◌∷◌, ◌++◌, Bool, true, false, not, cond, Option, None, Some, is_some, find, filter, map, length, nat_lt}
 use Rattle.std.specs.List.{list_any}
 use Rattle.shore_types.specs.declared.locking.Granule.{Granule}
 use Rattle.shore_types.specs.declared.locking.Mode.{Mode}
 use Rattle.shore_model.specs.declared.requests.Request.{Request}
+use Rattle.shore_locks.specs.declared.answers.Requested.{Requested}
+use Rattle.shore_locks.specs.declared.answers.Requested.TheVariants.{Granted, Waiting, Full}
+use Rattle.shore_locks.specs.declared.answers.Tried.{Tried}
+use Rattle.shore_locks.specs.declared.answers.Tried.TheVariants.{Blocked, Granted as TryGranted, Full as TryFull}
 use Rattle.shore_model.specs.Modes.{grants, is_at_most, sup}
 use Rattle.shore_model.specs.Requests.{are_alike, requests_at, requests_by, placed_last}
 use Rattle.shore_locks.specs.Tables.{Table, is_for, mode_held, request_for, waiting_request, waiters_at}
@@ -97,3 +101,45 @@ given_up (r ∷ mine) rs = given_up mine (passed r.granule (removed r rs))
 -- a transaction holds and wants nothing any more
 abbrev pub released : ℕ → List Request → List Request
 released t rs = given_up (requests_by t rs) rs
+
+-- a new node is needed, and as many stand as may
+abbrev pub is_full : Table → ℕ → Granule → Bool
+is_full table t g = not (is_some (request_for t g table.requests)) && not (nat_lt (length table.requests) table.limit)
+
+-- what a request is answered
+abbrev pub answer_to : Table → ℕ → Granule → Mode → Requested
+answer_to table t g mode =
+    cond (is_enough mode (mode_held t g table.requests)) Granted
+    (cond (is_full table t g) Full
+    (cond (is_some (obstacle (asking t g mode table.requests) table.requests)) Waiting Granted))
+
+-- the requests after a request that is granted, and so after each that is granted at once: a grant pass runs
+abbrev pub after_grant : ℕ → Granule → Mode → List Request → List Request
+after_grant t g mode rs = passed g (put (granted (asking t g mode rs)) rs)
+
+-- .. and after any request
+abbrev pub after_request : Table → ℕ → Granule → Mode → List Request
+after_request table t g mode =
+    cond (is_enough mode (mode_held t g table.requests)) table.requests
+    (cond (is_full table t g) table.requests
+    (cond (is_some (obstacle (asking t g mode table.requests) table.requests))
+    (placed_last (asking t g mode table.requests) table.requests)
+    (after_grant t g mode table.requests)))
+
+-- what a try is answered where somebody stands in the way, or nobody
+abbrev pub blocked_by : Option Request → Tried
+blocked_by None = TryGranted
+blocked_by (Some other) = Blocked other.txn
+
+-- what a try is answered
+abbrev pub answer_to_try : Table → ℕ → Granule → Mode → Tried
+answer_to_try table t g mode =
+    cond (is_enough mode (mode_held t g table.requests)) TryGranted
+    (cond (is_full table t g) TryFull (blocked_by (obstacle (asking t g mode table.requests) table.requests)))
+
+-- the requests after a try, which never waits
+abbrev pub after_try : Table → ℕ → Granule → Mode → List Request
+after_try table t g mode =
+    cond (is_enough mode (mode_held t g table.requests)) table.requests
+    (cond (is_full table t g) table.requests
+    (cond (is_some (obstacle (asking t g mode table.requests) table.requests)) table.requests (after_grant t g mode table.requests)))

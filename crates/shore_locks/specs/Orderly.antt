@@ -1,5 +1,5 @@
 -- What holds of the requests of every table.
-use Rattle.std.specs.Prelude.{◌≡◌, ◌++◌, ◌||◌, ℕ, List, [], ◌∷◌, Bool, false, IsTrue, Option, None, Some, IsSome, is_some, filter, All, Contains}
+use Rattle.std.specs.Prelude.{◌≡◌, ◌++◌, ◌||◌, ℕ, List, [], ◌∷◌, Bool, false, IsTrue, Option, None, Some, IsSome, is_some, filter, All, Contains, length, ◌≤◌}
 use Rattle.shore_types.specs.declared.locking.Granule.{Granule}
 use Rattle.shore_types.specs.declared.locking.Mode.{Mode}
 use Rattle.shore_model.specs.declared.requests.Request.{Request}
@@ -36,3 +36,8 @@ pub record IsOrderly (rs : List Request) : Type 0 where
   pub of_use : All IsOfUse rs
   pub rising : All (λ r. Rises r.held r.wanted) rs
   pub waits_once : WaitsOnce rs
+
+-- .. and as many as it may have
+pub record IsKept (limit : ℕ) (rs : List Request) : Type 0 where
+  pub orderly : IsOrderly rs
+  pub within : length rs ≤ limit

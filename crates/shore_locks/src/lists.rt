@@ -1,5 +1,6 @@
 //! Requests in a plain list: looked for, changed, and granted in turn.
-ghost use Rattle.std.specs.Prelude.{◌≡◌, cond, filter, slice_get, vec_capacity};
+ghost use Rattle.std.specs.Prelude.{◌≡◌, ◌++◌, ◌∷◌, [], cond, filter, is_some, length, slice_get, vec_capacity, vec_len, ◌≤◌, ◌<◌};
+ghost use Rattle.std.specs.List.{list_any};
 ghost use Rattle.shore_model.specs.Requests as asked;
 ghost use Rattle.shore_model.specs.Requests.{AreRequests, is_in_group, requests_at};
 ghost use Rattle.shore_locks.specs.Tables as tables;
@@ -151,6 +152,7 @@ fn are_alike(a: &Request, b: &Request) -> bool
 pub fn remove(requests: &mut Vec<Request>, request: &Request)
     ensures items { requests.new.items ≡ steps.removed request.now requests.old.items }
     ensures capacity { vec_capacity requests.new ≡ vec_capacity requests.old }
+    ensures len { vec_len requests.new ≤ vec_len requests.old }
 {
     requests.retain(|other| !are_alike(other, request));
 }
@@ -178,4 +180,146 @@ fn granted(waiter: &Request) -> Request
         held: waiter.wanted,
         wanted: None,
     }
+}
+
+/// A waiting request is taken back, with a grant pass over its queue.
+pub fn take_back(requests: &mut Vec<Request>, request: &Request)
+    requires { AreRequests requests.old.items }
+    ensures { requests.new.items ≡ steps.taken_back request.now requests.old.items }
+{
+    stop_waiting(requests, request);
+    pass(requests, &request.granule);
+}
+
+fn stop_waiting(requests: &mut Vec<Request>, request: &Request)
+    ensures { requests.new.items ≡ cond (is_some request.now.held) (steps.replaced (steps.withdrawn request.now) requests.old.items) (steps.removed request.now requests.old.items) }
+{
+    if request.held.is_some() {
+        let withdrawn = withdrawn(request);
+        replace(requests, &withdrawn);
+    } else {
+        remove(requests, request);
+    }
+}
+
+fn withdrawn(request: &Request) -> Request
+    ensures { result ≡ steps.withdrawn request.now }
+{
+    Request {
+        txn: request.txn,
+        granule: request.granule,
+        held: request.held,
+        wanted: None,
+    }
+}
+
+/// Gives up all that a transaction holds and wants, each with a grant pass over its queue, and answers how many requests
+/// that were.
+pub fn release(requests: &mut Vec<Request>, txn: TxnId) -> usize
+    requires { AreRequests requests.old.items }
+    ensures items { requests.new.items ≡ steps.released txn requests.old.items }
+    ensures count { result ≡ length (asked.requests_by txn requests.old.items) }
+{
+    let mut count = 0;
+    while let Some(request) = first_of(requests, txn) {
+        give_up(requests, &request);
+        count += 1;
+    }
+    count
+}
+
+fn give_up(requests: &mut Vec<Request>, request: &Request)
+    requires { AreRequests requests.old.items }
+    ensures { requests.new.items ≡ steps.passed request.now.granule (steps.removed request.now requests.old.items) }
+{
+    remove(requests, request);
+    pass(requests, &request.granule);
+}
+
+fn first_of(requests: &[Request], txn: TxnId) -> Option<Request>
+    ensures { result ≡ slice_get (asked.requests_by txn requests.now) 0 }
+{
+    for request in requests {
+        if request.txn == txn {
+            return Some(*request);
+        }
+    }
+    None
+}
+
+/// What a transaction asks for that holds a mode, or none, and wants another.
+pub fn asking(requests: &[Request], txn: TxnId, granule: &Granule, mode: Mode) -> Request
+    ensures { result ≡ steps.asking txn granule.now mode requests.now }
+{
+    let held = mode_held(requests, txn, granule);
+    let wanted = aim(held, mode);
+    Request {
+        txn,
+        granule: *granule,
+        held,
+        wanted: Some(wanted),
+    }
+}
+
+fn aim(held: Option<Mode>, mode: Mode) -> Mode
+    ensures { result ≡ steps.aim held mode }
+{
+    match held {
+        Some(held) => sup(held, mode),
+        None => mode,
+    }
+}
+
+/// The mode in which a transaction holds a granule.
+pub fn mode_held(requests: &[Request], txn: TxnId, granule: &Granule) -> Option<Mode>
+    ensures { result ≡ tables.mode_held txn granule.now requests.now }
+{
+    request_for(requests, txn, granule)?.held
+}
+
+/// Whether what is held, if anything, is the mode or a stronger one.
+pub fn is_enough(mode: Mode, held: Option<Mode>) -> bool
+    ensures { result ≡ steps.is_enough mode held }
+{
+    match held {
+        Some(held) => is_at_most(mode, held),
+        None => false,
+    }
+}
+
+/// Puts a request last, and takes the one of its transaction for its granule away.
+pub fn place_last(requests: &mut Vec<Request>, request: Request)
+    requires { vec_len requests.old < vec_capacity requests.old }
+    ensures { requests.new.items ≡ asked.placed_last request requests.old.items }
+{
+    remove(requests, &request);
+    put(requests, request);
+}
+
+/// Grants a request at once, in the place of the one of its transaction for its granule, or last; a grant pass follows.
+pub fn grant(requests: &mut Vec<Request>, request: &Request)
+    requires requests { AreRequests requests.old.items }
+    requires room { vec_len requests.old < vec_capacity requests.old }
+    ensures { requests.new.items ≡ steps.passed request.now.granule (steps.put (steps.granted request.now) requests.old.items) }
+{
+    let granted = granted(request);
+    put(requests, granted);
+    pass(requests, &request.granule);
+}
+
+fn put(requests: &mut Vec<Request>, request: Request)
+    requires { vec_len requests.old < vec_capacity requests.old }
+    ensures { requests.new.items ≡ steps.put request requests.old.items }
+{
+    if has_alike(requests, &request) {
+        replace(requests, &request);
+    } else {
+        requests.push_reserved(request);
+    }
+}
+
+fn has_alike(requests: &[Request], request: &Request) -> bool
+    ensures { result ≡ list_any (λ q. asked.are_alike q request.now) requests.now }
+{
+    requests.iter().any(|other| are_alike(other, request))
 }
