@@ -72,7 +72,7 @@ others_by t g rs one elsewhere =
     pass_keeps (λ xs. requests_by t xs ≡ requests_by t rs) g
     (λ xs w same ones in_w at wants can.
     let not_its : (q : Request) → In q (requests_by t xs) → are_alike q (granted w) ≡ false =
-        λ q h. ⊎_elim (λ yes. absurd (elsewhere q (subst (In q) same h) (((alike-Decides q (granted w)).0 yes).1 ∙ at))) (λ no. no) (either (are_alike q (granted w))) in
+    λ q h. ⊎_elim (λ yes. absurd (elsewhere q (subst (In q) same h) (((alike-Decides q (granted w)).0 yes).1 ∙ at))) (λ no. no) (either (are_alike q (granted w))) in
     filter_by_key (λ r. r.txn == t) (granted w) (λ q. ap (λ u. u == t) (in_place-keys (granted w) q).0) xs
     ∙ replaced_none (granted w) (requests_by t xs) not_its ∙ same)
     (waiters_at g rs) rs one refl refl
@@ -84,9 +84,9 @@ first_gone t rs r one is =
     let ones : AreRequests (r ∷ drop 1 (requests_by t rs)) = subst AreRequests are mine in
     let apart : (q : Request) → In q (drop 1 (requests_by t rs)) → are_alike q r ≡ false = λ q h. alike-swap q r ∙ In-All (λ o. are_alike r o ≡ false) (drop 1 (requests_by t rs)) q ones.0 h in
     let left : requests_by t (removed r rs) ≡ drop 1 (requests_by t rs) =
-        filter-swap (λ q. q.txn == t) (λ q. not (are_alike q r)) rs ∙ ap (removed r) are
-        ∙ filter-no (λ q. not (are_alike q r)) r (drop 1 (requests_by t rs)) (ap not (alike-self r))
-        ∙ filter-all (λ q. not (are_alike q r)) (drop 1 (requests_by t rs)) (λ q h. ap not (apart q h)) in
+    filter-swap (λ q. q.txn == t) (λ q. not (are_alike q r)) rs ∙ ap (removed r) are
+    ∙ filter-no (λ q. not (are_alike q r)) r (drop 1 (requests_by t rs)) (ap not (alike-self r))
+    ∙ filter-all (λ q. not (are_alike q r)) (drop 1 (requests_by t rs)) (λ q h. ap not (apart q h)) in
     let by : r.txn ≡ t = (Decides-eqb r.txn t).0 (In-filter (λ q. q.txn == t) rs r (subst (In r) (sym are) (inl refl))).1 in
     others_by t r.granule (removed r rs) (AreRequests-removed r rs one)
     (λ q h at.

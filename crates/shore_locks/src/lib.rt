@@ -3,7 +3,11 @@
 
 pub mod answers;
 mod lists;
+pub mod queues;
 pub mod table;
+#[cfg(test)]
+mod tests;
 
 pub use answers::{Requested, Tried};
+pub use queues::{Holders, Waiters};
 pub use table::LockTable;

@@ -1,5 +1,5 @@
 //! Requests in a plain list: looked for, changed, and granted in turn.
-ghost use Rattle.std.specs.Prelude.{◌≡◌, ◌++◌, ◌∷◌, [], cond, filter, is_some, length, slice_get, vec_capacity, vec_len, ◌≤◌, ◌<◌};
+ghost use Rattle.std.specs.Prelude.{◌≡◌, ◌++◌, ◌∷◌, [], cond, filter, is_some, length, slice_get, vec_capacity, vec_len, MatchOption, ◌≤◌, ◌<◌};
 ghost use Rattle.std.specs.List.{list_any};
 ghost use Rattle.shore_model.specs.Requests as asked;
 ghost use Rattle.shore_model.specs.Requests.{AreRequests, is_in_group, requests_at};
@@ -57,6 +57,22 @@ fn first_in_group(requests: &[Request], granule: &Granule, group: Group) -> Opti
     for request in requests {
         if request.granule == *granule && is_in(request, group) {
             return Some(*request);
+        }
+    }
+    None
+}
+
+/// The first request of a group of a granule's queue, and the list behind it.
+pub fn first_and_rest<'a>(
+    requests: &'a [Request],
+    granule: &Granule,
+    group: Group,
+) -> Option<(Request, &'a [Request])>
+    ensures { MatchOption result (filter (is_in_group group) (requests_at granule.now requests.now) ≡ []) (λ p. filter (is_in_group group) (requests_at granule.now requests.now) ≡ p.0 ∷ filter (is_in_group group) (requests_at granule.now p.1.now)) }
+{
+    for place in 0..requests.len() {
+        if requests[place].granule == *granule && is_in(&requests[place], group) {
+            return Some((requests[place], &requests[place + 1..]));
         }
     }
     None

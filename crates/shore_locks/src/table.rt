@@ -4,11 +4,12 @@ ghost use Rattle.shore_types.specs.declared.faults.Fault.TheVariants.{Memory};
 ghost use Rattle.shore_model.specs.Requests.{requests_by};
 ghost use Rattle.shore_locks.specs.Grants as steps;
 ghost use Rattle.shore_locks.specs.Grants.{after_request, after_try, answer_to, answer_to_try, cancelled, is_enough, released};
-ghost use Rattle.shore_locks.specs.Tables.{is_waiting, mode_held, waiting_request};
+ghost use Rattle.shore_locks.specs.Tables.{holders_at, is_waiting, mode_held, waiters_at, waiting_request};
 ghost use Rattle.shore_locks.specs.Orderly.{IsOrderly};
 
 use crate::answers::{Requested, Tried};
 use crate::lists;
+use crate::queues::{Holders, Waiters};
 use shore_model::Request;
 use shore_types::{Fault, Granule, Mode, TxnId};
 use std::alloc::Global;
@@ -73,6 +74,20 @@ impl LockTable {
         ensures { result ≡ waiting_request txn self.now.requests }
     {
         lists::waiting_request(self.requests.as_slice(), txn)
+    }
+
+    /// Those that hold a granule and want nothing, in the order of its queue.
+    pub fn holders(&self, granule: Granule) -> Holders<'_>
+        ensures { result ≡ holders_at granule self.now.requests }
+    {
+        Holders::new(&self.requests, granule)
+    }
+
+    /// Those that wait for a granule, in the order of its queue: conversions, which hold it too, and then new waiters.
+    pub fn waiters(&self, granule: Granule) -> Waiters<'_>
+        ensures { result ≡ waiters_at granule self.now.requests }
+    {
+        Waiters::new(&self.requests, granule)
     }
 
     /// Asks for a granule in a mode, with what the transaction holds of it already. It is granted at once where the transaction

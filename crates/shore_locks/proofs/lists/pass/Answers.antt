@@ -17,7 +17,7 @@ loop-waiter-smaller c =
     let now : c.replace.new.requests ≡ replaced (granted c.in-Some.waiter) c.loop-waiter.requests = c.replace.ensures ∙ ap (λ r. replaced r c.loop-waiter.requests) c.granted-granted.ensures in
     let fewer = fewer_wait c.args.granule.now c.loop-waiter.requests c.in-Some.waiter c.loop-waiter.invariant.0 c.in-Some.ensures in
     let same : length (waiters_at c.args.granule.now c.replace.new.requests) ≡ length (waiters_at c.args.granule.now (replaced (granted c.in-Some.waiter) c.loop-waiter.requests)) =
-        ap (λ rs. length (waiters_at c.args.granule.now rs)) now in
+    ap (λ rs. length (waiters_at c.args.granule.now rs)) now in
     omega (arith, fewer, same)
 
 pub loop-waiter-preserved : goal.loop-waiter-preserved

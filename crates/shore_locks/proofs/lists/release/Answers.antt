@@ -27,7 +27,7 @@ loop-request-preserved c =
     let now = ap (λ xs. length (requests_by c.args.txn xs)) c.give_up.ensures in (
       subst AreRequests (sym c.give_up.ensures)
           (AreRequests-passed c.in-Some.request.granule (removed c.in-Some.request c.loop-request.requests.items)
-              (AreRequests-removed c.in-Some.request c.loop-request.requests.items c.loop-request.invariant.0)),
+          (AreRequests-removed c.in-Some.request c.loop-request.requests.items c.loop-request.invariant.0)),
       ap (released c.args.txn) c.give_up.ensures ∙ release_on c.args.txn c.loop-request.requests.items c.in-Some.request c.loop-request.invariant.0 first ∙ c.loop-request.invariant.1,
       omega (arith, fewer, now),
     )
