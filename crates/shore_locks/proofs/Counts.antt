@@ -17,7 +17,7 @@ use Rattle.shore_locks.proofs.Passes.{filter_by_key, first_of}
 use Rattle.shore_locks.proofs.Fits.{pass_keeps}
 use Rattle.shore_locks.proofs.Others.{replaced_none, put_in_place, put_last}
 
-not_of : (b : Bool) → not b ≡ false → b ≡ true
+pub not_of : (b : Bool) → not b ≡ false → b ≡ true
 not_of true e = refl
 not_of false e = cc
 

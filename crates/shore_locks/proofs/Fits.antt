@@ -129,10 +129,10 @@ pub no_of : (b : Bool) → not b ≡ true → b ≡ false
 no_of true e = cc
 no_of false e = refl
 
-granted_first : (w : Request) (ws rs : List Request) → can_be_granted w (requests_at w.granule rs) ≡ true → granted_in_turn (w ∷ ws) rs ≡ granted_in_turn ws (replaced (granted w) rs)
+pub granted_first : (w : Request) (ws rs : List Request) → can_be_granted w (requests_at w.granule rs) ≡ true → granted_in_turn (w ∷ ws) rs ≡ granted_in_turn ws (replaced (granted w) rs)
 granted_first w ws rs can = rw can refl
 
-granted_none : (w : Request) (ws rs : List Request) → can_be_granted w (requests_at w.granule rs) ≡ false → granted_in_turn (w ∷ ws) rs ≡ rs
+pub granted_none : (w : Request) (ws rs : List Request) → can_be_granted w (requests_at w.granule rs) ≡ false → granted_in_turn (w ∷ ws) rs ≡ rs
 granted_none w ws rs cannot = rw cannot refl
 
 refused_apart : (b c : Bool) → (not b && c) ≡ false → b ≡ false → c ≡ false

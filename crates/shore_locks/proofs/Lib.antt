@@ -2,6 +2,7 @@ mod Counts
 mod Entering
 mod Fits
 mod Keys
+mod LawLemmas
 mod Members
 mod Others
 mod Passes

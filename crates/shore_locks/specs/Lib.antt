@@ -1,3 +1,4 @@
 pub mod Grants
+pub mod Laws
 pub mod Orderly
 pub mod Tables

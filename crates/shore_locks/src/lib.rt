@@ -2,6 +2,7 @@
 #![tactic(auto)]
 
 pub mod answers;
+pub mod laws;
 mod lists;
 pub mod queues;
 pub mod table;
