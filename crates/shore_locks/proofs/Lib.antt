@@ -5,6 +5,7 @@ mod Keys
 mod LawLemmas
 mod Members
 mod Others
+mod Outcomes
 mod Passes
 mod Scans
 mod Tables
