@@ -134,7 +134,7 @@ Joins-at_once t g mode rs free = record {
   once = λ q in_q apart by wants waits. wants_nothing None refl wants;
 }
 
-In-put : (r : Request) (rs : List Request) (a : Request) → In a (put r rs) → (a ≡ r) ⊎ (In a rs × (are_alike a r ≡ false))
+pub In-put : (r : Request) (rs : List Request) (a : Request) → In a (put r rs) → (a ≡ r) ⊎ (In a rs × (are_alike a r ≡ false))
 In-put r rs a h =
     ⊎_elim
     (λ yes. In-replaced r rs a (subst (In a) (put_in_place r rs yes) h))

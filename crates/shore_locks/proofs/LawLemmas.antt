@@ -24,7 +24,7 @@ no_from : (b : Bool) → not b ≡ true → b ≡ false
 no_from true e = cc
 no_from false e = refl
 
-refused_means : (wanted held : Option Mode) → is_refused wanted held ≡ true → IsSomeAnd wanted (λ asked. IsSomeAnd held (λ mode. grants mode asked ≡ false))
+pub refused_means : (wanted held : Option Mode) → is_refused wanted held ≡ true → IsSomeAnd wanted (λ asked. IsSomeAnd held (λ mode. grants mode asked ≡ false))
 refused_means (Some asked) (Some held) e = no_from (grants held asked) e
 refused_means (Some asked) None e = cc
 refused_means None (Some held) e = cc

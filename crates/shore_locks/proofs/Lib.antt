@@ -1,3 +1,4 @@
+mod Answered
 mod Counts
 mod Entering
 mod Fits

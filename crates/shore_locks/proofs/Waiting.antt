@@ -24,7 +24,7 @@ yes_of : (b : Bool) → not b ≡ false → b ≡ true
 yes_of true e = refl
 yes_of false e = cc
 
-some_one : {A : Type 0} (o : Option A) → is_some o ≡ true → (x : A) × (o ≡ Some x)
+pub some_one : {A : Type 0} (o : Option A) → is_some o ≡ true → (x : A) × (o ≡ Some x)
 some_one None e = cc
 some_one (Some x) e = (x, refl)
 
@@ -55,7 +55,7 @@ ahead_waits (Some h) (Some w) mine e = inl refl
 ahead_waits None (Some w) mine e = inr refl
 ahead_waits held None mine e = absurd (let f : false ≡ true = e in cc)
 
-refused_or_ahead : (b c d : Bool) → (not b && (c || d)) ≡ true → ((b ≡ false) × (c ≡ true)) ⊎ ((b ≡ false) × (d ≡ true))
+pub refused_or_ahead : (b c d : Bool) → (not b && (c || d)) ≡ true → ((b ≡ false) × (c ≡ true)) ⊎ ((b ≡ false) × (d ≡ true))
 refused_or_ahead true c d e = cc
 refused_or_ahead false true d e = inl (refl, refl)
 refused_or_ahead false false d e = inr (refl, e)

@@ -1,11 +1,13 @@
 //! Laws over the list of requests, each the contract of a function with nothing to do.
-ghost use Rattle.std.specs.Prelude.{◌≡◌, ℕ, List};
+ghost use Rattle.std.specs.Prelude.{◌≡◌, ℕ, List, false};
 ghost use Rattle.shore_types.specs.declared.locking.Granule.{Granule};
+ghost use Rattle.shore_types.specs.declared.locking.Mode.{Mode};
 ghost use Rattle.shore_model.specs.declared.requests.Request.{Request};
 ghost use Rattle.shore_model.specs.Requests.{AreRequests};
 ghost use Rattle.shore_locks.specs.Orderly.{IsOrderly};
-ghost use Rattle.shore_locks.specs.Grants.{released};
-ghost use Rattle.shore_locks.specs.Laws.{FirstWaitersAreRefused, GrantsABeginning, of_others, owners};
+ghost use Rattle.shore_locks.specs.Grants.{cancelled, passed, released};
+ghost use Rattle.shore_locks.specs.Tables.{Table, is_waiting};
+ghost use Rattle.shore_locks.specs.Laws.{BlockedByOneInTheWay, FirstWaitersAreRefused, GrantedIsHeld, GrantsABeginning, OnlyGrants, RefusedChangesNothing, WaitsForSomebody, of_others, owners};
 
 /// In a table the first waiter of each queue has another holder that refuses it.
 pub fn first_waiters_are_refused()
@@ -20,4 +22,34 @@ pub fn pass_grants_a_beginning()
 /// A release removes the transaction's requests and no others.
 pub fn release_removes_its_own()
     ensures { (rs : List Request) (t : ℕ) → AreRequests rs → owners (released t rs) ≡ owners (of_others t rs) }
+{}
+
+/// A grant pass only grants.
+pub fn pass_only_grants()
+    ensures { (rs : List Request) (g : Granule) → AreRequests rs → OnlyGrants rs (passed g rs) }
+{}
+
+/// A transaction whose request was cancelled waits no more.
+pub fn cancelled_waits_no_more()
+    ensures { (rs : List Request) (t : ℕ) → IsOrderly rs → is_waiting t (cancelled t rs) ≡ false }
+{}
+
+/// The transaction that a try names is one for whom the asker would wait.
+pub fn blocked_by_one_in_the_way()
+    ensures { (table : Table) (t : ℕ) (g : Granule) (mode : Mode) → BlockedByOneInTheWay table t g mode }
+{}
+
+/// A transaction that begins to wait waits for somebody.
+pub fn waits_for_somebody()
+    ensures { (table : Table) (t : ℕ) (g : Granule) (mode : Mode) → WaitsForSomebody table t g mode }
+{}
+
+/// What is granted is held, in the mode asked or in a stronger one.
+pub fn granted_is_held()
+    ensures { (table : Table) (t : ℕ) (g : Granule) (mode : Mode) → AreRequests table.requests → GrantedIsHeld table t g mode }
+{}
+
+/// Full and Blocked change nothing.
+pub fn refused_changes_nothing()
+    ensures { (table : Table) (t : ℕ) (g : Granule) (mode : Mode) → RefusedChangesNothing table t g mode }
 {}
