@@ -1,6 +1,6 @@
 -- What the answers of a table say.
-use Rattle.std.proofs.Common.{◌≡◌, ◌⊎◌, inl, inr, ⊎_elim, ℕ, List, Bool, true, false, Option, None, Some, refl, ap, sym, subst, ◌∙◌}
-use Rattle.std.specs.Prelude.{cond, is_some, All, Any, Contains}
+use Rattle.std.proofs.Common.{◌≡◌, ◌⊎◌, inl, inr, ⊎_elim, ℕ, List, Bool, true, false, Option, None, Some, refl, sym, subst}
+use Rattle.std.specs.Prelude.{cond, is_some, Any, Contains}
 use Rattle.shore_types.specs.declared.locking.Granule.{Granule}
 use Rattle.shore_types.specs.declared.locking.Mode.{Mode}
 use Rattle.shore_model.specs.declared.requests.Request.{Request}
@@ -10,9 +10,9 @@ use Rattle.shore_locks.specs.declared.answers.Requested.TheVariants.{Granted, Wa
 use Rattle.shore_locks.specs.declared.answers.Tried.{Tried}
 use Rattle.shore_locks.specs.declared.answers.Tried.TheVariants.{Blocked, Granted as TryGranted, Full as TryFull}
 use Rattle.shore_locks.specs.Tables.{Table, mode_held}
-use Rattle.shore_locks.specs.Grants.{after_grant, after_request, after_try, answer_to, answer_to_try, asking, blocked_by, granted, is_enough, is_full, obstacle, passed}
+use Rattle.shore_locks.specs.Grants.{after_grant, asking, blocked_by, granted, is_enough, is_full, obstacle, passed}
 use Rattle.shore_locks.specs.Laws.{BlockedByOneInTheWay, GrantedIsHeld, OnlyGrants, RefusedChangesNothing, WaitsForSomebody}
-use Rattle.shore_locks.proofs.Members.{In, All-In, In-Contains}
+use Rattle.shore_locks.proofs.Members.{All-In, In-Contains}
 use Rattle.shore_locks.proofs.Outcomes.{any_from, held_after_grant, pass_only_grants, waits_for_obstacle}
 
 pub only_grants : (rs : List Request) (g : Granule) → AreRequests rs → OnlyGrants rs (passed g rs)

@@ -1,17 +1,16 @@
 -- How many requests there are, and which a transaction has.
-use Rattle.std.proofs.Common.{◌≡◌, ◌++◌, ◌⊎◌, ◌+◌, ◌≤◌, ◌<◌, inl, inr, ⊎_elim, ℕ, suc, List, [], ◌∷◌, Bool, true, false, Option, None, Some, refl, ap, sym, subst, ◌∙◌, length, drop, arith}
-use Rattle.std.specs.Prelude.{filter, not, cond, ◌&&◌, ◌==◌, is_some, slice_get, find, nat_lt}
+use Rattle.std.proofs.Common.{◌≡◌, ◌⊎◌, ◌≤◌, ◌<◌, inl, inr, ⊎_elim, ℕ, suc, List, [], ◌∷◌, Bool, true, false, Some, refl, ap, sym, subst, ◌∙◌, length, drop, arith}
+use Rattle.std.specs.Prelude.{filter, not, cond, ◌&&◌, ◌==◌, is_some, slice_get, nat_lt}
 use Rattle.std.specs.List.{list_any}
-use Rattle.std.proofs.lemmas.List.{length-map, length-append, length_push}
+use Rattle.std.proofs.lemmas.List.{length-map, length_push}
 use borrow.Author.Tests.{ltb-true}
 use Rattle.std.proofs.lemmas.Bool.Decides.{Decides-eqb}
 use Rattle.shore_types.specs.declared.locking.Granule.{Granule}
-use Rattle.shore_types.specs.declared.locking.Mode.{Mode}
 use Rattle.shore_model.specs.declared.requests.Request.{Request}
-use Rattle.shore_model.specs.Requests.{are_alike, AreRequests, requests_by, requests_at, placed_last}
-use Rattle.shore_locks.specs.Tables.{waiters_at, request_for, is_for}
-use Rattle.shore_locks.specs.Grants.{removed, replaced, put, granted, withdrawn, passed, taken_back, taken_back_if, cancelled, given_up, released}
-use Rattle.shore_locks.proofs.Members.{In, either, In-All, In-filter, filter-In, filter-yes, filter-no, filter-all, filter-swap}
+use Rattle.shore_model.specs.Requests.{are_alike, AreRequests, requests_by, placed_last}
+use Rattle.shore_locks.specs.Tables.{waiters_at, request_for}
+use Rattle.shore_locks.specs.Grants.{removed, replaced, put, granted, withdrawn, passed, taken_back, given_up, released}
+use Rattle.shore_locks.proofs.Members.{In, either, In-All, In-filter, filter-yes, filter-no, filter-all, filter-swap}
 use Rattle.shore_locks.proofs.Keys.{in_place, in_place-keys, alike-Decides, alike-self, alike-swap, AreRequests-filter, AreRequests-replaced}
 use Rattle.shore_locks.proofs.Passes.{filter_by_key, first_of}
 use Rattle.shore_locks.proofs.Fits.{pass_keeps}

@@ -1,26 +1,22 @@
 -- A transaction's request comes into the list: it begins to wait, or it is granted at once.
-use Rattle.std.proofs.Common.{◌≡◌, ◌≢◌, ◌++◌, ◌⊎◌, ◌+◌, ◌≤◌, ◌<◌, inl, inr, ⊎_elim, ℕ, suc, List, [], ◌∷◌, Bool, true, false, Option, None, Some, refl, ap, sym, subst, ◌∙◌, length, arith}
-use Rattle.std.specs.Prelude.{filter, map, not, cond, ◌&&◌, ◌||◌, ◌==◌, is_some, find, IsTrue, All}
+use Rattle.std.proofs.Common.{◌≡◌, ◌⊎◌, inl, inr, ⊎_elim, ℕ, List, [], ◌∷◌, Bool, true, false, Option, None, Some, refl, ap, sym, subst, ◌∙◌}
+use Rattle.std.specs.Prelude.{not, ◌&&◌, ◌||◌, ◌==◌, is_some, find, IsTrue}
 use Rattle.std.specs.List.{list_any}
 use Rattle.std.specs.Option.{option_and_then}
-use Rattle.std.proofs.lemmas.List.{append-nil, append_assoc, length-append}
-use Rattle.std.proofs.lemmas.List.Elements.{filter-append}
 use Rattle.std.proofs.lemmas.Bool.Decides.{Decides-eqb}
 use Rattle.shore_types.specs.declared.locking.Granule.{Granule}
 use Rattle.shore_types.specs.declared.locking.Mode.{Mode}
 use Rattle.shore_types.specs.Locking.{same_granule}
 use Rattle.shore_model.specs.declared.requests.Request.{Request}
-use Rattle.shore_model.specs.declared.requests.Group.TheVariants.{Conversions, NewWaiters}
-use Rattle.shore_model.specs.Modes.{sup}
-use Rattle.shore_model.specs.Requests.{are_alike, AreRequests, requests_at, requests_by, placed_last, is_in_group}
+use Rattle.shore_model.specs.Requests.{are_alike, AreRequests, requests_at, placed_last}
 use Rattle.shore_model.proofs.ModeTables.{sup_least}
-use Rattle.shore_locks.specs.Tables.{waiters_at, is_for, request_for, mode_held, waiting_request, is_waiting}
-use Rattle.shore_locks.specs.Grants.{replaced, removed, put, granted, asking, aim, can_be_granted, refuses, is_refused, is_stopped_by, is_ahead, obstacle}
-use Rattle.shore_locks.specs.Orderly.{IsStopped, IsOfUse, Rises}
-use Rattle.shore_locks.proofs.Members.{In, either, All-In, In-filter, filter-In, In-left, In-right, In-append, filter-yes, filter-no, filter-all, filter-none, filter-swap}
-use Rattle.shore_locks.proofs.Keys.{alike-Decides, alike-self, same_granule-Decides, only_one, AreRequests-filter, AreRequests-append, AreRequests-replaced}
-use Rattle.shore_locks.proofs.Fits.{Fit, Fit-join, Joins, StandBoth, In-replaced, In-placed, AreRequests-placed, any_of, found_any, none_any, no_of, stands_as_granted, rises_none, of_use_held, wants_nothing}
-use Rattle.shore_locks.proofs.Others.{NoneLeftAt, none_left_as, at_other_placed, requests_at-removed, removed_none, put_in_place, put_last}
+use Rattle.shore_locks.specs.Tables.{is_for, request_for, mode_held, waiting_request, is_waiting}
+use Rattle.shore_locks.specs.Grants.{removed, put, granted, asking, aim, is_refused, is_stopped_by, is_ahead, obstacle}
+use Rattle.shore_locks.specs.Orderly.{Rises}
+use Rattle.shore_locks.proofs.Members.{In, either, All-In, In-filter, filter-In, In-append}
+use Rattle.shore_locks.proofs.Keys.{alike-self, same_granule-Decides, only_one, AreRequests-append, AreRequests-replaced}
+use Rattle.shore_locks.proofs.Fits.{Fit, Fit-join, Joins, StandBoth, In-replaced, In-placed, AreRequests-placed, found_any, none_any, stands_as_granted, rises_none, of_use_held, wants_nothing}
+use Rattle.shore_locks.proofs.Others.{put_in_place, put_last}
 
 pub found_in : {A : Type 0} (p : A → Bool) (xs : List A) (x : A) → find p xs ≡ Some x → In x xs × (p x ≡ true)
 found_in p [] x e = cc

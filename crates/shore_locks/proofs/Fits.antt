@@ -1,22 +1,20 @@
 -- What holds of requests member by member, and which changes keep it.
-use Rattle.std.proofs.Common.{◌≡◌, ◌≢◌, ◌++◌, ◌⊎◌, inl, inr, ⊎_elim, ℕ, List, [], ◌∷◌, Bool, true, false, Option, None, Some, refl, ap, sym, subst, ◌∙◌}
-use Rattle.std.specs.Prelude.{filter, map, not, cond, All, Contains, ◌&&◌, ◌||◌, ◌==◌, IsTrue, IsSome, is_some}
-use Rattle.std.specs.List.{list_any, filter_map}
+use Rattle.std.proofs.Common.{◌≡◌, ◌⊎◌, inl, inr, ⊎_elim, List, [], ◌∷◌, Bool, true, false, Option, None, Some, refl, ap, sym, subst, ◌∙◌}
+use Rattle.std.specs.Prelude.{filter, not, ◌&&◌, ◌||◌, ◌==◌, IsTrue, is_some}
+use Rattle.std.specs.List.{list_any}
 use Rattle.std.proofs.lemmas.Bool.Decides.{Decides-eqb}
 use Rattle.shore_types.specs.declared.locking.Granule.{Granule}
 use Rattle.shore_types.specs.declared.locking.Mode.{Mode}
 use Rattle.shore_types.specs.Locking.{same_granule}
-use Rattle.shore_model.specs.declared.holds.Hold.{Hold}
 use Rattle.shore_model.specs.declared.requests.Request.{Request}
 use Rattle.shore_model.specs.Modes.{coexist, grants}
-use Rattle.shore_model.specs.Locks.{StandTogether, Agree}
-use Rattle.shore_model.specs.Requests.{are_alike, AreRequests, requests_at, placed_last, held_by_all, hold_of, hold_in}
+use Rattle.shore_model.specs.Requests.{are_alike, AreRequests, requests_at, placed_last}
 use Rattle.shore_model.proofs.ModeTables.{coexist-swap, grants-coexist}
 use Rattle.shore_locks.specs.Tables.{waiters_at}
-use Rattle.shore_locks.specs.Grants.{replaced, removed, put, granted, withdrawn, granted_in_turn, passed, can_be_granted, refuses, is_refused}
-use Rattle.shore_locks.specs.Orderly.{IsOfUse, IsStopped, Rises, WaitsOnce}
-use Rattle.shore_locks.proofs.Members.{In, either, In-All, All-In, In-filter, filter-In, In-append, In-Contains, Contains-In, filter-yes, filter-no}
-use Rattle.shore_locks.proofs.Keys.{in_place, in_place-yes, in_place-no, alike-Decides, alike-swap, alike-self, same_granule-Decides, AreRequests-filter, AreRequests-append, AreRequests-replaced}
+use Rattle.shore_locks.specs.Grants.{replaced, removed, granted, withdrawn, granted_in_turn, passed, can_be_granted, refuses, is_refused}
+use Rattle.shore_locks.specs.Orderly.{IsOfUse, IsStopped, Rises}
+use Rattle.shore_locks.proofs.Members.{In, either, All-In, In-filter, filter-In, In-append}
+use Rattle.shore_locks.proofs.Keys.{in_place-yes, in_place-no, same_granule-Decides, AreRequests-filter, AreRequests-append, AreRequests-replaced}
 use Rattle.shore_locks.proofs.Passes.{In-waiters, first_granted}
 
 -- what two holders hold stands together

@@ -1,18 +1,18 @@
 -- One request for a transaction and a granule: what is alike, and what changes in the list keep of it.
-use Rattle.std.proofs.Common.{◌≡◌, ◌≢◌, ◌++◌, ◌⊎◌, inl, inr, ⊎_elim, ℕ, List, [], ◌∷◌, Bool, true, false, refl, ap, sym, subst, ◌∙◌}
+use Rattle.std.proofs.Common.{◌≡◌, ◌++◌, inl, inr, ⊎_elim, List, [], ◌∷◌, Bool, true, false, refl, ap, sym, subst, ◌∙◌}
 use Rattle.std.specs.Bool.{Decides}
-use Rattle.std.specs.Prelude.{filter, map, not, cond, All, ◌==◌, ◌&&◌}
+use Rattle.std.specs.Prelude.{filter, cond, All, ◌==◌, ◌&&◌}
 use Rattle.std.proofs.lemmas.Bool.Decides.{Decides-eqb, Decides-and, Decides-like}
-use Rattle.std.proofs.lemmas.List.Elements.{All-filter, All-head, All-tail, All-append, All-cons, All-nil, filter-append}
+use Rattle.std.proofs.lemmas.List.Elements.{All-filter, All-head, All-tail, All-append, All-cons, All-nil}
 use Rattle.shore_types.specs.declared.ids.PageId.{PageId}
 use Rattle.shore_types.specs.declared.ids.Rid.{Rid}
 use Rattle.shore_types.specs.declared.locking.Granule.{Granule}
 use Rattle.shore_types.specs.declared.locking.Granule.TheVariants.{Volume, Store, Page, Record}
 use Rattle.shore_types.specs.Locking.{same_granule}
 use Rattle.shore_model.specs.declared.requests.Request.{Request}
-use Rattle.shore_model.specs.Requests.{are_alike, AreRequests, requests_at}
-use Rattle.shore_locks.specs.Grants.{replaced, removed}
-use Rattle.shore_locks.proofs.Members.{In, either, In-All, All-In, In-filter, filter-yes, filter-no, filter-all}
+use Rattle.shore_model.specs.Requests.{are_alike, AreRequests}
+use Rattle.shore_locks.specs.Grants.{replaced}
+use Rattle.shore_locks.proofs.Members.{In, either, In-All, All-In, filter-yes, filter-no}
 
 page_of : (p q : PageId) → (p.store ≡ q.store) × (p.page ≡ q.page) → p ≡ q
 page_of p q e i = record { store = e.0 i; page = e.1 i }

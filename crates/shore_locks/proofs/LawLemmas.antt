@@ -1,21 +1,20 @@
 -- Laws over the list of requests.
-use Rattle.std.proofs.Common.{◌≡◌, ◌≢◌, ◌++◌, ◌⊎◌, ◌+◌, ◌≤◌, ◌<◌, inl, inr, ⊎_elim, ℕ, zero, suc, List, [], ◌∷◌, Bool, true, false, Option, None, Some, refl, ap, sym, subst, ◌∙◌, length, drop, arith}
-use Rattle.std.specs.Prelude.{filter, map, not, cond, ◌&&◌, ◌==◌, is_some, IsSomeAnd, slice_get, Any, Contains}
+use Rattle.std.proofs.Common.{◌≡◌, inl, ⊎_elim, ℕ, suc, List, [], ◌∷◌, Bool, true, false, Option, None, Some, refl, ap, sym, subst, ◌∙◌, drop}
+use Rattle.std.specs.Prelude.{filter, not, ◌==◌, IsSomeAnd, slice_get}
 use Rattle.std.specs.List.{list_any}
 use Rattle.std.proofs.lemmas.Bool.Decides.{Decides-eqb}
 use Rattle.shore_types.specs.declared.locking.Granule.{Granule}
 use Rattle.shore_types.specs.declared.locking.Mode.{Mode}
-use Rattle.shore_types.specs.Locking.{same_granule}
 use Rattle.shore_model.specs.declared.requests.Request.{Request}
 use Rattle.shore_model.specs.Modes.{grants}
-use Rattle.shore_model.specs.Requests.{are_alike, AreRequests, IsRefusedBy, requests_at, requests_by}
+use Rattle.shore_model.specs.Requests.{are_alike, AreRequests, requests_at, requests_by}
 use Rattle.shore_locks.specs.Tables.{waiters_at}
 use Rattle.shore_locks.specs.Grants.{can_be_granted, given_up, granted, granted_in_turn, is_refused, passed, refuses, released, removed, replaced}
 use Rattle.shore_locks.specs.Laws.{FirstWaitersAreRefused, GrantsABeginning, of_others, owners}
 use Rattle.shore_locks.specs.Orderly.{IsOrderly, IsStopped}
 use Rattle.shore_locks.proofs.Members.{In, either, In-filter, filter-In, In-Contains, filter-yes, filter-no, filter-all, filter-swap}
-use Rattle.shore_locks.proofs.Keys.{in_place, in_place-keys, alike-Decides, AreRequests-replaced}
-use Rattle.shore_locks.proofs.Passes.{first_granted, first_of}
+use Rattle.shore_locks.proofs.Keys.{in_place-keys, alike-Decides, AreRequests-replaced}
+use Rattle.shore_locks.proofs.Passes.{first_granted}
 use Rattle.shore_locks.proofs.Fits.{found_any, pass_keeps, granted_first, granted_none}
 use Rattle.shore_locks.proofs.Counts.{AreRequests-passed, AreRequests-removed, first_gone, not_of}
 use Rattle.shore_locks.proofs.Entering.{both_true}

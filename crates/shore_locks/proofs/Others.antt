@@ -1,23 +1,21 @@
 -- What a change for one granule leaves as it was at the others, and that afterwards nobody is left who could be granted.
-use Rattle.std.proofs.Common.{◌≡◌, ◌≢◌, ◌++◌, ◌⊎◌, inl, inr, ⊎_elim, ℕ, List, [], ◌∷◌, Bool, true, false, Option, None, Some, refl, ap, sym, subst, ◌∙◌}
-use Rattle.std.specs.Prelude.{filter, map, not, cond, ◌&&◌, ◌||◌, ◌==◌, is_some, find, IsTrue}
+use Rattle.std.proofs.Common.{◌≡◌, ◌++◌, inl, inr, ⊎_elim, List, [], ◌∷◌, Bool, true, false, refl, ap, sym, subst, ◌∙◌}
+use Rattle.std.specs.Prelude.{filter, not}
 use Rattle.std.specs.List.{list_any}
 use Rattle.std.proofs.lemmas.List.{append-nil}
 use Rattle.std.proofs.lemmas.List.Elements.{filter-append}
-use Rattle.std.proofs.lemmas.Bool.Decides.{Decides-eqb}
 use Rattle.shore_types.specs.declared.locking.Granule.{Granule}
-use Rattle.shore_types.specs.declared.locking.Mode.{Mode}
 use Rattle.shore_types.specs.Locking.{same_granule}
 use Rattle.shore_model.specs.declared.requests.Request.{Request}
 use Rattle.shore_model.specs.declared.requests.Group.TheVariants.{Conversions, NewWaiters}
-use Rattle.shore_model.specs.Requests.{are_alike, AreRequests, requests_at, requests_by, placed_last, is_in_group}
+use Rattle.shore_model.specs.Requests.{are_alike, AreRequests, requests_at, placed_last, is_in_group}
 use Rattle.shore_locks.specs.Tables.{waiters_at}
-use Rattle.shore_locks.specs.Grants.{replaced, removed, put, granted, granted_in_turn, passed, can_be_granted, refuses, is_refused, is_stopped_by, is_ahead}
+use Rattle.shore_locks.specs.Grants.{replaced, removed, put, granted, passed}
 use Rattle.shore_locks.specs.Orderly.{IsStopped}
-use Rattle.shore_locks.proofs.Members.{In, either, In-filter, filter-In, In-left, In-right, In-append, filter-yes, filter-no, filter-all, filter-none, filter-swap}
-use Rattle.shore_locks.proofs.Keys.{in_place, in_place-no, alike-Decides, same_granule-Decides, AreRequests-filter}
-use Rattle.shore_locks.proofs.Passes.{requests_at-replaced, filter_by_key}
-use Rattle.shore_locks.proofs.Fits.{Fit, pass_keeps, pass_leaves_none, any_of, found_any}
+use Rattle.shore_locks.proofs.Members.{In, either, In-filter, filter-no, filter-all, filter-swap}
+use Rattle.shore_locks.proofs.Keys.{in_place-no, alike-Decides, same_granule-Decides}
+use Rattle.shore_locks.proofs.Passes.{requests_at-replaced}
+use Rattle.shore_locks.proofs.Fits.{pass_keeps, pass_leaves_none}
 
 pub replaced_none : (r : Request) (rs : List Request) → ((q : Request) → In q rs → are_alike q r ≡ false) → replaced r rs ≡ rs
 replaced_none r [] apart = refl

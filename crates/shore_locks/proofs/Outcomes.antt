@@ -1,6 +1,6 @@
 -- What a request, a try and a cancel come to.
-use Rattle.std.proofs.Common.{◌≡◌, ◌≢◌, ◌++◌, ◌⊎◌, inl, inr, ⊎_elim, ℕ, List, [], ◌∷◌, Bool, true, false, Option, None, Some, refl, ap, sym, subst, ◌∙◌}
-use Rattle.std.specs.Prelude.{filter, map, not, cond, ◌&&◌, ◌||◌, ◌==◌, is_some, IsSome, IsSomeAnd, IsTrue, Any, Contains, find}
+use Rattle.std.proofs.Common.{◌≡◌, ◌++◌, ◌⊎◌, inl, inr, ⊎_elim, ℕ, List, [], ◌∷◌, Bool, true, false, Option, None, Some, refl, ap, sym, subst, ◌∙◌}
+use Rattle.std.specs.Prelude.{filter, not, cond, ◌&&◌, ◌||◌, ◌==◌, is_some, Any, find}
 use Rattle.std.specs.List.{list_any}
 use Rattle.std.proofs.lemmas.List.Elements.{filter-append}
 use Rattle.std.proofs.lemmas.Bool.Decides.{Decides-eqb}
@@ -11,17 +11,17 @@ use Rattle.shore_types.specs.Locking.{same_granule}
 use Rattle.shore_model.specs.declared.requests.Request.{Request}
 use Rattle.shore_model.specs.declared.requests.Group.{Group}
 use Rattle.shore_model.specs.declared.requests.Group.TheVariants.{Holders, Conversions, NewWaiters}
-use Rattle.shore_model.specs.Modes.{grants, is_at_most, sup}
+use Rattle.shore_model.specs.Modes.{is_at_most}
 use Rattle.shore_model.specs.Requests.{are_alike, AreRequests, Before, IsBehind, IsRefusedBy, WaitsFor, WaitsIn, is_in_group, placed_last, queue_at, requests_at}
 use Rattle.shore_model.proofs.ModeTables.{sup_least}
-use Rattle.shore_locks.specs.Tables.{is_for, is_waiting, mode_held, request_for, waiters_at, waiting_request}
-use Rattle.shore_locks.specs.Grants.{after_grant, aim, asking, can_be_granted, cancelled, granted, is_ahead, is_enough, is_refused, is_stopped_by, obstacle, passed, put, removed, replaced, taken_back, taken_back_if, withdrawn}
+use Rattle.shore_locks.specs.Tables.{is_waiting, mode_held, request_for, waiters_at, waiting_request}
+use Rattle.shore_locks.specs.Grants.{after_grant, aim, asking, cancelled, granted, is_ahead, is_enough, is_refused, is_stopped_by, obstacle, passed, put, removed, replaced, taken_back, taken_back_if, withdrawn}
 use Rattle.shore_locks.specs.Orderly.{IsOrderly}
-use Rattle.shore_locks.proofs.Members.{In, either, In-filter, filter-In, Contains-In, In-Contains, In-left, In-right, In-append, filter-yes, filter-no}
-use Rattle.shore_locks.proofs.Keys.{in_place, in_place-no, in_place-yes, alike-Decides, alike-self, only_one, same_granule-Decides, AreRequests-replaced}
-use Rattle.shore_locks.proofs.Fits.{Fit, In-replaced, any_of, found_any, pass_keeps, wants_nothing}
+use Rattle.shore_locks.proofs.Members.{In, either, In-filter, filter-In, Contains-In, In-Contains, In-left, In-right, filter-yes}
+use Rattle.shore_locks.proofs.Keys.{in_place-no, in_place-yes, alike-Decides, alike-self, only_one, same_granule-Decides}
+use Rattle.shore_locks.proofs.Fits.{In-replaced, pass_keeps, wants_nothing}
 use Rattle.shore_locks.proofs.Counts.{AreRequests-passed, AreRequests-stopped}
-use Rattle.shore_locks.proofs.Entering.{AreRequests-put, In-put, both_true, found_in, found_none, find_step, request_in}
+use Rattle.shore_locks.proofs.Entering.{AreRequests-put, both_true, found_in, find_step, request_in}
 use Rattle.shore_locks.proofs.LawLemmas.{refused_means}
 use Rattle.shore_locks.proofs.Others.{put_in_place, put_last}
 use Rattle.shore_locks.proofs.Tables.{fit_of}

@@ -1,18 +1,17 @@
 -- Grant passes: the waiters that are left, and what a pass keeps.
-use Rattle.std.proofs.Common.{◌≡◌, ◌≢◌, ◌++◌, ◌⊎◌, inl, inr, ⊎_elim, ℕ, suc, List, [], ◌∷◌, Bool, true, false, Option, None, Some, refl, ap, sym, subst, ◌∙◌, length, drop}
-use Rattle.std.specs.Prelude.{filter, map, not, cond, All, ◌==◌, ◌&&◌, is_some, slice_get}
+use Rattle.std.proofs.Common.{◌≡◌, ◌++◌, ⊎_elim, suc, List, [], ◌∷◌, Bool, true, false, Option, None, Some, refl, ap, sym, subst, ◌∙◌, length, drop}
+use Rattle.std.specs.Prelude.{filter, not, ◌&&◌, is_some, slice_get}
 use Rattle.std.proofs.lemmas.List.Elements.{filter-append}
 use Rattle.shore_types.specs.declared.locking.Granule.{Granule}
 use Rattle.shore_types.specs.declared.locking.Mode.{Mode}
 use Rattle.shore_types.specs.Locking.{same_granule}
 use Rattle.shore_model.specs.declared.requests.Request.{Request}
-use Rattle.shore_model.specs.declared.requests.Group.{Group}
-use Rattle.shore_model.specs.declared.requests.Group.TheVariants.{Holders, Conversions, NewWaiters}
-use Rattle.shore_model.specs.Requests.{are_alike, AreRequests, requests_at, is_in_group, is_conversion, is_new}
+use Rattle.shore_model.specs.declared.requests.Group.TheVariants.{Conversions, NewWaiters}
+use Rattle.shore_model.specs.Requests.{are_alike, AreRequests, requests_at, is_in_group}
 use Rattle.shore_locks.specs.Tables.{waiters_at}
 use Rattle.shore_locks.specs.Grants.{replaced, removed, granted, granted_in_turn, passed, can_be_granted}
-use Rattle.shore_locks.proofs.Members.{In, either, In-All, All-In, In-filter, In-append, filter-yes, filter-no, filter-all}
-use Rattle.shore_locks.proofs.Keys.{in_place, in_place-yes, in_place-no, in_place-keys, only_one, alike-Decides, alike-swap, alike-self, same_granule-Decides, AreRequests-filter, AreRequests-append, AreRequests-replaced}
+use Rattle.shore_locks.proofs.Members.{In, either, In-All, In-filter, In-append, filter-yes, filter-no, filter-all}
+use Rattle.shore_locks.proofs.Keys.{in_place, in_place-yes, in_place-no, in_place-keys, only_one, alike-Decides, alike-swap, same_granule-Decides, AreRequests-filter, AreRequests-append}
 
 not_true : {b : Bool} → b ≡ true → not b ≡ false
 not_true e = ap not e

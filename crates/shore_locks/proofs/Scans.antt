@@ -1,7 +1,7 @@
 -- Steps of loops over a list.
 use Rattle.std.proofs.Common.{◌≡◌, ◌<◌, ◌≤◌, ◌+◌, ◌++◌, [], ℕ, List, ◌∷◌, Bool, true, Some, refl, ap, sym, arith, ◌∙◌, length, get_or, drop, take, set, map}
 use Rattle.std.specs.Prelude.{find, filter}
-use Rattle.std.proofs.lemmas.List.{drop_more, take_more, take_more_set, map-append, drop-set-lt, get_or-drop, length-set, take_all, append-nil}
+use Rattle.std.proofs.lemmas.List.{drop_more, take_more, take_more_set, map-append, drop-set-lt, length-set, take_all}
 
 pub found_here : {A : Type 0} (p q : A → Bool) (xs : List A) (i : ℕ) (x : A) → i < length xs → x ≡ get_or xs i x → q x ≡ true → p x ≡ true → find p (filter q (drop i xs)) ≡ Some x
 found_here p q xs i x within is kept passes =

@@ -1,21 +1,21 @@
 -- The requests of a table stay orderly.
-use Rattle.std.proofs.Common.{◌≡◌, ◌++◌, ◌⊎◌, ◌+◌, ◌≤◌, ◌<◌, inl, inr, ⊎_elim, ℕ, suc, List, [], ◌∷◌, Bool, true, false, Option, None, Some, refl, ap, sym, subst, ◌∙◌, length, arith}
-use Rattle.std.specs.Prelude.{filter, not, cond, All, Contains, ◌&&◌, ◌==◌, is_some, IsSome, IsTrue, find}
-use Rattle.std.specs.List.{filter_map, cons_option}
+use Rattle.std.proofs.Common.{◌≡◌, inl, inr, ⊎_elim, ℕ, List, [], ◌∷◌, Bool, true, false, Option, None, Some, refl, ap, sym, subst, ◌∙◌, arith}
+use Rattle.std.specs.Prelude.{not, cond, All, ◌&&◌, ◌==◌, is_some, IsSome, IsTrue}
+use Rattle.std.specs.List.{cons_option}
 use Rattle.shore_types.specs.declared.locking.Granule.{Granule}
 use Rattle.shore_types.specs.declared.locking.Mode.{Mode}
 use Rattle.shore_model.specs.declared.holds.Hold.{Hold}
 use Rattle.shore_model.specs.declared.requests.Request.{Request}
 use Rattle.shore_model.specs.Modes.{coexist}
 use Rattle.shore_model.specs.Locks.{Agree, StandTogether}
-use Rattle.shore_model.specs.Requests.{are_alike, AreRequests, requests_at, requests_by, placed_last, held_by_all, hold_of, hold_in}
-use Rattle.shore_locks.specs.Tables.{waiters_at, is_waiting, waiting_request}
+use Rattle.shore_model.specs.Requests.{are_alike, requests_by, placed_last, held_by_all, hold_in}
+use Rattle.shore_locks.specs.Tables.{is_waiting, waiting_request}
 use Rattle.shore_locks.specs.Grants.{removed, replaced, put, granted, withdrawn, asking, obstacle, passed, taken_back, taken_back_if, cancelled, given_up, released, is_full, after_grant}
-use Rattle.shore_locks.specs.Orderly.{IsKept, IsOrderly, IsStopped, IsOfUse, Rises, WaitsOnce}
-use Rattle.shore_locks.proofs.Members.{In, either, In-All, All-In, In-filter, In-Contains, Contains-In}
+use Rattle.shore_locks.specs.Orderly.{IsKept, IsOrderly, IsOfUse, Rises}
+use Rattle.shore_locks.proofs.Members.{In, either, In-All, All-In, In-Contains, Contains-In}
 use Rattle.shore_locks.proofs.Fits.{Fit, Fit-filter, Fit-withdrawn, Fit-passed, StandBoth}
 use Rattle.shore_locks.proofs.Others.{NoneLeftAt, none_left_as, none_left_passed, at_other_removed, at_other_replaced, at_other_put}
-use Rattle.shore_locks.proofs.Entering.{AreRequests-put, Fit-placed, Fit-put, found_in, both_true}
+use Rattle.shore_locks.proofs.Entering.{AreRequests-put, Fit-placed, Fit-put, found_in}
 use Rattle.shore_locks.proofs.Counts.{length-given_up, length-passed, length-placed_within, length-put_within, length-taken_back}
 use Rattle.shore_locks.proofs.Waiting.{none_left_placed}
 

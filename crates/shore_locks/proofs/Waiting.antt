@@ -1,8 +1,7 @@
 -- A request begins to wait: nobody is left behind it or ahead of it who could be granted.
 use Rattle.std.proofs.Common.{◌≡◌, ◌++◌, ◌⊎◌, inl, inr, ⊎_elim, ℕ, List, [], ◌∷◌, Bool, true, false, Option, None, Some, refl, ap, sym, subst, ◌∙◌}
-use Rattle.std.specs.Prelude.{filter, not, ◌&&◌, ◌||◌, ◌==◌, is_some, find}
+use Rattle.std.specs.Prelude.{filter, not, ◌&&◌, ◌||◌, ◌==◌, is_some}
 use Rattle.std.specs.List.{list_any}
-use Rattle.std.proofs.lemmas.List.{append-nil}
 use Rattle.std.proofs.lemmas.List.Elements.{filter-append}
 use Rattle.std.proofs.lemmas.Bool.Decides.{Decides-eqb}
 use Rattle.shore_types.specs.declared.locking.Granule.{Granule}
@@ -11,12 +10,12 @@ use Rattle.shore_types.specs.Locking.{same_granule}
 use Rattle.shore_model.specs.declared.requests.Request.{Request}
 use Rattle.shore_model.specs.declared.requests.Group.TheVariants.{Conversions, NewWaiters}
 use Rattle.shore_model.specs.Requests.{are_alike, requests_at, placed_last, is_in_group}
-use Rattle.shore_locks.specs.Tables.{waiters_at, is_waiting, mode_held, request_for}
+use Rattle.shore_locks.specs.Tables.{is_waiting, mode_held, request_for}
 use Rattle.shore_locks.specs.Grants.{removed, asking, can_be_granted, refuses, is_refused, is_stopped_by, is_ahead, obstacle}
 use Rattle.shore_locks.specs.Orderly.{IsStopped}
 use Rattle.shore_locks.proofs.Members.{In, either, In-filter, filter-In, In-left, In-right, filter-yes, filter-no, filter-all, filter-swap}
 use Rattle.shore_locks.proofs.Keys.{alike-Decides, same_granule-Decides}
-use Rattle.shore_locks.proofs.Fits.{Fit, any_of, found_any, no_of}
+use Rattle.shore_locks.proofs.Fits.{Fit, any_of, found_any}
 use Rattle.shore_locks.proofs.Others.{NoneLeftAt, none_left_as, at_other_placed, requests_at-removed}
 use Rattle.shore_locks.proofs.Entering.{both_true, found_in, none_waits, request_in}
 

@@ -1,5 +1,5 @@
 -- How requests come into the list, are granted, and leave it.
-use Rattle.std.specs.Prelude.{◌==◌, ◌&&◌, ◌||◌, ℕ, List, [], ◌∷◌, ◌++◌, Bool, true, false, not, cond, Option, None, Some, is_some, find, filter, map, length, nat_lt}
+use Rattle.std.specs.Prelude.{◌==◌, ◌&&◌, ◌||◌, ℕ, List, [], ◌∷◌, ◌++◌, Bool, false, not, cond, Option, None, Some, is_some, find, filter, map, length, nat_lt}
 use Rattle.std.specs.List.{list_any}
 use Rattle.shore_types.specs.declared.locking.Granule.{Granule}
 use Rattle.shore_types.specs.declared.locking.Mode.{Mode}
@@ -10,7 +10,7 @@ use Rattle.shore_locks.specs.declared.answers.Tried.{Tried}
 use Rattle.shore_locks.specs.declared.answers.Tried.TheVariants.{Blocked, Granted as TryGranted, Full as TryFull}
 use Rattle.shore_model.specs.Modes.{grants, is_at_most, sup}
 use Rattle.shore_model.specs.Requests.{are_alike, requests_at, requests_by, placed_last}
-use Rattle.shore_locks.specs.Tables.{Table, is_for, mode_held, request_for, waiting_request, waiters_at}
+use Rattle.shore_locks.specs.Tables.{Table, mode_held, request_for, waiting_request, waiters_at}
 
 -- what is wanted is not granted by what is held
 abbrev pub is_refused : Option Mode → Option Mode → Bool

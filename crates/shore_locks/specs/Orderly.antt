@@ -1,5 +1,5 @@
 -- What holds of the requests of every table.
-use Rattle.std.specs.Prelude.{◌≡◌, ◌++◌, ◌||◌, ℕ, List, [], ◌∷◌, Bool, false, IsTrue, Option, None, Some, IsSome, is_some, filter, All, Contains, length, ◌≤◌}
+use Rattle.std.specs.Prelude.{◌≡◌, ◌||◌, ℕ, List, [], ◌∷◌, false, IsTrue, Option, Some, IsSome, is_some, All, Contains, length, ◌≤◌}
 use Rattle.shore_types.specs.declared.locking.Granule.{Granule}
 use Rattle.shore_types.specs.declared.locking.Mode.{Mode}
 use Rattle.shore_model.specs.declared.requests.Request.{Request}

@@ -1,5 +1,5 @@
 -- What a lock table is seen as, and what is read of it.
-use Rattle.std.specs.Prelude.{◌==◌, ◌&&◌, ℕ, List, Bool, Option, None, Some, is_some, find, filter, ◌++◌}
+use Rattle.std.specs.Prelude.{◌==◌, ◌&&◌, ℕ, List, Bool, Option, is_some, find, filter, ◌++◌}
 use Rattle.std.specs.Option.{option_and_then}
 use Rattle.shore_types.specs.declared.locking.Granule.{Granule}
 use Rattle.shore_types.specs.declared.locking.Mode.{Mode}

@@ -12,7 +12,7 @@ use crate::lists;
 use crate::queues::{Holders, Waiters};
 use shore_model::Request;
 use shore_types::{Fault, Granule, Mode, TxnId};
-use std::alloc::Global;
+use std::alloc::{AllocError, Global};
 use std::marker::Model;
 
 /// What each transaction holds and wants of each granule. One node stands for each pair of the two.
@@ -37,13 +37,11 @@ impl Model for LockTable {
 
 impl LockTable {
     /// A table with no requests, for so many nodes.
-    pub fn new(alloc: Global, limit: usize) -> LockTable
-        ensures { result ≡ record { limit = limit; requests = [] } }
+    pub fn new(alloc: Global, limit: usize) -> Result<LockTable, AllocError>
+        ensures { IfOk result (λ table. table ≡ record { limit = limit; requests = [] }) }
     {
-        LockTable {
-            limit,
-            requests: Vec::new(alloc),
-        }
+        let requests = Vec::with_capacity(alloc, limit)?;
+        Ok(LockTable { limit, requests })
     }
 
     /// How many nodes stand.

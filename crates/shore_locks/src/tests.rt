@@ -1,5 +1,6 @@
 //! Worked runs on a table, with what is held and who waits written out by hand.
 use crate::{LockTable, Requested, Tried};
+use shore_model::Request;
 use shore_types::{Fault, Granule, Mode, PageId, Rid, StoreId, TxnId};
 use std::process::Abort;
 
@@ -41,6 +42,18 @@ fn holds(table: &LockTable, txn: u64, granule: Granule, mode: Mode) -> bool {
     table.held(TxnId(txn), granule) == Some(mode)
 }
 
+fn are_holders(table: &LockTable, granule: Granule, first: u64, second: u64) -> bool {
+    let mut holders = table.holders(granule);
+    is_of(holders.next(), first) && is_of(holders.next(), second) && holders.next().is_none()
+}
+
+fn is_of(request: Option<Request>, txn: u64) -> bool {
+    match request {
+        Some(request) => request.txn == TxnId(txn),
+        None => false,
+    }
+}
+
 fn first_waiter(table: &LockTable, granule: Granule) -> Option<TxnId> {
     let request = table.waiters(granule).next()?;
     Some(request.txn)
@@ -49,14 +62,14 @@ fn first_waiter(table: &LockTable, granule: Granule) -> Option<TxnId> {
 // 1 asks for IX and SH on the store and holds SIX; 2's IS stands beside it, and 3's IX has to wait.
 #[test]
 fn conversion_to_six(rt: HostRuntime) -> Result<(), Fault> {
-    let mut table = LockTable::new(rt.alloc(), 16);
+    let mut table = LockTable::new(rt.alloc(), 16)?;
     assert!(rt; ask(&rt, &mut table, 1, STORE, Mode::IX)? == Requested::Granted);
     assert!(rt; ask(&rt, &mut table, 1, STORE, Mode::SH)? == Requested::Granted);
     assert!(rt; ask(&rt, &mut table, 2, STORE, Mode::IS)? == Requested::Granted);
     assert!(rt; ask(&rt, &mut table, 3, STORE, Mode::IX)? == Requested::Waiting);
     assert!(rt; holds(&table, 1, STORE, Mode::SIX) && holds(&table, 2, STORE, Mode::IS));
     assert!(rt; table.held(TxnId(3), STORE).is_none() && table.is_waiting(TxnId(3)));
-    assert!(rt; table.nodes() == 3 && table.holders(STORE).count() == 2);
+    assert!(rt; table.nodes() == 3 && are_holders(&table, STORE, 1, 2));
     assert!(rt; table.waiting_request(TxnId(3)).is_some());
     Ok(())
 }
@@ -64,7 +77,7 @@ fn conversion_to_six(rt: HostRuntime) -> Result<(), Fault> {
 // 2 reads a record and 3 gets it for update; 4, a new reader, waits until 3 has ended.
 #[test]
 fn update_mode_refuses_new_readers(rt: HostRuntime) -> Result<(), Fault> {
-    let mut table = LockTable::new(rt.alloc(), 16);
+    let mut table = LockTable::new(rt.alloc(), 16)?;
     assert!(rt; ask(&rt, &mut table, 2, record(0), Mode::SH)? == Requested::Granted);
     assert!(rt; ask(&rt, &mut table, 3, record(0), Mode::UD)? == Requested::Granted);
     assert!(rt; offer(&rt, &mut table, 4, record(0), Mode::SH)? == Tried::Blocked(TxnId(3)));
@@ -78,7 +91,7 @@ fn update_mode_refuses_new_readers(rt: HostRuntime) -> Result<(), Fault> {
 // 2 and 3 read a record and then want to update it: both wait. 3 is the victim, and once it has ended 2 goes on.
 #[test]
 fn conversion_deadlock(rt: HostRuntime) -> Result<(), Fault> {
-    let mut table = LockTable::new(rt.alloc(), 16);
+    let mut table = LockTable::new(rt.alloc(), 16)?;
     assert!(rt; ask(&rt, &mut table, 2, record(0), Mode::SH)? == Requested::Granted);
     assert!(rt; ask(&rt, &mut table, 3, record(0), Mode::SH)? == Requested::Granted);
     assert!(rt; ask(&rt, &mut table, 2, record(0), Mode::EX)? == Requested::Waiting);
@@ -96,7 +109,7 @@ fn conversion_deadlock(rt: HostRuntime) -> Result<(), Fault> {
 // two: a third transaction finds the table full, and one that has a node does not.
 #[test]
 fn queue_order_and_room(rt: HostRuntime) -> Result<(), Fault> {
-    let mut table = LockTable::new(rt.alloc(), 3);
+    let mut table = LockTable::new(rt.alloc(), 3)?;
     assert!(rt; ask(&rt, &mut table, 1, STORE, Mode::IS)? == Requested::Granted);
     assert!(rt; ask(&rt, &mut table, 2, STORE, Mode::EX)? == Requested::Waiting);
     assert!(rt; ask(&rt, &mut table, 3, STORE, Mode::IS)? == Requested::Waiting);

@@ -1,5 +1,4 @@
-use Rattle.std.proofs.Common.{◌≡◌, ◌<◌, true, false, length, arith, sym, ap, subst, ◌∙◌}
-use Rattle.shore_model.specs.declared.requests.Request.{Request}
+use Rattle.std.proofs.Common.{◌≡◌, true, false, length, arith, sym, ap, subst, ◌∙◌}
 use Rattle.shore_model.specs.Requests.{AreRequests, requests_at}
 use Rattle.shore_locks.specs.Tables.{waiters_at}
 use Rattle.shore_locks.specs.Grants.{can_be_granted, granted, passed, replaced}

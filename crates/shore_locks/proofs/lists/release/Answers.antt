@@ -1,9 +1,9 @@
-use Rattle.std.proofs.Common.{◌≡◌, ◌≤◌, ◌<◌, ◌+◌, ◌==◌, suc, length, arith, sym, ap, subst, ◌∙◌, Some, None}
+use Rattle.std.proofs.Common.{◌≡◌, ◌==◌, length, arith, sym, ap, subst, ◌∙◌, Some, None}
 use Rattle.std.specs.Prelude.{slice_get}
 use Rattle.shore_model.specs.Requests.{AreRequests, requests_by}
-use Rattle.shore_locks.specs.Grants.{released, removed, passed, given_up}
+use Rattle.shore_locks.specs.Grants.{released, removed, given_up}
 use Rattle.shore_locks.proofs.Passes.{none_of}
-use Rattle.shore_locks.proofs.Counts.{AreRequests-passed, AreRequests-removed, fewer_by, first_gone, release_on, length-filter_most}
+use Rattle.shore_locks.proofs.Counts.{AreRequests-passed, AreRequests-removed, fewer_by, release_on, length-filter_most}
 use Rattle.shore_locks.proofs.lists.release.Goals as goal
 
 pub overflow_add-count : goal.overflow_add-count

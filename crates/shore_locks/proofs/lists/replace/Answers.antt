@@ -1,4 +1,4 @@
-use Rattle.std.proofs.Common.{◌≡◌, ◌<◌, ◌≤◌, length, arith}
+use Rattle.std.proofs.Common.{◌<◌, ◌≤◌, length, arith}
 use Rattle.std.specs.Prelude.{cond}
 use Rattle.shore_model.specs.Requests.{are_alike}
 use Rattle.shore_locks.proofs.Scans.{MapsInPlace-none, MapsInPlace-more, MapsInPlace-all}

@@ -1,4 +1,3 @@
-use Rattle.std.proofs.Common.{drop}
 use Rattle.shore_model.specs.Requests.{are_alike}
 use Rattle.std.specs.Prelude.{cond}
 use Rattle.shore_locks.proofs.Scans.{MapsInPlace}

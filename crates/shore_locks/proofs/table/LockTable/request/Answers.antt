@@ -1,8 +1,7 @@
-use Rattle.std.proofs.Common.{◌≡◌, List, None, Some, true, false, sym, subst, ap, ◌∙◌}
+use Rattle.std.proofs.Common.{◌≡◌, None, true, false, sym, subst, ap, ◌∙◌}
 use Rattle.std.specs.Prelude.{is_some}
-use Rattle.shore_model.specs.declared.requests.Request.{Request}
 use Rattle.shore_model.specs.Requests.{placed_last}
-use Rattle.shore_locks.specs.Grants.{after_grant, asking, granted, is_full, obstacle, passed, put}
+use Rattle.shore_locks.specs.Grants.{asking, granted, is_full, obstacle, passed, put}
 use Rattle.shore_locks.specs.Orderly.{IsKept}
 use Rattle.shore_locks.specs.Tables.{is_waiting}
 use Rattle.shore_locks.proofs.Entering.{nothing}

@@ -1,7 +1,6 @@
-use Rattle.std.proofs.Common.{◌≡◌, List, None, Some, true, false, sym, subst, ap, ◌∙◌}
-use Rattle.shore_locks.specs.Grants.{after_grant, asking, granted, is_full, obstacle, passed, put}
+use Rattle.std.proofs.Common.{◌≡◌, None, false, sym, subst, ap, ◌∙◌}
+use Rattle.shore_locks.specs.Grants.{asking, granted, is_full, obstacle, passed, put}
 use Rattle.shore_locks.specs.Orderly.{IsKept}
-use Rattle.shore_locks.specs.Tables.{is_waiting}
 use Rattle.shore_locks.proofs.Tables.{kept_granted}
 use Rattle.shore_locks.proofs.table.LockTable.try_request.Goals as goal
 
