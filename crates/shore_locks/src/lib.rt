@@ -6,6 +6,7 @@ pub mod laws;
 mod lists;
 pub mod queues;
 pub mod table;
+mod walks;
 #[cfg(test)]
 mod tests;
 
