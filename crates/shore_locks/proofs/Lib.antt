@@ -11,3 +11,4 @@ mod Passes
 mod Scans
 mod Tables
 mod Waiting
+mod Threads
