@@ -88,6 +88,7 @@ impl Rings {
         requires head { head < length self.old }
         requires place { place < length self.old }
         ensures links { self.new ≡ spec.linked head place self.old }
+        ensures places { length self.new ≡ length self.old }
         ensures ring { (xs : List ℕ) → IsRing self.old head xs → (In place (head ∷ xs) → ⊥) → IsRing self.new head (xs ++ place ∷ []) }
         ensures others { (xs ys : List ℕ) (other : ℕ) → IsRing self.old head xs → IsRing self.old other ys → (In place (other ∷ ys) → ⊥) → Apart (head ∷ xs) (other ∷ ys) → IsRing self.new other ys }
     {
@@ -100,6 +101,7 @@ impl Rings {
     pub fn unlink(&mut self, place: usize)
         requires { place < length self.old }
         ensures links { self.new ≡ spec.unlinked place self.old }
+        ensures places { length self.new ≡ length self.old }
         ensures ring { (head : ℕ) (xs ys : List ℕ) → IsRing self.old head (xs ++ place ∷ ys) → IsRing self.new head (xs ++ ys) }
         ensures alone { IsRing self.new place [] }
         ensures others { (head : ℕ) (xs ys : List ℕ) (other : ℕ) (zs : List ℕ) → IsRing self.old head (xs ++ place ∷ ys) → IsRing self.old other zs → Apart (head ∷ (xs ++ place ∷ ys)) (other ∷ zs) → IsRing self.new other zs }
@@ -113,7 +115,8 @@ impl Rings {
     fn join(&mut self, a: usize, b: usize)
         requires first { a < length self.old }
         requires second { b < length self.old }
-        ensures { self.new ≡ spec.joined a b self.old }
+        ensures links { self.new ≡ spec.joined a b self.old }
+        ensures places { length self.new ≡ length self.old }
     {
         self.links[a].after = b;
         self.links[b].before = a;

@@ -12,3 +12,4 @@ mod Scans
 mod Tables
 mod Waiting
 mod Threads
+mod NodeLemmas
