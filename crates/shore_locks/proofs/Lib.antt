@@ -13,3 +13,5 @@ mod Tables
 mod Waiting
 mod Threads
 mod NodeLemmas
+mod AlikeNodes
+mod NodeSteps

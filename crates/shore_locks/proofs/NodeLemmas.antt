@@ -12,9 +12,11 @@ use Rattle.shore_model.specs.Requests.{are_alike, AreRequests, placed_last, requ
 use Rattle.shore_links.specs.declared.rings.Link.{Link}
 use Rattle.shore_links.specs.Rings.{Distinct, In, IsRing, Way, after_at, before_at}
 use Rattle.shore_locks.specs.Grants.{removed, replaced}
-use Rattle.shore_locks.specs.Nodes.{Holds, IsThreaded, alive, granule_number, in_bucket, left_after, list_of, pair_and, pairs_from, places, queue_of, request_at, request_or, requests_in, without}
+use Rattle.shore_locks.specs.Nodes.{Holds, IsThreaded, LinksIn, LinksOut, alive, granule_number, in_bucket, left_after, list_of, pair_and, pairs_from, places, queue_of, request_at, request_or, requests_in, without}
+use Rattle.shore_locks.proofs.Counts.{length-filter_most}
+use Rattle.shore_locks.proofs.Keys.{same_granule-Decides}
 use Rattle.shore_locks.proofs.Members.{either, filter-yes, filter-no}
-use Rattle.shore_locks.proofs.Threads.{LinksIn, LinksOut, distinct_filter, distinct_push, filter_in, holds_less, holds_more, holds_same, in_either, in_filter, in_left, in_right, without_none}
+use Rattle.shore_locks.proofs.Threads.{distinct_filter, distinct_push, filter_in, holds_less, holds_more, holds_same, in_either, in_filter, in_left, in_right, without_none}
 
 -- the history of keys
 after_events : (ks : List ℕ) (es : List (ℕ × Bool)) (e : ℕ × Bool) → left_after ks (es ++ e ∷ []) ≡ cond e.1 (left_after ks es ++ e.0 ∷ []) (without e.0 (left_after ks es))
@@ -141,15 +143,15 @@ module _ (heads : ℕ) (slots : Slab Request) (queues lists : List Link) (ks : L
       }
 
 -- the nodes that a walk comes by
-abbrev pub pair_at : Slab Request → ℕ → ℕ × Request
-pair_at slots k = (k, request_at slots k)
+abbrev pub pair_at : ℕ → Slab Request → ℕ → ℕ × Request
+pair_at heads slots k = (heads + k, request_at slots k)
 
-there_at : (slots : Slab Request) (key k : ℕ) (o : Option Request) (rest : List (ℕ × Request)) → key ≡ k → is_some o ≡ true → get slots k ≡ o → pair_and key o rest ≡ pair_at slots k ∷ rest
-there_at slots key k None rest e is at = cc
-there_at slots key k (Some r) rest e is at = λ i. (e i, request_or (sym at i)) ∷ rest
+there_at : (heads : ℕ) (slots : Slab Request) (place k : ℕ) (o : Option Request) (rest : List (ℕ × Request)) → place ≡ heads + k → is_some o ≡ true → get slots k ≡ o → pair_and place o rest ≡ pair_at heads slots k ∷ rest
+there_at heads slots place k None rest e is at = cc
+there_at heads slots place k (Some r) rest e is at = λ i. (e i, request_or (sym at i)) ∷ rest
 
 pub walk_is : (n : ℕ) (slots : Slab Request) (links : List Link) (heads head : ℕ) (ks : List ℕ) (a : ℕ) → Way (after_at links) (before_at links) a (places heads ks) head → head < heads → ((k : ℕ) → In k ks → is_some (get slots k) ≡ true) → length ks ≤ n
-    → pairs_from n slots links heads head (after_at links a) ≡ map (pair_at slots) ks
+    → pairs_from n slots links heads head (after_at links a) ≡ map (pair_at heads slots) ks
 walk_is zero slots links heads head [] a w small there most = refl
 walk_is (suc n) slots links heads head [] a w small there most =
     let at_end : (after_at links a == head) ≡ true = (Decides-eqb (after_at links a) head).1 w.0 in rw at_end refl
@@ -157,7 +159,60 @@ walk_is zero slots links heads head (k ∷ ks) a w small there most = absurd (om
 walk_is (suc n) slots links heads head (k ∷ ks) a w small there most =
     let on : (after_at links a == head) ≡ false = ⊎_elim (λ yes. absurd (let e = (Decides-eqb (after_at links a) head).0 yes in let f = w.0.0 in omega (arith, e, f))) (λ no. no) (either (after_at links a == head)) in
     let key : after_at links a - heads ≡ k = let f = w.0.0 in omega (arith, f) in
-    let rest : pairs_from n slots links heads head (after_at links (after_at links a)) ≡ map (pair_at slots) ks =
+    let rest : pairs_from n slots links heads head (after_at links (after_at links a)) ≡ map (pair_at heads slots) ks =
         ap (λ p. pairs_from n slots links heads head (after_at links p)) w.0.0 ∙ walk_is n slots links heads head ks (heads + k) w.1 small (λ x h. there x (inr h)) (omega (arith, most)) in
-    rw on (there_at slots (after_at links a - heads) k (get slots (after_at links a - heads)) (pairs_from n slots links heads head (after_at links (after_at links a))) key (ap (λ z. is_some (get slots z)) key ∙ there k (inl refl)) (ap (get slots) (sym key))
-    ∙ ap (λ xs. pair_at slots k ∷ xs) rest)
+    rw on (there_at heads slots (after_at links a) k (get slots (after_at links a - heads)) (pairs_from n slots links heads head (after_at links (after_at links a))) w.0.0 (ap (λ z. is_some (get slots z)) key ∙ there k (inl refl)) (ap (get slots) (sym key))
+    ∙ ap (λ xs. pair_at heads slots k ∷ xs) rest)
+
+-- a test that looks at requests of a bucket alone finds the same among all
+pub filter_of_bucket : (p : Request → Bool) (f : ℕ → Request) (bucket : ℕ → ℕ) (b : ℕ) (ks : List ℕ) → ((k : ℕ) → p (f k) ≡ true → bucket k ≡ b) → filter p (map f (in_bucket bucket b ks)) ≡ filter p (map f ks)
+filter_of_bucket p f bucket b [] inside = refl
+filter_of_bucket p f bucket b (k ∷ ks) inside =
+    ⊎_elim
+    (λ yes. ap (λ xs. filter p (map f xs)) (filter-yes (λ x. bucket x == b) k ks yes)
+    ∙ ⊎_elim
+    (λ passes. filter-yes p (f k) (map f (in_bucket bucket b ks)) passes ∙ ap (λ xs. f k ∷ xs) (filter_of_bucket p f bucket b ks inside) ∙ sym (filter-yes p (f k) (map f ks) passes))
+    (λ fails. filter-no p (f k) (map f (in_bucket bucket b ks)) fails ∙ filter_of_bucket p f bucket b ks inside ∙ sym (filter-no p (f k) (map f ks) fails))
+    (either (p (f k))))
+    (λ no. ap (λ xs. filter p (map f xs)) (filter-no (λ x. bucket x == b) k ks no) ∙ filter_of_bucket p f bucket b ks inside
+    ∙ sym (filter-no p (f k) (map f ks) (⊎_elim (λ passes. absurd (let yes = (Decides-eqb (bucket k) b).1 (inside k passes) in let f : (bucket k == b) ≡ false = no in cc)) (λ fails. fails) (either (p (f k))))))
+    (either (bucket k == b))
+
+seconds : (heads : ℕ) (slots : Slab Request) (ks : List ℕ) → map (λ (p : ℕ × Request). p.1) (map (pair_at heads slots) ks) ≡ requests_in slots ks
+seconds heads slots [] = refl
+seconds heads slots (k ∷ ks) = ap (λ xs. request_at slots k ∷ xs) (seconds heads slots ks)
+
+length-in_bucket : (bucket : ℕ → ℕ) (b : ℕ) (ks : List ℕ) → length (in_bucket bucket b ks) ≤ length ks
+length-in_bucket bucket b ks = length-filter_most (λ k. bucket k == b) ks
+
+-- the nodes of the bucket of a head
+pub queue_walk : (heads : ℕ) (slots : Slab Request) (queues lists : List Link) (ks : List ℕ) (b : ℕ) → IsThreaded heads slots queues lists ks → b < heads
+    → pairs_from (slab_len slots) slots queues heads b (after_at queues b) ≡ map (pair_at heads slots) (in_bucket (queue_of heads slots) b ks)
+queue_walk heads slots queues lists ks b threaded small =
+    walk_is (slab_len slots) slots queues heads b (in_bucket (queue_of heads slots) b ks) b (threaded.queues_hold b small).way small
+    (λ k h. threaded.there k (in_filter (λ x. queue_of heads slots x == b) ks k h).0)
+    (let most = length-in_bucket (queue_of heads slots) b ks in let n = threaded.count in omega arith)
+
+pub list_walk : (heads : ℕ) (slots : Slab Request) (queues lists : List Link) (ks : List ℕ) (b : ℕ) → IsThreaded heads slots queues lists ks → b < heads
+    → pairs_from (slab_len slots) slots lists heads b (after_at lists b) ≡ map (pair_at heads slots) (in_bucket (list_of heads slots) b ks)
+list_walk heads slots queues lists ks b threaded small =
+    walk_is (slab_len slots) slots lists heads b (in_bucket (list_of heads slots) b ks) b (threaded.lists_hold b small).way small
+    (λ k h. threaded.there k (in_filter (λ x. list_of heads slots x == b) ks k h).0)
+    (let most = length-in_bucket (list_of heads slots) b ks in let n = threaded.count in omega arith)
+
+-- .. have the requests for each of its granules, and of each of its transactions
+pub queue_requests : (heads : ℕ) (slots : Slab Request) (queues lists : List Link) (ks : List ℕ) (g : Granule) → IsThreaded heads slots queues lists ks → granule_number g % heads < heads
+    → requests_at g (map (λ (p : ℕ × Request). p.1) (pairs_from (slab_len slots) slots queues heads (granule_number g % heads) (after_at queues (granule_number g % heads)))) ≡ requests_at g (requests_in slots ks)
+queue_requests heads slots queues lists ks g threaded small =
+    ap (λ xs. requests_at g (map (λ (p : ℕ × Request). p.1) xs)) (queue_walk heads slots queues lists ks (granule_number g % heads) threaded small)
+    ∙ ap (requests_at g) (seconds heads slots (in_bucket (queue_of heads slots) (granule_number g % heads) ks))
+    ∙ filter_of_bucket (λ r. same_granule r.granule g) (request_at slots) (queue_of heads slots) (granule_number g % heads) ks
+    (λ k h. ap (λ x. granule_number x % heads) ((same_granule-Decides (request_at slots k).granule g).0 h))
+
+pub list_requests : (heads : ℕ) (slots : Slab Request) (queues lists : List Link) (ks : List ℕ) (t : ℕ) → IsThreaded heads slots queues lists ks → t % heads < heads
+    → requests_by t (map (λ (p : ℕ × Request). p.1) (pairs_from (slab_len slots) slots lists heads (t % heads) (after_at lists (t % heads)))) ≡ requests_by t (requests_in slots ks)
+list_requests heads slots queues lists ks t threaded small =
+    ap (λ xs. requests_by t (map (λ (p : ℕ × Request). p.1) xs)) (list_walk heads slots queues lists ks (t % heads) threaded small)
+    ∙ ap (requests_by t) (seconds heads slots (in_bucket (list_of heads slots) (t % heads) ks))
+    ∙ filter_of_bucket (λ r. r.txn == t) (request_at slots) (list_of heads slots) (t % heads) ks
+    (λ k h. ap (λ u. u % heads) ((Decides-eqb (request_at slots k).txn t).0 h))

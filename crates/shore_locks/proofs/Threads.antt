@@ -6,7 +6,7 @@ use Rattle.std.proofs.lemmas.List.Elements.{filter-append}
 use Rattle.std.proofs.lemmas.Bool.Decides.{Decides-eqb}
 use Rattle.shore_links.specs.declared.rings.Link.{Link}
 use Rattle.shore_links.specs.Rings.{Apart, Distinct, In, IsRing}
-use Rattle.shore_locks.specs.Nodes.{Holds, in_bucket, places, without}
+use Rattle.shore_locks.specs.Nodes.{Holds, LinksIn, LinksOut, in_bucket, places, without}
 use Rattle.shore_locks.proofs.Members as members
 use Rattle.shore_locks.proofs.Members.{either, filter-all, filter-no, filter-none, filter-swap, filter-yes}
 
@@ -84,18 +84,6 @@ parted key (x ∷ xs) d h =
       left = filter-yes (λ k. not (k == key)) x xs (ap not (other_than x key (λ e. d.0 (subst (λ z. In z xs) (sym e) t)))) ∙ ap (λ zs. x ∷ zs) r.left;
     })
     h
-
--- what a link of a place to a head's ring says
-abbrev pub LinksIn : List Link → List Link → ℕ → ℕ → Type 0
-LinksIn links new head place =
-    ((xs : List ℕ) → IsRing links head xs → (In place (head ∷ xs) → ⊥) → IsRing new head (xs ++ place ∷ []))
-    × ((xs ys : List ℕ) (other : ℕ) → IsRing links head xs → IsRing links other ys → (In place (other ∷ ys) → ⊥) → Apart (head ∷ xs) (other ∷ ys) → IsRing new other ys)
-
--- .. and what its unlinking says
-abbrev pub LinksOut : List Link → List Link → ℕ → Type 0
-LinksOut links new place =
-    ((head : ℕ) (xs ys : List ℕ) → IsRing links head (xs ++ place ∷ ys) → IsRing new head (xs ++ ys))
-    × ((head : ℕ) (xs ys : List ℕ) (other : ℕ) (zs : List ℕ) → IsRing links head (xs ++ place ∷ ys) → IsRing links other zs → Apart (head ∷ (xs ++ place ∷ ys)) (other ∷ zs) → IsRing new other zs)
 
 module _ (heads : ℕ) (bucket : ℕ → ℕ) (keys : List ℕ) where
   -- a place of a key that is not there is in no ring

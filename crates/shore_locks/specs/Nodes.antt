@@ -5,7 +5,7 @@ use Rattle.shore_types.specs.declared.locking.Granule.{Granule}
 use Rattle.shore_types.specs.declared.locking.Granule.TheVariants.{Volume, Store, Page, Record}
 use Rattle.shore_model.specs.declared.requests.Request.{Request}
 use Rattle.shore_links.specs.declared.rings.Link.{Link}
-use Rattle.shore_links.specs.Rings.{Distinct, In, IsRing, after_at}
+use Rattle.shore_links.specs.Rings.{Apart, Distinct, In, IsRing, after_at}
 
 -- a number by which a granule finds its bucket
 abbrev pub granule_number : Granule → ℕ
@@ -67,13 +67,25 @@ pub record IsThreaded (heads : ℕ) (slots : Slab Request) (queues lists : List 
   pub queue_heads : heads ≤ length queues
   pub list_heads : heads ≤ length lists
 
--- a node with its key, if it is there, and then the others
+-- a node with its place, if it is there, and then the others
 abbrev pub pair_and : ℕ → Option Request → List (ℕ × Request) → List (ℕ × Request)
-pair_and key None rest = []
-pair_and key (Some r) rest = (key, r) ∷ rest
+pair_and place None rest = []
+pair_and place (Some r) rest = (place, r) ∷ rest
 
 -- the nodes of a ring from a place on, up to its head, and at most so many
 abbrev pub pairs_from : ℕ → Slab Request → List Link → ℕ → ℕ → ℕ → List (ℕ × Request)
 pairs_from zero slots links heads head place = []
 pairs_from (suc n) slots links heads head place =
-    cond (place == head) [] (pair_and (place - heads) (get slots (place - heads)) (pairs_from n slots links heads head (after_at links place)))
+    cond (place == head) [] (pair_and place (get slots (place - heads)) (pairs_from n slots links heads head (after_at links place)))
+
+-- what a link of a place to a head's ring says
+abbrev pub LinksIn : List Link → List Link → ℕ → ℕ → Type 0
+LinksIn links new head place =
+    ((xs : List ℕ) → IsRing links head xs → (In place (head ∷ xs) → ⊥) → IsRing new head (xs ++ place ∷ []))
+    × ((xs ys : List ℕ) (other : ℕ) → IsRing links head xs → IsRing links other ys → (In place (other ∷ ys) → ⊥) → Apart (head ∷ xs) (other ∷ ys) → IsRing new other ys)
+
+-- .. and what its unlinking says
+abbrev pub LinksOut : List Link → List Link → ℕ → Type 0
+LinksOut links new place =
+    ((head : ℕ) (xs ys : List ℕ) → IsRing links head (xs ++ place ∷ ys) → IsRing new head (xs ++ ys))
+    × ((head : ℕ) (xs ys : List ℕ) (other : ℕ) (zs : List ℕ) → IsRing links head (xs ++ place ∷ ys) → IsRing links other zs → Apart (head ∷ (xs ++ place ∷ ys)) (other ∷ zs) → IsRing new other zs)

@@ -4,6 +4,7 @@
 pub mod answers;
 pub mod laws;
 mod lists;
+mod nodes;
 pub mod queues;
 pub mod table;
 mod walks;

@@ -9,7 +9,7 @@ use shore_model::Request;
 use slab::Slab;
 use std::marker::Model;
 
-/// The nodes of a ring that are left, each with its key.
+/// The nodes of a ring that are left, each with its place.
 #[derive(Drop)]
 pub struct Walk<'a> {
     slots: &'a Slab<Request>,
@@ -59,9 +59,10 @@ impl<'a> Walk<'a> {
         let key = self.place.saturating_sub(self.heads);
         match self.slots.get(key) {
             Some(request) => {
-                self.place = self.rings.after(self.place);
+                let place = self.place;
+                self.place = self.rings.after(place);
                 self.left -= 1;
-                Some((key, *request))
+                Some((place, *request))
             }
             None => None,
         }

@@ -1,0 +1,102 @@
+-- The steps of a list of nodes.
+use Rattle.std.proofs.Common.{◌≡◌, ◌++◌, ◌⊎◌, ◌<◌, ◌≤◌, ◌+◌, ◌-◌, ◌%◌, inl, inr, ⊎_elim, ℕ, suc, List, [], ◌∷◌, Bool, true, false, Option, None, Some, refl, ap, sym, subst, ◌∙◌, length, map, arith}
+use Rattle.std.specs.Prelude.{filter, not, ◌==◌, is_some, find, OnSome}
+use Rattle.std.specs.Option.{option_map}
+use Rattle.std.proofs.lemmas.Bool.Decides.{Decides-eqb}
+use Rattle.slab.specs.Slab.{Slab, Updates, get, slab_len}
+use Rattle.shore_types.specs.declared.locking.Granule.{Granule}
+use Rattle.shore_model.specs.declared.requests.Request.{Request}
+use Rattle.shore_model.specs.Requests.{are_alike, AreRequests, requests_at, requests_by}
+use Rattle.shore_links.specs.declared.rings.Link.{Link}
+use Rattle.shore_links.specs.Rings.{Distinct, In, IsRing, after_at}
+use Rattle.shore_locks.specs.Grants.{removed, replaced}
+use Rattle.shore_locks.specs.Nodes.{IsThreaded, LinksIn, LinksOut, alive, granule_number, in_bucket, list_of, pairs_from, queue_of, request_at, request_or, requests_in, without}
+use Rattle.shore_locks.proofs.AlikeNodes.{FoundNode, found_node, no_node, place_within, removed_is, replaced_is, from_map}
+use Rattle.shore_locks.proofs.Entering.{found_in}
+use Rattle.shore_locks.proofs.Keys.{alike-Decides}
+use Rattle.shore_locks.proofs.Members as members
+use Rattle.shore_locks.proofs.NodeLemmas.{alive_comes, alive_goes, list_requests, list_walk, pair_at, queue_requests, queue_walk, requests_more, requests_same, threaded_less, threaded_more, threaded_set}
+use Rattle.shore_locks.proofs.Others.{removed_none, replaced_none}
+use Rattle.shore_locks.proofs.Threads.{in_filter}
+
+pub mod_small : (n heads : ℕ) → 0 < heads → n % heads < heads
+mod_small n heads some = omega arith
+
+pub on_some : {A : Type 0} (P : Type 0) (o : Option A) → is_some o ≡ true → OnSome o P → P
+on_some P None e h = cc
+on_some P (Some x) e h = h
+
+first_of_found : (o : Option (ℕ × Request)) (place : ℕ) → Some place ≡ option_map (λ (p : ℕ × Request). p.0) o → (node : ℕ × Request) × (o ≡ Some node) × (node.0 ≡ place)
+first_of_found None place e = cc
+first_of_found (Some node) place e = (node, refl, cc)
+
+none_found_by : (o : Option (ℕ × Request)) → None ≡ option_map (λ (p : ℕ × Request). p.0) o → o ≡ None
+none_found_by None e = refl
+none_found_by (Some node) e = cc
+
+-- what a search along a granule's ring comes to
+pub search_found : (heads : ℕ) (slots : Slab Request) (queues lists : List Link) (ks : List ℕ) (r : Request) (head place : ℕ) (walk : List (ℕ × Request)) → IsThreaded heads slots queues lists ks → head ≡ granule_number r.granule % heads
+    → walk ≡ pairs_from (slab_len slots) slots queues heads head (after_at queues head) → Some place ≡ option_map (λ (p : ℕ × Request). p.0) (find (λ (p : ℕ × Request). are_alike p.1 r) walk) → FoundNode heads slots ks r place
+search_found heads slots queues lists ks r head place walk threaded at is e =
+    let small : head < heads = subst (λ b. b < heads) (sym at) (mod_small (granule_number r.granule) heads threaded.some_heads) in
+    let f = first_of_found (find (λ (p : ℕ × Request). are_alike p.1 r) walk) place e in
+    let in_walk : find (λ (p : ℕ × Request). are_alike p.1 r) (map (pair_at heads slots) (in_bucket (queue_of heads slots) head ks)) ≡ Some f.0 =
+        ap (find (λ (p : ℕ × Request). are_alike p.1 r)) (sym (is ∙ queue_walk heads slots queues lists ks head threaded small)) ∙ f.1 in
+    subst (FoundNode heads slots ks r) f.2 (found_node heads slots (queue_of heads slots) head ks r f.0 in_walk)
+
+pub search_none : (heads : ℕ) (slots : Slab Request) (queues lists : List Link) (ks : List ℕ) (r : Request) (head : ℕ) (walk : List (ℕ × Request)) → IsThreaded heads slots queues lists ks → head ≡ granule_number r.granule % heads
+    → walk ≡ pairs_from (slab_len slots) slots queues heads head (after_at queues head) → None ≡ option_map (λ (p : ℕ × Request). p.0) (find (λ (p : ℕ × Request). are_alike p.1 r) walk)
+    → (q : Request) → members.In q (requests_in slots ks) → are_alike q r ≡ false
+search_none heads slots queues lists ks r head walk threaded at is e =
+    let small : head < heads = subst (λ b. b < heads) (sym at) (mod_small (granule_number r.granule) heads threaded.some_heads) in
+    let none : find (λ (p : ℕ × Request). are_alike p.1 r) (map (pair_at heads slots) (in_bucket (queue_of heads slots) head ks)) ≡ None =
+        ap (find (λ (p : ℕ × Request). are_alike p.1 r)) (sym (is ∙ queue_walk heads slots queues lists ks head threaded small)) ∙ none_found_by (find (λ (p : ℕ × Request). are_alike p.1 r) walk) e in
+    no_node heads slots ks r (subst (λ b. find (λ (p : ℕ × Request). are_alike p.1 r) (map (pair_at heads slots) (in_bucket (queue_of heads slots) b ks)) ≡ None) at none)
+
+-- the places of a node that was found are there
+pub found_within : (heads : ℕ) (slots : Slab Request) (queues lists : List Link) (ks : List ℕ) (r : Request) (place : ℕ) → IsThreaded heads slots queues lists ks → FoundNode heads slots ks r place → (place < length queues) × (place < length lists)
+found_within heads slots queues lists ks r place threaded node =
+    let w = place_within heads slots queues lists ks node.key threaded node.there (mod_small (granule_number (request_at slots node.key).granule) heads threaded.some_heads) (mod_small (request_at slots node.key).txn heads threaded.some_heads) in
+    (subst (λ p. p < length queues) node.at w.0, subst (λ p. p < length lists) node.at w.1)
+
+key_is : (heads key place : ℕ) → heads + key ≡ place → place - heads ≡ key
+key_is heads key place e = omega arith
+
+module _ (heads : ℕ) (slots : Slab Request) (queues lists : List Link) (events : List (ℕ × Bool)) (r : Request) (place key : ℕ) where
+  pub found_there : IsThreaded heads slots queues lists (alive events) → FoundNode heads slots (alive events) r place → key ≡ place - heads → is_some (get slots key) ≡ true
+  found_there threaded node at = subst (λ k. is_some (get slots k) ≡ true) (sym (at ∙ key_is heads node.key place node.at)) (threaded.there node.key node.there)
+
+  -- the node goes
+  pub less_threaded : (new : Slab Request) (queues_now lists_now : List Link) (now : List (ℕ × Bool)) → IsThreaded heads slots queues lists (alive events) → FoundNode heads slots (alive events) r place → key ≡ place - heads
+      → Updates slots new key None → slab_len new + 1 ≡ slab_len slots → LinksOut queues queues_now place → LinksOut lists lists_now place → length queues_now ≡ length queues → length lists_now ≡ length lists
+      → now ≡ events ++ (key, false) ∷ [] → IsThreaded heads new queues_now lists_now (alive now)
+  less_threaded new queues_now lists_now now threaded node at updates less out_queue out_list long_queues long_lists goes =
+      let same : key ≡ node.key = at ∙ key_is heads node.key place node.at in
+      subst (IsThreaded heads new queues_now lists_now) (sym (ap alive goes ∙ alive_goes events key ∙ ap (λ k. without k (alive events)) same))
+      (threaded_less heads slots queues lists (alive events) new queues_now lists_now node.key threaded node.there (subst (λ k. Updates slots new k None) same updates) less
+      (subst (LinksOut queues queues_now) (sym node.at) out_queue) (subst (LinksOut lists lists_now) (sym node.at) out_list)
+      (let h = threaded.queue_heads in omega arith) (let h = threaded.list_heads in omega arith)
+      (mod_small (granule_number (request_at slots node.key).granule) heads threaded.some_heads) (mod_small (request_at slots node.key).txn heads threaded.some_heads))
+
+  pub less_requests : (new : Slab Request) (now : List (ℕ × Bool)) → AreRequests (requests_in slots (alive events)) → FoundNode heads slots (alive events) r place → key ≡ place - heads
+      → Updates slots new key None → now ≡ events ++ (key, false) ∷ [] → requests_in new (alive now) ≡ removed r (requests_in slots (alive events))
+  less_requests new now one node at updates goes =
+      let same : key ≡ node.key = at ∙ key_is heads node.key place node.at in
+      ap (requests_in new) (ap alive goes ∙ alive_goes events key)
+      ∙ requests_same slots new (without key (alive events)) (λ k h. updates.others k (λ e. let yes = (Decides-eqb k key).1 e in let kept = (in_filter (λ x. not (x == key)) (alive events) k h).1 in let gone : not (k == key) ≡ false = ap not yes in cc))
+      ∙ ap (λ k. requests_in slots (without k (alive events))) same
+      ∙ sym (removed_is slots (alive events) r one node.key node.there node.alike)
+
+  -- it has another request
+  pub set_threaded : (new : Slab Request) → IsThreaded heads slots queues lists (alive events) → FoundNode heads slots (alive events) r place → key ≡ place - heads → Updates slots new key (Some r) → slab_len new ≡ slab_len slots
+      → IsThreaded heads new queues lists (alive events)
+  set_threaded new threaded node at updates len =
+      let same : key ≡ node.key = at ∙ key_is heads node.key place node.at in
+      let keys = (alike-Decides (request_at slots node.key) r).0 node.alike in
+      threaded_set heads slots queues lists (alive events) new node.key r threaded node.there (subst (λ k. Updates slots new k (Some r)) same updates) len (sym keys.0) (sym keys.1)
+
+  pub set_requests : (new : Slab Request) → AreRequests (requests_in slots (alive events)) → FoundNode heads slots (alive events) r place → key ≡ place - heads → Updates slots new key (Some r)
+      → requests_in new (alive events) ≡ replaced r (requests_in slots (alive events))
+  set_requests new one node at updates =
+      let same : key ≡ node.key = at ∙ key_is heads node.key place node.at in
+      replaced_is slots new (alive events) r one node.key node.there node.alike (subst (λ k. Updates slots new k (Some r)) same updates)
