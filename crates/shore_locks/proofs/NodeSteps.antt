@@ -11,7 +11,7 @@ use Rattle.shore_links.specs.declared.rings.Link.{Link}
 use Rattle.shore_links.specs.Rings.{Distinct, In, IsRing, after_at}
 use Rattle.shore_locks.specs.Grants.{removed, replaced}
 use Rattle.shore_locks.specs.Nodes.{IsThreaded, LinksIn, LinksOut, alive, granule_number, in_bucket, list_of, pairs_from, queue_of, request_at, request_or, requests_in, without}
-use Rattle.shore_locks.proofs.AlikeNodes.{FoundNode, found_node, no_node, place_within, removed_is, replaced_is, from_map}
+use Rattle.shore_locks.proofs.AlikeNodes.{FoundNode, found_node, no_node, place_within, removed_is, replaced_is, threaded_same, threaded_wider}
 use Rattle.shore_locks.proofs.Entering.{found_in}
 use Rattle.shore_locks.proofs.Keys.{alike-Decides}
 use Rattle.shore_locks.proofs.Members as members
@@ -100,3 +100,34 @@ module _ (heads : ℕ) (slots : Slab Request) (queues lists : List Link) (events
   set_requests new one node at updates =
       let same : key ≡ node.key = at ∙ key_is heads node.key place node.at in
       replaced_is slots new (alive events) r one node.key node.there node.alike (subst (λ k. Updates slots new k (Some r)) same updates)
+
+-- room for a node is taken first, in the slab and then in the rings
+module _ (heads : ℕ) (slots reserved : Slab Request) (queues lists : List Link) (ks : List ℕ) where
+  pub reserved_threaded : reserved ≡ record slots { capacity = reserved.capacity } → IsThreaded heads slots queues lists ks → IsThreaded heads reserved queues lists ks
+  reserved_threaded kept threaded = threaded_same heads slots reserved queues lists ks (λ k. ap (λ s. get s k) kept) (ap slab_len kept) threaded
+
+  pub reached_threaded : (queues_now lists_now : List Link) → reserved ≡ record slots { capacity = reserved.capacity } → IsThreaded heads slots queues lists ks
+      → ((head : ℕ) (xs : List ℕ) → IsRing queues head xs → IsRing queues_now head xs) → ((head : ℕ) (xs : List ℕ) → IsRing lists head xs → IsRing lists_now head xs)
+      → length queues ≤ length queues_now → length lists ≤ length lists_now → IsThreaded heads reserved queues_now lists_now ks
+  reached_threaded queues_now lists_now kept threaded more_queues more_lists long_queues long_lists =
+      threaded_wider heads reserved queues lists queues_now lists_now ks more_queues more_lists long_queues long_lists (reserved_threaded kept threaded)
+
+-- a node comes
+pub more_threaded : (heads : ℕ) (slots new : Slab Request) (queues lists queues_now lists_now : List Link) (events now : List (ℕ × Bool)) (r : Request) (key place : ℕ) → IsThreaded heads slots queues lists (alive events)
+    → get slots key ≡ None → place ≡ heads + key → Updates slots new key (Some r) → slab_len new ≡ slab_len slots + 1
+    → LinksIn queues queues_now (granule_number r.granule % heads) place → LinksIn lists lists_now (r.txn % heads) place → length queues_now ≡ length queues → length lists_now ≡ length lists
+    → now ≡ events ++ (key, true) ∷ [] → IsThreaded heads new queues_now lists_now (alive now)
+more_threaded heads slots new queues lists queues_now lists_now events now r key place threaded vacant at updates more in_queue in_list long_queues long_lists comes =
+    subst (IsThreaded heads new queues_now lists_now) (sym (ap alive comes ∙ alive_comes events key))
+    (threaded_more heads slots queues lists (alive events) new queues_now lists_now key r threaded vacant updates more
+    (subst (LinksIn queues queues_now (granule_number r.granule % heads)) at in_queue) (subst (LinksIn lists lists_now (r.txn % heads)) at in_list)
+    (let h = threaded.queue_heads in omega arith) (let h = threaded.list_heads in omega arith)
+    (mod_small (granule_number r.granule) heads threaded.some_heads) (mod_small r.txn heads threaded.some_heads))
+
+pub more_requests : (heads : ℕ) (slots new : Slab Request) (queues lists : List Link) (events now : List (ℕ × Bool)) (r : Request) (key : ℕ) → IsThreaded heads slots queues lists (alive events)
+    → get slots key ≡ None → Updates slots new key (Some r) → now ≡ events ++ (key, true) ∷ [] → requests_in new (alive now) ≡ requests_in slots (alive events) ++ r ∷ []
+more_requests heads slots new queues lists events now r key threaded vacant updates comes =
+    ap (requests_in new) (ap alive comes ∙ alive_comes events key) ∙ requests_more heads slots queues lists (alive events) new key r threaded vacant updates
+
+pub requests_reserved : (slots reserved : Slab Request) (ks : List ℕ) → reserved ≡ record slots { capacity = reserved.capacity } → requests_in reserved ks ≡ requests_in slots ks
+requests_reserved slots reserved ks kept = requests_same slots reserved ks (λ k h. ap (λ s. get s k) kept)
