@@ -19,7 +19,7 @@ use Rattle.shore_locks.proofs.NodeLemmas.{pair_at}
 use Rattle.shore_locks.proofs.Others.{removed_none, replaced_none}
 use Rattle.shore_locks.proofs.Threads.{filter_in, holds_same, in_filter, from_member, to_member}
 
-in_map : {A : Type 0} (f : ℕ → A) (ks : List ℕ) (k : ℕ) → In k ks → members.In (f k) (map f ks)
+pub in_map : {A : Type 0} (f : ℕ → A) (ks : List ℕ) (k : ℕ) → In k ks → members.In (f k) (map f ks)
 in_map f [] k h = absurd h
 in_map f (x ∷ xs) k h = ⊎_elim (λ e. inl (ap f e)) (λ t. inr (in_map f xs k t)) h
 

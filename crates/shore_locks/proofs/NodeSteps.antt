@@ -1,6 +1,7 @@
 -- The steps of a list of nodes.
 use Rattle.std.proofs.Common.{◌≡◌, ◌++◌, ◌⊎◌, ◌<◌, ◌≤◌, ◌+◌, ◌-◌, ◌%◌, inl, inr, ⊎_elim, ℕ, suc, List, [], ◌∷◌, Bool, true, false, Option, None, Some, refl, ap, sym, subst, ◌∙◌, length, map, arith}
-use Rattle.std.specs.Prelude.{filter, not, ◌==◌, is_some, find, OnSome}
+use Rattle.std.specs.Prelude.{filter, not, ◌==◌, is_some, find, slice_get, OnSome}
+use Rattle.std.specs.List.{list_any}
 use Rattle.std.specs.Option.{option_map}
 use Rattle.std.proofs.lemmas.Bool.Decides.{Decides-eqb}
 use Rattle.slab.specs.Slab.{Slab, Updates, get, slab_len}
@@ -11,9 +12,10 @@ use Rattle.shore_links.specs.declared.rings.Link.{Link}
 use Rattle.shore_links.specs.Rings.{Distinct, In, IsRing, after_at}
 use Rattle.shore_locks.specs.Grants.{removed, replaced}
 use Rattle.shore_locks.specs.Nodes.{IsThreaded, LinksIn, LinksOut, alive, granule_number, in_bucket, list_of, pairs_from, queue_of, request_at, request_or, requests_in, without}
-use Rattle.shore_locks.proofs.AlikeNodes.{FoundNode, found_node, no_node, place_within, removed_is, replaced_is, threaded_same, threaded_wider}
+use Rattle.shore_locks.proofs.AlikeNodes.{FoundNode, found_node, from_map, in_map, no_node, place_within, removed_is, replaced_is, threaded_same, threaded_wider}
 use Rattle.shore_locks.proofs.Entering.{found_in}
-use Rattle.shore_locks.proofs.Keys.{alike-Decides}
+use Rattle.shore_locks.proofs.Fits.{any_of, found_any}
+use Rattle.shore_locks.proofs.Keys.{alike-Decides, alike-self}
 use Rattle.shore_locks.proofs.Members as members
 use Rattle.shore_locks.proofs.NodeLemmas.{alive_comes, alive_goes, list_requests, list_walk, pair_at, queue_requests, queue_walk, requests_more, requests_same, threaded_less, threaded_more, threaded_set}
 use Rattle.shore_locks.proofs.Others.{removed_none, replaced_none}
@@ -131,3 +133,67 @@ more_requests heads slots new queues lists events now r key threaded vacant upda
 
 pub requests_reserved : (slots reserved : Slab Request) (ks : List ℕ) → reserved ≡ record slots { capacity = reserved.capacity } → requests_in reserved ks ≡ requests_in slots ks
 requests_reserved slots reserved ks kept = requests_same slots reserved ks (λ k h. ap (λ s. get s k) kept)
+
+-- the first of those that pass is the one found
+found_first : {A : Type 0} (p : A → Bool) (xs : List A) → find p xs ≡ slice_get (filter p xs) 0
+found_first p [] = refl
+found_first p (x ∷ xs) = ⊎_elim (λ yes. rw yes refl) (λ no. rw no (found_first p xs)) (members.either (p x))
+
+found_second : (p : Request → Bool) (nodes : List (ℕ × Request)) (node : ℕ × Request) → Some node ≡ find (λ (n : ℕ × Request). p n.1) nodes → find p (map (λ (n : ℕ × Request). n.1) nodes) ≡ Some node.1
+found_second p [] node e = cc
+found_second p (x ∷ xs) node e =
+    ⊎_elim
+    (λ yes. let same : Some node ≡ Some x = rw yes at e in let it : node ≡ x = cc in rw yes (ap Some (ap (λ (n : ℕ × Request). n.1) (sym it))))
+    (λ no. let there : Some node ≡ find (λ (n : ℕ × Request). p n.1) xs = rw no at e in rw no (found_second p xs node there))
+    (members.either (p x.1))
+
+none_second : (p : Request → Bool) (nodes : List (ℕ × Request)) → None ≡ find (λ (n : ℕ × Request). p n.1) nodes → find p (map (λ (n : ℕ × Request). n.1) nodes) ≡ None
+none_second p [] e = refl
+none_second p (x ∷ xs) e =
+    ⊎_elim
+    (λ yes. absurd (let same : None ≡ Some x = rw yes at e in cc))
+    (λ no. let there : None ≡ find (λ (n : ℕ × Request). p n.1) xs = rw no at e in rw no (none_second p xs there))
+    (members.either (p x.1))
+
+module _ (heads : ℕ) (slots : Slab Request) (queues lists : List Link) (ks : List ℕ) (t head : ℕ) (walk : List (ℕ × Request)) where
+  list_of_walk : IsThreaded heads slots queues lists ks → head ≡ t % heads → walk ≡ pairs_from (slab_len slots) slots lists heads head (after_at lists head) → requests_by t (map (λ (n : ℕ × Request). n.1) walk) ≡ requests_by t (requests_in slots ks)
+  list_of_walk threaded at is =
+      ap (λ w. requests_by t (map (λ (n : ℕ × Request). n.1) w)) (is ∙ ap (λ b. pairs_from (slab_len slots) slots lists heads b (after_at lists b)) at)
+      ∙ list_requests heads slots queues lists ks t threaded (mod_small t heads threaded.some_heads)
+
+  -- the first node of a transaction has its first request
+  pub first_request : (node : ℕ × Request) → IsThreaded heads slots queues lists ks → head ≡ t % heads → walk ≡ pairs_from (slab_len slots) slots lists heads head (after_at lists head) → Some node ≡ find (λ (p : ℕ × Request). p.1.txn == t) walk
+      → Some node.1 ≡ slice_get (requests_by t (requests_in slots ks)) 0
+  first_request node threaded at is e =
+      sym (ap (λ xs. slice_get xs 0) (sym (list_of_walk threaded at is)) ∙ sym (found_first (λ r. r.txn == t) (map (λ (n : ℕ × Request). n.1) walk)) ∙ found_second (λ r. r.txn == t) walk node e)
+
+  pub no_request : IsThreaded heads slots queues lists ks → head ≡ t % heads → walk ≡ pairs_from (slab_len slots) slots lists heads head (after_at lists head) → None ≡ find (λ (p : ℕ × Request). p.1.txn == t) walk
+      → None ≡ slice_get (requests_by t (requests_in slots ks)) 0
+  no_request threaded at is e =
+      sym (ap (λ xs. slice_get xs 0) (sym (list_of_walk threaded at is)) ∙ sym (found_first (λ r. r.txn == t) (map (λ (n : ℕ × Request). n.1) walk)) ∙ none_second (λ r. r.txn == t) walk e)
+
+  -- .. and is a node of that request
+  pub first_node : (node : ℕ × Request) → IsThreaded heads slots queues lists ks → head ≡ t % heads → walk ≡ pairs_from (slab_len slots) slots lists heads head (after_at lists head) → Some node ≡ find (λ (p : ℕ × Request). p.1.txn == t) walk
+      → FoundNode heads slots ks node.1 node.0
+  first_node node threaded at is e =
+      let small : head < heads = subst (λ b. b < heads) (sym at) (mod_small t heads threaded.some_heads) in
+      let in_walk : find (λ (p : ℕ × Request). p.1.txn == t) (map (pair_at heads slots) (in_bucket (list_of heads slots) head ks)) ≡ Some node =
+          ap (find (λ (p : ℕ × Request). p.1.txn == t)) (sym (is ∙ list_walk heads slots queues lists ks head threaded small)) ∙ sym e in
+      let f = found_in (λ (p : ℕ × Request). p.1.txn == t) (map (pair_at heads slots) (in_bucket (list_of heads slots) head ks)) node in_walk in
+      let m = from_map (pair_at heads slots) (in_bucket (list_of heads slots) head ks) node f.0 in
+      record {
+        key = m.0;
+        at = ap (λ (p : ℕ × Request). p.0) m.2;
+        there = (in_filter (λ k. list_of heads slots k == head) ks m.0 m.1).0;
+        alike = ap (λ (p : ℕ × Request). are_alike p.1 node.1) m.2 ∙ alike-self node.1;
+      }
+
+pub place_is : (heads key place : ℕ) → heads + key ≡ place → place ≡ heads + (place - heads)
+place_is heads key place e = omega arith
+
+pub node_any : (heads : ℕ) (slots : Slab Request) (ks : List ℕ) (r : Request) (place : ℕ) → FoundNode heads slots ks r place → list_any (λ q. are_alike q r) (requests_in slots ks) ≡ true
+node_any heads slots ks r place node = any_of (λ q. are_alike q r) (requests_in slots ks) (request_at slots node.key) (in_map (request_at slots) ks node.key node.there) node.alike
+
+pub none_of_any : (p : Request → Bool) (rs : List Request) → ((q : Request) → members.In q rs → p q ≡ false) → list_any p rs ≡ false
+none_of_any p rs none =
+    ⊎_elim (λ yes. absurd (let f = found_any p rs yes in let g = none f.0 f.1 in let h = f.2 in cc)) (λ no. no) (members.either (list_any p rs))

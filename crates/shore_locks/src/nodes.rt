@@ -1,6 +1,7 @@
 //! Requests as nodes of a slab. Each has four links: two in the ring of its granule's bucket, and two in that of its
 //! transaction's. A bucket is found by a number, so a queue and a transaction's list are found in constant expected time.
-ghost use Rattle.std.specs.Prelude.{◌≡◌, ◌<◌, ◌≤◌, ◌+◌, ◌*◌, ◌^◌, ◌%◌, ◌==◌, ◌++◌, ◌∷◌, [], ℕ, List, None, Some, IfOk, OnOk, OnErr, MatchOption, find, is_some, length, true, map, slice_get};
+ghost use Rattle.std.specs.Prelude.{◌≡◌, ◌<◌, ◌≤◌, ◌+◌, ◌*◌, ◌^◌, ◌%◌, ◌==◌, ◌++◌, ◌∷◌, [], ℕ, List, None, Some, IfOk, OnOk, OnErr, MatchBool, MatchOption, false, find, is_some, length, true, map, slice_get};
+ghost use Rattle.std.specs.List.{list_any};
 ghost use Rattle.std.specs.Option.{option_map};
 ghost use Rattle.shore_model.specs.Requests.{AreRequests, are_alike, placed_last, requests_at, requests_by};
 ghost use Rattle.shore_model.specs.declared.requests.Request.{Request};
@@ -107,6 +108,55 @@ impl Nodes {
             self.slots.try_remove(key);
             self.history = self.history.and(&key, &false);
         }
+    }
+
+    /// Moves the request of its transaction for its granule last, as this one, which takes no memory. The answer is whether it
+    /// was there.
+    pub fn move_last(&mut self, request: &Request) -> bool
+        requires { AreRequests self.old }
+        ensures { MatchBool result ((list_any (λ q. are_alike q request.now) self.old ≡ true) × (self.new ≡ placed_last request.now self.old)) ((list_any (λ q. are_alike q request.now) self.old ≡ false) × (self.new ≡ self.old)) }
+    {
+        let head = queue_head(&request.granule, self.heads);
+        let walk = Walk::new(&self.slots, &self.queues, self.heads, head);
+        match find_node(walk, request) {
+            Some(place) => {
+                let key = place.saturating_sub(self.heads);
+                unthread(&mut self.queues, &mut self.lists, place);
+                self.slots.try_remove(key);
+                let gone = self.history.and(&key, &false);
+                thread(&mut self.queues, &mut self.lists, self.heads, place, request);
+                insert(&mut self.slots, request);
+                self.history = gone.and(&key, &true);
+                true
+            }
+            None => false,
+        }
+    }
+
+    /// Takes out the first request of a transaction.
+    pub fn pop_first(&mut self, txn: TxnId) -> Option<Request>
+        requires { AreRequests self.old }
+        ensures { MatchOption result ((None ≡ slice_get (requests_by txn self.old) 0) × (self.new ≡ self.old)) (λ r. (Some r ≡ slice_get (requests_by txn self.old) 0) × (self.new ≡ removed r self.old)) }
+    {
+        let head = list_head(txn, self.heads);
+        let walk = Walk::new(&self.slots, &self.lists, self.heads, head);
+        match first_of(walk, txn) {
+            Some((place, request)) => {
+                let key = place.saturating_sub(self.heads);
+                unthread(&mut self.queues, &mut self.lists, place);
+                self.slots.try_remove(key);
+                self.history = self.history.and(&key, &false);
+                Some(request)
+            }
+            None => None,
+        }
+    }
+
+    /// How many requests there are.
+    pub fn len(&self) -> usize
+        ensures { result ≡ length self.now }
+    {
+        self.slots.len()
     }
 
     /// Puts a request in the place of the one of its transaction for its granule.
