@@ -15,3 +15,4 @@ mod Threads
 mod NodeLemmas
 mod AlikeNodes
 mod NodeSteps
+mod Buckets

@@ -3,9 +3,11 @@
 
 pub mod answers;
 pub mod laws;
+mod judgements;
 mod lists;
 mod nodes;
 pub mod queues;
+mod searches;
 pub mod table;
 mod walks;
 #[cfg(test)]
