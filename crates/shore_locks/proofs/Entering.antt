@@ -1,5 +1,5 @@
 -- A transaction's request comes into the list: it begins to wait, or it is granted at once.
-use Rattle.std.proofs.Common.{◌≡◌, ◌⊎◌, inl, inr, ⊎_elim, ℕ, List, [], ◌∷◌, Bool, true, false, Option, None, Some, refl, ap, sym, subst, ◌∙◌}
+use Rattle.std.proofs.Common.{◌++◌, ◌≡◌, ◌⊎◌, inl, inr, ⊎_elim, ℕ, List, [], ◌∷◌, Bool, true, false, Option, None, Some, refl, ap, sym, subst, ◌∙◌}
 use Rattle.std.specs.Prelude.{not, ◌&&◌, ◌||◌, ◌==◌, is_some, find, IsTrue}
 use Rattle.std.specs.List.{list_any}
 use Rattle.std.specs.Option.{option_and_then}
@@ -16,7 +16,7 @@ use Rattle.shore_locks.specs.Orderly.{Rises}
 use Rattle.shore_locks.proofs.Members.{In, either, All-In, In-filter, filter-In, In-append}
 use Rattle.shore_locks.proofs.Keys.{alike-self, same_granule-Decides, only_one, AreRequests-append, AreRequests-replaced}
 use Rattle.shore_locks.proofs.Fits.{Fit, Fit-join, Joins, StandBoth, In-replaced, In-placed, AreRequests-placed, found_any, none_any, stands_as_granted, rises_none, of_use_held, wants_nothing}
-use Rattle.shore_locks.proofs.Others.{put_in_place, put_last}
+use Rattle.shore_locks.proofs.Others.{put_in_place, put_last, removed_none}
 
 pub found_in : {A : Type 0} (p : A → Bool) (xs : List A) (x : A) → find p xs ≡ Some x → In x xs × (p x ≡ true)
 found_in p [] x e = cc
@@ -159,3 +159,12 @@ put_after_removed r rs =
     (λ yes. let f = found_any (λ q. are_alike q r) (removed r rs) yes in
     let gone = (In-filter (λ q. not (are_alike q r)) rs f.0 f.1).1 in absurd (let here : not (are_alike f.0 r) ≡ false = ap not f.2 in cc))
     (λ no. no) (either (list_any (λ q. are_alike q r) (removed r rs))))
+
+-- one is found exactly where some pass
+pub found_any_same : {A : Type 0} (p : A → Bool) (xs : List A) → is_some (find p xs) ≡ list_any p xs
+found_any_same p [] = refl
+found_any_same p (x ∷ xs) = ⊎_elim (λ yes. rw yes refl) (λ no. rw no (found_any_same p xs)) (either (p x))
+
+-- where none is alike, one placed last comes last
+pub placed_new : (r : Request) (rs : List Request) → list_any (λ q. are_alike q r) rs ≡ false → rs ++ r ∷ [] ≡ placed_last r rs
+placed_new r rs none = ap (λ xs. xs ++ r ∷ []) (sym (removed_none r rs (λ q h. none_any (λ x. are_alike x r) rs none q h)))

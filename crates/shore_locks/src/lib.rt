@@ -4,7 +4,7 @@
 pub mod answers;
 pub mod laws;
 mod judgements;
-mod lists;
+mod changes;
 mod nodes;
 pub mod queues;
 mod searches;

@@ -1,11 +1,14 @@
 //! The queue of a granule, one request after another.
-ghost use Rattle.std.specs.Prelude.{◌≡◌, ◌∷◌, ◌++◌, [], MatchOption, filter};
+ghost use Rattle.std.specs.Prelude.{◌≡◌, ◌∷◌, ◌++◌, ◌&&◌, [], MatchOption, filter};
 ghost use Rattle.std.specs.Iterator.{YieldsFirst, item_count};
+ghost use Rattle.shore_types.specs.Locking.{same_granule};
 ghost use Rattle.shore_model.specs.Requests.{is_in_group, requests_at};
 ghost use Rattle.shore_model.specs.declared.requests.Group.TheVariants.{Holders as HoldersGroup, Conversions, NewWaiters};
 ghost use Rattle.shore_locks.specs.Tables.{holders_at, waiters_at};
 
-use crate::lists;
+use crate::judgements::is_in;
+use crate::nodes::Nodes;
+use crate::walks::Walk;
 use shore_model::Request;
 use shore_model::requests::Group;
 use shore_types::Granule;
@@ -14,27 +17,27 @@ use std::marker::Model;
 /// The requests of one group of a granule's queue that are left.
 #[derive(Drop)]
 struct InGroup<'a> {
-    rest: &'a [Request],
+    walk: Walk<'a>,
     granule: Granule,
     group: Group,
 }
 
 impl<'a> Model for InGroup<'a> {
-    ghost use Rattle.std.specs.Prelude.{List, filter};
+    ghost use Rattle.std.specs.Prelude.{ℕ, List, filter, map};
     ghost use Rattle.shore_model.specs.declared.requests.Request.{Request};
     ghost use Rattle.shore_model.specs.Requests.{is_in_group, requests_at};
 
     ghost Value = { List Request };
 
-    ghost view = { λ g. filter (is_in_group g.group) (requests_at g.granule g.rest.now) };
+    ghost view = { λ g. filter (is_in_group g.group) (requests_at g.granule (map (λ (p : ℕ × Request). p.1) g.walk)) };
 }
 
 impl<'a> InGroup<'a> {
-    fn new(requests: &'a [Request], granule: &Granule, group: Group) -> InGroup<'a>
-        ensures { result ≡ filter (is_in_group group) (requests_at granule.now requests.now) }
+    fn new(nodes: &'a Nodes, granule: &Granule, group: Group) -> InGroup<'a>
+        ensures { result ≡ filter (is_in_group group) (requests_at granule.now nodes.now) }
     {
         InGroup {
-            rest: requests,
+            walk: nodes.queue(granule),
             granule: *granule,
             group,
         }
@@ -43,14 +46,19 @@ impl<'a> InGroup<'a> {
     fn advance(&mut self) -> Option<Request>
         ensures { MatchOption result ((self.old ≡ []) × (self.new ≡ [])) (λ r. self.old ≡ r ∷ self.new) }
     {
-        match lists::first_and_rest(self.rest, &self.granule, self.group) {
-            Some((request, rest)) => {
-                self.rest = rest;
-                Some(request)
+        while let Some((_, request)) = self.walk.advance() {
+            if is_for_group(&request, &self.granule, self.group) {
+                return Some(request);
             }
-            None => None,
         }
+        None
     }
+}
+
+fn is_for_group(request: &Request, granule: &Granule, group: Group) -> bool
+    ensures { result ≡ (same_granule request.now.granule granule.now && is_in_group group request.now) }
+{
+    request.granule == *granule && is_in(request, group)
 }
 
 /// Those that hold a granule and want nothing, in the order of its queue.
@@ -69,11 +77,11 @@ impl<'a> Model for Holders<'a> {
 }
 
 impl<'a> Holders<'a> {
-    pub(crate) fn new(requests: &'a [Request], granule: Granule) -> Holders<'a>
-        ensures { result ≡ holders_at granule requests.now }
+    pub(crate) fn new(nodes: &'a Nodes, granule: Granule) -> Holders<'a>
+        ensures { result ≡ holders_at granule nodes.now }
     {
         Holders {
-            left: InGroup::new(requests, &granule, Group::Holders),
+            left: InGroup::new(nodes, &granule, Group::Holders),
         }
     }
 }
@@ -107,12 +115,12 @@ impl<'a> Model for Waiters<'a> {
 }
 
 impl<'a> Waiters<'a> {
-    pub(crate) fn new(requests: &'a [Request], granule: Granule) -> Waiters<'a>
-        ensures { result ≡ waiters_at granule requests.now }
+    pub(crate) fn new(nodes: &'a Nodes, granule: Granule) -> Waiters<'a>
+        ensures { result ≡ waiters_at granule nodes.now }
     {
         Waiters {
-            conversions: InGroup::new(requests, &granule, Group::Conversions),
-            new: InGroup::new(requests, &granule, Group::NewWaiters),
+            conversions: InGroup::new(nodes, &granule, Group::Conversions),
+            new: InGroup::new(nodes, &granule, Group::NewWaiters),
         }
     }
 }

@@ -8,18 +8,21 @@ ghost use Rattle.shore_locks.specs.Tables.{holders_at, is_waiting, mode_held, wa
 ghost use Rattle.shore_locks.specs.Orderly.{IsOrderly};
 
 use crate::answers::{Requested, Tried};
-use crate::lists;
+use crate::changes;
+use crate::judgements::is_enough;
+use crate::nodes::Nodes;
 use crate::queues::{Holders, Waiters};
+use crate::searches;
 use shore_model::Request;
 use shore_types::{Fault, Granule, Mode, TxnId};
 use std::alloc::{AllocError, Global};
 use std::marker::Model;
 
 /// What each transaction holds and wants of each granule. One node stands for each pair of the two.
-#[derive(Debug, Drop)]
+#[derive(Drop)]
 pub struct LockTable {
     limit: usize,
-    requests: Vec<Request>,
+    nodes: Nodes,
 }
 
 impl Model for LockTable {
@@ -30,9 +33,9 @@ impl Model for LockTable {
 
     ghost use Rattle.shore_locks.specs.Orderly.{IsKept};
 
-    ghost view = { λ t. record { limit = t.limit; requests = t.requests.items } };
+    ghost view = { λ t. record { limit = t.limit; requests = t.nodes } };
 
-    ghost invariant = { λ t. IsKept t.limit t.requests.items };
+    ghost invariant = { λ t. IsKept t.limit t.nodes };
 }
 
 impl LockTable {
@@ -40,8 +43,9 @@ impl LockTable {
     pub fn new(alloc: Global, limit: usize) -> Result<LockTable, AllocError>
         ensures { IfOk result (λ table. table ≡ record { limit = limit; requests = [] }) }
     {
-        let requests = Vec::with_capacity(alloc, limit)?;
-        Ok(LockTable { limit, requests })
+        let heads = limit.max(1);
+        let nodes = Nodes::new(alloc, heads)?;
+        Ok(LockTable { limit, nodes })
     }
 
     /// How many nodes stand.
@@ -50,42 +54,42 @@ impl LockTable {
         ensures within { length self.now.requests ≤ self.now.limit }
         ensures orderly { IsOrderly self.now.requests }
     {
-        self.requests.len()
+        self.nodes.len()
     }
 
     /// The mode in which a transaction holds a granule.
     pub fn held(&self, txn: TxnId, granule: Granule) -> Option<Mode>
         ensures { result ≡ mode_held txn granule self.now.requests }
     {
-        lists::mode_held(self.requests.as_slice(), txn, &granule)
+        searches::mode_held(&self.nodes, txn, &granule)
     }
 
     /// Whether a transaction waits.
     pub fn is_waiting(&self, txn: TxnId) -> bool
         ensures { result ≡ is_waiting txn self.now.requests }
     {
-        lists::waiting_request(self.requests.as_slice(), txn).is_some()
+        searches::waiting_request(&self.nodes, txn).is_some()
     }
 
     /// The request with which a transaction waits.
     pub fn waiting_request(&self, txn: TxnId) -> Option<Request>
         ensures { result ≡ waiting_request txn self.now.requests }
     {
-        lists::waiting_request(self.requests.as_slice(), txn)
+        searches::waiting_request(&self.nodes, txn)
     }
 
     /// Those that hold a granule and want nothing, in the order of its queue.
     pub fn holders(&self, granule: Granule) -> Holders<'_>
         ensures { result ≡ holders_at granule self.now.requests }
     {
-        Holders::new(&self.requests, granule)
+        Holders::new(&self.nodes, granule)
     }
 
     /// Those that wait for a granule, in the order of its queue: conversions, which hold it too, and then new waiters.
     pub fn waiters(&self, granule: Granule) -> Waiters<'_>
         ensures { result ≡ waiters_at granule self.now.requests }
     {
-        Waiters::new(&self.requests, granule)
+        Waiters::new(&self.nodes, granule)
     }
 
     /// Asks for a granule in a mode, with what the transaction holds of it already. It is granted at once where the transaction
@@ -103,13 +107,12 @@ impl LockTable {
         if self.is_full(txn, &granule) {
             return Ok(Requested::Full);
         }
-        self.requests.reserve(1)?;
-        let request = lists::asking(&self.requests, txn, &granule, mode);
-        if lists::obstacle(&self.requests, &request).is_some() {
-            lists::place_last(&mut self.requests, request);
+        let request = searches::asking(&self.nodes, txn, &granule, mode);
+        if searches::obstacle(&self.nodes, &request).is_some() {
+            changes::place_last(&mut self.nodes, request)?;
             return Ok(Requested::Waiting);
         }
-        lists::grant(&mut self.requests, &request);
+        changes::grant(&mut self.nodes, &request)?;
         Ok(Requested::Granted)
     }
 
@@ -127,34 +130,33 @@ impl LockTable {
         if self.is_full(txn, &granule) {
             return Ok(Tried::Full);
         }
-        let request = lists::asking(&self.requests, txn, &granule, mode);
-        if let Some(other) = lists::obstacle(&self.requests, &request) {
+        let request = searches::asking(&self.nodes, txn, &granule, mode);
+        if let Some(other) = searches::obstacle(&self.nodes, &request) {
             return Ok(Tried::Blocked(other.txn));
         }
-        self.requests.reserve(1)?;
-        lists::grant(&mut self.requests, &request);
+        changes::grant(&mut self.nodes, &request)?;
         Ok(Tried::Granted)
     }
 
     fn has_enough(&self, txn: TxnId, granule: &Granule, mode: Mode) -> bool
         ensures { result ≡ is_enough mode (mode_held txn granule.now self.now.requests) }
     {
-        lists::is_enough(mode, lists::mode_held(&self.requests, txn, granule))
+        is_enough(mode, searches::mode_held(&self.nodes, txn, granule))
     }
 
     fn is_full(&self, txn: TxnId, granule: &Granule) -> bool
         ensures { result ≡ steps.is_full self.now txn granule.now }
     {
-        lists::request_for(&self.requests, txn, granule).is_none()
-            && self.requests.len() >= self.limit
+        searches::request_for(&self.nodes, txn, granule).is_none()
+            && self.nodes.len() >= self.limit
     }
 
     /// A transaction waits no more: what it waited for is given up, and what it holds stays. Those behind it may be granted.
     pub fn cancel(&mut self, txn: TxnId)
         ensures { self.new ≡ record { limit = self.old.limit; requests = cancelled txn self.old.requests } }
     {
-        if let Some(request) = lists::waiting_request(self.requests.as_slice(), txn) {
-            lists::take_back(&mut self.requests, &request);
+        if let Some(request) = searches::waiting_request(&self.nodes, txn) {
+            changes::take_back(&mut self.nodes, &request);
         }
     }
 
@@ -164,6 +166,6 @@ impl LockTable {
         ensures table { self.new ≡ record { limit = self.old.limit; requests = released txn self.old.requests } }
         ensures count { result ≡ length (requests_by txn self.old.requests) }
     {
-        lists::release(&mut self.requests, txn)
+        changes::release(&mut self.nodes, txn)
     }
 }

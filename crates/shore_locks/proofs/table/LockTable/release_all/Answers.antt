@@ -5,4 +5,4 @@ use Rattle.shore_locks.proofs.table.LockTable.release_all.Goals as goal
 
 pub invariant_of-self : goal.invariant_of-self
 invariant_of-self c =
-    subst (IsKept c.self.inside.limit) (sym c.release.ensures.items) (kept_released c.self.inside.limit c.args.txn c.self.inside.requests.items c.self.invariant)
+    subst (IsKept c.self.inside.limit) (sym c.release.ensures.items) (kept_released c.self.inside.limit c.args.txn c.self.inside.nodes c.self.invariant)
