@@ -1,23 +1,20 @@
 -- The node of a request among the nodes.
-use Rattle.std.proofs.Common.{◌≡◌, ◌≢◌, ◌++◌, ◌⊎◌, ◌<◌, ◌≤◌, ◌+◌, ◌-◌, ◌%◌, inl, inr, ⊎_elim, ℕ, zero, suc, List, [], ◌∷◌, Bool, true, false, Option, None, Some, refl, ap, sym, subst, ◌∙◌, length, map, arith}
-use Rattle.std.specs.Prelude.{filter, not, cond, ◌==◌, is_some, find, slice_get, All}
-use Rattle.std.proofs.lemmas.List.{map-append, length_push}
+use Rattle.std.proofs.Common.{◌≡◌, ◌<◌, ◌≤◌, ◌+◌, ◌%◌, inl, inr, ⊎_elim, ℕ, List, [], ◌∷◌, Bool, true, false, None, Some, refl, ap, sym, subst, ◌∙◌, length, map, arith}
+use Rattle.std.specs.Prelude.{filter, not, ◌==◌, is_some, find}
 use Rattle.std.proofs.lemmas.Bool.Decides.{Decides-eqb}
 use Rattle.slab.specs.Slab.{Slab, Updates, get, slab_len}
-use Rattle.shore_types.specs.declared.locking.Granule.{Granule}
 use Rattle.shore_model.specs.declared.requests.Request.{Request}
-use Rattle.shore_model.specs.Requests.{are_alike, AreRequests, placed_last, requests_at, requests_by}
+use Rattle.shore_model.specs.Requests.{are_alike, AreRequests}
 use Rattle.shore_links.specs.declared.rings.Link.{Link}
-use Rattle.shore_links.specs.Rings.{Distinct, In, IsRing}
+use Rattle.shore_links.specs.Rings.{In, IsRing}
 use Rattle.shore_locks.specs.Grants.{removed, replaced}
-use Rattle.shore_locks.specs.Nodes.{Holds, IsThreaded, in_bucket, places, queue_of, list_of, request_at, request_or, requests_in, without, granule_number}
+use Rattle.shore_locks.specs.Nodes.{IsThreaded, in_bucket, places, queue_of, list_of, request_at, request_or, requests_in, without, granule_number}
 use Rattle.shore_locks.proofs.Entering.{found_in, found_none}
 use Rattle.shore_locks.proofs.Keys.{alike-Decides, alike-swap, alike_by_keys, in_place, in_place-no, in_place-yes}
 use Rattle.shore_locks.proofs.Members as members
 use Rattle.shore_locks.proofs.Members.{either, filter-yes, filter-no, In-All}
 use Rattle.shore_locks.proofs.NodeLemmas.{pair_at}
-use Rattle.shore_locks.proofs.Others.{removed_none, replaced_none}
-use Rattle.shore_locks.proofs.Threads.{filter_in, holds_same, in_filter, from_member, to_member}
+use Rattle.shore_locks.proofs.Threads.{filter_in, holds_same, in_filter, from_member}
 
 pub in_map : {A : Type 0} (f : ℕ → A) (ks : List ℕ) (k : ℕ) → In k ks → members.In (f k) (map f ks)
 in_map f [] k h = absurd h
@@ -110,7 +107,7 @@ no_node heads slots ks r none q h =
     (λ yes.
     let same = ((alike-Decides q r).0 yes).1 in
     let bucket : (queue_of heads slots m.0 == granule_number r.granule % heads) ≡ true =
-        (Decides-eqb (queue_of heads slots m.0) (granule_number r.granule % heads)).1 (ap (λ (x : Request). granule_number x.granule % heads) m.2 ∙ ap (λ g. granule_number g % heads) same) in
+    (Decides-eqb (queue_of heads slots m.0) (granule_number r.granule % heads)).1 (ap (λ (x : Request). granule_number x.granule % heads) m.2 ∙ ap (λ g. granule_number g % heads) same) in
     let there = in_map (pair_at heads slots) (in_bucket (queue_of heads slots) (granule_number r.granule % heads) ks) m.0 (filter_in (λ k. queue_of heads slots k == granule_number r.granule % heads) ks m.0 m.1 bucket) in
     let refuted = found_none (λ (p : ℕ × Request). are_alike p.1 r) (map (pair_at heads slots) (in_bucket (queue_of heads slots) (granule_number r.granule % heads) ks)) none (pair_at heads slots m.0) there in
     let also : are_alike (request_at slots m.0) r ≡ true = ap (λ x. are_alike x r) m.2 ∙ yes in
@@ -122,9 +119,10 @@ no_node heads slots ks r none q h =
 pub place_within : (heads : ℕ) (slots : Slab Request) (queues lists : List Link) (ks : List ℕ) (key : ℕ) → IsThreaded heads slots queues lists ks → In key ks → queue_of heads slots key < heads → list_of heads slots key < heads → (heads + key < length queues) × (heads + key < length lists)
 place_within heads slots queues lists ks key threaded h small_queue small_list =
     let in_places : (bucket : ℕ → ℕ) → In (heads + key) (places heads (in_bucket bucket (bucket key) ks)) = λ bucket.
-        from_member (heads + key) (places heads (in_bucket bucket (bucket key) ks)) (in_map (λ k. heads + k) (in_bucket bucket (bucket key) ks) key (filter_in (λ k. bucket k == bucket key) ks key h ((Decides-eqb (bucket key) (bucket key)).1 refl))) in
-    ((threaded.queues_hold (queue_of heads slots key) small_queue).within (heads + key) (inr (in_places (queue_of heads slots))),
-    (threaded.lists_hold (list_of heads slots key) small_list).within (heads + key) (inr (in_places (list_of heads slots))))
+    from_member (heads + key) (places heads (in_bucket bucket (bucket key) ks)) (in_map (λ k. heads + k) (in_bucket bucket (bucket key) ks) key (filter_in (λ k. bucket k == bucket key) ks key h ((Decides-eqb (bucket key) (bucket key)).1 refl))) in (
+      (threaded.queues_hold (queue_of heads slots key) small_queue).within (heads + key) (inr (in_places (queue_of heads slots))),
+      (threaded.lists_hold (list_of heads slots key) small_list).within (heads + key) (inr (in_places (list_of heads slots))),
+    )
 
 -- nodes that are as they were stay threaded
 pub threaded_same : (heads : ℕ) (slots new : Slab Request) (queues lists : List Link) (ks : List ℕ) → ((k : ℕ) → get new k ≡ get slots k) → slab_len new ≡ slab_len slots → IsThreaded heads slots queues lists ks → IsThreaded heads new queues lists ks

@@ -1,22 +1,20 @@
 -- Nodes come, go and change.
-use Rattle.std.proofs.Common.{◌≡◌, ◌≢◌, ◌++◌, ◌⊎◌, ◌<◌, ◌≤◌, ◌+◌, ◌-◌, ◌%◌, inl, inr, ⊎_elim, ℕ, zero, suc, List, [], ◌∷◌, Bool, true, false, Option, None, Some, refl, ap, sym, subst, ◌∙◌, length, map, arith}
-use Rattle.std.specs.Prelude.{filter, not, cond, ◌==◌, is_some, find}
+use Rattle.std.proofs.Common.{◌≡◌, ◌++◌, ◌<◌, ◌≤◌, ◌+◌, ◌-◌, ◌%◌, inl, inr, ⊎_elim, ℕ, zero, suc, List, [], ◌∷◌, Bool, true, false, Option, None, Some, refl, ap, sym, subst, ◌∙◌, length, map, arith}
+use Rattle.std.specs.Prelude.{filter, not, cond, ◌==◌, is_some}
 use Rattle.std.proofs.lemmas.List.{map-append, length_push}
-use Rattle.std.proofs.lemmas.List.Elements.{filter-append}
 use Rattle.std.proofs.lemmas.Bool.Decides.{Decides-eqb}
 use Rattle.slab.specs.Slab.{Slab, Updates, get, slab_len}
 use Rattle.shore_types.specs.declared.locking.Granule.{Granule}
 use Rattle.shore_types.specs.Locking.{same_granule}
 use Rattle.shore_model.specs.declared.requests.Request.{Request}
-use Rattle.shore_model.specs.Requests.{are_alike, AreRequests, placed_last, requests_at, requests_by}
+use Rattle.shore_model.specs.Requests.{requests_at, requests_by}
 use Rattle.shore_links.specs.declared.rings.Link.{Link}
-use Rattle.shore_links.specs.Rings.{Distinct, In, IsRing, Way, after_at, before_at}
-use Rattle.shore_locks.specs.Grants.{removed, replaced}
-use Rattle.shore_locks.specs.Nodes.{Holds, IsThreaded, LinksIn, LinksOut, alive, granule_number, in_bucket, left_after, list_of, pair_and, pairs_from, places, queue_of, request_at, request_or, requests_in, without}
+use Rattle.shore_links.specs.Rings.{Distinct, In, Way, after_at, before_at}
+use Rattle.shore_locks.specs.Nodes.{IsThreaded, LinksIn, LinksOut, alive, granule_number, in_bucket, left_after, list_of, pair_and, pairs_from, places, queue_of, request_at, request_or, requests_in, without}
 use Rattle.shore_locks.proofs.Counts.{length-filter_most}
 use Rattle.shore_locks.proofs.Keys.{same_granule-Decides}
 use Rattle.shore_locks.proofs.Members.{either, filter-yes, filter-no}
-use Rattle.shore_locks.proofs.Threads.{distinct_filter, distinct_push, filter_in, holds_less, holds_more, holds_same, in_either, in_filter, in_left, in_right, without_none}
+use Rattle.shore_locks.proofs.Threads.{distinct_filter, distinct_push, holds_less, holds_more, holds_same, in_either, in_filter, without_none}
 
 -- the history of keys
 after_events : (ks : List ℕ) (es : List (ℕ × Bool)) (e : ℕ × Bool) → left_after ks (es ++ e ∷ []) ≡ cond e.1 (left_after ks es ++ e.0 ∷ []) (without e.0 (left_after ks es))
@@ -117,17 +115,17 @@ module _ (heads : ℕ) (slots : Slab Request) (queues lists : List Link) (ks : L
       → r.txn ≡ (request_at slots key).txn → r.granule ≡ (request_at slots key).granule → IsThreaded heads new queues lists ks
   threaded_set new key r threaded in_key updates len by at =
       let same_granules : (k : ℕ) → In k ks → queue_of heads slots k ≡ queue_of heads new k = λ k h.
-          ⊎_elim
-          (λ yes. let e = (Decides-eqb k key).0 yes in subst (λ z. queue_of heads slots z ≡ queue_of heads new z) (sym e)
-          (ap (λ g. granule_number g % heads) (sym at) ∙ ap (λ (x : Request). granule_number x.granule % heads) (sym (ap request_or updates.changed))))
-          (λ no. ap (λ (x : Request). granule_number x.granule % heads) (ap request_or (sym (updates.others k (λ e. let yes = (Decides-eqb k key).1 e in let f : (k == key) ≡ false = no in cc)))))
-          (either (k == key)) in
+      ⊎_elim
+      (λ yes. let e = (Decides-eqb k key).0 yes in subst (λ z. queue_of heads slots z ≡ queue_of heads new z) (sym e)
+      (ap (λ g. granule_number g % heads) (sym at) ∙ ap (λ (x : Request). granule_number x.granule % heads) (sym (ap request_or updates.changed))))
+      (λ no. ap (λ (x : Request). granule_number x.granule % heads) (ap request_or (sym (updates.others k (λ e. let yes = (Decides-eqb k key).1 e in let f : (k == key) ≡ false = no in cc)))))
+      (either (k == key)) in
       let same_txns : (k : ℕ) → In k ks → list_of heads slots k ≡ list_of heads new k = λ k h.
-          ⊎_elim
-          (λ yes. let e = (Decides-eqb k key).0 yes in subst (λ z. list_of heads slots z ≡ list_of heads new z) (sym e)
-          (ap (λ t. t % heads) (sym by) ∙ ap (λ (x : Request). x.txn % heads) (sym (ap request_or updates.changed))))
-          (λ no. ap (λ (x : Request). x.txn % heads) (ap request_or (sym (updates.others k (λ e. let yes = (Decides-eqb k key).1 e in let f : (k == key) ≡ false = no in cc)))))
-          (either (k == key)) in
+      ⊎_elim
+      (λ yes. let e = (Decides-eqb k key).0 yes in subst (λ z. list_of heads slots z ≡ list_of heads new z) (sym e)
+      (ap (λ t. t % heads) (sym by) ∙ ap (λ (x : Request). x.txn % heads) (sym (ap request_or updates.changed))))
+      (λ no. ap (λ (x : Request). x.txn % heads) (ap request_or (sym (updates.others k (λ e. let yes = (Decides-eqb k key).1 e in let f : (k == key) ≡ false = no in cc)))))
+      (either (k == key)) in
       record {
         some_heads = threaded.some_heads;
         distinct = threaded.distinct;
@@ -160,7 +158,7 @@ walk_is (suc n) slots links heads head (k ∷ ks) a w small there most =
     let on : (after_at links a == head) ≡ false = ⊎_elim (λ yes. absurd (let e = (Decides-eqb (after_at links a) head).0 yes in let f = w.0.0 in omega (arith, e, f))) (λ no. no) (either (after_at links a == head)) in
     let key : after_at links a - heads ≡ k = let f = w.0.0 in omega (arith, f) in
     let rest : pairs_from n slots links heads head (after_at links (after_at links a)) ≡ map (pair_at heads slots) ks =
-        ap (λ p. pairs_from n slots links heads head (after_at links p)) w.0.0 ∙ walk_is n slots links heads head ks (heads + k) w.1 small (λ x h. there x (inr h)) (omega (arith, most)) in
+    ap (λ p. pairs_from n slots links heads head (after_at links p)) w.0.0 ∙ walk_is n slots links heads head ks (heads + k) w.1 small (λ x h. there x (inr h)) (omega (arith, most)) in
     rw on (there_at heads slots (after_at links a) k (get slots (after_at links a - heads)) (pairs_from n slots links heads head (after_at links (after_at links a))) w.0.0 (ap (λ z. is_some (get slots z)) key ∙ there k (inl refl)) (ap (get slots) (sym key))
     ∙ ap (λ xs. pair_at heads slots k ∷ xs) rest)
 

@@ -1,24 +1,22 @@
 -- The steps of a list of nodes.
-use Rattle.std.proofs.Common.{◌≡◌, ◌++◌, ◌⊎◌, ◌<◌, ◌≤◌, ◌+◌, ◌-◌, ◌%◌, inl, inr, ⊎_elim, ℕ, suc, List, [], ◌∷◌, Bool, true, false, Option, None, Some, refl, ap, sym, subst, ◌∙◌, length, map, arith}
+use Rattle.std.proofs.Common.{◌≡◌, ◌++◌, ◌<◌, ◌≤◌, ◌+◌, ◌-◌, ◌%◌, ⊎_elim, ℕ, List, [], ◌∷◌, Bool, true, false, Option, None, Some, refl, ap, sym, subst, ◌∙◌, length, map, arith}
 use Rattle.std.specs.Prelude.{filter, not, ◌==◌, is_some, find, slice_get, OnSome}
 use Rattle.std.specs.List.{list_any}
 use Rattle.std.specs.Option.{option_map}
 use Rattle.std.proofs.lemmas.Bool.Decides.{Decides-eqb}
 use Rattle.slab.specs.Slab.{Slab, Updates, get, slab_len}
-use Rattle.shore_types.specs.declared.locking.Granule.{Granule}
 use Rattle.shore_model.specs.declared.requests.Request.{Request}
-use Rattle.shore_model.specs.Requests.{are_alike, AreRequests, requests_at, requests_by}
+use Rattle.shore_model.specs.Requests.{are_alike, AreRequests, requests_by}
 use Rattle.shore_links.specs.declared.rings.Link.{Link}
-use Rattle.shore_links.specs.Rings.{Distinct, In, IsRing, after_at}
+use Rattle.shore_links.specs.Rings.{IsRing, after_at}
 use Rattle.shore_locks.specs.Grants.{removed, replaced}
-use Rattle.shore_locks.specs.Nodes.{IsThreaded, LinksIn, LinksOut, alive, granule_number, in_bucket, list_of, pairs_from, queue_of, request_at, request_or, requests_in, without}
+use Rattle.shore_locks.specs.Nodes.{IsThreaded, LinksIn, LinksOut, alive, granule_number, in_bucket, list_of, pairs_from, queue_of, request_at, requests_in, without}
 use Rattle.shore_locks.proofs.AlikeNodes.{FoundNode, found_node, from_map, in_map, no_node, place_within, removed_is, replaced_is, threaded_same, threaded_wider}
 use Rattle.shore_locks.proofs.Entering.{found_in}
 use Rattle.shore_locks.proofs.Fits.{any_of, found_any}
 use Rattle.shore_locks.proofs.Keys.{alike-Decides, alike-self}
 use Rattle.shore_locks.proofs.Members as members
-use Rattle.shore_locks.proofs.NodeLemmas.{alive_comes, alive_goes, list_requests, list_walk, pair_at, queue_requests, queue_walk, requests_more, requests_same, threaded_less, threaded_more, threaded_set}
-use Rattle.shore_locks.proofs.Others.{removed_none, replaced_none}
+use Rattle.shore_locks.proofs.NodeLemmas.{alive_comes, alive_goes, list_requests, list_walk, pair_at, queue_walk, requests_more, requests_same, threaded_less, threaded_more, threaded_set}
 use Rattle.shore_locks.proofs.Threads.{in_filter}
 
 pub mod_small : (n heads : ℕ) → 0 < heads → n % heads < heads
@@ -43,7 +41,7 @@ search_found heads slots queues lists ks r head place walk threaded at is e =
     let small : head < heads = subst (λ b. b < heads) (sym at) (mod_small (granule_number r.granule) heads threaded.some_heads) in
     let f = first_of_found (find (λ (p : ℕ × Request). are_alike p.1 r) walk) place e in
     let in_walk : find (λ (p : ℕ × Request). are_alike p.1 r) (map (pair_at heads slots) (in_bucket (queue_of heads slots) head ks)) ≡ Some f.0 =
-        ap (find (λ (p : ℕ × Request). are_alike p.1 r)) (sym (is ∙ queue_walk heads slots queues lists ks head threaded small)) ∙ f.1 in
+    ap (find (λ (p : ℕ × Request). are_alike p.1 r)) (sym (is ∙ queue_walk heads slots queues lists ks head threaded small)) ∙ f.1 in
     subst (FoundNode heads slots ks r) f.2 (found_node heads slots (queue_of heads slots) head ks r f.0 in_walk)
 
 pub search_none : (heads : ℕ) (slots : Slab Request) (queues lists : List Link) (ks : List ℕ) (r : Request) (head : ℕ) (walk : List (ℕ × Request)) → IsThreaded heads slots queues lists ks → head ≡ granule_number r.granule % heads
@@ -52,7 +50,7 @@ pub search_none : (heads : ℕ) (slots : Slab Request) (queues lists : List Link
 search_none heads slots queues lists ks r head walk threaded at is e =
     let small : head < heads = subst (λ b. b < heads) (sym at) (mod_small (granule_number r.granule) heads threaded.some_heads) in
     let none : find (λ (p : ℕ × Request). are_alike p.1 r) (map (pair_at heads slots) (in_bucket (queue_of heads slots) head ks)) ≡ None =
-        ap (find (λ (p : ℕ × Request). are_alike p.1 r)) (sym (is ∙ queue_walk heads slots queues lists ks head threaded small)) ∙ none_found_by (find (λ (p : ℕ × Request). are_alike p.1 r) walk) e in
+    ap (find (λ (p : ℕ × Request). are_alike p.1 r)) (sym (is ∙ queue_walk heads slots queues lists ks head threaded small)) ∙ none_found_by (find (λ (p : ℕ × Request). are_alike p.1 r) walk) e in
     no_node heads slots ks r (subst (λ b. find (λ (p : ℕ × Request). are_alike p.1 r) (map (pair_at heads slots) (in_bucket (queue_of heads slots) b ks)) ≡ None) at none)
 
 -- the places of a node that was found are there
@@ -178,7 +176,7 @@ module _ (heads : ℕ) (slots : Slab Request) (queues lists : List Link) (ks : L
   first_node node threaded at is e =
       let small : head < heads = subst (λ b. b < heads) (sym at) (mod_small t heads threaded.some_heads) in
       let in_walk : find (λ (p : ℕ × Request). p.1.txn == t) (map (pair_at heads slots) (in_bucket (list_of heads slots) head ks)) ≡ Some node =
-          ap (find (λ (p : ℕ × Request). p.1.txn == t)) (sym (is ∙ list_walk heads slots queues lists ks head threaded small)) ∙ sym e in
+      ap (find (λ (p : ℕ × Request). p.1.txn == t)) (sym (is ∙ list_walk heads slots queues lists ks head threaded small)) ∙ sym e in
       let f = found_in (λ (p : ℕ × Request). p.1.txn == t) (map (pair_at heads slots) (in_bucket (list_of heads slots) head ks)) node in_walk in
       let m = from_map (pair_at heads slots) (in_bucket (list_of heads slots) head ks) node f.0 in
       record {

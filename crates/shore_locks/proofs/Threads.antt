@@ -1,5 +1,5 @@
 -- Rings that hold the keys of buckets: what becomes of them where a key comes or goes.
-use Rattle.std.proofs.Common.{◌≡◌, ◌≢◌, ◌++◌, ◌⊎◌, ◌<◌, ◌≤◌, ◌+◌, inl, inr, ⊎_elim, ℕ, suc, List, [], ◌∷◌, Bool, true, false, refl, ap, sym, subst, ◌∙◌, length, map, arith}
+use Rattle.std.proofs.Common.{◌≡◌, ◌++◌, ◌⊎◌, ◌<◌, ◌+◌, inl, inr, ⊎_elim, ℕ, List, [], ◌∷◌, Bool, true, false, refl, ap, sym, subst, ◌∙◌, arith}
 use Rattle.std.specs.Prelude.{filter, not, ◌==◌}
 use Rattle.std.proofs.lemmas.List.{append-nil, map-append}
 use Rattle.std.proofs.lemmas.List.Elements.{filter-append}
@@ -75,12 +75,16 @@ parted key [] d h = absurd h
 parted key (x ∷ xs) d h =
     ⊎_elim
     (λ e. record {
-      front = []; back = xs; are = ap (λ z. z ∷ xs) e;
+      front = [];
+      back = xs;
+      are = ap (λ z. z ∷ xs) e;
       left = filter-no (λ k. not (k == key)) x xs (ap not (same_number x key e)) ∙ without_none key xs (λ t. d.0 (subst (λ z. In z xs) (sym e) t));
     })
     (λ t. let r = parted key xs d.1 t in
     record {
-      front = x ∷ r.front; back = r.back; are = ap (λ zs. x ∷ zs) r.are;
+      front = x ∷ r.front;
+      back = r.back;
+      are = ap (λ zs. x ∷ zs) r.are;
       left = filter-yes (λ k. not (k == key)) x xs (ap not (other_than x key (λ e. d.0 (subst (λ z. In z xs) (sym e) t)))) ∙ ap (λ zs. x ∷ zs) r.left;
     })
     h
@@ -118,13 +122,13 @@ module _ (heads : ℕ) (bucket : ℕ → ℕ) (keys : List ℕ) where
       (λ yes.
       let at = (Decides-eqb (bucket key) b).0 yes in
       let mine : in_bucket bucket b (keys ++ key ∷ []) ≡ in_bucket bucket b keys ++ key ∷ [] =
-          filter-append (λ k. bucket k == b) keys (key ∷ []) ∙ ap (λ xs. in_bucket bucket b keys ++ xs) (filter-yes (λ k. bucket k == b) key [] yes) in
+      filter-append (λ k. bucket k == b) keys (key ∷ []) ∙ ap (λ xs. in_bucket bucket b keys ++ xs) (filter-yes (λ k. bucket k == b) key [] yes) in
       subst (IsRing new b) (sym (ap (places heads) mine ∙ map-append (λ k. heads + k) (in_bucket bucket b keys) (key ∷ [])))
       (subst (λ h. IsRing new h (places heads (in_bucket bucket h keys) ++ (heads + key) ∷ [])) at
       (links_in.0 (places heads (in_bucket bucket (bucket key) keys)) (holds (bucket key) small) (fresh_place key (bucket key) fresh small))))
       (λ no.
       let others : in_bucket bucket b (keys ++ key ∷ []) ≡ in_bucket bucket b keys =
-          filter-append (λ k. bucket k == b) keys (key ∷ []) ∙ ap (λ xs. in_bucket bucket b keys ++ xs) (filter-no (λ k. bucket k == b) key [] no) ∙ append-nil (in_bucket bucket b keys) in
+      filter-append (λ k. bucket k == b) keys (key ∷ []) ∙ ap (λ xs. in_bucket bucket b keys ++ xs) (filter-no (λ k. bucket k == b) key [] no) ∙ append-nil (in_bucket bucket b keys) in
       subst (IsRing new b) (sym (ap (places heads) others))
       (links_in.1 (places heads (in_bucket bucket (bucket key) keys)) (places heads (in_bucket bucket b keys)) b (holds (bucket key) small) (holds b small_b) (fresh_place key b fresh small_b)
       (rings_apart (bucket key) b small small_b (λ e. let yes = (Decides-eqb (bucket key) b).1 e in let f : (bucket key == b) ≡ false = no in cc))))
@@ -139,15 +143,15 @@ module _ (heads : ℕ) (bucket : ℕ → ℕ) (keys : List ℕ) where
       (λ yes.
       let at = (Decides-eqb (bucket key) b).0 yes in
       let left : in_bucket bucket (bucket key) (without key keys) ≡ mine.front ++ mine.back =
-          filter-swap (λ k. bucket k == bucket key) (λ k. not (k == key)) keys ∙ mine.left in
+      filter-swap (λ k. bucket k == bucket key) (λ k. not (k == key)) keys ∙ mine.left in
       subst (λ h. IsRing new h (places heads (in_bucket bucket h (without key keys)))) at
       (subst (IsRing new (bucket key)) (sym (ap (places heads) left ∙ map-append (λ k. heads + k) mine.front mine.back))
       (links_out.0 (bucket key) (places heads mine.front) (places heads mine.back) ring)))
       (λ no.
       let other : (bucket key ≡ b) → ⊥ = λ e. let yes = (Decides-eqb (bucket key) b).1 e in let f : (bucket key == b) ≡ false = no in cc in
       let same : in_bucket bucket b (without key keys) ≡ in_bucket bucket b keys =
-          filter-swap (λ k. bucket k == b) (λ k. not (k == key)) keys
-          ∙ without_none key (in_bucket bucket b keys) (λ h. other ((Decides-eqb (bucket key) b).0 (in_filter (λ k. bucket k == b) keys key h).1)) in
+      filter-swap (λ k. bucket k == b) (λ k. not (k == key)) keys
+      ∙ without_none key (in_bucket bucket b keys) (λ h. other ((Decides-eqb (bucket key) b).0 (in_filter (λ k. bucket k == b) keys key h).1)) in
       subst (IsRing new b) (sym (ap (places heads) same))
       (links_out.1 (bucket key) (places heads mine.front) (places heads mine.back) b (places heads (in_bucket bucket b keys)) ring (holds b small_b)
       (subst (λ xs. Apart (bucket key ∷ xs) (b ∷ places heads (in_bucket bucket b keys))) (ap (places heads) mine.are ∙ map-append (λ k. heads + k) mine.front (key ∷ mine.back))

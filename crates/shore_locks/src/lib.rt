@@ -2,16 +2,16 @@
 #![tactic(auto)]
 
 pub mod answers;
-pub mod laws;
-mod judgements;
 mod changes;
+mod judgements;
+pub mod laws;
 mod nodes;
 pub mod queues;
 mod searches;
 pub mod table;
-mod walks;
 #[cfg(test)]
 mod tests;
+mod walks;
 
 pub use answers::{Requested, Tried};
 pub use queues::{Holders, Waiters};

@@ -89,7 +89,13 @@ impl Nodes {
         };
         reach(&mut self.queues, place)?;
         reach(&mut self.lists, place)?;
-        thread(&mut self.queues, &mut self.lists, self.heads, place, &request);
+        thread(
+            &mut self.queues,
+            &mut self.lists,
+            self.heads,
+            place,
+            &request,
+        );
         insert(&mut self.slots, &request);
         self.history = self.history.and(&key, &true);
         Ok(())
@@ -124,7 +130,13 @@ impl Nodes {
                 unthread(&mut self.queues, &mut self.lists, place);
                 self.slots.try_remove(key);
                 let gone = self.history.and(&key, &false);
-                thread(&mut self.queues, &mut self.lists, self.heads, place, request);
+                thread(
+                    &mut self.queues,
+                    &mut self.lists,
+                    self.heads,
+                    place,
+                    request,
+                );
                 insert(&mut self.slots, request);
                 self.history = gone.and(&key, &true);
                 true
@@ -186,13 +198,7 @@ fn reach(rings: &mut Rings, place: usize) -> Result<(), AllocError>
 }
 
 // A node goes last in the rings of its two buckets.
-fn thread(
-    queues: &mut Rings,
-    lists: &mut Rings,
-    heads: usize,
-    place: usize,
-    request: &Request,
-)
+fn thread(queues: &mut Rings, lists: &mut Rings, heads: usize, place: usize, request: &Request)
     requires some { 0 < heads }
     requires queue_heads { heads ≤ length queues.old }
     requires list_heads { heads ≤ length lists.old }

@@ -8,11 +8,10 @@ ghost use Rattle.shore_locks.specs.Tables.{holders_at, is_waiting, mode_held, wa
 ghost use Rattle.shore_locks.specs.Orderly.{IsOrderly};
 
 use crate::answers::{Requested, Tried};
-use crate::changes;
 use crate::judgements::is_enough;
 use crate::nodes::Nodes;
 use crate::queues::{Holders, Waiters};
-use crate::searches;
+use crate::{changes, searches};
 use shore_model::Request;
 use shore_types::{Fault, Granule, Mode, TxnId};
 use std::alloc::{AllocError, Global};
@@ -147,8 +146,7 @@ impl LockTable {
     fn is_full(&self, txn: TxnId, granule: &Granule) -> bool
         ensures { result ≡ steps.is_full self.now txn granule.now }
     {
-        searches::request_for(&self.nodes, txn, granule).is_none()
-            && self.nodes.len() >= self.limit
+        searches::request_for(&self.nodes, txn, granule).is_none() && self.nodes.len() >= self.limit
     }
 
     /// A transaction waits no more: what it waited for is given up, and what it holds stays. Those behind it may be granted.

@@ -1,5 +1,4 @@
-use Rattle.std.proofs.Common.{◌≡◌, ◌≤◌, ◌<◌, ◌+◌, ◌==◌, None, [], suc, length, arith, sym, ap, subst, ◌∙◌}
-use Rattle.std.specs.Prelude.{slice_get}
+use Rattle.std.proofs.Common.{◌≡◌, ◌==◌, length, arith, sym, ap, subst, ◌∙◌}
 use Rattle.std.proofs.lemmas.List.{nil_from_length}
 use Rattle.shore_model.specs.Requests.{AreRequests, requests_by}
 use Rattle.shore_locks.specs.Grants.{given_up, passed, released, removed}
@@ -26,7 +25,7 @@ loop-count-preserved c =
     let left = ap (λ xs. length (requests_by c.args.txn xs)) now in (
       subst AreRequests (sym now)
           (AreRequests-passed c.in-Some.request.granule (removed c.in-Some.request c.loop-count.nodes)
-              (AreRequests-removed c.in-Some.request c.loop-count.nodes c.loop-count.invariant.0)),
+          (AreRequests-removed c.in-Some.request c.loop-count.nodes c.loop-count.invariant.0)),
       ap (released c.args.txn) now ∙ release_on c.args.txn c.loop-count.nodes c.in-Some.request c.loop-count.invariant.0 c.in-Some.ensures.0 ∙ c.loop-count.invariant.1,
       omega (arith, fewer, left),
     )

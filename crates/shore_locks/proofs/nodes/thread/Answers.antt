@@ -1,4 +1,4 @@
-use Rattle.std.proofs.Common.{sym, subst}
+use Rattle.std.proofs.Common.{subst}
 use Rattle.shore_locks.specs.Nodes.{LinksIn}
 use Rattle.shore_locks.proofs.nodes.thread.Goals as goal
 

@@ -1,9 +1,6 @@
-use Rattle.std.proofs.Common.{ℕ, map, ap}
-use Rattle.std.specs.Prelude.{filter, slice_get, find}
+use Rattle.std.proofs.Common.{ℕ, map}
 use Rattle.shore_model.specs.declared.requests.Request.{Request}
-use Rattle.shore_model.specs.Requests.{is_in_group}
-use Rattle.shore_locks.specs.Grants.{can_be_granted, is_stopped_by}
-use Rattle.shore_locks.proofs.Buckets.{request_for_same, waiting_same}
+use Rattle.shore_locks.proofs.Buckets.{request_for_same}
 use Rattle.shore_locks.proofs.searches.request_for.Goals as goal
 
 pub loop-request-init : goal.loop-request-init

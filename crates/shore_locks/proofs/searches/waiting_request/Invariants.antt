@@ -1,9 +1,6 @@
 use Rattle.std.proofs.Common.{◌≡◌, ℕ, length, map}
-use Rattle.std.specs.Prelude.{filter, slice_get, find}
 use Rattle.shore_model.specs.declared.requests.Request.{Request}
-use Rattle.shore_model.specs.Requests.{is_in_group, requests_at}
-use Rattle.shore_locks.specs.Tables.{request_for, waiting_request}
-use Rattle.shore_locks.specs.Grants.{can_be_granted, is_stopped_by, obstacle}
+use Rattle.shore_locks.specs.Tables.{waiting_request}
 use Rattle.shore_locks.proofs.searches.waiting_request.Given as goal
 
 abbrev pub invariant-loop-request : goal.invariant-loop-request

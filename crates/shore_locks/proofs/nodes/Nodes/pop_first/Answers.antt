@@ -1,9 +1,9 @@
-use Rattle.std.proofs.Common.{◌≡◌, ◌+◌, Some, None, true, false, refl, sym, ap, subst, ◌∙◌}
+use Rattle.std.proofs.Common.{◌≡◌, ◌+◌, true, refl, sym, ap, subst, ◌∙◌}
 use Rattle.std.specs.Prelude.{is_some, slice_get}
-use Rattle.slab.specs.Slab.{HasRoomFor, slab_len}
+use Rattle.slab.specs.Slab.{slab_len}
 use Rattle.shore_model.specs.Requests.{AreRequests, requests_by}
 use Rattle.shore_locks.specs.Grants.{removed}
-use Rattle.shore_locks.specs.Nodes.{alive, requests_in}
+use Rattle.shore_locks.specs.Nodes.{alive}
 use Rattle.shore_locks.proofs.NodeSteps.{first_node, first_request, found_there, found_within, less_requests, less_threaded, no_request, on_some}
 use Rattle.shore_locks.proofs.nodes.Nodes.pop_first.Goals as goal
 
@@ -26,15 +26,15 @@ pub returns-in-Some : goal.returns-in-Some
 returns-in-Some c =
     let node = first_node c.self.inside.heads c.self.inside.slots c.self.inside.queues c.self.inside.lists (alive c.self.inside.history.items) c.args.txn c.list_head-head.result c.new-walk.result (c.in-Some.place, c.in-Some.request) c.self.invariant c.list_head-head.ensures.is c.new-walk.ensures c.in-Some.ensures in (
       first_request c.self.inside.heads c.self.inside.slots c.self.inside.queues c.self.inside.lists (alive c.self.inside.history.items) c.args.txn c.list_head-head.result c.new-walk.result (c.in-Some.place, c.in-Some.request) c.self.invariant c.list_head-head.ensures.is c.new-walk.ensures c.in-Some.ensures
-      ∙ ap (λ rs. slice_get (requests_by c.args.txn rs) 0) c.self.view_is,
+          ∙ ap (λ rs. slice_get (requests_by c.args.txn rs) 0) c.self.view_is,
       less_requests c.self.inside.heads c.self.inside.slots c.self.inside.queues c.self.inside.lists c.self.inside.history.items c.in-Some.request c.in-Some.place c.saturating_sub-key.result
-      c.try_remove.new.self c.and-self-inside.result.items (subst AreRequests (sym c.self.view_is) c.requires) node c.saturating_sub-key.ensures c.try_remove.ensures.updates c.and-self-inside.ensures
-      ∙ ap (removed c.in-Some.request) c.self.view_is,
+          c.try_remove.new.self c.and-self-inside.result.items (subst AreRequests (sym c.self.view_is) c.requires) node c.saturating_sub-key.ensures c.try_remove.ensures.updates c.and-self-inside.ensures
+          ∙ ap (removed c.in-Some.request) c.self.view_is,
     )
 
 pub returns-in-None : goal.returns-in-None
 returns-in-None c = (
   no_request c.self.inside.heads c.self.inside.slots c.self.inside.queues c.self.inside.lists (alive c.self.inside.history.items) c.args.txn c.list_head-head.result c.new-walk.result c.self.invariant c.list_head-head.ensures.is c.new-walk.ensures c.in-None.ensures
-  ∙ ap (λ rs. slice_get (requests_by c.args.txn rs) 0) c.self.view_is,
+      ∙ ap (λ rs. slice_get (requests_by c.args.txn rs) 0) c.self.view_is,
   refl,
 )

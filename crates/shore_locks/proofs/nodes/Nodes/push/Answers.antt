@@ -1,6 +1,6 @@
-use Rattle.std.proofs.Common.{◌≡◌, ◌≤◌, ◌+◌, ◌++◌, ◌∷◌, [], None, Some, length, arith, refl, sym, ap, subst, ◌∙◌}
-use Rattle.slab.specs.Slab.{Updates, get}
-use Rattle.shore_locks.specs.Nodes.{IsThreaded, alive, requests_in}
+use Rattle.std.proofs.Common.{◌++◌, ◌∷◌, [], Some, arith, sym, ap, subst, ◌∙◌}
+use Rattle.slab.specs.Slab.{Updates}
+use Rattle.shore_locks.specs.Nodes.{alive}
 use Rattle.shore_locks.proofs.NodeSteps.{more_requests, more_threaded, reached_threaded, requests_reserved, reserved_threaded}
 use Rattle.shore_locks.proofs.nodes.Nodes.push.Goals as goal
 
@@ -23,7 +23,7 @@ invariant_of-self-in_err-reach-2 c =
 pub invariant_of-self-2 : goal.invariant_of-self-2
 invariant_of-self-2 c =
     let ready = reached_threaded c.self.inside.heads c.self.inside.slots c.reserve.new.self c.self.inside.queues c.self.inside.lists (alive c.self.inside.history.items) c.reach.new.rings c.reach-2.new.rings
-        c.reserve.ensures.rest_kept c.self.invariant c.reach.ensures.kept c.reach-2.ensures.kept c.reach.ensures.longer c.reach-2.ensures.longer in
+    c.reserve.ensures.rest_kept c.self.invariant c.reach.ensures.kept c.reach-2.ensures.kept c.reach.ensures.longer c.reach-2.ensures.longer in
     more_threaded c.self.inside.heads c.reserve.new.self c.insert.new.slots c.reach.new.rings c.reach-2.new.rings c.thread.new.queues c.thread.new.lists c.self.inside.history.items c.and-self-inside.result.items
     c.args.request c.vacant_key-key.result c.in-Some.place ready c.vacant_key-key.ensures.vacant (omega (arith, c.in-Some.ensures)) (subst (λ k. Updates c.reserve.new.self c.insert.new.slots k (Some c.args.request)) (sym c.vacant_key-key.ensures.value) c.insert.ensures.updates) c.insert.ensures.len
     c.thread.ensures.queues c.thread.ensures.lists c.thread.ensures.queue_places c.thread.ensures.list_places c.and-self-inside.ensures

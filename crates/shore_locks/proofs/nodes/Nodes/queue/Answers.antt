@@ -1,4 +1,4 @@
-use Rattle.std.proofs.Common.{ℕ, map, ap, ◌∙◌, ◌%◌}
+use Rattle.std.proofs.Common.{ℕ, map, ap, ◌∙◌}
 use Rattle.shore_model.specs.declared.requests.Request.{Request}
 use Rattle.shore_model.specs.Requests.{requests_at}
 use Rattle.shore_links.specs.Rings.{after_at}

@@ -1,4 +1,4 @@
-use Rattle.std.proofs.Common.{◌≡◌, sym, ap, subst, ◌∙◌}
+use Rattle.std.proofs.Common.{sym, ap, subst, ◌∙◌}
 use Rattle.shore_model.specs.Requests.{AreRequests}
 use Rattle.shore_locks.specs.Grants.{replaced}
 use Rattle.shore_locks.specs.Nodes.{alive, requests_in}

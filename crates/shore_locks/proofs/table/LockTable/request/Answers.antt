@@ -13,7 +13,7 @@ invariant_of-self-then-is_some c =
     let r = asking c.args.txn c.args.granule c.args.mode c.self.inside.nodes in
     let quiet : is_waiting c.args.txn c.self.inside.nodes ≡ false = ap (λ t. is_waiting c.args.txn t.requests) c.self.view_is ∙ c.requires in
     let room : is_full (record { limit = c.self.inside.limit; requests = c.self.inside.nodes }) c.args.txn c.args.granule ≡ false =
-        ap (λ t. is_full t c.args.txn c.args.granule) c.self.view_is ∙ sym c.is_full.ensures ∙ c.if-is_full.false in
+    ap (λ t. is_full t c.args.txn c.args.granule) c.self.view_is ∙ sym c.is_full.ensures ∙ c.if-is_full.false in
     let seen : c.obstacle.result ≡ obstacle r c.self.inside.nodes = c.obstacle.ensures ∙ ap (λ x. obstacle x c.self.inside.nodes) c.asking-request.ensures in
     let stopped : is_some (obstacle r c.self.inside.nodes) ≡ true = ap is_some (sym seen) ∙ sym c.is_some.ensures ∙ c.if-is_some.true in
     subst (IsKept c.self.inside.limit) (sym (c.in_ok-place_last.ensures.ok ∙ ap (λ x. placed_last x c.self.inside.nodes) c.asking-request.ensures))
@@ -23,7 +23,7 @@ pub invariant_of-self-2 : goal.invariant_of-self-2
 invariant_of-self-2 c =
     let r = asking c.args.txn c.args.granule c.args.mode c.self.inside.nodes in
     let room : is_full (record { limit = c.self.inside.limit; requests = c.self.inside.nodes }) c.args.txn c.args.granule ≡ false =
-        ap (λ t. is_full t c.args.txn c.args.granule) c.self.view_is ∙ sym c.is_full.ensures ∙ c.if-is_full.false in
+    ap (λ t. is_full t c.args.txn c.args.granule) c.self.view_is ∙ sym c.is_full.ensures ∙ c.if-is_full.false in
     let seen : c.obstacle.result ≡ obstacle r c.self.inside.nodes = c.obstacle.ensures ∙ ap (λ x. obstacle x c.self.inside.nodes) c.asking-request.ensures in
     let free : obstacle r c.self.inside.nodes ≡ None = sym seen ∙ nothing c.obstacle.result (sym c.is_some.ensures ∙ c.if-is_some.false) in
     subst (IsKept c.self.inside.limit) (sym (c.in_ok-grant.ensures.ok ∙ ap (λ x. passed x.granule (put (granted x) c.self.inside.nodes)) c.asking-request.ensures))
