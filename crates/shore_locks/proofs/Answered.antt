@@ -1,5 +1,5 @@
 -- What the answers of a table say.
-use Rattle.std.proofs.Common.{◌≡◌, ◌⊎◌, inl, inr, ⊎_elim, ℕ, List, Bool, true, false, Option, None, Some, refl, sym, subst}
+use Rattle.std.proofs.Common.{ap, ◌≡◌, ◌⊎◌, inl, inr, ⊎_elim, ℕ, List, Bool, true, false, Option, None, Some, refl, sym, subst}
 use Rattle.std.specs.Prelude.{cond, is_some, Any, Contains}
 use Rattle.shore_types.specs.declared.locking.Granule.{Granule}
 use Rattle.shore_types.specs.declared.locking.Mode.{Mode}
@@ -9,11 +9,13 @@ use Rattle.shore_locks.specs.declared.answers.Requested.{Requested}
 use Rattle.shore_locks.specs.declared.answers.Requested.TheVariants.{Granted, Waiting, Full}
 use Rattle.shore_locks.specs.declared.answers.Tried.{Tried}
 use Rattle.shore_locks.specs.declared.answers.Tried.TheVariants.{Blocked, Granted as TryGranted, Full as TryFull}
-use Rattle.shore_locks.specs.Tables.{Table, mode_held}
-use Rattle.shore_locks.specs.Grants.{after_grant, asking, blocked_by, granted, is_enough, is_full, obstacle, passed}
-use Rattle.shore_locks.specs.Laws.{BlockedByOneInTheWay, GrantedIsHeld, OnlyGrants, RefusedChangesNothing, WaitsForSomebody}
+use Rattle.shore_locks.specs.Tables.{Table, is_waiting, mode_held}
+use Rattle.shore_locks.specs.Grants.{after_grant, asking, blocked_by, granted, is_enough, is_full, obstacle, passed, put}
+use Rattle.shore_locks.specs.Laws.{BlockedByOneInTheWay, GrantedIsHeld, OnlyGrants, RefusedChangesNothing, StaysQuiet, WaitsForSomebody}
+use Rattle.shore_locks.proofs.Entering.{AreRequests-put, In-put, none_waits}
+use Rattle.shore_locks.proofs.Fits.{wants_nothing}
 use Rattle.shore_locks.proofs.Members.{All-In, In-Contains}
-use Rattle.shore_locks.proofs.Outcomes.{any_from, held_after_grant, pass_only_grants, waits_for_obstacle}
+use Rattle.shore_locks.proofs.Outcomes.{any_from, held_after_grant, nobody_wants, pass_only_grants, waits_for_obstacle}
 
 pub only_grants : (rs : List Request) (g : Granule) → AreRequests rs → OnlyGrants rs (passed g rs)
 only_grants rs g one =
@@ -107,4 +109,36 @@ refused_unchanged table t g mode = (
       table.requests (after_grant t g mode table.requests) e,
   λ u e. try_blocked_among (is_enough mode (mode_held t g table.requests)) (is_full table t g) (obstacle (asking t g mode table.requests) table.requests)
       table.requests (after_grant t g mode table.requests) u e,
+)
+
+-- a transaction that did not wait does not wait once it is granted, at once
+after_grant_quiet : (t : ℕ) (g : Granule) (mode : Mode) (rs : List Request) → AreRequests rs → is_waiting t rs ≡ false → is_waiting t (after_grant t g mode rs) ≡ false
+after_grant_quiet t g mode rs one quiet =
+    let ones = AreRequests-put (granted (asking t g mode rs)) rs one in
+    nobody_wants t (after_grant t g mode rs) (λ q h by wants. ⊎_elim
+    (λ stood. ⊎_elim
+    (λ new. wants_nothing q.wanted (ap (λ (x : Request). x.wanted) new) wants)
+    (λ old. none_waits t rs quiet q old.0 by wants)
+    (In-put (granted (asking t g mode rs)) rs q stood))
+    (λ was. wants_nothing q.wanted (ap (λ (x : Request). x.wanted) was.2) wants)
+    (pass_only_grants g (put (granted (asking t g mode rs)) rs) ones q h))
+
+quiet_among : (P : List Request → Bool) (enough full : Bool) (o : Option Request) (same waits grants : List Request) → P same ≡ false → P grants ≡ false → (answered enough full (is_some o) ≡ Waiting → ⊥) → P (among enough full (is_some o) same waits grants) ≡ false
+quiet_among P true full o same waits grants e f never = e
+quiet_among P false true o same waits grants e f never = e
+quiet_among P false false None same waits grants e f never = f
+quiet_among P false false (Some q) same waits grants e f never = absurd (never refl)
+
+try_quiet_among : (P : List Request → Bool) (enough full : Bool) (o : Option Request) (same grants : List Request) → P same ≡ false → P grants ≡ false → P (among enough full (is_some o) same same grants) ≡ false
+try_quiet_among P true full o same grants e f = e
+try_quiet_among P false true o same grants e f = e
+try_quiet_among P false false None same grants e f = f
+try_quiet_among P false false (Some q) same grants e f = e
+
+pub stays_quiet : (table : Table) (t : ℕ) (g : Granule) (mode : Mode) → AreRequests table.requests → is_waiting t table.requests ≡ false → StaysQuiet table t g mode
+stays_quiet table t g mode one quiet = (
+  λ never. quiet_among (is_waiting t) (is_enough mode (mode_held t g table.requests)) (is_full table t g) (obstacle (asking t g mode table.requests) table.requests)
+      table.requests (placed_last (asking t g mode table.requests) table.requests) (after_grant t g mode table.requests) quiet (after_grant_quiet t g mode table.requests one quiet) never,
+  try_quiet_among (is_waiting t) (is_enough mode (mode_held t g table.requests)) (is_full table t g) (obstacle (asking t g mode table.requests) table.requests)
+      table.requests (after_grant t g mode table.requests) quiet (after_grant_quiet t g mode table.requests one quiet),
 )

@@ -8,7 +8,6 @@ mod Members
 mod Others
 mod Outcomes
 mod Passes
-mod Scans
 mod Tables
 mod Waiting
 mod Threads

@@ -202,7 +202,7 @@ none_found p [] each = refl
 none_found p (x ∷ xs) each = find_step p x xs (each x (inl refl)) ∙ none_found p xs (λ y h. each y (inr h))
 
 -- where no request of the transaction wants anything it does not wait
-nobody_wants : (t : ℕ) (rs : List Request) → ((q : Request) → In q rs → q.txn ≡ t → is_some q.wanted ≡ true → ⊥) → is_waiting t rs ≡ false
+pub nobody_wants : (t : ℕ) (rs : List Request) → ((q : Request) → In q rs → q.txn ≡ t → is_some q.wanted ≡ true → ⊥) → is_waiting t rs ≡ false
 nobody_wants t rs none =
     ap is_some (none_found (λ r. (r.txn == t) && is_some r.wanted) rs (λ q h. ⊎_elim
     (λ yes. let p = both_true (q.txn == t) (is_some q.wanted) yes in absurd (none q h ((Decides-eqb q.txn t).0 p.0) p.1)) (λ no. no)

@@ -1,10 +1,10 @@
 -- What follows for the list of requests, in words of its own.
-use Rattle.std.specs.Prelude.{◌≡◌, ◌≢◌, ◌==◌, ◌⊎◌, ℕ, List, Some, true, not, filter, map, drop, All, Any, Contains, slice_get}
+use Rattle.std.specs.Prelude.{false, ◌≡◌, ◌≢◌, ◌==◌, ◌⊎◌, ℕ, List, Some, true, not, filter, map, drop, All, Any, Contains, slice_get}
 use Rattle.shore_types.specs.declared.locking.Granule.{Granule}
 use Rattle.shore_types.specs.declared.locking.Mode.{Mode}
 use Rattle.shore_model.specs.declared.requests.Request.{Request}
 use Rattle.shore_model.specs.Requests.{IsRefusedBy, WaitsFor, placed_last, requests_at}
-use Rattle.shore_locks.specs.Tables.{Table, mode_held, waiters_at}
+use Rattle.shore_locks.specs.Tables.{Table, is_waiting, mode_held, waiters_at}
 use Rattle.shore_locks.specs.Grants.{after_request, after_try, answer_to, answer_to_try, asking, granted, is_enough, passed}
 use Rattle.shore_locks.specs.declared.answers.Requested.TheVariants.{Granted, Waiting, Full}
 use Rattle.shore_locks.specs.declared.answers.Tried.TheVariants.{Blocked, Granted as TryGranted, Full as TryFull}
@@ -52,3 +52,9 @@ RefusedChangesNothing table t g mode =
 -- a pass only grants: each request after it stood before, or is one that stood before with what it wanted held
 abbrev pub OnlyGrants : List Request → List Request → Type 0
 OnlyGrants before after = All (λ r. Contains before r ⊎ Any (λ q. r ≡ granted q) before) after
+
+-- a transaction that did not wait waits only where it is told to
+abbrev pub StaysQuiet : Table → ℕ → Granule → Mode → Type 0
+StaysQuiet table t g mode =
+    ((answer_to table t g mode ≡ Waiting → ⊥) → is_waiting t (after_request table t g mode) ≡ false)
+    × (is_waiting t (after_try table t g mode) ≡ false)

@@ -7,7 +7,7 @@ ghost use Rattle.shore_model.specs.Requests.{AreRequests};
 ghost use Rattle.shore_locks.specs.Orderly.{IsOrderly};
 ghost use Rattle.shore_locks.specs.Grants.{cancelled, passed, released};
 ghost use Rattle.shore_locks.specs.Tables.{Table, is_waiting};
-ghost use Rattle.shore_locks.specs.Laws.{BlockedByOneInTheWay, FirstWaitersAreRefused, GrantedIsHeld, GrantsABeginning, OnlyGrants, RefusedChangesNothing, WaitsForSomebody, of_others, owners};
+ghost use Rattle.shore_locks.specs.Laws.{BlockedByOneInTheWay, FirstWaitersAreRefused, GrantedIsHeld, GrantsABeginning, OnlyGrants, RefusedChangesNothing, StaysQuiet, WaitsForSomebody, of_others, owners};
 
 /// In a table the first waiter of each queue has another holder that refuses it.
 pub fn first_waiters_are_refused()
@@ -52,4 +52,9 @@ pub fn granted_is_held()
 /// Full and Blocked change nothing.
 pub fn refused_changes_nothing()
     ensures { (table : Table) (t : ℕ) (g : Granule) (mode : Mode) → RefusedChangesNothing table t g mode }
+{}
+
+/// A transaction that does not wait waits afterwards only where it was told so: it may ask again.
+pub fn waits_only_where_told()
+    ensures { (table : Table) (t : ℕ) (g : Granule) (mode : Mode) → AreRequests table.requests → is_waiting t table.requests ≡ false → StaysQuiet table t g mode }
 {}
