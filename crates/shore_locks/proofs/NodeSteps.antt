@@ -1,6 +1,6 @@
 -- The steps of a list of nodes.
-use Rattle.std.proofs.Common.{◌≡◌, ◌++◌, ◌<◌, ◌≤◌, ◌+◌, ◌-◌, ◌%◌, ⊎_elim, ℕ, List, [], ◌∷◌, Bool, true, false, Option, None, Some, refl, ap, sym, subst, ◌∙◌, length, map, arith}
-use Rattle.std.specs.Prelude.{filter, not, ◌==◌, is_some, find, slice_get, OnSome}
+use Rattle.std.proofs.Common.{inl, inr, ◌≡◌, ◌++◌, ◌<◌, ◌≤◌, ◌+◌, ◌-◌, ◌%◌, ⊎_elim, ℕ, List, [], ◌∷◌, Bool, true, false, Option, None, Some, refl, ap, sym, subst, ◌∙◌, length, map, arith}
+use Rattle.std.specs.Prelude.{filter, not, ◌==◌, is_some, find, slice_get, IfSome, OnSome, Contains, ◌&&◌}
 use Rattle.std.specs.List.{list_any}
 use Rattle.std.specs.Option.{option_map}
 use Rattle.std.proofs.lemmas.Bool.Decides.{Decides-eqb}
@@ -8,16 +8,18 @@ use Rattle.slab.specs.Slab.{Slab, Updates, get, slab_len}
 use Rattle.shore_model.specs.declared.requests.Request.{Request}
 use Rattle.shore_model.specs.Requests.{are_alike, AreRequests, requests_by}
 use Rattle.shore_links.specs.declared.rings.Link.{Link}
-use Rattle.shore_links.specs.Rings.{IsRing, after_at}
+use Rattle.shore_links.specs.Rings.{In, IsRing, Way, after_at, before_at}
 use Rattle.shore_locks.specs.Grants.{removed, replaced}
-use Rattle.shore_locks.specs.Nodes.{IsThreaded, LinksIn, LinksOut, alive, granule_number, in_bucket, list_of, pairs_from, queue_of, request_at, requests_in, without}
+use Rattle.shore_locks.specs.Nodes.{IsThreaded, LinksIn, LinksOut, alive, granule_number, in_bucket, list_of, places, pairs_from, queue_of, request_at, request_or, requests_in, without}
+use Rattle.shore_locks.specs.Orderly.{WaitsOnce}
+use Rattle.shore_locks.specs.Tables.{waiting_request}
 use Rattle.shore_locks.proofs.AlikeNodes.{FoundNode, found_node, from_map, in_map, no_node, place_within, removed_is, replaced_is, threaded_same, threaded_wider}
-use Rattle.shore_locks.proofs.Entering.{found_in}
+use Rattle.shore_locks.proofs.Entering.{both_true, found_in, found_none}
 use Rattle.shore_locks.proofs.Fits.{any_of, found_any}
 use Rattle.shore_locks.proofs.Keys.{alike-Decides, alike-self}
 use Rattle.shore_locks.proofs.Members as members
 use Rattle.shore_locks.proofs.NodeLemmas.{alive_comes, alive_goes, list_requests, list_walk, pair_at, queue_walk, requests_more, requests_same, threaded_less, threaded_more, threaded_set}
-use Rattle.shore_locks.proofs.Threads.{in_filter}
+use Rattle.shore_locks.proofs.Threads.{in_filter, in_places}
 
 pub mod_small : (n heads : ℕ) → 0 < heads → n % heads < heads
 mod_small n heads some = omega arith
@@ -25,6 +27,10 @@ mod_small n heads some = omega arith
 pub on_some : {A : Type 0} (P : Type 0) (o : Option A) → is_some o ≡ true → OnSome o P → P
 on_some P None e h = cc
 on_some P (Some x) e h = h
+
+both_yes : (b c : Bool) → b ≡ true → c ≡ true → (b && c) ≡ true
+both_yes true c e f = f
+both_yes false c e f = cc
 
 first_of_found : (o : Option (ℕ × Request)) (place : ℕ) → Some place ≡ option_map (λ (p : ℕ × Request). p.0) o → (node : ℕ × Request) × (o ≡ Some node) × (node.0 ≡ place)
 first_of_found None place e = cc
@@ -195,3 +201,41 @@ node_any heads slots ks r place node = any_of (λ q. are_alike q r) (requests_in
 pub none_of_any : (p : Request → Bool) (rs : List Request) → ((q : Request) → members.In q rs → p q ≡ false) → list_any p rs ≡ false
 none_of_any p rs none =
     ⊎_elim (λ yes. absurd (let f = found_any p rs yes in let g = none f.0 f.1 in let h = f.2 in cc)) (λ no. no) (members.either (list_any p rs))
+
+-- the end of a way is reached from one of its places
+end_reached : (f g : ℕ → ℕ) (a : ℕ) (xs : List ℕ) (b : ℕ) → Way f g a xs b → In (g b) (a ∷ xs)
+end_reached f g a [] b w = inl (sym w.1)
+end_reached f g a (x ∷ xs) b w = inr (end_reached f g x xs b w.1)
+
+-- the node before a head is one of the requests
+pub newest_there : (heads : ℕ) (slots : Slab Request) (queues lists : List Link) (ks : List ℕ) (t head place key : ℕ) (r : Request) → IsThreaded heads slots queues lists ks → head ≡ t % heads → place ≡ before_at lists head → (place ≡ head → ⊥) → key ≡ place - heads → get slots key ≡ Some r
+    → Contains (requests_in slots ks) r
+newest_there heads slots queues lists ks t head place key r threaded at is other key_at stands =
+    let small : head < heads = subst (λ b. b < heads) (sym at) (mod_small t heads threaded.some_heads) in
+    let ring = threaded.lists_hold head small in
+    let last = end_reached (after_at lists) (before_at lists) head (places heads (in_bucket (list_of heads slots) head ks)) head ring.way in
+    ⊎_elim
+    (λ e. absurd (other (is ∙ sym e)))
+    (λ h. let m = in_places heads (in_bucket (list_of heads slots) head ks) (before_at lists head) h in
+    let k_in = (in_filter (λ k. list_of heads slots k == head) ks m.0 m.1).0 in
+    let same : key ≡ m.0 = let e = m.2 in omega arith in
+    let here : request_at slots m.0 ≡ r = ap (request_at slots) (sym same) ∙ ap request_or stands in
+    subst (Contains (requests_in slots ks)) here (members.In-Contains (requests_in slots ks) (request_at slots m.0) (in_map (request_at slots) ks m.0 k_in)))
+    last
+
+-- one that waits is the one found
+waiting_found : (t : ℕ) (rs : List Request) (r : Request) (o : Option Request) → WaitsOnce rs → Contains rs r → r.txn ≡ t → is_some r.wanted ≡ true → waiting_request t rs ≡ o → Some r ≡ o
+waiting_found t rs r None once there by wants is =
+    absurd (let no = found_none (λ q. (q.txn == t) && is_some q.wanted) rs is r (members.Contains-In rs r there) in
+    let yes = both_yes (r.txn == t) (is_some r.wanted) ((Decides-eqb r.txn t).1 by) wants in cc)
+waiting_found t rs r (Some q) once there by wants is =
+    let f = found_in (λ q. (q.txn == t) && is_some q.wanted) rs q is in
+    let p = both_true (q.txn == t) (is_some q.wanted) f.1 in
+    ap Some (once r q there (members.In-Contains rs q f.0) (by ∙ sym ((Decides-eqb q.txn t).0 p.0)) wants p.1)
+
+pub waiting_is : (t : ℕ) (rs : List Request) (r : Request) → WaitsOnce rs → Contains rs r → r.txn ≡ t → is_some r.wanted ≡ true → Some r ≡ waiting_request t rs
+waiting_is t rs r once there by wants = waiting_found t rs r (waiting_request t rs) once there by wants refl
+
+pub if_some_all : {A : Type 0} (P Q : A → Type 0) (o : Option A) → ((x : A) → P x → Q x) → IfSome o P → IfSome o Q
+if_some_all P Q None h i = i
+if_some_all P Q (Some x) h i = h x i

@@ -1,6 +1,6 @@
 //! Requests as nodes of a slab. Each has four links: two in the ring of its granule's bucket, and two in that of its
 //! transaction's. A bucket is found by a number, so a queue and a transaction's list are found in constant expected time.
-ghost use Rattle.std.specs.Prelude.{◌≡◌, ◌<◌, ◌≤◌, ◌+◌, ◌*◌, ◌^◌, ◌%◌, ◌==◌, ◌++◌, ◌∷◌, [], ℕ, List, None, Some, IfOk, OnOk, OnErr, MatchBool, MatchOption, false, find, is_some, length, true, map, slice_get};
+ghost use Rattle.std.specs.Prelude.{◌≡◌, ◌<◌, ◌≤◌, ◌+◌, ◌*◌, ◌^◌, ◌%◌, ◌==◌, ◌++◌, ◌∷◌, [], ℕ, List, None, Some, IfOk, IfSome, Contains, OnOk, OnErr, MatchBool, MatchOption, false, find, is_some, length, true, map, slice_get};
 ghost use Rattle.std.specs.List.{list_any};
 ghost use Rattle.std.specs.Option.{option_map};
 ghost use Rattle.shore_model.specs.Requests.{AreRequests, are_alike, placed_last, requests_at, requests_by};
@@ -75,6 +75,21 @@ impl Nodes {
     {
         let head = list_head(txn, self.heads);
         Walk::new(&self.slots, &self.lists, self.heads, head)
+    }
+
+    /// The newest request of a transaction, unless a newer one of another stands in its bucket. It takes no search.
+    pub fn newest(&self, txn: TxnId) -> Option<Request>
+        ensures { IfSome result (λ r. Contains self.now r × (r.txn ≡ txn)) }
+    {
+        let head = list_head(txn, self.heads);
+        let place = self.lists.before(head);
+        if place == head {
+            return None;
+        }
+        match self.slots.get(place.saturating_sub(self.heads)) {
+            Some(request) => only_of(request, txn),
+            None => None,
+        }
     }
 
     /// A request comes last. Where memory for its node is refused nothing has changed.
@@ -182,6 +197,16 @@ impl Nodes {
             let key = place.saturating_sub(self.heads);
             set_slot(&mut self.slots, key, request);
         }
+    }
+}
+
+fn only_of(request: &Request, txn: TxnId) -> Option<Request>
+    ensures { IfSome result (λ r. (r ≡ request.now) × (r.txn ≡ txn)) }
+{
+    if request.txn == txn {
+        Some(*request)
+    } else {
+        None
     }
 }
 

@@ -3,6 +3,7 @@ ghost use Rattle.std.specs.Prelude.{◌≡◌, filter, slice_get};
 ghost use Rattle.shore_model.specs.Requests.{is_in_group, requests_at};
 ghost use Rattle.shore_locks.specs.Tables as tables;
 ghost use Rattle.shore_locks.specs.Grants as steps;
+ghost use Rattle.shore_locks.specs.Orderly.{WaitsOnce};
 
 use crate::judgements::{aim, is_for, is_in, is_stopped_by, refuses};
 use crate::nodes::Nodes;
@@ -30,10 +31,16 @@ pub fn mode_held(nodes: &Nodes, txn: TxnId, granule: &Granule) -> Option<Mode>
     request_for(nodes, txn, granule)?.held
 }
 
-/// The request with which a transaction waits.
+/// The request with which a transaction waits. It is the transaction's newest, so it is mostly the first that is looked at.
 pub fn waiting_request(nodes: &Nodes, txn: TxnId) -> Option<Request>
+    requires { WaitsOnce nodes.now }
     ensures { result ≡ tables.waiting_request txn nodes.now }
 {
+    if let Some(newest) = nodes.newest(txn)
+        && newest.wanted.is_some()
+    {
+        return Some(newest);
+    }
     let mut walk = nodes.list(txn);
     while let Some((_, request)) = walk.advance() {
         if request.txn == txn && request.wanted.is_some() {
