@@ -3,7 +3,7 @@ use Rattle.std.proofs.Common.{◌≡◌, ◌++◌, ◌<◌, inl, inr, ⊎_elim, 
 use Rattle.std.specs.Prelude.{slice_set}
 use Rattle.std.proofs.lemmas.List.{length-set, length-append, get_or_append_left}
 use Rattle.std.proofs.lemmas.Bool.{cases_eq}
-use Rattle.shore_links.specs.declared.rings.Link.{Link}
+use Rattle.shore_links.specs.declared.ring.Link.{Link}
 use Rattle.shore_links.specs.Rings.{Apart, Distinct, In, IsRing, after_at, before_at, joined, link_at, linked, unlinked, with_after, with_before}
 use Rattle.shore_links.proofs.Paths.{Between, In-either, In-left, In-right, Without, after_start, before_end, way_linked, way_split, way_same, way_unlinked}
 

@@ -1,6 +1,6 @@
 -- Rings of places: doubly linked lists that end where they begin.
 use Rattle.std.specs.Prelude.{◌≡◌, ◌<◌, ◌⊎◌, ℕ, List, [], ◌∷◌, slice_index_or, slice_set, length}
-use Rattle.shore_links.specs.declared.rings.Link.{Link}
+use Rattle.shore_links.specs.declared.ring.Link.{Link}
 
 -- the link of a place
 abbrev pub link_at : List Link → ℕ → Link

@@ -1,6 +1,6 @@
 //! Doubly linked lists over numbered places, many in one vector.
 #![tactic(auto)]
 
-pub mod rings;
+pub mod ring;
 
-pub use rings::Rings;
+pub use ring::Rings;

@@ -8,7 +8,7 @@ use Rattle.shore_types.specs.declared.locking.Granule.{Granule}
 use Rattle.shore_types.specs.Locking.{same_granule}
 use Rattle.shore_model.specs.declared.requests.Request.{Request}
 use Rattle.shore_model.specs.Requests.{requests_at, requests_by}
-use Rattle.shore_links.specs.declared.rings.Link.{Link}
+use Rattle.shore_links.specs.declared.ring.Link.{Link}
 use Rattle.shore_links.specs.Rings.{Distinct, In, Way, after_at, before_at}
 use Rattle.shore_locks.specs.Nodes.{IsThreaded, LinksIn, LinksOut, alive, granule_number, in_bucket, left_after, list_of, pair_and, pairs_from, places, queue_of, request_at, request_or, requests_in, without}
 use Rattle.shore_locks.proofs.Counts.{length-filter_most}

@@ -7,7 +7,7 @@ use Rattle.std.proofs.lemmas.Bool.Decides.{Decides-eqb}
 use Rattle.slab.specs.Slab.{Slab, Updates, get, slab_len}
 use Rattle.shore_model.specs.declared.requests.Request.{Request}
 use Rattle.shore_model.specs.Requests.{are_alike, AreRequests, requests_by}
-use Rattle.shore_links.specs.declared.rings.Link.{Link}
+use Rattle.shore_links.specs.declared.ring.Link.{Link}
 use Rattle.shore_links.specs.Rings.{In, IsRing, Way, after_at, before_at}
 use Rattle.shore_locks.specs.Grants.{removed, replaced}
 use Rattle.shore_locks.specs.Nodes.{IsThreaded, LinksIn, LinksOut, alive, granule_number, in_bucket, list_of, places, pairs_from, queue_of, request_at, request_or, requests_in, without}

@@ -4,7 +4,7 @@ use Rattle.std.specs.Prelude.{filter, not, ◌==◌}
 use Rattle.std.proofs.lemmas.List.{append-nil, map-append}
 use Rattle.std.proofs.lemmas.List.Elements.{filter-append}
 use Rattle.std.proofs.lemmas.Bool.Decides.{Decides-eqb}
-use Rattle.shore_links.specs.declared.rings.Link.{Link}
+use Rattle.shore_links.specs.declared.ring.Link.{Link}
 use Rattle.shore_links.specs.Rings.{Apart, Distinct, In, IsRing}
 use Rattle.shore_locks.specs.Nodes.{Holds, LinksIn, LinksOut, in_bucket, places, without}
 use Rattle.shore_locks.proofs.Members as members

@@ -4,7 +4,7 @@ use Rattle.slab.specs.Slab.{Slab, get, slab_len}
 use Rattle.shore_types.specs.declared.locking.Granule.{Granule}
 use Rattle.shore_types.specs.declared.locking.Granule.TheVariants.{Volume, Store, Page, Record}
 use Rattle.shore_model.specs.declared.requests.Request.{Request}
-use Rattle.shore_links.specs.declared.rings.Link.{Link}
+use Rattle.shore_links.specs.declared.ring.Link.{Link}
 use Rattle.shore_links.specs.Rings.{Apart, Distinct, In, IsRing, after_at}
 
 -- a number by which a granule finds its bucket

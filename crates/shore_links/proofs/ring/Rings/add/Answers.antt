@@ -1,7 +1,7 @@
 use Rattle.std.proofs.Common.{sym, subst}
 use Rattle.shore_links.specs.Rings.{IsRing}
 use Rattle.shore_links.proofs.Joins.{ring_added}
-use Rattle.shore_links.proofs.rings.Rings.add.Goals as goal
+use Rattle.shore_links.proofs.ring.Rings.add.Goals as goal
 
 pub returns-clause-others : goal.returns-clause-others
 returns-clause-others c =

@@ -1,7 +1,7 @@
 use Rattle.std.proofs.Common.{◌≡◌, ◌++◌, ◌∷◌, [], sym, subst, ap, ◌∙◌}
 use Rattle.shore_links.specs.Rings.{IsRing, joined, linked}
 use Rattle.shore_links.proofs.Joins.{others_linked, ring_linked}
-use Rattle.shore_links.proofs.rings.Rings.link.Goals as goal
+use Rattle.shore_links.proofs.ring.Rings.link.Goals as goal
 
 pub returns-clause-ring : goal.returns-clause-ring
 returns-clause-ring c =

@@ -1,7 +1,7 @@
 use Rattle.std.proofs.Common.{◌≡◌, ◌++◌, sym, subst, ap, ◌∙◌}
 use Rattle.shore_links.specs.Rings.{IsRing, before_at, joined, unlinked}
 use Rattle.shore_links.proofs.Joins.{others_unlinked, ring_unlinked}
-use Rattle.shore_links.proofs.rings.Rings.unlink.Goals as goal
+use Rattle.shore_links.proofs.ring.Rings.unlink.Goals as goal
 
 pub returns-clause-ring : goal.returns-clause-ring
 returns-clause-ring c =

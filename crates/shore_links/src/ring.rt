@@ -22,7 +22,7 @@ pub struct Rings {
 
 impl Model for Rings {
     ghost use Rattle.std.specs.Prelude.{List};
-    ghost use Rattle.shore_links.specs.declared.rings.Link.{Link};
+    ghost use Rattle.shore_links.specs.declared.ring.Link.{Link};
 
     ghost Value = { List Link };
 
