@@ -1,0 +1,124 @@
+//! Rings: doubly linked lists that end where they begin. One vector has the links of many, and a place stands in one ring, which
+//! may be its own alone. A ring is known by any of its places; where that is a head that stays, the others are its list.
+ghost use Rattle.std.specs.Prelude.{◌≡◌, ◌<◌, ◌+◌, ◌++◌, ◌∷◌, [], ℕ, List, length, IfOk, OnOk, OnErr};
+ghost use Rattle.shore_links.specs.Rings as spec;
+ghost use Rattle.shore_links.specs.Rings.{Apart, In, IsRing, after_at, before_at};
+
+use std::alloc::{AllocError, Global};
+use std::marker::Model;
+
+/// The places before and behind a place.
+#[derive(Clone, Copy, Debug, PartialEq, Eq)]
+pub struct Link {
+    before: usize,
+    after: usize,
+}
+
+/// Rings of places.
+#[derive(Debug, Drop)]
+pub struct Rings {
+    links: Vec<Link>,
+}
+
+impl Model for Rings {
+    ghost use Rattle.std.specs.Prelude.{List};
+    ghost use Rattle.shore_links.specs.declared.ring.Link.{Link};
+
+    ghost Value = { List Link };
+
+    ghost use Rattle.shore_links.specs.Rings.{IsClosed};
+
+    ghost view = { λ r. r.links.items };
+
+    ghost invariant = { λ r. IsClosed r.links.items };
+}
+
+impl Rings {
+    /// No places.
+    pub fn new(alloc: Global) -> Rings
+        ensures { result ≡ [] }
+    {
+        Rings {
+            links: Vec::new(alloc),
+        }
+    }
+
+    /// How many places there are.
+    pub fn places(&self) -> usize
+        ensures { result ≡ length self.now }
+    {
+        self.links.len()
+    }
+
+    /// One place more, which stands alone.
+    pub fn add(&mut self) -> Result<(), AllocError>
+        ensures ok { OnOk result (self.new ≡ self.old ++ record { before = length self.old; after = length self.old } ∷ []) }
+        ensures err { OnErr result (self.new ≡ self.old) }
+        ensures alone { OnOk result (IsRing self.new (length self.old) []) }
+        ensures others { (head : ℕ) (xs : List ℕ) → IsRing self.old head xs → IsRing self.new head xs }
+    {
+        let place = self.links.len();
+        self.links.push(Link {
+            before: place,
+            after: place,
+        })?;
+        Ok(())
+    }
+
+    /// The place behind a place.
+    pub fn after(&self, place: usize) -> usize
+        requires { place < length self.now }
+        ensures next { result ≡ after_at self.now place }
+        ensures within { result < length self.now }
+    {
+        self.links[place].after
+    }
+
+    /// The place before a place.
+    pub fn before(&self, place: usize) -> usize
+        requires { place < length self.now }
+        ensures previous { result ≡ before_at self.now place }
+        ensures within { result < length self.now }
+    {
+        self.links[place].before
+    }
+
+    /// Puts a place that stands alone last in the ring of a head.
+    pub fn link(&mut self, head: usize, place: usize)
+        requires head { head < length self.old }
+        requires place { place < length self.old }
+        ensures links { self.new ≡ spec.linked head place self.old }
+        ensures places { length self.new ≡ length self.old }
+        ensures ring { (xs : List ℕ) → IsRing self.old head xs → (In place (head ∷ xs) → ⊥) → IsRing self.new head (xs ++ place ∷ []) }
+        ensures others { (xs ys : List ℕ) (other : ℕ) → IsRing self.old head xs → IsRing self.old other ys → (In place (other ∷ ys) → ⊥) → Apart (head ∷ xs) (other ∷ ys) → IsRing self.new other ys }
+    {
+        let last = self.before(head);
+        self.join(last, place);
+        self.join(place, head);
+    }
+
+    /// Takes a place out of its ring. It stands alone then.
+    pub fn unlink(&mut self, place: usize)
+        requires { place < length self.old }
+        ensures links { self.new ≡ spec.unlinked place self.old }
+        ensures places { length self.new ≡ length self.old }
+        ensures ring { (head : ℕ) (xs ys : List ℕ) → IsRing self.old head (xs ++ place ∷ ys) → IsRing self.new head (xs ++ ys) }
+        ensures alone { IsRing self.new place [] }
+        ensures others { (head : ℕ) (xs ys : List ℕ) (other : ℕ) (zs : List ℕ) → IsRing self.old head (xs ++ place ∷ ys) → IsRing self.old other zs → Apart (head ∷ (xs ++ place ∷ ys)) (other ∷ zs) → IsRing self.new other zs }
+    {
+        let previous = self.before(place);
+        let next = self.after(place);
+        self.join(previous, next);
+        self.join(place, place);
+    }
+
+    fn join(&mut self, a: usize, b: usize)
+        requires first { a < length self.old }
+        requires second { b < length self.old }
+        ensures links { self.new ≡ spec.joined a b self.old }
+        ensures places { length self.new ≡ length self.old }
+    {
+        self.links[a].after = b;
+        self.links[b].before = a;
+    }
+}

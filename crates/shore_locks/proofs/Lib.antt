@@ -1,0 +1,17 @@
+mod Answered
+mod Counts
+mod Entering
+mod Fits
+mod Keys
+mod LawLemmas
+mod Members
+mod Others
+mod Outcomes
+mod Passes
+mod Tables
+mod Waiting
+mod Threads
+mod NodeLemmas
+mod AlikeNodes
+mod NodeSteps
+mod Buckets

@@ -1,0 +1,241 @@
+-- The steps of a list of nodes.
+use Rattle.std.proofs.Common.{inl, inr, ◌≡◌, ◌++◌, ◌<◌, ◌≤◌, ◌+◌, ◌-◌, ◌%◌, ⊎_elim, ℕ, List, [], ◌∷◌, Bool, true, false, Option, None, Some, refl, ap, sym, subst, ◌∙◌, length, map, arith}
+use Rattle.std.specs.Prelude.{filter, not, ◌==◌, is_some, find, slice_get, IfSome, OnSome, Contains, ◌&&◌}
+use Rattle.std.specs.List.{list_any}
+use Rattle.std.specs.Option.{option_map}
+use Rattle.std.proofs.lemmas.Bool.Decides.{Decides-eqb}
+use Rattle.slab.specs.Slab.{Slab, Updates, get, slab_len}
+use Rattle.shore_model.specs.declared.requests.Request.{Request}
+use Rattle.shore_model.specs.Requests.{are_alike, AreRequests, requests_by}
+use Rattle.shore_links.specs.declared.ring.Link.{Link}
+use Rattle.shore_links.specs.Rings.{In, IsRing, Way, after_at, before_at}
+use Rattle.shore_locks.specs.Grants.{removed, replaced}
+use Rattle.shore_locks.specs.Nodes.{IsThreaded, LinksIn, LinksOut, alive, granule_number, in_bucket, list_of, places, pairs_from, queue_of, request_at, request_or, requests_in, without}
+use Rattle.shore_locks.specs.Orderly.{WaitsOnce}
+use Rattle.shore_locks.specs.Tables.{waiting_request}
+use Rattle.shore_locks.proofs.AlikeNodes.{FoundNode, found_node, from_map, in_map, no_node, place_within, removed_is, replaced_is, threaded_same, threaded_wider}
+use Rattle.shore_locks.proofs.Entering.{both_true, found_in, found_none}
+use Rattle.shore_locks.proofs.Fits.{any_of, found_any}
+use Rattle.shore_locks.proofs.Keys.{alike-Decides, alike-self}
+use Rattle.shore_locks.proofs.Members as members
+use Rattle.shore_locks.proofs.NodeLemmas.{alive_comes, alive_goes, list_requests, list_walk, pair_at, queue_walk, requests_more, requests_same, threaded_less, threaded_more, threaded_set}
+use Rattle.shore_locks.proofs.Threads.{in_filter, in_places}
+
+pub mod_small : (n heads : ℕ) → 0 < heads → n % heads < heads
+mod_small n heads some = omega arith
+
+pub on_some : {A : Type 0} (P : Type 0) (o : Option A) → is_some o ≡ true → OnSome o P → P
+on_some P None e h = cc
+on_some P (Some x) e h = h
+
+both_yes : (b c : Bool) → b ≡ true → c ≡ true → (b && c) ≡ true
+both_yes true c e f = f
+both_yes false c e f = cc
+
+first_of_found : (o : Option (ℕ × Request)) (place : ℕ) → Some place ≡ option_map (λ (p : ℕ × Request). p.0) o → (node : ℕ × Request) × (o ≡ Some node) × (node.0 ≡ place)
+first_of_found None place e = cc
+first_of_found (Some node) place e = (node, refl, cc)
+
+none_found_by : (o : Option (ℕ × Request)) → None ≡ option_map (λ (p : ℕ × Request). p.0) o → o ≡ None
+none_found_by None e = refl
+none_found_by (Some node) e = cc
+
+-- what a search along a granule's ring comes to
+pub search_found : (heads : ℕ) (slots : Slab Request) (queues lists : List Link) (ks : List ℕ) (r : Request) (head place : ℕ) (walk : List (ℕ × Request)) → IsThreaded heads slots queues lists ks → head ≡ granule_number r.granule % heads
+    → walk ≡ pairs_from (slab_len slots) slots queues heads head (after_at queues head) → Some place ≡ option_map (λ (p : ℕ × Request). p.0) (find (λ (p : ℕ × Request). are_alike p.1 r) walk) → FoundNode heads slots ks r place
+search_found heads slots queues lists ks r head place walk threaded at is e =
+    let small : head < heads = subst (λ b. b < heads) (sym at) (mod_small (granule_number r.granule) heads threaded.some_heads) in
+    let f = first_of_found (find (λ (p : ℕ × Request). are_alike p.1 r) walk) place e in
+    let in_walk : find (λ (p : ℕ × Request). are_alike p.1 r) (map (pair_at heads slots) (in_bucket (queue_of heads slots) head ks)) ≡ Some f.0 =
+    ap (find (λ (p : ℕ × Request). are_alike p.1 r)) (sym (is ∙ queue_walk heads slots queues lists ks head threaded small)) ∙ f.1 in
+    subst (FoundNode heads slots ks r) f.2 (found_node heads slots (queue_of heads slots) head ks r f.0 in_walk)
+
+pub search_none : (heads : ℕ) (slots : Slab Request) (queues lists : List Link) (ks : List ℕ) (r : Request) (head : ℕ) (walk : List (ℕ × Request)) → IsThreaded heads slots queues lists ks → head ≡ granule_number r.granule % heads
+    → walk ≡ pairs_from (slab_len slots) slots queues heads head (after_at queues head) → None ≡ option_map (λ (p : ℕ × Request). p.0) (find (λ (p : ℕ × Request). are_alike p.1 r) walk)
+    → (q : Request) → members.In q (requests_in slots ks) → are_alike q r ≡ false
+search_none heads slots queues lists ks r head walk threaded at is e =
+    let small : head < heads = subst (λ b. b < heads) (sym at) (mod_small (granule_number r.granule) heads threaded.some_heads) in
+    let none : find (λ (p : ℕ × Request). are_alike p.1 r) (map (pair_at heads slots) (in_bucket (queue_of heads slots) head ks)) ≡ None =
+    ap (find (λ (p : ℕ × Request). are_alike p.1 r)) (sym (is ∙ queue_walk heads slots queues lists ks head threaded small)) ∙ none_found_by (find (λ (p : ℕ × Request). are_alike p.1 r) walk) e in
+    no_node heads slots ks r (subst (λ b. find (λ (p : ℕ × Request). are_alike p.1 r) (map (pair_at heads slots) (in_bucket (queue_of heads slots) b ks)) ≡ None) at none)
+
+-- the places of a node that was found are there
+pub found_within : (heads : ℕ) (slots : Slab Request) (queues lists : List Link) (ks : List ℕ) (r : Request) (place : ℕ) → IsThreaded heads slots queues lists ks → FoundNode heads slots ks r place → (place < length queues) × (place < length lists)
+found_within heads slots queues lists ks r place threaded node =
+    let w = place_within heads slots queues lists ks node.key threaded node.there (mod_small (granule_number (request_at slots node.key).granule) heads threaded.some_heads) (mod_small (request_at slots node.key).txn heads threaded.some_heads) in
+    (subst (λ p. p < length queues) node.at w.0, subst (λ p. p < length lists) node.at w.1)
+
+key_is : (heads key place : ℕ) → heads + key ≡ place → place - heads ≡ key
+key_is heads key place e = omega arith
+
+module _ (heads : ℕ) (slots : Slab Request) (queues lists : List Link) (events : List (ℕ × Bool)) (r : Request) (place key : ℕ) where
+  pub found_there : IsThreaded heads slots queues lists (alive events) → FoundNode heads slots (alive events) r place → key ≡ place - heads → is_some (get slots key) ≡ true
+  found_there threaded node at = subst (λ k. is_some (get slots k) ≡ true) (sym (at ∙ key_is heads node.key place node.at)) (threaded.there node.key node.there)
+
+  -- the node goes
+  pub less_threaded : (new : Slab Request) (queues_now lists_now : List Link) (now : List (ℕ × Bool)) → IsThreaded heads slots queues lists (alive events) → FoundNode heads slots (alive events) r place → key ≡ place - heads
+      → Updates slots new key None → slab_len new + 1 ≡ slab_len slots → LinksOut queues queues_now place → LinksOut lists lists_now place → length queues_now ≡ length queues → length lists_now ≡ length lists
+      → now ≡ events ++ (key, false) ∷ [] → IsThreaded heads new queues_now lists_now (alive now)
+  less_threaded new queues_now lists_now now threaded node at updates less out_queue out_list long_queues long_lists goes =
+      let same : key ≡ node.key = at ∙ key_is heads node.key place node.at in
+      subst (IsThreaded heads new queues_now lists_now) (sym (ap alive goes ∙ alive_goes events key ∙ ap (λ k. without k (alive events)) same))
+      (threaded_less heads slots queues lists (alive events) new queues_now lists_now node.key threaded node.there (subst (λ k. Updates slots new k None) same updates) less
+      (subst (LinksOut queues queues_now) (sym node.at) out_queue) (subst (LinksOut lists lists_now) (sym node.at) out_list)
+      (let h = threaded.queue_heads in omega arith) (let h = threaded.list_heads in omega arith)
+      (mod_small (granule_number (request_at slots node.key).granule) heads threaded.some_heads) (mod_small (request_at slots node.key).txn heads threaded.some_heads))
+
+  pub less_requests : (new : Slab Request) (now : List (ℕ × Bool)) → AreRequests (requests_in slots (alive events)) → FoundNode heads slots (alive events) r place → key ≡ place - heads
+      → Updates slots new key None → now ≡ events ++ (key, false) ∷ [] → requests_in new (alive now) ≡ removed r (requests_in slots (alive events))
+  less_requests new now one node at updates goes =
+      let same : key ≡ node.key = at ∙ key_is heads node.key place node.at in
+      ap (requests_in new) (ap alive goes ∙ alive_goes events key)
+      ∙ requests_same slots new (without key (alive events)) (λ k h. updates.others k (λ e. let yes = (Decides-eqb k key).1 e in let kept = (in_filter (λ x. not (x == key)) (alive events) k h).1 in let gone : not (k == key) ≡ false = ap not yes in cc))
+      ∙ ap (λ k. requests_in slots (without k (alive events))) same
+      ∙ sym (removed_is slots (alive events) r one node.key node.there node.alike)
+
+  -- it has another request
+  pub set_threaded : (new : Slab Request) → IsThreaded heads slots queues lists (alive events) → FoundNode heads slots (alive events) r place → key ≡ place - heads → Updates slots new key (Some r) → slab_len new ≡ slab_len slots
+      → IsThreaded heads new queues lists (alive events)
+  set_threaded new threaded node at updates len =
+      let same : key ≡ node.key = at ∙ key_is heads node.key place node.at in
+      let keys = (alike-Decides (request_at slots node.key) r).0 node.alike in
+      threaded_set heads slots queues lists (alive events) new node.key r threaded node.there (subst (λ k. Updates slots new k (Some r)) same updates) len (sym keys.0) (sym keys.1)
+
+  pub set_requests : (new : Slab Request) → AreRequests (requests_in slots (alive events)) → FoundNode heads slots (alive events) r place → key ≡ place - heads → Updates slots new key (Some r)
+      → requests_in new (alive events) ≡ replaced r (requests_in slots (alive events))
+  set_requests new one node at updates =
+      let same : key ≡ node.key = at ∙ key_is heads node.key place node.at in
+      replaced_is slots new (alive events) r one node.key node.there node.alike (subst (λ k. Updates slots new k (Some r)) same updates)
+
+-- room for a node is taken first, in the slab and then in the rings
+module _ (heads : ℕ) (slots reserved : Slab Request) (queues lists : List Link) (ks : List ℕ) where
+  pub reserved_threaded : reserved ≡ record slots { capacity = reserved.capacity } → IsThreaded heads slots queues lists ks → IsThreaded heads reserved queues lists ks
+  reserved_threaded kept threaded = threaded_same heads slots reserved queues lists ks (λ k. ap (λ s. get s k) kept) (ap slab_len kept) threaded
+
+  pub reached_threaded : (queues_now lists_now : List Link) → reserved ≡ record slots { capacity = reserved.capacity } → IsThreaded heads slots queues lists ks
+      → ((head : ℕ) (xs : List ℕ) → IsRing queues head xs → IsRing queues_now head xs) → ((head : ℕ) (xs : List ℕ) → IsRing lists head xs → IsRing lists_now head xs)
+      → length queues ≤ length queues_now → length lists ≤ length lists_now → IsThreaded heads reserved queues_now lists_now ks
+  reached_threaded queues_now lists_now kept threaded more_queues more_lists long_queues long_lists =
+      threaded_wider heads reserved queues lists queues_now lists_now ks more_queues more_lists long_queues long_lists (reserved_threaded kept threaded)
+
+-- a node comes
+pub more_threaded : (heads : ℕ) (slots new : Slab Request) (queues lists queues_now lists_now : List Link) (events now : List (ℕ × Bool)) (r : Request) (key place : ℕ) → IsThreaded heads slots queues lists (alive events)
+    → get slots key ≡ None → place ≡ heads + key → Updates slots new key (Some r) → slab_len new ≡ slab_len slots + 1
+    → LinksIn queues queues_now (granule_number r.granule % heads) place → LinksIn lists lists_now (r.txn % heads) place → length queues_now ≡ length queues → length lists_now ≡ length lists
+    → now ≡ events ++ (key, true) ∷ [] → IsThreaded heads new queues_now lists_now (alive now)
+more_threaded heads slots new queues lists queues_now lists_now events now r key place threaded vacant at updates more in_queue in_list long_queues long_lists comes =
+    subst (IsThreaded heads new queues_now lists_now) (sym (ap alive comes ∙ alive_comes events key))
+    (threaded_more heads slots queues lists (alive events) new queues_now lists_now key r threaded vacant updates more
+    (subst (LinksIn queues queues_now (granule_number r.granule % heads)) at in_queue) (subst (LinksIn lists lists_now (r.txn % heads)) at in_list)
+    (let h = threaded.queue_heads in omega arith) (let h = threaded.list_heads in omega arith)
+    (mod_small (granule_number r.granule) heads threaded.some_heads) (mod_small r.txn heads threaded.some_heads))
+
+pub more_requests : (heads : ℕ) (slots new : Slab Request) (queues lists : List Link) (events now : List (ℕ × Bool)) (r : Request) (key : ℕ) → IsThreaded heads slots queues lists (alive events)
+    → get slots key ≡ None → Updates slots new key (Some r) → now ≡ events ++ (key, true) ∷ [] → requests_in new (alive now) ≡ requests_in slots (alive events) ++ r ∷ []
+more_requests heads slots new queues lists events now r key threaded vacant updates comes =
+    ap (requests_in new) (ap alive comes ∙ alive_comes events key) ∙ requests_more heads slots queues lists (alive events) new key r threaded vacant updates
+
+pub requests_reserved : (slots reserved : Slab Request) (ks : List ℕ) → reserved ≡ record slots { capacity = reserved.capacity } → requests_in reserved ks ≡ requests_in slots ks
+requests_reserved slots reserved ks kept = requests_same slots reserved ks (λ k h. ap (λ s. get s k) kept)
+
+-- the first of those that pass is the one found
+found_first : {A : Type 0} (p : A → Bool) (xs : List A) → find p xs ≡ slice_get (filter p xs) 0
+found_first p [] = refl
+found_first p (x ∷ xs) = ⊎_elim (λ yes. rw yes refl) (λ no. rw no (found_first p xs)) (members.either (p x))
+
+found_second : (p : Request → Bool) (nodes : List (ℕ × Request)) (node : ℕ × Request) → Some node ≡ find (λ (n : ℕ × Request). p n.1) nodes → find p (map (λ (n : ℕ × Request). n.1) nodes) ≡ Some node.1
+found_second p [] node e = cc
+found_second p (x ∷ xs) node e =
+    ⊎_elim
+    (λ yes. let same : Some node ≡ Some x = rw yes at e in let it : node ≡ x = cc in rw yes (ap Some (ap (λ (n : ℕ × Request). n.1) (sym it))))
+    (λ no. let there : Some node ≡ find (λ (n : ℕ × Request). p n.1) xs = rw no at e in rw no (found_second p xs node there))
+    (members.either (p x.1))
+
+none_second : (p : Request → Bool) (nodes : List (ℕ × Request)) → None ≡ find (λ (n : ℕ × Request). p n.1) nodes → find p (map (λ (n : ℕ × Request). n.1) nodes) ≡ None
+none_second p [] e = refl
+none_second p (x ∷ xs) e =
+    ⊎_elim
+    (λ yes. absurd (let same : None ≡ Some x = rw yes at e in cc))
+    (λ no. let there : None ≡ find (λ (n : ℕ × Request). p n.1) xs = rw no at e in rw no (none_second p xs there))
+    (members.either (p x.1))
+
+module _ (heads : ℕ) (slots : Slab Request) (queues lists : List Link) (ks : List ℕ) (t head : ℕ) (walk : List (ℕ × Request)) where
+  list_of_walk : IsThreaded heads slots queues lists ks → head ≡ t % heads → walk ≡ pairs_from (slab_len slots) slots lists heads head (after_at lists head) → requests_by t (map (λ (n : ℕ × Request). n.1) walk) ≡ requests_by t (requests_in slots ks)
+  list_of_walk threaded at is =
+      ap (λ w. requests_by t (map (λ (n : ℕ × Request). n.1) w)) (is ∙ ap (λ b. pairs_from (slab_len slots) slots lists heads b (after_at lists b)) at)
+      ∙ list_requests heads slots queues lists ks t threaded (mod_small t heads threaded.some_heads)
+
+  -- the first node of a transaction has its first request
+  pub first_request : (node : ℕ × Request) → IsThreaded heads slots queues lists ks → head ≡ t % heads → walk ≡ pairs_from (slab_len slots) slots lists heads head (after_at lists head) → Some node ≡ find (λ (p : ℕ × Request). p.1.txn == t) walk
+      → Some node.1 ≡ slice_get (requests_by t (requests_in slots ks)) 0
+  first_request node threaded at is e =
+      sym (ap (λ xs. slice_get xs 0) (sym (list_of_walk threaded at is)) ∙ sym (found_first (λ r. r.txn == t) (map (λ (n : ℕ × Request). n.1) walk)) ∙ found_second (λ r. r.txn == t) walk node e)
+
+  pub no_request : IsThreaded heads slots queues lists ks → head ≡ t % heads → walk ≡ pairs_from (slab_len slots) slots lists heads head (after_at lists head) → None ≡ find (λ (p : ℕ × Request). p.1.txn == t) walk
+      → None ≡ slice_get (requests_by t (requests_in slots ks)) 0
+  no_request threaded at is e =
+      sym (ap (λ xs. slice_get xs 0) (sym (list_of_walk threaded at is)) ∙ sym (found_first (λ r. r.txn == t) (map (λ (n : ℕ × Request). n.1) walk)) ∙ none_second (λ r. r.txn == t) walk e)
+
+  -- .. and is a node of that request
+  pub first_node : (node : ℕ × Request) → IsThreaded heads slots queues lists ks → head ≡ t % heads → walk ≡ pairs_from (slab_len slots) slots lists heads head (after_at lists head) → Some node ≡ find (λ (p : ℕ × Request). p.1.txn == t) walk
+      → FoundNode heads slots ks node.1 node.0
+  first_node node threaded at is e =
+      let small : head < heads = subst (λ b. b < heads) (sym at) (mod_small t heads threaded.some_heads) in
+      let in_walk : find (λ (p : ℕ × Request). p.1.txn == t) (map (pair_at heads slots) (in_bucket (list_of heads slots) head ks)) ≡ Some node =
+      ap (find (λ (p : ℕ × Request). p.1.txn == t)) (sym (is ∙ list_walk heads slots queues lists ks head threaded small)) ∙ sym e in
+      let f = found_in (λ (p : ℕ × Request). p.1.txn == t) (map (pair_at heads slots) (in_bucket (list_of heads slots) head ks)) node in_walk in
+      let m = from_map (pair_at heads slots) (in_bucket (list_of heads slots) head ks) node f.0 in
+      record {
+        key = m.0;
+        at = ap (λ (p : ℕ × Request). p.0) m.2;
+        there = (in_filter (λ k. list_of heads slots k == head) ks m.0 m.1).0;
+        alike = ap (λ (p : ℕ × Request). are_alike p.1 node.1) m.2 ∙ alike-self node.1;
+      }
+
+pub place_is : (heads key place : ℕ) → heads + key ≡ place → place ≡ heads + (place - heads)
+place_is heads key place e = omega arith
+
+pub node_any : (heads : ℕ) (slots : Slab Request) (ks : List ℕ) (r : Request) (place : ℕ) → FoundNode heads slots ks r place → list_any (λ q. are_alike q r) (requests_in slots ks) ≡ true
+node_any heads slots ks r place node = any_of (λ q. are_alike q r) (requests_in slots ks) (request_at slots node.key) (in_map (request_at slots) ks node.key node.there) node.alike
+
+pub none_of_any : (p : Request → Bool) (rs : List Request) → ((q : Request) → members.In q rs → p q ≡ false) → list_any p rs ≡ false
+none_of_any p rs none =
+    ⊎_elim (λ yes. absurd (let f = found_any p rs yes in let g = none f.0 f.1 in let h = f.2 in cc)) (λ no. no) (members.either (list_any p rs))
+
+-- the end of a way is reached from one of its places
+end_reached : (f g : ℕ → ℕ) (a : ℕ) (xs : List ℕ) (b : ℕ) → Way f g a xs b → In (g b) (a ∷ xs)
+end_reached f g a [] b w = inl (sym w.1)
+end_reached f g a (x ∷ xs) b w = inr (end_reached f g x xs b w.1)
+
+-- the node before a head is one of the requests
+pub newest_there : (heads : ℕ) (slots : Slab Request) (queues lists : List Link) (ks : List ℕ) (t head place key : ℕ) (r : Request) → IsThreaded heads slots queues lists ks → head ≡ t % heads → place ≡ before_at lists head → (place ≡ head → ⊥) → key ≡ place - heads → get slots key ≡ Some r
+    → Contains (requests_in slots ks) r
+newest_there heads slots queues lists ks t head place key r threaded at is other key_at stands =
+    let small : head < heads = subst (λ b. b < heads) (sym at) (mod_small t heads threaded.some_heads) in
+    let ring = threaded.lists_hold head small in
+    let last = end_reached (after_at lists) (before_at lists) head (places heads (in_bucket (list_of heads slots) head ks)) head ring.way in
+    ⊎_elim
+    (λ e. absurd (other (is ∙ sym e)))
+    (λ h. let m = in_places heads (in_bucket (list_of heads slots) head ks) (before_at lists head) h in
+    let k_in = (in_filter (λ k. list_of heads slots k == head) ks m.0 m.1).0 in
+    let same : key ≡ m.0 = let e = m.2 in omega arith in
+    let here : request_at slots m.0 ≡ r = ap (request_at slots) (sym same) ∙ ap request_or stands in
+    subst (Contains (requests_in slots ks)) here (members.In-Contains (requests_in slots ks) (request_at slots m.0) (in_map (request_at slots) ks m.0 k_in)))
+    last
+
+-- one that waits is the one found
+waiting_found : (t : ℕ) (rs : List Request) (r : Request) (o : Option Request) → WaitsOnce rs → Contains rs r → r.txn ≡ t → is_some r.wanted ≡ true → waiting_request t rs ≡ o → Some r ≡ o
+waiting_found t rs r None once there by wants is =
+    absurd (let no = found_none (λ q. (q.txn == t) && is_some q.wanted) rs is r (members.Contains-In rs r there) in
+    let yes = both_yes (r.txn == t) (is_some r.wanted) ((Decides-eqb r.txn t).1 by) wants in cc)
+waiting_found t rs r (Some q) once there by wants is =
+    let f = found_in (λ q. (q.txn == t) && is_some q.wanted) rs q is in
+    let p = both_true (q.txn == t) (is_some q.wanted) f.1 in
+    ap Some (once r q there (members.In-Contains rs q f.0) (by ∙ sym ((Decides-eqb q.txn t).0 p.0)) wants p.1)
+
+pub waiting_is : (t : ℕ) (rs : List Request) (r : Request) → WaitsOnce rs → Contains rs r → r.txn ≡ t → is_some r.wanted ≡ true → Some r ≡ waiting_request t rs
+waiting_is t rs r once there by wants = waiting_found t rs r (waiting_request t rs) once there by wants refl
+
+pub if_some_all : {A : Type 0} (P Q : A → Type 0) (o : Option A) → ((x : A) → P x → Q x) → IfSome o P → IfSome o Q
+if_some_all P Q None h i = i
+if_some_all P Q (Some x) h i = h x i

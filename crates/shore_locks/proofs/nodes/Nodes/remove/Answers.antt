@@ -1,0 +1,42 @@
+use Rattle.std.proofs.Common.{◌≡◌, ◌+◌, true, sym, ap, subst, ◌∙◌}
+use Rattle.slab.specs.Slab.{slab_len}
+use Rattle.shore_model.specs.Requests.{AreRequests}
+use Rattle.shore_locks.specs.Grants.{removed}
+use Rattle.shore_locks.specs.Nodes.{alive, requests_in}
+use Rattle.shore_locks.proofs.NodeSteps.{found_there, found_within, less_requests, less_threaded, on_some, search_found, search_none}
+use Rattle.shore_locks.proofs.Others.{removed_none}
+use Rattle.std.specs.Prelude.{is_some}
+use Rattle.shore_locks.proofs.nodes.Nodes.remove.Goals as goal
+
+pub unthread-requires-clause-queue_place : goal.unthread-requires-clause-queue_place
+unthread-requires-clause-queue_place c =
+    (found_within c.self.inside.heads c.self.inside.slots c.self.inside.queues c.self.inside.lists (alive c.self.inside.history.items) c.args.request.now c.in-Some.place c.self.invariant
+    (search_found c.self.inside.heads c.self.inside.slots c.self.inside.queues c.self.inside.lists (alive c.self.inside.history.items) c.args.request.now c.queue_head-head.result c.in-Some.place c.new-walk.result c.self.invariant c.queue_head-head.ensures.is c.new-walk.ensures c.in-Some.ensures)).0
+
+pub unthread-requires-clause-list_place : goal.unthread-requires-clause-list_place
+unthread-requires-clause-list_place c =
+    (found_within c.self.inside.heads c.self.inside.slots c.self.inside.queues c.self.inside.lists (alive c.self.inside.history.items) c.args.request.now c.in-Some.place c.self.invariant
+    (search_found c.self.inside.heads c.self.inside.slots c.self.inside.queues c.self.inside.lists (alive c.self.inside.history.items) c.args.request.now c.queue_head-head.result c.in-Some.place c.new-walk.result c.self.invariant c.queue_head-head.ensures.is c.new-walk.ensures c.in-Some.ensures)).1
+
+pub invariant_of-self : goal.invariant_of-self
+invariant_of-self c =
+    let node = search_found c.self.inside.heads c.self.inside.slots c.self.inside.queues c.self.inside.lists (alive c.self.inside.history.items) c.args.request.now c.queue_head-head.result c.in-Some.place c.new-walk.result c.self.invariant c.queue_head-head.ensures.is c.new-walk.ensures c.in-Some.ensures in
+    let there : is_some c.try_remove.result ≡ true = ap is_some c.try_remove.ensures.value ∙ found_there c.self.inside.heads c.self.inside.slots c.self.inside.queues c.self.inside.lists c.self.inside.history.items c.args.request.now c.in-Some.place c.saturating_sub-key.result c.self.invariant node c.saturating_sub-key.ensures in
+    less_threaded c.self.inside.heads c.self.inside.slots c.self.inside.queues c.self.inside.lists c.self.inside.history.items c.args.request.now c.in-Some.place c.saturating_sub-key.result
+    c.try_remove.new.self c.unthread.new.queues c.unthread.new.lists c.and-self-inside.result.items c.self.invariant node c.saturating_sub-key.ensures c.try_remove.ensures.updates
+    (on_some (slab_len c.try_remove.new.self + 1 ≡ slab_len c.self.inside.slots) c.try_remove.result there c.try_remove.ensures.len)
+    c.unthread.ensures.queues c.unthread.ensures.lists c.unthread.ensures.queue_places c.unthread.ensures.list_places c.and-self-inside.ensures
+
+pub returns-in-Some : goal.returns-in-Some
+returns-in-Some c =
+    let node = search_found c.self.inside.heads c.self.inside.slots c.self.inside.queues c.self.inside.lists (alive c.self.inside.history.items) c.args.request.now c.queue_head-head.result c.in-Some.place c.new-walk.result c.self.invariant c.queue_head-head.ensures.is c.new-walk.ensures c.in-Some.ensures in
+    less_requests c.self.inside.heads c.self.inside.slots c.self.inside.queues c.self.inside.lists c.self.inside.history.items c.args.request.now c.in-Some.place c.saturating_sub-key.result
+    c.try_remove.new.self c.and-self-inside.result.items (subst AreRequests (sym c.self.view_is) c.requires) node c.saturating_sub-key.ensures c.try_remove.ensures.updates c.and-self-inside.ensures
+    ∙ ap (removed c.args.request.now) c.self.view_is
+
+pub returns-in_default : goal.returns-in_default
+returns-in_default c =
+    sym (ap (removed c.args.request.now) (sym c.self.view_is)
+    ∙ removed_none c.args.request.now (requests_in c.self.inside.slots (alive c.self.inside.history.items))
+    (search_none c.self.inside.heads c.self.inside.slots c.self.inside.queues c.self.inside.lists (alive c.self.inside.history.items) c.args.request.now c.queue_head-head.result c.new-walk.result c.self.invariant c.queue_head-head.ensures.is c.new-walk.ensures c.in_default.ensures)
+    ∙ c.self.view_is)

@@ -1,0 +1,5 @@
+pub mod Grants
+pub mod Laws
+pub mod Nodes
+pub mod Orderly
+pub mod Tables

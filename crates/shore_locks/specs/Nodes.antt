@@ -1,0 +1,91 @@
+-- Requests as nodes of a slab, threaded by two rings each: that of a bucket of granules, and that of a bucket of transactions.
+use Rattle.std.specs.Prelude.{◌≡◌, ◌==◌, ◌<◌, ◌≤◌, ◌+◌, ◌-◌, ◌*◌, ◌%◌, ◌++◌, ℕ, zero, suc, List, [], ◌∷◌, Bool, true, not, cond, Option, None, Some, is_some, filter, map, length}
+use Rattle.slab.specs.Slab.{Slab, get, slab_len}
+use Rattle.shore_types.specs.declared.locking.Granule.{Granule}
+use Rattle.shore_types.specs.declared.locking.Granule.TheVariants.{Volume, Store, Page, Record}
+use Rattle.shore_model.specs.declared.requests.Request.{Request}
+use Rattle.shore_links.specs.declared.ring.Link.{Link}
+use Rattle.shore_links.specs.Rings.{Apart, Distinct, In, IsRing, after_at}
+
+-- a number by which a granule finds its bucket
+abbrev pub granule_number : Granule → ℕ
+granule_number Volume = 0
+granule_number (Store s) = s + 1
+granule_number (Page p) = p.store * 65599 + p.page
+granule_number (Record r) = (r.page.store * 65599 + r.page.page) * 2053 + r.slot
+
+abbrev pub request_or : Option Request → Request
+request_or None = record { txn = 0; granule = Volume; held = None; wanted = None }
+request_or (Some r) = r
+
+-- the request at a key
+abbrev pub request_at : Slab Request → ℕ → Request
+request_at slots key = request_or (get slots key)
+
+-- the buckets of the request at a key
+abbrev pub queue_of : ℕ → Slab Request → ℕ → ℕ
+queue_of heads slots key = granule_number (request_at slots key).granule % heads
+
+abbrev pub list_of : ℕ → Slab Request → ℕ → ℕ
+list_of heads slots key = (request_at slots key).txn % heads
+
+-- keys without one
+abbrev pub without : ℕ → List ℕ → List ℕ
+without key keys = filter (λ k. not (k == key)) keys
+
+-- the keys that came and did not go again, in the order in which they came
+abbrev pub left_after : List ℕ → List (ℕ × Bool) → List ℕ
+left_after keys [] = keys
+left_after keys (e ∷ es) = left_after (cond e.1 (keys ++ e.0 ∷ []) (without e.0 keys)) es
+
+abbrev pub alive : List (ℕ × Bool) → List ℕ
+alive events = left_after [] events
+
+-- the requests at these keys
+abbrev pub requests_in : Slab Request → List ℕ → List Request
+requests_in slots keys = map (request_at slots) keys
+
+-- the keys of a bucket, and their places behind those of the heads
+abbrev pub in_bucket : (ℕ → ℕ) → ℕ → List ℕ → List ℕ
+in_bucket bucket b keys = filter (λ k. bucket k == b) keys
+
+abbrev pub places : ℕ → List ℕ → List ℕ
+places heads keys = map (λ k. heads + k) keys
+
+-- the ring of each head has the keys of its bucket
+abbrev pub Holds : List Link → ℕ → (ℕ → ℕ) → List ℕ → Type 0
+Holds links heads bucket keys = (b : ℕ) → b < heads → IsRing links b (places heads (in_bucket bucket b keys))
+
+-- the nodes are those of the keys, each in its two rings
+pub record IsThreaded (heads : ℕ) (slots : Slab Request) (queues lists : List Link) (keys : List ℕ) : Type 0 where
+  pub some_heads : 0 < heads
+  pub distinct : Distinct keys
+  pub there : (k : ℕ) → In k keys → is_some (get slots k) ≡ true
+  pub count : slab_len slots ≡ length keys
+  pub queues_hold : Holds queues heads (queue_of heads slots) keys
+  pub lists_hold : Holds lists heads (list_of heads slots) keys
+  pub queue_heads : heads ≤ length queues
+  pub list_heads : heads ≤ length lists
+
+-- a node with its place, if it is there, and then the others
+abbrev pub pair_and : ℕ → Option Request → List (ℕ × Request) → List (ℕ × Request)
+pair_and place None rest = []
+pair_and place (Some r) rest = (place, r) ∷ rest
+
+-- the nodes of a ring from a place on, up to its head, and at most so many
+abbrev pub pairs_from : ℕ → Slab Request → List Link → ℕ → ℕ → ℕ → List (ℕ × Request)
+pairs_from zero slots links heads head place = []
+pairs_from (suc n) slots links heads head place =
+    cond (place == head) [] (pair_and place (get slots (place - heads)) (pairs_from n slots links heads head (after_at links place)))
+
+-- what a link of a place to a head's ring says
+abbrev pub LinksIn : List Link → List Link → ℕ → ℕ → Type 0
+LinksIn links new head place =
+    ((xs : List ℕ) → IsRing links head xs → (In place (head ∷ xs) → ⊥) → IsRing new head (xs ++ place ∷ []))
+    × ((xs ys : List ℕ) (other : ℕ) → IsRing links head xs → IsRing links other ys → (In place (other ∷ ys) → ⊥) → Apart (head ∷ xs) (other ∷ ys) → IsRing new other ys)
+
+-- .. and what its unlinking says
+abbrev pub LinksOut : List Link → List Link → ℕ → Type 0
+LinksOut links new place =
+    ((head : ℕ) (xs ys : List ℕ) → IsRing links head (xs ++ place ∷ ys) → IsRing new head (xs ++ ys))
+    × ((head : ℕ) (xs ys : List ℕ) (other : ℕ) (zs : List ℕ) → IsRing links head (xs ++ place ∷ ys) → IsRing links other zs → Apart (head ∷ (xs ++ place ∷ ys)) (other ∷ zs) → IsRing new other zs)

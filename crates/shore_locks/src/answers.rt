@@ -1,0 +1,18 @@
+//! What requests for locks are answered.
+use shore_types::TxnId;
+
+/// What became of a request. Full: it needs a new node, and as many stand as may.
+#[derive(Clone, Copy, Debug, PartialEq, Eq)]
+pub enum Requested {
+    Granted,
+    Waiting,
+    Full,
+}
+
+/// What became of a request that never waits. Blocked: it would have waited for this transaction.
+#[derive(Clone, Copy, Debug, PartialEq, Eq)]
+pub enum Tried {
+    Granted,
+    Blocked(TxnId),
+    Full,
+}

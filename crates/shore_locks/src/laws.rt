@@ -1,0 +1,60 @@
+//! Laws over the list of requests, each the contract of a function with nothing to do.
+ghost use Rattle.std.specs.Prelude.{◌≡◌, ℕ, List, false};
+ghost use Rattle.shore_types.specs.declared.locking.Granule.{Granule};
+ghost use Rattle.shore_types.specs.declared.locking.Mode.{Mode};
+ghost use Rattle.shore_model.specs.declared.requests.Request.{Request};
+ghost use Rattle.shore_model.specs.Requests.{AreRequests};
+ghost use Rattle.shore_locks.specs.Orderly.{IsOrderly};
+ghost use Rattle.shore_locks.specs.Grants.{cancelled, passed, released};
+ghost use Rattle.shore_locks.specs.Tables.{Table, is_waiting};
+ghost use Rattle.shore_locks.specs.Laws.{BlockedByOneInTheWay, FirstWaitersAreRefused, GrantedIsHeld, GrantsABeginning, OnlyGrants, RefusedChangesNothing, StaysQuiet, WaitsForSomebody, of_others, owners};
+
+/// In a table the first waiter of each queue has another holder that refuses it.
+pub fn first_waiters_are_refused()
+    ensures { (rs : List Request) → IsOrderly rs → FirstWaitersAreRefused rs }
+{}
+
+/// What a grant pass grants is a beginning of the queue's waiters.
+pub fn pass_grants_a_beginning()
+    ensures { (rs : List Request) (g : Granule) → AreRequests rs → GrantsABeginning rs g }
+{}
+
+/// A release removes the transaction's requests and no others.
+pub fn release_removes_its_own()
+    ensures { (rs : List Request) (t : ℕ) → AreRequests rs → owners (released t rs) ≡ owners (of_others t rs) }
+{}
+
+/// A grant pass only grants.
+pub fn pass_only_grants()
+    ensures { (rs : List Request) (g : Granule) → AreRequests rs → OnlyGrants rs (passed g rs) }
+{}
+
+/// A transaction whose request was cancelled waits no more.
+pub fn cancelled_waits_no_more()
+    ensures { (rs : List Request) (t : ℕ) → IsOrderly rs → is_waiting t (cancelled t rs) ≡ false }
+{}
+
+/// The transaction that a try names is one for whom the asker would wait.
+pub fn blocked_by_one_in_the_way()
+    ensures { (table : Table) (t : ℕ) (g : Granule) (mode : Mode) → BlockedByOneInTheWay table t g mode }
+{}
+
+/// A transaction that begins to wait waits for somebody.
+pub fn waits_for_somebody()
+    ensures { (table : Table) (t : ℕ) (g : Granule) (mode : Mode) → WaitsForSomebody table t g mode }
+{}
+
+/// What is granted is held, in the mode asked or in a stronger one.
+pub fn granted_is_held()
+    ensures { (table : Table) (t : ℕ) (g : Granule) (mode : Mode) → AreRequests table.requests → GrantedIsHeld table t g mode }
+{}
+
+/// Full and Blocked change nothing.
+pub fn refused_changes_nothing()
+    ensures { (table : Table) (t : ℕ) (g : Granule) (mode : Mode) → RefusedChangesNothing table t g mode }
+{}
+
+/// A transaction that does not wait waits afterwards only where it was told so: it may ask again.
+pub fn waits_only_where_told()
+    ensures { (table : Table) (t : ℕ) (g : Granule) (mode : Mode) → AreRequests table.requests → is_waiting t table.requests ≡ false → StaysQuiet table t g mode }
+{}

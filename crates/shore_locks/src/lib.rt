@@ -1,0 +1,18 @@
+//! A table of locks: what each transaction holds and wants of each granule, and who is granted next.
+#![tactic(auto)]
+
+pub mod answers;
+mod changes;
+mod judgements;
+pub mod laws;
+mod nodes;
+pub mod queues;
+mod searches;
+pub mod table;
+#[cfg(test)]
+mod tests;
+mod walks;
+
+pub use answers::{Requested, Tried};
+pub use queues::{Holders, Waiters};
+pub use table::LockTable;

@@ -1,0 +1,141 @@
+//! The queue of a granule, one request after another.
+ghost use Rattle.std.specs.Prelude.{◌≡◌, ◌∷◌, ◌++◌, ◌&&◌, [], MatchOption, filter};
+ghost use Rattle.std.specs.Iterator.{YieldsFirst, item_count};
+ghost use Rattle.shore_types.specs.Locking.{same_granule};
+ghost use Rattle.shore_model.specs.Requests.{is_in_group, requests_at};
+ghost use Rattle.shore_model.specs.declared.requests.Group.TheVariants.{Holders as HoldersGroup, Conversions, NewWaiters};
+ghost use Rattle.shore_locks.specs.Tables.{holders_at, waiters_at};
+
+use crate::judgements::is_in;
+use crate::nodes::Nodes;
+use crate::walks::Walk;
+use shore_model::Request;
+use shore_model::requests::Group;
+use shore_types::Granule;
+use std::marker::Model;
+
+/// The requests of one group of a granule's queue that are left.
+#[derive(Drop)]
+struct InGroup<'a> {
+    walk: Walk<'a>,
+    granule: Granule,
+    group: Group,
+}
+
+impl<'a> Model for InGroup<'a> {
+    ghost use Rattle.std.specs.Prelude.{ℕ, List, filter, map};
+    ghost use Rattle.shore_model.specs.declared.requests.Request.{Request};
+    ghost use Rattle.shore_model.specs.Requests.{is_in_group, requests_at};
+
+    ghost Value = { List Request };
+
+    ghost view = { λ g. filter (is_in_group g.group) (requests_at g.granule (map (λ (p : ℕ × Request). p.1) g.walk)) };
+}
+
+impl<'a> InGroup<'a> {
+    fn new(nodes: &'a Nodes, granule: &Granule, group: Group) -> InGroup<'a>
+        ensures { result ≡ filter (is_in_group group) (requests_at granule.now nodes.now) }
+    {
+        InGroup {
+            walk: nodes.queue(granule),
+            granule: *granule,
+            group,
+        }
+    }
+
+    fn advance(&mut self) -> Option<Request>
+        ensures { MatchOption result ((self.old ≡ []) × (self.new ≡ [])) (λ r. self.old ≡ r ∷ self.new) }
+    {
+        while let Some((_, request)) = self.walk.advance() {
+            if is_for_group(&request, &self.granule, self.group) {
+                return Some(request);
+            }
+        }
+        None
+    }
+}
+
+fn is_for_group(request: &Request, granule: &Granule, group: Group) -> bool
+    ensures { result ≡ (same_granule request.now.granule granule.now && is_in_group group request.now) }
+{
+    request.granule == *granule && is_in(request, group)
+}
+
+/// Those that hold a granule and want nothing, in the order of its queue.
+#[derive(Drop)]
+pub struct Holders<'a> {
+    left: InGroup<'a>,
+}
+
+impl<'a> Model for Holders<'a> {
+    ghost use Rattle.std.specs.Prelude.{List};
+    ghost use Rattle.shore_model.specs.declared.requests.Request.{Request};
+
+    ghost Value = { List Request };
+
+    ghost view = { λ h. h.left };
+}
+
+impl<'a> Holders<'a> {
+    pub(crate) fn new(nodes: &'a Nodes, granule: Granule) -> Holders<'a>
+        ensures { result ≡ holders_at granule nodes.now }
+    {
+        Holders {
+            left: InGroup::new(nodes, &granule, Group::Holders),
+        }
+    }
+}
+
+impl<'a> Iterator for Holders<'a> {
+    type Item = Request;
+
+    ghost next_gives = { YieldsFirst (λ left. left) };
+
+    ghost remaining = { item_count (λ left. left) };
+
+    fn next(&mut self) -> Option<Request> {
+        self.left.advance()
+    }
+}
+
+/// Those that wait for a granule, in the order of its queue: conversions, then new waiters.
+#[derive(Drop)]
+pub struct Waiters<'a> {
+    conversions: InGroup<'a>,
+    new: InGroup<'a>,
+}
+
+impl<'a> Model for Waiters<'a> {
+    ghost use Rattle.std.specs.Prelude.{List, ◌++◌};
+    ghost use Rattle.shore_model.specs.declared.requests.Request.{Request};
+
+    ghost Value = { List Request };
+
+    ghost view = { λ w. w.conversions ++ w.new };
+}
+
+impl<'a> Waiters<'a> {
+    pub(crate) fn new(nodes: &'a Nodes, granule: Granule) -> Waiters<'a>
+        ensures { result ≡ waiters_at granule nodes.now }
+    {
+        Waiters {
+            conversions: InGroup::new(nodes, &granule, Group::Conversions),
+            new: InGroup::new(nodes, &granule, Group::NewWaiters),
+        }
+    }
+}
+
+impl<'a> Iterator for Waiters<'a> {
+    type Item = Request;
+
+    ghost next_gives = { YieldsFirst (λ left. left) };
+
+    ghost remaining = { item_count (λ left. left) };
+
+    fn next(&mut self) -> Option<Request> {
+        match self.conversions.advance() {
+            Some(conversion) => Some(conversion),
+            None => self.new.advance(),
+        }
+    }
+}

@@ -1,0 +1,113 @@
+//! Searches among the nodes of a granule's queue, and of a transaction.
+ghost use Rattle.std.specs.Prelude.{◌≡◌, filter, slice_get};
+ghost use Rattle.shore_model.specs.Requests.{is_in_group, requests_at};
+ghost use Rattle.shore_locks.specs.Tables as tables;
+ghost use Rattle.shore_locks.specs.Grants as steps;
+ghost use Rattle.shore_locks.specs.Orderly.{WaitsOnce};
+
+use crate::judgements::{aim, is_for, is_in, is_stopped_by, refuses};
+use crate::nodes::Nodes;
+use shore_model::Request;
+use shore_model::requests::Group;
+use shore_types::{Granule, Mode, TxnId};
+
+/// The request of a transaction for a granule.
+pub fn request_for(nodes: &Nodes, txn: TxnId, granule: &Granule) -> Option<Request>
+    ensures { result ≡ tables.request_for txn granule.now nodes.now }
+{
+    let mut walk = nodes.queue(granule);
+    while let Some((_, request)) = walk.advance() {
+        if is_for(&request, txn, granule) {
+            return Some(request);
+        }
+    }
+    None
+}
+
+/// The mode in which a transaction holds a granule.
+pub fn mode_held(nodes: &Nodes, txn: TxnId, granule: &Granule) -> Option<Mode>
+    ensures { result ≡ tables.mode_held txn granule.now nodes.now }
+{
+    request_for(nodes, txn, granule)?.held
+}
+
+/// The request with which a transaction waits. It is the transaction's newest, so it is mostly the first that is looked at.
+pub fn waiting_request(nodes: &Nodes, txn: TxnId) -> Option<Request>
+    requires { WaitsOnce nodes.now }
+    ensures { result ≡ tables.waiting_request txn nodes.now }
+{
+    if let Some(newest) = nodes.newest(txn)
+        && newest.wanted.is_some()
+    {
+        return Some(newest);
+    }
+    let mut walk = nodes.list(txn);
+    while let Some((_, request)) = walk.advance() {
+        if request.txn == txn && request.wanted.is_some() {
+            return Some(request);
+        }
+    }
+    None
+}
+
+/// The first waiter of a granule's queue.
+pub fn first_waiter(nodes: &Nodes, granule: &Granule) -> Option<Request>
+    ensures { result ≡ slice_get (tables.waiters_at granule.now nodes.now) 0 }
+{
+    match first_in_group(nodes, granule, Group::Conversions) {
+        Some(conversion) => Some(conversion),
+        None => first_in_group(nodes, granule, Group::NewWaiters),
+    }
+}
+
+fn first_in_group(nodes: &Nodes, granule: &Granule, group: Group) -> Option<Request>
+    ensures { result ≡ slice_get (filter (is_in_group group) (requests_at granule.now nodes.now)) 0 }
+{
+    let mut walk = nodes.queue(granule);
+    while let Some((_, request)) = walk.advance() {
+        if request.granule == *granule && is_in(&request, group) {
+            return Some(request);
+        }
+    }
+    None
+}
+
+/// Whether each other holder of its granule grants what a waiter wants.
+pub fn can_be_granted(nodes: &Nodes, waiter: &Request) -> bool
+    ensures { result ≡ steps.can_be_granted waiter.now (requests_at waiter.now.granule nodes.now) }
+{
+    let mut walk = nodes.queue(&waiter.granule);
+    while let Some((_, other)) = walk.advance() {
+        if other.granule == waiter.granule && refuses(waiter, &other) {
+            return false;
+        }
+    }
+    true
+}
+
+/// The first request that a new one would wait for.
+pub fn obstacle(nodes: &Nodes, waiter: &Request) -> Option<Request>
+    ensures { result ≡ steps.obstacle waiter.now nodes.now }
+{
+    let mut walk = nodes.queue(&waiter.granule);
+    while let Some((_, other)) = walk.advance() {
+        if other.granule == waiter.granule && is_stopped_by(waiter, &other) {
+            return Some(other);
+        }
+    }
+    None
+}
+
+/// A transaction's request for a mode that it does not hold.
+pub fn asking(nodes: &Nodes, txn: TxnId, granule: &Granule, mode: Mode) -> Request
+    ensures { result ≡ steps.asking txn granule.now mode nodes.now }
+{
+    let held = mode_held(nodes, txn, granule);
+    let wanted = aim(held, mode);
+    Request {
+        txn,
+        granule: *granule,
+        held,
+        wanted: Some(wanted),
+    }
+}

@@ -1,0 +1,169 @@
+//! The lock table.
+ghost use Rattle.std.specs.Prelude.{◌≡◌, ◌≤◌, ◌+◌, ℕ, [], length, IfErr, IfOk, OnOk, OnErr, Ok, Err, false};
+ghost use Rattle.shore_types.specs.declared.faults.Fault.TheVariants.{Memory};
+ghost use Rattle.shore_model.specs.Requests.{requests_by};
+ghost use Rattle.shore_locks.specs.Grants as steps;
+ghost use Rattle.shore_locks.specs.Grants.{after_request, after_try, answer_to, answer_to_try, cancelled, is_enough, released};
+ghost use Rattle.shore_locks.specs.Tables.{holders_at, is_waiting, mode_held, waiters_at, waiting_request};
+ghost use Rattle.shore_locks.specs.Orderly.{IsOrderly};
+
+use crate::answers::{Requested, Tried};
+use crate::judgements::is_enough;
+use crate::nodes::Nodes;
+use crate::queues::{Holders, Waiters};
+use crate::{changes, searches};
+use shore_model::Request;
+use shore_types::{Fault, Granule, Mode, TxnId};
+use std::alloc::{AllocError, Global};
+use std::marker::Model;
+
+/// What each transaction holds and wants of each granule. One node stands for each pair of the two.
+#[derive(Drop)]
+pub struct LockTable {
+    limit: usize,
+    nodes: Nodes,
+}
+
+impl Model for LockTable {
+    ghost use Rattle.std.specs.Prelude.{◌≤◌, length};
+    ghost use Rattle.shore_locks.specs.Tables.{Table};
+
+    ghost Value = { Table };
+
+    ghost use Rattle.shore_locks.specs.Orderly.{IsKept};
+
+    ghost view = { λ t. record { limit = t.limit; requests = t.nodes } };
+
+    ghost invariant = { λ t. IsKept t.limit t.nodes };
+}
+
+impl LockTable {
+    /// A table with no requests, for so many nodes.
+    pub fn new(alloc: Global, limit: usize) -> Result<LockTable, AllocError>
+        ensures { IfOk result (λ table. table ≡ record { limit = limit; requests = [] }) }
+    {
+        let heads = limit.max(1);
+        let nodes = Nodes::new(alloc, heads)?;
+        Ok(LockTable { limit, nodes })
+    }
+
+    /// How many nodes stand.
+    pub fn nodes(&self) -> usize
+        ensures nodes { result ≡ length self.now.requests }
+        ensures within { length self.now.requests ≤ self.now.limit }
+        ensures orderly { IsOrderly self.now.requests }
+    {
+        self.nodes.len()
+    }
+
+    /// The mode in which a transaction holds a granule.
+    pub fn held(&self, txn: TxnId, granule: Granule) -> Option<Mode>
+        ensures { result ≡ mode_held txn granule self.now.requests }
+    {
+        searches::mode_held(&self.nodes, txn, &granule)
+    }
+
+    /// Whether a transaction waits.
+    pub fn is_waiting(&self, txn: TxnId) -> bool
+        ensures { result ≡ is_waiting txn self.now.requests }
+    {
+        searches::waiting_request(&self.nodes, txn).is_some()
+    }
+
+    /// The request with which a transaction waits.
+    pub fn waiting_request(&self, txn: TxnId) -> Option<Request>
+        ensures { result ≡ waiting_request txn self.now.requests }
+    {
+        searches::waiting_request(&self.nodes, txn)
+    }
+
+    /// Those that hold a granule and want nothing, in the order of its queue.
+    pub fn holders(&self, granule: Granule) -> Holders<'_>
+        ensures { result ≡ holders_at granule self.now.requests }
+    {
+        Holders::new(&self.nodes, granule)
+    }
+
+    /// Those that wait for a granule, in the order of its queue: conversions, which hold it too, and then new waiters.
+    pub fn waiters(&self, granule: Granule) -> Waiters<'_>
+        ensures { result ≡ waiters_at granule self.now.requests }
+    {
+        Waiters::new(&self.nodes, granule)
+    }
+
+    /// Asks for a granule in a mode, with what the transaction holds of it already. It is granted at once where the transaction
+    /// holds as much, or would wait for nobody; else it waits. A transaction that waits asks for nothing.
+    pub fn request(&mut self, txn: TxnId, granule: Granule, mode: Mode) -> Result<Requested, Fault>
+        requires { is_waiting txn self.old.requests ≡ false }
+        ensures answer { IfOk result (λ answer. answer ≡ answer_to self.old txn granule mode) }
+        ensures table { OnOk result (self.new ≡ record { limit = self.old.limit; requests = after_request self.old txn granule mode }) }
+        ensures refused { OnErr result (self.new ≡ self.old) }
+        ensures memory { IfErr result (λ fault. fault ≡ Memory) }
+    {
+        if self.has_enough(txn, &granule, mode) {
+            return Ok(Requested::Granted);
+        }
+        if self.is_full(txn, &granule) {
+            return Ok(Requested::Full);
+        }
+        let request = searches::asking(&self.nodes, txn, &granule, mode);
+        if searches::obstacle(&self.nodes, &request).is_some() {
+            changes::place_last(&mut self.nodes, request)?;
+            return Ok(Requested::Waiting);
+        }
+        changes::grant(&mut self.nodes, &request)?;
+        Ok(Requested::Granted)
+    }
+
+    /// As `request`, where the transaction would not wait: then the answer is one for whom it would, and nothing changes.
+    pub fn try_request(&mut self, txn: TxnId, granule: Granule, mode: Mode) -> Result<Tried, Fault>
+        requires { is_waiting txn self.old.requests ≡ false }
+        ensures answer { IfOk result (λ answer. answer ≡ answer_to_try self.old txn granule mode) }
+        ensures table { OnOk result (self.new ≡ record { limit = self.old.limit; requests = after_try self.old txn granule mode }) }
+        ensures refused { OnErr result (self.new ≡ self.old) }
+        ensures memory { IfErr result (λ fault. fault ≡ Memory) }
+    {
+        if self.has_enough(txn, &granule, mode) {
+            return Ok(Tried::Granted);
+        }
+        if self.is_full(txn, &granule) {
+            return Ok(Tried::Full);
+        }
+        let request = searches::asking(&self.nodes, txn, &granule, mode);
+        if let Some(other) = searches::obstacle(&self.nodes, &request) {
+            return Ok(Tried::Blocked(other.txn));
+        }
+        changes::grant(&mut self.nodes, &request)?;
+        Ok(Tried::Granted)
+    }
+
+    fn has_enough(&self, txn: TxnId, granule: &Granule, mode: Mode) -> bool
+        ensures { result ≡ is_enough mode (mode_held txn granule.now self.now.requests) }
+    {
+        is_enough(mode, searches::mode_held(&self.nodes, txn, granule))
+    }
+
+    fn is_full(&self, txn: TxnId, granule: &Granule) -> bool
+        ensures { result ≡ steps.is_full self.now txn granule.now }
+    {
+        searches::request_for(&self.nodes, txn, granule).is_none() && self.nodes.len() >= self.limit
+    }
+
+    /// A transaction waits no more: what it waited for is given up, and what it holds stays. Those behind it may be granted.
+    pub fn cancel(&mut self, txn: TxnId)
+        ensures { self.new ≡ record { limit = self.old.limit; requests = cancelled txn self.old.requests } }
+    {
+        if let Some(request) = searches::waiting_request(&self.nodes, txn) {
+            changes::take_back(&mut self.nodes, &request);
+        }
+    }
+
+    /// A transaction holds and wants nothing any more, and each queue in which it stood gets a grant pass. The answer is how many
+    /// nodes it had.
+    pub fn release_all(&mut self, txn: TxnId) -> usize
+        ensures table { self.new ≡ record { limit = self.old.limit; requests = released txn self.old.requests } }
+        ensures count { result ≡ length (requests_by txn self.old.requests) }
+    {
+        changes::release(&mut self.nodes, txn)
+    }
+}

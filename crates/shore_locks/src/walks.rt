@@ -1,0 +1,70 @@
+//! A walk along a ring of nodes.
+ghost use Rattle.std.specs.Prelude.{◌≡◌, ◌∷◌, ◌<◌, [], length, MatchOption};
+ghost use Rattle.slab.specs.Slab.{slab_len};
+ghost use Rattle.shore_links.specs.Rings.{after_at};
+ghost use Rattle.shore_locks.specs.Nodes.{pairs_from};
+
+use shore_links::Rings;
+use shore_model::Request;
+use slab::Slab;
+use std::marker::Model;
+
+/// The nodes of a ring that are left, each with its place.
+#[derive(Drop)]
+pub struct Walk<'a> {
+    slots: &'a Slab<Request>,
+    rings: &'a Rings,
+    heads: usize,
+    head: usize,
+    place: usize,
+    // No more than so many are left: no ring has more nodes than there are.
+    left: usize,
+}
+
+impl<'a> Model for Walk<'a> {
+    ghost use Rattle.std.specs.Prelude.{ℕ, List, length, ◌<◌};
+    ghost use Rattle.shore_model.specs.declared.requests.Request.{Request};
+    ghost use Rattle.shore_locks.specs.Nodes.{pairs_from};
+
+    ghost Value = { List (ℕ × Request) };
+
+    ghost view = { λ w. pairs_from w.left w.slots.now w.rings.now w.heads w.head w.place };
+
+    ghost invariant = { λ w. w.place < length w.rings.now };
+}
+
+impl<'a> Walk<'a> {
+    /// The nodes behind a head.
+    pub fn new(slots: &'a Slab<Request>, rings: &'a Rings, heads: usize, head: usize) -> Walk<'a>
+        requires { head < length rings.now }
+        ensures { result ≡ pairs_from (slab_len slots.now) slots.now rings.now heads head (after_at rings.now head) }
+    {
+        Walk {
+            slots,
+            rings,
+            heads,
+            head,
+            place: rings.after(head),
+            left: slots.len(),
+        }
+    }
+
+    /// The next node.
+    pub fn advance(&mut self) -> Option<(usize, Request)>
+        ensures { MatchOption result ((self.old ≡ []) × (self.new ≡ [])) (λ node. self.old ≡ node ∷ self.new) }
+    {
+        if self.left == 0 || self.place == self.head {
+            return None;
+        }
+        let key = self.place.saturating_sub(self.heads);
+        match self.slots.get(key) {
+            Some(request) => {
+                let place = self.place;
+                self.place = self.rings.after(place);
+                self.left -= 1;
+                Some((place, *request))
+            }
+            None => None,
+        }
+    }
+}
