@@ -3,6 +3,7 @@ ghost use Rattle.std.specs.Prelude.{◌≡◌, ◌≢◌, ◌⊎◌, ◌↔◌, 
 ghost use Rattle.std.specs.FinMap as map;
 ghost use Rattle.std.specs.Option.{ForSome};
 ghost use Rattle.shore_types.specs.Layout.{HasStore, HasPage};
+ghost use Rattle.shore_types.specs.declared.ids.Rid.{Rid};
 ghost use Rattle.shore_logrec.specs.Text.{Fits};
 ghost use Rattle.shore_logrec.specs.declared.costs.TheConstants.{ENDING_COST};
 ghost use Rattle.shore_log.specs.Settled.{list_of, stable, IsSettled};
@@ -11,7 +12,7 @@ ghost use Rattle.shore_core.specs.declared.calls.TheConstants.{LAST_LSN, LAST_OP
 ghost use Rattle.shore_types.specs.declared.layout.TheConstants.{MAX_LOG_BYTES};
 ghost use Rattle.shore_machine.specs.Pages.{FitPages};
 ghost use Rattle.shore_core.specs.Bounds.{AreInBounds, InBounds, IsBounded};
-ghost use Rattle.shore_core.specs.Opened.{cost_of_log};
+ghost use Rattle.shore_core.specs.Opened.{ChangesAt, cost_of_log};
 ghost use Rattle.shore_core.specs.RecordMaps.{IsOn};
 ghost use Rattle.shore_core.specs.Room.{Admits};
 ghost use Rattle.shore_model.specs.declared.log_records.LogRecord.{LogRecord};
@@ -344,6 +345,9 @@ impl Core<PlainTail> {
         ensures geometry { IfOk result (λ core. geometry_of core ≡ geometry) }
         ensures fits { IfOk result (λ core. FitPages geometry (state_of log.now core).records) }
         ensures room { size ≤ MAX_LOG_BYTES → IfOk result (λ core. (state_of log.now core).room ≡ record { kept = cost_of_log log.now; reserved = 0; stream = size }) }
+
+        // A refusal names a record that changes the id whose record has no room, or the log is out of bounds as a whole.
+        ensures bad { (n : ℕ) → result ≡ Err (OpenError.BadRecord n) → (id : Rid) × ChangesAt log.now id n }
 
         // A log that is in bounds gives a core, unless memory is wanting; where each of its beginnings is, so is the core.
         ensures bounded { size ≤ MAX_LOG_BYTES → AreInBounds geometry size log.now → IfOk result (λ core. IsBounded geometry size (state_of log.now core)) }

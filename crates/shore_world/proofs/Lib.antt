@@ -1,3 +1,4 @@
 pub mod FrontLemmas
 pub mod WorldLemmas
 pub mod ManagerLemmas
+pub mod OpenLemmas

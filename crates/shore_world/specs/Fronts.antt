@@ -15,7 +15,9 @@ use Rattle.shore_gate.specs.Anchor as anchors
 use Rattle.shore_gate.specs.Anchor.{Counts, anchor_bytes, place_of, damaged}
 use Rattle.shore_model.specs.declared.log_records.LogRecord.{LogRecord}
 use Rattle.shore_log.specs.Frames.{Gives}
-use Rattle.shore_core.specs.Bounds.{AreInBounds}
+use Rattle.shore_core.specs.Bounds.{AreInBounds, InBounds}
+use Rattle.shore_types.specs.declared.faults.Fault.TheVariants.{Damaged}
+use Rattle.shore_log.specs.Places.{IsBadAt, IsFrameOf}
 use Rattle.shore_world.specs.declared.front.Front.{Front}
 
 -- a log device may be so long
@@ -64,6 +66,28 @@ pub record StandsFor (g : Geometry) (bytes : ℕ) (rs : List LogRecord) (image :
   pub front : HasFront g bytes image
   pub log : Gives rs image
   pub bounds : AreInBounds g (bytes - 4096) rs
+
+-- ---- what an open is refused with
+
+-- the byte of one of the anchors, or of the frame that holds some record
+abbrev pub IsPlaceOf : List ℕ → ℕ → Type 0
+IsPlaceOf image place = ((slot : Slot) × (place ≡ place_of slot)) ⊎ ((n : ℕ) × IsFrameOf 4096 image n place)
+
+-- the frames give a list that is out of bounds
+pub record IsOutOfBounds (bytes : ℕ) (image : List ℕ) : Type 0 where
+  pub geometry : Geometry
+  pub list : List LogRecord
+  pub front : HasFront geometry bytes image
+  pub log : Gives list image
+  pub outside : ¬ InBounds geometry (bytes - 4096) list
+
+-- Beside a failure of the device and a want of memory, an open is refused by the first check of the front that is not passed;
+-- where all are, by the first byte where neither a closed gate nor a frame stands; and where there is none, by a list that is
+-- out of bounds, at an anchor or a frame.
+abbrev pub RefusesOpen : History → Fault → Type 0
+RefusesOpen h fault =
+    (front_verdict h ≡ Err fault)
+    ⊎ ((front_verdict h ≡ Ok tt) × (place : ℕ) × (fault ≡ Damaged Log place) × (IsBadAt 4096 (seen h) place ⊎ (IsOutOfBounds (size h) (seen h) × IsPlaceOf (seen h) place)))
 
 -- ---- what a format writes and leaves
 

@@ -147,6 +147,7 @@ pub fn read_front<D: Disk>(alloc: Global, log: &mut D) -> Result<Front, Fault>
         → MatchResult result (λ front. front.geometry ≡ g) IsFromOutside }
 
     // What is refused goes by the checks of the label and then of the anchors.
+    ensures passed { IsTrue (D.is_honest log.old) → OnOk result (front_verdict (D.history log.old) ≡ Ok tt) }
     ensures refused { IsTrue (D.is_honest log.old)
         → IfErr result (λ fault. IsFromOutside fault ⊎ (front_verdict (D.history log.old) ≡ Err fault)) }
 

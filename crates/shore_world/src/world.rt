@@ -1,12 +1,16 @@
 //! The plain world: a core and its log device, one event at a time. There is no volume yet; the records in place are the
 //! core's, and an open makes them anew from the log.
-ghost use Rattle.std.specs.Prelude.{◌≡◌, ◌≢◌, ◌⊎◌, ◌+◌, ◌-◌, ◌≤◌, ◌++◌, List, All, IsTrue, IfOk, IfErr, OnOk, OnErr, Err, None, length, take};
+ghost use Rattle.std.specs.Prelude.{◌≡◌, ◌≢◌, ◌⊎◌, ◌+◌, ◌-◌, ◌≤◌, ◌++◌, ℕ, List, All, IsTrue, IfOk, IfErr, OnOk, OnErr, Err, None, length, take};
 ghost use Rattle.shore_types.specs.declared.layout.Geometry.{Geometry};
 ghost use Rattle.shore_model.specs.declared.log_records.LogRecord.{LogRecord};
 ghost use Rattle.shore_disk.specs.Device.{size, seen, may_leave, LeavesOnly};
 ghost use Rattle.shore_disk.specs.Cause.{HasCause};
 ghost use Rattle.shore_log.specs.Frames.{Gives};
-ghost use Rattle.shore_log.specs.Settled.{list_of, stable};
+ghost use Rattle.shore_types.specs.declared.ids.Rid.{Rid};
+ghost use Rattle.shore_types.specs.declared.faults.Device.TheVariants as Device;
+ghost use Rattle.shore_core.specs.Opened.{ChangesAt};
+ghost use Rattle.shore_log.specs.Places.{IsFrameOf};
+ghost use Rattle.shore_log.specs.Settled.{list_of, stable, IsSettled};
 ghost use Rattle.shore_log.specs.PlainTails.{first_of, waiting_in};
 ghost use Rattle.shore_machine.specs.Trails.{IsOpened};
 ghost use Rattle.shore_machine.specs.Steps.{with_failure};
@@ -35,7 +39,7 @@ pub struct World<D: Disk> {
 }
 
 impl<D: Disk> World<D> {
-    ghost use Rattle.shore_world.specs.Fronts.{HasFront, StandsFor};
+    ghost use Rattle.shore_world.specs.Fronts.{HasFront, RefusesOpen, StandsFor};
     ghost use Rattle.shore_world.specs.Worlds.{Steps, Runs, IsIdle, IsKept, state_in, geometry_in, device_in, fault_in};
 
     /// Opens the manager of a formatted log device: a barrier, the label, the anchors, the frames, and then the records in place
@@ -49,6 +53,9 @@ impl<D: Disk> World<D> {
         ensures geometry { IsTrue (D.is_honest log) → (g : Geometry) → HasFront g (size (D.history log)) (seen (D.history log)) → IfOk result (λ w. geometry_in w ≡ g) }
         ensures opened { IfOk result (λ w. IsOpened (state_in w).list (state_in w)) }
         ensures kept { IsTrue (D.is_honest log) → IfOk result (λ w. IsKept w (take 4096 (seen (D.history log)))) }
+
+        // What is refused goes by the checks in their order.
+        ensures refused { IsTrue (D.is_honest log) → IfErr result (λ e. IsFromOutside e.0 ⊎ RefusesOpen (D.history log) e.0) }
 
         // An image that stands for a list is opened, unless the device fails or memory is wanting; and the world is in bounds.
         ensures stands { IsTrue (D.is_honest log) → (g : Geometry) (rs : List LogRecord) → StandsFor g (size (D.history log)) rs (seen (D.history log))
@@ -194,6 +201,7 @@ impl<D: Disk> World<D> {
         requires { All IsServedEvent events.now }
         ensures runs { OnOk result ((steps : List Step) × (out.new.items ≡ out.old.items ++ steps) × Runs self.old events.now steps self.new) }
         ensures none { OnErr result ((out.new.items ≡ out.old.items) × (self.new ≡ self.old)) }
+        ensures only_memory { IfErr result (λ fault. fault ≡ Fault.Memory) }
     {
         out.reserve(events.len())?;
         for event in events {
@@ -216,8 +224,16 @@ impl<D: Disk> World<D> {
 }
 
 impl<D: Disk> World<FuseDisk<D>> {
+    ghost use Rattle.shore_disk.specs.Fuse.{fuse_inner, fuse_calls};
+    ghost use Rattle.shore_world.specs.Worlds.{state_in, geometry_in};
+
     /// Lets so many more writes and syncs of the device pass; then every call of it fails.
-    pub fn set_fuse(&mut self, calls: u64) {
+    pub fn set_fuse(&mut self, calls: u64)
+        ensures calls { fuse_calls self.new.log.device ≡ calls }
+        ensures inner { fuse_inner self.new.log.device ≡ fuse_inner self.old.log.device }
+        ensures state { state_in self.new ≡ state_in self.old }
+        ensures geometry { geometry_in self.new ≡ geometry_in self.old }
+    {
         self.log.set_fuse(calls);
     }
 }
@@ -229,6 +245,7 @@ fn open_core<D: Disk>(
 ) -> Result<Core<PlainTail>, OpenError>
     requires { stable log.now ≡ list_of log.now }
     ensures opened { IfOk result (λ core. IsOpened (list_of log.now) (state_of (list_of log.now) core)) }
+    ensures bad { (n : ℕ) → result ≡ Err (OpenError.BadRecord n) → (id : Rid) × ChangesAt (list_of log.now) id n }
     ensures in_bounds { log.now.limit ≤ MAX_LOG_BYTES → InBounds geometry (log.now.limit - 4096) (list_of log.now) → IfErr result (λ error. error ≡ OpenError.Memory) }
     ensures bounded { log.now.limit ≤ MAX_LOG_BYTES → AreInBounds geometry (log.now.limit - 4096) (list_of log.now)
         → IfOk result (λ core. IsBounded geometry (log.now.limit - 4096) (state_of (list_of log.now) core)) }
@@ -242,6 +259,9 @@ fn open_core<D: Disk>(
 // What an open is refused with, by the place that the error speaks of.
 fn fault_of<D: Disk>(error: OpenError, anchor_place: u64, log: &mut LogDev<D>) -> Fault
     ensures memory { error ≡ OpenError.Memory → result ≡ Fault.Memory }
+    ensures room { error ≡ OpenError.NoRoom → result ≡ Fault.Damaged Device.Log anchor_place }
+    ensures record_of { (n : ℕ) (front : List ℕ) → error ≡ OpenError.BadRecord n → IsSettled log.old front → 1 ≤ n → n ≤ length (stable log.old)
+        → (result ≡ Fault.Device) ⊎ ((place : ℕ) × (result ≡ Fault.Damaged Device.Log place) × IsFrameOf 4096 (seen (D.history log.old.device)) n place) }
     ensures still { IsTrue (D.is_honest log.old.device) → D.history log.new.device ≡ D.history log.old.device }
     ensures honest { D.is_honest log.new.device ≡ D.is_honest log.old.device }
     ensures size { size (D.history log.new.device) ≡ size (D.history log.old.device) }

@@ -1,7 +1,14 @@
-use Rattle.std.proofs.Common.{◌≡◌, ◌-◌, inr, arith, IsTrue, sym, ◌∙◌, ap, subst}
+use Rattle.std.proofs.Common.{◌≡◌, ◌≢◌, ◌-◌, inl, inr, ℕ, List, length, Err, arith, IsTrue, sym, ◌∙◌, ap, subst}
 use Rattle.shore_disk.specs.Device.{History, size, seen}
+use Rattle.shore_disk.specs.Cause.{HasCause}
 use Rattle.shore_log.specs.Frames.{Gives}
-use Rattle.shore_log.specs.Settled.{list_of}
+use Rattle.shore_log.specs.Settled.{list_of, fault_of, device_of}
+use Rattle.shore_log.specs.Places.{IsBadAt, IsFrameOf}
+use Rattle.shore_model.specs.declared.log_records.LogRecord.{LogRecord}
+use Rattle.shore_core.specs.Bounds.{InBounds}
+use Rattle.shore_core.specs.declared.replay.OpenError.TheVariants.{Memory}
+use Rattle.shore_world.specs.Fronts.{IsOutOfBounds}
+use Rattle.shore_world.proofs.OpenLemmas.{each_error, no_room_is_no_memory, record_is_no_memory, change_within, later_cause}
 use Rattle.shore_core.specs.Cores.{state_of}
 use Rattle.shore_world.proofs.WorldLemmas.{synced_only, synced_stands, settled_kept, bounds_at, all_bounds, moved}
 use Rattle.shore_world.proofs.world.World.open.Goals as goal
@@ -71,3 +78,71 @@ returns-in-Err-open_core-clause-stands g c honest geometry rs stands =
     let at : c.in-Ok.front.geometry ≡ geometry = c.in-Ok.ensures.only honest geometry stands.front in
     let each = bounds_at geometry c.in-Ok.front.geometry (size (g.D.Disk.history c.args.log)) log.limit rs (list_of log) at long list stands.bounds in
     inr (c.fault_of-fault.ensures.memory (c.in-Err-open_core.ensures.in_bounds (omega (arith, c.in-Ok.ensures.long.0.1, long)) (all_bounds c.in-Ok.front.geometry (log.limit - 4096) (list_of log) each)))
+
+pub returns-in-Ok-open_core-clause-list : goal.returns-in-Ok-open_core-clause-list
+returns-in-Ok-open_core-clause-list g c honest =
+    let later = subst IsTrue (sym c.read_front.ensures.honest) honest in
+    let same : seen (g.D.Disk.history c.read_front.new.log) ≡ seen (g.D.Disk.history c.args.log) = ap (λ (h : History). seen h) (c.in-Ok.ensures.synced honest) in
+    let found = subst (Gives (list_of c.in-Ok-open.log)) same (c.in-Ok-open.ensures.found later) in
+    subst (λ (l : List LogRecord). Gives l (seen (g.D.Disk.history c.args.log))) (sym c.in-Ok-open_core.ensures.opened.list) found
+
+pub returns-in-Err-open-clause-refused : goal.returns-in-Err-open-clause-refused
+returns-in-Err-open-clause-refused g c honest =
+    let later = subst IsTrue (sym c.read_front.ensures.honest) honest in
+    let same : seen (g.D.Disk.history c.read_front.new.log) ≡ seen (g.D.Disk.history c.args.log) = ap (λ (h : History). seen h) (c.in-Ok.ensures.synced honest) in
+    elim c.in-Err-open.ensures.refused [
+      | inl device ↦ inl (inl device)
+      | inr (inl memory) ↦ inl (inr memory)
+      | inr (inr bad) ↦ inr (inr (
+        c.in-Ok.ensures.passed honest,
+        bad.0,
+        bad.1,
+        inl (subst (λ (i : List ℕ). IsBadAt 4096 i bad.0) same (c.in-Err-open.ensures.damaged later (omega (arith, c.in-Ok.ensures.long.0.0, c.read_front.ensures.size)) (omega (arith, c.in-Ok.ensures.long.0.1, c.read_front.ensures.size)) bad.0 bad.1)),
+      ))
+    ]
+
+pub returns-in-Err-open_core-clause-cause : goal.returns-in-Err-open_core-clause-cause
+returns-in-Err-open_core-clause-cause g c =
+    let f = c.fault_of-fault in
+    let opened : HasCause (fault_of c.open.result) (g.D.Disk.faults c.read_front.new.log) (g.D.Disk.faults c.in-Ok-open.log.device) =
+    subst (λ n. HasCause (fault_of c.open.result) (g.D.Disk.faults c.read_front.new.log) n) (ap (λ r. g.D.Disk.faults (device_of r)) c.in-Ok-open.is) c.open.ensures.cause in
+    let rest : HasCause {T = Unit {0}} (Err f.result) (g.D.Disk.faults c.read_front.new.log) (g.D.Disk.faults f.new.log.device) = later_cause (fault_of c.open.result) c.in-Ok-open.log f.result _ _ _ (ap fault_of c.in-Ok-open.is) opened f.ensures.cause in
+    subst (λ d. HasCause (Err f.result) (g.D.Disk.faults c.args.log) (g.D.Disk.faults d)) (sym c.into_device.ensures)
+    (later_cause c.read_front.result c.in-Ok.front f.result _ _ _ c.in-Ok.is c.read_front.ensures.cause rest)
+
+pub returns-in-Err-open_core-clause-refused : goal.returns-in-Err-open_core-clause-refused
+returns-in-Err-open_core-clause-refused g c honest =
+    let later = subst IsTrue (sym c.read_front.ensures.honest) honest in
+    let same : seen (g.D.Disk.history c.read_front.new.log) ≡ seen (g.D.Disk.history c.args.log) = ap (λ (h : History). seen h) (c.in-Ok.ensures.synced honest) in
+    let log = c.in-Ok-open.log in
+    let error = c.in-Err-open_core.error in
+    let place = c.in-Ok.front.anchor_place in
+    let long : log.limit ≡ size (g.D.Disk.history c.args.log) = log.as_long ∙ c.in-Ok-open.ensures.size ∙ c.read_front.ensures.size in
+    let front = c.in-Ok.ensures.found honest in
+    let gives = subst (Gives (list_of log)) same (c.in-Ok-open.ensures.found later) in
+    let passed = c.in-Ok.ensures.passed honest in
+    let device_same : seen (g.D.Disk.history log.device) ≡ seen (g.D.Disk.history c.args.log) = ap (λ (h : History). seen h) (c.in-Ok-open.ensures.same later) ∙ same in
+    let outside : (error ≢ Memory) → IsOutOfBounds (size (g.D.Disk.history c.args.log)) (seen (g.D.Disk.history c.args.log)) = λ other. record {
+      geometry = c.in-Ok.front.geometry;
+      list = list_of log;
+      front = front.0;
+      log = gives;
+      outside = λ bounds. other (c.in-Err-open_core.ensures.in_bounds (omega (arith, c.in-Ok.ensures.long.0.1, long)) (subst (λ n. InBounds c.in-Ok.front.geometry (n - 4096) (list_of log)) (sym long) bounds));
+    } in
+    elim (each_error error) [
+      | inl memory ↦ inl (inr (c.fault_of-fault.ensures.memory memory))
+      | inr (inl room) ↦ inr (inr (passed, place, c.fault_of-fault.ensures.room room, inr (outside (λ is. no_room_is_no_memory (sym room ∙ is)), inl (front.0.slot, front.1))))
+      | inr (inr bad) ↦
+          let change = c.in-Err-open_core.ensures.bad bad.0 (ap (λ e. Err e) bad.1) in
+          let within = change_within (list_of log) change.0 bad.0 change.1 in
+          let settled = c.in-Ok-open.ensures.settled later _ (synced_stands _ _ (c.in-Ok.ensures.synced honest)) in
+          elim (c.fault_of-fault.ensures.record_of bad.0 _ bad.1 settled within.0 (omega (arith, within.1, ap length c.in-Ok-open.ensures.none_waits.1))) [
+            | inl device ↦ inl (inl device)
+            | inr found ↦ inr (inr (
+              passed,
+              found.0,
+              found.1,
+              inr (outside (λ is. record_is_no_memory bad.0 (sym bad.1 ∙ is)), inr (bad.0, subst (λ (i : List ℕ). IsFrameOf 4096 i bad.0 found.0) device_same found.2)),
+            ))
+          ]
+    ]

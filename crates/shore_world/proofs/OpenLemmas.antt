@@ -1,0 +1,56 @@
+-- What an open is refused with.
+use Rattle.std.proofs.Common.{◌≡◌, ◌⊎◌, inl, inr, ℕ, ◌-◌, ◌≤◌, List, length, Option, Some, None, Result, Ok, Err, refl, sym, ◌∙◌, ap, subst, arith}
+use Rattle.std.specs.Prelude.{IsSomeAnd, slice_get}
+use Rattle.std.proofs.lemmas.Option.{slice_get_within}
+use Rattle.shore_types.specs.declared.faults.Fault.{Fault}
+use Rattle.shore_types.specs.declared.faults.Fault.TheVariants as fault
+use Rattle.shore_types.specs.declared.ids.Rid.{Rid}
+use Rattle.shore_disk.specs.Device.{Rose}
+use Rattle.shore_disk.specs.Cause.{HasCause}
+use Rattle.shore_model.specs.declared.log_records.LogRecord.{LogRecord}
+use Rattle.shore_model.specs.Logs.{id_in}
+use Rattle.shore_core.specs.Opened.{ChangesAt}
+use Rattle.shore_core.specs.declared.replay.OpenError.{OpenError}
+use Rattle.shore_core.specs.declared.replay.OpenError.TheVariants.{Memory, NoRoom, BadRecord}
+
+pub same_number : (n m : ℕ) → BadRecord n ≡ BadRecord m → n ≡ m
+same_number n m is = cc
+
+-- the errors, one by one
+pub each_error : (e : OpenError) → (e ≡ Memory) ⊎ (e ≡ NoRoom) ⊎ ((n : ℕ) × (e ≡ BadRecord n))
+each_error Memory = inl refl
+each_error NoRoom = inr (inl refl)
+each_error (BadRecord n) = inr (inr (n, refl))
+
+pub no_room_is_no_memory : NoRoom ≡ Memory → ⊥
+no_room_is_no_memory is = absurd cc
+
+pub record_is_no_memory : (n : ℕ) → BadRecord n ≡ Memory → ⊥
+record_is_no_memory n is = absurd cc
+
+-- a record that changes an id is one of the list
+pub change_within : (rs : List LogRecord) (id : Rid) (n : ℕ) → ChangesAt rs id n → (1 ≤ n) × (n ≤ length rs)
+change_within rs id n change =
+    let found = some_there (slice_get rs (n - 1)) (λ r. id_in r.payload ≡ Some id) change.1 in
+    let lt = slice_get_within rs (n - 1) found.0 found.1 in
+    (omega (arith, change.0), omega (arith, change.0, lt))
+  where
+    some_there : {A : Type 0} (o : Option A) (P : A → Type 0) → IsSomeAnd o P → (a : A) × (o ≡ Some a)
+    some_there (Some a) P p = (a, refl)
+    some_there None P p = absurd p
+
+-- a failure after a call that answered
+pub later_cause : {T U V : Type 0} (r : Result T Fault) (x : T) (f : Fault) (a b c : ℕ) → r ≡ Ok x → HasCause r a b → HasCause {T = U} (Err f) b c → HasCause {T = V} (Err f) a c
+later_cause {T} {U} {V} r x f a b c is one two =
+    let same : b ≡ a = one.untold (λ failed. ok_is_no_error x fault.Device (sym is ∙ failed)) in
+    record {
+      no_lower = omega (arith, same, two.no_lower);
+      told = λ failed. subst (λ n. Rose n c) same (two.told (ap Err (same_error _ f fault.Device refl failed)));
+      untold = λ other. two.untold (λ failed. other (ap Err (same_error _ f fault.Device refl failed))) ∙ same;
+    }
+  where
+    ok_is_no_error : {A B : Type 0} (x : A) (e : B) → Ok x ≡ Err e → ⊥
+    ok_is_no_error x e is = absurd cc
+
+    same_error : {A B : Type 0} (r : Result A B) (e f : B) → r ≡ Err e → r ≡ Err f → e ≡ f
+    same_error r e f one two = cc
