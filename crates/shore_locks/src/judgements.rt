@@ -5,8 +5,8 @@ ghost use Rattle.shore_locks.specs.Tables as tables;
 ghost use Rattle.shore_locks.specs.Grants as steps;
 
 use shore_model::Request;
-use shore_modes::{grants, is_at_most, sup};
 use shore_model::requests::Group;
+use shore_modes::{grants, is_at_most, sup};
 use shore_types::{Granule, Mode, TxnId};
 
 /// Whether a request is a transaction's for a granule.
