@@ -5,7 +5,7 @@ ghost use Rattle.shore_types.specs.declared.faults.Device.TheVariants as Device;
 ghost use Rattle.shore_disk.specs.Device.{size, seen, LeavesOnly, Stands};
 ghost use Rattle.shore_disk.specs.Cause.{HasCause};
 ghost use Rattle.shore_model.specs.declared.log_records.LogRecord.{LogRecord};
-ghost use Rattle.shore_logrec.specs.Text.{Fits};
+ghost use Rattle.shore_logrec.specs.Text.{Fits, texts};
 ghost use Rattle.shore_log.specs.Lists.{are_numbered};
 ghost use Rattle.shore_log.specs.Frames.{Gives, GivesBehind, GivesWithOrWithout, IsLongest};
 ghost use Rattle.shore_log.specs.Places.{IsBadAt, IsFrameOf, RefusesReading};
@@ -99,7 +99,7 @@ impl<D: Disk> LogDev<D> {
 
     /// Stages the longest list of waiting records that one frame holds: writes it behind the closed gate, with a closed gate
     /// behind it, and syncs. Answers the last number staged, and None where no record waits or a frame is under way.
-    /// 9 where the device has no room for the frame, 27 where a growth was refused; after both nothing has changed.
+    /// 9 where the device has no room for the frame and a byte behind it, 27 where a growth was refused; after both nothing has changed.
     pub fn stage(&mut self, alloc: Global) -> Result<Option<Lsn>, Fault>
         // The staged records are the longest list that one frame holds.
         ensures staged { (front : List ℕ) → IsSettled self.old front → self.old.staged ≡ None → IfOk result (λ n. IfSome n (λ last.
@@ -117,6 +117,8 @@ impl<D: Disk> LogDev<D> {
         ensures same { (list_of self.new ≡ list_of self.old) × (stable self.new ≡ stable self.old) }
         ensures refused { IfErr result (λ fault. (fault ≡ Fault.Device) ⊎ (self.new ≡ self.old)) }
         ensures others { IfErr result (λ fault. (fault ≡ Fault.Device) ⊎ (fault ≡ Fault.Memory) ⊎ (fault ≡ Fault.LogFull)) }
+        ensures full { result ≡ Err Fault.LogFull → (count : ℕ) × (1 ≤ count) × (count ≤ length (waiting self.old))
+            × (self.old.limit ≤ 4096 + self.old.place + (13 + length (texts (take count (waiting self.old))))) }
         ensures none_staged { OnErr result (self.new.staged ≡ None) }
         ensures cause { HasCause result (D.faults self.old.device) (D.faults self.new.device) }
     {

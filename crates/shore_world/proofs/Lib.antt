@@ -2,3 +2,4 @@ pub mod FrontLemmas
 pub mod WorldLemmas
 pub mod ManagerLemmas
 pub mod OpenLemmas
+pub mod RoomLemmas

@@ -70,6 +70,11 @@ pub record IsKept {D : Type 0} {G : Ghosts D} (w : World D G) (front : List ℕ)
 abbrev pub IsIdle : {D : Type 0} {G : Ghosts D} → World D G → Type 0
 IsIdle w = IsSome w.log.staged ⊎ ((state_in w).durable ≡ length (state_in w).list)
 
+-- the fault that a step tells of, if any
+abbrev pub fault_at : Step → Result (Unit {0}) Fault
+fault_at (Refused fault) = Err fault
+fault_at _ = Ok tt
+
 -- One event: a step of the machine; and at each moment of it a crash leaves a beginning of the list as it was before, with all
 -- that was durable then.
 pub record Steps {D : Type 0} {G : Ghosts D} (old : World D G) (e : Event) (step : Step) (new : World D G) : Type 0 where

@@ -1,5 +1,5 @@
-use Rattle.std.proofs.Common.{◌≡◌, inl, inr, ◌-◌, ◌≤◌, List, length, take, Ok, refl, sym, ◌∙◌, ap, subst, arith, length-append, length-drop}
-use Rattle.shore_disk.specs.Device.{LeavesOnly}
+use Rattle.std.proofs.Common.{◌≡◌, inl, inr, ◌-◌, ◌≤◌, List, length, take, Ok, Err, refl, sym, ◌∙◌, ap, subst, arith, length-append, length-drop}
+use Rattle.shore_disk.specs.Device.{LeavesOnly, size}
 use Rattle.shore_model.specs.declared.log_records.LogRecord.{LogRecord}
 use Rattle.shore_machine.specs.States.{State}
 use Rattle.shore_machine.specs.Steps.{with_failure}
@@ -12,6 +12,9 @@ use Rattle.shore_core.specs.Cores.{state_of, tail_of}
 use Rattle.shore_world.specs.Worlds.{state_in}
 use Rattle.shore_world.specs.declared.event.Event.TheVariants.{ForceStage}
 use Rattle.shore_world.proofs.WorldLemmas.{unmoved, staging, handed, none_staged, length-stable, still_running, not_left}
+use Rattle.shore_core.specs.Opened.{cost_of_log}
+use Rattle.shore_types.specs.declared.faults.Fault.TheVariants.{LogFull}
+use Rattle.shore_world.proofs.RoomLemmas.{cost_append, frame_has_room, ready_settled, refused_is}
 use Rattle.shore_world.proofs.world.World.force_stage.Goals as goal
 
 pub returns-then-has_failed-clause-steps : goal.returns-then-has_failed-clause-steps
@@ -85,3 +88,19 @@ returns-in-Err-stage-clause-steps g c =
           (ap (λ (l : LogDev g.row.D.Denot g.D.Disk). l.staged) unchanged ∙ still.1)
           (λ front s. subst (λ (l : LogDev g.row.D.Denot g.D.Disk). IsSettled l front) (sym unchanged) (c.hand_over.ensures.settled front s))
     ])
+
+pub returns-in-Err-stage-clause-full : goal.returns-in-Err-stage-clause-full
+returns-in-Err-stage-clause-full g c refused front kept bounded =
+    let old = c.args.self.now in
+    let mid = c.hand_over.new.log in
+    let none = none_staged old.log c.is_staged.result c.is_staged.ensures c.if-is_staged.false in
+    let running = sym c.has_failed.ensures ∙ c.if-has_failed.false in
+    let settled = c.hand_over.ensures.settled front (ready_settled old front none (kept.ready running)) in
+    let fault : c.in-Err-stage.fault ≡ LogFull = refused_is _ _ _ c.refuse.ensures.refused refused in
+    let full = c.in-Err-stage.ensures.full (ap (λ f. Err f) fault) in
+    let room = frame_has_room mid front settled full.0 full.1 full.2 in
+    let list = ap (λ (s : State). s.list) c.hand_over.ensures.state in
+    let costs = ap cost_of_log list in
+    let longer = cost_append (list_of mid) (waiting_in (tail_of c.hand_over.new.self)) in
+    let long = mid.as_long in
+    omega (arith, room, costs, longer, long, ap (λ d. size (g.D.Disk.history d)) c.hand_over.ensures.still.0, bounded.kept, bounded.fits, bounded.as_long)
