@@ -2,7 +2,7 @@
 use Rattle.std.proofs.Common.{◌++◌, ◌≡◌, ◌⊎◌, inl, inr, ⊎_elim, ℕ, List, [], ◌∷◌, Bool, true, false, Option, None, Some, refl, ap, sym, subst, ◌∙◌}
 use Rattle.std.specs.Prelude.{not, ◌&&◌, ◌||◌, ◌==◌, is_some, find, IsTrue}
 use Rattle.std.specs.List.{list_any}
-use Rattle.std.specs.Option.{option_and_then}
+use Rattle.std.specs.Option.{option_and_then, option_map}
 use Rattle.std.proofs.lemmas.Bool.Decides.{Decides-eqb}
 use Rattle.shore_types.specs.declared.locking.Granule.{Granule}
 use Rattle.shore_types.specs.declared.locking.Mode.{Mode}
@@ -164,6 +164,14 @@ put_after_removed r rs =
 pub found_any_same : {A : Type 0} (p : A → Bool) (xs : List A) → is_some (find p xs) ≡ list_any p xs
 found_any_same p [] = refl
 found_any_same p (x ∷ xs) = ⊎_elim (λ yes. rw yes refl) (λ no. rw no (found_any_same p xs)) (either (p x))
+
+-- a transaction has a node for the granule where one in the list is alike
+pub known_as : (t : ℕ) (g : Granule) (mode : Mode) (rs : List Request) (r : Request) (known : Bool) → r ≡ asking t g mode rs → known ≡ is_some (request_for t g rs) → known ≡ list_any (λ q. are_alike q r) rs
+known_as t g mode rs r known is found = found ∙ found_any_same (is_for t g) rs ∙ ap (λ x. list_any (λ q. are_alike q x) rs) (sym is)
+
+pub some_from : {A B : Type 0} (f : A → B) (o : Option A) (y : B) → option_map f o ≡ Some y → is_some o ≡ true
+some_from f None y e = cc
+some_from f (Some x) y e = refl
 
 -- where none is alike, one placed last comes last
 pub placed_new : (r : Request) (rs : List Request) → list_any (λ q. are_alike q r) rs ≡ false → rs ++ r ∷ [] ≡ placed_last r rs

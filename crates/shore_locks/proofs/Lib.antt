@@ -1,6 +1,7 @@
 mod Answered
 mod Counts
 mod Entering
+mod Firsts
 mod Fits
 mod Keys
 mod LawLemmas

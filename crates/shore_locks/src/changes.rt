@@ -7,7 +7,7 @@ ghost use Rattle.shore_locks.specs.Grants as steps;
 
 use crate::judgements::{granted, withdrawn};
 use crate::nodes::Nodes;
-use crate::searches::{can_be_granted, first_waiter, request_for};
+use crate::searches::{can_be_granted, first_waiter};
 use shore_model::Request;
 use shore_types::{Granule, TxnId};
 use std::alloc::AllocError;
@@ -78,34 +78,30 @@ pub fn place_last(nodes: &mut Nodes, request: Request) -> Result<(), AllocError>
     Ok(())
 }
 
-/// Grants a request at once, in the place of the one of its transaction for its granule, or last; a grant pass follows. Where
-/// memory is refused nothing has changed.
-pub fn grant(nodes: &mut Nodes, request: &Request) -> Result<(), AllocError>
-    requires { AreRequests nodes.old }
+/// Grants a request at once, in the place of the one of its transaction for its granule where that is known, else last; a
+/// grant pass follows. Where memory is refused nothing has changed.
+pub fn grant(nodes: &mut Nodes, request: &Request, known: bool) -> Result<(), AllocError>
+    requires one { AreRequests nodes.old }
+    requires known { known ≡ list_any (λ q. asked.are_alike q request.now) nodes.old }
     ensures ok { OnOk result (nodes.new ≡ steps.passed request.now.granule (steps.put (steps.granted request.now) nodes.old)) }
     ensures err { OnErr result (nodes.new ≡ nodes.old) }
 {
     let granted = granted(request);
-    put(nodes, granted)?;
+    put(nodes, granted, known)?;
     pass(nodes, &request.granule);
     Ok(())
 }
 
-fn put(nodes: &mut Nodes, request: Request) -> Result<(), AllocError>
-    requires { AreRequests nodes.old }
+fn put(nodes: &mut Nodes, request: Request, known: bool) -> Result<(), AllocError>
+    requires one { AreRequests nodes.old }
+    requires known { known ≡ list_any (λ q. asked.are_alike q request) nodes.old }
     ensures ok { OnOk result (nodes.new ≡ steps.put request nodes.old) }
     ensures err { OnErr result (nodes.new ≡ nodes.old) }
 {
-    if has_alike(nodes, &request) {
+    if known {
         nodes.replace(&request);
         return Ok(());
     }
     nodes.push(request)?;
     Ok(())
-}
-
-fn has_alike(nodes: &Nodes, request: &Request) -> bool
-    ensures { result ≡ list_any (λ q. asked.are_alike q request.now) nodes.now }
-{
-    request_for(nodes, request.txn, &request.granule).is_some()
 }

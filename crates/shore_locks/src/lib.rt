@@ -3,6 +3,7 @@
 
 pub mod answers;
 mod changes;
+mod findings;
 mod judgements;
 pub mod laws;
 mod nodes;

@@ -1,14 +1,13 @@
 //! Searches among the nodes of a granule's queue, and of a transaction.
-ghost use Rattle.std.specs.Prelude.{◌≡◌, filter, slice_get};
-ghost use Rattle.shore_model.specs.Requests.{is_in_group, requests_at};
+ghost use Rattle.std.specs.Prelude.{◌≡◌, slice_get};
+ghost use Rattle.shore_model.specs.Requests.{requests_at};
 ghost use Rattle.shore_locks.specs.Tables as tables;
 ghost use Rattle.shore_locks.specs.Grants as steps;
 ghost use Rattle.shore_locks.specs.Orderly.{WaitsOnce};
 
-use crate::judgements::{aim, is_for, is_in, is_stopped_by, refuses};
+use crate::judgements::{is_for, is_stopped_by, refuses};
 use crate::nodes::Nodes;
 use shore_model::Request;
-use shore_model::requests::Group;
 use shore_types::{Granule, Mode, TxnId};
 
 /// The request of a transaction for a granule.
@@ -50,26 +49,23 @@ pub fn waiting_request(nodes: &Nodes, txn: TxnId) -> Option<Request>
     None
 }
 
-/// The first waiter of a granule's queue.
+/// The first waiter of a granule's queue: a conversion, or else the first that is new.
 pub fn first_waiter(nodes: &Nodes, granule: &Granule) -> Option<Request>
     ensures { result ≡ slice_get (tables.waiters_at granule.now nodes.now) 0 }
 {
-    match first_in_group(nodes, granule, Group::Conversions) {
-        Some(conversion) => Some(conversion),
-        None => first_in_group(nodes, granule, Group::NewWaiters),
-    }
-}
-
-fn first_in_group(nodes: &Nodes, granule: &Granule, group: Group) -> Option<Request>
-    ensures { result ≡ slice_get (filter (is_in_group group) (requests_at granule.now nodes.now)) 0 }
-{
+    let mut first_new = None;
     let mut walk = nodes.queue(granule);
     while let Some((_, request)) = walk.advance() {
-        if request.granule == *granule && is_in(&request, group) {
-            return Some(request);
+        if request.granule == *granule && request.wanted.is_some() {
+            if request.held.is_some() {
+                return Some(request);
+            }
+            if first_new.is_none() {
+                first_new = Some(request);
+            }
         }
     }
-    None
+    first_new
 }
 
 /// Whether each other holder of its granule grants what a waiter wants.
@@ -96,18 +92,4 @@ pub fn obstacle(nodes: &Nodes, waiter: &Request) -> Option<Request>
         }
     }
     None
-}
-
-/// A transaction's request for a mode that it does not hold.
-pub fn asking(nodes: &Nodes, txn: TxnId, granule: &Granule, mode: Mode) -> Request
-    ensures { result ≡ steps.asking txn granule.now mode nodes.now }
-{
-    let held = mode_held(nodes, txn, granule);
-    let wanted = aim(held, mode);
-    Request {
-        txn,
-        granule: *granule,
-        held,
-        wanted: Some(wanted),
-    }
 }

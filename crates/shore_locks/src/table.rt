@@ -2,13 +2,12 @@
 ghost use Rattle.std.specs.Prelude.{◌≡◌, ◌≤◌, ◌+◌, ℕ, [], length, IfErr, IfOk, OnOk, OnErr, Ok, Err, false};
 ghost use Rattle.shore_types.specs.declared.faults.Fault.TheVariants.{Memory};
 ghost use Rattle.shore_model.specs.Requests.{requests_by};
-ghost use Rattle.shore_locks.specs.Grants as steps;
-ghost use Rattle.shore_locks.specs.Grants.{after_request, after_try, answer_to, answer_to_try, cancelled, is_enough, released};
+ghost use Rattle.shore_locks.specs.Grants.{after_request, after_try, answer_to, answer_to_try, cancelled, released};
 ghost use Rattle.shore_locks.specs.Tables.{holders_at, is_waiting, mode_held, waiters_at, waiting_request};
 ghost use Rattle.shore_locks.specs.Orderly.{IsOrderly};
 
 use crate::answers::{Requested, Tried};
-use crate::judgements::is_enough;
+use crate::findings::{Finding, look};
 use crate::nodes::Nodes;
 use crate::queues::{Holders, Waiters};
 use crate::{changes, searches};
@@ -100,19 +99,18 @@ impl LockTable {
         ensures refused { OnErr result (self.new ≡ self.old) }
         ensures memory { IfErr result (λ fault. fault ≡ Memory) }
     {
-        if self.has_enough(txn, &granule, mode) {
-            return Ok(Requested::Granted);
+        match look(&self.nodes, self.limit, txn, &granule, mode) {
+            Finding::Enough => Ok(Requested::Granted),
+            Finding::Full => Ok(Requested::Full),
+            Finding::Stopped { request, .. } => {
+                changes::place_last(&mut self.nodes, request)?;
+                Ok(Requested::Waiting)
+            }
+            Finding::Free { request, known } => {
+                changes::grant(&mut self.nodes, &request, known)?;
+                Ok(Requested::Granted)
+            }
         }
-        if self.is_full(txn, &granule) {
-            return Ok(Requested::Full);
-        }
-        let request = searches::asking(&self.nodes, txn, &granule, mode);
-        if searches::obstacle(&self.nodes, &request).is_some() {
-            changes::place_last(&mut self.nodes, request)?;
-            return Ok(Requested::Waiting);
-        }
-        changes::grant(&mut self.nodes, &request)?;
-        Ok(Requested::Granted)
     }
 
     /// As `request`, where the transaction would not wait: then the answer is one for whom it would, and nothing changes.
@@ -123,30 +121,15 @@ impl LockTable {
         ensures refused { OnErr result (self.new ≡ self.old) }
         ensures memory { IfErr result (λ fault. fault ≡ Memory) }
     {
-        if self.has_enough(txn, &granule, mode) {
-            return Ok(Tried::Granted);
+        match look(&self.nodes, self.limit, txn, &granule, mode) {
+            Finding::Enough => Ok(Tried::Granted),
+            Finding::Full => Ok(Tried::Full),
+            Finding::Stopped { other, .. } => Ok(Tried::Blocked(other)),
+            Finding::Free { request, known } => {
+                changes::grant(&mut self.nodes, &request, known)?;
+                Ok(Tried::Granted)
+            }
         }
-        if self.is_full(txn, &granule) {
-            return Ok(Tried::Full);
-        }
-        let request = searches::asking(&self.nodes, txn, &granule, mode);
-        if let Some(other) = searches::obstacle(&self.nodes, &request) {
-            return Ok(Tried::Blocked(other.txn));
-        }
-        changes::grant(&mut self.nodes, &request)?;
-        Ok(Tried::Granted)
-    }
-
-    fn has_enough(&self, txn: TxnId, granule: &Granule, mode: Mode) -> bool
-        ensures { result ≡ is_enough mode (mode_held txn granule.now self.now.requests) }
-    {
-        is_enough(mode, searches::mode_held(&self.nodes, txn, granule))
-    }
-
-    fn is_full(&self, txn: TxnId, granule: &Granule) -> bool
-        ensures { result ≡ steps.is_full self.now txn granule.now }
-    {
-        searches::request_for(&self.nodes, txn, granule).is_none() && self.nodes.len() >= self.limit
     }
 
     /// A transaction waits no more: what it waited for is given up, and what it holds stays. Those behind it may be granted.

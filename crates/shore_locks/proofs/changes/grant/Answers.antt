@@ -7,4 +7,4 @@ use Rattle.shore_locks.proofs.changes.grant.Goals as goal
 pub pass-requires : goal.pass-requires
 pass-requires c =
     subst AreRequests (sym (c.in_ok-put.ensures.ok ∙ ap (λ r. put r c.args.nodes.now) c.granted-granted.ensures))
-    (AreRequests-put (granted c.args.request.now) c.args.nodes.now c.requires)
+    (AreRequests-put (granted c.args.request.now) c.args.nodes.now c.requires.one)

@@ -1,0 +1,61 @@
+//! What a request meets: enough that is held already, no node, somebody in the way, or nobody.
+ghost use Rattle.std.specs.Prelude.{◌≡◌, is_some, option_and_then};
+ghost use Rattle.shore_locks.specs.Findings.{Finds};
+ghost use Rattle.shore_locks.specs.Grants as steps;
+ghost use Rattle.shore_locks.specs.Tables as tables;
+
+use crate::judgements::{aim, is_enough};
+use crate::nodes::Nodes;
+use crate::searches::{obstacle, request_for};
+use shore_model::Request;
+use shore_types::{Granule, Mode, TxnId};
+
+/// What a transaction meets that asks for a granule in a mode.
+#[derive(Drop)]
+pub enum Finding {
+    /// It holds as much already.
+    Enough,
+    /// It has no node for the granule, and as many stand as may.
+    Full,
+    /// It would wait with this request, for this transaction among others.
+    Stopped { request: Request, other: TxnId },
+    /// Nobody is in the way of this request. `known`: it has a node for the granule.
+    Free { request: Request, known: bool },
+}
+
+/// What a transaction meets, where so many nodes may stand. It looks for the transaction's node once.
+pub fn look(nodes: &Nodes, limit: usize, txn: TxnId, granule: &Granule, mode: Mode) -> Finding
+    ensures { Finds (record { limit = limit; requests = nodes.now }) txn granule.now mode result }
+{
+    let own = request_for(nodes, txn, granule);
+    let held = mode_of(&own);
+    if is_enough(mode, held) {
+        return Finding::Enough;
+    }
+    let known = own.is_some();
+    if !known && nodes.len() >= limit {
+        return Finding::Full;
+    }
+    let request = Request {
+        txn,
+        granule: *granule,
+        held,
+        wanted: Some(aim(held, mode)),
+    };
+    match obstacle(nodes, &request) {
+        Some(other) => Finding::Stopped {
+            request,
+            other: other.txn,
+        },
+        None => Finding::Free { request, known },
+    }
+}
+
+fn mode_of(own: &Option<Request>) -> Option<Mode>
+    ensures { result ≡ option_and_then (λ r. r.held) own.now }
+{
+    match own {
+        Some(request) => request.held,
+        None => None,
+    }
+}
