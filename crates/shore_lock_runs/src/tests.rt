@@ -1,0 +1,24 @@
+//! Random runs, each from a seed of its own, so that a run that fails can be made again.
+mod choices;
+mod comparison;
+mod table_runs;
+mod twin;
+
+use std::test::Fail;
+use table_runs::{Seen, run};
+
+const RUNS: u64 = 300;
+
+// Every answer, every queue and all that is held are the twin's after each step. The last lines say that each kind of answer
+// was met often.
+#[test]
+fn the_table_does_as_its_twin(rt: HostRuntime) -> Result<(), Fail> {
+    let mut seen = Seen::default();
+    for seed in 0..RUNS {
+        run(rt.alloc(), seed, &mut seen)?;
+    }
+    println!(rt; "{seen:?}")?;
+    assert!(rt; seen.granted > 1000 && seen.waiting > 1000 && seen.full > 1000);
+    assert!(rt; seen.blocked > 1000 && seen.cancelled > 1000 && seen.released > 1000);
+    Ok(())
+}

@@ -1,0 +1,92 @@
+//! Random runs of a lock table beside its twin.
+use super::choices::Choices;
+use super::comparison::is_same;
+use super::twin::Twin;
+use shore_locks::{LockTable, Requested, Tried};
+use std::alloc::Global;
+use std::test::Fail;
+
+const STEPS: u32 = 150;
+
+const LIMIT: usize = 9;
+
+/// How often each kind of answer was met.
+#[derive(Clone, Copy, Debug, Default)]
+pub struct Seen {
+    pub granted: u32,
+    pub waiting: u32,
+    pub full: u32,
+    pub blocked: u32,
+    pub cancelled: u32,
+    pub released: u32,
+}
+
+impl Seen {
+    fn count_request(&mut self, answer: Requested) {
+        let count = match answer {
+            Requested::Granted => &mut self.granted,
+            Requested::Waiting => &mut self.waiting,
+            Requested::Full => &mut self.full,
+        };
+        *count = count.saturating_add(1);
+    }
+
+    fn count_try(&mut self, answer: Tried) {
+        let count = match answer {
+            Tried::Granted => &mut self.granted,
+            Tried::Blocked(_) => &mut self.blocked,
+            Tried::Full => &mut self.full,
+        };
+        *count = count.saturating_add(1);
+    }
+}
+
+/// A table and its twin from a seed on.
+pub fn run(alloc: Global, seed: u64, seen: &mut Seen) -> Result<(), Fail> {
+    let mut choices = Choices::new(seed);
+    let mut table = LockTable::new(alloc, LIMIT)?;
+    let mut twin = Twin::new(alloc, LIMIT);
+    for turn in 0..STEPS {
+        let answers_agree = step(alloc, &mut choices, &mut table, &mut twin, seen)?;
+        if !answers_agree || !is_same(alloc, &table, &twin)? {
+            return Err(Fail::new(format_args!("seed {seed}, step {turn}")));
+        }
+    }
+    Ok(())
+}
+
+// One random call of both. It answers whether they said the same.
+fn step(
+    alloc: Global,
+    choices: &mut Choices,
+    table: &mut LockTable,
+    twin: &mut Twin,
+    seen: &mut Seen,
+) -> Result<bool, Fail> {
+    let txn = choices.transaction();
+    let percent = choices.percent();
+    if percent < 8 {
+        let released = table.release_all(txn);
+        if released > 0 {
+            seen.released = seen.released.saturating_add(1);
+        }
+        return Ok(released == twin.release_all(txn));
+    }
+    if table.is_waiting(txn) {
+        if percent < 50 {
+            table.cancel(txn);
+            twin.cancel(txn);
+            seen.cancelled = seen.cancelled.saturating_add(1);
+        }
+        return Ok(true);
+    }
+    let (granule, mode) = (choices.granule(), choices.mode());
+    if percent < 70 {
+        let answer = table.request(txn, granule, mode)?;
+        seen.count_request(answer);
+        return Ok(answer == twin.request(txn, &granule, mode)?);
+    }
+    let answer = table.try_request(txn, granule, mode)?;
+    seen.count_try(answer);
+    Ok(answer == twin.try_request(alloc, txn, &granule, mode)?)
+}

@@ -1,0 +1,280 @@
+//! The slow twin of the lock table: one list of requests and the rules of queues, in plain loops.
+use shore_locks::{Requested, Tried};
+use shore_model::Request;
+use shore_modes::{grants, is_at_most, sup};
+use shore_types::{Granule, Mode, TxnId};
+use std::alloc::{AllocError, Global};
+
+/// Requests in the order in which they came. A conversion that begins to wait comes anew.
+#[derive(Drop)]
+pub struct Twin {
+    pub requests: Vec<Request>,
+    limit: usize,
+}
+
+impl Twin {
+    pub fn new(alloc: Global, limit: usize) -> Twin {
+        Twin {
+            requests: Vec::new(alloc),
+            limit,
+        }
+    }
+
+    pub fn is_waiting(&self, txn: TxnId) -> bool {
+        self.place_of_waiter(txn).is_some()
+    }
+
+    pub fn held(&self, txn: TxnId, granule: &Granule) -> Option<Mode> {
+        self.requests.get(self.place(txn, granule)?)?.held
+    }
+
+    /// Those that hold a granule and want nothing.
+    pub fn holders(&self, alloc: Global, granule: &Granule) -> Result<Vec<Request>, AllocError> {
+        let mut holders = Vec::new(alloc);
+        for request in self.requests.as_slice() {
+            if request.granule == *granule && request.wanted.is_none() {
+                holders.push(*request)?;
+            }
+        }
+        Ok(holders)
+    }
+
+    /// Those that wait for a granule, conversions first.
+    pub fn waiters(&self, alloc: Global, granule: &Granule) -> Result<Vec<Request>, AllocError> {
+        let mut waiters = Vec::new(alloc);
+        self.push_waiters(&mut waiters, granule, true)?;
+        self.push_waiters(&mut waiters, granule, false)?;
+        Ok(waiters)
+    }
+
+    fn push_waiters(
+        &self,
+        waiters: &mut Vec<Request>,
+        granule: &Granule,
+        conversions: bool,
+    ) -> Result<(), AllocError> {
+        for request in self.requests.as_slice() {
+            if request.granule == *granule
+                && request.wanted.is_some()
+                && request.held.is_some() == conversions
+            {
+                waiters.push(*request)?;
+            }
+        }
+        Ok(())
+    }
+
+    /// A request enters at its place in the queue, and a grant pass runs. Where it is granted it goes back to the place at
+    /// which the transaction stood before.
+    pub fn request(
+        &mut self,
+        txn: TxnId,
+        granule: &Granule,
+        mode: Mode,
+    ) -> Result<Requested, AllocError> {
+        let place = self.place(txn, granule);
+        let held = self.held(txn, granule);
+        if let Some(held) = held
+            && is_at_most(mode, held)
+        {
+            return Ok(Requested::Granted);
+        }
+        if place.is_none() && self.requests.len() >= self.limit {
+            return Ok(Requested::Full);
+        }
+        let wanted = match held {
+            Some(held) => sup(held, mode),
+            None => mode,
+        };
+        self.requests.push(Request {
+            txn,
+            granule: *granule,
+            held,
+            wanted: Some(wanted),
+        })?;
+        if let Some(place) = place {
+            self.take(place);
+        }
+        self.pass(granule);
+        if self.is_waiting(txn) {
+            return Ok(Requested::Waiting);
+        }
+        if let Some(place) = place {
+            self.move_last_to(place);
+        }
+        Ok(Requested::Granted)
+    }
+
+    /// A request that is taken back where it would wait. Nothing has changed then.
+    pub fn try_request(
+        &mut self,
+        alloc: Global,
+        txn: TxnId,
+        granule: &Granule,
+        mode: Mode,
+    ) -> Result<Tried, AllocError> {
+        let before = self.requests.to_vec(alloc)?;
+        match self.request(txn, granule, mode)? {
+            Requested::Granted => Ok(Tried::Granted),
+            Requested::Full => Ok(Tried::Full),
+            Requested::Waiting => {
+                let other = self.first_in_the_way(txn, granule);
+                self.requests = before;
+                Ok(Tried::Blocked(other))
+            }
+        }
+    }
+
+    /// A transaction's waiting request goes, or wants no more than it holds; a grant pass follows.
+    pub fn cancel(&mut self, txn: TxnId) {
+        if let Some(place) = self.place_of_waiter(txn)
+            && let Some(request) = self.requests.get_mut(place)
+        {
+            let granule = request.granule;
+            request.wanted = None;
+            if request.held.is_none() {
+                self.take(place);
+            }
+            self.pass(&granule);
+        }
+    }
+
+    /// All requests of a transaction go, and a grant pass runs for each granule where it had one.
+    pub fn release_all(&mut self, txn: TxnId) -> usize {
+        let before = self.requests.len();
+        for _ in 0..before {
+            if let Some(place) = self.first_of(txn)
+                && let Some(request) = self.requests.get(place)
+            {
+                let granule = request.granule;
+                self.take(place);
+                self.pass(&granule);
+            }
+        }
+        before.saturating_sub(self.requests.len())
+    }
+
+    // Waiters are granted in the order of the queue, up to the first that another holder refuses.
+    fn pass(&mut self, granule: &Granule) {
+        for _ in 0..self.requests.len() {
+            match self.first_waiter(granule) {
+                Some(place) if self.may_hold(place) => self.grant(place),
+                _ => return,
+            }
+        }
+    }
+
+    fn grant(&mut self, place: usize) {
+        if let Some(request) = self.requests.get_mut(place) {
+            request.held = request.wanted;
+            request.wanted = None;
+        }
+    }
+
+    // Conversions wait ahead of new waiters.
+    fn first_waiter(&self, granule: &Granule) -> Option<usize> {
+        let mut first_new = None;
+        for place in 0..self.requests.len() {
+            let request = self.requests[place];
+            if request.granule == *granule && request.wanted.is_some() {
+                if request.held.is_some() {
+                    return Some(place);
+                }
+                if first_new.is_none() {
+                    first_new = Some(place);
+                }
+            }
+        }
+        first_new
+    }
+
+    fn may_hold(&self, place: usize) -> bool {
+        match self.requests.get(place) {
+            Some(waiter) => !self.is_refused(waiter),
+            None => false,
+        }
+    }
+
+    fn is_refused(&self, waiter: &Request) -> bool {
+        for other in self.requests.as_slice() {
+            if other.granule == waiter.granule
+                && other.txn != waiter.txn
+                && refuses(waiter, other)
+            {
+                return true;
+            }
+        }
+        false
+    }
+
+    // The first in the list for whom one waits that came last: one that refuses it, or that waits ahead of it.
+    fn first_in_the_way(&self, txn: TxnId, granule: &Granule) -> TxnId {
+        let held = self.held(txn, granule);
+        for other in self.requests.as_slice() {
+            if other.granule == *granule && other.txn != txn {
+                let is_ahead = other.wanted.is_some() && (other.held.is_some() || held.is_none());
+                if is_ahead || self.refuses_last(other) {
+                    return other.txn;
+                }
+            }
+        }
+        txn
+    }
+
+    fn refuses_last(&self, other: &Request) -> bool {
+        match self.requests.last() {
+            Some(waiter) => refuses(waiter, other),
+            None => false,
+        }
+    }
+
+    fn place(&self, txn: TxnId, granule: &Granule) -> Option<usize> {
+        for place in 0..self.requests.len() {
+            let request = self.requests[place];
+            if request.txn == txn && request.granule == *granule {
+                return Some(place);
+            }
+        }
+        None
+    }
+
+    fn place_of_waiter(&self, txn: TxnId) -> Option<usize> {
+        for place in 0..self.requests.len() {
+            let request = self.requests[place];
+            if request.txn == txn && request.wanted.is_some() {
+                return Some(place);
+            }
+        }
+        None
+    }
+
+    fn first_of(&self, txn: TxnId) -> Option<usize> {
+        for place in 0..self.requests.len() {
+            if self.requests[place].txn == txn {
+                return Some(place);
+            }
+        }
+        None
+    }
+
+    fn take(&mut self, place: usize) {
+        if place < self.requests.len() {
+            self.requests.remove(place);
+        }
+    }
+
+    fn move_last_to(&mut self, place: usize) {
+        for later in (1..self.requests.len()).rev() {
+            if later > place {
+                self.requests.swap(later - 1, later);
+            }
+        }
+    }
+}
+
+fn refuses(waiter: &Request, other: &Request) -> bool {
+    match (waiter.wanted, other.held) {
+        (Some(asked), Some(held)) => !grants(held, asked),
+        _ => false,
+    }
+}
