@@ -9,7 +9,7 @@ use Rattle.shore_locks.specs.Tables.{is_for, request_for, waiting_request}
 use Rattle.shore_locks.proofs.Entering.{both_true, find_here, find_step}
 use Rattle.shore_locks.proofs.Members.{either, filter-no, filter-yes}
 
-find_filtered : (p q : Request → Bool) → ((x : Request) → p x ≡ true → q x ≡ true) → (xs : List Request) → find p (filter q xs) ≡ find p xs
+pub find_filtered : (p q : Request → Bool) → ((x : Request) → p x ≡ true → q x ≡ true) → (xs : List Request) → find p (filter q xs) ≡ find p xs
 find_filtered p q inside [] = refl
 find_filtered p q inside (x ∷ xs) =
     ⊎_elim

@@ -4,6 +4,7 @@ mod Entering
 mod Firsts
 mod Fits
 mod Keys
+mod Lasts
 mod LawLemmas
 mod Members
 mod Others

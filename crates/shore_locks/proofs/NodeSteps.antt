@@ -1,25 +1,26 @@
 -- The steps of a list of nodes.
-use Rattle.std.proofs.Common.{inl, inr, ◌≡◌, ◌++◌, ◌<◌, ◌≤◌, ◌+◌, ◌-◌, ◌%◌, ⊎_elim, ℕ, List, [], ◌∷◌, Bool, true, false, Option, None, Some, refl, ap, sym, subst, ◌∙◌, length, map, arith}
-use Rattle.std.specs.Prelude.{filter, not, ◌==◌, is_some, find, slice_get, IfSome, OnSome, Contains, ◌&&◌}
+use Rattle.std.proofs.Common.{◌≡◌, ◌++◌, ◌<◌, ◌≤◌, ◌+◌, ◌-◌, ◌%◌, ⊎_elim, ℕ, List, [], ◌∷◌, Bool, true, false, Option, None, Some, refl, ap, sym, subst, ◌∙◌, length, map, arith}
+use Rattle.std.specs.Prelude.{filter, not, ◌==◌, is_some, find, slice_get, IfSome, OnSome, ◌&&◌}
 use Rattle.std.specs.List.{list_any}
 use Rattle.std.specs.Option.{option_map}
 use Rattle.std.proofs.lemmas.Bool.Decides.{Decides-eqb}
+use Rattle.std.proofs.lemmas.List.{map-append}
+use Rattle.std.proofs.lemmas.List.Elements.{filter-append}
 use Rattle.slab.specs.Slab.{Slab, Updates, get, slab_len}
 use Rattle.shore_model.specs.declared.requests.Request.{Request}
 use Rattle.shore_model.specs.Requests.{are_alike, AreRequests, requests_by}
 use Rattle.shore_links.specs.declared.ring.Link.{Link}
-use Rattle.shore_links.specs.Rings.{In, IsRing, Way, after_at, before_at}
+use Rattle.shore_links.specs.Rings.{IsRing, Way, after_at, before_at}
 use Rattle.shore_locks.specs.Grants.{removed, replaced}
 use Rattle.shore_locks.specs.Nodes.{IsThreaded, LinksIn, LinksOut, alive, granule_number, in_bucket, list_of, places, pairs_from, queue_of, request_at, request_or, requests_in, without}
-use Rattle.shore_locks.specs.Orderly.{WaitsOnce}
-use Rattle.shore_locks.specs.Tables.{waiting_request}
+use Rattle.shore_locks.specs.Orderly.{IsNewest}
 use Rattle.shore_locks.proofs.AlikeNodes.{FoundNode, found_node, from_map, in_map, no_node, place_within, removed_is, replaced_is, threaded_same, threaded_wider}
-use Rattle.shore_locks.proofs.Entering.{both_true, found_in, found_none}
+use Rattle.shore_locks.proofs.Entering.{found_in}
 use Rattle.shore_locks.proofs.Fits.{any_of, found_any}
 use Rattle.shore_locks.proofs.Keys.{alike-Decides, alike-self}
 use Rattle.shore_locks.proofs.Members as members
-use Rattle.shore_locks.proofs.NodeLemmas.{alive_comes, alive_goes, list_requests, list_walk, pair_at, queue_walk, requests_more, requests_same, threaded_less, threaded_more, threaded_set}
-use Rattle.shore_locks.proofs.Threads.{in_filter, in_places}
+use Rattle.shore_locks.proofs.NodeLemmas.{alive_comes, alive_goes, list_requests, list_walk, pair_at, queue_walk, filter_of_bucket, requests_more, requests_same, threaded_less, threaded_more, threaded_set}
+use Rattle.shore_locks.proofs.Threads.{in_filter}
 
 pub mod_small : (n heads : ℕ) → 0 < heads → n % heads < heads
 mod_small n heads some = omega arith
@@ -202,39 +203,34 @@ pub none_of_any : (p : Request → Bool) (rs : List Request) → ((q : Request) 
 none_of_any p rs none =
     ⊎_elim (λ yes. absurd (let f = found_any p rs yes in let g = none f.0 f.1 in let h = f.2 in cc)) (λ no. no) (members.either (list_any p rs))
 
--- the end of a way is reached from one of its places
-end_reached : (f g : ℕ → ℕ) (a : ℕ) (xs : List ℕ) (b : ℕ) → Way f g a xs b → In (g b) (a ∷ xs)
-end_reached f g a [] b w = inl (sym w.1)
-end_reached f g a (x ∷ xs) b w = inr (end_reached f g x xs b w.1)
+-- the place before the head is the last of its ring
+last_key : (heads : ℕ) (f g : ℕ → ℕ) (a k : ℕ) (ks : List ℕ) (b : ℕ) → Way f g a (places heads (k ∷ ks)) b → (zs : List ℕ) × (j : ℕ) × (k ∷ ks ≡ zs ++ j ∷ []) × (heads + j ≡ g b)
+last_key heads f g a k [] b w = ([], k, refl, sym w.1.1)
+last_key heads f g a k (l ∷ ks) b w = let r = last_key heads f g (heads + k) l ks b w.1 in (k ∷ r.0, r.1, ap (λ xs. k ∷ xs) r.2, r.3)
 
--- the node before a head is one of the requests
+last_of_ring : (heads : ℕ) (f g : ℕ → ℕ) (head : ℕ) (ks : List ℕ) → Way f g head (places heads ks) head → (g head ≡ head → ⊥) → (zs : List ℕ) × (j : ℕ) × (ks ≡ zs ++ j ∷ []) × (heads + j ≡ g head)
+last_of_ring heads f g head [] w other = absurd (other w.1)
+last_of_ring heads f g head (k ∷ ks) w other = last_key heads f g head k ks head w
+
+-- the node before a head is the newest of its transaction
 pub newest_there : (heads : ℕ) (slots : Slab Request) (queues lists : List Link) (ks : List ℕ) (t head place key : ℕ) (r : Request) → IsThreaded heads slots queues lists ks → head ≡ t % heads → place ≡ before_at lists head → (place ≡ head → ⊥) → key ≡ place - heads → get slots key ≡ Some r
-    → Contains (requests_in slots ks) r
-newest_there heads slots queues lists ks t head place key r threaded at is other key_at stands =
+    → r.txn ≡ t → IsNewest t (requests_in slots ks) r
+newest_there heads slots queues lists ks t head place key r threaded at is other key_at stands by =
     let small : head < heads = subst (λ b. b < heads) (sym at) (mod_small t heads threaded.some_heads) in
     let ring = threaded.lists_hold head small in
-    let last = end_reached (after_at lists) (before_at lists) head (places heads (in_bucket (list_of heads slots) head ks)) head ring.way in
-    ⊎_elim
-    (λ e. absurd (other (is ∙ sym e)))
-    (λ h. let m = in_places heads (in_bucket (list_of heads slots) head ks) (before_at lists head) h in
-    let k_in = (in_filter (λ k. list_of heads slots k == head) ks m.0 m.1).0 in
-    let same : key ≡ m.0 = let e = m.2 in omega arith in
-    let here : request_at slots m.0 ≡ r = ap (request_at slots) (sym same) ∙ ap request_or stands in
-    subst (Contains (requests_in slots ks)) here (members.In-Contains (requests_in slots ks) (request_at slots m.0) (in_map (request_at slots) ks m.0 k_in)))
-    last
-
--- one that waits is the one found
-waiting_found : (t : ℕ) (rs : List Request) (r : Request) (o : Option Request) → WaitsOnce rs → Contains rs r → r.txn ≡ t → is_some r.wanted ≡ true → waiting_request t rs ≡ o → Some r ≡ o
-waiting_found t rs r None once there by wants is =
-    absurd (let no = found_none (λ q. (q.txn == t) && is_some q.wanted) rs is r (members.Contains-In rs r there) in
-    let yes = both_yes (r.txn == t) (is_some r.wanted) ((Decides-eqb r.txn t).1 by) wants in cc)
-waiting_found t rs r (Some q) once there by wants is =
-    let f = found_in (λ q. (q.txn == t) && is_some q.wanted) rs q is in
-    let p = both_true (q.txn == t) (is_some q.wanted) f.1 in
-    ap Some (once r q there (members.In-Contains rs q f.0) (by ∙ sym ((Decides-eqb q.txn t).0 p.0)) wants p.1)
-
-pub waiting_is : (t : ℕ) (rs : List Request) (r : Request) → WaitsOnce rs → Contains rs r → r.txn ≡ t → is_some r.wanted ≡ true → Some r ≡ waiting_request t rs
-waiting_is t rs r once there by wants = waiting_found t rs r (waiting_request t rs) once there by wants refl
+    let last = last_of_ring heads (after_at lists) (before_at lists) head (in_bucket (list_of heads slots) head ks) ring.way (λ e. other (is ∙ e)) in
+    let same : key ≡ last.1 = let e = last.3 in omega arith in
+    let here : request_at slots last.1 ≡ r = ap (request_at slots) (sym same) ∙ ap request_or stands in
+    let bucket : requests_by t (requests_in slots (in_bucket (list_of heads slots) head ks)) ≡ requests_by t (requests_in slots ks) =
+    filter_of_bucket (λ q. q.txn == t) (request_at slots) (list_of heads slots) head ks (λ k e. ap (λ n. n % heads) ((Decides-eqb (request_at slots k).txn t).0 e) ∙ sym at) in (
+      requests_by t (requests_in slots last.0),
+      sym bucket
+          ∙ ap (λ xs. requests_by t (requests_in slots xs)) last.2
+          ∙ ap (requests_by t) (map-append (request_at slots) last.0 (last.1 ∷ []))
+          ∙ filter-append (λ q. q.txn == t) (requests_in slots last.0) (request_at slots last.1 ∷ [])
+          ∙ ap (λ q. requests_by t (requests_in slots last.0) ++ requests_by t (q ∷ [])) here
+          ∙ ap (λ xs. requests_by t (requests_in slots last.0) ++ xs) (members.filter-yes (λ q. q.txn == t) r [] ((Decides-eqb r.txn t).1 by)),
+    )
 
 pub if_some_all : {A : Type 0} (P Q : A → Type 0) (o : Option A) → ((x : A) → P x → Q x) → IfSome o P → IfSome o Q
 if_some_all P Q None h i = i

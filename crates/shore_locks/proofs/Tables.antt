@@ -11,13 +11,14 @@ use Rattle.shore_model.specs.Locks.{Agree, StandTogether}
 use Rattle.shore_model.specs.Requests.{are_alike, requests_by, placed_last, held_by_all, hold_in}
 use Rattle.shore_locks.specs.Tables.{is_waiting, waiting_request}
 use Rattle.shore_locks.specs.Grants.{removed, replaced, put, granted, withdrawn, asking, obstacle, passed, taken_back, taken_back_if, cancelled, given_up, released, is_full, after_grant}
-use Rattle.shore_locks.specs.Orderly.{IsKept, IsOrderly, IsOfUse, Rises}
+use Rattle.shore_locks.specs.Orderly.{IsKept, IsOrderly, IsOfUse, Rises, WaitsLast}
 use Rattle.shore_locks.proofs.Members.{In, either, In-All, All-In, In-Contains, Contains-In}
 use Rattle.shore_locks.proofs.Fits.{Fit, Fit-filter, Fit-withdrawn, Fit-passed, StandBoth}
 use Rattle.shore_locks.proofs.Others.{NoneLeftAt, none_left_as, none_left_passed, at_other_removed, at_other_replaced, at_other_put}
 use Rattle.shore_locks.proofs.Entering.{AreRequests-put, Fit-placed, Fit-put, found_in}
 use Rattle.shore_locks.proofs.Counts.{length-given_up, length-passed, length-placed_within, length-put_within, length-taken_back}
 use Rattle.shore_locks.proofs.Waiting.{none_left_placed}
+use Rattle.shore_locks.proofs.Lasts.{last_filter, last_passed, last_placed, last_put, last_replaced, quiet_of}
 
 -- a lock is held by a request
 record HeldBy (rs : List Request) (h : Hold) : Type 0 where
@@ -77,14 +78,15 @@ both_stand None None h = tt
 IsSome_of : {A : Type 0} (o : Option A) → is_some o ≡ true → IsSome o
 IsSome_of o e = e
 
-pub orderly_of : (rs : List Request) → Fit rs → ((g : Granule) → NoneLeftAt rs g) → IsOrderly rs
-orderly_of rs fit left = record {
+pub orderly_of : (rs : List Request) → Fit rs → ((g : Granule) → NoneLeftAt rs g) → WaitsLast rs → IsOrderly rs
+orderly_of rs fit left last = record {
   one_each = fit.one;
   together = together_of rs fit;
   none_left = left;
   of_use = All-In IsOfUse rs fit.of_use;
   rising = All-In (λ r. Rises r.held r.wanted) rs fit.rising;
   waits_once = λ a b x y. fit.once a b (Contains-In rs a x) (Contains-In rs b y);
+  waits_last = last;
 }
 
 pub fit_of : (rs : List Request) → IsOrderly rs → Fit rs
@@ -100,21 +102,23 @@ fit_of rs orderly = record {
 }
 
 pub orderly_none : IsOrderly []
-orderly_none = orderly_of [] (record { one = tt; pairs = λ a b x y e f. absurd x; of_use = λ a x. absurd x; rising = λ a x. absurd x; once = λ a b x y e f g. absurd x }) (λ g. tt)
+orderly_none = orderly_of [] (record { one = tt; pairs = λ a b x y e f. absurd x; of_use = λ a x. absurd x; rising = λ a x. absurd x; once = λ a b x y e f g. absurd x }) (λ g. tt) tt
 
 -- a transaction begins to wait
 pub orderly_placed : (t : ℕ) (g : Granule) (mode : Mode) (rs : List Request) → IsOrderly rs → is_waiting t rs ≡ false → is_some (obstacle (asking t g mode rs) rs) ≡ true → IsOrderly (placed_last (asking t g mode rs) rs)
 orderly_placed t g mode rs orderly quiet stopped =
     let fit = fit_of rs orderly in
     orderly_of (placed_last (asking t g mode rs) rs) (Fit-placed t g mode rs fit quiet) (none_left_placed t g mode rs fit quiet stopped orderly.none_left)
+    (last_placed (asking t g mode rs) rs orderly.waits_last (quiet_of t rs quiet))
 
 -- it is granted at once
-pub orderly_put : (t : ℕ) (g : Granule) (mode : Mode) (rs : List Request) → IsOrderly rs → obstacle (asking t g mode rs) rs ≡ None → IsOrderly (passed g (put (granted (asking t g mode rs)) rs))
-orderly_put t g mode rs orderly free =
+pub orderly_put : (t : ℕ) (g : Granule) (mode : Mode) (rs : List Request) → IsOrderly rs → is_waiting t rs ≡ false → obstacle (asking t g mode rs) rs ≡ None → IsOrderly (passed g (put (granted (asking t g mode rs)) rs))
+orderly_put t g mode rs orderly quiet free =
     let r = granted (asking t g mode rs) in
     let fit = Fit-put t g mode rs (fit_of rs orderly) free in
     orderly_of (passed g (put (granted (asking t g mode rs)) rs)) (Fit-passed g (put (granted (asking t g mode rs)) rs) fit)
     (none_left_passed g (put (granted (asking t g mode rs)) rs) fit.one (λ h other. none_left_as h (put (granted (asking t g mode rs)) rs) rs (at_other_put h (granted (asking t g mode rs)) rs other) (orderly.none_left h)))
+    (last_passed g (put (granted (asking t g mode rs)) rs) (last_put (granted (asking t g mode rs)) rs refl orderly.waits_last (quiet_of t rs quiet)))
 
 -- a request goes
 pub orderly_removed : (r : Request) (rs : List Request) → IsOrderly rs → IsOrderly (passed r.granule (removed r rs))
@@ -122,6 +126,7 @@ orderly_removed r rs orderly =
     let fit = Fit-filter (λ q. not (are_alike q r)) rs (fit_of rs orderly) in
     orderly_of (passed r.granule (removed r rs)) (Fit-passed r.granule (removed r rs) fit)
     (none_left_passed r.granule (removed r rs) fit.one (λ h other. none_left_as h (removed r rs) rs (at_other_removed h r rs other) (orderly.none_left h)))
+    (last_passed r.granule (removed r rs) (last_filter (λ q. not (are_alike q r)) rs orderly.waits_last))
 
 -- a conversion waits no more
 pub orderly_withdrawn : (r : Request) (rs : List Request) → IsOrderly rs → In r rs → is_some r.held ≡ true → IsOrderly (passed r.granule (replaced (withdrawn r) rs))
@@ -129,6 +134,7 @@ orderly_withdrawn r rs orderly in_r holds =
     let fit = Fit-withdrawn rs r (fit_of rs orderly) in_r holds in
     orderly_of (passed r.granule (replaced (withdrawn r) rs)) (Fit-passed r.granule (replaced (withdrawn r) rs) fit)
     (none_left_passed r.granule (replaced (withdrawn r) rs) fit.one (λ h other. none_left_as h (replaced (withdrawn r) rs) rs (at_other_replaced h (withdrawn r) rs other) (orderly.none_left h)))
+    (last_passed r.granule (replaced (withdrawn r) rs) (last_replaced (withdrawn r) rs refl orderly.waits_last))
 
 cond_true : {A : Type 0} (b : Bool) (x y : A) → b ≡ true → cond b x y ≡ x
 cond_true true x y e = refl
@@ -175,10 +181,10 @@ kept_placed limit t g mode rs kept quiet room stopped = record {
 }
 
 -- .. and where it is granted at once
-pub kept_granted : (limit t : ℕ) (g : Granule) (mode : Mode) (rs : List Request) → IsKept limit rs → is_full (record { limit = limit; requests = rs }) t g ≡ false → obstacle (asking t g mode rs) rs ≡ None
+pub kept_granted : (limit t : ℕ) (g : Granule) (mode : Mode) (rs : List Request) → IsKept limit rs → is_waiting t rs ≡ false → is_full (record { limit = limit; requests = rs }) t g ≡ false → obstacle (asking t g mode rs) rs ≡ None
     → IsKept limit (after_grant t g mode rs)
-kept_granted limit t g mode rs kept room free =
+kept_granted limit t g mode rs kept quiet room free =
     let one = AreRequests-put (granted (asking t g mode rs)) rs kept.orderly.one_each in
     let same = length-passed g (put (granted (asking t g mode rs)) rs) one in
     let most = length-put_within (granted (asking t g mode rs)) rs limit kept.within room in
-    record { orderly = orderly_put t g mode rs kept.orderly free; within = omega (arith, same, most) }
+    record { orderly = orderly_put t g mode rs kept.orderly quiet free; within = omega (arith, same, most) }

@@ -1,6 +1,6 @@
 //! Requests as nodes of a slab. Each has four links: two in the ring of its granule's bucket, and two in that of its
 //! transaction's. A bucket is found by a number, so a queue and a transaction's list are found in constant expected time.
-ghost use Rattle.std.specs.Prelude.{◌≡◌, ◌<◌, ◌≤◌, ◌+◌, ◌*◌, ◌^◌, ◌%◌, ◌==◌, ◌++◌, ◌∷◌, [], ℕ, List, None, Some, IfOk, IfSome, Contains, OnOk, OnErr, MatchBool, MatchOption, false, find, is_some, length, true, map, slice_get};
+ghost use Rattle.std.specs.Prelude.{◌≡◌, ◌<◌, ◌≤◌, ◌+◌, ◌*◌, ◌^◌, ◌%◌, ◌==◌, ◌++◌, ◌∷◌, [], ℕ, List, None, Some, IfOk, IfSome, OnOk, OnErr, MatchBool, MatchOption, false, find, is_some, length, true, map, slice_get};
 ghost use Rattle.std.specs.List.{list_any};
 ghost use Rattle.std.specs.Option.{option_map};
 ghost use Rattle.shore_model.specs.Requests.{AreRequests, are_alike, placed_last, requests_at, requests_by};
@@ -9,6 +9,7 @@ ghost use Rattle.shore_links.specs.Rings.{In, IsRing, after_at};
 ghost use Rattle.slab.specs.Slab.{HasRoomFor, Updates, get, slab_len};
 ghost use Rattle.shore_locks.specs.Grants.{removed, replaced};
 ghost use Rattle.shore_locks.specs.Nodes as spec;
+ghost use Rattle.shore_locks.specs.Orderly.{IsNewest};
 ghost use Rattle.shore_locks.specs.Nodes.{IsThreaded, LinksIn, LinksOut, pairs_from, request_at, without};
 
 use crate::walks::Walk;
@@ -79,7 +80,7 @@ impl Nodes {
 
     /// The newest request of a transaction, unless a newer one of another stands in its bucket. It takes no search.
     pub fn newest(&self, txn: TxnId) -> Option<Request>
-        ensures { IfSome result (λ r. Contains self.now r × (r.txn ≡ txn)) }
+        ensures { IfSome result (λ r. IsNewest txn self.now r) }
     {
         let head = list_head(txn, self.heads);
         let place = self.lists.before(head);

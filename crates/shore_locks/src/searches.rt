@@ -1,9 +1,9 @@
 //! Searches among the nodes of a granule's queue, and of a transaction.
-ghost use Rattle.std.specs.Prelude.{◌≡◌, slice_get};
+ghost use Rattle.std.specs.Prelude.{◌≡◌, None, Some, cond, is_some, slice_get};
 ghost use Rattle.shore_model.specs.Requests.{requests_at};
 ghost use Rattle.shore_locks.specs.Tables as tables;
 ghost use Rattle.shore_locks.specs.Grants as steps;
-ghost use Rattle.shore_locks.specs.Orderly.{WaitsOnce};
+ghost use Rattle.shore_locks.specs.Orderly.{WaitsLast};
 
 use crate::judgements::{is_for, is_stopped_by, refuses};
 use crate::nodes::Nodes;
@@ -30,15 +30,14 @@ pub fn mode_held(nodes: &Nodes, txn: TxnId, granule: &Granule) -> Option<Mode>
     request_for(nodes, txn, granule)?.held
 }
 
-/// The request with which a transaction waits. It is the transaction's newest, so it is mostly the first that is looked at.
+/// The request with which a transaction waits. It could only be its newest, which mostly stands last in its ring: then no other
+/// is looked at.
 pub fn waiting_request(nodes: &Nodes, txn: TxnId) -> Option<Request>
-    requires { WaitsOnce nodes.now }
+    requires { WaitsLast nodes.now }
     ensures { result ≡ tables.waiting_request txn nodes.now }
 {
-    if let Some(newest) = nodes.newest(txn)
-        && newest.wanted.is_some()
-    {
-        return Some(newest);
+    if let Some(newest) = nodes.newest(txn) {
+        return if_waiting(newest);
     }
     let mut walk = nodes.list(txn);
     while let Some((_, request)) = walk.advance() {
@@ -47,6 +46,16 @@ pub fn waiting_request(nodes: &Nodes, txn: TxnId) -> Option<Request>
         }
     }
     None
+}
+
+fn if_waiting(request: Request) -> Option<Request>
+    ensures { result ≡ cond (is_some request.wanted) (Some request) None }
+{
+    if request.wanted.is_some() {
+        Some(request)
+    } else {
+        None
+    }
 }
 
 /// The first waiter of a granule's queue: a conversion, or else the first that is new.

@@ -18,5 +18,6 @@ grant-requires-clause-known c = known_as c.args.txn c.args.granule c.args.mode c
 
 pub invariant_of-self-in-Free : goal.invariant_of-self-in-Free
 invariant_of-self-in-Free c =
+    let quiet : is_waiting c.args.txn c.self.inside.nodes ≡ false = ap (λ t. is_waiting c.args.txn t.requests) c.self.view_is ∙ c.requires in
     subst (IsKept c.self.inside.limit) (sym (c.in_ok-grant-in-Free.ensures.ok ∙ ap (λ x. passed x.granule (put (granted x) c.self.inside.nodes)) c.in-Free.ensures.1))
-    (kept_granted c.self.inside.limit c.args.txn c.args.granule c.args.mode c.self.inside.nodes c.self.invariant c.in-Free.ensures.0.1 c.in-Free.ensures.2)
+    (kept_granted c.self.inside.limit c.args.txn c.args.granule c.args.mode c.self.inside.nodes c.self.invariant quiet c.in-Free.ensures.0.1 c.in-Free.ensures.2)
