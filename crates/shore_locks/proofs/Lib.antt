@@ -1,15 +1,15 @@
-mod Answered
-mod Counts
-mod Entering
-mod Fits
-mod Keys
-mod LawLemmas
-mod Members
-mod Others
-mod Outcomes
-mod Passes
-mod Tables
-mod Waiting
+pub mod Answered
+pub mod Counts
+pub mod Entering
+pub mod Fits
+pub mod Keys
+pub mod LawLemmas
+pub mod Members
+pub mod Others
+pub mod Outcomes
+pub mod Passes
+pub mod Tables
+pub mod Waiting
 mod Threads
 mod NodeLemmas
 mod AlikeNodes
