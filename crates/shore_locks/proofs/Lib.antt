@@ -1,19 +1,19 @@
-mod Answered
-mod Counts
-mod Entering
-mod Firsts
-mod Fits
-mod Keys
-mod Lasts
-mod LawLemmas
-mod Members
-mod Others
-mod Outcomes
-mod Passes
-mod Tables
-mod Waiting
-mod Threads
-mod NodeLemmas
 mod AlikeNodes
-mod NodeSteps
+pub mod Answered
 mod Buckets
+pub mod Counts
+pub mod Entering
+mod Firsts
+pub mod Fits
+pub mod Keys
+mod Lasts
+pub mod LawLemmas
+pub mod Members
+mod NodeLemmas
+mod NodeSteps
+pub mod Others
+pub mod Outcomes
+pub mod Passes
+pub mod Tables
+mod Threads
+pub mod Waiting

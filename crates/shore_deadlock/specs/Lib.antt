@@ -1,0 +1,3 @@
+pub mod Blockers
+pub mod Trails
+pub mod Cycles

@@ -1,0 +1,58 @@
+//! Laws of waits and of cycles, each the contract of a function with nothing to do.
+ghost use Rattle.std.specs.Prelude.{◌≡◌, ℕ, List, false};
+ghost use Rattle.shore_types.specs.declared.locking.Granule.{Granule};
+ghost use Rattle.shore_types.specs.declared.locking.Mode.{Mode};
+ghost use Rattle.shore_model.specs.declared.requests.Request.{Request};
+ghost use Rattle.shore_model.specs.Requests.{HasNoCycle, WaitsFor};
+ghost use Rattle.shore_locks.specs.declared.answers.Requested.TheVariants.{Waiting};
+ghost use Rattle.shore_locks.specs.Orderly.{IsOrderly};
+ghost use Rattle.shore_locks.specs.Grants.{after_request, after_try, answer_to, cancelled, released};
+ghost use Rattle.shore_locks.specs.Tables.{Table, is_waiting};
+ghost use Rattle.shore_deadlock.specs.Cycles.{IsOnEachCycle};
+
+use shore_locks::LockTable;
+
+/// The requests of each table are orderly, as what a table says of its nodes says too.
+pub fn tables_are_orderly(table: &LockTable)
+    ensures { IsOrderly table.now.requests }
+{
+    let _nodes = table.nodes();
+}
+
+/// Where a transaction waits no more, nobody waits for somebody for whom he did not wait before.
+pub fn cancel_adds_no_wait()
+    ensures { (rs : List Request) (t a b : ℕ) → IsOrderly rs → WaitsFor (cancelled t rs) a b → WaitsFor rs a b }
+{}
+
+/// Nor where a transaction gives up all that it holds and wants.
+pub fn release_adds_no_wait()
+    ensures { (rs : List Request) (t a b : ℕ) → IsOrderly rs → WaitsFor (released t rs) a b → WaitsFor rs a b }
+{}
+
+/// A cancel closes no cycle.
+pub fn cancel_closes_no_cycle()
+    ensures { (rs : List Request) (t : ℕ) → IsOrderly rs → HasNoCycle rs → HasNoCycle (cancelled t rs) }
+{}
+
+/// A release closes no cycle.
+pub fn release_closes_no_cycle()
+    ensures { (rs : List Request) (t : ℕ) → IsOrderly rs → HasNoCycle rs → HasNoCycle (released t rs) }
+{}
+
+/// A request that is granted, or for which there is no room, closes no cycle.
+pub fn answered_request_closes_no_cycle()
+    ensures { (table : Table) (t : ℕ) (g : Granule) (mode : Mode) → IsOrderly table.requests → is_waiting t table.requests ≡ false → HasNoCycle table.requests →
+        (answer_to table t g mode ≡ Waiting → ⊥) → HasNoCycle (after_request table t g mode) }
+{}
+
+/// Where no cycle stood, each one that a request closes passes the one who asked.
+pub fn cycles_pass_the_asker()
+    ensures { (table : Table) (t : ℕ) (g : Granule) (mode : Mode) → IsOrderly table.requests → is_waiting t table.requests ≡ false → HasNoCycle table.requests →
+        IsOnEachCycle (after_request table t g mode) t }
+{}
+
+/// A request that never waits closes no cycle.
+pub fn try_closes_no_cycle()
+    ensures { (table : Table) (t : ℕ) (g : Granule) (mode : Mode) → IsOrderly table.requests → is_waiting t table.requests ≡ false → HasNoCycle table.requests →
+        HasNoCycle (after_try table t g mode) }
+{}

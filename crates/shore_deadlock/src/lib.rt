@@ -1,0 +1,11 @@
+//! Deadlocks: cycles of transactions that wait for one another, and the victims that break them.
+#![tactic(auto)]
+
+mod blockers;
+pub mod laws;
+pub mod search;
+mod trails;
+pub mod victims;
+
+pub use search::find_cycle;
+pub use victims::{Victim, break_cycles};
