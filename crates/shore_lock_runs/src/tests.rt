@@ -1,11 +1,15 @@
 //! Random runs, each from a seed of its own, so that a run that fails can be made again.
 mod choices;
 mod comparison;
+mod cycle_runs;
+mod shown;
 mod table_runs;
 mod twin;
+mod waits;
 
+use cycle_runs::Closed;
 use std::test::Fail;
-use table_runs::{Seen, run};
+use table_runs::Seen;
 
 const RUNS: u64 = 300;
 
@@ -15,10 +19,23 @@ const RUNS: u64 = 300;
 fn the_table_does_as_its_twin(rt: HostRuntime) -> Result<(), Fail> {
     let mut seen = Seen::default();
     for seed in 0..RUNS {
-        run(rt.alloc(), seed, &mut seen)?;
+        table_runs::run(rt.alloc(), seed, &mut seen)?;
     }
     println!(rt; "{seen:?}")?;
     assert!(rt; seen.granted > 1000 && seen.waiting > 1000 && seen.full > 1000);
     assert!(rt; seen.blocked > 1000 && seen.cancelled > 1000 && seen.released > 1000);
+    Ok(())
+}
+
+// A cycle is found just where the slow functions see one, each victim is the greatest of a cycle that they see too, and
+// nobody is left on any.
+#[test]
+fn cycles_are_broken_as_they_are_closed(rt: HostRuntime) -> Result<(), Fail> {
+    let mut closed = Closed::default();
+    for seed in 0..RUNS {
+        cycle_runs::run(rt.alloc(), seed, &mut closed)?;
+    }
+    println!(rt; "{closed:?}")?;
+    assert!(rt; closed.waits > 1000 && closed.cycles > 500 && closed.several > 10);
     Ok(())
 }

@@ -1,0 +1,34 @@
+//! Who waits for whom through others, by the slow functions.
+use super::choices::TRANSACTIONS;
+use shore_model::Request;
+use shore_slow_locks::requests::waits_for;
+use shore_types::TxnId;
+use std::alloc::{AllocError, Global};
+
+/// Whether some walk of waits leads from a transaction back to it.
+pub fn is_on_a_cycle(alloc: Global, requests: &[Request], txn: TxnId) -> Result<bool, AllocError> {
+    let mut reached = Vec::new(alloc);
+    push_next(alloc, &mut reached, requests, txn)?;
+    for place in 0..TRANSACTIONS.len() {
+        let next = reached.get(place).copied();
+        if let Some(from) = next {
+            push_next(alloc, &mut reached, requests, from)?;
+        }
+    }
+    Ok(reached.contains(&txn))
+}
+
+// Adds those for whom a transaction waits.
+fn push_next(
+    alloc: Global,
+    reached: &mut Vec<TxnId>,
+    requests: &[Request],
+    from: TxnId,
+) -> Result<(), AllocError> {
+    for to in TRANSACTIONS {
+        if !reached.contains(&to) && waits_for(alloc, requests, from, to)? {
+            reached.push(to)?;
+        }
+    }
+    Ok(())
+}
