@@ -1,14 +1,14 @@
-mod Answered
-mod Counts
-mod Entering
-mod Fits
-mod Keys
+pub mod Answered
+pub mod Counts
+pub mod Entering
+pub mod Fits
+pub mod Keys
 mod LawLemmas
-mod Members
-mod Others
-mod Outcomes
+pub mod Members
+pub mod Others
+pub mod Outcomes
 mod Passes
-mod Tables
+pub mod Tables
 mod Waiting
 mod Threads
 mod NodeLemmas
