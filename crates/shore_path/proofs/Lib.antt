@@ -1,0 +1,11 @@
+pub mod Acquiring
+pub mod Growing
+pub mod Holding
+pub mod Intentions
+pub mod Kept
+pub mod ModeFacts
+pub mod Moving
+pub mod Reached
+pub mod Ways
+pub mod WalkLoops
+pub mod Walking

@@ -1,0 +1,3 @@
+pub mod Acquires
+pub mod Rooted
+pub mod Walks

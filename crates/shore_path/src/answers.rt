@@ -1,0 +1,17 @@
+//! What an acquire may do, and what it is answered.
+use shore_types::Granule;
+
+/// What to do where another transaction stands in the way: wait for it, or refuse.
+#[derive(Clone, Copy, Debug, PartialEq, Eq)]
+pub enum OnConflict {
+    Wait,
+    Refuse,
+}
+
+/// What became of an acquire. Done: the granule is held in the mode, or a mode held above covers it. Waiting: the transaction waits
+/// for this granule of the path, and asks again once it waits no more.
+#[derive(Clone, Copy, Debug, PartialEq, Eq)]
+pub enum Acquired {
+    Done,
+    Waiting(Granule),
+}
