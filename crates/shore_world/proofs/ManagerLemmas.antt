@@ -70,9 +70,9 @@ module _ {D : Type 0} {G : Ghosts D} where
       → Runs old events steps new → MovesBy g (state_in old) (all_moves events steps) (state_in new)
   run_moves g old [] [] new at served runs = ap (λ (w : World D G). state_in w) runs
   run_moves g old (e ∷ es) (step ∷ steps) new at served runs =
-      let first = subst (λ (x : Geometry). EventStep x (state_in old) e step (state_in runs.0)) at runs.1.state in
+      let first = subst (λ (x : Geometry). EventStep x (state_in old) e step (state_in runs.0)) at runs.1.moves.state in
       further g (state_in old) (moves_by e step) (state_in runs.0) (all_moves es steps) (state_in new)
-      (one_move g (state_in old) e step (state_in runs.0) served.0 first) (run_moves g runs.0 es steps new (runs.1.geometry ∙ at) served.1 runs.2)
+      (one_move g (state_in old) e step (state_in runs.0) served.0 first) (run_moves g runs.0 es steps new (runs.1.moves.geometry ∙ at) served.1 runs.2)
   run_moves g old [] (step ∷ steps) new at served runs = absurd runs
   run_moves g old (e ∷ es) [] new at served runs = absurd runs
 
@@ -130,10 +130,10 @@ module _ {D : Type 0} {G : Ghosts D} where
       → AllByRecursion IsServedEvent events → IsAfter opened h (state_in old) → IsBounded g stream (state_in old) → Runs old events steps new → IsBounded g stream (state_in new)
   run_bounded g stream opened old h [] [] new at served k b runs = subst (λ (w : World D G). IsBounded g stream (state_in w)) (sym runs) b
   run_bounded g stream opened old h (e ∷ es) (step ∷ steps) new at served k b runs =
-      let first = subst (λ (x : Geometry). EventStep x (state_in old) e step (state_in runs.0)) at runs.1.state in
+      let first = subst (λ (x : Geometry). EventStep x (state_in old) e step (state_in runs.0)) at runs.1.moves.state in
       let moves = one_move g (state_in old) e step (state_in runs.0) served.0 first in
       let fit = subst (λ (x : Geometry). FitPages x (state_in old).records) at (pages_fit old) in
-      run_bounded g stream opened runs.0 (after_events h (moves_by e step)) es steps new (runs.1.geometry ∙ at) served.1
+      run_bounded g stream opened runs.0 (after_events h (moves_by e step)) es steps new (runs.1.moves.geometry ∙ at) served.1
       (events_on g opened h (state_in old) (moves_by e step) (state_in runs.0) k moves)
       (event_bounded g stream opened h (state_in old) e step (state_in runs.0) k b fit served.0 first) runs.2
   run_bounded g stream opened old h [] (step ∷ steps) new at served k b runs = absurd runs
@@ -143,13 +143,13 @@ module _ {D : Type 0} {G : Ghosts D} where
 
   runs_kept : (front : List ℕ) (old : World D G) (events : List Event) (steps : List Step) (new : World D G) → IsKept old front → Runs old events steps new → IsKept new front
   runs_kept front old [] [] new k runs = subst (λ (w : World D G). IsKept w front) (sym runs) k
-  runs_kept front old (e ∷ es) (step ∷ steps) new k runs = runs_kept front runs.0 es steps new (runs.1.kept front k) runs.2
+  runs_kept front old (e ∷ es) (step ∷ steps) new k runs = runs_kept front runs.0 es steps new (runs.1.moves.kept front k) runs.2
   runs_kept front old [] (step ∷ steps) new k runs = absurd runs
   runs_kept front old (e ∷ es) [] new k runs = absurd runs
 
   left_keeps : (front : List ℕ) (w : World D G) (c : List ℕ) → IsKept w front → IsLeft w c → GivesBeginning front (state_in w).durable (state_in w).list c
   left_keeps front w c k (inl now) = k.images c now
-  left_keeps front w c k (inr under_way) = (under_way.3.any_moment front k).each c under_way.4
+  left_keeps front w c k (inr under_way) = (under_way.3.moves.any_moment front k).each c under_way.4
 
   -- ---- one manager
 

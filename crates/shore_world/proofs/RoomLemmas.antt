@@ -2,6 +2,8 @@
 use Rattle.std.proofs.Common.{◌≡◌, ◌≢◌, ◌+◌, ◌*◌, ◌≤◌, ◌++◌, ◌∷◌, [], ℕ, List, None, inl, inr, length, take, drop, Err, arith, sym, ap, length-append, refl}
 use Rattle.std.proofs.lemmas.List.{length-take-le}
 use Rattle.std.proofs.lemmas.List.Sums.{sum_by-append, sum_by-take-drop}
+use Rattle.shore_model.specs.declared.calls.Call.{Call}
+use Rattle.shore_model.specs.declared.calls.Call.TheVariants.{Begin, Get, Insert, Commit}
 use Rattle.shore_model.specs.declared.log_records.LogRecord.{LogRecord}
 use Rattle.shore_logrec.specs.Text.{texts, text as record_text, cost_of}
 use Rattle.shore_logrec.proofs.TextLengths.{length-text}
@@ -14,10 +16,11 @@ use Rattle.shore_log.specs.Settled.{list_of, waiting, IsSettled}
 use Rattle.shore_log.specs.declared.device.LogDev.{LogDev}
 use Rattle.shore_types.specs.declared.faults.Fault.{Fault}
 use Rattle.shore_types.specs.declared.faults.Fault.TheVariants as fault
+use Rattle.shore_types.specs.declared.layout.Geometry.{Geometry}
 use Rattle.shore_machine.specs.declared.step.Step.{Step}
 use Rattle.shore_machine.specs.declared.step.Step.TheVariants.{Refused}
 use Rattle.shore_machine.specs.States.{State}
-use Rattle.shore_machine.specs.Steps.{ResumeStep}
+use Rattle.shore_machine.specs.Steps.{CallStep, IsRefusal, ResumeStep}
 use Rattle.shore_world.specs.declared.world.World.{World}
 use Rattle.shore_world.specs.Worlds.{fault_at, IsReady}
 
@@ -96,6 +99,25 @@ no_failure step old new other same = record {
     told_at : (step : Step) → fault_at step ≡ Err fault.Device → step ≡ Refused fault.Device
     told_at (Refused f) is = cc
     told_at _ is = absurd cc
+
+pub memory_tells_none : Refused fault.Memory ≢ Refused fault.Device
+memory_tells_none is = absurd cc
+
+-- a call tells of no failure
+pub call_tells_none : (g : Geometry) (s : State) (c : Call) (new : State) → CallStep g s c (Refused fault.Device) new → ⊥
+call_tells_none g s c new step = elim step.0 [
+  | inl memory ↦ absurd cc
+  | inr (inl failed) ↦ let clash = failed.1 in absurd cc
+  | inr (inr (inl busy)) ↦ let clash = busy.2 in absurd cc
+  | inr (inr (inr own)) ↦ none_own c own.2
+]
+  where
+    none_own : (c : Call) → IsRefusal g s c fault.Device → ⊥
+    none_own Begin own = own
+    none_own (Get id) own = own
+    none_own (Insert store bytes) own = own
+    none_own Commit own = own
+    none_own _ own = own
 
 -- going on with a call tells of no failure
 pub resume_tells_none : (s new : State) → ResumeStep s (Refused fault.Device) new → ⊥

@@ -20,12 +20,13 @@ use Rattle.shore_core.specs.Bounds.{AreInBounds, InBounds, IsBounded}
 use Rattle.shore_core.specs.Cores.{tail_of}
 use Rattle.shore_world.specs.declared.event.Event.{Event}
 use Rattle.shore_world.specs.declared.world.World.{World}
-use Rattle.shore_types.specs.declared.faults.Fault.TheVariants.{Memory}
+use Rattle.shore_types.specs.declared.faults.Fault.TheVariants.{Device, Memory}
 use Rattle.shore_types.specs.declared.layout.Geometry.{Geometry}
 use Rattle.shore_machine.specs.declared.step.Step.TheVariants.{Refused}
 use Rattle.shore_world.specs.declared.event.Event.TheVariants as event
 use Rattle.shore_world.specs.Events.{IsCall}
-use Rattle.shore_world.specs.Worlds.{Runs, state_in, geometry_in, history_in, EventStep, GivesBeginning, IsReady, IsKept, Steps}
+use Rattle.shore_world.specs.Worlds.{Runs, state_in, geometry_in, history_in, EventStep, GivesBeginning, IsReady, IsKept, Moves, Steps}
+use Rattle.shore_world.proofs.RoomLemmas.{no_failure}
 
 -- ---- what gives a beginning of the list
 
@@ -96,7 +97,7 @@ module _ {D : Type 0} {G : Ghosts D} where
   -- ---- an event for which the device stands still
 
   pub unmoved : (old new : World D G) (e : Event) (step : Step) → geometry_in new ≡ geometry_in old → EventStep (geometry_in old) (state_in old) e step (state_in new)
-      → new.log.device ≡ old.log.device → Grows (state_in old) (state_in new) → ((front : List ℕ) → IsReady old front → IsReady new front) → Steps old e step new
+      → new.log.device ≡ old.log.device → Grows (state_in old) (state_in new) → ((front : List ℕ) → IsReady old front → IsReady new front) → Moves old e step new
   unmoved old new e step geometry state device grows ready =
       let same : history_in new ≡ history_in old = ap G.history device in
       let gives : (front c : List ℕ) → GivesBeginning front (state_in old).durable (state_in old).list c → GivesBeginning front (state_in old).durable (state_in new).list c =
@@ -124,12 +125,12 @@ module _ {D : Type 0} {G : Ghosts D} where
   -- .. and do nothing else
   pub handed : (old new : World D G) (e : Event) (step : Step) → geometry_in new ≡ geometry_in old → EventStep (geometry_in old) (state_in old) e step (state_in new)
       → new.log.device ≡ old.log.device → state_in new ≡ state_in old → old.log.staged ≡ None → new.log.staged ≡ old.log.staged → ((front : List ℕ) → IsSettled old.log front → IsSettled new.log front)
-      → Steps old e step new
+      → Moves old e step new
   handed old new e step geometry state device same none waits settled = unmoved old new e step geometry state device (same_grows _ _ same) (ready_kept old new none waits settled)
 
   -- an event that does nothing
   pub nothing_done : (old new : World D G) (e : Event) (step : Step) → geometry_in new ≡ geometry_in old → EventStep (geometry_in old) (state_in old) e step (state_in new)
-      → new.log ≡ old.log → state_in new ≡ state_in old → Steps old e step new
+      → new.log ≡ old.log → state_in new ≡ state_in old → Moves old e step new
   nothing_done old new e step geometry state log same =
       unmoved old new e step geometry state (ap (λ (l : LogDev D G). l.device) log) (same_grows _ _ same)
       (λ front ready. subst (λ (l : LogDev D G). (IsSettled l front × (l.staged ≡ None)) ⊎ ((group : List LogRecord) × IsStaged l front group)) (sym log) ready)
@@ -146,7 +147,7 @@ module _ {D : Type 0} {G : Ghosts D} where
       → (state_in new).list ≡ (state_in old).list → (state_in new).durable ≡ (state_in old).durable
       → ((front : List ℕ) → IsSettled old.log front → IsSettled mid front)
       → ((front : List ℕ) → IsSettled mid front → mid.staged ≡ None → LeavesOnly (G.history mid.device) (history_in new) (GivesBehind front (stable mid)))
-      → ((front : List ℕ) → IsSettled mid front → (state_in new).failed ≡ false → IsReady new front) → Steps old e step new
+      → ((front : List ℕ) → IsSettled mid front → (state_in new).failed ≡ false → IsReady new front) → Moves old e step new
   staging old new mid e step geometry state running none device waits same list durable settled moments ready =
       let settled_now : (front : List ℕ) → IsKept old front → IsSettled old.log front = λ front k. elim (k.ready running) [
         | inl s ↦ s.0
@@ -172,7 +173,7 @@ module _ {D : Type 0} {G : Ghosts D} where
       → (state_in old).failed ≡ false → old.log.staged ≢ None → (state_in new).list ≡ (state_in old).list
       → ((front : List ℕ) (group : List LogRecord) → IsStaged old.log front group → LeavesOnly (history_in old) (history_in new) (GivesWithOrWithout front (stable old.log) group))
       → ((front : List ℕ) (group : List LogRecord) → IsStaged old.log front group → ((state_in new).durable ≡ (state_in old).durable × ((state_in new).failed ≡ false → ⊥)) ⊎ (IsSettled new.log front × (new.log.staged ≡ None)))
-      → Steps old e step new
+      → Moves old e step new
   opening_gate old new e step geometry state running some list moments after =
       let staged_now : (front : List ℕ) → IsKept old front → (group : List LogRecord) × IsStaged old.log front group = λ front k. elim (k.ready running) [
         | inl s ↦ absurd (some s.1)
@@ -210,6 +211,29 @@ module _ {D : Type 0} {G : Ghosts D} where
   one_more old (first ∷ es) (s ∷ steps) mid e step new runs one = (runs.0, runs.1, one_more runs.0 es steps mid e step new runs.2 one)
   one_more old [] (s ∷ steps) mid e step new runs one = absurd runs
   one_more old (first ∷ es) [] mid e step new runs one = absurd runs
+
+-- ---- an event that is no step of a force
+
+abbrev pub IsNoForce : Event → Type 0
+IsNoForce event.ForceStage = ⊥
+IsNoForce event.ForceOpen = ⊥
+IsNoForce _ = Unit {0}
+
+pub call_is_no_force : (e : Event) → IsCall e → IsNoForce e
+call_is_no_force (event.Call session call) is = tt
+call_is_no_force _ is = absurd is
+
+-- one for which the device stands still
+pub no_force : {D : Type 0} {G : Ghosts D} (old new : World D G) (e : Event) (step : Step) → IsNoForce e → geometry_in new ≡ geometry_in old
+    → EventStep (geometry_in old) (state_in old) e step (state_in new) → step ≢ Refused Device → new.log.device ≡ old.log.device → Grows (state_in old) (state_in new)
+    → ((front : List ℕ) → IsReady old front → IsReady new front) → Steps old e step new
+no_force {G = G} old new e step other geometry state untold device grows ready = record {
+  moves = unmoved old new e step geometry state device grows ready;
+  idle = λ is nothing. absurd (subst IsNoForce is other);
+  shut = λ is nothing. absurd (subst IsNoForce is other);
+  full = λ is refused room. subst IsNoForce is other;
+  cause = no_failure step (G.faults old.log.device) (G.faults new.log.device) untold (ap G.faults device);
+}
 
 -- an event that could not be copied is refused, and nothing has changed
 pub not_copied : (g : Geometry) (s : State) (e : Event) → IsCall e → EventStep g s e (Refused Memory) s

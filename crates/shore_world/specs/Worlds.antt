@@ -1,9 +1,10 @@
 -- What a world is, what an event does to it, and what a crash leaves of it.
-use Rattle.std.specs.Prelude.{◌≡◌, ◌⊎◌, ℕ, ◌<◌, ◌≤◌, List, [], ◌∷◌, false, IsTrue, IsSome, None, Result, Ok, Err, length, take}
+use Rattle.std.specs.Prelude.{◌≡◌, ◌⊎◌, ℕ, ◌-◌, ◌<◌, ◌≤◌, List, [], ◌∷◌, false, IsTrue, IsSome, None, Result, Ok, Err, length, take}
 use Rattle.shore_types.specs.declared.faults.Fault.{Fault}
 use Rattle.shore_types.specs.declared.faults.Fault.TheVariants.{Device, Failed, Memory, LogFull}
 use Rattle.shore_types.specs.declared.layout.Geometry.{Geometry}
-use Rattle.shore_disk.specs.Device.{History, may_leave, LeavesOnly}
+use Rattle.shore_disk.specs.Cause.{HasCause}
+use Rattle.shore_disk.specs.Device.{History, size, may_leave, LeavesOnly}
 use Rattle.shore_disk.specs.declared.device.Disk.{Ghosts}
 use Rattle.shore_model.specs.declared.calls.Answer.TheVariants.{Staged, Forced}
 use Rattle.shore_model.specs.declared.log_records.LogRecord.{LogRecord}
@@ -13,6 +14,7 @@ use Rattle.shore_machine.specs.States.{State}
 use Rattle.shore_machine.specs.Steps.{CallStep, ResumeStep, told_durable, with_failure}
 use Rattle.shore_log.specs.Frames.{GivesBehind}
 use Rattle.shore_log.specs.Settled.{list_of, IsSettled, IsStaged}
+use Rattle.shore_core.specs.Bounds.{IsBounded}
 use Rattle.shore_core.specs.Cores.{state_of, geometry_of}
 use Rattle.shore_world.specs.declared.event.Event.{Event}
 use Rattle.shore_world.specs.declared.event.Event.TheVariants as event
@@ -75,13 +77,26 @@ abbrev pub fault_at : Step → Result (Unit {0}) Fault
 fault_at (Refused fault) = Err fault
 fault_at _ = Ok tt
 
--- One event: a step of the machine; and at each moment of it a crash leaves a beginning of the list as it was before, with all
--- that was durable then.
-pub record Steps {D : Type 0} {G : Ghosts D} (old : World D G) (e : Event) (step : Step) (new : World D G) : Type 0 where
+-- What an event moves: the state by a step of the machine, and the log device so that at each moment a crash leaves a beginning
+-- of the list as it was before, with all that was durable then.
+pub record Moves {D : Type 0} {G : Ghosts D} (old : World D G) (e : Event) (step : Step) (new : World D G) : Type 0 where
   pub geometry : geometry_in new ≡ geometry_in old
   pub state : EventStep (geometry_in old) (state_in old) e step (state_in new)
   pub kept : (front : List ℕ) → IsKept old front → IsKept new front
   pub any_moment : (front : List ℕ) → IsKept old front → LeavesOnly (history_in old) (history_in new) (GivesBeginning front (state_in old).durable (state_in old).list)
+
+-- the world is kept behind some front and its state is in bounds: then the next frame has its room
+abbrev pub HasForceRoom : {D : Type 0} {G : Ghosts D} → World D G → Type 0
+HasForceRoom w = (front : List ℕ) × IsKept w front × IsBounded (geometry_in w) (size (history_in w) - 4096) (state_in w)
+
+-- One event: what it moves, when a step of a force may come to nothing, and who tells of a failure.
+pub record Steps {D : Type 0} {G : Ghosts D} (old : World D G) (e : Event) (step : Step) (new : World D G) : Type 0 where
+  pub moves : Moves old e step new
+  -- nothing is staged only where every record is durable or a frame is under way, and no gate is opened only where none is
+  pub idle : e ≡ event.ForceStage → step ≡ Nothing → IsIdle old
+  pub shut : e ≡ event.ForceOpen → step ≡ Nothing → old.log.staged ≡ None
+  pub full : e ≡ event.ForceStage → step ≡ Refused LogFull → ¬ HasForceRoom old
+  pub cause : HasCause (fault_at step) (G.faults old.log.device) (G.faults new.log.device)
 
 -- the events, one step each, from a world to another
 abbrev pub Runs : {D : Type 0} {G : Ghosts D} → World D G → List Event → List Step → World D G → Type 0

@@ -40,7 +40,7 @@ pub struct World<D: Disk> {
 
 impl<D: Disk> World<D> {
     ghost use Rattle.shore_world.specs.Fronts.{HasFront, RefusesOpen, StandsFor};
-    ghost use Rattle.shore_world.specs.Worlds.{Steps, Runs, IsIdle, IsKept, state_in, geometry_in, device_in, fault_at, fault_in};
+    ghost use Rattle.shore_world.specs.Worlds.{Moves, Steps, Runs, HasForceRoom, IsIdle, IsKept, state_in, geometry_in, device_in, fault_at, fault_in};
 
     /// Opens the manager of a formatted log device: a barrier, the label, the anchors, the frames, and then the records in place
     /// as the log tells them. Refused by 29, 26 or 25 with the place where the device is not in order, by 23 where it failed, by
@@ -127,19 +127,10 @@ impl<D: Disk> World<D> {
         self.core.has_failed()
     }
 
-    /// One event.
+    /// One event. A refusal has changed nothing, but for 23: after it every event is refused, by 24 or 27.
     pub fn step(&mut self, alloc: Global, event: Event) -> Step
         requires { IsServedEvent event }
-        ensures steps { Steps self.old event result self.new }
-
-        // A force has nothing to do only where every record is durable or a frame is under way, or where none is.
-        ensures idle { event ≡ Event.ForceStage → result ≡ Step.Nothing → IsIdle self.old }
-        ensures shut { event ≡ Event.ForceOpen → result ≡ Step.Nothing → self.old.log.staged ≡ None }
-
-        // Where the list is in bounds, no force is refused for want of room.
-        ensures full { event ≡ Event.ForceStage → result ≡ Step.Refused Fault.LogFull → (front : List ℕ) → IsKept self.old front
-            → ¬ IsBounded (geometry_in self.old) (size (D.history self.old.log.device) - 4096) (state_in self.old) }
-        ensures cause { HasCause (fault_at result) (D.faults self.old.log.device) (D.faults self.new.log.device) }
+        ensures { Steps self.old event result self.new }
     {
         match event {
             Event::Call(_, call) => self.core.call(alloc, call),
@@ -150,10 +141,9 @@ impl<D: Disk> World<D> {
     }
 
     fn force_stage(&mut self, alloc: Global) -> Step
-        ensures steps { Steps self.old Event.ForceStage result self.new }
+        ensures moves { Moves self.old Event.ForceStage result self.new }
         ensures idle { result ≡ Step.Nothing → IsIdle self.old }
-        ensures full { result ≡ Step.Refused Fault.LogFull → (front : List ℕ) → IsKept self.old front
-            → ¬ IsBounded (geometry_in self.old) (size (D.history self.old.log.device) - 4096) (state_in self.old) }
+        ensures full { result ≡ Step.Refused Fault.LogFull → ¬ HasForceRoom self.old }
         ensures cause { HasCause (fault_at result) (D.faults self.old.log.device) (D.faults self.new.log.device) }
     {
         if self.core.has_failed() {
@@ -173,7 +163,7 @@ impl<D: Disk> World<D> {
     }
 
     fn force_open(&mut self) -> Step
-        ensures steps { Steps self.old Event.ForceOpen result self.new }
+        ensures moves { Moves self.old Event.ForceOpen result self.new }
         ensures shut { result ≡ Step.Nothing → self.old.log.staged ≡ None }
         ensures cause { HasCause (fault_at result) (D.faults self.old.log.device) (D.faults self.new.log.device) }
     {

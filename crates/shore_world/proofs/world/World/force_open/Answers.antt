@@ -14,21 +14,21 @@ use Rattle.shore_world.specs.declared.event.Event.TheVariants.{ForceOpen}
 use Rattle.shore_world.proofs.WorldLemmas.{unmoved, nothing_done, opening_gate, some_stands, still_running}
 use Rattle.shore_world.proofs.world.World.force_open.Goals as goal
 
-pub returns-then-has_failed-clause-steps : goal.returns-then-has_failed-clause-steps
-returns-then-has_failed-clause-steps g c =
+pub returns-then-has_failed-clause-moves : goal.returns-then-has_failed-clause-moves
+returns-then-has_failed-clause-moves g c =
     let old = c.args.self.now in
     unmoved old old ForceOpen _ refl (inl (sym c.has_failed.ensures ∙ c.if-has_failed.true, refl, refl)) refl (same_grows _ _ refl) (λ front ready. ready)
 
-pub returns-in_default-clause-steps : goal.returns-in_default-clause-steps
-returns-in_default-clause-steps g c =
+pub returns-in_default-clause-moves : goal.returns-in_default-clause-moves
+returns-in_default-clause-moves g c =
     let old = c.args.self.now in
     let running = sym c.has_failed.ensures ∙ c.if-has_failed.false in
     let unchanged = c.open_staged.ensures.nothing (c.in-Ok.is ∙ ap (λ n. Ok n) c.in_default.is) in
     let same = ap (λ (l : LogDev g.row.D.Denot g.D.Disk). state_of (list_of l) old.core) unchanged in
     nothing_done old _ ForceOpen _ refl (running, same) unchanged same
 
-pub returns-in-Err-clause-steps : goal.returns-in-Err-clause-steps
-returns-in-Err-clause-steps g c =
+pub returns-in-Err-clause-moves : goal.returns-in-Err-clause-moves
+returns-in-Err-clause-moves g c =
     let old = c.args.self.now in
     let new = c.refuse.new.self in
     let running = sym c.has_failed.ensures ∙ c.if-has_failed.false in
@@ -42,8 +42,8 @@ returns-in-Err-clause-steps g c =
       | inr other ↦ absurd (other.0 c.in-Err.ensures.only_device)
     ])
 
-pub returns-clause-steps : goal.returns-clause-steps
-returns-clause-steps g c =
+pub returns-clause-moves : goal.returns-clause-moves
+returns-clause-moves g c =
     let old = c.args.self.now in
     let running = sym c.has_failed.ensures ∙ c.if-has_failed.false in
     let told = rw c.in-Some.is at c.in-Ok.ensures.durable in

@@ -17,26 +17,26 @@ use Rattle.shore_types.specs.declared.faults.Fault.TheVariants.{LogFull}
 use Rattle.shore_world.proofs.RoomLemmas.{cost_append, frame_has_room, ready_settled, refused_is}
 use Rattle.shore_world.proofs.world.World.force_stage.Goals as goal
 
-pub returns-then-has_failed-clause-steps : goal.returns-then-has_failed-clause-steps
-returns-then-has_failed-clause-steps g c =
+pub returns-then-has_failed-clause-moves : goal.returns-then-has_failed-clause-moves
+returns-then-has_failed-clause-moves g c =
     let old = c.args.self.now in
     unmoved old old ForceStage _ refl (inl (sym c.has_failed.ensures ∙ c.if-has_failed.true, refl, refl)) refl (same_grows _ _ refl) (λ front ready. ready)
 
-pub returns-then-is_staged-clause-steps : goal.returns-then-is_staged-clause-steps
-returns-then-is_staged-clause-steps g c =
+pub returns-then-is_staged-clause-moves : goal.returns-then-is_staged-clause-moves
+returns-then-is_staged-clause-moves g c =
     let old = c.args.self.now in
     unmoved old old ForceStage _ refl (sym c.has_failed.ensures ∙ c.if-has_failed.false, refl) refl (same_grows _ _ refl) (λ front ready. ready)
 
-pub returns-in-Err-clause-steps : goal.returns-in-Err-clause-steps
-returns-in-Err-clause-steps g c =
+pub returns-in-Err-clause-moves : goal.returns-in-Err-clause-moves
+returns-in-Err-clause-moves g c =
     let old = c.args.self.now in
     let none = none_staged old.log c.is_staged.result c.is_staged.ensures c.if-is_staged.false in
     let running = sym c.has_failed.ensures ∙ c.if-has_failed.false in
     let same = c.hand_over.ensures.state in
     handed old _ ForceStage _ c.hand_over.ensures.geometry (inr (inr (running, inl c.in-Err.ensures.only_memory, same))) c.hand_over.ensures.still.0 same none c.hand_over.ensures.still.1 c.hand_over.ensures.settled
 
-pub returns-in-Ok-None-clause-steps : goal.returns-in-Ok-None-clause-steps
-returns-in-Ok-None-clause-steps g c =
+pub returns-in-Ok-None-clause-moves : goal.returns-in-Ok-None-clause-moves
+returns-in-Ok-None-clause-moves g c =
     let old = c.args.self.now in
     let none = none_staged old.log c.is_staged.result c.is_staged.ensures c.if-is_staged.false in
     let running = sym c.has_failed.ensures ∙ c.if-has_failed.false in
@@ -47,8 +47,8 @@ returns-in-Ok-None-clause-steps g c =
     (ap (λ (l : LogDev g.row.D.Denot g.D.Disk). l.staged) unchanged ∙ still.1)
     (λ front s. subst (λ (l : LogDev g.row.D.Denot g.D.Disk). IsSettled l front) (sym unchanged) (c.hand_over.ensures.settled front s))
 
-pub returns-in-Ok-Some-clause-steps : goal.returns-in-Ok-Some-clause-steps
-returns-in-Ok-Some-clause-steps g c =
+pub returns-in-Ok-Some-clause-moves : goal.returns-in-Ok-Some-clause-moves
+returns-in-Ok-Some-clause-moves g c =
     let old = c.args.self.now in
     let mid = c.hand_over.new.log in
     let none = none_staged old.log c.is_staged.result c.is_staged.ensures c.if-is_staged.false in
@@ -63,8 +63,8 @@ returns-in-Ok-Some-clause-steps g c =
     running none still.0 still.1 still.2 (ap (λ (s : State). s.list) same) (ap (λ (s : State). s.durable) same) c.hand_over.ensures.settled c.stage.ensures.any_moment
     (λ front s run. inr (take (c.in-Ok-Some.number - mid.forced) (waiting mid), rw c.in-Ok-Some.field-0-is at (c.in-Ok-Some.ensures.staged front s (still.1 ∙ none))))
 
-pub returns-in-Err-stage-clause-steps : goal.returns-in-Err-stage-clause-steps
-returns-in-Err-stage-clause-steps g c =
+pub returns-in-Err-stage-clause-moves : goal.returns-in-Err-stage-clause-moves
+returns-in-Err-stage-clause-moves g c =
     let old = c.args.self.now in
     let new = c.refuse.new.self in
     let mid = c.hand_over.new.log in
@@ -90,12 +90,14 @@ returns-in-Err-stage-clause-steps g c =
     ])
 
 pub returns-in-Err-stage-clause-full : goal.returns-in-Err-stage-clause-full
-returns-in-Err-stage-clause-full g c refused front kept bounded =
+returns-in-Err-stage-clause-full g c refused has_room =
     let old = c.args.self.now in
+    let front = has_room.0 in
+    let bounded = has_room.2 in
     let mid = c.hand_over.new.log in
     let none = none_staged old.log c.is_staged.result c.is_staged.ensures c.if-is_staged.false in
     let running = sym c.has_failed.ensures ∙ c.if-has_failed.false in
-    let settled = c.hand_over.ensures.settled front (ready_settled old front none (kept.ready running)) in
+    let settled = c.hand_over.ensures.settled front (ready_settled old front none (has_room.1.ready running)) in
     let fault : c.in-Err-stage.fault ≡ LogFull = refused_is _ _ _ c.refuse.ensures.refused refused in
     let full = c.in-Err-stage.ensures.full (ap (λ f. Err f) fault) in
     let room = frame_has_room mid front settled full.0 full.1 full.2 in
