@@ -2,12 +2,14 @@
 mod choices;
 mod comparison;
 mod cycle_runs;
+mod path_runs;
 mod shown;
 mod table_runs;
 mod twin;
 mod waits;
 
 use cycle_runs::Closed;
+use path_runs::Ended;
 use std::test::Fail;
 use table_runs::Seen;
 
@@ -37,5 +39,19 @@ fn cycles_are_broken_as_they_are_closed(rt: HostRuntime) -> Result<(), Fail> {
     }
     println!(rt; "{closed:?}")?;
     assert!(rt; closed.waits > 1000 && closed.cycles > 500 && closed.several > 10);
+    Ok(())
+}
+
+// After each acquire the locks are in harmony and well rooted, as the slow functions see them.
+#[test]
+fn acquires_keep_harmony(rt: HostRuntime) -> Result<(), Fail> {
+    let mut ended = Ended::default();
+    for seed in 0..RUNS {
+        path_runs::run(rt.alloc(), seed, &mut ended)?;
+    }
+    println!(rt; "{ended:?}")?;
+    assert!(rt; ended.done > 1000 && ended.covered > 100 && ended.waiting > 1000);
+    assert!(rt; ended.bad_mode > 1000 && ended.full > 100 && ended.would_block > 100);
+    assert!(rt; ended.victims > 50);
     Ok(())
 }

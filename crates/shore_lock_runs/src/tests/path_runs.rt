@@ -1,0 +1,139 @@
+//! Random runs of acquires along paths. A session that waits is looked at for cycles, so nobody waits for ever.
+use super::choices::{Choices, TRANSACTIONS};
+use super::shown::{holds_of, requests_of};
+use super::waits::is_on_a_cycle;
+use shore_deadlock::break_cycles;
+use shore_locks::LockTable;
+use shore_modes::{covers, is_at_most};
+use shore_path::{Acquired, OnConflict, acquire, path_to};
+use shore_slow_locks::holds::{harmony, well_rooted};
+use shore_types::{Fault, Granule, Mode, TxnId};
+use std::alloc::Global;
+use std::test::Fail;
+
+const STEPS: u32 = 60;
+
+const LIMIT: usize = 15;
+
+/// How often an acquire ended in each way.
+#[derive(Clone, Copy, Debug, Default)]
+pub struct Ended {
+    pub done: u32,
+    pub covered: u32,
+    pub waiting: u32,
+    pub bad_mode: u32,
+    pub full: u32,
+    pub would_block: u32,
+    pub victims: u32,
+}
+
+/// A table from a seed on.
+pub fn run(alloc: Global, seed: u64, ended: &mut Ended) -> Result<(), Fail> {
+    let mut choices = Choices::new(seed);
+    let mut table = LockTable::new(alloc, LIMIT)?;
+    for turn in 0..STEPS {
+        if !step(alloc, &mut choices, &mut table, ended)? || !is_sound(alloc, &table)? {
+            return Err(Fail::new(format_args!("seed {seed}, step {turn}")));
+        }
+    }
+    Ok(())
+}
+
+// One random acquire, and what follows where it waits. It answers whether the answer is right.
+fn step(
+    alloc: Global,
+    choices: &mut Choices,
+    table: &mut LockTable,
+    ended: &mut Ended,
+) -> Result<bool, Fail> {
+    let txn = choices.transaction();
+    let percent = choices.percent();
+    if percent < 10 {
+        table.release_all(txn);
+    }
+    if table.is_waiting(txn) {
+        return Ok(true);
+    }
+    let on_conflict = if percent < 70 {
+        OnConflict::Wait
+    } else {
+        OnConflict::Refuse
+    };
+    let (target, mode) = (choices.granule(), choices.mode());
+    match acquire(alloc, table, txn, target, mode, on_conflict) {
+        Ok(Acquired::Done) => Ok(count_done(alloc, table, txn, &target, mode, ended)),
+        Ok(Acquired::Waiting(granule)) => {
+            ended.waiting = ended.waiting.saturating_add(1);
+            let waits_there = match table.waiting_request(txn) {
+                Some(request) => request.granule == granule,
+                None => false,
+            };
+            let victims = break_cycles(alloc, table, txn)?;
+            if !victims.is_empty() {
+                ended.victims = ended.victims.saturating_add(1);
+            }
+            Ok(waits_there && on_conflict == OnConflict::Wait)
+        }
+        Err(fault) => count_fault(fault, ended),
+    }
+}
+
+// Done: the granule is held in the mode, or one above it in a mode that covers it.
+fn count_done(
+    alloc: Global,
+    table: &LockTable,
+    txn: TxnId,
+    target: &Granule,
+    mode: Mode,
+    ended: &mut Ended,
+) -> bool {
+    if is_held(table, txn, target, mode) {
+        ended.done = ended.done.saturating_add(1);
+        return true;
+    }
+    ended.covered = ended.covered.saturating_add(1);
+    is_covered(alloc, table, txn, target, mode)
+}
+
+fn is_held(table: &LockTable, txn: TxnId, target: &Granule, mode: Mode) -> bool {
+    match table.held(txn, *target) {
+        Some(held) => is_at_most(mode, held),
+        None => false,
+    }
+}
+
+fn is_covered(alloc: Global, table: &LockTable, txn: TxnId, target: &Granule, mode: Mode) -> bool {
+    let path = path_to(alloc, *target);
+    for granule in path.as_slice() {
+        if let Some(held) = table.held(txn, *granule)
+            && *granule != *target
+            && covers(held, mode)
+        {
+            return true;
+        }
+    }
+    false
+}
+
+fn count_fault(fault: Fault, ended: &mut Ended) -> Result<bool, Fail> {
+    let count = match fault {
+        Fault::BadMode => &mut ended.bad_mode,
+        Fault::LockTableFull => &mut ended.full,
+        Fault::WouldBlock { holder: _ } => &mut ended.would_block,
+        _ => return Ok(false),
+    };
+    *count = count.saturating_add(1);
+    Ok(true)
+}
+
+// Locks are in harmony along every path, and rooted; and nobody is on a cycle.
+fn is_sound(alloc: Global, table: &LockTable) -> Result<bool, Fail> {
+    let holds = holds_of(alloc, table)?;
+    let requests = requests_of(alloc, table)?;
+    for txn in TRANSACTIONS {
+        if is_on_a_cycle(alloc, &requests, txn)? {
+            return Ok(false);
+        }
+    }
+    Ok(harmony(&holds) && well_rooted(&holds))
+}
