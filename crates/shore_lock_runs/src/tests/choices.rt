@@ -38,26 +38,26 @@ pub struct Choices {
 }
 
 impl Choices {
-    pub fn new(seed: u64) -> Choices {
+    pub(crate) fn new(seed: u64) -> Choices {
         Choices {
             generator: Pcg32::new(seed, 54),
         }
     }
 
     /// A number below 100.
-    pub fn percent(&mut self) -> u32 {
+    pub(crate) fn percent(&mut self) -> u32 {
         self.generator.next_u32() % 100
     }
 
-    pub fn transaction(&mut self) -> TxnId {
+    pub(crate) fn transaction(&mut self) -> TxnId {
         TRANSACTIONS[self.place(TRANSACTIONS.len())]
     }
 
-    pub fn granule(&mut self) -> Granule {
+    pub(crate) fn granule(&mut self) -> Granule {
         GRANULES[self.place(GRANULES.len())]
     }
 
-    pub fn mode(&mut self) -> Mode {
+    pub(crate) fn mode(&mut self) -> Mode {
         MODES[self.place(MODES.len())]
     }
 

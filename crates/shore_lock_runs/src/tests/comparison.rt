@@ -7,7 +7,7 @@ use shore_types::Granule;
 use std::alloc::{AllocError, Global};
 
 /// Every queue, all that is held and who waits are the same.
-pub fn is_same(alloc: Global, table: &LockTable, twin: &Twin) -> Result<bool, AllocError> {
+pub(crate) fn is_same(alloc: Global, table: &LockTable, twin: &Twin) -> Result<bool, AllocError> {
     for granule in &GRANULES {
         if !has_same_holds(table, twin, granule) || !has_same_queue(alloc, table, twin, granule)? {
             return Ok(false);

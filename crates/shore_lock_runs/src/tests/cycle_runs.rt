@@ -23,7 +23,7 @@ pub struct Closed {
 }
 
 /// A table from a seed on.
-pub fn run(alloc: Global, seed: u64, closed: &mut Closed) -> Result<(), Fail> {
+pub(crate) fn run(alloc: Global, seed: u64, closed: &mut Closed) -> Result<(), Fail> {
     let mut choices = Choices::new(seed);
     let mut table = LockTable::new(alloc, LIMIT)?;
     for turn in 0..STEPS {

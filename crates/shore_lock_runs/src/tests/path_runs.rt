@@ -28,7 +28,7 @@ pub struct Ended {
 }
 
 /// A table from a seed on.
-pub fn run(alloc: Global, seed: u64, ended: &mut Ended) -> Result<(), Fail> {
+pub(crate) fn run(alloc: Global, seed: u64, ended: &mut Ended) -> Result<(), Fail> {
     let mut choices = Choices::new(seed);
     let mut table = LockTable::new(alloc, LIMIT)?;
     for turn in 0..STEPS {

@@ -6,7 +6,7 @@ use shore_types::TxnId;
 use std::alloc::{AllocError, Global};
 
 /// All that is held.
-pub fn holds_of(alloc: Global, table: &LockTable) -> Result<Vec<Hold>, AllocError> {
+pub(crate) fn holds_of(alloc: Global, table: &LockTable) -> Result<Vec<Hold>, AllocError> {
     let mut holds = Vec::new(alloc);
     for txn in TRANSACTIONS {
         push_holds_of(&mut holds, table, txn)?;
@@ -28,7 +28,7 @@ fn push_holds_of(holds: &mut Vec<Hold>, table: &LockTable, txn: TxnId) -> Result
 }
 
 /// Requests whose queues are those of the table.
-pub fn requests_of(alloc: Global, table: &LockTable) -> Result<Vec<Request>, AllocError> {
+pub(crate) fn requests_of(alloc: Global, table: &LockTable) -> Result<Vec<Request>, AllocError> {
     let mut requests = Vec::new(alloc);
     for granule in &GRANULES {
         let holders: Vec<Request> = table.holders(*granule).collect(alloc)?;

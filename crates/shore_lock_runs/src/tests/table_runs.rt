@@ -42,7 +42,7 @@ impl Seen {
 }
 
 /// A table and its twin from a seed on.
-pub fn run(alloc: Global, seed: u64, seen: &mut Seen) -> Result<(), Fail> {
+pub(crate) fn run(alloc: Global, seed: u64, seen: &mut Seen) -> Result<(), Fail> {
     let mut choices = Choices::new(seed);
     let mut table = LockTable::new(alloc, LIMIT)?;
     let mut twin = Twin::new(alloc, LIMIT);

@@ -13,23 +13,27 @@ pub struct Twin {
 }
 
 impl Twin {
-    pub fn new(alloc: Global, limit: usize) -> Twin {
+    pub(crate) fn new(alloc: Global, limit: usize) -> Twin {
         Twin {
             requests: Vec::new(alloc),
             limit,
         }
     }
 
-    pub fn is_waiting(&self, txn: TxnId) -> bool {
+    pub(crate) fn is_waiting(&self, txn: TxnId) -> bool {
         self.place_of_waiter(txn).is_some()
     }
 
-    pub fn held(&self, txn: TxnId, granule: &Granule) -> Option<Mode> {
+    pub(crate) fn held(&self, txn: TxnId, granule: &Granule) -> Option<Mode> {
         self.requests.get(self.place(txn, granule)?)?.held
     }
 
     /// Those that hold a granule and want nothing.
-    pub fn holders(&self, alloc: Global, granule: &Granule) -> Result<Vec<Request>, AllocError> {
+    pub(crate) fn holders(
+        &self,
+        alloc: Global,
+        granule: &Granule,
+    ) -> Result<Vec<Request>, AllocError> {
         let mut holders = Vec::new(alloc);
         for request in self.requests.as_slice() {
             if request.granule == *granule && request.wanted.is_none() {
@@ -40,7 +44,11 @@ impl Twin {
     }
 
     /// Those that wait for a granule, conversions first.
-    pub fn waiters(&self, alloc: Global, granule: &Granule) -> Result<Vec<Request>, AllocError> {
+    pub(crate) fn waiters(
+        &self,
+        alloc: Global,
+        granule: &Granule,
+    ) -> Result<Vec<Request>, AllocError> {
         let mut waiters = Vec::new(alloc);
         self.push_waiters(&mut waiters, granule, true)?;
         self.push_waiters(&mut waiters, granule, false)?;
@@ -66,7 +74,7 @@ impl Twin {
 
     /// A request enters at its place in the queue, and a grant pass runs. Where it is granted it goes back to the place at
     /// which the transaction stood before.
-    pub fn request(
+    pub(crate) fn request(
         &mut self,
         txn: TxnId,
         granule: &Granule,
@@ -106,7 +114,7 @@ impl Twin {
     }
 
     /// A request that is taken back where it would wait. Nothing has changed then.
-    pub fn try_request(
+    pub(crate) fn try_request(
         &mut self,
         alloc: Global,
         txn: TxnId,
@@ -126,7 +134,7 @@ impl Twin {
     }
 
     /// A transaction's waiting request goes, or wants no more than it holds; a grant pass follows.
-    pub fn cancel(&mut self, txn: TxnId) {
+    pub(crate) fn cancel(&mut self, txn: TxnId) {
         if let Some(place) = self.place_of_waiter(txn)
             && let Some(request) = self.requests.get_mut(place)
         {
@@ -140,7 +148,7 @@ impl Twin {
     }
 
     /// All requests of a transaction go, and a grant pass runs for each granule where it had one.
-    pub fn release_all(&mut self, txn: TxnId) -> usize {
+    pub(crate) fn release_all(&mut self, txn: TxnId) -> usize {
         let before = self.requests.len();
         for _ in 0..before {
             if let Some(place) = self.first_of(txn)

@@ -6,7 +6,11 @@ use shore_types::TxnId;
 use std::alloc::{AllocError, Global};
 
 /// Whether some walk of waits leads from a transaction back to it.
-pub fn is_on_a_cycle(alloc: Global, requests: &[Request], txn: TxnId) -> Result<bool, AllocError> {
+pub(crate) fn is_on_a_cycle(
+    alloc: Global,
+    requests: &[Request],
+    txn: TxnId,
+) -> Result<bool, AllocError> {
     let mut reached = Vec::new(alloc);
     push_next(alloc, &mut reached, requests, txn)?;
     for place in 0..TRANSACTIONS.len() {
