@@ -7,6 +7,7 @@ mod Firsts
 pub mod Fits
 pub mod Keys
 mod Lasts
+mod Sweeping
 pub mod LawLemmas
 pub mod Members
 mod NodeLemmas

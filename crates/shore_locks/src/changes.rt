@@ -12,12 +12,17 @@ use shore_model::Request;
 use shore_types::{Granule, TxnId};
 use std::alloc::AllocError;
 
-/// A grant pass: waiters of a granule's queue are granted in turn, up to the first that another holder refuses.
+/// A grant pass: waiters of a granule's queue are granted in turn, up to the first that another holder refuses. Behind the last
+/// conversion the new waiters are granted together.
 pub fn pass(nodes: &mut Nodes, granule: &Granule)
     requires { AreRequests nodes.old }
     ensures { nodes.new ≡ steps.passed granule.now nodes.old }
 {
     while let Some(waiter) = first_waiter(nodes, granule) {
+        if waiter.held.is_none() {
+            nodes.grant_new(granule);
+            return;
+        }
         if !can_be_granted(nodes, &waiter) {
             return;
         }

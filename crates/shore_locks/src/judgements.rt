@@ -1,5 +1,6 @@
 //! What one request says of another, and of what is asked.
 ghost use Rattle.std.specs.Prelude.{◌≡◌};
+ghost use Rattle.shore_types.specs.Locking.{same_granule};
 ghost use Rattle.shore_model.specs.Requests.{is_in_group};
 ghost use Rattle.shore_locks.specs.Tables as tables;
 ghost use Rattle.shore_locks.specs.Grants as steps;
@@ -14,6 +15,13 @@ pub fn is_for(request: &Request, txn: TxnId, granule: &Granule) -> bool
     ensures { result ≡ tables.is_for txn granule.now request.now }
 {
     request.txn == txn && request.granule == *granule
+}
+
+/// Whether a request is for a granule.
+pub fn is_at(request: &Request, granule: &Granule) -> bool
+    ensures { result ≡ same_granule request.now.granule granule.now }
+{
+    request.granule == *granule
 }
 
 /// Whether a request stands in a group of its queue.

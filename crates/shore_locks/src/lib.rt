@@ -7,8 +7,10 @@ mod findings;
 mod judgements;
 pub mod laws;
 mod nodes;
+mod openings;
 pub mod queues;
 mod searches;
+mod sweeps;
 pub mod table;
 #[cfg(test)]
 mod tests;

@@ -7,11 +7,13 @@ ghost use Rattle.shore_model.specs.Requests.{AreRequests, are_alike, placed_last
 ghost use Rattle.shore_model.specs.declared.requests.Request.{Request};
 ghost use Rattle.shore_links.specs.Rings.{In, IsRing, after_at};
 ghost use Rattle.slab.specs.Slab.{HasRoomFor, Updates, get, slab_len};
-ghost use Rattle.shore_locks.specs.Grants.{removed, replaced};
+ghost use Rattle.shore_locks.specs.Grants.{granted_in_turn, removed, replaced};
+ghost use Rattle.shore_locks.specs.Sweeps.{new_waiters};
 ghost use Rattle.shore_locks.specs.Nodes as spec;
 ghost use Rattle.shore_locks.specs.Orderly.{IsNewest};
 ghost use Rattle.shore_locks.specs.Nodes.{IsThreaded, LinksIn, LinksOut, pairs_from, request_at, without};
 
+use crate::sweeps::{openings_among, sweep};
 use crate::walks::Walk;
 use http_server::Log;
 use shore_links::Rings;
@@ -199,6 +201,25 @@ impl Nodes {
             set_slot(&mut self.slots, key, request);
         }
     }
+
+    /// Grants the new waiters of a granule in their order, up to the first whom a holder refuses: one walk over the queue sees what
+    /// is held, and a second grants, however many they are.
+    pub fn grant_new(&mut self, granule: &Granule)
+        requires { AreRequests self.old }
+        ensures { self.new ≡ granted_in_turn (new_waiters granule.now self.old) self.old }
+    {
+        let head = queue_head(granule, self.heads);
+        let walk = Walk::new(&self.slots, &self.queues, self.heads, head);
+        let openings = openings_among(walk, granule);
+        sweep(
+            &mut self.slots,
+            &self.queues,
+            self.heads,
+            head,
+            granule,
+            openings,
+        );
+    }
 }
 
 fn only_of(request: &Request, txn: TxnId) -> Option<Request>
@@ -267,7 +288,8 @@ fn insert(slots: &mut Slab<Request>, request: &Request)
     });
 }
 
-fn set_slot(slots: &mut Slab<Request>, key: usize, request: &Request)
+/// Puts a request in the place of the one at a key.
+pub fn set_slot(slots: &mut Slab<Request>, key: usize, request: &Request)
     requires { is_some (get slots.old key) ≡ true }
     ensures updates { Updates slots.old slots.new key (Some request.now) }
     ensures len { slab_len slots.new ≡ slab_len slots.old }

@@ -1,15 +1,22 @@
-use Rattle.std.proofs.Common.{◌≡◌, true, false, length, arith, sym, ap, subst, ◌∙◌}
+use Rattle.std.proofs.Common.{◌≡◌, true, false, not, length, arith, sym, ap, subst, ◌∙◌}
 use Rattle.shore_model.specs.Requests.{AreRequests, requests_at}
 use Rattle.shore_locks.specs.Tables.{waiters_at}
-use Rattle.shore_locks.specs.Grants.{can_be_granted, granted, passed, replaced}
+use Rattle.shore_locks.specs.Grants.{can_be_granted, granted, granted_in_turn, passed, replaced}
 use Rattle.shore_locks.proofs.Keys.{AreRequests-replaced}
 use Rattle.shore_locks.proofs.Passes.{pass_on, pass_stops, pass_ends, fewer_wait}
+use Rattle.shore_locks.proofs.Sweeping.{waiters_are_new}
 use Rattle.shore_locks.proofs.changes.pass.Goals as goal
 
 pub returns-then-not-can_be_granted : goal.returns-then-not-can_be_granted
 returns-then-not-can_be_granted c =
     let cannot : can_be_granted c.in-Some.waiter (requests_at c.in-Some.waiter.granule c.loop-waiter.nodes) ≡ false = sym c.can_be_granted.ensures ∙ c.if-not-can_be_granted.true in
     sym (pass_stops c.args.granule.now c.loop-waiter.nodes c.in-Some.waiter c.in-Some.ensures cannot) ∙ c.loop-waiter.invariant.1
+
+pub returns-then-is_none : goal.returns-then-is_none
+returns-then-is_none c =
+    c.grant_new.ensures
+    ∙ ap (λ ws. granted_in_turn ws c.loop-waiter.nodes) (waiters_are_new c.args.granule.now c.loop-waiter.nodes c.in-Some.waiter c.in-Some.ensures (ap not (c.is_none.ensures ∙ ap not c.if-is_none.true)))
+    ∙ c.loop-waiter.invariant.1
 
 pub loop-waiter-smaller : goal.loop-waiter-smaller
 loop-waiter-smaller c =
