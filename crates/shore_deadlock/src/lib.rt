@@ -4,6 +4,8 @@
 mod blockers;
 pub mod laws;
 pub mod search;
+#[cfg(test)]
+mod tests;
 mod trails;
 pub mod victims;
 
