@@ -14,14 +14,14 @@ use shore_world::World;
 use std::alloc::{AllocError, Global};
 
 /// The history is one, and is sound.
-pub fn check_history(alloc: Global, ground: &Ground, life: &Life) -> Result<(), Trouble> {
+pub(super) fn check_history(alloc: Global, ground: &Ground, life: &Life) -> Result<(), Trouble> {
     let (opening, entries) = (&ground.opening, &life.entries);
     require(is_history(alloc, opening, entries)?, "no history")?;
     require(is_sound(alloc, opening, entries)?, "not sound")
 }
 
 /// Loses the power, opens again and checks what is there. Answers what the next manager may be opened on.
-pub fn check_crash(
+pub(super) fn check_crash(
     alloc: Global,
     ground: &Ground,
     life: Life,
@@ -77,7 +77,7 @@ fn check_shown(
 }
 
 /// On what a crash left a record more is committed, is acknowledged, and survives another crash.
-pub fn check_next_life(alloc: Global, ground: Ground, pick: Pick) -> Result<(), Trouble> {
+pub(super) fn check_next_life(alloc: Global, ground: Ground, pick: Pick) -> Result<(), Trouble> {
     let start = Start {
         ground,
         before: &[],

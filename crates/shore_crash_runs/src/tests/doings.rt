@@ -9,13 +9,13 @@ use shore_world::Event;
 use std::alloc::{AllocError, Global};
 
 /// The one session that is served.
-pub const SESSION: SessionId = SessionId(1);
+pub(super) const SESSION: SessionId = SessionId(1);
 
 const STORE: StoreId = StoreId(0);
 
 /// What happens to a manager next. Each insert is of one byte, and each get of the first record's place.
 #[derive(Clone, Copy, Debug, PartialEq, Eq)]
-pub enum Doing {
+pub(super) enum Doing {
     Begin,
     Insert,
     Get,
@@ -26,7 +26,7 @@ pub enum Doing {
 }
 
 /// One of each.
-pub const EACH: [Doing; 7] = [
+pub(super) const EACH: [Doing; 7] = [
     Doing::Begin,
     Doing::Insert,
     Doing::Get,
@@ -37,7 +37,7 @@ pub const EACH: [Doing; 7] = [
 ];
 
 /// A record that is committed and acknowledged.
-pub const ONE_COMMIT: [Doing; 6] = [
+pub(super) const ONE_COMMIT: [Doing; 6] = [
     Doing::Begin,
     Doing::Insert,
     Doing::Commit,
@@ -48,7 +48,7 @@ pub const ONE_COMMIT: [Doing; 6] = [
 
 impl Doing {
     /// The session's call, where it makes one.
-    pub fn call(self, alloc: Global) -> Result<Option<Call>, AllocError>
+    pub(super) fn call(self, alloc: Global) -> Result<Option<Call>, AllocError>
         ensures { IfOk result (λ call. IfSome call IsServed) }
     {
         Ok(match self {
@@ -70,7 +70,7 @@ impl Doing {
     }
 
     /// The event for the manager.
-    pub fn event(self, alloc: Global) -> Result<Event, AllocError>
+    pub(super) fn event(self, alloc: Global) -> Result<Event, AllocError>
         ensures { IfOk result IsServedEvent }
     {
         if let Some(call) = self.call(alloc)? {

@@ -14,13 +14,13 @@ const LISTS_BY_LENGTH: [(u32, u32); 6] = [(0, 1), (1, 7), (2, 49), (3, 343), (4,
 
 /// How much was run: lists of events, and for each of them a case for each fuse and pick.
 #[derive(Clone, Copy, Debug, PartialEq, Eq)]
-pub struct Counts {
-    pub lists: u64,
-    pub cases: u64,
+pub(super) struct Counts {
+    pub(super) lists: u64,
+    pub(super) cases: u64,
 }
 
 /// Every list of up to five events, with each fuse and each pick.
-pub fn check_lists(alloc: Global, start: &Start) -> Result<Counts, Fail> {
+pub(super) fn check_lists(alloc: Global, start: &Start) -> Result<Counts, Fail> {
     let calls_before = live(alloc, start, &[], None)?.device.calls().len();
     let mut counts = Counts { lists: 0, cases: 0 };
     for (length, lists) in LISTS_BY_LENGTH {

@@ -11,21 +11,21 @@ use std::alloc::Global;
 
 /// What a manager was opened on: a device's bytes, what they show, and how many records of the log stand there.
 #[derive(Drop)]
-pub struct Ground {
-    pub image: Vec<u8>,
-    pub opening: Opening,
-    pub opened: usize,
+pub(super) struct Ground {
+    pub(super) image: Vec<u8>,
+    pub(super) opening: Opening,
+    pub(super) opened: usize,
 }
 
 /// Where lists of events begin: a ground, and what is done on it first.
 #[derive(Drop)]
-pub struct Start {
-    pub ground: Ground,
-    pub before: &'static [Doing],
+pub(super) struct Start {
+    pub(super) ground: Ground,
+    pub(super) before: &'static [Doing],
 }
 
 /// A log device of the least length, formatted.
-pub fn formatted(alloc: Global) -> Result<Ground, Trouble> {
+pub(super) fn formatted(alloc: Global) -> Result<Ground, Trouble> {
     let mut disk = MemDisk::new(alloc, Vec::from_elem(alloc, 0u8, 135168)?)?;
     let geometry = Geometry {
         pair: 1,
@@ -47,17 +47,17 @@ pub fn formatted(alloc: Global) -> Result<Ground, Trouble> {
 
 /// What a manager leaves when it is cut off.
 #[derive(Drop)]
-pub struct Life {
-    pub entries: Vec<Entry>,
+pub(super) struct Life {
+    pub(super) entries: Vec<Entry>,
     /// The records of the log, forced or not.
-    pub list: Vec<LogRecord>,
-    pub durable: usize,
-    pub device: MemDisk,
+    pub(super) list: Vec<LogRecord>,
+    pub(super) durable: usize,
+    pub(super) device: MemDisk,
 }
 
 /// Opens a manager on a copy of the ground's image, and makes the events of the start and then these. A fuse lets so many
 /// writes and syncs of these pass.
-pub fn live(
+pub(super) fn live(
     alloc: Global,
     start: &Start,
     doings: &[Doing],

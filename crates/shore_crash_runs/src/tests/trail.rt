@@ -10,23 +10,23 @@ use std::alloc::Global;
 
 /// The entries so far.
 #[derive(Drop)]
-pub struct Trail {
+pub(super) struct Trail {
     entries: Vec<Entry>,
 }
 
 impl Trail {
-    pub fn new(alloc: Global) -> Trail {
+    pub(super) fn new(alloc: Global) -> Trail {
         Trail {
             entries: Vec::new(alloc),
         }
     }
 
-    pub fn into_entries(self) -> Vec<Entry> {
+    pub(super) fn into_entries(self) -> Vec<Entry> {
         self.entries
     }
 
     /// Notes what was done and what it came to. A force adds nothing.
-    pub fn note(&mut self, alloc: Global, doing: Doing, step: Step) -> Result<(), Trouble> {
+    pub(super) fn note(&mut self, alloc: Global, doing: Doing, step: Step) -> Result<(), Trouble> {
         match doing.call(alloc)? {
             Some(call) => self.note_call(call, step),
             None if doing == Doing::Resume => self.note_resume(alloc, step),

@@ -3,7 +3,7 @@ use std::alloc::{AllocError, AllocFailed};
 
 /// Memory was refused, or something is not as it has to be.
 #[derive(Debug, Drop)]
-pub enum Trouble {
+pub(super) enum Trouble {
     Memory,
     Wrong(&'static str),
 }
@@ -21,7 +21,7 @@ impl<T: Drop> From<AllocFailed<T>> for Trouble {
 }
 
 /// What has to hold is so, or it is said what is not.
-pub fn require(holds: bool, otherwise: &'static str) -> Result<(), Trouble> {
+pub(super) fn require(holds: bool, otherwise: &'static str) -> Result<(), Trouble> {
     if holds {
         Ok(())
     } else {

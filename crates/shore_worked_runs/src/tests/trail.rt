@@ -3,10 +3,10 @@ use shore_model::{Answer, Call, Decision, Entry, Exchange, Opening, RidMap};
 use shore_types::{Bytes, Fault, PageId, Rid, Sequence, SessionId, StoreId, TxnId};
 use std::alloc::{AllocError, Global};
 
-pub const STORE: StoreId = StoreId(0);
+pub(super) const STORE: StoreId = StoreId(0);
 
 /// A record id of page 0 of the store.
-pub fn rid(slot: u16) -> Rid {
+pub(super) fn rid(slot: u16) -> Rid {
     Rid {
         page: PageId {
             store: STORE,
@@ -16,11 +16,11 @@ pub fn rid(slot: u16) -> Rid {
     }
 }
 
-pub fn bytes(alloc: Global, items: &[u8]) -> Result<Bytes, AllocError> {
+pub(super) fn bytes(alloc: Global, items: &[u8]) -> Result<Bytes, AllocError> {
     Ok(Sequence::from_vec(Vec::from_slice(alloc, items)?))
 }
 
-pub fn has(records: &RidMap<Bytes>, id: Rid, items: &[u8]) -> bool {
+pub(super) fn has(records: &RidMap<Bytes>, id: Rid, items: &[u8]) -> bool {
     match records.get(id) {
         Some(found) => found.as_slice() == items,
         None => false,
@@ -28,7 +28,7 @@ pub fn has(records: &RidMap<Bytes>, id: Rid, items: &[u8]) -> bool {
 }
 
 /// An opening with nothing in doubt, where slot 0 has aa.
-pub fn one_record(alloc: Global) -> Result<Opening, AllocError> {
+pub(super) fn one_record(alloc: Global) -> Result<Opening, AllocError> {
     let mut records = RidMap::new(alloc);
     records.insert(rid(0), bytes(alloc, &[0xaa])?)?;
     Ok(Opening {
@@ -37,7 +37,7 @@ pub fn one_record(alloc: Global) -> Result<Opening, AllocError> {
     })
 }
 
-pub fn nothing(alloc: Global) -> Opening {
+pub(super) fn nothing(alloc: Global) -> Opening {
     Opening {
         records: RidMap::new(alloc),
         in_doubt: Sequence::new(alloc),
@@ -46,20 +46,20 @@ pub fn nothing(alloc: Global) -> Opening {
 
 /// What was asked and answered so far. A call stands with its session and its transaction.
 #[derive(Drop)]
-pub struct Trail {
+pub(super) struct Trail {
     alloc: Global,
     entries: Vec<Entry>,
 }
 
 impl Trail {
-    pub fn new(alloc: Global) -> Trail {
+    pub(super) fn new(alloc: Global) -> Trail {
         Trail {
             alloc,
             entries: Vec::new(alloc),
         }
     }
 
-    pub fn entries(&self) -> &[Entry] {
+    pub(super) fn entries(&self) -> &[Entry] {
         self.entries.as_slice()
     }
 
@@ -78,7 +78,7 @@ impl Trail {
         Ok(())
     }
 
-    pub fn ok(
+    pub(super) fn ok(
         &mut self,
         session: u32,
         txn: u64,
@@ -88,7 +88,7 @@ impl Trail {
         self.push(session, txn, call, Ok(answer))
     }
 
-    pub fn refused(
+    pub(super) fn refused(
         &mut self,
         session: u32,
         txn: u64,
@@ -98,26 +98,26 @@ impl Trail {
         self.push(session, txn, call, Err(fault))
     }
 
-    pub fn decided(&mut self, decision: Decision) -> Result<(), AllocError> {
+    pub(super) fn decided(&mut self, decision: Decision) -> Result<(), AllocError> {
         self.entries.push(Entry::Decided(decision))?;
         Ok(())
     }
 
-    pub fn begin(&mut self, session: u32, txn: u64) -> Result<(), AllocError> {
+    pub(super) fn begin(&mut self, session: u32, txn: u64) -> Result<(), AllocError> {
         self.ok(session, txn, Call::Begin, Answer::Began(TxnId(txn)))
     }
 
     /// The decision's record, and the answer.
-    pub fn commit(&mut self, session: u32, txn: u64) -> Result<(), AllocError> {
+    pub(super) fn commit(&mut self, session: u32, txn: u64) -> Result<(), AllocError> {
         self.decided(Decision::Commit(TxnId(txn)))?;
         self.ok(session, txn, Call::Commit, Answer::Committed)
     }
 
-    pub fn abort(&mut self, session: u32, txn: u64) -> Result<(), AllocError> {
+    pub(super) fn abort(&mut self, session: u32, txn: u64) -> Result<(), AllocError> {
         self.ok(session, txn, Call::Abort, Answer::Aborted)
     }
 
-    pub fn get(
+    pub(super) fn get(
         &mut self,
         session: u32,
         txn: u64,
@@ -128,11 +128,11 @@ impl Trail {
         self.ok(session, txn, Call::Get(rid(slot)), Answer::Got(got))
     }
 
-    pub fn get_absent(&mut self, session: u32, txn: u64, slot: u16) -> Result<(), AllocError> {
+    pub(super) fn get_absent(&mut self, session: u32, txn: u64, slot: u16) -> Result<(), AllocError> {
         self.refused(session, txn, Call::Get(rid(slot)), Fault::NoRecord)
     }
 
-    pub fn insert(
+    pub(super) fn insert(
         &mut self,
         session: u32,
         txn: u64,
@@ -143,7 +143,7 @@ impl Trail {
         self.ok(session, txn, call, Answer::Inserted(rid(slot)))
     }
 
-    pub fn update(
+    pub(super) fn update(
         &mut self,
         session: u32,
         txn: u64,
@@ -155,7 +155,7 @@ impl Trail {
     }
 
     /// The decision's record, and the answer.
-    pub fn prepare(&mut self, session: u32, txn: u64, global: &[u8]) -> Result<(), AllocError> {
+    pub(super) fn prepare(&mut self, session: u32, txn: u64, global: &[u8]) -> Result<(), AllocError> {
         let decision = Decision::Prepare(TxnId(txn), bytes(self.alloc, global)?);
         self.decided(decision)?;
         let call = Call::Prepare(bytes(self.alloc, global)?);
