@@ -3,7 +3,7 @@ pub mod Counts
 pub mod Entering
 pub mod Fits
 pub mod Keys
-mod LawLemmas
+pub mod LawLemmas
 pub mod Members
 pub mod Others
 pub mod Outcomes
