@@ -5,5 +5,6 @@ pub mod LogSteps
 pub mod Maps
 pub mod Overlays
 pub mod RecordLemmas
+pub mod RecordPaths
 pub mod Scans
 pub mod Steps

@@ -1,7 +1,7 @@
 -- What a transaction holds of a granule: as a mode that is read off the list, as a request of it, and as a lock.
-use Rattle.std.proofs.Common.{◌≡◌, inl, inr, ⊎_elim, ℕ, List, [], ◌∷◌, Option, None, Some, true, refl, ap, sym, subst, ◌∙◌}
+use Rattle.std.proofs.Common.{◌≡◌, ◌⊎◌, inl, inr, ⊎_elim, ℕ, List, [], ◌∷◌, Option, None, Some, true, refl, ap, sym, subst, ◌∙◌}
 use Rattle.std.specs.Prelude.{◌==◌, IsTrue}
-use Rattle.std.specs.List.{cons_option}
+use Rattle.std.specs.List.{cons_option, filter_map}
 use Rattle.std.specs.Option.{option_and_then}
 use Rattle.std.proofs.lemmas.Bool.Decides.{Decides-eqb}
 use Rattle.shore_types.specs.declared.locking.Granule.{Granule}
@@ -11,7 +11,7 @@ use Rattle.shore_model.specs.declared.holds.Hold.{Hold}
 use Rattle.shore_model.specs.declared.requests.Request.{Request}
 use Rattle.shore_model.specs.Locks.{HoldsAtLeast}
 use Rattle.shore_model.specs.Modes.{is_at_most}
-use Rattle.shore_model.specs.Requests.{AreRequests, held_by_all, hold_in}
+use Rattle.shore_model.specs.Requests.{AreRequests, held_by_all, hold_in, hold_of}
 use Rattle.shore_locks.specs.Grants.{is_enough}
 use Rattle.shore_locks.specs.Tables.{is_for, mode_held, request_for}
 use Rattle.shore_locks.proofs.Members.{In, Contains-In}
@@ -80,51 +80,40 @@ same_held t g xs ys one two same =
 
 -- ---- as locks
 
-later : (t : ℕ) (g : Granule) (m : Mode) (r : Request) (rs : List Request) → Holder rs t g m → Holder (r ∷ rs) t g m
-later t g m r rs h = record { request = h.request; there = inr h.there; by = h.by; at = h.at; enough = h.enough }
+In-held_first : {X Y : Type 0} (f : X → Option Y) (xs : List X) (y : Y) (o : Option Y) → In y (cons_option o (filter_map f xs)) → (o ≡ Some y) ⊎ In y (filter_map f xs)
+In-held_first f xs y None h = inr h
+In-held_first f xs y (Some z) h = ⊎_elim (λ e. inl (ap Some e)) (λ t. inr t) h
 
-IsLock : ℕ → Mode → Granule → Hold → Type 0
-IsLock t m g h = (h.txn ≡ t) × (h.granule ≡ g) × IsTrue (is_at_most m h.mode)
+pub In-filter_map : {X Y : Type 0} (f : X → Option Y) (xs : List X) (y : Y) → In y (filter_map f xs) → (x : X) × In x xs × (f x ≡ Some y)
+In-filter_map f [] y h = absurd h
+In-filter_map f (x ∷ xs) y h =
+    ⊎_elim (λ e. (x, inl refl, e)) (λ t. let r = In-filter_map f xs y t in (r.0, inr r.1, r.2)) (In-held_first f xs y (f x) h)
 
-holder_first : (t : ℕ) (g : Granule) (m : Mode) (r : Request) (rs : List Request) (held : Option Mode) → r.held ≡ held → (h : Hold) → IsLock t m g h
-    → In h (cons_option (hold_in r held) (held_by_all rs)) → (In h (held_by_all rs) → Holder rs t g m) → Holder (r ∷ rs) t g m
-unfolding IsLock
-holder_first t g m r rs None is h its i rest = later t g m r rs (rest i)
-holder_first t g m r rs (Some k) is h its i rest =
-    ⊎_elim
-    (λ e. record {
-      request = r;
-      there = inl refl;
-      by = ap (λ (x : Hold). x.txn) e ∙ its.0;
-      at = ap (λ (x : Hold). x.granule) e ∙ its.1;
-      enough = ap (is_enough m) is ∙ ap (λ (x : Hold). is_at_most m x.mode) e ∙ its.2;
-    })
-    (λ t'. later t g m r rs (rest t'))
-    i
+first-In : {Y : Type 0} (ys : List Y) (y : Y) (o : Option Y) → o ≡ Some y → In y (cons_option o ys)
+first-In ys y None e = cc
+first-In ys y (Some z) e = let same : z ≡ y = cc in inl same
 
-holder_by : (t : ℕ) (g : Granule) (m : Mode) (rs : List Request) (h : Hold) → IsLock t m g h → In h (held_by_all rs) → Holder rs t g m
-holder_by t g m [] h its i = absurd i
-holder_by t g m (r ∷ rs) h its i = holder_first t g m r rs r.held refl h its i (holder_by t g m rs h its)
+later-In : {Y : Type 0} (ys : List Y) (y : Y) (o : Option Y) → In y ys → In y (cons_option o ys)
+later-In ys y None h = h
+later-In ys y (Some z) h = inr h
+
+filter_map-In : {X Y : Type 0} (f : X → Option Y) (xs : List X) (x : X) (y : Y) → In x xs → f x ≡ Some y → In y (filter_map f xs)
+filter_map-In f [] x y h e = absurd h
+filter_map-In f (z ∷ xs) x y h e =
+    ⊎_elim (λ same. first-In (filter_map f xs) y (f z) (ap f same ∙ e)) (λ t. later-In (filter_map f xs) y (f z) (filter_map-In f xs x y t e)) h
+
+-- a lock tells its request's transaction and granule, and the mode held
+lock_of : (r : Request) (o : Option Mode) (h : Hold) → hold_in r o ≡ Some h → (r.txn ≡ h.txn) × (r.granule ≡ h.granule) × (o ≡ Some h.mode)
+lock_of r None h e = cc
+lock_of r (Some k) h e =
+    let same : record { txn = r.txn; granule = r.granule; mode = k } ≡ h = cc in
+    (ap (λ (x : Hold). x.txn) same, ap (λ (x : Hold). x.granule) same, ap (λ (x : Hold). Some x.mode) same)
 
 pub holder_from_lock : (t : ℕ) (g : Granule) (m : Mode) (rs : List Request) → HoldsAtLeast (held_by_all rs) t m g → Holder rs t g m
-unfolding IsLock
-holder_from_lock t g m rs h = holder_by t g m rs h.1 h.4 (Contains-In (held_by_all rs) h.1 (h.0, h.2, h.3))
-
-lock_first : (r : Request) (rs : List Request) (k : Mode) (held : Option Mode) → held ≡ Some k → In (record { txn = r.txn; granule = r.granule; mode = k }) (cons_option (hold_in r held) (held_by_all rs))
-lock_first r rs k None is = cc
-lock_first r rs k (Some n) is = let same : n ≡ k = cc in inl (ap (λ x. record { txn = r.txn; granule = r.granule; mode = x }) same)
-
-lock_later : (r : Request) (rs : List Request) (h : Hold) (held : Option Mode) → In h (held_by_all rs) → In h (cons_option (hold_in r held) (held_by_all rs))
-lock_later r rs h None i = i
-lock_later r rs h (Some n) i = inr i
-
-lock_in : (rs : List Request) (q : Request) (k : Mode) → In q rs → q.held ≡ Some k → In (record { txn = q.txn; granule = q.granule; mode = k }) (held_by_all rs)
-lock_in [] q k i is = absurd i
-lock_in (r ∷ rs) q k i is =
-    ⊎_elim
-    (λ e. subst (λ x. In (record { txn = x.txn; granule = x.granule; mode = k }) (held_by_all (r ∷ rs))) e (lock_first r rs k r.held (ap (λ (x : Request). x.held) e ∙ is)))
-    (λ t. lock_later r rs (record { txn = q.txn; granule = q.granule; mode = k }) r.held (lock_in rs q k t is))
-    i
+holder_from_lock t g m rs h =
+    let r = In-filter_map hold_of rs h.1 (Contains-In (held_by_all rs) h.1 (h.0, h.2, h.3)) in
+    let l = lock_of r.0 r.0.held h.1 r.2 in
+    record { request = r.0; there = r.1; by = l.0 ∙ h.4.0; at = l.1 ∙ h.4.1; enough = ap (is_enough m) l.2 ∙ h.4.2 }
 
 held_some : (m : Mode) (held : Option Mode) → is_enough m held ≡ true → (k : Mode) × (held ≡ Some k) × (is_at_most m k ≡ true)
 held_some m None e = cc
@@ -133,5 +122,6 @@ held_some m (Some k) e = (k, refl, e)
 pub lock_from_holder : (t : ℕ) (g : Granule) (m : Mode) (rs : List Request) → Holder rs t g m → HoldsAtLeast (held_by_all rs) t m g
 lock_from_holder t g m rs h =
     let k = held_some m h.request.held h.enough in
-    any_from (λ (l : Hold). (l.txn ≡ t) × (l.granule ≡ g) × IsTrue (is_at_most m l.mode)) (held_by_all rs)
-    (record { txn = h.request.txn; granule = h.request.granule; mode = k.0 }) (lock_in rs h.request k.0 h.there k.1) (h.by, h.at, k.2)
+    let lock : Hold = record { txn = h.request.txn; granule = h.request.granule; mode = k.0 } in
+    any_from (λ (l : Hold). (l.txn ≡ t) × (l.granule ≡ g) × IsTrue (is_at_most m l.mode)) (held_by_all rs) lock
+    (filter_map-In hold_of rs h.request lock h.there (ap (hold_in h.request) k.1)) (h.by, h.at, k.2)

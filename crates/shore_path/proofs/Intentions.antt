@@ -6,14 +6,14 @@ use Rattle.shore_types.specs.declared.locking.Granule.{Granule}
 use Rattle.shore_types.specs.declared.locking.Mode.{Mode}
 use Rattle.shore_model.specs.declared.holds.Hold.{Hold}
 use Rattle.shore_model.specs.declared.requests.Request.{Request}
-use Rattle.shore_model.specs.Locks.{HoldsAtLeast, IsRooted, ancestors}
+use Rattle.shore_model.specs.Locks.{HoldsAtLeast, IsRooted, WellRooted, ancestors}
 use Rattle.shore_model.specs.Modes.{parent_mode}
-use Rattle.shore_model.specs.Requests.{AreRequests, held_by_all, hold_in}
+use Rattle.shore_model.specs.Requests.{AreRequests, held_by_all, hold_in, hold_of}
 use Rattle.shore_locks.specs.Grants.{is_enough}
 use Rattle.shore_locks.specs.Tables.{mode_held}
 use Rattle.shore_locks.proofs.Members.{In, All-In, In-All}
 use Rattle.shore_path.specs.Rooted.{AreRooted, IsRootedRequest}
-use Rattle.shore_path.proofs.Holding.{enough_of, holder_from_lock, holder_of, lock_from_holder}
+use Rattle.shore_path.proofs.Holding.{In-filter_map, enough_of, holder_from_lock, holder_of, lock_from_holder}
 use Rattle.shore_path.proofs.Kept.{Each}
 use Rattle.shore_path.proofs.Moving.{Rooted}
 
@@ -57,3 +57,14 @@ are_rooted rs rooted =
       give_lock r r.held (IsRooted (held_by_all rs)) (λ m is. from_above rs r.txn m (ancestors r.granule) (rooted r h tt m (inl is))),
       give_lock r r.wanted (IsRooted (held_by_all rs)) (λ m is. from_above rs r.txn m (ancestors r.granule) (rooted r h tt m (inr is))),
     ))
+
+-- .. and as locks
+in_lock : (o : Option Hold) (h : Hold) (Q : Hold → Type 0) → o ≡ Some h → IfSome o Q → Q h
+in_lock None h Q e q = cc
+in_lock (Some k) h Q e q = let same : k ≡ h = cc in subst Q same q
+
+pub well_rooted : (rs : List Request) → AreRooted rs → WellRooted (held_by_all rs)
+well_rooted rs all =
+    All-In (IsRooted (held_by_all rs)) (held_by_all rs) (λ h i.
+    let r = In-filter_map hold_of rs h i in
+    in_lock (hold_of r.0) h (IsRooted (held_by_all rs)) r.2 (In-All (IsRootedRequest rs) rs r.0 all r.1).0)

@@ -1,5 +1,7 @@
 pub mod Acquiring
+pub mod Freeing
 pub mod Growing
+pub mod Harmonies
 pub mod Holding
 pub mod Intentions
 pub mod Kept

@@ -2,7 +2,10 @@
 #![tactic(auto)]
 
 pub mod answers;
+pub mod laws;
 pub mod paths;
+#[cfg(test)]
+mod tests;
 pub mod walk;
 
 pub use answers::{Acquired, OnConflict};

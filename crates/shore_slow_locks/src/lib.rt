@@ -1,7 +1,6 @@
-//! Slow plain functions that compute what the definitions say of locks that are held and asked, for tests, and the laws of
-//! locks along paths. Nothing of the storage manager stands on this crate.
+//! Slow plain functions that compute what the definitions say of locks that are held and asked, for tests. Nothing of the
+//! storage manager stands on this crate.
 #![tactic(auto)]
 
 pub mod holds;
-pub mod laws;
 pub mod requests;

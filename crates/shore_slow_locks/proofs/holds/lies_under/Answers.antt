@@ -1,6 +1,6 @@
 use Rattle.std.proofs.Common.{◌≡◌, false, true}
 use Rattle.shore_model.specs.Locks.{ancestors}
-use Rattle.shore_slow_locks.proofs.Harmonies.{rest_contained, not_head}
+use Rattle.shore_model.proofs.RecordPaths.{not_head, rest_contained}
 use Rattle.shore_slow_locks.proofs.holds.lies_under.Goals as goal
 
 pub returns-else-is_same : goal.returns-else-is_same

@@ -1,0 +1,40 @@
+//! Laws of locks along paths, each the contract of a function with nothing to do.
+ghost use Rattle.std.specs.Prelude.{◌∷◌, [], ℕ, List, All};
+ghost use Rattle.shore_model.specs.declared.holds.Hold.{Hold};
+ghost use Rattle.shore_model.specs.declared.requests.Request.{Request};
+ghost use Rattle.shore_model.specs.Locks.{Agree, Harmony, IsRooted, StandTogether, WellRooted};
+ghost use Rattle.shore_model.specs.Requests.{held_by_all};
+ghost use Rattle.shore_locks.specs.Grants.{cancelled, released};
+ghost use Rattle.shore_locks.specs.Orderly.{IsOrderly};
+ghost use Rattle.shore_path.specs.Rooted.{AreRooted};
+
+/// Locks with their intentions, whose holders stand together on each granule, are in harmony along every path.
+pub fn intentions_give_harmony()
+    ensures { (held : List Hold) → StandTogether held → WellRooted held → Harmony held }
+{}
+
+/// A lock whose intentions are held, and whose mode stands with those of the other holders, keeps harmony.
+pub fn grant_keeps_harmony()
+    ensures { (held : List Hold) (new : Hold) → StandTogether held → WellRooted held → IsRooted held new → All (Agree new) held →
+        Harmony (new ∷ held) × WellRooted (new ∷ held) }
+{}
+
+/// What is held by requests that have their intentions, in a table, is well rooted and in harmony.
+pub fn rooted_table_is_in_harmony()
+    ensures { (rs : List Request) → IsOrderly rs → AreRooted rs → WellRooted (held_by_all rs) × Harmony (held_by_all rs) }
+{}
+
+/// In a table with no requests each has its intentions.
+pub fn empty_table_is_rooted()
+    ensures { AreRooted [] }
+{}
+
+/// Where a transaction waits no more, all requests that are left have their intentions, and those that are granted then too.
+pub fn cancel_keeps_intentions()
+    ensures { (rs : List Request) (t : ℕ) → IsOrderly rs → AreRooted rs → AreRooted (cancelled t rs) }
+{}
+
+/// So it is where a transaction gives up all that it has.
+pub fn release_keeps_intentions()
+    ensures { (rs : List Request) (t : ℕ) → IsOrderly rs → AreRooted rs → AreRooted (released t rs) }
+{}
