@@ -1,5 +1,5 @@
 -- What a search finds of those for whom a transaction waits: nobody else, and enough to come by all.
-use Rattle.std.proofs.Common.{◌≡◌, ◌++◌, inl, inr, ⊎_elim, ℕ, List, [], ◌∷◌, Bool, true, false, Option, None, Some, refl, ap, sym, subst, ◌∙◌}
+use Rattle.std.proofs.Common.{◌≡◌, ◌++◌, inl, inr, ⊎_elim, ℕ, List, [], ◌∷◌, true, false, Option, None, Some, refl, ap, sym, subst, ◌∙◌}
 use Rattle.std.specs.Prelude.{cond, not, ◌&&◌, ◌==◌, is_some}
 use Rattle.std.proofs.lemmas.Bool.Decides.{Decides-eqb}
 use Rattle.shore_types.specs.declared.locking.Granule.{Granule}
@@ -11,12 +11,12 @@ use Rattle.shore_locks.specs.Grants.{is_refused, refuses}
 use Rattle.shore_locks.proofs.Members.{In, Contains-In, In-Contains, In-All, In-append, In-left, In-right, either}
 use Rattle.shore_locks.proofs.Keys.{alike-Decides}
 use Rattle.shore_locks.proofs.Passes.{AreRequests-waiters, In-waiters}
-use Rattle.shore_locks.proofs.Fits.{Fit}
+use Rattle.shore_locks.proofs.Fits.{Fit, no_of}
 use Rattle.shore_locks.proofs.Entering.{both_true, none_waits}
 use Rattle.shore_locks.proofs.LawLemmas.{refused_means}
 use Rattle.shore_deadlock.specs.declared.victims.Victim.{Victim}
 use Rattle.shore_deadlock.specs.Blockers.{at_most_one, blockers, is_victim, nearest, nearest_ahead, refusing, refusing_one, stoppers}
-use Rattle.shore_deadlock.proofs.Edges.{edge_of, group, of_group, queue-In, waits_of}
+use Rattle.shore_deadlock.proofs.Edges.{edge_of, group, of_group, queue-In, waits_of, clash}
 use Rattle.shore_deadlock.proofs.Changes.{Before-In, Before-waiters, before_right, is_refused_of, no_holder, queue_parts, waiter_wants}
 use Rattle.shore_deadlock.proofs.Steps.{Waits, waits_as}
 use Rattle.shore_deadlock.proofs.TrailLemmas.{AreFound}
@@ -29,9 +29,6 @@ record Refuses (victims : List Victim) (w : Request) (others : List Request) (u 
   upon : other.txn ≡ u
   refused : refuses w other ≡ true
   spared : is_victim victims u ≡ false
-
-no_of : (b : Bool) → not b ≡ true → b ≡ false
-no_of b h = ⊎_elim (λ yes. absurd (let gone : not b ≡ false = ap not yes in (let both : true ≡ false = sym h ∙ gone in cc))) (λ no. no) (either b)
 
 one_yes : (victims : List Victim) (w o : Request) → (refuses w o && not (is_victim victims o.txn)) ≡ true → refusing_one victims w o ≡ o.txn ∷ []
 one_yes victims w o both = rw both refl
@@ -138,7 +135,7 @@ module _ (victims : List Victim) (rs : List Request) (fit : Fit rs) (g : Granule
       let both = Before-In (waiters_at g rs) q w before in
       let unlike = Before_unlike (waiters_at g rs) q w (AreRequests-waiters g rs fit.one) before in
       ⊎_elim
-      (λ yes. absurd (let alike = (alike-Decides q w).1 ((Decides-eqb q.txn w.txn).0 yes, (In-waiters g rs q both.0).1 ∙ sym (In-waiters g rs w both.1).1) in (let f : true ≡ false = sym alike ∙ unlike in cc)))
+      (λ yes. absurd (let alike = (alike-Decides q w).1 ((Decides-eqb q.txn w.txn).0 yes, (In-waiters g rs q both.0).1 ∙ sym (In-waiters g rs w both.1).1) in clash alike unlike))
       (λ no. no)
       (either (q.txn == w.txn))
 
@@ -185,7 +182,7 @@ ahead_waits rs w o fit w_in wants before =
     let there = In-waiters w.granule rs o (Before-In (waiters_at w.granule rs) o w before).0 in
     let unlike = Before_unlike (waiters_at w.granule rs) o w (AreRequests-waiters w.granule rs fit.one) before in
     waits_of rs w.txn o.txn (record {
-      apart = λ same. (let alike = (alike-Decides o w).1 (sym same, there.1) in let other = unlike in (let f : true ≡ false = sym alike ∙ other in cc));
+      apart = λ same. (let alike = (alike-Decides o w).1 (sym same, there.1) in let other = unlike in clash alike other);
       waiter = w;
       other = o;
       waiter_in = w_in;
@@ -255,7 +252,7 @@ module _ (victims : List Victim) (rs : List Request) (fit : Fit rs) (Found Fine 
   ahead_fine g (x ∷ xs) ys whole near q h spared =
       ⊎_elim
       (λ victim. ⊎_elim
-      (λ same. absurd (let other : is_victim victims x.txn ≡ false = subst (λ (y : Request). is_victim victims y.txn ≡ false) (sym same) spared in (let f : true ≡ false = sym victim ∙ other in cc)))
+      (λ same. absurd (let other : is_victim victims x.txn ≡ false = subst (λ (y : Request). is_victim victims y.txn ≡ false) (sym same) spared in clash victim other))
       (λ later. ahead_fine g xs (x ∷ ys) whole (λ n is. near n (rw victim is)) q later spared) h)
       (λ other.
       let here : Fine x.txn = near x.txn (rw other refl) in

@@ -15,6 +15,10 @@ use Rattle.shore_locks.proofs.Members.{In, Contains-In, In-Contains, In-append, 
 use Rattle.shore_locks.proofs.Keys.{same_granule-Decides}
 use Rattle.shore_locks.proofs.Outcomes.{any_from}
 
+-- a test comes out one way
+pub clash : {b : Bool} → b ≡ true → b ≡ false → ⊥
+clash yes_is no_is = cc
+
 -- ---- queues
 
 abbrev pub group : Group → Granule → List Request → List Request

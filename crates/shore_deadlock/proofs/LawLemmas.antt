@@ -20,12 +20,6 @@ use Rattle.shore_deadlock.proofs.Walks.{cycle_apart, free_of_fewer, member_or_no
 use Rattle.shore_deadlock.proofs.Steps.{cancelled_adds_none, released_adds_none}
 use Rattle.shore_locks.proofs.Fits.{wants_nothing}
 
-pub cancel_adds_none : (rs : List Request) (t a b : ℕ) → IsOrderly rs → WaitsFor (cancelled t rs) a b → WaitsFor rs a b
-cancel_adds_none = cancelled_adds_none
-
-pub release_adds_none : (rs : List Request) (t a b : ℕ) → IsOrderly rs → WaitsFor (released t rs) a b → WaitsFor rs a b
-release_adds_none = released_adds_none
-
 pub cancel_keeps_free : (rs : List Request) (t : ℕ) → IsOrderly rs → HasNoCycle rs → HasNoCycle (cancelled t rs)
 cancel_keeps_free rs t orderly free = free_of_fewer rs (cancelled t rs) (λ a b h. cancelled_adds_none rs t a b orderly h) free
 

@@ -159,9 +159,3 @@ none_passes rs victims t trail place orderly is all explored cycle closed passes
     walk_never rs victims t (λ u. is_reached trail u ≡ true) step (each t (Contains-In cycle t passes)) t (parts.1 ++ parts.0) start
     (λ u h. each u (subst (In u) (sym parts.2) (⊎_elim (λ later. In-right parts.0 (t ∷ parts.1) u (inr later)) (λ before. In-left parts.0 (t ∷ parts.1) u before) (In-append parts.1 parts.0 u h))))
     turned
-
--- no cycle without victims passes a victim
-pub victim_on_none : (rs : List Request) (victims : List Victim) (t : ℕ) → is_victim victims t ≡ true → IsOnNoCycleWithout victims rs t
-victim_on_none rs victims t is cycle closed passes spared =
-    let other = In-All (λ u. is_victim victims u ≡ false) cycle t spared (Contains-In cycle t passes) in
-    (let f : true ≡ false = sym is ∙ other in cc)

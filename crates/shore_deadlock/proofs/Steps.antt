@@ -1,18 +1,20 @@
 -- Edges and cycles when a transaction waits no more, gives up all, or asks.
-use Rattle.std.proofs.Common.{◌≡◌, inl, ℕ, List, [], ◌∷◌, Bool, true, false, Option, None, Some, refl, sym}
-use Rattle.std.specs.Prelude.{cond, not, ◌==◌, ◌&&◌, is_some}
+use Rattle.std.proofs.Common.{ap, ⊎_elim, ◌≡◌, inl, ℕ, List, [], ◌∷◌, Bool, true, false, Option, None, Some, refl, sym}
+use Rattle.std.specs.Prelude.{cond, filter, is_some, not, ◌&&◌, ◌==◌}
 use Rattle.std.proofs.lemmas.Bool.Decides.{Decides-eqb}
 use Rattle.shore_types.specs.declared.locking.Granule.{Granule}
 use Rattle.shore_model.specs.declared.requests.Request.{Request}
-use Rattle.shore_model.specs.Requests.{IsCycle, WaitsFor, are_alike, requests_by}
+use Rattle.shore_model.specs.Requests.{AreRequests, IsCycle, WaitsFor, are_alike, requests_by}
 use Rattle.shore_locks.specs.Laws.{of_others}
 use Rattle.shore_locks.specs.Orderly.{IsOrderly}
 use Rattle.shore_locks.specs.Tables.{is_waiting, waiters_at, waiting_request}
 use Rattle.shore_locks.specs.Grants.{cancelled, given_up, granted, passed, released, removed, replaced, taken_back_if, withdrawn}
-use Rattle.shore_locks.proofs.Members.{In}
-use Rattle.shore_locks.proofs.Fits.{Fit, Fit-filter, Fit-passed, Fit-withdrawn}
+use Rattle.shore_locks.proofs.Members.{In, In-filter}
+use Rattle.shore_locks.proofs.Fits.{Fit, Fit-filter, Fit-passed, Fit-withdrawn, In-replaced, wants_nothing}
 use Rattle.shore_locks.proofs.Entering.{both_true, found_in, none_waits}
 use Rattle.shore_locks.proofs.Tables.{fit_of}
+use Rattle.shore_locks.proofs.Counts.{AreRequests-passed, AreRequests-removed, AreRequests-stopped}
+use Rattle.shore_locks.proofs.Outcomes.{nobody_wants, pass_only_grants}
 use Rattle.shore_deadlock.proofs.Edges.{edge_of, waits-filtered, waits_of}
 use Rattle.shore_deadlock.proofs.Changes.{next_waits_not, others-removed, others-replaced, pass_adds_none, pass_goes, settled, waiter_wants}
 use Rattle.shore_deadlock.proofs.Walks.{cycle_apart, member_waits}
@@ -105,3 +107,40 @@ taken_leaves_cycle t rs cycle fit (Some r) is out closed =
 -- a cycle that does not pass the one who waits no more stays
 pub cancelled_leaves_cycle : (rs : List Request) (t : ℕ) (cycle : List ℕ) → IsOrderly rs → (In t cycle → ⊥) → IsCycle rs cycle → IsCycle (cancelled t rs) cycle
 cancelled_leaves_cycle rs t cycle orderly out closed = taken_leaves_cycle t rs cycle (fit_of rs orderly) (waiting_request t rs) refl out closed
+
+-- ---- who waits
+
+-- no request of the transaction wants anything
+abbrev IsIdle : ℕ → List Request → Type 0
+IsIdle u rs = (q : Request) → In q rs → q.txn ≡ u → is_some q.wanted ≡ true → ⊥
+
+idle_passed : (u : ℕ) (g : Granule) (rs : List Request) → AreRequests rs → IsIdle u rs → IsIdle u (passed g rs)
+idle_passed u g rs one idle q h by wants =
+    ⊎_elim (λ stood. idle q stood by wants) (λ was. wants_nothing q.wanted (ap (λ (x : Request). x.wanted) was.2) wants) (pass_only_grants g rs one q h)
+
+idle_filtered : (u : ℕ) (p : Request → Bool) (rs : List Request) → IsIdle u rs → IsIdle u (filter p rs)
+idle_filtered u p rs idle q h = idle q (In-filter p rs q h).0
+
+idle_stopped : (u : ℕ) (r : Request) (rs : List Request) → IsIdle u rs → IsIdle u (stopped r rs)
+idle_stopped u r rs idle =
+    either_way (IsIdle u) (is_some r.held) (replaced (withdrawn r) rs) (removed r rs)
+    (λ holds q h by wants. ⊎_elim (λ same. wants_nothing q.wanted (ap (λ (x : Request). x.wanted) same) wants) (λ stood. idle q stood.0 by wants) (In-replaced (withdrawn r) rs q h))
+    (idle_filtered u (λ q. not (are_alike q r)) rs idle)
+
+idle_taken : (u : ℕ) (rs : List Request) (o : Option Request) → AreRequests rs → IsIdle u rs → IsIdle u (taken_back_if o rs)
+idle_taken u rs None one idle = idle
+idle_taken u rs (Some r) one idle = idle_passed u r.granule (stopped r rs) (AreRequests-stopped r rs one) (idle_stopped u r rs idle)
+
+idle_given_up : (u : ℕ) (mine rs : List Request) → AreRequests rs → IsIdle u rs → IsIdle u (given_up mine rs)
+idle_given_up u [] rs one idle = idle
+idle_given_up u (r ∷ mine) rs one idle =
+    let left = AreRequests-removed r rs one in
+    idle_given_up u mine (passed r.granule (removed r rs)) (AreRequests-passed r.granule (removed r rs) left)
+    (idle_passed u r.granule (removed r rs) left (idle_filtered u (λ q. not (are_alike q r)) rs idle))
+
+-- a cancel and a release make nobody wait
+pub cancelled_keeps_quiet : (rs : List Request) (t u : ℕ) → AreRequests rs → is_waiting u rs ≡ false → is_waiting u (cancelled t rs) ≡ false
+cancelled_keeps_quiet rs t u one quiet = nobody_wants u (cancelled t rs) (idle_taken u rs (waiting_request t rs) one (none_waits u rs quiet))
+
+pub released_keeps_quiet : (rs : List Request) (t u : ℕ) → AreRequests rs → is_waiting u rs ≡ false → is_waiting u (released t rs) ≡ false
+released_keeps_quiet rs t u one quiet = nobody_wants u (released t rs) (idle_given_up u (requests_by t rs) rs one (none_waits u rs quiet))

@@ -14,6 +14,7 @@ use Rattle.shore_deadlock.specs.declared.victims.Victim.{Victim}
 use Rattle.shore_deadlock.specs.Blockers.{is_victim}
 use Rattle.shore_deadlock.specs.Trails.{LeadsBack, extended, is_reached, reached_from, step_at, txn_at}
 use Rattle.shore_deadlock.proofs.Fewer.{fewer}
+use Rattle.shore_deadlock.proofs.Edges.{clash}
 
 -- ---- reading a longer trail
 
@@ -46,16 +47,6 @@ pub record IsTrail (rs : List Request) (victims : List Victim) (t : ℕ) (trail 
   pub waits : (k : ℕ) → 0 < k → k < length trail → WaitsFor rs (txn_at trail (step_at trail k).parent) (txn_at trail k)
   pub spared : (k : ℕ) → k < length trail → is_victim victims (txn_at trail k) ≡ false
   pub apart : (j k : ℕ) → j < k → k < length trail → txn_at trail j ≡ txn_at trail k → ⊥
-
-pub trail_start : (rs : List Request) (victims : List Victim) (t : ℕ) → is_victim victims t ≡ false → IsTrail rs victims t (record { txn = t; parent = 0 } ∷ [])
-trail_start rs victims t spared = record {
-  some = omega arith;
-  first = refl;
-  leads = λ k later within. absurd (omega arith);
-  waits = λ k later within. absurd (omega arith);
-  spared = λ k within. let none : k ≡ 0 = omega arith in subst (λ j. is_victim victims (txn_at (record { txn = t; parent = 0 } ∷ []) j) ≡ false) (sym none) spared;
-  apart = λ j k before within same. omega arith;
-}
 
 module _ (rs : List Request) (victims : List Victim) (t : ℕ) (trail : List Step) (is : IsTrail rs victims t trail) (from u : ℕ) (here : from < length trail)
     (waits : WaitsFor rs (txn_at trail from) u) (spared : is_victim victims u ≡ false) (new : is_reached trail u ≡ false) where
@@ -105,7 +96,7 @@ module _ (rs : List Request) (victims : List Victim) (t : ℕ) (trail : List Ste
       let is_u : txn_at trail j ≡ u = ap (λ (s : Step). s.txn) (sym (old j j_below)) ∙ same ∙ ap (λ (s : Step). s.txn) last in
       let seen : is_reached trail u ≡ true = subst (λ v. is_reached trail v ≡ true) is_u (reached_at trail j j_below) in
       let unseen = new in
-      (let both : true ≡ false = sym seen ∙ unseen in cc)) k within before
+      clash seen unseen) k within before
 
   trail_longer : IsTrail rs victims t longer
   trail_longer = record {
@@ -208,7 +199,7 @@ unreached rs trail = length (filter (λ (r : Request). not (is_reached trail r.t
 
 left_before : (old new : List Step) → Grows old new → (u : ℕ) → not (is_reached new u) ≡ true → not (is_reached old u) ≡ true
 left_before old new g u h =
-    ⊎_elim (λ yes. absurd (let gone : not (is_reached new u) ≡ false = ap not (g.kept u yes) in (let both : true ≡ false = sym h ∙ gone in cc))) (λ no. ap not no) (either (is_reached old u))
+    ⊎_elim (λ yes. absurd (let gone : not (is_reached new u) ≡ false = ap not (g.kept u yes) in clash h gone)) (λ no. ap not no) (either (is_reached old u))
 
 -- as one more is reached one less is left at least
 reached_counts : (rs : List Request) (from u : ℕ) (trail : List Step) (r : Request) → In r rs → r.txn ≡ u

@@ -12,12 +12,13 @@ use Rattle.shore_locks.proofs.Members.{In, All-In, In-All, In-Contains, In-left,
 use Rattle.shore_locks.proofs.Fits.{any_of, found_any}
 use Rattle.shore_locks.proofs.Outcomes.{quiet_after_cancel}
 use Rattle.shore_locks.proofs.Tables.{orderly_cancelled}
+use Rattle.shore_locks.specs.Tables.{is_waiting}
 use Rattle.shore_deadlock.specs.declared.victims.Victim.{Victim}
 use Rattle.shore_deadlock.specs.Blockers.{AreNoVictims, is_victim}
 use Rattle.shore_deadlock.specs.Cycles.{AreVictims, ComeOnce, IsOnEachCycle, IsOnNoCycle, IsOnNoCycleWithout, IsSimpleCycleFrom, IsVictim, after_victims}
-use Rattle.shore_deadlock.proofs.Edges.{edge_of}
+use Rattle.shore_deadlock.proofs.Edges.{edge_of, clash}
 use Rattle.shore_deadlock.proofs.Fewer.{fewer}
-use Rattle.shore_deadlock.proofs.Steps.{cancelled_adds_none, cancelled_leaves_cycle, quiet_waits_not}
+use Rattle.shore_deadlock.proofs.Steps.{cancelled_adds_none, cancelled_keeps_quiet, cancelled_leaves_cycle, quiet_waits_not}
 use Rattle.shore_deadlock.proofs.Walks.{In_turned, cycle_as, cycle_turned, member_waits, once_turned}
 
 -- ---- after victims
@@ -27,16 +28,25 @@ after_adds_none [] rs orderly a b h = h
 after_adds_none (v ∷ vs) rs orderly a b h =
     cancelled_adds_none rs v.txn a b orderly (after_adds_none vs (cancelled v.txn rs) (orderly_cancelled v.txn rs orderly) a b h)
 
-victim_waits_not : (vs : List Victim) (rs : List Request) (v : Victim) → IsOrderly rs → In v vs → (u : ℕ) → WaitsFor (after_victims vs rs) v.txn u → ⊥
-victim_waits_not [] rs v orderly there u h = absurd there
-victim_waits_not (x ∷ vs) rs v orderly there u h =
+still_quiet : (vs : List Victim) (rs : List Request) (u : ℕ) → IsOrderly rs → is_waiting u rs ≡ false → is_waiting u (after_victims vs rs) ≡ false
+still_quiet [] rs u orderly quiet = quiet
+still_quiet (v ∷ vs) rs u orderly quiet = still_quiet vs (cancelled v.txn rs) u (orderly_cancelled v.txn rs orderly) (cancelled_keeps_quiet rs v.txn u orderly.one_each quiet)
+
+-- a victim waits no more
+pub victim_quiet : (vs : List Victim) (rs : List Request) (v : Victim) → IsOrderly rs → In v vs → is_waiting v.txn (after_victims vs rs) ≡ false
+victim_quiet [] rs v orderly there = absurd there
+victim_quiet (x ∷ vs) rs v orderly there =
     let then = orderly_cancelled x.txn rs orderly in
     ⊎_elim
-    (λ same.
-    let now = after_adds_none vs (cancelled x.txn rs) then v.txn u h in
-    quiet_waits_not x.txn (cancelled x.txn rs) (quiet_after_cancel x.txn rs orderly) u (subst (λ (y : Victim). WaitsFor (cancelled x.txn rs) y.txn u) (sym same) now))
-    (λ later. victim_waits_not vs (cancelled x.txn rs) v then later u h)
+    (λ same. subst (λ (y : Victim). is_waiting y.txn (after_victims (x ∷ vs) rs) ≡ false) same (still_quiet vs (cancelled x.txn rs) x.txn then (quiet_after_cancel x.txn rs orderly)))
+    (λ later. victim_quiet vs (cancelled x.txn rs) v then later)
     there
+
+pub victims_quiet : (vs : List Victim) (rs : List Request) → IsOrderly rs → All (λ v. is_waiting v.txn (after_victims vs rs) ≡ false) vs
+victims_quiet vs rs orderly = All-In (λ v. is_waiting v.txn (after_victims vs rs) ≡ false) vs (λ v there. victim_quiet vs rs v orderly there)
+
+victim_waits_not : (vs : List Victim) (rs : List Request) (v : Victim) → IsOrderly rs → In v vs → (u : ℕ) → WaitsFor (after_victims vs rs) v.txn u → ⊥
+victim_waits_not vs rs v orderly there u h = quiet_waits_not v.txn (after_victims vs rs) (victim_quiet vs rs v orderly there) u h
 
 first_victim : (v : Victim) (vs : List Victim) (u : ℕ) → v.txn ≡ u → is_victim (v ∷ vs) u ≡ true
 first_victim v vs u same = any_of (λ x. x.txn == u) (v ∷ vs) v (inl refl) ((Decides-eqb v.txn u).1 same)
@@ -47,7 +57,7 @@ later_spared v vs u spared =
     (λ one. absurd (
     let f = found_any (λ (x : Victim). x.txn == u) vs one in
     let all = any_of (λ (x : Victim). x.txn == u) (v ∷ vs) f.0 (inr f.1) f.2 in
-    (let g : true ≡ false = sym all ∙ spared in cc)))
+    clash all spared))
     (λ none. none) (either (is_victim vs u))
 
 -- a cycle without victims stands after them
@@ -57,7 +67,7 @@ cycle_after (v ∷ vs) rs cycle orderly spared closed =
     let each : (u : ℕ) → In u cycle → is_victim (v ∷ vs) u ≡ false = λ u h. In-All (λ u. is_victim (v ∷ vs) u ≡ false) cycle u spared h in
     cycle_after vs (cancelled v.txn rs) cycle (orderly_cancelled v.txn rs orderly) (All-In (λ u. is_victim vs u ≡ false) cycle (λ u h. later_spared v vs u (each u h)))
     (cancelled_leaves_cycle rs v.txn cycle orderly
-    (λ member. let one = first_victim v vs v.txn refl in let none = each v.txn member in (let g : true ≡ false = sym one ∙ none in cc)) closed)
+    (λ member. let one = first_victim v vs v.txn refl in let none = each v.txn member in clash one none) closed)
 
 -- ---- one victim more
 
@@ -101,7 +111,7 @@ spared_before vs v u h =
     (λ one. absurd (
     let f = found_any (λ (x : Victim). x.txn == u) vs one in
     let all = any_of (λ (x : Victim). x.txn == u) (vs ++ v ∷ []) f.0 (In-left vs (v ∷ []) f.0 f.1) f.2 in
-    let gone : not (is_victim (vs ++ v ∷ []) u) ≡ false = ap not all in (let g : true ≡ false = sym h ∙ gone in cc)))
+    let gone : not (is_victim (vs ++ v ∷ []) u) ≡ false = ap not all in clash h gone))
     (λ none. ap not none) (either (is_victim vs u))
 
 -- each victim makes them fewer

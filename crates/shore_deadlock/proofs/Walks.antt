@@ -1,5 +1,5 @@
 -- Walks and cycles: their members, their parts, and what makes one list's cycles cycles of another.
-use Rattle.std.proofs.Common.{◌≡◌, ◌++◌, ◌⊎◌, inl, inr, ⊎_elim, ℕ, List, [], ◌∷◌, true, false, refl, sym, subst, ◌∙◌}
+use Rattle.std.proofs.Common.{◌≡◌, ◌++◌, ◌⊎◌, inl, inr, ⊎_elim, ℕ, List, [], ◌∷◌, refl, sym, subst}
 use Rattle.std.specs.Prelude.{◌==◌}
 use Rattle.std.proofs.lemmas.Bool.Decides.{Decides-eqb}
 use Rattle.std.proofs.lemmas.List.{append-nil}
@@ -8,7 +8,7 @@ use Rattle.shore_model.specs.Requests.{HasNoCycle, IsCycle, WaitsFor, Walk}
 use Rattle.shore_locks.specs.Laws.{of_others}
 use Rattle.shore_locks.proofs.Members.{In, Contains-In, In-Contains, In-append, In-left, In-right, either}
 use Rattle.shore_deadlock.specs.Cycles.{ComeOnce}
-use Rattle.shore_deadlock.proofs.Edges.{waits_apart}
+use Rattle.shore_deadlock.proofs.Edges.{waits_apart, clash}
 
 -- each member of a walk waits
 walker_waits : (rs : List Request) (t : ℕ) (ts : List ℕ) (end u : ℕ) → Walk rs t ts end → In u (t ∷ ts) → (next : ℕ) × WaitsFor rs u next
@@ -41,8 +41,8 @@ cycle_apart t rs new same cycle out closed =
 pub member_or_not : (t : ℕ) (ts : List ℕ) → In t ts ⊎ (In t ts → ⊥)
 member_or_not t [] = inr (λ h. h)
 member_or_not t (u ∷ us) =
-    ⊎_elim (λ yes. inl (inl ((Decides-eqb u t).0 yes)))
-    (λ no. ⊎_elim (λ h. inl (inr h)) (λ none. inr (λ h. ⊎_elim (λ e. let yes = (Decides-eqb u t).1 e in let other = no in absurd (let f : true ≡ false = sym yes ∙ other in cc)) none h)) (member_or_not t us))
+    ⊎_elim (λ same. inl (inl ((Decides-eqb u t).0 same)))
+    (λ other. ⊎_elim (λ h. inl (inr h)) (λ none. inr (λ h. ⊎_elim (λ e. clash ((Decides-eqb u t).1 e) other) none h)) (member_or_not t us))
     (either (u == t))
 
 -- fewer edges make no cycle

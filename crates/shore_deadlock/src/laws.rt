@@ -3,7 +3,7 @@ ghost use Rattle.std.specs.Prelude.{◌≡◌, ℕ, List, false};
 ghost use Rattle.shore_types.specs.declared.locking.Granule.{Granule};
 ghost use Rattle.shore_types.specs.declared.locking.Mode.{Mode};
 ghost use Rattle.shore_model.specs.declared.requests.Request.{Request};
-ghost use Rattle.shore_model.specs.Requests.{HasNoCycle, WaitsFor};
+ghost use Rattle.shore_model.specs.Requests.{AreRequests, HasNoCycle, WaitsFor};
 ghost use Rattle.shore_locks.specs.declared.answers.Requested.TheVariants.{Waiting};
 ghost use Rattle.shore_locks.specs.Orderly.{IsOrderly};
 ghost use Rattle.shore_locks.specs.Grants.{after_request, after_try, answer_to, cancelled, released};
@@ -27,6 +27,16 @@ pub fn cancel_adds_no_wait()
 /// Nor where a transaction gives up all that it holds and wants.
 pub fn release_adds_no_wait()
     ensures { (rs : List Request) (t a b : ℕ) → IsOrderly rs → WaitsFor (released t rs) a b → WaitsFor rs a b }
+{}
+
+/// A cancel makes nobody wait.
+pub fn cancel_makes_nobody_wait()
+    ensures { (rs : List Request) (t u : ℕ) → AreRequests rs → is_waiting u rs ≡ false → is_waiting u (cancelled t rs) ≡ false }
+{}
+
+/// A release makes nobody wait.
+pub fn release_makes_nobody_wait()
+    ensures { (rs : List Request) (t u : ℕ) → AreRequests rs → is_waiting u rs ≡ false → is_waiting u (released t rs) ≡ false }
 {}
 
 /// A cancel closes no cycle.

@@ -29,9 +29,9 @@ pub fn find_cycle(
     }
 }
 
-/// A cycle of waits that passes a transaction and no victim, from the transaction on. The search goes breadth first: from
-/// the transaction to those that it waits for, and on from each of them.
-pub fn cycle_without(
+/// A cycle of waits that passes a transaction and no victim, from the transaction on. The search goes breadth first (Moore
+/// 1959): from the transaction to those that it waits for, and on from each of them.
+pub(crate) fn cycle_without(
     alloc: Global,
     table: &LockTable,
     txn: TxnId,

@@ -33,7 +33,7 @@ fn reach(trail: &mut Vec<Step>, txn: TxnId, parent: usize) -> Result<(), AllocEr
     Ok(())
 }
 
-// A look at each is cheap: as many transactions are active at most as a look reads in no time.
+// At most 256 transactions are active, and a look at so many numbers side by side costs about what a tree would.
 fn is_reached(trail: &[Step], txn: TxnId) -> bool
     ensures { result ≡ trails.is_reached trail.now txn }
 {

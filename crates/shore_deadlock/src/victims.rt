@@ -1,7 +1,8 @@
 //! The victims of cycles.
-ghost use Rattle.std.specs.Prelude.{◌≡◌, ◌<◌, ◌≤◌, ◌++◌, ℕ, All, Some, drop, get_or, length, take, slice_get, slice_index, IfOk, IfErr, OnOk, OnErr};
+ghost use Rattle.std.specs.Prelude.{◌≡◌, ◌<◌, ◌≤◌, ◌++◌, ℕ, All, Some, false, drop, get_or, length, take, slice_get, slice_index, IfOk, IfErr, OnOk, OnErr};
 ghost use Rattle.shore_types.specs.declared.faults.Fault.TheVariants.{Memory};
 ghost use Rattle.shore_model.specs.Requests.{HasNoCycle};
+ghost use Rattle.shore_locks.specs.Tables.{is_waiting};
 ghost use Rattle.shore_deadlock.specs.Cycles.{AreVictims, IsOnEachCycle, IsOnNoCycle, IsOnNoCycleWithout, after_victims};
 
 use crate::laws::tables_are_orderly;
@@ -24,6 +25,7 @@ pub struct Victim {
 pub fn break_cycles(alloc: Global, table: &mut LockTable, txn: TxnId) -> Result<Vec<Victim>, Fault>
     ensures victims { IfOk result (λ victims. AreVictims table.old.requests txn victims.items) }
     ensures table { IfOk result (λ victims. table.new ≡ record { limit = table.old.limit; requests = after_victims victims.items table.old.requests }) }
+    ensures quiet { IfOk result (λ victims. All (λ v. is_waiting v.txn table.new.requests ≡ false) victims.items) }
     ensures broken { OnOk result (IsOnNoCycle table.new.requests txn) }
     ensures free { OnOk result (IsOnEachCycle table.old.requests txn → HasNoCycle table.new.requests) }
     ensures refused { OnErr result (table.new ≡ table.old) }

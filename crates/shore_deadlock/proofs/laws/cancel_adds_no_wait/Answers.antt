@@ -1,5 +1,5 @@
-use Rattle.shore_deadlock.proofs.LawLemmas.{cancel_adds_none}
+use Rattle.shore_deadlock.proofs.Steps.{cancelled_adds_none}
 use Rattle.shore_deadlock.proofs.laws.cancel_adds_no_wait.Goals as goal
 
 pub returns : goal.returns
-returns c = cancel_adds_none
+returns c = cancelled_adds_none

@@ -1,5 +1,5 @@
-use Rattle.shore_deadlock.proofs.LawLemmas.{release_adds_none}
+use Rattle.shore_deadlock.proofs.Steps.{released_adds_none}
 use Rattle.shore_deadlock.proofs.laws.release_adds_no_wait.Goals as goal
 
 pub returns : goal.returns
-returns c = release_adds_none
+returns c = released_adds_none
