@@ -18,9 +18,10 @@ use Rattle.shore_path.specs.declared.answers.Acquired.{Acquired}
 use Rattle.shore_path.specs.declared.answers.Acquired.TheVariants as acquire
 use Rattle.shore_path.specs.declared.answers.OnConflict.{OnConflict}
 use Rattle.shore_path.specs.declared.answers.OnConflict.TheVariants.{Wait}
-use Rattle.shore_path.specs.Acquires.{GrowsAsAsked, IsReached, MayRefuse, NoneWeaker, WaitsAt, WalkedSome}
+use Rattle.shore_path.specs.Acquires.{GrowsAsAsked, IsReached, MayRefuse, NoneWeaker, OthersOnlyGranted, WaitsAt, WalkedSome}
 use Rattle.shore_path.specs.Rooted.{AreRooted}
 use Rattle.shore_path.specs.Walks.{ComesTo, Outcome, asked_of, walk}
+use Rattle.shore_path.proofs.Bystanders.{others_after}
 use Rattle.shore_path.proofs.Intentions.{are_rooted, rooted_of}
 use Rattle.shore_path.proofs.Kept.{Each, fit_after, grows_after, quiet_after, rooted_after_walk, stays_after, still_enough}
 use Rattle.shore_path.proofs.Moving.{Rooted, Stays}
@@ -74,6 +75,11 @@ module _ (c : OnConflict) (t : ℕ) (target : Granule) (mode : Mode) (old new : 
       (λ same. inl (ap (mode_held t g) (sym begun.left) ∙ same))
       (λ a. inr (In-Contains (path target) g (on_path target g (take-In begun.n way g a.0)), ap (mode_held t g) (sym begun.left) ∙ a.1))
       (grows_after c t target mode old.limit (take begun.n way) old.requests (fit_of old.requests orderly) quiet g)
+
+  pub told_others : OthersOnlyGranted old.requests new.requests t
+  told_others =
+      subst (λ xs. OthersOnlyGranted old.requests xs t) begun.left
+      (others_after c t target mode old.limit (take begun.n way) old.requests (fit_of old.requests orderly) quiet)
 
   pub told_none_weaker : NoneWeaker old.requests new.requests
   told_none_weaker =

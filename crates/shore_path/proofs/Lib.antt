@@ -1,4 +1,5 @@
 pub mod Acquiring
+pub mod Bystanders
 pub mod Freeing
 pub mod Growing
 pub mod Harmonies

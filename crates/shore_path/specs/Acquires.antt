@@ -1,5 +1,5 @@
 -- What holds of an acquire, in words of its own.
-use Rattle.std.specs.Prelude.{◌≡◌, ◌⊎◌, ◌<◌, ℕ, List, Some, Ok, length, take, IsTrue, IsFalse, Any, Contains}
+use Rattle.std.specs.Prelude.{◌≡◌, ◌⊎◌, ◌<◌, ℕ, List, Some, Ok, length, take, IsTrue, IsFalse, All, Any, Contains}
 use Rattle.shore_types.specs.declared.faults.Fault.{Fault}
 use Rattle.shore_types.specs.declared.faults.Fault.TheVariants as fault
 use Rattle.shore_types.specs.declared.locking.Granule.{Granule}
@@ -9,7 +9,7 @@ use Rattle.shore_model.specs.declared.requests.Request.{Request}
 use Rattle.shore_model.specs.Locks.{ancestors, path}
 use Rattle.shore_model.specs.Modes.{is_allowed}
 use Rattle.shore_model.specs.Requests.{WaitsFor, placed_last}
-use Rattle.shore_locks.specs.Grants.{aim, asking, is_enough, is_full}
+use Rattle.shore_locks.specs.Grants.{aim, asking, granted, is_enough, is_full}
 use Rattle.shore_locks.specs.Tables.{Table, mode_held, waiting_request}
 use Rattle.shore_path.specs.declared.answers.Acquired.TheVariants as acquire
 use Rattle.shore_path.specs.declared.answers.OnConflict.{OnConflict}
@@ -64,3 +64,7 @@ GrowsAsAsked rs new t target mode =
     (g : Granule) →
     (mode_held t g new ≡ mode_held t g rs)
     ⊎ (Contains (path target) g × (mode_held t g new ≡ Some (aim (mode_held t g rs) (asked_of target mode g))))
+
+-- each request of others afterwards stood before, or is one that stood before with what it wanted held
+abbrev pub OthersOnlyGranted : List Request → List Request → ℕ → Type 0
+OthersOnlyGranted rs new t = All (λ r. (r.txn ≡ t) ⊎ (Contains rs r ⊎ Any (λ q. r ≡ granted q) rs)) new

@@ -6,7 +6,7 @@ ghost use Rattle.shore_model.specs.Locks.{path};
 ghost use Rattle.shore_model.specs.Modes.{is_allowed};
 ghost use Rattle.shore_locks.specs.Orderly.{IsOrderly};
 ghost use Rattle.shore_locks.specs.Tables.{is_waiting};
-ghost use Rattle.shore_path.specs.Acquires.{GrowsAsAsked, IsReached, MayRefuse, NoneWeaker, WaitsAt, WalkedSome};
+ghost use Rattle.shore_path.specs.Acquires.{GrowsAsAsked, IsReached, MayRefuse, NoneWeaker, OthersOnlyGranted, WaitsAt, WalkedSome};
 ghost use Rattle.shore_path.specs.Rooted.{AreRooted};
 ghost use Rattle.shore_path.specs.Walks as walks;
 
@@ -43,6 +43,7 @@ pub fn acquire(
     ensures refused { IfErr result (MayRefuse on_conflict table.new txn target mode) }
     ensures bad_mode { IsFalse (is_allowed (level_of target) mode) → (result ≡ Err Fault.BadMode) × (table.new ≡ table.old) }
     ensures grows { GrowsAsAsked table.old.requests table.new.requests txn target mode }
+    ensures others { OthersOnlyGranted table.old.requests table.new.requests txn }
     ensures none_weaker { NoneWeaker table.old.requests table.new.requests }
     ensures rooted { AreRooted table.old.requests → AreRooted table.new.requests }
 {

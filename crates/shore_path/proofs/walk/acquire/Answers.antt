@@ -3,7 +3,7 @@ use Rattle.shore_types.specs.declared.faults.Fault.TheVariants as fault
 use Rattle.shore_model.specs.Locks.{path}
 use Rattle.shore_path.specs.Acquires.{WalkedSome}
 use Rattle.shore_path.specs.Walks.{ComesTo, walk}
-use Rattle.shore_path.proofs.Acquiring.{told_done, told_grows, told_none_weaker, told_quiet, told_refused, told_rooted, told_waiting}
+use Rattle.shore_path.proofs.Acquiring.{told_done, told_grows, told_none_weaker, told_others, told_quiet, told_refused, told_rooted, told_waiting}
 use Rattle.shore_path.proofs.walk.acquire.Goals as goal
 use Rattle.shore_path.proofs.walk.acquire.Goals.{Joined-path}
 
@@ -39,6 +39,10 @@ returns-clause-refused c =
 pub returns-clause-grows : goal.returns-clause-grows
 returns-clause-grows c =
     told_grows c.args.on_conflict c.args.txn c.args.target c.args.mode c.args.table.now c.walk.new.table c.walk.result c.nodes-nodes.ensures.orderly c.requires (asked c) (some c)
+
+pub returns-clause-others : goal.returns-clause-others
+returns-clause-others c =
+    told_others c.args.on_conflict c.args.txn c.args.target c.args.mode c.args.table.now c.walk.new.table c.walk.result c.nodes-nodes.ensures.orderly c.requires (asked c) (some c)
 
 pub returns-clause-none_weaker : goal.returns-clause-none_weaker
 returns-clause-none_weaker c =
