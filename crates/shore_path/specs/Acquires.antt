@@ -47,7 +47,7 @@ MayRefuse c table t target mode (fault.WouldBlock holder) = (c ≡ Refuse) × Is
 MayRefuse c table t target mode fault.Memory = Unit {0}
 MayRefuse c table t target mode _ = ⊥
 
--- the table is left as a walk over a beginning of these granules leaves it, which none of them stopped
+-- the table is left as a walk over a beginning of these granules leaves it, one that came to Done
 abbrev pub WalkedSome : OnConflict → Table → Table → ℕ → Granule → Mode → List Granule → Type 0
 WalkedSome c old new t target mode granules =
     (n : ℕ) × (n < length granules)
