@@ -1,6 +1,6 @@
 -- The use of the pages, counted record by record in place order.
 use Rattle.std.proofs.Common.{◌≡◌, ◌+◌, ◌≤◌, ℕ, List, [], ◌∷◌, ◌++◌, Bool, true, false, cond, Option, Some, None, length, inl, inr, refl, sym, ap, subst, ◌∙◌, arith, append_assoc, append-nil}
-use Rattle.std.specs.Prelude.{is_some, max, ◌&&◌, T}
+use Rattle.std.specs.Prelude.{IsSomeAnd, is_some, max, ◌&&◌, T}
 use Rattle.std.specs.declared.cmp.Ordering.{Ordering}
 use Rattle.std.specs.declared.cmp.Ordering.TheVariants.{Less, Equal, Greater}
 use Rattle.std.specs.Ordering.{eq_by_cmp, is_eq, is_lt, ordering_reverse}
@@ -10,10 +10,11 @@ use Rattle.shore_types.specs.declared.ids.PageId.{PageId}
 use Rattle.shore_types.specs.declared.ids.Rid.{Rid}
 use Rattle.shore_types.specs.declared.layout.Geometry.{Geometry}
 use Rattle.shore_types.specs.Ids.{rid_cmp, rids_total}
-use Rattle.shore_model.specs.Records.{Records}
+use Rattle.shore_model.specs.Records.{Records, IsRecord}
 use Rattle.shore_core.specs.declared.place.PageUse.{PageUse}
 use Rattle.shore_core.specs.declared.uses.PageUses.{PageUses}
-use Rattle.shore_machine.specs.Pages.{is_page, lying_on, bytes_of, slots_of, slots_on, bytes_on, FitPages}
+use Rattle.shore_machine.specs.Pages.{is_page, lying_on, bytes_of, slots_of, slots_on, bytes_on, FitPages, FitsPage}
+use Rattle.shore_core.specs.RecordMaps.{IsMisfit}
 use Rattle.shore_core.specs.Uses.{Adds, Counts, HasNoRoom, IsUnused, page_counts, use_at}
 use Rattle.shore_core.proofs.UseLemmas.{use_of_page}
 use Rattle.shore_core.proofs.PageLemmas.{Gains-push, bytes-cons, slots-cons, counts_with, counts_same, find-push, is_page-refl, is_page-same, same_some, tied}
@@ -125,16 +126,33 @@ module _ {all left : List (Rid × List ℕ)} {uses : PageUses} (h : CountedFrom 
   pub next_there : get R id ≡ Some bytes
   next_there = get-entries R id ∙ ap (find rid_cmp id) parts ∙ found_at h.done id bytes rest (ap (is_sorted rid_cmp) (sym parts) ∙ is_so (is_sorted rid_cmp (entries R)) (entries_sorted R))
 
-  -- a record that is refused has no room with the others
-  pub refused_right : HasNoRoom uses id (length bytes) → (g : Geometry) → page_counts uses ≡ g.stores → FitPages g R → ⊥
-  refused_right no_room g on fits =
+  -- a record that is refused is outside the geometry, or has no room with the others of its page
+  pub refused_right : HasNoRoom uses id (length bytes) → (g : Geometry) → page_counts uses ≡ g.stores → IsRecord g id bytes → FitsPage R id.page → ⊥
+  refused_right no_room g on there page =
       let p = id.page in
-      let there = fits.are_records id bytes next_there in
       let slots : slots_on p R ≡ max (slots_of (lying_on p h.done)) (slots_of (lying_on p ((id, bytes) ∷ rest))) = ap (λ es. slots_of (lying_on p es)) parts ∙ slots-append p h.done ((id, bytes) ∷ rest) in
       let bytes_there : bytes_on p R ≡ bytes_of (lying_on p h.done) + bytes_of (lying_on p ((id, bytes) ∷ rest)) = ap (λ es. bytes_of (lying_on p es)) parts ∙ bytes-append p h.done ((id, bytes) ∷ rest) in
       let next_slots : slots_of (lying_on p ((id, bytes) ∷ rest)) ≡ max (id.slot + 1) (slots_of (lying_on p rest)) = slots-cons p (id, bytes) rest ∙ ap (λ b. max (cond b (id.slot + 1) 0) (slots_of (lying_on p rest))) (is_page-refl p) in
       let next_bytes : bytes_of (lying_on p ((id, bytes) ∷ rest)) ≡ length bytes + bytes_of (lying_on p rest) = bytes-cons p (id, bytes) rest ∙ ap (λ b. cond b (length bytes) 0 + bytes_of (lying_on p rest)) (is_page-refl p) in
-      let page = fits.pages p in
       some_use (use_at uses p) (use_of_page g uses on p there.0.0) (λ used e.
       let counts = h.counted p used e in
       no_room there.1 used e (omega (arith, counts.slots, slots, next_slots, page.few)) (omega (arith, counts.slots, counts.bytes, slots, next_slots, bytes_there, next_bytes, page.within)))
+
+-- ---- a record that has no room
+
+pub is_misfit : (g : Geometry) (R : Records) (id : Rid) (bytes : List ℕ) → get R id ≡ Some bytes → (IsRecord g id bytes → FitsPage R id.page → ⊥) → IsMisfit g R id
+is_misfit g R id bytes there unfit = subst (λ (o : Option (List ℕ)). IsSomeAnd o (λ b. IsRecord g id b → FitsPage R id.page → ⊥)) (sym there) unfit
+
+pub misfit_there : (g : Geometry) (R : Records) (id : Rid) → IsMisfit g R id → is_some (get R id) ≡ true
+misfit_there g R id misfit = there (get R id) (λ bytes. IsRecord g id bytes → FitsPage R id.page → ⊥) misfit
+  where
+    there : (o : Option (List ℕ)) (P : List ℕ → Type 0) → IsSomeAnd o P → is_some o ≡ true
+    there (Some bytes) P p = refl
+    there None P p = absurd p
+
+pub misfit_unfit : (g : Geometry) (R : Records) (id : Rid) → IsMisfit g R id → FitPages g R → ⊥
+misfit_unfit g R id misfit fits = unfit (get R id) misfit (λ bytes is. fits.are_records id bytes is)
+  where
+    unfit : (o : Option (List ℕ)) → IsSomeAnd o (λ bytes. IsRecord g id bytes → FitsPage R id.page → ⊥) → ((bytes : List ℕ) → o ≡ Some bytes → IsRecord g id bytes) → ⊥
+    unfit (Some bytes) p there = p (there bytes refl) (fits.pages id.page)
+    unfit None p there = p

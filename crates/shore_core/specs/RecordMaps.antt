@@ -1,8 +1,10 @@
 -- The records that a record map has in place, and where it puts a new one.
-use Rattle.std.specs.Prelude.{◌≡◌, ℕ, List, Some, None}
+use Rattle.std.specs.Prelude.{◌≡◌, ℕ, List, Some, None, IsSomeAnd}
 use Rattle.std.specs.FinMap.{entries, get, insert}
 use Rattle.shore_types.specs.declared.layout.Geometry.{Geometry}
-use Rattle.shore_model.specs.Records.{Records}
+use Rattle.shore_types.specs.declared.ids.Rid.{Rid}
+use Rattle.shore_model.specs.Records.{Records, IsRecord}
+use Rattle.shore_machine.specs.Pages.{FitsPage}
 use Rattle.shore_core.specs.declared.records.Place.{Place}
 use Rattle.shore_core.specs.declared.records.RecordMap.{RecordMap}
 use Rattle.shore_core.specs.Uses.{Counts, IsWith, page_counts, use_at}
@@ -26,3 +28,7 @@ pub record WasPut (m : RecordMap) (place : Place) (R : Records) : Type 0 where
   pub empty : get R place.id ≡ None
   pub is : records_in m ≡ insert R place.id bytes
   pub before : Counts (entries R) place.id.page place.before
+
+-- the record at this id is too long or outside the geometry, or its page has no room for its records
+abbrev pub IsMisfit : Geometry → Records → Rid → Type 0
+IsMisfit g R id = IsSomeAnd (get R id) (λ bytes. IsRecord g id bytes → FitsPage R id.page → ⊥)

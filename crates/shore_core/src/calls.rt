@@ -12,10 +12,11 @@ ghost use Rattle.shore_core.specs.declared.calls.TheConstants.{LAST_LSN, LAST_OP
 ghost use Rattle.shore_types.specs.declared.layout.TheConstants.{MAX_LOG_BYTES};
 ghost use Rattle.shore_machine.specs.Pages.{FitPages};
 ghost use Rattle.shore_core.specs.Bounds.{AreInBounds, InBounds, IsBounded};
-ghost use Rattle.shore_core.specs.Opened.{ChangesAt, cost_of_log};
-ghost use Rattle.shore_core.specs.RecordMaps.{IsOn};
+ghost use Rattle.shore_core.specs.Opened.{IsLastChange, cost_of_log};
+ghost use Rattle.shore_core.specs.RecordMaps.{IsMisfit, IsOn};
 ghost use Rattle.shore_core.specs.Room.{Admits};
 ghost use Rattle.shore_model.specs.declared.log_records.LogRecord.{LogRecord};
+ghost use Rattle.shore_model.specs.Logs.{told};
 ghost use Rattle.shore_machine.specs.Served.{IsServed};
 ghost use Rattle.shore_machine.specs.Trails.{IsOpened};
 ghost use Rattle.shore_machine.specs.Steps.{CallStep, ResumeStep, told_durable, with_failure};
@@ -346,8 +347,9 @@ impl Core<PlainTail> {
         ensures fits { IfOk result (λ core. FitPages geometry (state_of log.now core).records) }
         ensures room { size ≤ MAX_LOG_BYTES → IfOk result (λ core. (state_of log.now core).room ≡ record { kept = cost_of_log log.now; reserved = 0; stream = size }) }
 
-        // A refusal names a record that changes the id whose record has no room, or the log is out of bounds as a whole.
-        ensures bad { (n : ℕ) → result ≡ Err (OpenError.BadRecord n) → (id : Rid) × ChangesAt log.now id n }
+        // A refusal names the last change of a record that has no room, or the pages have room.
+        ensures bad { (n : ℕ) → result ≡ Err (OpenError.BadRecord n) → (id : Rid) × IsMisfit geometry (told log.now) id × IsLastChange log.now id n }
+        ensures no_room { result ≡ Err OpenError.NoRoom → FitPages geometry (told log.now) }
 
         // A log that is in bounds gives a core, unless memory is wanting; where each of its beginnings is, so is the core.
         ensures bounded { size ≤ MAX_LOG_BYTES → AreInBounds geometry size log.now → IfOk result (λ core. IsBounded geometry size (state_of log.now core)) }

@@ -57,14 +57,14 @@ pub struct RecordMap {
 }
 
 impl RecordMap {
-    ghost use Rattle.shore_core.specs.RecordMaps.{IsOn, IsPlace, WasPut, records_in};
+    ghost use Rattle.shore_core.specs.RecordMaps.{IsMisfit, IsOn, IsPlace, WasPut, records_in};
     ghost use Rattle.shore_machine.specs.Pages.{StandsFirst};
 
     /// These records, on the pages of a geometry. Refused by the id of one that is too long, or whose page is not there or has no
     /// room for it.
     pub fn of(alloc: Global, geometry: &Geometry, map: RidMap<Bytes>) -> Result<RecordMap, Misfit>
         ensures ok { IfOk result (λ m. (records_in m ≡ map) × IsOn geometry.now m) }
-        ensures misfit { (id : Rid) → result ≡ Err (Misfit.At id) → (¬ FitPages geometry.now map) × IsSome (maps.get map id) }
+        ensures misfit { (id : Rid) → result ≡ Err (Misfit.At id) → IsMisfit geometry.now map id }
     {
         let mut uses = PageUses::new(alloc, geometry)?;
         for (id, bytes) in map.iter() {

@@ -1,10 +1,11 @@
 //! What an open makes of the log: the records that it tells, and the sums.
-ghost use Rattle.std.specs.Prelude.{◌≡◌, ◌≤◌, ◌<◌, ◌-◌, ◌^◌, ℕ, ◌≢◌, ◌↔◌, Err, Some, IsTrue, IfOk, IfErr, All, min};
-ghost use Rattle.shore_core.specs.Opened.{ChangesAt, cost_of_log};
+ghost use Rattle.std.specs.Prelude.{◌≡◌, ◌≤◌, ◌<◌, ◌-◌, ◌^◌, ℕ, ◌≢◌, ◌↔◌, Err, Some, IsTrue, IfOk, IfErr, All, length, min};
+ghost use Rattle.std.specs.List.{AllWithin};
+ghost use Rattle.shore_core.specs.Opened.{ChangesAt, IsLastChange, cost_of_log};
 ghost use Rattle.shore_logrec.specs.Text.{Fits};
 ghost use Rattle.shore_core.specs.declared.replay.OpenError.TheVariants.{Memory, NoRoom, BadRecord};
 ghost use Rattle.shore_machine.specs.Pages.{FitPages};
-ghost use Rattle.shore_core.specs.RecordMaps.{IsOn, records_in};
+ghost use Rattle.shore_core.specs.RecordMaps.{IsMisfit, IsOn, records_in};
 ghost use Rattle.shore_model.specs.Logs.{id_in, told};
 ghost use Rattle.shore_types.specs.declared.ids.Rid.{Rid};
 
@@ -45,7 +46,7 @@ pub fn replay(alloc: Global, geometry: &Geometry, log: &[LogRecord]) -> Result<R
 
     // Where the pages have room for what the log tells, only memory may be wanting.
     ensures earned { FitPages geometry.now (told log.now) → IfErr result (λ error. error ≡ Memory) }
-    ensures bad { (n : ℕ) → result ≡ Err (BadRecord n) → (id : Rid) × ChangesAt log.now id n }
+    ensures bad { (n : ℕ) → result ≡ Err (BadRecord n) → (id : Rid) × IsMisfit geometry.now (told log.now) id × IsLastChange log.now id n }
     ensures cause { IfErr result (λ error. error ≢ NoRoom) }
 {
     let told = records_told(alloc, log)?;
@@ -59,7 +60,7 @@ pub fn replay(alloc: Global, geometry: &Geometry, log: &[LogRecord]) -> Result<R
 // The number of the last record that changes an id, 0 where there is none.
 fn last_change(log: &[LogRecord], id: &Rid) -> Lsn
     ensures change { 0 < result → ChangesAt log.now id.now result }
-    ensures none { result ≡ 0 → All (λ r. id_in r.payload ≢ Some id.now) log.now }
+    ensures last { AllWithin (λ r. id_in r.payload ≢ Some id.now) log.now result (length log.now) }
 {
     let mut last = 0;
     for place in 0..log.len() {

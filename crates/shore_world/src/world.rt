@@ -8,7 +8,10 @@ ghost use Rattle.shore_disk.specs.Cause.{HasCause};
 ghost use Rattle.shore_log.specs.Frames.{Gives};
 ghost use Rattle.shore_types.specs.declared.ids.Rid.{Rid};
 ghost use Rattle.shore_types.specs.declared.faults.Device.TheVariants as Device;
-ghost use Rattle.shore_core.specs.Opened.{ChangesAt};
+ghost use Rattle.shore_core.specs.Opened.{IsLastChange};
+ghost use Rattle.shore_core.specs.RecordMaps.{IsMisfit};
+ghost use Rattle.shore_machine.specs.Pages.{FitPages};
+ghost use Rattle.shore_model.specs.Logs.{told};
 ghost use Rattle.shore_log.specs.Places.{IsFrameOf};
 ghost use Rattle.shore_log.specs.Settled.{list_of, stable, IsSettled};
 ghost use Rattle.shore_log.specs.PlainTails.{first_of, waiting_in};
@@ -244,7 +247,8 @@ fn open_core<D: Disk>(
 ) -> Result<Core<PlainTail>, OpenError>
     requires { stable log.now ≡ list_of log.now }
     ensures opened { IfOk result (λ core. IsOpened (list_of log.now) (state_of (list_of log.now) core)) }
-    ensures bad { (n : ℕ) → result ≡ Err (OpenError.BadRecord n) → (id : Rid) × ChangesAt (list_of log.now) id n }
+    ensures bad { (n : ℕ) → result ≡ Err (OpenError.BadRecord n) → (id : Rid) × IsMisfit geometry (told (list_of log.now)) id × IsLastChange (list_of log.now) id n }
+    ensures no_room { result ≡ Err OpenError.NoRoom → FitPages geometry (told (list_of log.now)) }
     ensures in_bounds { log.now.limit ≤ MAX_LOG_BYTES → InBounds geometry (log.now.limit - 4096) (list_of log.now) → IfErr result (λ error. error ≡ OpenError.Memory) }
     ensures bounded { log.now.limit ≤ MAX_LOG_BYTES → AreInBounds geometry (log.now.limit - 4096) (list_of log.now)
         → IfOk result (λ core. IsBounded geometry (log.now.limit - 4096) (state_of (list_of log.now) core)) }

@@ -1,4 +1,4 @@
-use Rattle.std.proofs.Common.{◌≡◌, ◌≢◌, ◌<◌, ◌≤◌, Some}
+use Rattle.std.proofs.Common.{◌≢◌, ◌<◌, ◌≤◌, Some}
 use Rattle.std.specs.List.{AllWithin}
 use Rattle.shore_model.specs.declared.log_records.LogRecord.{LogRecord}
 use Rattle.shore_model.specs.Logs.{id_in}
@@ -9,5 +9,5 @@ abbrev pub invariant-loop-place : goal.invariant-loop-place
 invariant-loop-place l = record {
   so_far : l.last ≤ l.place;
   change : 0 < l.last → ChangesAt l.log l.id l.last;
-  none : l.last ≡ 0 → AllWithin (λ (r : LogRecord). id_in r.payload ≢ Some l.id) l.log 0 l.place;
+  later : AllWithin (λ (r : LogRecord). id_in r.payload ≢ Some l.id) l.log l.last l.place;
 }

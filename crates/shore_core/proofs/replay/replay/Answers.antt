@@ -1,9 +1,15 @@
-use Rattle.std.proofs.Common.{◌≡◌, ◌<◌, true, false, Err, None, sym, ap, subst, ◌∙◌, arith}
+use Rattle.std.proofs.Common.{◌≡◌, ◌≢◌, ◌<◌, true, false, Err, Some, None, length, sym, ap, subst, ◌∙◌, arith}
 use Rattle.std.specs.Prelude.{is_some, nat_lt}
 use Rattle.std.specs.FinMap.{get}
+use Rattle.std.specs.List.{AllWithin}
+use Rattle.std.proofs.lemmas.List.Elements.{All-from_all_within}
 use Rattle.std.proofs.lemmas.Bool.{ltb-true, ltb-false}
+use Rattle.shore_model.specs.Logs.{id_in}
 use Rattle.shore_model.specs.Records.{Records}
-use Rattle.shore_core.specs.Opened.{ChangesAt}
+use Rattle.shore_model.specs.declared.log_records.LogRecord.{LogRecord}
+use Rattle.shore_core.specs.Opened.{IsLastChange}
+use Rattle.shore_core.specs.RecordMaps.{IsMisfit}
+use Rattle.shore_core.proofs.BuildLemmas.{misfit_there, misfit_unfit}
 use Rattle.shore_machine.specs.Pages.{FitPages}
 use Rattle.shore_core.proofs.FitLemmas.{fits_pages}
 use Rattle.shore_core.proofs.KeepLemmas.{by_test}
@@ -12,21 +18,28 @@ use Rattle.shore_core.proofs.replay.replay.Goals as goal
 
 pub returns-in-Err-At-clause-earned : goal.returns-in-Err-At-clause-earned
 returns-in-Err-At-clause-earned c fits =
-    absurd ((c.in-Err-At.ensures.misfit c.in-Err-At.id (ap Err c.in-Err-At.field-0-is)).0 (subst (FitPages c.args.geometry.now) (sym c.in_ok-told.ensures) fits))
+    absurd (misfit_unfit c.args.geometry.now c.in_ok-told.told c.in-Err-At.id (c.in-Err-At.ensures.misfit c.in-Err-At.id (ap Err c.in-Err-At.field-0-is)) (subst (FitPages c.args.geometry.now) (sym c.in_ok-told.ensures) fits))
 
 pub returns-in-Err-At-clause-bad : goal.returns-in-Err-At-clause-bad
 returns-in-Err-At-clause-bad c n is =
     let log = c.args.log.now in
+    let g = c.args.geometry.now in
     let id = c.in-Err-At.id in
     let last = c.last_change.result in
     let same : last ≡ n = cc in
-    let there : is_some (get c.in_ok-told.told id) ≡ true = (c.in-Err-At.ensures.misfit id (ap Err c.in-Err-At.field-0-is)).1 in
+    let misfit = c.in-Err-At.ensures.misfit id (ap Err c.in-Err-At.field-0-is) in
+    let there : is_some (get c.in_ok-told.told id) ≡ true = misfit_there g c.in_ok-told.told id misfit in
+    let none_behind = c.last_change.ensures.last in
     let some : 0 < last = by_test (nat_lt 0 last) (λ t. ltb-true 0 last t) (λ t.
     let zero_is : last ≡ 0 = omega (arith, ltb-false 0 last t) in
-    let none : get c.in_ok-told.told id ≡ None = ap (λ (R : Records). get R id) c.in_ok-told.ensures ∙ untold log id c.requires (c.last_change.ensures.none zero_is) in
+    let all = All-from_all_within (λ (r : LogRecord). id_in r.payload ≢ Some id) log (subst (λ k. AllWithin (λ (r : LogRecord). id_in r.payload ≢ Some id) log k (length log)) zero_is none_behind) in
+    let none : get c.in_ok-told.told id ≡ None = ap (λ (R : Records). get R id) c.in_ok-told.ensures ∙ untold log id c.requires all in
     let no : is_some (get c.in_ok-told.told id) ≡ false = ap is_some none in
-    absurd cc) in
-    (id, subst (ChangesAt log id) same (c.last_change.ensures.change some))
+    absurd cc) in (
+      id,
+      subst (λ (R : Records). IsMisfit g R id) c.in_ok-told.ensures misfit,
+      subst (IsLastChange log id) same (record { change = c.last_change.ensures.change some; last = none_behind }),
+    )
 
 pub returns-in-Ok-clause-fits : goal.returns-in-Ok-clause-fits
 returns-in-Ok-clause-fits c = let k = c.in-Ok.ensures.ok in fits_pages c.args.geometry.now c.in-Ok.records c.in-Ok.ensures.ok.1

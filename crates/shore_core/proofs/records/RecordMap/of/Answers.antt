@@ -1,9 +1,8 @@
-use Rattle.std.proofs.Common.{◌≡◌, List, ℕ, refl, ap, subst, ◌∙◌, length}
-use Rattle.std.specs.Prelude.{IsSome, is_some}
-use Rattle.std.specs.FinMap.{entries, get}
-use Rattle.shore_types.specs.declared.ids.Rid.{Rid}
+use Rattle.std.proofs.Common.{◌≡◌, List, ℕ, refl, subst, ◌∙◌, length}
+use Rattle.std.specs.FinMap.{entries}
+use Rattle.shore_core.specs.RecordMaps.{IsMisfit}
 use Rattle.shore_core.specs.Uses.{Adds, HasNoRoom}
-use Rattle.shore_core.proofs.BuildLemmas.{CountedFrom-none, CountedFrom-more, CountedFrom-all, next_there, refused_right}
+use Rattle.shore_core.proofs.BuildLemmas.{CountedFrom-none, CountedFrom-more, CountedFrom-all, next_there, refused_right, is_misfit}
 use Rattle.shore_core.proofs.records.RecordMap.of.Goals as goal
 
 pub loop-id-init : goal.loop-id-init
@@ -23,10 +22,9 @@ returns-then-not-add-clause-misfit c id is =
     let same : c.into_iter-id-iterator.result ≡ entries c.args.map = c.into_iter-id-iterator.ensures.into_iter_gives ∙ c.iter-id-items.ensures in
     let here : c.in-Some.id.now ≡ id = cc in
     let no_room = subst (λ (bytes : List ℕ). HasNoRoom c.loop-id.uses c.in-Some.id.now (length bytes)) c.as_slice.ensures (c.if-not-add.ensures.refused refl) in
-    let there = next_there so_far c.in-Some.id.now c.in-Some.bytes.now c.next.new.self c.in-Some.ensures.steps c.args.map same in (
-      refused_right so_far c.in-Some.id.now c.in-Some.bytes.now c.next.new.self c.in-Some.ensures.steps c.args.map same no_room c.args.geometry.now c.loop-id.invariant.pages,
-      subst (λ (q : Rid). IsSome (get c.args.map q)) here (ap is_some there),
-    )
+    let there = next_there so_far c.in-Some.id.now c.in-Some.bytes.now c.next.new.self c.in-Some.ensures.steps c.args.map same in
+    let unfit = refused_right so_far c.in-Some.id.now c.in-Some.bytes.now c.next.new.self c.in-Some.ensures.steps c.args.map same no_room c.args.geometry.now c.loop-id.invariant.pages in
+    subst (IsMisfit c.args.geometry.now c.args.map) here (is_misfit c.args.geometry.now c.args.map c.in-Some.id.now c.in-Some.bytes.now there unfit)
 
 pub invariant_of-result : goal.invariant_of-result
 invariant_of-result c =
