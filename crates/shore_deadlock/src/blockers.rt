@@ -1,14 +1,12 @@
 //! Whom a transaction waits for.
 ghost use Rattle.std.specs.Prelude.{◌≡◌, ◌++◌, OnOk};
 ghost use Rattle.shore_locks.specs.Tables.{holders_at, waiters_at};
-ghost use Rattle.shore_locks.specs.Grants as steps;
 ghost use Rattle.shore_deadlock.specs.Blockers as blockers;
 ghost use Rattle.shore_deadlock.specs.Blockers.{refusing, refusing_one, nearest};
 
 use crate::victims::Victim;
-use shore_locks::LockTable;
+use shore_locks::{LockTable, refuses};
 use shore_model::Request;
-use shore_modes::grants;
 use shore_types::TxnId;
 use std::alloc::AllocError;
 
@@ -75,15 +73,6 @@ fn push_refusing(
         out.push(other.txn)?;
     }
     Ok(())
-}
-
-fn refuses(waiter: &Request, other: &Request) -> bool
-    ensures { result ≡ steps.refuses waiter.now other.now }
-{
-    match (waiter.wanted, other.held) {
-        (Some(asked), Some(held)) => other.txn != waiter.txn && !grants(held, asked),
-        _ => false,
-    }
 }
 
 // The last before the waiter in its queue who is no victim.

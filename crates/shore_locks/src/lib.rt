@@ -17,5 +17,6 @@ mod tests;
 mod walks;
 
 pub use answers::{Requested, Tried};
+pub use judgements::refuses;
 pub use queues::{Holders, Waiters};
 pub use table::LockTable;
