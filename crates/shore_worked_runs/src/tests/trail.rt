@@ -128,7 +128,12 @@ impl Trail {
         self.ok(session, txn, Call::Get(rid(slot)), Answer::Got(got))
     }
 
-    pub(super) fn get_absent(&mut self, session: u32, txn: u64, slot: u16) -> Result<(), AllocError> {
+    pub(super) fn get_absent(
+        &mut self,
+        session: u32,
+        txn: u64,
+        slot: u16,
+    ) -> Result<(), AllocError> {
         self.refused(session, txn, Call::Get(rid(slot)), Fault::NoRecord)
     }
 
@@ -155,7 +160,12 @@ impl Trail {
     }
 
     /// The decision's record, and the answer.
-    pub(super) fn prepare(&mut self, session: u32, txn: u64, global: &[u8]) -> Result<(), AllocError> {
+    pub(super) fn prepare(
+        &mut self,
+        session: u32,
+        txn: u64,
+        global: &[u8],
+    ) -> Result<(), AllocError> {
         let decision = Decision::Prepare(TxnId(txn), bytes(self.alloc, global)?);
         self.decided(decision)?;
         let call = Call::Prepare(bytes(self.alloc, global)?);
