@@ -3,6 +3,7 @@ mod choices;
 mod comparison;
 mod cycle_runs;
 mod path_runs;
+mod rows;
 mod shown;
 mod table_runs;
 mod twin;
