@@ -10,15 +10,6 @@ ghost use Rattle.shore_locks.specs.Grants.{after_request, after_try, answer_to, 
 ghost use Rattle.shore_locks.specs.Tables.{Table, is_waiting};
 ghost use Rattle.shore_deadlock.specs.Cycles.{IsOnEachCycle};
 
-use shore_locks::LockTable;
-
-/// The requests of each table are orderly, as what a table says of its nodes says too.
-pub fn tables_are_orderly(table: &LockTable)
-    ensures { IsOrderly table.now.requests }
-{
-    let _nodes = table.nodes();
-}
-
 /// Where a transaction waits no more, nobody waits for somebody for whom he did not wait before.
 pub fn cancel_adds_no_wait()
     ensures { (rs : List Request) (t a b : ℕ) → IsOrderly rs → WaitsFor (cancelled t rs) a b → WaitsFor rs a b }

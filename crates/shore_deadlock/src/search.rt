@@ -5,10 +5,10 @@ ghost use Rattle.shore_deadlock.specs.Blockers.{AreNoVictims};
 ghost use Rattle.shore_deadlock.specs.Cycles.{IsSimpleCycleFrom, IsOnNoCycle, IsOnNoCycleWithout};
 
 use crate::blockers::{is_victim, list_blockers};
-use crate::laws::tables_are_orderly;
 use crate::trails::{Step, extend, path_to};
 use crate::victims::Victim;
 use shore_locks::LockTable;
+use shore_locks::laws::tables_are_orderly;
 use shore_types::{Fault, Sequence, TxnId};
 use std::alloc::{AllocError, Global};
 

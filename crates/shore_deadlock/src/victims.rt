@@ -5,9 +5,9 @@ ghost use Rattle.shore_model.specs.Requests.{HasNoCycle};
 ghost use Rattle.shore_locks.specs.Tables.{is_waiting};
 ghost use Rattle.shore_deadlock.specs.Cycles.{AreVictims, IsOnEachCycle, IsOnNoCycle, IsOnNoCycleWithout, after_victims};
 
-use crate::laws::tables_are_orderly;
 use crate::search::cycle_without;
 use shore_locks::LockTable;
+use shore_locks::laws::tables_are_orderly;
 use shore_types::{Fault, Sequence, TxnId};
 use std::alloc::Global;
 

@@ -9,6 +9,15 @@ ghost use Rattle.shore_locks.specs.Grants.{cancelled, passed, released};
 ghost use Rattle.shore_locks.specs.Tables.{Table, is_waiting};
 ghost use Rattle.shore_locks.specs.Laws.{BlockedByOneInTheWay, FirstWaitersAreRefused, GrantedIsHeld, GrantsABeginning, OnlyGrants, RefusedChangesNothing, StaysQuiet, WaitsForSomebody, of_others, owners};
 
+use crate::table::LockTable;
+
+/// The requests of each table are orderly.
+pub fn tables_are_orderly(table: &LockTable)
+    ensures { IsOrderly table.now.requests }
+{
+    let _nodes = table.nodes();
+}
+
 /// In a table the first waiter of each queue has another holder that refuses it.
 pub fn first_waiters_are_refused()
     ensures { (rs : List Request) → IsOrderly rs → FirstWaitersAreRefused rs }

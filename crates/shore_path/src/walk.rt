@@ -12,6 +12,7 @@ ghost use Rattle.shore_path.specs.Walks as walks;
 
 use crate::answers::{Acquired, OnConflict};
 use crate::paths::path_to;
+use shore_locks::laws::tables_are_orderly;
 use shore_locks::{LockTable, Requested, Tried};
 use shore_modes::{allowed, covers, parent_mode};
 use shore_types::{Fault, Granule, Mode, TxnId};
@@ -51,8 +52,7 @@ pub fn acquire(
     if !allowed(target.level(), mode) {
         return Err(Fault::BadMode);
     }
-    // What it ensures says that the table is orderly.
-    let _nodes = table.nodes();
+    tables_are_orderly(table);
     let path = path_to(alloc, *target);
     walk(table, txn, target, mode, on_conflict, path.as_slice())
 }

@@ -22,32 +22,32 @@ some c wanting = subst (WalkedSome c.args.on_conflict c.args.table.now c.walk.ne
 
 pub returns-clause-done : goal.returns-clause-done
 returns-clause-done c =
-    told_done c.args.on_conflict c.args.txn c.args.target c.args.mode c.args.table.now c.walk.new.table c.walk.result c.nodes-nodes.ensures.orderly c.requires (asked c) (some c)
+    told_done c.args.on_conflict c.args.txn c.args.target c.args.mode c.args.table.now c.walk.new.table c.walk.result c.tables_are_orderly.ensures c.requires (asked c) (some c)
 
 pub returns-clause-waiting : goal.returns-clause-waiting
 returns-clause-waiting c =
-    told_waiting c.args.on_conflict c.args.txn c.args.target c.args.mode c.args.table.now c.walk.new.table c.walk.result c.nodes-nodes.ensures.orderly c.requires (asked c) (some c)
+    told_waiting c.args.on_conflict c.args.txn c.args.target c.args.mode c.args.table.now c.walk.new.table c.walk.result c.tables_are_orderly.ensures c.requires (asked c) (some c)
 
 pub returns-clause-quiet : goal.returns-clause-quiet
 returns-clause-quiet c =
-    told_quiet c.args.on_conflict c.args.txn c.args.target c.args.mode c.args.table.now c.walk.new.table c.walk.result c.nodes-nodes.ensures.orderly c.requires (asked c) (some c)
+    told_quiet c.args.on_conflict c.args.txn c.args.target c.args.mode c.args.table.now c.walk.new.table c.walk.result c.tables_are_orderly.ensures c.requires (asked c) (some c)
 
 pub returns-clause-refused : goal.returns-clause-refused
 returns-clause-refused c =
-    told_refused c.args.on_conflict c.args.txn c.args.target c.args.mode c.args.table.now c.walk.new.table c.walk.result c.nodes-nodes.ensures.orderly c.requires (asked c) (some c)
+    told_refused c.args.on_conflict c.args.txn c.args.target c.args.mode c.args.table.now c.walk.new.table c.walk.result c.tables_are_orderly.ensures c.requires (asked c) (some c)
 
 pub returns-clause-grows : goal.returns-clause-grows
 returns-clause-grows c =
-    told_grows c.args.on_conflict c.args.txn c.args.target c.args.mode c.args.table.now c.walk.new.table c.walk.result c.nodes-nodes.ensures.orderly c.requires (asked c) (some c)
+    told_grows c.args.on_conflict c.args.txn c.args.target c.args.mode c.args.table.now c.walk.new.table c.walk.result c.tables_are_orderly.ensures c.requires (asked c) (some c)
 
 pub returns-clause-others : goal.returns-clause-others
 returns-clause-others c =
-    told_others c.args.on_conflict c.args.txn c.args.target c.args.mode c.args.table.now c.walk.new.table c.walk.result c.nodes-nodes.ensures.orderly c.requires (asked c) (some c)
+    told_others c.args.on_conflict c.args.txn c.args.target c.args.mode c.args.table.now c.walk.new.table c.walk.result c.tables_are_orderly.ensures c.requires (asked c) (some c)
 
 pub returns-clause-none_weaker : goal.returns-clause-none_weaker
 returns-clause-none_weaker c =
-    told_none_weaker c.args.on_conflict c.args.txn c.args.target c.args.mode c.args.table.now c.walk.new.table c.walk.result c.nodes-nodes.ensures.orderly c.requires (asked c) (some c)
+    told_none_weaker c.args.on_conflict c.args.txn c.args.target c.args.mode c.args.table.now c.walk.new.table c.walk.result c.tables_are_orderly.ensures c.requires (asked c) (some c)
 
 pub returns-clause-rooted : goal.returns-clause-rooted
 returns-clause-rooted c =
-    told_rooted c.args.on_conflict c.args.txn c.args.target c.args.mode c.args.table.now c.walk.new.table c.walk.result c.nodes-nodes.ensures.orderly c.requires (asked c) (some c)
+    told_rooted c.args.on_conflict c.args.txn c.args.target c.args.mode c.args.table.now c.walk.new.table c.walk.result c.tables_are_orderly.ensures c.requires (asked c) (some c)
