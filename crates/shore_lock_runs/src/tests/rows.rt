@@ -1,11 +1,9 @@
-//! Worked runs of sessions that lock along paths: what each is told, whose wait is broken, and who goes on.
+//! Worked runs of sessions that lock along paths and close a cycle: what each is told, whose wait is broken, and who goes on.
 use shore_deadlock::{Victim, break_cycles};
 use shore_locks::LockTable;
 use shore_path::{Acquired, OnConflict, acquire};
 use shore_types::{Fault, Granule, Mode, PageId, Rid, StoreId, TxnId};
 use std::process::Abort;
-
-const STORE: Granule = Granule::Store(StoreId(0));
 
 const FIRST_PAGE: PageId = PageId {
     store: StoreId(0),
@@ -61,39 +59,6 @@ fn is_told(victims: &[Victim], cycle: &[TxnId]) -> bool {
 
 fn holds(table: &LockTable, txn: u64, granule: Granule, mode: Mode) -> bool {
     table.held(TxnId(txn), granule) == Some(mode)
-}
-
-// 1 asks for IX and SH on the store and holds SIX; 2's IS stands beside it, and 3's IX has to wait.
-#[test]
-fn conversion_to_six(rt: HostRuntime) -> Result<(), Fault> {
-    let mut table = LockTable::new(rt.alloc(), 16)?;
-    let asked = [
-        (1, STORE, Mode::IX, Acquired::Done),
-        (1, STORE, Mode::SH, Acquired::Done),
-        (2, STORE, Mode::IS, Acquired::Done),
-        (3, STORE, Mode::IX, Acquired::Waiting(STORE)),
-    ];
-    assert!(rt; play(&rt, &mut table, &asked)?.is_empty());
-    assert!(rt; holds(&table, 1, Granule::Volume, Mode::IX) && holds(&table, 1, STORE, Mode::SIX));
-    assert!(rt; holds(&table, 2, Granule::Volume, Mode::IS) && holds(&table, 2, STORE, Mode::IS));
-    assert!(rt; holds(&table, 3, Granule::Volume, Mode::IX) && table.nodes() == 6);
-    Ok(())
-}
-
-// 2 reads a record and 3 gets it for update; 4, a new reader, waits until 3 has ended, and then goes on.
-#[test]
-fn update_mode_refuses_new_readers(rt: HostRuntime) -> Result<(), Fault> {
-    let mut table = LockTable::new(rt.alloc(), 16)?;
-    let asked = [
-        (2, RECORD, Mode::SH, Acquired::Done),
-        (3, RECORD, Mode::UD, Acquired::Done),
-        (4, RECORD, Mode::SH, Acquired::Waiting(RECORD)),
-    ];
-    assert!(rt; play(&rt, &mut table, &asked)?.is_empty());
-    assert!(rt; table.release_all(TxnId(3)) == 4);
-    let resumed = [(4, RECORD, Mode::SH, Acquired::Done)];
-    assert!(rt; play(&rt, &mut table, &resumed)?.is_empty());
-    Ok(())
 }
 
 // 2 and 3 read a record and then want to update it. 3 is the victim; once it has ended 2 goes on.
