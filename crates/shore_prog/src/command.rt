@@ -39,7 +39,13 @@ pub fn parse(alloc: Global, line: &str) -> Result<Option<Command>, AllocError>
         return Ok(Some(Command::Nothing));
     }
     let words: Vec<&str> = line.split(' ').collect(alloc)?;
-    match words.as_slice() {
+    command_of(alloc, words.as_slice())
+}
+
+fn command_of(alloc: Global, words: &[&str]) -> Result<Option<Command>, AllocError>
+    ensures { IfOk result (λ found. IfSome found IsServedCommand) }
+{
+    match words {
         [session, call @ ..] if words::session(session) == Some(SESSION) => {
             match call_of(alloc, call)? {
                 Some(call) => Ok(Some(Command::Ask(call))),

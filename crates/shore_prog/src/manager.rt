@@ -57,21 +57,27 @@ impl Manager {
     ) -> Result<Manager, AllocError>
         requires { IsServedCommand command }
     {
-        match (self, command) {
-            (manager, Command::Nothing) => Ok(manager),
-            (manager, Command::Crash(pick)) => manager.crash(alloc, pick, out),
-            (manager, Command::Fuse(calls)) => Ok(manager.with_fuse(calls)),
-            (Manager::Closed(device), _) => {
+        match command {
+            Command::Nothing => Ok(self),
+            Command::Crash(pick) => self.crash(alloc, pick, out),
+            Command::Fuse(calls) => Ok(self.with_fuse(calls)),
+            command => self.serve(alloc, command, out),
+        }
+    }
+
+    // A line that an open manager answers, with all that follows from it; one that is refused answers that it failed.
+    fn serve(self, alloc: Global, command: Command, out: &mut String) -> Result<Manager, AllocError>
+        requires { IsServedCommand command }
+    {
+        match self {
+            Manager::Closed(device) => {
                 render::fault(out, None, &Fault::Failed)?;
                 Ok(Manager::Closed(device))
             }
-            (
-                Manager::Open {
-                    mut world,
-                    mut waits,
-                },
-                command,
-            ) => {
+            Manager::Open {
+                mut world,
+                mut waits,
+            } => {
                 answer(alloc, &mut world, &mut waits, command, out)?;
                 settle(alloc, &mut world, &mut waits, out)?;
                 Ok(Manager::Open { world, waits })

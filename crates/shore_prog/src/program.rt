@@ -57,11 +57,21 @@ pub fn run<R: Read + Drop, W: Write + Drop>(
     mut input: R,
     mut output: W,
 ) -> ExitCode {
+    let status = match read(alloc, &mut input) {
+        Some(text) => respond(alloc, &text, &mut output),
+        None => Status::Bad,
+    };
+    status.exit_code()
+}
+
+fn read<R: Read>(alloc: Global, input: &mut R) -> Option<Vec<u8>> {
     let mut text = Vec::new(alloc);
-    if input.read_to_end(&mut text).is_err() {
-        return Status::Bad.exit_code();
-    }
-    let status = match run_text(alloc, &text, &mut output) {
+    input.read_to_end(&mut text).ok()?;
+    Some(text)
+}
+
+fn respond<W: Write>(alloc: Global, text: &[u8], output: &mut W) -> Status {
+    match run_text(alloc, text, output) {
         Ok(status) => status,
         Err(Stop::Output) => Status::Bad,
         Err(Stop::Memory) => {
@@ -69,8 +79,7 @@ pub fn run<R: Read + Drop, W: Write + Drop>(
             let _ = output.flush();
             Status::Refused
         }
-    };
-    status.exit_code()
+    }
 }
 
 fn run_text<W: Write>(alloc: Global, text: &[u8], output: &mut W) -> Result<Status, Stop> {

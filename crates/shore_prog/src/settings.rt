@@ -39,29 +39,41 @@ pub fn read_settings(alloc: Global, text: &str) -> Result<Settings, Fault> {
     refuse_unknown(alloc, &table)?;
     check_devices(&table)?;
     check_files(&table)?;
-    let pair = number_or(&table, Setting::Pair, DEFAULT_PAIR)?;
-    let log_bytes = number_or(&table, Setting::LogBytes, DEFAULT_LOG_BYTES)?;
+    settings_of(alloc, &table)
+}
+
+fn settings_of(alloc: Global, table: &Table) -> Result<Settings, Fault> {
+    let pair = number_or(table, Setting::Pair, DEFAULT_PAIR)?;
+    let log_bytes = number_or(table, Setting::LogBytes, DEFAULT_LOG_BYTES)?;
     if log_bytes < MIN_LOG_BYTES || log_bytes > MAX_LOG_BYTES {
         return Err(refused(Setting::LogBytes));
     }
-    let stores = stores_of(alloc, &table)?;
-    let max_locks = short_number_or(&table, Setting::MaxLocks, DEFAULT_MAX_LOCKS);
-    let geometry = Geometry {
-        pair,
-        max_locks: max_locks.unwrap_or(0),
-        stores,
-    };
-    if let Some(setting) = geometry.outside_limits() {
-        return Err(refused(setting));
-    }
-    let pool = short_number_or(&table, Setting::Pool, DEFAULT_POOL_FRAMES)
-        .filter(|frames| (MIN_POOL_FRAMES..=MAX_POOL_FRAMES).contains(&(*frames as usize)))
-        .ok_or(refused(Setting::Pool))?;
+    let geometry = geometry_of(alloc, table, pair)?;
+    let pool = pool_of(table)?;
     Ok(Settings {
         geometry,
         log_bytes,
         pool,
     })
+}
+
+fn geometry_of(alloc: Global, table: &Table, pair: u64) -> Result<Geometry, Fault> {
+    let max_locks = short_number_or(table, Setting::MaxLocks, DEFAULT_MAX_LOCKS);
+    let geometry = Geometry {
+        pair,
+        max_locks: max_locks.unwrap_or(0),
+        stores: stores_of(alloc, table)?,
+    };
+    match geometry.outside_limits() {
+        Some(setting) => Err(refused(setting)),
+        None => Ok(geometry),
+    }
+}
+
+fn pool_of(table: &Table) -> Result<u32, Fault> {
+    short_number_or(table, Setting::Pool, DEFAULT_POOL_FRAMES)
+        .filter(|frames| (MIN_POOL_FRAMES..=MAX_POOL_FRAMES).contains(&(*frames as usize)))
+        .ok_or(refused(Setting::Pool))
 }
 
 const KNOWN: [Setting; 9] = [
