@@ -2,4 +2,5 @@
 mod histories;
 mod locks;
 mod logs;
+mod records;
 mod trail;

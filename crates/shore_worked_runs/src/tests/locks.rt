@@ -7,6 +7,7 @@ use shore_slow_locks::requests::{
 };
 use shore_types::{Granule, Level, Mode, PageId, Rid, StoreId, TxnId};
 use std::alloc::AllocError;
+use std::process::Abort;
 
 const STORE: Granule = Granule::Store(StoreId(0));
 
@@ -44,6 +45,41 @@ fn request(txn: u64, granule: Granule, held: Option<Mode>, wanted: Option<Mode>)
     }
 }
 
+// Of each pair it is said whether the first waits for the second.
+fn check_waits(
+    rt: &(impl Abort + AllocGlobal),
+    requests: &[Request],
+    pairs: &[(u64, u64, bool)],
+) -> Result<(), AllocError> {
+    for (txn, other, waits) in pairs {
+        assert!(rt; waits_for(rt.alloc(), requests, TxnId(*txn), TxnId(*other))? == *waits);
+    }
+    Ok(())
+}
+
+// Of each list it is said whether each waits for the next, and the last for the first.
+fn check_cycles(
+    rt: &(impl Abort + AllocGlobal),
+    requests: &[Request],
+    lists: &[(&[TxnId], bool)],
+) -> Result<(), AllocError> {
+    for (list, closes) in lists {
+        assert!(rt; is_cycle(rt.alloc(), requests, list)? == *closes);
+    }
+    Ok(())
+}
+
+fn check_queue(
+    rt: &(impl Abort + AllocGlobal),
+    requests: &[Request],
+    granule: Granule,
+    queue: &[Request],
+) -> Result<(), AllocError> {
+    let found = queue_at(rt.alloc(), requests, granule)?;
+    assert!(rt; found.as_slice() == queue);
+    Ok(())
+}
+
 #[test]
 fn mode_tables(rt: HostRuntime) {
     let modes = [Mode::IS, Mode::IX, Mode::SH, Mode::SIX, Mode::EX];
@@ -73,10 +109,46 @@ fn mode_tables(rt: HostRuntime) {
     assert!(rt; allowed(Level::Page, Mode::SIX) && !allowed(Level::Record, Mode::IX));
 }
 
+#[test]
+fn mode_tables_in_tables(rt: HostRuntime) {
+    for (held, asked, together, granted) in [
+        (Mode::SH, Mode::UD, true, true),
+        (Mode::UD, Mode::SH, true, false),
+        (Mode::UD, Mode::UD, false, false),
+        (Mode::UD, Mode::EX, false, false),
+    ] {
+        assert!(rt; coexist(held, asked) == together);
+        assert!(rt; grants(held, asked) == granted);
+    }
+    for (one, other, least) in [
+        (Mode::IX, Mode::SH, Mode::SIX),
+        (Mode::UD, Mode::SH, Mode::UD),
+        (Mode::SIX, Mode::IS, Mode::SIX),
+        (Mode::UD, Mode::EX, Mode::EX),
+    ] {
+        assert!(rt; sup(one, other) == least);
+    }
+    for (held, asked, is_spared) in [
+        (Mode::SIX, Mode::SH, true),
+        (Mode::SIX, Mode::IX, false),
+        (Mode::SH, Mode::UD, false),
+    ] {
+        assert!(rt; covers(held, asked) == is_spared);
+    }
+    for (level, mode, may_be) in [
+        (Level::Record, Mode::UD, true),
+        (Level::Store, Mode::UD, false),
+        (Level::Page, Mode::SIX, true),
+        (Level::Record, Mode::IX, false),
+    ] {
+        assert!(rt; allowed(level, mode) == may_be);
+    }
+    assert!(rt; parent_mode(Mode::SH) == Mode::IS && parent_mode(Mode::UD) == Mode::IX);
+}
+
 // 1 holds SIX and 2 IS on the store, below IX and IS on the volume; 3 wants IX on the store.
 #[test]
 fn conversion_to_six(rt: HostRuntime) -> Result<(), AllocError> {
-    let alloc = rt.alloc();
     let held = [
         hold(1, Granule::Volume, Mode::IX),
         hold(2, Granule::Volume, Mode::IS),
@@ -92,11 +164,9 @@ fn conversion_to_six(rt: HostRuntime) -> Result<(), AllocError> {
         request(1, STORE, Some(Mode::SIX), None),
         request(2, STORE, Some(Mode::IS), None),
     ];
-    let queue = queue_at(alloc, &requests, STORE)?;
-    assert!(rt; queue.as_slice() == [requests[1], requests[2], requests[0]].as_slice());
-    assert!(rt; waits_for(alloc, &requests, TxnId(3), TxnId(1))?);
-    assert!(rt; !waits_for(alloc, &requests, TxnId(3), TxnId(2))?);
-    Ok(())
+    let queue = [requests[1], requests[2], requests[0]];
+    check_queue(&rt, &requests, STORE, &queue)?;
+    check_waits(&rt, &requests, &[(3, 1, true), (3, 2, false)])
 }
 
 // A writer of the store and a reader of a record in it: the modes meet on no granule, and yet are not in harmony.
@@ -118,38 +188,38 @@ fn reader_below_a_writer(rt: HostRuntime) {
 // 3 got the record for update, and 4 comes to read it: a held UD lets no new reader in.
 #[test]
 fn update_mode_refuses_new_readers(rt: HostRuntime) -> Result<(), AllocError> {
-    let alloc = rt.alloc();
     let requests = [
         request(2, record(0), Some(Mode::SH), None),
         request(3, record(0), Some(Mode::UD), None),
         request(4, record(0), None, Some(Mode::SH)),
     ];
-    assert!(rt; waits_for(alloc, &requests, TxnId(4), TxnId(3))?);
-    assert!(rt; !waits_for(alloc, &requests, TxnId(4), TxnId(2))?);
-    assert!(rt; !waits_for(alloc, &requests, TxnId(3), TxnId(2))?);
-    Ok(())
+    check_waits(
+        &rt,
+        &requests,
+        &[(4, 3, true), (4, 2, false), (3, 2, false)],
+    )
 }
 
 // Both got the record and then want to update it.
 #[test]
 fn conversion_deadlock(rt: HostRuntime) -> Result<(), AllocError> {
-    let alloc = rt.alloc();
     let requests = [
         request(2, record(0), Some(Mode::SH), Some(Mode::EX)),
         request(3, record(0), Some(Mode::SH), Some(Mode::EX)),
     ];
-    assert!(rt; is_cycle(alloc, &requests, &[TxnId(3), TxnId(2)])?);
-    assert!(rt; !is_cycle(alloc, &requests, &[TxnId(3)])?);
-    assert!(rt; !is_cycle(alloc, &requests, &[])?);
+    let both = [TxnId(3), TxnId(2)];
+    check_cycles(
+        &rt,
+        &requests,
+        &[(&both, true), (&both[..1], false), (&[], false)],
+    )?;
     let granted = [requests[0], request(3, record(0), Some(Mode::SH), None)];
-    assert!(rt; !is_cycle(alloc, &granted, &[TxnId(3), TxnId(2)])?);
-    Ok(())
+    check_cycles(&rt, &granted, &[(&both, false)])
 }
 
 // 2 waits behind 3, whom it is not refused by.
 #[test]
 fn cycle_through_a_queue(rt: HostRuntime) -> Result<(), AllocError> {
-    let alloc = rt.alloc();
     let requests = [
         request(1, page(0), Some(Mode::SH), None),
         request(2, page(1), Some(Mode::EX), None),
@@ -157,11 +227,12 @@ fn cycle_through_a_queue(rt: HostRuntime) -> Result<(), AllocError> {
         request(2, page(0), None, Some(Mode::SH)),
         request(1, page(1), None, Some(Mode::SH)),
     ];
-    assert!(rt; is_cycle(alloc, &requests, &[TxnId(3), TxnId(1), TxnId(2)])?);
-    assert!(rt; !is_cycle(alloc, &requests, &[TxnId(3), TxnId(2), TxnId(1)])?);
-    assert!(rt; !waits_for(alloc, &requests, TxnId(2), TxnId(1))?);
-    assert!(rt; !waits_for(alloc, &requests, TxnId(3), TxnId(2))?);
-    Ok(())
+    let lists: [(&[TxnId], bool); 2] = [
+        (&[TxnId(3), TxnId(1), TxnId(2)], true),
+        (&[TxnId(3), TxnId(2), TxnId(1)], false),
+    ];
+    check_cycles(&rt, &requests, &lists)?;
+    check_waits(&rt, &requests, &[(2, 1, false), (3, 2, false)])
 }
 
 // 1 and 2 hold the page; 3 comes, and then 1 wants more: it stands last in the list, and before 3 in the queue.
@@ -174,17 +245,12 @@ fn conversion_stands_before_new_waiters(rt: HostRuntime) -> Result<(), AllocErro
         request(3, page(0), None, Some(Mode::EX)),
     ];
     let converting = request(1, page(0), Some(Mode::SH), Some(Mode::SIX));
-    let after = placed_last(alloc, &before, converting)?;
-    assert!(rt; after.as_slice() == [before[1], before[2], converting].as_slice());
-    assert!(rt; are_requests(after.as_slice()));
     assert!(rt; !are_requests(&[before[0], converting]));
-    let queue = queue_at(alloc, after.as_slice(), page(0))?;
-    assert!(rt; queue.as_slice() == [before[1], converting, before[2]].as_slice());
-    assert!(rt; waits_for(alloc, after.as_slice(), TxnId(3), TxnId(1))?);
-    assert!(rt; !waits_for(alloc, after.as_slice(), TxnId(1), TxnId(3))?);
-    let held = held_by_all(alloc, after.as_slice())?;
-    assert!(rt;
-        held.as_slice() == [hold(2, page(0), Mode::SH), hold(1, page(0), Mode::SH)].as_slice()
-    );
-    Ok(())
+    let after = [before[1], before[2], converting];
+    assert!(rt; are_requests(&after));
+    assert!(rt; placed_last(alloc, &before, converting)?.as_slice() == after.as_slice());
+    let held = [hold(2, page(0), Mode::SH), hold(1, page(0), Mode::SH)];
+    assert!(rt; held_by_all(alloc, &after)?.as_slice() == held.as_slice());
+    check_queue(&rt, &after, page(0), &[before[1], converting, before[2]])?;
+    check_waits(&rt, &after, &[(3, 1, true), (1, 3, false)])
 }

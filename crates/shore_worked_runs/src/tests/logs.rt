@@ -1,291 +1,254 @@
 //! Logs of worked runs, written out by hand, with what they tell, and lists that no run leaves.
+use super::records::{PAGE, STORE, Short, bytes, pairs, rid};
 use shore_model::{DirtyPage, LogRecord, LogTxn, Payload, TxnState};
 use shore_slow_logs::lawful_lists::is_lawful;
 use shore_slow_logs::told_records::told;
-use shore_types::{Bytes, Granule, Lsn, PageId, Rid, Sequence, StoreId, TxnId};
+use shore_types::{Bytes, Granule, Lsn, Sequence, TxnId};
 use std::alloc::{AllocError, Global};
+use std::process::Abort;
 
-const PAGE: PageId = PageId {
-    store: StoreId(0),
-    page: 0,
-};
+/// What a record of the log says, in short.
+#[derive(Clone, Copy)]
+enum Says {
+    /// A slot, and its byte before and after.
+    Change(u16, Option<u8>, Option<u8>),
+    /// A compensation of slot 0: its byte after, and the record that is undone next.
+    Undo(Option<u8>, u64),
+    Commit,
+    End,
+    /// It lists the record of a slot.
+    Prepare(u16),
+    RollbackDecided,
+    CheckpointBegin,
+    /// The checkpoint began with record 2, and lists a transaction that is active by record 1 alone, or none.
+    CheckpointEnd(Option<u64>),
+    /// Of the same checkpoint.
+    Anchor,
+}
 
-fn id(slot: u16) -> Rid {
-    Rid { page: PAGE, slot }
+/// A record's transaction, the number of that transaction's record before it, and what it says.
+type Line = (u64, u64, Says);
+
+fn list_of(alloc: Global, lines: &[Line]) -> Result<Vec<LogRecord>, AllocError> {
+    let mut list = Vec::new(alloc);
+    for line in lines {
+        list.push(record(alloc, line)?)?;
+    }
+    Ok(list)
+}
+
+fn record(alloc: Global, line: &Line) -> Result<LogRecord, AllocError> {
+    let (txn, previous, says) = line;
+    Ok(LogRecord {
+        txn: TxnId(*txn),
+        previous: Lsn(*previous),
+        payload: payload(alloc, says)?,
+    })
+}
+
+fn payload(alloc: Global, says: &Says) -> Result<Payload, AllocError> {
+    Ok(match says {
+        Says::Change(slot, before, after) => Payload::Change {
+            id: rid(*slot),
+            before: image(alloc, *before)?,
+            after: image(alloc, *after)?,
+        },
+        Says::Undo(after, undo_next) => Payload::Compensation {
+            id: rid(0),
+            after: image(alloc, *after)?,
+            undo_next: Lsn(*undo_next),
+        },
+        Says::Commit => Payload::Commit,
+        Says::End => Payload::End,
+        Says::Prepare(slot) => prepare(alloc, *slot)?,
+        Says::RollbackDecided => Payload::RollbackDecided,
+        Says::CheckpointBegin => Payload::CheckpointBegin,
+        Says::CheckpointEnd(listed) => checkpoint_end(alloc, *listed)?,
+        Says::Anchor => Payload::Anchor {
+            checkpoint: Lsn(2),
+            tail: Lsn(1),
+        },
+    })
 }
 
 fn image(alloc: Global, byte: Option<u8>) -> Result<Option<Bytes>, AllocError> {
     match byte {
-        Some(byte) => {
-            let mut bytes = Sequence::new(alloc);
-            bytes.push(byte)?;
-            Ok(Some(bytes))
-        }
+        Some(byte) => Ok(Some(bytes(alloc, &[byte])?)),
         None => Ok(None),
     }
 }
 
-fn logged(txn: u64, previous: u64, payload: Payload) -> LogRecord {
-    LogRecord {
-        txn: TxnId(txn),
-        previous: Lsn(previous),
-        payload,
+fn prepare(alloc: Global, slot: u16) -> Result<Payload, AllocError> {
+    let granules = Vec::from_slice(alloc, &[Granule::Record(rid(slot))])?;
+    Ok(Payload::Prepare {
+        global: bytes(alloc, &[0x67, 0x31])?,
+        granules: Sequence::from_vec(granules),
+    })
+}
+
+fn checkpoint_end(alloc: Global, listed: Option<u64>) -> Result<Payload, AllocError> {
+    let mut txns = Sequence::new(alloc);
+    if let Some(txn) = listed {
+        txns.push(LogTxn {
+            txn: TxnId(txn),
+            state: TxnState::Active,
+            first: Lsn(1),
+            last: Lsn(1),
+            undo_next: Lsn(1),
+            prepare: Lsn(0),
+        })?;
     }
-}
-
-fn change(
-    alloc: Global,
-    txn: u64,
-    previous: u64,
-    slot: u16,
-    before: Option<u8>,
-    after: Option<u8>,
-) -> Result<LogRecord, AllocError> {
-    let payload = Payload::Change {
-        id: id(slot),
-        before: image(alloc, before)?,
-        after: image(alloc, after)?,
+    let dirty = DirtyPage {
+        page: PAGE,
+        recovery: Lsn(1),
     };
-    Ok(logged(txn, previous, payload))
+    Ok(Payload::CheckpointEnd {
+        begin: Lsn(2),
+        next: TxnId(2),
+        txns,
+        dirty: Sequence::from_vec(vec![in alloc; dirty]?),
+    })
 }
 
-// A Compensation of slot 0.
-fn compensation(
-    alloc: Global,
-    txn: u64,
-    previous: u64,
-    after: Option<u8>,
-    undo_next: u64,
-) -> Result<LogRecord, AllocError> {
-    let payload = Payload::Compensation {
-        id: id(0),
-        after: image(alloc, after)?,
-        undo_next: Lsn(undo_next),
-    };
-    Ok(logged(txn, previous, payload))
-}
-
-// A Prepare that lists the record of a slot.
-fn prepare(alloc: Global, txn: u64, previous: u64, slot: u16) -> Result<LogRecord, AllocError> {
-    let mut granules = Sequence::new(alloc);
-    granules.push(Granule::Record(id(slot)))?;
-    let payload = Payload::Prepare {
-        global: Sequence::from_vec(vec![in alloc; 0x67, 0x31]?),
-        granules,
-    };
-    Ok(logged(txn, previous, payload))
-}
-
-// The records of the list are those of the store: one record, of one byte, at a slot.
-fn tells(alloc: Global, list: &[LogRecord], slot: u16, byte: u8) -> Result<bool, AllocError> {
-    let found = told(alloc, list)?;
-    let pairs = found.scan(alloc, StoreId(0))?;
-    match pairs.as_slice() {
-        [(only, bytes)] => Ok(*only == id(slot) && bytes.as_slice() == [byte].as_slice()),
-        _ => Ok(false),
-    }
-}
-
-fn tells_nothing(alloc: Global, list: &[LogRecord]) -> Result<bool, AllocError> {
-    let found = told(alloc, list)?;
-    let pairs = found.scan(alloc, StoreId(0))?;
-    Ok(pairs.as_slice().is_empty())
+// The list is lawful, and tells just these records.
+fn check_told(
+    rt: &(impl Abort + AllocGlobal),
+    lines: &[Line],
+    records: &[Short],
+) -> Result<(), AllocError> {
+    let alloc = rt.alloc();
+    let list = list_of(alloc, lines)?;
+    assert!(rt; is_lawful(alloc, &list)?);
+    let found = told(alloc, &list)?.scan(alloc, STORE)?;
+    assert!(rt; found == pairs(alloc, records)?);
+    Ok(())
 }
 
 // The list is lawful, and with this record no more.
-fn is_spoiled_by(
-    alloc: Global,
-    mut list: Vec<LogRecord>,
-    last: LogRecord,
-) -> Result<bool, AllocError> {
-    let was_lawful = is_lawful(alloc, &list)?;
-    list.push(last)?;
-    Ok(was_lawful && !is_lawful(alloc, &list)?)
+fn check_spoiled(
+    rt: &(impl Abort + AllocGlobal),
+    lines: &[Line],
+    last: Line,
+) -> Result<(), AllocError> {
+    let alloc = rt.alloc();
+    let mut list = list_of(alloc, lines)?;
+    assert!(rt; is_lawful(alloc, &list)?);
+    list.push(record(alloc, &last)?)?;
+    assert!(rt; !is_lawful(alloc, &list)?);
+    Ok(())
 }
 
-// Transaction 1 inserts aa and commits.
-fn setup(alloc: Global) -> Result<Vec<LogRecord>, AllocError> {
-    let insert = change(alloc, 1, 0, 0, None, Some(0xaa))?;
-    let list = vec![in alloc; insert, logged(1, 1, Payload::Commit)]?;
-    Ok(list)
-}
+// Transaction 1 inserts aa.
+const INSERT: Line = (1, 0, Says::Change(0, None, Some(0xaa)));
 
 #[test]
 fn commit_survives_crash(rt: HostRuntime) -> Result<(), AllocError> {
-    let alloc = rt.alloc();
-    let list = setup(alloc)?;
-    assert!(rt; tells(alloc, &list, 0, 0xaa)?);
-    let after_its_commit = change(alloc, 1, 2, 0, Some(0xaa), Some(0xbb))?;
-    assert!(rt; is_spoiled_by(alloc, list, after_its_commit)?);
-    Ok(())
+    let list = [INSERT, (1, 1, Says::Commit)];
+    check_told(&rt, &list, &[(0, 0xaa)])?;
+    let after_its_commit = (1, 2, Says::Change(0, Some(0xaa), Some(0xbb)));
+    check_spoiled(&rt, &list, after_its_commit)
 }
 
 #[test]
 fn flushed_loser_is_undone(rt: HostRuntime) -> Result<(), AllocError> {
-    let alloc = rt.alloc();
-    let insert = change(alloc, 1, 0, 0, None, Some(0xaa))?;
-    let undone = compensation(alloc, 1, 1, None, 0)?;
-    let mut list = vec![in alloc; insert, undone, logged(1, 2, Payload::End)]?;
-    assert!(rt; is_lawful(alloc, &list)?);
-    assert!(rt; tells_nothing(alloc, &list)?);
-    let _ = list.pop();
-    assert!(rt; is_spoiled_by(alloc, list, logged(1, 1, Payload::End))?);
-    Ok(())
+    let list = [INSERT, (1, 1, Says::Undo(None, 0)), (1, 2, Says::End)];
+    check_told(&rt, &list, &[])?;
+    check_spoiled(&rt, &list[..2], (1, 1, Says::End))
 }
 
 #[test]
 fn rollback_to_a_savepoint(rt: HostRuntime) -> Result<(), AllocError> {
-    let alloc = rt.alloc();
-    let insert = change(alloc, 1, 0, 0, None, Some(0xaa))?;
-    let update = change(alloc, 1, 1, 0, Some(0xaa), Some(0xbb))?;
-    let delete = change(alloc, 1, 2, 0, Some(0xbb), None)?;
-    let not_deleted = compensation(alloc, 1, 3, Some(0xbb), 2)?;
-    let not_updated = compensation(alloc, 1, 4, Some(0xaa), 1)?;
-    let commit = logged(1, 5, Payload::Commit);
-    let list = vec![in alloc; insert, update, delete, not_deleted, not_updated, commit]?;
-    assert!(rt; is_lawful(alloc, &list)?);
-    assert!(rt; tells(alloc, &list, 0, 0xaa)?);
-    Ok(())
+    let list = [
+        INSERT,
+        (1, 1, Says::Change(0, Some(0xaa), Some(0xbb))),
+        (1, 2, Says::Change(0, Some(0xbb), None)),
+        (1, 3, Says::Undo(Some(0xbb), 2)),
+        (1, 4, Says::Undo(Some(0xaa), 1)),
+        (1, 5, Says::Commit),
+    ];
+    check_told(&rt, &list, &[(0, 0xaa)])
 }
 
-// Transaction 2 changes aa to bb and to cc, and its last change is undone.
-fn half_undone(alloc: Global) -> Result<Vec<LogRecord>, AllocError> {
-    let mut list = setup(alloc)?;
-    list.push(change(alloc, 2, 0, 0, Some(0xaa), Some(0xbb))?)?;
-    list.push(change(alloc, 2, 3, 0, Some(0xbb), Some(0xcc))?)?;
-    list.push(compensation(alloc, 2, 4, Some(0xbb), 3)?)?;
-    Ok(list)
-}
+// Transaction 2 changes aa to bb and to cc, and both changes are undone.
+const UNDONE: [Line; 7] = [
+    INSERT,
+    (1, 1, Says::Commit),
+    (2, 0, Says::Change(0, Some(0xaa), Some(0xbb))),
+    (2, 3, Says::Change(0, Some(0xbb), Some(0xcc))),
+    (2, 4, Says::Undo(Some(0xbb), 3)),
+    (2, 5, Says::Undo(Some(0xaa), 0)),
+    (2, 6, Says::End),
+];
+
+// Its records until the last change is undone.
+const HALF: usize = 5;
 
 #[test]
 fn crashes_in_restart(rt: HostRuntime) -> Result<(), AllocError> {
-    let alloc = rt.alloc();
-    let mut list = half_undone(alloc)?;
-    list.push(compensation(alloc, 2, 5, Some(0xaa), 0)?)?;
-    list.push(logged(2, 6, Payload::End))?;
-    assert!(rt; is_lawful(alloc, &list)?);
-    assert!(rt; tells(alloc, &list, 0, 0xaa)?);
-    Ok(())
+    check_told(&rt, &UNDONE, &[(0, 0xaa)])
 }
 
 #[test]
 fn undo_begins_anew(rt: HostRuntime) -> Result<(), AllocError> {
-    let alloc = rt.alloc();
-    let list = half_undone(alloc)?;
-    let again = compensation(alloc, 2, 5, Some(0xbb), 3)?;
-    assert!(rt; is_spoiled_by(alloc, list, again)?);
-    Ok(())
+    check_spoiled(&rt, &UNDONE[..HALF], (2, 5, Says::Undo(Some(0xbb), 3)))
 }
 
 #[test]
 fn end_before_last_compensation(rt: HostRuntime) -> Result<(), AllocError> {
-    let alloc = rt.alloc();
-    let list = half_undone(alloc)?;
-    assert!(rt; is_spoiled_by(alloc, list, logged(2, 5, Payload::End))?);
-    Ok(())
+    check_spoiled(&rt, &UNDONE[..HALF], (2, 5, Says::End))
 }
 
 #[test]
 fn two_change_one_record(rt: HostRuntime) -> Result<(), AllocError> {
-    let alloc = rt.alloc();
-    let list = vec![in alloc; change(alloc, 1, 0, 0, None, Some(0xaa))?]?;
-    let another = change(alloc, 2, 0, 0, Some(0xaa), Some(0xbb))?;
-    assert!(rt; is_spoiled_by(alloc, list, another)?);
-    Ok(())
+    let another = (2, 0, Says::Change(0, Some(0xaa), Some(0xbb)));
+    check_spoiled(&rt, &[INSERT], another)
 }
 
 #[test]
 fn prepared_survives_crash(rt: HostRuntime) -> Result<(), AllocError> {
-    let alloc = rt.alloc();
-    let insert = change(alloc, 1, 0, 0, None, Some(0xaa))?;
-    let mut list = vec![in alloc; insert, prepare(alloc, 1, 1, 0)?]?;
-    assert!(rt; is_lawful(alloc, &list)?);
-    assert!(rt; tells(alloc, &list, 0, 0xaa)?);
-    list.push(logged(1, 2, Payload::Commit))?;
-    assert!(rt; is_lawful(alloc, &list)?);
-    assert!(rt; tells(alloc, &list, 0, 0xaa)?);
-    Ok(())
+    let list = [INSERT, (1, 1, Says::Prepare(0)), (1, 2, Says::Commit)];
+    check_told(&rt, &list[..2], &[(0, 0xaa)])?;
+    check_told(&rt, &list, &[(0, 0xaa)])
 }
 
 #[test]
 fn prepared_change_is_aborted(rt: HostRuntime) -> Result<(), AllocError> {
-    let alloc = rt.alloc();
-    let mut list = setup(alloc)?;
-    list.push(change(alloc, 2, 0, 0, Some(0xaa), Some(0xbb))?)?;
-    list.push(prepare(alloc, 2, 3, 0)?)?;
-    assert!(rt; tells(alloc, &list, 0, 0xbb)?);
-    list.push(logged(2, 4, Payload::RollbackDecided))?;
-    assert!(rt; tells(alloc, &list, 0, 0xaa)?);
-    list.push(compensation(alloc, 2, 5, Some(0xaa), 0)?)?;
-    list.push(logged(2, 6, Payload::End))?;
-    assert!(rt; is_lawful(alloc, &list)?);
-    assert!(rt; tells(alloc, &list, 0, 0xaa)?);
-    Ok(())
+    let list = [
+        INSERT,
+        (1, 1, Says::Commit),
+        (2, 0, Says::Change(0, Some(0xaa), Some(0xbb))),
+        (2, 3, Says::Prepare(0)),
+        (2, 4, Says::RollbackDecided),
+        (2, 5, Says::Undo(Some(0xaa), 0)),
+        (2, 6, Says::End),
+    ];
+    check_told(&rt, &list[..4], &[(0, 0xbb)])?;
+    check_told(&rt, &list[..5], &[(0, 0xaa)])?;
+    check_told(&rt, &list, &[(0, 0xaa)])
 }
 
 #[test]
 fn prepare_lists_another_record(rt: HostRuntime) -> Result<(), AllocError> {
-    let alloc = rt.alloc();
-    let list = vec![in alloc; change(alloc, 1, 0, 0, None, Some(0xaa))?]?;
-    assert!(rt; is_spoiled_by(alloc, list, prepare(alloc, 1, 1, 1)?)?);
-    Ok(())
+    check_spoiled(&rt, &[INSERT], (1, 1, Says::Prepare(1)))
 }
 
-// Transaction 1 inserts aa and commits after the checkpoint's begin, whose End has this table.
-fn in_two_halves(alloc: Global, txns: Sequence<LogTxn>) -> Result<Vec<LogRecord>, AllocError> {
-    let mut dirty = Sequence::new(alloc);
-    dirty.push(DirtyPage {
-        page: PAGE,
-        recovery: Lsn(1),
-    })?;
-    let end = Payload::CheckpointEnd {
-        begin: Lsn(2),
-        next: TxnId(2),
-        txns,
-        dirty,
-    };
-    let anchor = Payload::Anchor {
-        checkpoint: Lsn(2),
-        tail: Lsn(1),
-    };
-    let insert = change(alloc, 1, 0, 0, None, Some(0xaa))?;
-    let begin = logged(0, 0, Payload::CheckpointBegin);
-    let commit = logged(1, 1, Payload::Commit);
-    let end = logged(0, 0, end);
-    let list = vec![in alloc; insert, begin, commit, end, logged(0, 0, anchor)]?;
-    Ok(list)
-}
-
+// Transaction 1 commits after the checkpoint's begin, and so its end lists it.
 #[test]
 fn checkpoint_in_two_halves(rt: HostRuntime) -> Result<(), AllocError> {
-    let alloc = rt.alloc();
-    let mut txns = Sequence::new(alloc);
-    txns.push(LogTxn {
-        txn: TxnId(1),
-        state: TxnState::Active,
-        first: Lsn(1),
-        last: Lsn(1),
-        undo_next: Lsn(1),
-        prepare: Lsn(0),
-    })?;
-    let list = in_two_halves(alloc, txns)?;
-    assert!(rt; is_lawful(alloc, &list)?);
-    assert!(rt; tells(alloc, &list, 0, 0xaa)?);
-    // Transaction 1 had not ended at the begin.
-    let unlisted = in_two_halves(alloc, Sequence::new(alloc))?;
-    assert!(rt; !is_lawful(alloc, &unlisted)?);
-    Ok(())
+    let list = [
+        INSERT,
+        (0, 0, Says::CheckpointBegin),
+        (1, 1, Says::Commit),
+        (0, 0, Says::CheckpointEnd(Some(1))),
+        (0, 0, Says::Anchor),
+    ];
+    check_told(&rt, &list, &[(0, 0xaa)])?;
+    check_spoiled(&rt, &list[..3], (0, 0, Says::CheckpointEnd(None)))
 }
 
 #[test]
 fn later_commit_kept_earlier_lost(rt: HostRuntime) -> Result<(), AllocError> {
-    let alloc = rt.alloc();
-    let earlier = change(alloc, 1, 0, 0, None, Some(0xaa))?;
-    let later = change(alloc, 2, 0, 1, None, Some(0xbb))?;
-    let mut list = vec![in alloc; earlier, later, logged(1, 1, Payload::Commit)]?;
-    assert!(rt; tells(alloc, &list, 0, 0xaa)?);
-    let _ = list.pop();
-    list.push(logged(2, 2, Payload::Commit))?;
-    assert!(rt; tells(alloc, &list, 1, 0xbb)?);
-    Ok(())
+    let later = (2, 0, Says::Change(1, None, Some(0xbb)));
+    check_told(&rt, &[INSERT, later, (1, 1, Says::Commit)], &[(0, 0xaa)])?;
+    check_told(&rt, &[INSERT, later, (2, 2, Says::Commit)], &[(1, 0xbb)])
 }
