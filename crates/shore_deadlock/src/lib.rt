@@ -4,8 +4,6 @@
 mod blockers;
 pub mod laws;
 pub mod search;
-#[cfg(test)]
-mod tests;
 mod trails;
 pub mod victims;
 

@@ -6,8 +6,6 @@ mod anchors;
 pub mod gates;
 mod labels;
 mod numbers;
-#[cfg(test)]
-mod tests;
 
 pub use anchors::{ANCHOR_BYTES, Anchor, Anchors, Slot};
 pub use gates::{CLOSED, OPEN, close_gate, is_open, open_gate};

@@ -2,10 +2,14 @@
 mod choices;
 mod comparison;
 mod cycle_runs;
+mod cycles;
+mod granules;
 mod path_runs;
-mod rows;
+mod paths;
 mod shown;
+mod steps;
 mod table_runs;
+mod tables;
 mod twin;
 mod waits;
 
@@ -25,8 +29,7 @@ fn the_table_does_as_its_twin(rt: HostRuntime) -> Result<(), Fail> {
         table_runs::run(rt.alloc(), seed, &mut seen)?;
     }
     println!(rt; "{seen:?}")?;
-    assert!(rt; seen.granted > 1000 && seen.waiting > 1000 && seen.full > 1000);
-    assert!(rt; seen.blocked > 1000 && seen.cancelled > 1000 && seen.released > 1000);
+    assert!(rt; seen.is_often());
     Ok(())
 }
 
@@ -39,7 +42,7 @@ fn cycles_are_broken_as_they_are_closed(rt: HostRuntime) -> Result<(), Fail> {
         cycle_runs::run(rt.alloc(), seed, &mut closed)?;
     }
     println!(rt; "{closed:?}")?;
-    assert!(rt; closed.waits > 1000 && closed.cycles > 500 && closed.several > 10);
+    assert!(rt; closed.is_often());
     Ok(())
 }
 
@@ -51,8 +54,6 @@ fn acquires_keep_harmony(rt: HostRuntime) -> Result<(), Fail> {
         path_runs::run(rt.alloc(), seed, &mut ended)?;
     }
     println!(rt; "{ended:?}")?;
-    assert!(rt; ended.done > 1000 && ended.covered > 100 && ended.waiting > 1000);
-    assert!(rt; ended.bad_mode > 1000 && ended.full > 100 && ended.would_block > 100);
-    assert!(rt; ended.victims > 50);
+    assert!(rt; ended.is_often());
     Ok(())
 }

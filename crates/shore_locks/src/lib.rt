@@ -12,8 +12,6 @@ pub mod queues;
 mod searches;
 mod sweeps;
 pub mod table;
-#[cfg(test)]
-mod tests;
 mod walks;
 
 pub use answers::{Requested, Tried};

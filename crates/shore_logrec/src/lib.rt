@@ -5,8 +5,6 @@ mod costs;
 mod laws;
 mod lengths;
 mod reading;
-#[cfg(test)]
-mod tests;
 mod writing;
 
 pub use costs::{ENDING_COST, change_cost, compensation_cost};

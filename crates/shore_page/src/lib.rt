@@ -5,8 +5,6 @@ pub mod laws;
 mod page;
 mod reading;
 mod slots;
-#[cfg(test)]
-mod tests;
 mod writing;
 
 pub use page::Page;

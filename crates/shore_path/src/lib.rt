@@ -4,8 +4,6 @@
 pub mod answers;
 pub mod laws;
 pub mod paths;
-#[cfg(test)]
-mod tests;
 pub mod walk;
 
 pub use answers::{Acquired, OnConflict};

@@ -1,35 +1,30 @@
 //! What is picked at random: few transactions and granules, so that they meet.
 ghost use Rattle.std.specs.Prelude.{◌<◌};
 
+use super::granules::Target;
 use rand_core::Rng;
 use rand_pcg::Pcg32;
-use shore_types::{Granule, Mode, PageId, Rid, StoreId, TxnId};
+use shore_types::{Granule, Mode, TxnId};
+use std::test::Fail;
 
-pub const TRANSACTIONS: [TxnId; 5] = [TxnId(1), TxnId(2), TxnId(3), TxnId(18), TxnId(35)];
+/// The numbers of the transactions.
+pub(crate) static TRANSACTIONS: [u64; 5] = [1, 2, 3, 18, 35];
 
-const STORE: StoreId = StoreId(0);
-
-const PAGE: PageId = PageId {
-    store: STORE,
-    page: 0,
-};
-
-pub const GRANULES: [Granule; 6] = [
-    Granule::Volume,
-    Granule::Store(STORE),
-    Granule::Store(StoreId(1)),
-    Granule::Page(PAGE),
-    Granule::Record(Rid {
-        page: PAGE,
-        slot: 0,
-    }),
-    Granule::Record(Rid {
-        page: PAGE,
-        slot: 1,
-    }),
+pub(crate) static TARGETS: [Target; 6] = [
+    Target::Volume,
+    Target::Store,
+    Target::OtherStore,
+    Target::Page0,
+    Target::Record0,
+    Target::Record1,
 ];
 
-const MODES: [Mode; 6] = [Mode::IS, Mode::IX, Mode::SH, Mode::SIX, Mode::EX, Mode::UD];
+static MODES: [Mode; 6] = [Mode::IS, Mode::IX, Mode::SH, Mode::SIX, Mode::EX, Mode::UD];
+
+/// A failure at a step of the run from a seed.
+pub(crate) fn fail_at(seed: u64, turn: u32) -> Fail {
+    Fail::new(format_args!("seed {seed}, step {turn}"))
+}
 
 /// Random picks from a seed.
 #[derive(Drop)]
@@ -50,11 +45,11 @@ impl Choices {
     }
 
     pub(crate) fn transaction(&mut self) -> TxnId {
-        TRANSACTIONS[self.place(TRANSACTIONS.len())]
+        TxnId(TRANSACTIONS[self.place(TRANSACTIONS.len())])
     }
 
     pub(crate) fn granule(&mut self) -> Granule {
-        GRANULES[self.place(GRANULES.len())]
+        TARGETS[self.place(TARGETS.len())].granule()
     }
 
     pub(crate) fn mode(&mut self) -> Mode {

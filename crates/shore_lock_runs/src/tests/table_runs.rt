@@ -1,8 +1,9 @@
 //! Random runs of a lock table beside its twin.
-use super::choices::Choices;
+use super::choices::{Choices, fail_at};
 use super::comparison::is_same;
 use super::twin::Twin;
 use shore_locks::{LockTable, Requested, Tried};
+use shore_types::{Fault, TxnId};
 use std::alloc::Global;
 use std::test::Fail;
 
@@ -22,6 +23,16 @@ pub struct Seen {
 }
 
 impl Seen {
+    /// Each was met often.
+    pub(crate) fn is_often(&self) -> bool {
+        self.granted > 1000
+            && self.waiting > 1000
+            && self.full > 1000
+            && self.blocked > 1000
+            && self.cancelled > 1000
+            && self.released > 1000
+    }
+
     fn count_request(&mut self, answer: Requested) {
         let count = match answer {
             Requested::Granted => &mut self.granted,
@@ -43,16 +54,36 @@ impl Seen {
 
 /// A table and its twin from a seed on.
 pub(crate) fn run(alloc: Global, seed: u64, seen: &mut Seen) -> Result<(), Fail> {
-    let mut choices = Choices::new(seed);
     let mut table = LockTable::new(alloc, LIMIT)?;
     let mut twin = Twin::new(alloc, LIMIT);
+    play(alloc, seed, &mut table, &mut twin, seen)
+}
+
+fn play(
+    alloc: Global,
+    seed: u64,
+    table: &mut LockTable,
+    twin: &mut Twin,
+    seen: &mut Seen,
+) -> Result<(), Fail> {
+    let mut choices = Choices::new(seed);
     for turn in 0..STEPS {
-        let answers_agree = step(alloc, &mut choices, &mut table, &mut twin, seen)?;
-        if !answers_agree || !is_same(alloc, &table, &twin)? {
-            return Err(Fail::new(format_args!("seed {seed}, step {turn}")));
+        if !is_right(alloc, &mut choices, table, twin, seen)? {
+            return Err(fail_at(seed, turn));
         }
     }
     Ok(())
+}
+
+// A step after which both say and have the same.
+fn is_right(
+    alloc: Global,
+    choices: &mut Choices,
+    table: &mut LockTable,
+    twin: &mut Twin,
+    seen: &mut Seen,
+) -> Result<bool, Fault> {
+    Ok(step(alloc, choices, table, twin, seen)? && is_same(table, twin))
 }
 
 // One random call of both. It answers whether they said the same.
@@ -62,21 +93,15 @@ fn step(
     table: &mut LockTable,
     twin: &mut Twin,
     seen: &mut Seen,
-) -> Result<bool, Fail> {
+) -> Result<bool, Fault> {
     let txn = choices.transaction();
     let percent = choices.percent();
     if percent < 8 {
-        let released = table.release_all(txn);
-        if released > 0 {
-            seen.released = seen.released.saturating_add(1);
-        }
-        return Ok(released == twin.release_all(txn));
+        return Ok(release(table, twin, txn, seen));
     }
     if table.is_waiting(txn) {
         if percent < 50 {
-            table.cancel(txn);
-            twin.cancel(txn);
-            seen.cancelled = seen.cancelled.saturating_add(1);
+            cancel(table, twin, txn, seen);
         }
         return Ok(true);
     }
@@ -89,4 +114,18 @@ fn step(
     let answer = table.try_request(txn, granule, mode)?;
     seen.count_try(answer);
     Ok(answer == twin.try_request(alloc, txn, &granule, mode)?)
+}
+
+fn cancel(table: &mut LockTable, twin: &mut Twin, txn: TxnId, seen: &mut Seen) {
+    table.cancel(txn);
+    twin.cancel(txn);
+    seen.cancelled = seen.cancelled.saturating_add(1);
+}
+
+fn release(table: &mut LockTable, twin: &mut Twin, txn: TxnId, seen: &mut Seen) -> bool {
+    let released = table.release_all(txn);
+    if released > 0 {
+        seen.released = seen.released.saturating_add(1);
+    }
+    released == twin.release_all(txn)
 }

@@ -28,50 +28,6 @@ impl Twin {
         self.requests.get(self.place(txn, granule)?)?.held
     }
 
-    /// Those that hold a granule and want nothing.
-    pub(crate) fn holders(
-        &self,
-        alloc: Global,
-        granule: &Granule,
-    ) -> Result<Vec<Request>, AllocError> {
-        let mut holders = Vec::new(alloc);
-        for request in self.requests.as_slice() {
-            if request.granule == *granule && request.wanted.is_none() {
-                holders.push(*request)?;
-            }
-        }
-        Ok(holders)
-    }
-
-    /// Those that wait for a granule, conversions first.
-    pub(crate) fn waiters(
-        &self,
-        alloc: Global,
-        granule: &Granule,
-    ) -> Result<Vec<Request>, AllocError> {
-        let mut waiters = Vec::new(alloc);
-        self.push_waiters(&mut waiters, granule, true)?;
-        self.push_waiters(&mut waiters, granule, false)?;
-        Ok(waiters)
-    }
-
-    fn push_waiters(
-        &self,
-        waiters: &mut Vec<Request>,
-        granule: &Granule,
-        conversions: bool,
-    ) -> Result<(), AllocError> {
-        for request in self.requests.as_slice() {
-            if request.granule == *granule
-                && request.wanted.is_some()
-                && request.held.is_some() == conversions
-            {
-                waiters.push(*request)?;
-            }
-        }
-        Ok(())
-    }
-
     /// A request enters at its place in the queue, and a grant pass runs. Where it is granted it goes back to the place at
     /// which the transaction stood before.
     pub(crate) fn request(
@@ -285,4 +241,14 @@ fn refuses(waiter: &Request, other: &Request) -> bool {
         (Some(asked), Some(held)) => !grants(held, asked),
         _ => false,
     }
+}
+
+/// Whether one holds a granule and wants nothing.
+pub(crate) fn is_holder(request: &Request, granule: &Granule) -> bool {
+    request.granule == *granule && request.wanted.is_none()
+}
+
+/// Whether one waits for a granule, with a lock of it that is to be converted, or with none.
+pub(crate) fn is_waiter(request: &Request, granule: &Granule, converts: bool) -> bool {
+    request.granule == *granule && request.wanted.is_some() && request.held.is_some() == converts
 }

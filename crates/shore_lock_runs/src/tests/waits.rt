@@ -1,9 +1,22 @@
 //! Who waits for whom through others, by the slow functions.
 use super::choices::TRANSACTIONS;
+use super::shown::requests_of;
+use shore_locks::LockTable;
 use shore_model::Request;
 use shore_slow_locks::requests::waits_for;
 use shore_types::TxnId;
 use std::alloc::{AllocError, Global};
+
+/// Whether nobody is on a cycle.
+pub(crate) fn is_free(alloc: Global, table: &LockTable) -> Result<bool, AllocError> {
+    let requests = requests_of(alloc, table)?;
+    for txn in &TRANSACTIONS {
+        if is_on_a_cycle(alloc, &requests, TxnId(*txn))? {
+            return Ok(false);
+        }
+    }
+    Ok(true)
+}
 
 /// Whether some walk of waits leads from a transaction back to it.
 pub(crate) fn is_on_a_cycle(
@@ -29,7 +42,8 @@ fn push_next(
     requests: &[Request],
     from: TxnId,
 ) -> Result<(), AllocError> {
-    for to in TRANSACTIONS {
+    for txn in &TRANSACTIONS {
+        let to = TxnId(*txn);
         if !reached.contains(&to) && waits_for(alloc, requests, from, to)? {
             reached.push(to)?;
         }

@@ -1,11 +1,10 @@
 //! Pages by their bytes, and the arithmetic of their room.
 ghost use Rattle.std.specs.Prelude.{◌<◌};
 
-use super::*;
+use shore_page::Page;
 use shore_types::layout::PAGE_BYTES;
 use shore_types::{Lsn, PageId, StoreId};
-use std::alloc::Global;
-use std::test::*;
+use std::alloc::{AllocError, Global};
 
 const ID: PageId = PageId {
     store: StoreId(0),
@@ -39,42 +38,35 @@ fn are_alike(a: &Page, b: &Page) -> bool {
         && (0..a.slot_count()).all(|slot| a.get(slot) == b.get(slot))
 }
 
+const HEAD: [u8; 24] = [
+    0, 0, 0, 0, 0, 0, 0, 0, 1, 0, 0, 0, 0, 0, 0, 0, 1, 0, 0xfc, 0x1f, 0, 0, 0, 0,
+];
+
 // The insert of one byte as the first change.
 #[test]
-fn worked_bytes(rt: HostRuntime) -> Result<(), Fail> {
+fn worked_bytes(rt: HostRuntime) {
     let mut page = Page::new(rt.alloc(), ID);
     assert!(&rt; apply(&mut page, 1, 0, &[0xaa]));
     let mut text = [0xffu8; PAGE_BYTES];
     page.to_bytes(&mut text);
-    let header = [
-        0u8, 0, 0, 0, 0, 0, 0, 0, 1, 0, 0, 0, 0, 0, 0, 0, 1, 0, 0xfc, 0x1f, 0, 0, 0, 0,
-    ];
-    assert_eq!(&rt; &text[..24], &header[..]);
-    assert_eq!(&rt; text[24], 0xaa);
-    assert_eq!(&rt; &text[8188..], &[0x18u8, 0, 1, 0][..]);
-    Ok(())
+    assert!(&rt; text.starts_with(&HEAD));
+    assert!(&rt; text[24] == 0xaa);
+    assert!(&rt; text.ends_with(&[0x18, 0, 1, 0]));
 }
 
 // The room of an undecided delete is kept until it is decided.
 #[test]
-fn room_of_an_undecided_delete(rt: HostRuntime) -> Result<(), Fail> {
+fn room_of_an_undecided_delete(rt: HostRuntime) {
     let mut page = Page::new(rt.alloc(), ID);
-    assert!(&rt; put(&mut page, 0, &[0xaa; 4000]));
-    assert!(&rt; put(&mut page, 1, &[0xbb; 4000]));
-    assert!(&rt; !page.fits(2, 157));
-    assert!(&rt; put(&mut page, 2, &[0xcc; 156]));
-    assert_eq!(&rt; page.free_bytes(), 0);
-    assert!(&rt; remove(&mut page, 0));
-    assert_eq!(&rt; page.free_bytes(), 0);
-    assert!(&rt; !page.fits(3, 100));
-    assert!(&rt; page.fits(0, 4000));
+    assert!(&rt; put(&mut page, 0, &[0xaa; 4000]) && put(&mut page, 1, &[0xbb; 4000]));
+    assert!(&rt; !page.fits(2, 157) && put(&mut page, 2, &[0xcc; 156]) && page.free_bytes() == 0);
+    assert!(&rt; remove(&mut page, 0) && page.free_bytes() == 0);
+    assert!(&rt; !page.fits(3, 100) && page.fits(0, 4000));
     if page.slot_count() > 0 {
         page.unreserve(0, 0);
     }
-    assert_eq!(&rt; page.free_bytes(), 4000);
-    assert!(&rt; put(&mut page, 0, &[0xdd; 100]));
-    assert_eq!(&rt; page.free_bytes(), 3900);
-    Ok(())
+    assert!(&rt; page.free_bytes() == 4000);
+    assert!(&rt; put(&mut page, 0, &[0xdd; 100]) && page.free_bytes() == 3900);
 }
 
 /// A fixed run of numbers that look like chance.
@@ -116,32 +108,42 @@ fn some_page(alloc: Global, chance: &mut Chance, changes: u64, longest: u64) -> 
     page
 }
 
+/// Whether a page is the one that its text gives.
+fn is_read_back(alloc: Global, page: &Page) -> Result<bool, AllocError> {
+    let mut text = [0u8; PAGE_BYTES];
+    page.to_bytes(&mut text);
+    let read = Page::from_bytes(alloc, ID, &text)?;
+    Ok(read.is_some_and(|read| are_alike(page, &read)))
+}
+
+/// Whether bytes are refused as a page of an id.
+fn is_refused(alloc: Global, id: PageId, bytes: &[u8]) -> Result<bool, AllocError> {
+    Ok(Page::from_bytes(alloc, id, bytes)?.is_none())
+}
+
 #[test]
-fn pages_are_read_as_they_were_written(rt: HostRuntime) -> Result<(), Fail> {
+fn pages_are_read_as_they_were_written(rt: HostRuntime) -> Result<(), AllocError> {
+    let alloc = rt.alloc();
+    let other = PageId {
+        store: StoreId(0),
+        page: 1,
+    };
     let mut chance = Chance(7);
     for longest in [0, 1, 20, 100, 700, 3999] {
-        let page = some_page(rt.alloc(), &mut chance, 600, longest);
+        let page = some_page(alloc, &mut chance, 600, longest);
+        assert!(&rt; is_read_back(alloc, &page)?, "at {longest}");
         let mut text = [0u8; PAGE_BYTES];
         page.to_bytes(&mut text);
-        let read = Page::from_bytes(rt.alloc(), ID, &text)?;
-        assert!(&rt;
-            read.is_some_and(|read| are_alike(&page, &read)),
-            "at {longest}"
-        );
-        let other = PageId {
-            store: StoreId(0),
-            page: 1,
-        };
-        assert!(&rt; Page::from_bytes(rt.alloc(), other, &text)?.is_none());
-        assert!(&rt; Page::from_bytes(rt.alloc(), ID, &text[1..])?.is_none());
+        assert!(&rt; is_refused(alloc, other, &text)? && is_refused(alloc, ID, &text[1..])?);
     }
     Ok(())
 }
 
 // Whatever stands in a byte, the bytes are refused, or are those of a page that can be written and read again.
 #[test]
-fn any_byte_gives_a_page_or_a_refusal(rt: HostRuntime) -> Result<(), Fail> {
-    let page = some_page(rt.alloc(), &mut Chance(11), 200, 300);
+fn any_byte_gives_a_page_or_a_refusal(rt: HostRuntime) -> Result<(), AllocError> {
+    let alloc = rt.alloc();
+    let page = some_page(alloc, &mut Chance(11), 200, 300);
     let mut text = [0u8; PAGE_BYTES];
     page.to_bytes(&mut text);
     let mut has_refused = false;
@@ -149,17 +151,9 @@ fn any_byte_gives_a_page_or_a_refusal(rt: HostRuntime) -> Result<(), Fail> {
         let before = text[place];
         for value in [0x00, 0xa5, 0xff] {
             text[place] = value;
-            match Page::from_bytes(rt.alloc(), ID, &text)? {
+            match Page::from_bytes(alloc, ID, &text)? {
                 None => has_refused = true,
-                Some(read) => {
-                    let mut again = [0u8; PAGE_BYTES];
-                    read.to_bytes(&mut again);
-                    let second = Page::from_bytes(rt.alloc(), ID, &again)?;
-                    assert!(&rt;
-                        second.is_some_and(|second| are_alike(&read, &second)),
-                        "at {place}"
-                    );
-                }
+                Some(read) => assert!(&rt; is_read_back(alloc, &read)?, "at {place}"),
             }
         }
         text[place] = before;

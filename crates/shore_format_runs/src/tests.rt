@@ -1,0 +1,6 @@
+mod anchors;
+mod devices;
+mod gates;
+mod labels;
+mod pages;
+mod records;
