@@ -109,43 +109,6 @@ fn mode_tables(rt: HostRuntime) {
     assert!(rt; allowed(Level::Page, Mode::SIX) && !allowed(Level::Record, Mode::IX));
 }
 
-#[test]
-fn mode_tables_in_tables(rt: HostRuntime) {
-    for (held, asked, together, granted) in [
-        (Mode::SH, Mode::UD, true, true),
-        (Mode::UD, Mode::SH, true, false),
-        (Mode::UD, Mode::UD, false, false),
-        (Mode::UD, Mode::EX, false, false),
-    ] {
-        assert!(rt; coexist(held, asked) == together);
-        assert!(rt; grants(held, asked) == granted);
-    }
-    for (one, other, least) in [
-        (Mode::IX, Mode::SH, Mode::SIX),
-        (Mode::UD, Mode::SH, Mode::UD),
-        (Mode::SIX, Mode::IS, Mode::SIX),
-        (Mode::UD, Mode::EX, Mode::EX),
-    ] {
-        assert!(rt; sup(one, other) == least);
-    }
-    for (held, asked, is_spared) in [
-        (Mode::SIX, Mode::SH, true),
-        (Mode::SIX, Mode::IX, false),
-        (Mode::SH, Mode::UD, false),
-    ] {
-        assert!(rt; covers(held, asked) == is_spared);
-    }
-    for (level, mode, may_be) in [
-        (Level::Record, Mode::UD, true),
-        (Level::Store, Mode::UD, false),
-        (Level::Page, Mode::SIX, true),
-        (Level::Record, Mode::IX, false),
-    ] {
-        assert!(rt; allowed(level, mode) == may_be);
-    }
-    assert!(rt; parent_mode(Mode::SH) == Mode::IS && parent_mode(Mode::UD) == Mode::IX);
-}
-
 // 1 holds SIX and 2 IS on the store, below IX and IS on the volume; 3 wants IX on the store.
 #[test]
 fn conversion_to_six(rt: HostRuntime) -> Result<(), AllocError> {
