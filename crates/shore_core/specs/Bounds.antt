@@ -1,7 +1,7 @@
 -- What fits a log device and the pages of a geometry, beside what its frames say.
-use Rattle.std.specs.Prelude.{◌≡◌, ℕ, ◌+◌, ◌^◌, ◌<◌, ◌≤◌, List, IfSome, All, length, take}
+use Rattle.std.specs.Prelude.{◌≡◌, ℕ, ◌+◌, ◌<◌, ◌≤◌, List, IfSome, All, length, take}
 use Rattle.shore_types.specs.declared.layout.Geometry.{Geometry}
-use Rattle.shore_types.specs.declared.layout.TheConstants.{LONGEST_FRAME}
+use Rattle.shore_types.specs.declared.layout.TheConstants.{ENDING_COST, LAST_LSN, LAST_OPENED, LAST_TXN, LONGEST_FRAME}
 use Rattle.shore_model.specs.declared.log_records.LogRecord.{LogRecord}
 use Rattle.shore_model.specs.Logs.{told}
 use Rattle.shore_machine.specs.Pages.{FitPages}
@@ -13,8 +13,8 @@ use Rattle.shore_core.specs.Opened.{cost_of_log}
 pub record InBounds (g : Geometry) (stream : ℕ) (rs : List LogRecord) : Type 0 where
   pub pages : FitPages g (told rs)
   pub room : cost_of_log rs + LONGEST_FRAME ≤ stream
-  pub numbers : length rs < 2 ^ 46 + 2 ^ 32
-  pub txns : All (λ r. r.txn < 2 ^ 62) rs
+  pub numbers : length rs < LAST_OPENED
+  pub txns : All (λ r. r.txn < LAST_TXN) rs
 
 -- so is each beginning of it, which a crash may leave
 abbrev pub AreInBounds : Geometry → ℕ → List LogRecord → Type 0
@@ -22,10 +22,10 @@ AreInBounds g stream rs = (n : ℕ) → n ≤ length rs → InBounds g stream (t
 
 -- of what is reserved in all, and the next record's number: what the session's transaction may still log has its room and number
 pub record HasOwnRoom (reserved number : ℕ) (a : Active) : Type 0 where
-  pub ending : 34 ≤ a.reserved
+  pub ending : ENDING_COST ≤ a.reserved
   pub within : a.reserved ≤ reserved
-  pub txn : a.txn < 2 ^ 62
-  pub few : number ≤ 2 ^ 46 + 1
+  pub txn : a.txn < LAST_TXN
+  pub few : number ≤ LAST_LSN + 1
 
 -- a state over a stream of this length, whose list is in bounds with each of its beginnings, whose sums are those of the list, and which has the room that
 -- it owes

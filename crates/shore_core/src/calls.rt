@@ -5,11 +5,9 @@ ghost use Rattle.std.specs.Option.{ForSome};
 ghost use Rattle.shore_types.specs.Layout.{HasStore, HasPage};
 ghost use Rattle.shore_types.specs.declared.ids.Rid.{Rid};
 ghost use Rattle.shore_logrec.specs.Text.{Fits};
-ghost use Rattle.shore_logrec.specs.declared.costs.TheConstants.{ENDING_COST};
 ghost use Rattle.shore_log.specs.Settled.{list_of, stable, IsSettled};
 ghost use Rattle.shore_log.specs.PlainTails.{first_of, waiting_in};
-ghost use Rattle.shore_core.specs.declared.calls.TheConstants.{LAST_LSN, LAST_OPENED, LAST_TXN};
-ghost use Rattle.shore_types.specs.declared.layout.TheConstants.{MAX_LOG_BYTES};
+ghost use Rattle.shore_types.specs.declared.layout.TheConstants.{ENDING_COST, LAST_LSN, LAST_OPENED, LAST_TXN, MAX_LOG_BYTES};
 ghost use Rattle.shore_machine.specs.Pages.{FitPages};
 ghost use Rattle.shore_core.specs.Bounds.{AreInBounds, InBounds, IsBounded};
 ghost use Rattle.shore_core.specs.Opened.{IsLastChange, cost_of_log};
@@ -26,19 +24,12 @@ use crate::replay::{OpenError, cost_of_all, next_transaction, replay};
 use crate::room::LogRoom;
 use shore_disk::Disk;
 use shore_log::{Durable, LogDev, PlainTail, Tail};
-use shore_logrec::{ENDING_COST, LogRecord, Payload, change_cost, compensation_cost};
+use shore_logrec::{LogRecord, Payload, change_cost, compensation_cost};
 use shore_machine::{Step, Wait};
 use shore_model::{Answer, Call, RidMap};
-use shore_types::layout::MAX_RECORD_BYTES;
+use shore_types::layout::{ENDING_COST, LAST_LSN, LAST_OPENED, LAST_TXN, MAX_RECORD_BYTES};
 use shore_types::{Bytes, Fault, Geometry, Lsn, PageId, Rid, StoreId, TxnId};
 use std::alloc::Global;
-
-/// Where the number of the last record is this or more, no room is given to new work.
-const LAST_LSN: u64 = 1 << 46;
-/// The numbers of all records are below this one.
-const LAST_OPENED: u64 = LAST_LSN + (1 << 32);
-/// Where the next transaction's number is this or more, none begins.
-const LAST_TXN: u64 = 1 << 62;
 
 /// The session's transaction.
 #[derive(Clone, Copy, Debug, PartialEq, Eq)]

@@ -1,6 +1,6 @@
 //! A device in memory. It keeps a list of its calls, so that a crash may leave all that the model allows.
 ghost use Rattle.std.specs.Prelude.{◌≡◌, ◌+◌, ◌≤◌, [], ◌∷◌, All, true, ℕ, length, replicate, IfOk, OnOk, OnErr};
-ghost use Rattle.shore_disk.specs.Device.{wrote, synced, overwritten, seen_after, may_leave};
+ghost use Rattle.shore_disk.specs.Device.{wrote, synced, overwritten, seen_after, may_leave, size};
 ghost use Rattle.shore_disk.specs.Memory.{call_of, calls_onto, picked_once, picked_after, end_of};
 
 use crate::{Disk, DiskFault};
@@ -77,6 +77,7 @@ impl MemDisk {
     pub fn crash(&mut self, pick: Pick)
         ensures picked { history_of self.new ≡ record { first = picked_after pick (history_of self.old).first (history_of self.old).calls; calls = [] } }
         ensures left { may_leave (history_of self.old) (history_of self.new).first }
+        ensures size { size (history_of self.new) ≡ size (history_of self.old) }
         ensures failures { failures_of self.new ≡ failures_of self.old }
     {
         pick_image(

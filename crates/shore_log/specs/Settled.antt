@@ -1,12 +1,12 @@
 -- What a log device holds between two calls.
-use Rattle.std.specs.Prelude.{◌≡◌, ◌≢◌, ◌+◌, ℕ, List, [], ◌∷◌, ◌++◌, length, take, drop, IsTrue, Some, Result, Ok, Err}
+use Rattle.std.specs.Prelude.{◌≡◌, ◌≢◌, ◌+◌, ◌≤◌, ℕ, List, [], ◌∷◌, ◌++◌, length, take, drop, IsTrue, Some, Result, Ok, Err}
 use Rattle.shore_disk.specs.Device.{Stands}
 use Rattle.shore_disk.specs.declared.device.Disk.{Ghosts}
 use Rattle.shore_gate.specs.declared.gates.TheConstants.{OPEN}
 use Rattle.shore_types.specs.declared.faults.Fault.{Fault}
 use Rattle.shore_model.specs.declared.log_records.LogRecord.{LogRecord}
 use Rattle.shore_logrec.specs.Text.{texts}
-use Rattle.shore_log.specs.Frames.{behind_gate, text, AreGroups, joined}
+use Rattle.shore_log.specs.Frames.{behind_gate, text, AreGroups, IsLongest, joined}
 use Rattle.shore_log.specs.declared.device.LogDev.{LogDev}
 
 -- every record, in the order of their numbers
@@ -49,6 +49,13 @@ pub record IsStaged {D : Type 0} {G : Ghosts D} (log : LogDev D G) (front : List
   pub stands : Stands (G.history log.device) (front ++ (text 1 groups ++ gate ∷ (behind_gate (log.forced + 1) (texts group) ++ 0 ∷ rest)))
   pub place : log.place ≡ length (text 1 groups)
   pub waits : log.staged ≡ Some record { count = length group; len = length (texts group) }
+
+-- the device has no room for the frame of the longest list of waiting records that one frame holds, and a byte behind it
+pub record HasNoFrameRoom {D : Type 0} {G : Ghosts D} (log : LogDev D G) : Type 0 where
+  pub count : ℕ
+  pub some : 1 ≤ count
+  pub longest : IsLongest (waiting log) count
+  pub full : log.limit ≤ 4096 + log.place + (13 + length (texts (take count (waiting log))))
 
 -- The forced records and the frame under way are the same, and what was settled or staged is so still.
 pub record KeepsFrames {D : Type 0} {G : Ghosts D} (old new : LogDev D G) : Type 0 where

@@ -79,7 +79,7 @@ fn has_stream(limit: u64) -> bool
 }
 
 impl<D: Disk> LogDev<D> {
-    ghost use Rattle.shore_log.specs.Settled.{IsSettled, IsStaged, KeepsFrames, list_of, stable, waiting, device_of, fault_of};
+    ghost use Rattle.shore_log.specs.Settled.{HasNoFrameRoom, IsSettled, IsStaged, KeepsFrames, list_of, stable, waiting, device_of, fault_of};
     ghost use Rattle.shore_log.specs.PlainTails.{first_of, waiting_in};
 
     /// Takes all records that wait in the tail. 27 where a growth was refused: each stays where it was.
@@ -99,13 +99,16 @@ impl<D: Disk> LogDev<D> {
 
     /// Stages the longest list of waiting records that one frame holds: writes it behind the closed gate, with a closed gate
     /// behind it, and syncs. Answers the last number staged, and None where no record waits or a frame is under way.
-    /// 9 where the device has no room for the frame and a byte behind it, 27 where a growth was refused; after both nothing has changed.
+    /// `LogFull` if the device has no room for the frame and a byte behind it, `Memory` if an allocation failed; after both nothing has
+    /// changed. `Device` if the device failed: no frame is staged then.
     pub fn stage(&mut self, alloc: Global) -> Result<Option<Lsn>, Fault>
         // The staged records are the longest list that one frame holds.
         ensures staged { (front : List ℕ) → IsSettled self.old front → self.old.staged ≡ None → IfOk result (λ n. IfSome n (λ last.
             IsStaged self.new front (take (last - self.old.forced) (waiting self.old)))) }
         ensures longest { self.old.staged ≡ None → IfOk result (λ n. IfSome n (λ last.
             (self.old.forced < last) × IsLongest (waiting self.old) (last - self.old.forced))) }
+        ensures frame { self.old.staged ≡ None → IfOk result (λ n. IfSome n (λ last. self.new.staged ≡ Some record {
+            count = last - self.old.forced; len = length (texts (take (last - self.old.forced) (waiting self.old))) })) }
         ensures none_waits { self.old.staged ≡ None → result ≡ Ok None → waiting self.old ≡ [] }
         ensures under_way { IsSome self.old.staged → result ≡ Ok None }
         ensures nothing { result ≡ Ok None → self.new ≡ self.old }
@@ -117,8 +120,7 @@ impl<D: Disk> LogDev<D> {
         ensures same { (list_of self.new ≡ list_of self.old) × (stable self.new ≡ stable self.old) }
         ensures refused { IfErr result (λ fault. (fault ≡ Fault.Device) ⊎ (self.new ≡ self.old)) }
         ensures others { IfErr result (λ fault. (fault ≡ Fault.Device) ⊎ (fault ≡ Fault.Memory) ⊎ (fault ≡ Fault.LogFull)) }
-        ensures full { result ≡ Err Fault.LogFull → (count : ℕ) × (1 ≤ count) × (count ≤ length (waiting self.old))
-            × (self.old.limit ≤ 4096 + self.old.place + (13 + length (texts (take count (waiting self.old))))) }
+        ensures full { result ≡ Err Fault.LogFull → HasNoFrameRoom self.old }
         ensures none_staged { OnErr result (self.new.staged ≡ None) }
         ensures cause { HasCause result (D.faults self.old.device) (D.faults self.new.device) }
     {
@@ -146,6 +148,7 @@ impl<D: Disk> LogDev<D> {
             → OnOk result (IsSettled self.new front × (stable self.new ≡ stable self.old ++ group)) }
         ensures opened { IfOk result (λ n. IsSome n ↔ IsSome self.old.staged) }
         ensures grown { IfOk result (λ n. IfSome n (λ durable. (length (stable self.old) < durable.lsn) × (durable.lsn ≤ length (list_of self.new)))) }
+        ensures frame { IfOk result (λ n. IfSome n (λ durable. ForSome self.old.staged (λ s. durable.lsn ≡ self.old.forced + s.count))) }
         ensures waited { OnErr result (IsSome self.old.staged) }
         ensures none_staged { OnOk result (self.new.staged ≡ None) }
         ensures durable { IfOk result (λ n. IfSome n (λ durable. durable.lsn ≡ length (stable self.new))) }
@@ -170,7 +173,8 @@ impl<D: Disk> LogDev<D> {
         Ok(Some(self.durable()))
     }
 
-    /// Forces one frame: stages it and opens its gate.
+    /// Forces one frame: stages it and opens its gate. Answers the last durable number, and `None` if no record waits or a frame is under
+    /// way. `LogFull` and `Memory` as `stage`, with nothing changed; `Device` if the device failed, and the frame may be staged then.
     pub fn append_frame(&mut self, alloc: Global) -> Result<Option<Durable>, Fault>
         ensures settled { (front : List ℕ) → IsSettled self.old front → self.old.staged ≡ None → OnOk result (IsSettled self.new front × (self.new.staged ≡ None)) }
         ensures forced { (front : List ℕ) → IsSettled self.old front → self.old.staged ≡ None → (count : ℕ) → IsLongest (waiting self.old) count
@@ -180,7 +184,16 @@ impl<D: Disk> LogDev<D> {
         ensures any_moment { (front : List ℕ) → IsSettled self.old front → self.old.staged ≡ None → (count : ℕ) → IsLongest (waiting self.old) count
             → LeavesOnly (D.history self.old.device) (D.history self.new.device) (GivesWithOrWithout front (stable self.old) (take count (waiting self.old))) }
 
+        ensures longest { self.old.staged ≡ None → IfOk result (λ n. IfSome n (λ durable.
+            (self.old.forced < durable.lsn) × IsLongest (waiting self.old) (durable.lsn - self.old.forced) × (durable.lsn ≡ length (stable self.new)))) }
+        ensures none_waits { self.old.staged ≡ None → result ≡ Ok None → waiting self.old ≡ [] }
+        ensures under_way { IsSome self.old.staged → result ≡ Ok None }
+        ensures nothing { result ≡ Ok None → self.new ≡ self.old }
         ensures same { list_of self.new ≡ list_of self.old }
+        ensures unforced { OnErr result (stable self.new ≡ stable self.old) }
+        ensures refused { IfErr result (λ fault. (fault ≡ Fault.Device) ⊎ (self.new ≡ self.old)) }
+        ensures others { IfErr result (λ fault. (fault ≡ Fault.Device) ⊎ (fault ≡ Fault.Memory) ⊎ (fault ≡ Fault.LogFull)) }
+        ensures full { result ≡ Err Fault.LogFull → HasNoFrameRoom self.old }
         ensures cause { HasCause result (D.faults self.old.device) (D.faults self.new.device) }
     {
         match self.stage(alloc)? {

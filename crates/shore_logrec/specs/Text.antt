@@ -1,11 +1,19 @@
 -- The one text of each log record.
-use Rattle.std.specs.Prelude.{ℕ, ◌+◌, ◌<◌, ◌≤◌, ◌^◌, ◌⊎◌, List, [], ◌∷◌, ◌++◌, length, Option, Some, None, IfSome, IsSome}
+use Rattle.std.specs.Prelude.{ℕ, ◌+◌, ◌<◌, ◌≤◌, ◌^◌, ◌⊎◌, List, [], ◌∷◌, ◌++◌, length, replicate, Option, Some, None, IfSome, IsSome}
 use Rattle.std.specs.List.{flat_map}
 use Rattle.byteorder.specs.Endian.{little_bytes}
 use Rattle.shore_types.specs.declared.ids.Rid.{Rid}
+use Rattle.shore_types.specs.declared.locking.Granule.{Granule}
+use Rattle.shore_types.specs.declared.locking.Granule.TheVariants.{Volume, Store, Page, Record}
+use Rattle.shore_types.specs.declared.locking.Level.{Level}
+use Rattle.shore_types.specs.declared.locking.Level.TheVariants as level
 use Rattle.shore_types.specs.declared.layout.TheConstants.{MAX_RECORD_BYTES}
 use Rattle.shore_model.specs.Records.{Image}
+use Rattle.shore_model.specs.declared.log_records.DirtyPage.{DirtyPage}
 use Rattle.shore_model.specs.declared.log_records.LogRecord.{LogRecord}
+use Rattle.shore_model.specs.declared.log_records.LogTxn.{LogTxn}
+use Rattle.shore_model.specs.declared.log_records.TxnState.{TxnState}
+use Rattle.shore_model.specs.declared.log_records.TxnState.TheVariants.{Active, Prepared, RollingBack}
 use Rattle.shore_model.specs.declared.log_records.Payload.{Payload}
 use Rattle.shore_model.specs.declared.log_records.Payload.TheVariants.{Change, Compensation, Commit, End, Prepare, RollbackDecided, CheckpointBegin, CheckpointEnd, Anchor}
 
@@ -38,10 +46,59 @@ image_text (Some bytes) = 1 ∷ string_text 2 bytes
 abbrev pub change_text : Rid → Image → Image → List ℕ
 change_text id before after = rid_text id ++ image_text before ++ image_text after
 
--- the fields of a kind that is served
+-- the id, the image after, and the number of the Change to be undone next
+abbrev pub compensation_text : Rid → Image → ℕ → List ℕ
+compensation_text id after undo_next = rid_text id ++ image_text after ++ little_bytes 8 undo_next
+
+abbrev pub level_number : Level → ℕ
+level_number level.Volume = 0
+level_number level.Store = 1
+level_number level.Page = 2
+level_number level.Record = 3
+
+-- 11 bytes: the level, and store, page and slot, each 0 below the level
+abbrev pub granule_text : Granule → List ℕ
+granule_text Volume = level_number level.Volume ∷ replicate 10 0
+granule_text (Store s) = level_number level.Store ∷ (little_bytes 4 s ++ replicate 6 0)
+granule_text (Page p) = level_number level.Page ∷ (little_bytes 4 p.store ++ little_bytes 4 p.page ++ replicate 2 0)
+granule_text (Record r) = level_number level.Record ∷ rid_text r
+
+-- the global id behind its length, and the granules behind their count
+abbrev pub prepare_text : List ℕ → List Granule → List ℕ
+prepare_text global granules = string_text 1 global ++ little_bytes 4 (length granules) ++ flat_map granule_text granules
+
+abbrev pub state_number : TxnState → ℕ
+state_number Active = 1
+state_number Prepared = 2
+state_number RollingBack = 3
+
+-- 41 bytes: an entry of a checkpoint's table of transactions
+abbrev pub txn_text : LogTxn → List ℕ
+txn_text t =
+    little_bytes 8 t.txn ++ (state_number t.state ∷ []) ++ little_bytes 8 t.first ++ little_bytes 8 t.last ++ little_bytes 8 t.undo_next
+    ++ little_bytes 8 t.prepare
+
+-- 16 bytes: an entry of its table of dirty pages
+abbrev pub dirty_text : DirtyPage → List ℕ
+dirty_text d = little_bytes 4 d.page.store ++ little_bytes 4 d.page.page ++ little_bytes 8 d.recovery
+
+-- the number of the checkpoint's begin, the next transaction's number, and the two tables, each behind its count
+abbrev pub checkpoint_text : ℕ → ℕ → List LogTxn → List DirtyPage → List ℕ
+checkpoint_text begin next txns dirty =
+    little_bytes 8 begin ++ little_bytes 8 next ++ little_bytes 2 (length txns) ++ flat_map txn_text txns ++ little_bytes 2 (length dirty)
+    ++ flat_map dirty_text dirty
+
+-- the fields of each kind
 abbrev pub payload_text : Payload → List ℕ
 payload_text (Change id before after) = change_text id before after
-payload_text _ = []
+payload_text (Compensation id after undo_next) = compensation_text id after undo_next
+payload_text Commit = []
+payload_text End = []
+payload_text (Prepare global granules) = prepare_text global granules
+payload_text RollbackDecided = []
+payload_text CheckpointBegin = []
+payload_text (CheckpointEnd begin next txns dirty) = checkpoint_text begin next txns dirty
+payload_text (Anchor checkpoint tail) = little_bytes 8 checkpoint ++ little_bytes 8 tail
 
 -- 21 bytes: the kind, the transaction, the number of its record before, and how many bytes the payload has
 unfoldable pub head_text : LogRecord → List ℕ
@@ -73,11 +130,17 @@ pub record ChangeFits (id : Rid) (before after : Image) : Type 0 where
   pub new : ImageFits after
   pub some : IsSome before ⊎ IsSome after
 
--- what has a text, of the kinds that are served
+-- what is written and read: Change and Commit as yet
 abbrev pub PayloadFits : Payload → Type 0
 PayloadFits (Change id before after) = ChangeFits id before after
+PayloadFits (Compensation id after undo_next) = ⊥
 PayloadFits Commit = Unit {0}
-PayloadFits _ = ⊥
+PayloadFits End = ⊥
+PayloadFits (Prepare global granules) = ⊥
+PayloadFits RollbackDecided = ⊥
+PayloadFits CheckpointBegin = ⊥
+PayloadFits (CheckpointEnd begin next txns dirty) = ⊥
+PayloadFits (Anchor checkpoint tail) = ⊥
 
 -- what has a text
 pub record Fits (r : LogRecord) : Type 0 where

@@ -8,9 +8,7 @@ ghost use Rattle.shore_model.specs.declared.log_records.Payload.TheVariants.{Cha
 ghost use Rattle.shore_logrec.specs.Text.{cost_of, image_text_len};
 
 use crate::lengths::{LSN_BYTES, RID_BYTES, image_len};
-
-/// The cost of a record that has no payload, as a Commit or an End.
-pub const ENDING_COST: u64 = 34;
+use shore_types::layout::ENDING_COST;
 
 /// The cost of a Change whose images have these lengths, None where one is absent.
 #[tactic(auto, using(crate::proofs::TextLengths::lengths))]

@@ -7,7 +7,7 @@ mod lengths;
 mod reading;
 mod writing;
 
-pub use costs::{ENDING_COST, change_cost, compensation_cost};
+pub use costs::{change_cost, compensation_cost};
 pub use laws::no_text_begins_another;
 pub use lengths::{MAX_TEXT_BYTES, encoded_len};
 pub use reading::{decode, u32_at, u64_at};

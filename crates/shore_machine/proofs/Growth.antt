@@ -47,5 +47,5 @@ call_grows g s c Nothing new served p = absurd p
 pub resume_grows : (s : State) (step : Step) (new : State) → ResumeStep s step new → Grows s new
 resume_grows s (Done answer) new p = subst (Grows s) (sym p.3) (record { more = []; list = sym (append-nil s.list); durable = refl; running = λ r. r })
 resume_grows s (Waits wait) new p = same_grows s new p.2
-resume_grows s (Refused fault) new p = same_grows s new p.2
-resume_grows s Nothing new p = same_grows s new p.2
+resume_grows s (Refused fault) new p = subst (Grows s) (sym p.3) (record { more = []; list = sym (append-nil s.list); durable = refl; running = λ r. r })
+resume_grows s Nothing new p = same_grows s new p.1

@@ -11,7 +11,6 @@ pub mod OwnReplies
 pub mod Quiet
 pub mod Replies
 pub mod Resumes
-pub mod Rooms
 pub mod RunsOn
 pub mod Tellings
 pub mod ToldFronts

@@ -1,6 +1,6 @@
 -- Replies that leave every transaction where it was: a refusal, and the reply to a commit.
-use Rattle.std.proofs.Common.{◌≡◌, ◌++◌, ◌≤◌, ◌<◌, ℕ, List, [], ◌∷◌, Option, Some, None, Ok, Err, refl, sym, ap, subst, ◌∙◌, arith}
-use Rattle.std.specs.Prelude.{All, Contains, IsSomeAnd, take, length, ◌-◌}
+use Rattle.std.proofs.Common.{◌≡◌, inl, inr, ◌++◌, ◌≤◌, ◌<◌, ℕ, List, [], ◌∷◌, Option, Some, None, Ok, Err, refl, sym, ap, subst, ◌∙◌, arith}
+use Rattle.std.specs.Prelude.{All, Contains, IsSome, IsSomeAnd, take, length, ◌-◌}
 use Rattle.std.proofs.lemmas.List.Elements.{All-push}
 use Rattle.shore_types.specs.declared.faults.Fault.{Fault}
 use Rattle.shore_model.specs.declared.calls.Call.{Call}
@@ -12,7 +12,7 @@ use Rattle.shore_model.specs.declared.histories.Entry.{Entry}
 use Rattle.shore_model.specs.declared.histories.Entry.TheVariants.{Exchanged}
 use Rattle.shore_model.specs.declared.log_records.LogRecord.{LogRecord}
 use Rattle.shore_model.specs.Records.{Records, overlay}
-use Rattle.shore_model.specs.Histories.{MayStand, decisions, serial, acknowledged, free}
+use Rattle.shore_model.specs.Histories.{History, MayStand, decisions, serial, acknowledged, free}
 use Rattle.shore_model.specs.FirstPath.{IsFirst, IsFirstEntry}
 use Rattle.shore_machine.specs.Bookkeeping.{BeginsBelow, IsCalledBelow, IsSession, IsDecided, session_after, commits_in}
 use Rattle.shore_machine.specs.States.{State, Active}
@@ -36,7 +36,8 @@ module _ (opened : List LogRecord) (es : List Entry) where
       → IsSession opened gained (history_on opened es) R a c → IsSession opened gained (history_on opened more) R a c
   session_kept more gained R (Some a) None kept same k = record { stands = same ∙ k.stands; some = k.some; above = k.above; undecided = k.undecided; replies = (kept a.txn).replies R k.replies; last_is = k.last_is }
   session_kept more gained R None (Some n) kept same k = record { txn = k.txn; stands = same ∙ k.stands; numbered = k.numbered }
-  session_kept more gained R None None kept same k = same ∙ k
+  session_kept more gained R None None kept same (inl k) = inl (same ∙ k)
+  session_kept more gained R None None kept same (inr k) = inr (k.0, record { txn = k.1.txn; stands = same ∙ k.1.stands; numbered = k.1.numbered })
   session_kept more gained R (Some a) (Some n) kept same k = k
 
   module _ (u : ℕ) (x : Exchange) (quiet : IsQuiet x) where
@@ -97,6 +98,29 @@ waited opened gained es R durable (Some a) (Some n) k le = absurd k
 waited opened gained es R durable None (Some n) k le = record { inactive = refl; n = n; forced = le; decided = k }
 waited opened gained es R durable a None k le = absurd le
 
+unforced : (opened gained : List LogRecord) (h : History) (R : Records) (a : Option Active) (c : Option ℕ) → IsSession opened gained h R a c → IsSome c
+    → IsSession opened gained h R a None
+unforced opened gained h R (Some a) (Some n) k some = absurd k
+unforced opened gained h R None (Some n) k some = inr (n, k)
+unforced opened gained h R a None k some = cc
+
+-- the commit that waited waits no more
+pub gives_up : (opened : List LogRecord) (h : History) (s : State) → IsAfter opened h s → IsSome s.committing → IsAfter opened h (answered s)
+gives_up opened h s k waits = record {
+  opening = k.opening;
+  first = k.first;
+  history = k.history;
+  sound = k.sound;
+  gained = k.gained;
+  list = k.list;
+  logged = k.logged;
+  records = k.records;
+  numbers = k.numbers;
+  session = unforced opened k.gained h (serial_now h) s.active s.committing k.session waits;
+  ordered = k.ordered;
+  forced = k.forced;
+}
+
 abbrev pub commit_answered : Exchange
 commit_answered = record { call = call.Commit; reply = Ok Committed }
 
@@ -133,7 +157,7 @@ commit_goes_on opened es s k forced =
         over_opened = k.numbers.over_opened;
         over_gained = k.numbers.over_gained;
       };
-      session = subst (λ a. IsSession opened k.gained (history_on opened more) (serial_now (history_on opened more)) a None) (sym w.inactive) freed;
+      session = subst (λ a. IsSession opened k.gained (history_on opened more) (serial_now (history_on opened more)) a None) (sym w.inactive) (inl freed);
       ordered = k.ordered;
       forced = record {
         least = k.forced.least;

@@ -1,5 +1,6 @@
 -- Each resume goes on with the history.
-use Rattle.std.proofs.Common.{List, true, false, cond, Err, refl, sym, subst}
+use Rattle.std.proofs.Common.{List, refl, sym, subst}
+use Rattle.std.specs.Prelude.{IsSome}
 use Rattle.shore_types.specs.declared.faults.Fault.{Fault}
 use Rattle.shore_types.specs.declared.faults.Fault.TheVariants.{Failed}
 use Rattle.shore_model.specs.declared.calls.Call.TheVariants as call
@@ -12,9 +13,9 @@ use Rattle.shore_machine.specs.declared.step.Step.{Step}
 use Rattle.shore_machine.specs.declared.step.Step.TheVariants.{Done, Waits, Refused, Nothing}
 use Rattle.shore_machine.specs.Bookkeeping.{session_after}
 use Rattle.shore_machine.specs.States.{State}
-use Rattle.shore_machine.specs.Steps.{ResumeStep}
-use Rattle.shore_machine.specs.Trails.{IsAfter, after_resume, waits_in, and_entry, exchanged}
-use Rattle.shore_machine.proofs.Quiet.{refusal_goes_on, commit_goes_on}
+use Rattle.shore_machine.specs.Steps.{ResumeStep, answered}
+use Rattle.shore_machine.specs.Trails.{IsAfter, after_resume}
+use Rattle.shore_machine.proofs.Quiet.{gives_up, refusal_goes_on, commit_goes_on}
 use Rattle.shore_machine.proofs.Replies.{refusal_is_quiet}
 use Rattle.shore_machine.proofs.Turns.{history_on}
 
@@ -23,21 +24,19 @@ module _ (opened : List LogRecord) (es : List Entry) (s : State) (k : IsAfter op
   ResumesOn step new = IsAfter opened (after_resume (history_on opened es) 1 step) new
 
   -- a device has failed: the commit that waited is refused
-  refusal : ResumesOn (Refused Failed) s
-  refusal =
-      elim (waits_in (history_on opened es) 1) as (λ b. IsAfter opened (cond b (and_entry (history_on opened es) (exchanged (history_on opened es) 1 call.Commit (Err Failed))) (history_on opened es)) s) [
-        | true ↦ refusal_goes_on opened es s (session_after es).txn call.Commit Failed (refusal_is_quiet call.Commit Failed (λ R c. tt)) tt k.numbers.own (tt, refl) k
-        | false ↦ k
-      ]
+  refusal : IsSome s.committing → ResumesOn (Refused Failed) (answered s)
+  refusal waits =
+      gives_up opened (after_resume (history_on opened es) 1 (Refused Failed)) s
+      (refusal_goes_on opened es s (session_after es).txn call.Commit Failed (refusal_is_quiet call.Commit Failed (λ R c. tt)) tt k.numbers.own (tt, refl) k) waits
 
   resumes_on : (step : Step) (new : State) → ResumeStep s step new → ResumesOn step new
   resumes_on (Refused fault) new h =
-      subst (λ (fault : Fault). ResumesOn (Refused fault) new) (sym h.0) (subst (λ (new : State). ResumesOn (Refused Failed) new) (sym h.2) refusal)
+      subst (λ (fault : Fault). ResumesOn (Refused fault) new) (sym h.0) (subst (λ (new : State). ResumesOn (Refused Failed) new) (sym h.3) (refusal h.2))
   resumes_on (Done answer) new h =
       subst (λ (answer : Answer). ResumesOn (Done answer) new) (sym h.0)
       (subst (λ (new : State). ResumesOn (Done Committed) new) (sym h.3) (commit_goes_on opened es s k h.2))
   resumes_on (Waits wait) new h = subst (λ (new : State). ResumesOn (Waits wait) new) (sym h.2) k
-  resumes_on Nothing new h = subst (λ (new : State). ResumesOn Nothing new) (sym h.2) k
+  resumes_on Nothing new h = subst (λ (new : State). ResumesOn Nothing new) (sym h.1) k
 
 pub resume_on : (opened : List LogRecord) (h : History) (s new : State) (step : Step) → IsAfter opened h s → ResumeStep s step new → IsAfter opened (after_resume h 1 step) new
 resume_on opened h s new step k moves =

@@ -1,9 +1,10 @@
 -- Events, and runs, one after another.
-use Rattle.std.proofs.Common.{◌≡◌, ◌++◌, ℕ, List, [], ◌∷◌, Bool, true, false, cond, Result, Ok, Err, refl, sym, ap, subst, ◌∙◌, map, take}
+use Rattle.std.proofs.Common.{◌≡◌, ◌++◌, ◌+◌, ◌-◌, ◌≤◌, ℕ, List, [], ◌∷◌, Result, Ok, Err, refl, sym, ap, subst, ◌∙◌, map, take, length, append_assoc, arith}
 use Rattle.std.specs.Prelude.{filter}
-use Rattle.std.specs.List.{filter_map}
+use Rattle.std.specs.List.{AllByRecursion, filter_map}
 use Rattle.std.proofs.lemmas.List.Elements.{All-nil}
 use Rattle.std.proofs.lemmas.List.{take-map}
+use Rattle.std.proofs.Math.Seq.{take-append-add}
 use Rattle.shore_types.specs.declared.layout.Geometry.{Geometry}
 use Rattle.shore_types.specs.declared.faults.Fault.{Fault}
 use Rattle.shore_model.specs.declared.calls.Answer.{Answer}
@@ -18,10 +19,10 @@ use Rattle.shore_model.specs.Histories.{History, IsHistory, Sound, Kept, serial,
 use Rattle.shore_model.specs.Lives.{IsLife, Span, history_of, next_opening}
 use Rattle.shore_model.specs.Logs.{told, committed_in}
 use Rattle.shore_machine.specs.declared.step.Step.TheVariants.{Done, Waits, Refused, Nothing}
-use Rattle.shore_machine.specs.Runs.{Event, Called, Resumed, Forced, HasFailed, Moves, MovesBy, left_by, after_event, after_events, made_by, Run, IsRun, AreRuns, list_left}
+use Rattle.shore_machine.specs.Runs.{Event, Called, Resumed, Forced, HasFailed, Moves, MovesBy, left_by, after_event, after_events, made_by, Run, IsRun, AreRuns, IsPrefix, AreFixed, list_left}
 use Rattle.shore_machine.specs.FirstLists.{IsFirstList}
 use Rattle.shore_machine.specs.States.{State}
-use Rattle.shore_machine.specs.Trails.{IsAfter, KeepsDurable, waits_in, and_entry, exchanged, called_by, opened_on, opening_of}
+use Rattle.shore_machine.specs.Trails.{IsAfter, KeepsDurable, called_by, opened_on, opening_of}
 use Rattle.shore_machine.proofs.Calls.{call_on}
 use Rattle.shore_machine.proofs.Crashes.{crash_on}
 use Rattle.shore_machine.proofs.Gains.{decisions_logged}
@@ -50,17 +51,13 @@ called_same : (o : Opening) (h : History) (c : Call) (reply : Result Answer Faul
 called_same o h call.Begin reply = refl
 called_same o h _ reply = refl
 
-more_of : (b : Bool) (h k : History) (e : Entry) → h.entries ≡ k.entries → (cond b (and_entry h e) h).entries ≡ (cond b (and_entry k e) k).entries
-more_of true h k e same = ap (λ es. es ++ e ∷ []) same
-more_of false h k e same = same
-
 event_same : (o : Opening) (h : History) (e : Event) → (after_event h e).entries ≡ (after_event (with_opening o h) e).entries
 event_same o h (Called c (Done answer)) = ap (λ u. h.entries ++ Exchanged 1 u (record { call = c; reply = Ok answer }) ∷ []) (called_same o h c (Ok answer))
 event_same o h (Called c (Refused fault)) = ap (λ u. h.entries ++ Exchanged 1 u (record { call = c; reply = Err fault }) ∷ []) (called_same o h c (Err fault))
 event_same o h (Called c (Waits wait)) = refl
 event_same o h (Called c Nothing) = refl
 event_same o h (Resumed (Done answer)) = refl
-event_same o h (Resumed (Refused fault)) = more_of (waits_in h 1) h (with_opening o h) (exchanged h 1 call.Commit (Err fault)) refl
+event_same o h (Resumed (Refused fault)) = refl
 event_same o h (Resumed (Waits wait)) = refl
 event_same o h (Resumed Nothing) = refl
 event_same o h (Forced n) = refl
@@ -140,3 +137,32 @@ runs_on g rs (r ∷ runs) last h =
       (sound.0, sound.1, sound.2, subst (λ o. IsLife o rest.0 (opening_of last)) (sym (next_is rs history r.last r.kept k run.2)) rest.2),
       rest.3 ∙ ap (λ R. left_by R rest.0) (span_tells rs history r.last r.kept k run.2),
     )
+
+-- ---- what each open fixes
+
+prefix_of_prefix : (rs all more : List LogRecord) → IsPrefix rs all → IsPrefix all more → IsPrefix rs more
+prefix_of_prefix rs all more a b = (a.0 ++ b.0, b.1 ∙ ap (λ xs. xs ++ b.0) a.1 ∙ append_assoc rs a.0 b.0)
+
+-- what a run leaves begins with what it was opened on
+run_grows : (g : Geometry) (rs : List LogRecord) (r : Run) → IsRun g rs r → IsPrefix rs (list_left r)
+run_grows g rs r run =
+    let k : IsAfter rs (after_events (opened_on rs) r.events) r.last = events_on g rs (opened_on rs) r.first r.events r.last (open_on rs r.first run.0) run.1 in
+    let least : length rs ≤ r.last.durable = k.forced.least in
+    let kept : r.last.durable ≤ r.kept = run.2.0 in
+    let split : r.kept ≡ length rs + (r.kept - length rs) = omega arith in
+    (take (r.kept - length rs) k.gained, ap (take r.kept) k.list ∙ ap (λ n. take n (rs ++ k.gained)) split ∙ take-append-add rs k.gained (r.kept - length rs))
+
+-- what stands at the beginning of the first list stands there in each later one
+runs_grow : (g : Geometry) (rs before : List LogRecord) (runs : List Run) (last : List LogRecord) → AreRuns g rs runs last → IsPrefix before rs
+    → AllByRecursion (IsPrefix before) (map (λ r. r.first.list) runs) × IsPrefix before last
+runs_grow g rs before [] last h begins = (tt, subst (IsPrefix before) (sym h) begins)
+runs_grow g rs before (r ∷ runs) last h begins =
+    let later = runs_grow g (list_left r) before runs last h.1 (prefix_of_prefix before rs (list_left r) begins (run_grows g rs r h.0)) in
+    ((subst (IsPrefix before) (sym h.0.0.list) begins, later.0), later.1)
+
+pub runs_fix : (g : Geometry) (rs : List LogRecord) (runs : List Run) (last : List LogRecord) → AreRuns g rs runs last → AreFixed (map (λ r. r.first.list) runs) last
+runs_fix g rs [] last h = tt
+runs_fix g rs (r ∷ runs) last h =
+    let first : IsPrefix r.first.list (list_left r) = subst (λ opened. IsPrefix opened (list_left r)) (sym h.0.0.list) (run_grows g rs r h.0) in
+    let later = runs_grow g (list_left r) r.first.list runs last h.1 first in
+    (later.0, later.1, runs_fix g (list_left r) runs last h.1)

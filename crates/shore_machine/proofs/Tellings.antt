@@ -1,5 +1,5 @@
 -- What adds nothing to the history: an open, a force that is told, and a failure.
-use Rattle.std.proofs.Common.{◌≡◌, ◌≤◌, ◌+◌, ◌-◌, take, ℕ, List, [], None, length, refl, sym, ap, subst, ◌∙◌, append-nil, arith}
+use Rattle.std.proofs.Common.{◌≡◌, inl, ◌≤◌, ◌+◌, ◌-◌, take, ℕ, List, [], None, length, refl, sym, ap, subst, ◌∙◌, append-nil, arith}
 use Rattle.std.specs.Prelude.{Contains}
 use Rattle.std.proofs.lemmas.List.{length-append}
 use Rattle.std.proofs.lemmas.List.Elements.{All-nil}
@@ -29,7 +29,7 @@ open_on rs s o =
       numbers = record { some = o.some_next; begun = All-nil (BeginsBelow s.next); called = tt; own = o.some_next; over_opened = o.next; over_gained = tt };
       session =
           subst (λ a. IsSession rs [] h (serial_now h) a s.committing) (sym o.active)
-          (subst (λ c. IsSession rs [] h (serial_now h) None c) (sym o.committing) refl);
+          (subst (λ c. IsSession rs [] h (serial_now h) None c) (sym o.committing) (inl refl));
       ordered = record { plain = o.plain; above = tt; ended = tt; lawful = subst IsFirstList (sym (append-nil rs)) };
       forced = record { least = omega arith; most = omega arith; acknowledged = All-nil (Contains (commits_in (take (s.durable - length rs) []))) };
     }

@@ -1,6 +1,6 @@
 -- What ties the entries of a history, the list that a manager was opened on, the records that it has gained, and the plain
 -- data of the state. No promise of its own: it is what the laws carry from step to step.
-use Rattle.std.specs.Prelude.{◌≡◌, ◌≢◌, ◌<◌, ◌≤◌, ◌-◌, ◌+◌, ◌||◌, ℕ, List, [], ◌∷◌, ◌++◌, Bool, true, false, Option, None, Some, IsTrue, IfSome, All, Contains, length, map, take}
+use Rattle.std.specs.Prelude.{◌≡◌, ◌≢◌, ◌⊎◌, ◌<◌, ◌≤◌, ◌-◌, ◌+◌, ◌||◌, ℕ, List, [], ◌∷◌, ◌++◌, Bool, true, false, Option, None, Some, IsTrue, IfSome, All, Contains, length, map, take}
 use Rattle.std.specs.List.{AllByRecursion}
 use Rattle.shore_model.specs.declared.histories.Decision.{Decision}
 use Rattle.shore_model.specs.declared.histories.Decision.TheVariants as decision
@@ -67,11 +67,12 @@ pub record IsDecided (opened gained : List LogRecord) (es : List Entry) (n : ℕ
   pub stands : session_after es ≡ in_txn txn
   pub numbered : Contains (committed_in (take (n - length opened) gained)) txn
 
--- how the session stands: in a transaction under way, in one whose commit waits, or in none
+-- how the session stands: in a transaction under way; in one whose commit waits; or in none, or in one whose commit was refused
+-- after a failure
 abbrev pub IsSession : List LogRecord → List LogRecord → History → Records → Option Active → Option ℕ → Type 0
 IsSession opened gained h R (Some a) None = IsUnderWay opened gained h.entries R a.txn a.last
 IsSession opened gained h R None (Some n) = IsDecided opened gained h.entries n
-IsSession opened gained h R None None = session_after h.entries ≡ free
+IsSession opened gained h R None None = (session_after h.entries ≡ free) ⊎ ((n : ℕ) × IsDecided opened gained h.entries n)
 IsSession opened gained h R (Some a) (Some n) = ⊥
 
 -- ---- the records

@@ -1,7 +1,6 @@
 pub mod Bookkeeping
 pub mod FirstLists
 pub mod Pages
-pub mod Rooms
 pub mod Runs
 pub mod Served
 pub mod States

@@ -1,5 +1,6 @@
 -- Whole runs of the machine: what happens to a manager from its open to a crash, and one manager after another.
-use Rattle.std.specs.Prelude.{◌≡◌, ℕ, ◌≤◌, List, [], ◌∷◌, length, take}
+use Rattle.std.specs.Prelude.{◌≡◌, ℕ, ◌≤◌, List, [], ◌∷◌, ◌++◌, length, take}
+use Rattle.std.specs.List.{AllByRecursion}
 use Rattle.shore_types.specs.declared.layout.Geometry.{Geometry}
 use Rattle.shore_model.specs.declared.calls.Call.{Call}
 use Rattle.shore_model.specs.declared.histories.Entry.{Entry}
@@ -68,6 +69,15 @@ list_left r = take r.kept r.last.list
 abbrev pub left_by : Records → List Span → Records
 left_by R [] = R
 left_by R (s ∷ spans) = left_by (serial (λ t. writes_of (calls_of t s.entries)) R s.kept) spans
+
+-- a list is the other's prefix
+abbrev pub IsPrefix : List LogRecord → List LogRecord → Type 0
+IsPrefix rs all = (more : List LogRecord) × (all ≡ rs ++ more)
+
+-- each of these lists is a prefix of every later one, and of the last
+abbrev pub AreFixed : List (List LogRecord) → List LogRecord → Type 0
+AreFixed [] last = Unit {0}
+AreFixed (rs ∷ later) last = AllByRecursion (IsPrefix rs) later × IsPrefix rs last × AreFixed later last
 
 -- runs one after another from a list: each opens what the crash before it kept
 abbrev pub AreRuns : Geometry → List LogRecord → List Run → List LogRecord → Type 0

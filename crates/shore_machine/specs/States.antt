@@ -1,6 +1,6 @@
 -- The state of the core, as plain data.
-use Rattle.std.specs.Prelude.{ℕ, ◌+◌, ◌^◌, ◌<◌, ◌≤◌, List, Bool, Option, length}
-use Rattle.shore_types.specs.declared.layout.TheConstants.{LONGEST_FRAME, GREATEST_CHECKPOINT}
+use Rattle.std.specs.Prelude.{ℕ, ◌+◌, ◌<◌, ◌≤◌, List, Bool, Option, length}
+use Rattle.shore_types.specs.declared.layout.TheConstants.{ENDING_COST, GREATEST_CHECKPOINT, LAST_LSN, LAST_TXN, LONGEST_FRAME}
 use Rattle.shore_model.specs.declared.log_records.LogRecord.{LogRecord}
 use Rattle.shore_model.specs.Records.{Records}
 
@@ -38,8 +38,8 @@ next_number s = 1 + length s.list
 
 -- so much more leaves room for the longest frame and the greatest checkpoint, and there are numbers left
 abbrev pub Admits : State → ℕ → Type 0
-Admits s need = (next_number s ≤ 2 ^ 46) × (s.room.kept + s.room.reserved + need + LONGEST_FRAME + GREATEST_CHECKPOINT ≤ s.room.stream)
+Admits s need = (next_number s ≤ LAST_LSN) × (s.room.kept + s.room.reserved + need + LONGEST_FRAME + GREATEST_CHECKPOINT ≤ s.room.stream)
 
 -- a transaction may begin: there is room for its ending, and a number for it
 abbrev pub MayBegin : State → Type 0
-MayBegin s = Admits s 34 × (s.next < 2 ^ 62)
+MayBegin s = Admits s ENDING_COST × (s.next < LAST_TXN)

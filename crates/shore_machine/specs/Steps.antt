@@ -6,7 +6,7 @@ use Rattle.shore_types.specs.declared.faults.Fault.{Fault}
 use Rattle.shore_types.specs.declared.faults.Fault.TheVariants.{NoTransaction, AlreadyActive, NoStore, NoPage, NoRecord, TooLong, StoreFull, LogFull, Busy, Failed, Memory}
 use Rattle.shore_types.specs.declared.ids.Rid.{Rid}
 use Rattle.shore_types.specs.declared.layout.Geometry.{Geometry}
-use Rattle.shore_types.specs.declared.layout.TheConstants.{MAX_RECORD_BYTES}
+use Rattle.shore_types.specs.declared.layout.TheConstants.{ENDING_COST, MAX_RECORD_BYTES}
 use Rattle.shore_model.specs.declared.calls.Answer.{Answer}
 use Rattle.shore_model.specs.declared.calls.Answer.TheVariants.{Began, Got, Inserted, Committed}
 use Rattle.shore_model.specs.declared.calls.Call.{Call}
@@ -24,9 +24,9 @@ use Rattle.shore_machine.specs.declared.step.Wait.TheVariants.{Durable}
 -- the next transaction is the session's, and its ending is reserved for
 abbrev pub begun : State → State
 begun s = record s {
-  active = Some record { txn = s.next; last = 0; reserved = 34 };
+  active = Some record { txn = s.next; last = 0; reserved = ENDING_COST };
   next = s.next + 1;
-  room = record { kept = s.room.kept; reserved = s.room.reserved + 34; stream = s.room.stream };
+  room = record { kept = s.room.kept; reserved = s.room.reserved + ENDING_COST; stream = s.room.stream };
 }
 
 -- what the Change of an insert costs: 44, 1 for the image that is absent, and 3 with the record's bytes; and its undo, 53
@@ -58,7 +58,7 @@ committed s a = record s {
   active = None;
   committing = Some (next_number s);
   list = s.list ++ commit_record a ∷ [];
-  room = record { kept = s.room.kept + 34; reserved = s.room.reserved - a.reserved; stream = s.room.stream };
+  room = record { kept = s.room.kept + ENDING_COST; reserved = s.room.reserved - a.reserved; stream = s.room.stream };
 }
 
 -- the call that waited is answered
@@ -116,12 +116,12 @@ CallStep g s c Nothing new = ⊥
 
 -- ---- the other events
 
--- going on with the call that waits: it is answered once its record is durable
+-- Going on with the call that waits: it is answered once, when its record is durable or a device has failed.
 abbrev pub ResumeStep : State → Step → State → Type 0
-ResumeStep s (Refused fault) new = (fault ≡ Failed) × IsTrue s.failed × (new ≡ s)
+ResumeStep s (Refused fault) new = (fault ≡ Failed) × IsTrue s.failed × IsSome s.committing × (new ≡ answered s)
 ResumeStep s (Done answer) new = (answer ≡ Committed) × (s.failed ≡ false) × IsSomeAnd s.committing (λ n. n ≤ s.durable) × (new ≡ answered s)
 ResumeStep s (Waits wait) new = (s.failed ≡ false) × IsSomeAnd s.committing (λ n. (wait ≡ Durable n) × (s.durable < n)) × (new ≡ s)
-ResumeStep s Nothing new = (s.failed ≡ false) × (s.committing ≡ None) × (new ≡ s)
+ResumeStep s Nothing new = (s.committing ≡ None) × (new ≡ s)
 
 -- the log device has forced its records up to this number
 abbrev pub told_durable : ℕ → State → State

@@ -1,7 +1,7 @@
 -- The history that the steps of the machine make, and what holds of a state after it. No value keeps the history: it is spoken
 -- of as what was called and answered since an opening.
-use Rattle.std.specs.Prelude.{◌≡◌, ℕ, ◌<◌, ◌≤◌, List, [], ◌∷◌, ◌++◌, Bool, false, Option, None, Some, Result, Ok, Err, IsTrue, if◌then◌else◌, unwrap_or, length, All}
-use Rattle.std.specs.List.{AllByRecursion, list_any}
+use Rattle.std.specs.Prelude.{◌≡◌, ℕ, ◌<◌, ◌≤◌, List, [], ◌∷◌, ◌++◌, false, Option, None, Some, Result, Ok, Err, IsTrue, unwrap_or, length, All}
+use Rattle.std.specs.List.{AllByRecursion}
 use Rattle.shore_types.specs.declared.faults.Fault.{Fault}
 use Rattle.shore_model.specs.declared.calls.Answer.{Answer}
 use Rattle.shore_model.specs.declared.calls.Call.{Call}
@@ -13,7 +13,7 @@ use Rattle.shore_model.specs.declared.histories.Opening.{Opening}
 use Rattle.shore_model.specs.declared.log_records.LogRecord.{LogRecord}
 use Rattle.shore_model.specs.Records.{Records, overlay}
 use Rattle.shore_model.specs.Alone.{writes_of}
-use Rattle.shore_model.specs.Histories.{History, IsHistory, Sound, standing, free, begun_by, calls_of, decisions, serial, writes_in, is_ended_by}
+use Rattle.shore_model.specs.Histories.{History, IsHistory, Sound, standing, free, begun_by, calls_of, decisions, serial, writes_in}
 use Rattle.shore_model.specs.FirstPath.{IsFirstEntry, IsLogOf}
 use Rattle.shore_model.specs.Logs.{told}
 use Rattle.shore_machine.specs.declared.step.Step.{Step}
@@ -46,15 +46,12 @@ after_call h session c (Refused fault) = and_entry h (exchanged h session c (Err
 after_call h session c (Waits wait) = and_entry h (Decided (decision.Commit (txn_of h session)))
 after_call h session c Nothing = h
 
--- a commit of the session is decided and not answered
-abbrev pub waits_in : History → ℕ → Bool
-waits_in h session = list_any (is_ended_by (txn_of h session)) (decisions h.entries)
-
 -- after a resume: the reply to the commit that waited
 abbrev pub after_resume : History → ℕ → Step → History
 after_resume h session (Done answer) = and_entry h (exchanged h session call.Commit (Ok answer))
-after_resume h session (Refused fault) = if waits_in h session then and_entry h (exchanged h session call.Commit (Err fault)) else h
-after_resume h session _ = h
+after_resume h session (Refused fault) = and_entry h (exchanged h session call.Commit (Err fault))
+after_resume h session (Waits wait) = h
+after_resume h session Nothing = h
 
 -- ---- what holds of a state after a history
 
@@ -96,7 +93,8 @@ KeepsDurable s n = (s.durable ≤ n) × (n ≤ length s.list)
 abbrev pub opened_on : List LogRecord → History
 opened_on rs = record { opening = opening_of rs; entries = [] }
 
--- what an open leaves: the records that the list tells, no transaction, a number above all of the list's, and all of it durable
+-- what an open leaves: the records that the list tells, no transaction and nothing reserved, as the next transaction's number the
+-- least above all of the list's, and all of the list durable
 pub record IsOpened (rs : List LogRecord) (s : State) : Type 0 where
   pub records : s.records ≡ told rs
   pub active : s.active ≡ None
@@ -105,5 +103,7 @@ pub record IsOpened (rs : List LogRecord) (s : State) : Type 0 where
   pub plain : All (λ r. IsTrue (is_plain r)) rs
   pub some_next : 0 < s.next
   pub next : All (λ r. r.txn < s.next) rs
+  pub least : (n : ℕ) → 0 < n → All (λ r. r.txn < n) rs → s.next ≤ n
+  pub unreserved : s.room.reserved ≡ 0
   pub durable : s.durable ≡ length rs
   pub running : s.failed ≡ false

@@ -10,8 +10,7 @@ ghost use Rattle.shore_model.specs.Histories.{History, Kept, RunsAloneAfter, dec
 ghost use Rattle.shore_model.specs.Lives.{IsLife, Span};
 ghost use Rattle.shore_model.specs.Logs.{told};
 ghost use Rattle.shore_machine.specs.FirstLists.{IsFirstList};
-ghost use Rattle.shore_machine.specs.Rooms.{HasRoom};
-ghost use Rattle.shore_machine.specs.Runs.{AreRuns, Event, MovesBy, Run, after_events, left_by, made_by};
+ghost use Rattle.shore_machine.specs.Runs.{AreFixed, AreRuns, Event, MovesBy, Run, after_events, left_by, made_by};
 ghost use Rattle.shore_machine.specs.Served.{IsServed};
 ghost use Rattle.shore_machine.specs.States.{Active, State};
 ghost use Rattle.shore_machine.specs.Pages.{IsFree};
@@ -49,14 +48,6 @@ pub fn crash_keeps_acknowledged()
         (kept : List Decision) × Kept h.entries kept × (told (take n s.list) ≡ serial (writes_in h) h.opening.records kept) }
 {}
 
-/// What was reserved is enough for each ending: no step of a log that has room leaves it without.
-pub fn room_is_kept()
-    ensures call { (g : Geometry) (old new : State) (call : Call) (step : Step) → HasRoom old → CallStep g old call step new → HasRoom new }
-    ensures resume { (old new : State) (step : Step) → HasRoom old → ResumeStep old step new → HasRoom new }
-    ensures told { (s : State) (n : ℕ) → HasRoom s → HasRoom (told_durable n s) }
-    ensures failed { (s : State) → HasRoom s → HasRoom (with_failure s) }
-{}
-
 /// Before it is decided, the session's transaction runs alone on the serial records of now.
 pub fn under_way_runs_alone()
     ensures { (opened : List LogRecord) (h : History) (s : State) (a : Active) → IsAfter opened h s → s.active ≡ Some a →
@@ -68,13 +59,10 @@ pub fn list_tells_all_decided()
     ensures { (opened : List LogRecord) (h : History) (s : State) → IsAfter opened h s → told s.list ≡ serial_now h }
 {}
 
-/// A list that was lawful in its first form stays so, cut at any place too. And on what is kept of a list the next manager
-/// can be opened.
+/// A list that was lawful in its first form stays so, and so does every prefix of it.
 pub fn list_is_lawful()
-    ensures lawful { (opened : List LogRecord) (h : History) (s : State) (n : ℕ) →
+    ensures { (opened : List LogRecord) (h : History) (s : State) (n : ℕ) →
         IsAfter opened h s → IsFirstList opened → IsFirstList (take n s.list) }
-    ensures opens_again { (opened : List LogRecord) (h : History) (s : State) (n : ℕ) → IsAfter opened h s →
-        (next : State) × IsOpened (take n s.list) next }
 {}
 
 /// After any events from an open on, the history that they made is sound, and the state is what it leaves.
@@ -85,12 +73,14 @@ pub fn events_go_on()
 
 /// A format, and then any number of runs, each opened on what the crash before it kept: the entries that the runs made are
 /// those of a life. What the next open shows is what nothing becomes by the committed transactions of each run in turn, of
-/// a beginning of its decisions with every acknowledged one, each running alone in their order.
+/// a beginning of its decisions with every acknowledged one, each running alone in their order. And what a run was opened on is
+/// fixed: it is a prefix of what every later one is opened on.
 pub fn runs_are_a_life()
     ensures lawful { (g : Geometry) (runs : List Run) (last : List LogRecord) → AreRuns g [] runs last → IsFirstList last }
     ensures life { (g : Geometry) (runs : List Run) (last : List LogRecord) → AreRuns g [] runs last →
         (spans : List Span) × (map (λ s. s.entries) spans ≡ map (λ r. made_by r.events) runs)
         × IsLife (opening_of []) spans (opening_of last) × (told last ≡ left_by empty spans) }
+    ensures fixed { (g : Geometry) (runs : List Run) (last : List LogRecord) → AreRuns g [] runs last → AreFixed (map (λ r. r.first.list) runs) last }
 {}
 
 /// The Change of an insert tells nothing yet, and a Commit makes the list tell all that is in place.

@@ -4,7 +4,7 @@ use Rattle.std.specs.FinMap.{empty, get, insert}
 use Rattle.shore_types.specs.declared.ids.Rid.{Rid}
 use Rattle.shore_types.specs.declared.faults.Fault.{Fault}
 use Rattle.shore_types.specs.declared.faults.Fault.TheVariants.{NoRecord}
-use Rattle.shore_types.specs.declared.locking.Granule.TheVariants.{Record}
+use Rattle.shore_types.specs.declared.locking.Granule.TheVariants.{Volume, Store, Page, Record}
 use Rattle.shore_types.specs.declared.layout.TheConstants.{MAX_SLOTS}
 use Rattle.shore_model.specs.declared.calls.Call.{Call}
 use Rattle.shore_model.specs.declared.calls.Call.TheVariants as call
@@ -26,7 +26,22 @@ named (call.Update id bytes) = Some id
 named (call.Delete id) = Some id
 named (call.Lock (Record id) mode) = Some id
 named (call.TryLock (Record id) mode) = Some id
-named _ = None
+named call.Begin = None
+named (call.Insert s bytes) = None
+named (call.Scan s) = None
+named (call.Lock Volume mode) = None
+named (call.Lock (Store s) mode) = None
+named (call.Lock (Page p) mode) = None
+named (call.TryLock Volume mode) = None
+named (call.TryLock (Store s) mode) = None
+named (call.TryLock (Page p) mode) = None
+named call.Savepoint = None
+named (call.BackTo k) = None
+named call.Commit = None
+named call.Abort = None
+named (call.Prepare global) = None
+named (call.Resolve global outcome) = None
+named call.InDoubt = None
 
 -- no record is there, or none could be
 abbrev pub IsAbsent : Records → Rid → Type 0

@@ -1,14 +1,14 @@
 -- What happened since an opening, and what it comes to. This project's own: the serial order that "serial" and "Sound"
 -- speak of is the one that locks held to the end are taken for (degree 3 of Gray, Lorie, Putzolu and Traiger 1976), with
 -- the prepare as the turn of a transaction that prepared.
-use Rattle.std.specs.Prelude.{◌≡◌, ◌<◌, ◌==◌, ◌&&◌, ◌||◌, ℕ, List, [], ◌∷◌, ◌++◌, Bool, true, false, not, if◌then◌else◌, Option, None, Some, Result, Ok, map, filter, take, slice_get, unwrap_or, nat_eq, is_ok, IsTrue, IfSome, All, Contains, OnOk}
+use Rattle.std.specs.Prelude.{◌≡◌, ◌<◌, ◌==◌, ◌&&◌, ◌||◌, ℕ, List, [], ◌∷◌, ◌++◌, Bool, true, false, not, if◌then◌else◌, Option, None, Some, Result, Ok, Err, map, filter, take, slice_get, unwrap_or, nat_eq, is_ok, IsTrue, IfSome, All, Contains, OnOk}
 use Rattle.std.specs.List.{filter_map, list_any}
 use Rattle.std.specs.Cmp.Lexicographic.{pointwise}
 use Rattle.shore_types.specs.declared.faults.Fault.{Fault}
 use Rattle.shore_model.specs.declared.calls.Call.{Call}
 use Rattle.shore_model.specs.declared.calls.Call.TheVariants as call
 use Rattle.shore_model.specs.declared.calls.Answer.{Answer}
-use Rattle.shore_model.specs.declared.calls.Answer.TheVariants.{Began, Committed, Aborted}
+use Rattle.shore_model.specs.declared.calls.Answer.TheVariants.{Began, Got, Inserted, Updated, Deleted, Scanned, Locked, Saved, WentBack, Committed, Aborted, Prepared, Resolved, AreInDoubt, Staged, Forced, Flushed, Begun, Ended, Anchored, Moved, Cut}
 use Rattle.shore_model.specs.declared.calls.Outcome.TheVariants as outcome
 use Rattle.shore_model.specs.declared.calls.Exchange.{Exchange}
 use Rattle.shore_model.specs.declared.histories.Decision.{Decision}
@@ -65,7 +65,26 @@ abbrev pub after_own_reply : Standing → Result Answer Fault → Standing
 after_own_reply p (Ok (Began t)) = record { txn = t; prepared = false }
 after_own_reply p (Ok Committed) = free
 after_own_reply p (Ok Aborted) = free
-after_own_reply p _ = p
+after_own_reply p (Ok (Got bytes)) = p
+after_own_reply p (Ok (Inserted id)) = p
+after_own_reply p (Ok Updated) = p
+after_own_reply p (Ok Deleted) = p
+after_own_reply p (Ok (Scanned pairs)) = p
+after_own_reply p (Ok Locked) = p
+after_own_reply p (Ok (Saved index)) = p
+after_own_reply p (Ok WentBack) = p
+after_own_reply p (Ok Prepared) = p
+after_own_reply p (Ok Resolved) = p
+after_own_reply p (Ok (AreInDoubt pairs)) = p
+after_own_reply p (Ok (Staged n)) = p
+after_own_reply p (Ok (Forced n)) = p
+after_own_reply p (Ok (Flushed count)) = p
+after_own_reply p (Ok (Begun n)) = p
+after_own_reply p (Ok (Ended n)) = p
+after_own_reply p (Ok (Anchored checkpoint tail)) = p
+after_own_reply p (Ok Moved) = p
+after_own_reply p (Ok Cut) = p
+after_own_reply p (Err fault) = p
 
 -- where it stands once a transaction is prepared
 abbrev pub once_prepared : Standing → ℕ → Standing
@@ -146,7 +165,19 @@ asked_by t call.Commit = Some (Commit t)
 asked_by t (call.Prepare global) = Some (Prepare t global)
 asked_by t (call.Resolve global outcome.Commit) = Some (Commit t)
 asked_by t (call.Resolve global outcome.Abort) = Some (RollBack t)
-asked_by t _ = None
+asked_by t call.Begin = None
+asked_by t (call.Get id) = None
+asked_by t (call.GetForUpdate id) = None
+asked_by t (call.Insert s bytes) = None
+asked_by t (call.Update id bytes) = None
+asked_by t (call.Delete id) = None
+asked_by t (call.Scan s) = None
+asked_by t (call.Lock g mode) = None
+asked_by t (call.TryLock g mode) = None
+asked_by t call.Savepoint = None
+asked_by t (call.BackTo k) = None
+asked_by t call.Abort = None
+asked_by t call.InDoubt = None
 
 -- the decision that an entry acknowledges: the one that its call asks for, where the answer is Ok
 abbrev pub acknowledged_by : Entry → Option Decision

@@ -1,5 +1,5 @@
 //! The limits of version 1, and the layout of a volume.
-ghost use Rattle.std.specs.Prelude.{◌≡◌, ◌↔◌, Some, None, IsTrue};
+ghost use Rattle.std.specs.Prelude.{◌≡◌, ◌↔◌, ◌+◌, ◌^◌, Some, None, IsTrue};
 ghost use Rattle.shore_types.specs.Layout.{HasStore, HasPage, HasSlot, StoresInLimits, LocksInLimits, IsInLimits};
 ghost use Rattle.shore_types.specs.declared.config.Setting.TheVariants.{Stores, MaxLocks};
 
@@ -50,10 +50,30 @@ pub const MAX_FRAME_BYTES: usize = 65_536;
 pub const LONGEST_FRAME: u64 = 65_549;
 /// The most that a whole checkpoint costs: its begin, its end with full tables, and the anchor.
 pub const GREATEST_CHECKPOINT: u64 = 27_018;
+/// What a log record costs that has no payload, as a Commit or an End: its head, and its share of a frame.
+pub const ENDING_COST: u64 = 34;
+/// Once the last record has this number, no room is given to new work.
+pub const LAST_LSN: u64 = 1 << 46;
+/// The numbers of all records are below this one, those that were reserved for among them.
+pub const LAST_OPENED: u64 = LAST_LSN + (1 << 32);
+/// The numbers of all transactions are below this one.
+pub const LAST_TXN: u64 = 1 << 62;
 /// The fewest bytes of a log device.
 pub const MIN_LOG_BYTES: u64 = 135_168;
 /// The most bytes of a log device.
 pub const MAX_LOG_BYTES: u64 = 1_073_741_824;
+
+/// Each limit has the number that version 1 gives it; a definition cites it by its name.
+pub fn limits_are_those_of_version_1()
+    ensures page { (PAGE_BYTES ≡ 8192) × (PAGE_HEADER_BYTES ≡ 24) × (PAGE_ROOM ≡ 8168) × (SLOT_ENTRY_BYTES ≡ 4)
+        × (MAX_RECORD_BYTES ≡ 4000) × (MAX_SLOTS ≡ 2042) }
+    ensures volume { (MAX_STORES ≡ 64) × (MAX_PAGES ≡ 65536) × (MAX_BATCH_PAGES ≡ 32) × (MIN_POOL_FRAMES ≡ 8) × (MAX_POOL_FRAMES ≡ 1024) }
+    ensures table { (LEAST_MAX_LOCKS ≡ 16) × (MOST_MAX_LOCKS ≡ 4096) × (MAX_TRANSACTIONS ≡ 256) × (MAX_SAVEPOINTS ≡ 64)
+        × (MAX_GLOBAL_ID_BYTES ≡ 64) }
+    ensures log { (MAX_FRAME_BYTES ≡ 65536) × (LONGEST_FRAME ≡ 65549) × (GREATEST_CHECKPOINT ≡ 27018) × (ENDING_COST ≡ 34)
+        × (MIN_LOG_BYTES ≡ 135168) × (MAX_LOG_BYTES ≡ 2 ^ 30) }
+    ensures numbers { (VERSION ≡ 1) × (LAST_LSN ≡ 2 ^ 46) × (LAST_OPENED ≡ 2 ^ 46 + 2 ^ 32) × (LAST_TXN ≡ 2 ^ 62) }
+{}
 
 /// How a pair of devices is laid out.
 #[derive(Debug, Drop, PartialEq)]

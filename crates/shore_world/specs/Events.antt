@@ -8,9 +8,12 @@ use Rattle.shore_world.specs.declared.event.Event.TheVariants as event
 abbrev pub IsServedEvent : Event → Type 0
 IsServedEvent (event.Call session call) = (session ≡ 1) × IsServed call
 IsServedEvent (event.Resume session) = session ≡ 1
-IsServedEvent _ = Unit {0}
+IsServedEvent event.ForceStage = Unit {0}
+IsServedEvent event.ForceOpen = Unit {0}
 
 -- an event that owns memory
 abbrev pub IsCall : Event → Type 0
 IsCall (event.Call session call) = Unit {0}
-IsCall _ = ⊥
+IsCall (event.Resume session) = ⊥
+IsCall event.ForceStage = ⊥
+IsCall event.ForceOpen = ⊥

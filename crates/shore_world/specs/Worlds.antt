@@ -9,7 +9,7 @@ use Rattle.shore_disk.specs.declared.device.Disk.{Ghosts}
 use Rattle.shore_model.specs.declared.calls.Answer.TheVariants.{Staged, Forced}
 use Rattle.shore_model.specs.declared.log_records.LogRecord.{LogRecord}
 use Rattle.shore_machine.specs.declared.step.Step.{Step}
-use Rattle.shore_machine.specs.declared.step.Step.TheVariants.{Done, Refused, Nothing}
+use Rattle.shore_machine.specs.declared.step.Step.TheVariants.{Done, Waits, Refused, Nothing}
 use Rattle.shore_machine.specs.States.{State}
 use Rattle.shore_machine.specs.Steps.{CallStep, ResumeStep, told_durable, with_failure}
 use Rattle.shore_log.specs.Frames.{GivesBehind}
@@ -75,7 +75,9 @@ IsIdle w = IsSome w.log.staged ⊎ ((state_in w).durable ≡ length (state_in w)
 -- the fault that a step tells of, if any
 abbrev pub fault_at : Step → Result (Unit {0}) Fault
 fault_at (Refused fault) = Err fault
-fault_at _ = Ok tt
+fault_at (Done answer) = Ok tt
+fault_at (Waits wait) = Ok tt
+fault_at Nothing = Ok tt
 
 -- What an event moves: the state by a step of the machine, and the log device so that at each moment a crash leaves a beginning
 -- of the list as it was before, with all that was durable then.
