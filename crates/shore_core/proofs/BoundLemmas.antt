@@ -124,8 +124,8 @@ module _ (g : Geometry) (stream : ℕ) (opened : List LogRecord) (h : History) (
 pub resume_bounded : (g : Geometry) (stream : ℕ) (s : State) (step : Step) (new : State) → IsBounded g stream s → ResumeStep s step new → IsBounded g stream new
 resume_bounded g stream s (Done answer) new b p = subst (IsBounded g stream) (sym p.3) (record { as_long = b.as_long; beginnings = b.beginnings; kept = b.kept; fits = b.fits; own = b.own })
 resume_bounded g stream s (Waits wait) new b p = subst (IsBounded g stream) (sym p.2) b
-resume_bounded g stream s (Refused fault) new b p = subst (IsBounded g stream) (sym p.2) b
-resume_bounded g stream s Nothing new b p = subst (IsBounded g stream) (sym p.2) b
+resume_bounded g stream s (Refused fault) new b p = subst (IsBounded g stream) (sym p.3) (record { as_long = b.as_long; beginnings = b.beginnings; kept = b.kept; fits = b.fits; own = b.own })
+resume_bounded g stream s Nothing new b p = subst (IsBounded g stream) (sym p.1) b
 
 -- ---- at an open
 

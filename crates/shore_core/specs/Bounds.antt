@@ -1,12 +1,12 @@
 -- What fits a log device and the pages of a geometry, beside what its frames say.
-use Rattle.std.specs.Prelude.{◌≡◌, ℕ, ◌+◌, ◌<◌, ◌≤◌, List, IfSome, All, length, take}
+use Rattle.std.specs.Prelude.{◌≡◌, ℕ, ◌+◌, ◌<◌, ◌≤◌, List, IfSome, length, take}
 use Rattle.shore_types.specs.declared.layout.Geometry.{Geometry}
 use Rattle.shore_types.specs.declared.layout.TheConstants.{ENDING_COST, LAST_LSN, LAST_OPENED, LAST_TXN, LONGEST_FRAME}
 use Rattle.shore_model.specs.declared.log_records.LogRecord.{LogRecord}
 use Rattle.shore_model.specs.Logs.{told}
 use Rattle.shore_machine.specs.Pages.{FitPages}
 use Rattle.shore_machine.specs.States.{State, Active, next_number}
-use Rattle.shore_core.specs.Opened.{cost_of_log}
+use Rattle.shore_core.specs.Opened.{HasTxns, cost_of_log}
 
 -- a list that an open takes: the pages have room for what it tells, the stream for its records and the longest frame, and its
 -- numbers and those of its transactions are in their bounds
@@ -14,7 +14,7 @@ pub record InBounds (g : Geometry) (stream : ℕ) (rs : List LogRecord) : Type 0
   pub pages : FitPages g (told rs)
   pub room : cost_of_log rs + LONGEST_FRAME ≤ stream
   pub numbers : length rs < LAST_OPENED
-  pub txns : All (λ r. r.txn < LAST_TXN) rs
+  pub txns : HasTxns rs
 
 -- so is each beginning of it, which a crash may leave
 abbrev pub AreInBounds : Geometry → ℕ → List LogRecord → Type 0

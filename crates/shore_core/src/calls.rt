@@ -10,8 +10,8 @@ ghost use Rattle.shore_log.specs.PlainTails.{first_of, waiting_in};
 ghost use Rattle.shore_types.specs.declared.layout.TheConstants.{ENDING_COST, LAST_LSN, LAST_OPENED, LAST_TXN, MAX_LOG_BYTES};
 ghost use Rattle.shore_machine.specs.Pages.{FitPages};
 ghost use Rattle.shore_core.specs.Bounds.{AreInBounds, InBounds, IsBounded};
-ghost use Rattle.shore_core.specs.Opened.{IsLastChange, cost_of_log};
-ghost use Rattle.shore_core.specs.RecordMaps.{IsMisfit, IsOn};
+ghost use Rattle.shore_core.specs.Opened.{HasTxns, IsBadRecord, cost_of_log};
+ghost use Rattle.shore_core.specs.RecordMaps.{IsOn};
 ghost use Rattle.shore_core.specs.Room.{Admits};
 ghost use Rattle.shore_model.specs.declared.log_records.LogRecord.{LogRecord};
 ghost use Rattle.shore_model.specs.Logs.{told};
@@ -20,7 +20,7 @@ ghost use Rattle.shore_machine.specs.Trails.{IsOpened};
 ghost use Rattle.shore_machine.specs.Steps.{CallStep, ResumeStep, told_durable, with_failure};
 
 use crate::records::RecordMap;
-use crate::replay::{OpenError, cost_of_all, next_transaction, replay};
+use crate::replay::{OpenError, bad_transaction, cost_of_all, next_transaction, replay};
 use crate::room::LogRoom;
 use shore_disk::Disk;
 use shore_log::{Durable, LogDev, PlainTail, Tail};
@@ -255,7 +255,8 @@ impl<T: Tail> Core<T> {
         }
     }
 
-    /// Goes on with the session's call that waits: it is answered once its record is durable.
+    /// Goes on with the session's call that waits: it is answered once, when its record is durable or a device has failed (`Failed`).
+    /// With no call that waits there is nothing to do.
     pub fn resume(&mut self) -> Step
         // A commit is answered only where the force of its record was told.
         ensures step { (before : List LogRecord) → ResumeStep (state_of before self.old) result (state_of before self.new) }
@@ -263,19 +264,18 @@ impl<T: Tail> Core<T> {
         ensures geometry { geometry_of self.new ≡ geometry_of self.old }
         ensures first { T.Tail.first self.new.tail ≡ T.Tail.first self.old.tail }
     {
+        let Some(number) = self.committing else {
+            return Step::Nothing;
+        };
         if self.failed {
+            self.committing = None;
             return Step::Refused(Fault::Failed);
         }
-        match self.committing {
-            Some(number) => {
-                if number > self.durable {
-                    return Step::Waits(Wait::Durable(number));
-                }
-                self.committing = None;
-                Step::Done(Answer::Committed)
-            }
-            None => Step::Nothing,
+        if number > self.durable {
+            return Step::Waits(Wait::Durable(number));
         }
+        self.committing = None;
+        Step::Done(Answer::Committed)
     }
 
     /// The log device has forced its records up to this number.
@@ -312,13 +312,6 @@ impl<T: Tail> Core<T> {
     }
 }
 
-// Whether the last record and the next transaction have numbers in their bounds.
-fn has_numbers(last: u64, next_txn: u64) -> bool
-    ensures { IsTrue result ↔ ((last < LAST_OPENED) × (next_txn ≤ LAST_TXN)) }
-{
-    last < LAST_OPENED && next_txn <= LAST_TXN
-}
-
 impl Core<PlainTail> {
     ghost use Rattle.shore_core.specs.Cores.{durable_of, geometry_of, state_of};
 
@@ -338,9 +331,10 @@ impl Core<PlainTail> {
         ensures fits { IfOk result (λ core. FitPages geometry (state_of log.now core).records) }
         ensures room { size ≤ MAX_LOG_BYTES → IfOk result (λ core. (state_of log.now core).room ≡ record { kept = cost_of_log log.now; reserved = 0; stream = size }) }
 
-        // A refusal names the last change of a record that has no room, or the pages have room.
-        ensures bad { (n : ℕ) → result ≡ Err (OpenError.BadRecord n) → (id : Rid) × IsMisfit geometry (told log.now) id × IsLastChange log.now id n }
-        ensures no_room { result ≡ Err OpenError.NoRoom → FitPages geometry (told log.now) }
+        // A refusal names the first record of a transaction with a number that none may have, or else the last change of a record that
+        // has no room, or there is neither.
+        ensures bad { (n : ℕ) → result ≡ Err (OpenError.BadRecord n) → IsBadRecord geometry log.now n }
+        ensures no_room { result ≡ Err OpenError.NoRoom → HasTxns log.now × FitPages geometry (told log.now) }
 
         // A log that is in bounds gives a core, unless memory is wanting; where each of its beginnings is, so is the core.
         ensures bounded { size ≤ MAX_LOG_BYTES → AreInBounds geometry size log.now → IfOk result (λ core. IsBounded geometry size (state_of log.now core)) }
@@ -349,13 +343,16 @@ impl Core<PlainTail> {
         ensures waiting { IfOk result (λ core. waiting_in core.tail ≡ []) }
         ensures durable { IfOk result (λ core. durable_of core ≡ durable.lsn) }
     {
+        if let Some(number) = bad_transaction(log) {
+            return Err(OpenError::BadRecord(number));
+        }
         let records = replay(alloc, &geometry, log)?;
         let room = LogRoom::new(size, cost_of_all(log)).ok_or(OpenError::NoRoom)?;
         let last = log.len() as u64;
-        let next_txn = next_transaction(log);
-        if !has_numbers(last, next_txn) {
+        if last >= LAST_OPENED {
             return Err(OpenError::NoRoom);
         }
+        let next_txn = next_transaction(log);
         Ok(Core {
             geometry,
             records,

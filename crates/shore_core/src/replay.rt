@@ -1,7 +1,7 @@
 //! What an open makes of the log: the records that it tells, and the sums.
-ghost use Rattle.std.specs.Prelude.{◌≡◌, ◌≤◌, ◌<◌, ◌-◌, ◌^◌, ℕ, ◌≢◌, ◌↔◌, Err, Some, IsTrue, IfOk, IfErr, All, length, min};
+ghost use Rattle.std.specs.Prelude.{◌≡◌, ◌≤◌, ◌<◌, ◌-◌, ◌^◌, ℕ, ◌≢◌, ◌↔◌, Err, Some, None, IsTrue, IfOk, IfErr, IfSome, All, length, min};
 ghost use Rattle.std.specs.List.{AllWithin};
-ghost use Rattle.shore_core.specs.Opened.{ChangesAt, IsLastChange, cost_of_log};
+ghost use Rattle.shore_core.specs.Opened.{ChangesAt, HasTxns, IsFirstBadTxn, IsLastChange, cost_of_log};
 ghost use Rattle.shore_logrec.specs.Text.{Fits};
 ghost use Rattle.shore_core.specs.declared.replay.OpenError.TheVariants.{Memory, NoRoom, BadRecord};
 ghost use Rattle.shore_machine.specs.Pages.{FitPages};
@@ -12,6 +12,7 @@ ghost use Rattle.shore_types.specs.declared.ids.Rid.{Rid};
 use crate::changes::records_told;
 use crate::records::{Misfit, RecordMap};
 use shore_logrec::{LogRecord, encoded_len};
+use shore_types::layout::LAST_TXN;
 use shore_types::{Geometry, Lsn, Rid};
 use std::alloc::{AllocError, Global};
 
@@ -21,11 +22,12 @@ const FRAME_SHARE: u64 = 13;
 /// Why a log gives no core.
 #[derive(Clone, Copy, Debug, PartialEq, Eq)]
 pub enum OpenError {
-    /// A growth was refused.
+    /// An allocation failed.
     Memory,
     /// The log's records leave no room for the longest frame, or its numbers none for a record more.
     NoRoom,
-    /// A record that is too long, or whose page is not there or has no room for it, was left by the change of this number.
+    /// The record of this number is of a transaction with a number that none may have, or it left a record that is too long, or whose
+    /// page is not there or has no room for it.
     BadRecord(Lsn),
 }
 
@@ -78,6 +80,19 @@ fn is_change(logged: &LogRecord, id: &Rid) -> bool
         Some(changed) => changed == *id,
         None => false,
     }
+}
+
+/// The number of the first record whose transaction has a number that none may have.
+pub fn bad_transaction(log: &[LogRecord]) -> Option<Lsn>
+    ensures some { IfSome result (IsFirstBadTxn log.now) }
+    ensures none { result ≡ None → HasTxns log.now }
+{
+    for (index, logged) in log.iter().enumerate() {
+        if logged.txn.0 >= LAST_TXN {
+            return Some(Lsn(index as u64 + 1));
+        }
+    }
+    None
 }
 
 /// What the records cost together, each its text and its share of a frame. It stays at the greatest number where the sum is
