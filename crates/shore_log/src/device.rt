@@ -335,6 +335,7 @@ impl<D: Disk> LogDev<D> {
 
 impl<D: Disk> LogDev<FuseDisk<D>> {
     ghost use Rattle.shore_disk.specs.Fuse.{fuse_inner, fuse_calls, fuse_refused};
+    ghost use Rattle.shore_log.specs.Settled.{KeepsFrames};
 
     /// Lets so many more writes and syncs of the device pass; then every call of it fails.
     pub fn set_fuse(&mut self, calls: u64)
@@ -343,6 +344,7 @@ impl<D: Disk> LogDev<FuseDisk<D>> {
         ensures refused { fuse_refused self.new.device ≡ fuse_refused self.old.device }
         ensures list { (self.new.records ≡ self.old.records) × (self.new.forced ≡ self.old.forced) }
         ensures frame { (self.new.place ≡ self.old.place) × (self.new.staged ≡ self.old.staged) }
+        ensures frames { KeepsFrames self.old self.new }
     {
         self.device.set_calls(calls);
     }

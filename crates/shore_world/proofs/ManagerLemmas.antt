@@ -6,6 +6,8 @@ use Rattle.std.proofs.lemmas.List.{take-take, drop-take, length-take}
 use Rattle.std.proofs.lemmas.List.Elements.{recursion_from_All}
 use Rattle.shore_types.specs.declared.faults.Fault.{Fault}
 use Rattle.shore_types.specs.declared.layout.Geometry.{Geometry}
+use Rattle.shore_disk.specs.Device as device
+use Rattle.shore_disk.specs.Device.{size}
 use Rattle.shore_disk.specs.declared.device.Disk.{Ghosts}
 use Rattle.shore_model.specs.declared.calls.Answer.TheVariants.{Staged, Forced}
 use Rattle.shore_model.specs.declared.log_records.LogRecord.{LogRecord}
@@ -33,8 +35,8 @@ use Rattle.shore_world.specs.declared.event.Event.{Event}
 use Rattle.shore_world.specs.declared.event.Event.TheVariants.{Call, Resume, ForceStage, ForceOpen}
 use Rattle.shore_world.specs.declared.world.World.{World}
 use Rattle.shore_world.specs.Events.{IsServedEvent}
-use Rattle.shore_world.specs.Worlds.{state_in, geometry_in, EventStep, ForceRefused, GivesBeginning, IsKept, Runs}
-use Rattle.shore_world.specs.Managers.{Manager, IsManager, IsLeft, AreManagers, failure_by, moves_by, all_moves, entries_of}
+use Rattle.shore_world.specs.Worlds.{state_in, geometry_in, history_in, EventStep, ForceRefused, OpenRefused, GivesBeginning, IsKept, IsLike, Runs, Steps}
+use Rattle.shore_world.specs.Managers.{Manager, IsManager, IsLeft, NoForceIsFull, AreManagers, failure_by, moves_by, all_moves, entries_of}
 
 -- ---- one event
 
@@ -44,6 +46,10 @@ refused g s f new (inr (inl p)) = subst (λ (x : Fault). MovesBy g s (failure_by
 refused g s f new (inr (inr (running, (inl memory), same))) = subst (λ (x : Fault). MovesBy g s (failure_by x) new) (sym memory) same
 refused g s f new (inr (inr (running, (inr full), same))) = subst (λ (x : Fault). MovesBy g s (failure_by x) new) (sym full) same
 
+open_refused : (g : Geometry) (s : State) (f : Fault) (new : State) → OpenRefused s f new → MovesBy g s (failure_by f) new
+open_refused g s f new (inl p) = refused g s f new (inl p)
+open_refused g s f new (inr p) = refused g s f new (inr (inl p))
+
 one_move : (g : Geometry) (s : State) (e : Event) (step : Step) (new : State) → IsServedEvent e → EventStep g s e step new → MovesBy g s (moves_by e step) new
 one_move g s (Call session call) step new served p = (new, (served.1, p), refl)
 one_move g s (Resume session) step new served p = (new, p, refl)
@@ -52,7 +58,7 @@ one_move g s ForceStage Nothing new served p = p.1
 one_move g s ForceStage (Refused f) new served p = refused g s f new p
 one_move g s ForceOpen (Done (Forced n)) new served p = (new, (omega (arith, p.1), p.2, p.3), refl)
 one_move g s ForceOpen Nothing new served p = p.1
-one_move g s ForceOpen (Refused f) new served p = refused g s f new p
+one_move g s ForceOpen (Refused f) new served p = open_refused g s f new p
 one_move g s ForceStage step new served p = absurd p
 one_move g s ForceOpen step new served p = absurd p
 
@@ -68,11 +74,15 @@ all_served events served = recursion_from_All IsServedEvent events served
 module _ {D : Type 0} {G : Ghosts D} where
   pub run_moves : (g : Geometry) (old : World D G) (events : List Event) (steps : List Step) (new : World D G) → geometry_in old ≡ g → AllByRecursion IsServedEvent events
       → Runs old events steps new → MovesBy g (state_in old) (all_moves events steps) (state_in new)
-  run_moves g old [] [] new at served runs = ap (λ (w : World D G). state_in w) runs
+  run_moves g old [] [] new at served runs = runs.state
   run_moves g old (e ∷ es) (step ∷ steps) new at served runs =
-      let first = subst (λ (x : Geometry). EventStep x (state_in old) e step (state_in runs.0)) at runs.1.moves.state in
-      further g (state_in old) (moves_by e step) (state_in runs.0) (all_moves es steps) (state_in new)
-      (one_move g (state_in old) e step (state_in runs.0) served.0 first) (run_moves g runs.0 es steps new (runs.1.moves.geometry ∙ at) served.1 runs.2)
+      let start = runs.0 in
+      let mid = runs.1 in
+      let like = runs.2 in
+      let first = subst (λ (x : Geometry). EventStep x (state_in start) e step (state_in mid)) (like.geometry ∙ at) runs.3.moves.state in
+      subst (λ (s : State). MovesBy g s (moves_by e step ++ all_moves es steps) (state_in new)) like.state
+      (further g (state_in start) (moves_by e step) (state_in mid) (all_moves es steps) (state_in new)
+      (one_move g (state_in start) e step (state_in mid) served.0 first) (run_moves g mid es steps new (runs.3.moves.geometry ∙ like.geometry ∙ at) served.1 runs.4))
   run_moves g old [] (step ∷ steps) new at served runs = absurd runs
   run_moves g old (e ∷ es) [] new at served runs = absurd runs
 
@@ -108,6 +118,10 @@ module _ (g : Geometry) (stream : ℕ) where
   refused_bounded s f new b (inr (inl p)) = subst (IsBounded g stream) (sym p.2) (with_failure_bounded s b)
   refused_bounded s f new b (inr (inr p)) = subst (IsBounded g stream) (sym p.2) b
 
+  open_refused_bounded : (s : State) (f : Fault) (new : State) → IsBounded g stream s → OpenRefused s f new → IsBounded g stream new
+  open_refused_bounded s f new b (inl p) = refused_bounded s f new b (inl p)
+  open_refused_bounded s f new b (inr p) = refused_bounded s f new b (inr (inl p))
+
   event_bounded : (opened : List LogRecord) (h : History) (s : State) (e : Event) (step : Step) (new : State) → IsAfter opened h s → IsBounded g stream s → FitPages g s.records → IsServedEvent e
       → EventStep g s e step new → IsBounded g stream new
   event_bounded opened h s (Call session call) step new k b fit served p = call_bounded g stream opened h s k b call step new served.1 fit p
@@ -118,7 +132,7 @@ module _ (g : Geometry) (stream : ℕ) where
   event_bounded opened h s ForceOpen (Done (Forced n)) new k b fit served p =
       subst (IsBounded g stream) (sym p.3) (record { as_long = b.as_long; beginnings = b.beginnings; kept = b.kept; fits = b.fits; own = b.own })
   event_bounded opened h s ForceOpen Nothing new k b fit served p = subst (IsBounded g stream) (sym p.1) b
-  event_bounded opened h s ForceOpen (Refused f) new k b fit served p = refused_bounded s f new b p
+  event_bounded opened h s ForceOpen (Refused f) new k b fit served p = open_refused_bounded s f new b p
   event_bounded opened h s ForceStage step new k b fit served p = absurd p
   event_bounded opened h s ForceOpen step new k b fit served p = absurd p
 
@@ -126,24 +140,63 @@ module _ {D : Type 0} {G : Ghosts D} where
   pages_fit : (w : World D G) → FitPages (geometry_in w) (state_in w).records
   pages_fit w = fits_pages w.core.geometry w.core.records w.core.pages
 
+  -- what holds after one event of a run
+  record AfterOne (g : Geometry) (stream : ℕ) (opened : List LogRecord) (h : History) (w : World D G) : Type 0 where
+    geometry : geometry_in w ≡ g
+    history : IsAfter opened h (state_in w)
+    bounded : IsBounded g stream (state_in w)
+
+  after_one : (g : Geometry) (stream : ℕ) (opened : List LogRecord) (old : World D G) (h : History) (e : Event) (step : Step) (start mid : World D G) → geometry_in old ≡ g → IsServedEvent e
+      → IsAfter opened h (state_in old) → IsBounded g stream (state_in old) → IsLike old start → Steps start e step mid → AfterOne g stream opened (after_events h (moves_by e step)) mid
+  after_one g stream opened old h e step start mid at served k b like one =
+      let here : geometry_in start ≡ g = like.geometry ∙ at in
+      let k_start : IsAfter opened h (state_in start) = subst (IsAfter opened h) (sym like.state) k in
+      let b_start : IsBounded g stream (state_in start) = subst (IsBounded g stream) (sym like.state) b in
+      let first = subst (λ (x : Geometry). EventStep x (state_in start) e step (state_in mid)) here one.moves.state in
+      let moves = one_move g (state_in start) e step (state_in mid) served first in
+      let fit = subst (λ (x : Geometry). FitPages x (state_in start).records) here (pages_fit start) in
+      record {
+        geometry = one.moves.geometry ∙ here;
+        history = events_on g opened h (state_in start) (moves_by e step) (state_in mid) k_start moves;
+        bounded = event_bounded g stream opened h (state_in start) e step (state_in mid) k_start b_start fit served first;
+      }
+
+  -- a force has its room at each event of the run
+  pub run_never_full : (g : Geometry) (stream : ℕ) (opened : List LogRecord) (front : List ℕ) (old : World D G) (h : History) (events : List Event) (steps : List Step) (new : World D G)
+      → geometry_in old ≡ g → size (history_in old) - 4096 ≡ stream → AllByRecursion IsServedEvent events → IsAfter opened h (state_in old) → IsBounded g stream (state_in old) → IsKept old front
+      → Runs old events steps new → NoForceIsFull events steps
+  run_never_full g stream opened front old h [] [] new at long served k b kept runs = tt
+  run_never_full g stream opened front old h (e ∷ es) (step ∷ steps) new at long served k b kept runs =
+      let start = runs.0 in
+      let mid = runs.1 in
+      let like = runs.2 in
+      let kept_start : IsKept start front = like.kept front kept in
+      let long_start : size (history_in start) - 4096 ≡ stream = ap (λ (x : device.History). size x - 4096) like.history ∙ long in
+      let grown = (runs.3.moves.any_moment front kept_start).later in
+      let long_mid : size (history_in mid) - 4096 ≡ stream = ap (λ (x : device.History). size x - 4096) grown.1 ∙ long_start in
+      let b_start : IsBounded g stream (state_in start) = subst (IsBounded g stream) (sym like.state) b in
+      let room : IsBounded (geometry_in start) (size (history_in start) - 4096) (state_in start) =
+      subst (λ (x : Geometry). IsBounded x (size (history_in start) - 4096) (state_in start)) (sym (like.geometry ∙ at)) (subst (λ n. IsBounded g n (state_in start)) (sym long_start) b_start) in
+      let one = after_one g stream opened old h e step start mid at served.0 k b like runs.3 in
+      (λ is full. runs.3.full is full (front, kept_start, room),
+      run_never_full g stream opened front mid (after_events h (moves_by e step)) es steps new one.geometry long_mid served.1 one.history one.bounded (runs.3.moves.kept front kept_start) runs.4)
+  run_never_full g stream opened front old h [] (step ∷ steps) new at long served k b kept runs = absurd runs
+  run_never_full g stream opened front old h (e ∷ es) [] new at long served k b kept runs = absurd runs
+
   pub run_bounded : (g : Geometry) (stream : ℕ) (opened : List LogRecord) (old : World D G) (h : History) (events : List Event) (steps : List Step) (new : World D G) → geometry_in old ≡ g
       → AllByRecursion IsServedEvent events → IsAfter opened h (state_in old) → IsBounded g stream (state_in old) → Runs old events steps new → IsBounded g stream (state_in new)
-  run_bounded g stream opened old h [] [] new at served k b runs = subst (λ (w : World D G). IsBounded g stream (state_in w)) (sym runs) b
+  run_bounded g stream opened old h [] [] new at served k b runs = subst (IsBounded g stream) (sym runs.state) b
   run_bounded g stream opened old h (e ∷ es) (step ∷ steps) new at served k b runs =
-      let first = subst (λ (x : Geometry). EventStep x (state_in old) e step (state_in runs.0)) at runs.1.moves.state in
-      let moves = one_move g (state_in old) e step (state_in runs.0) served.0 first in
-      let fit = subst (λ (x : Geometry). FitPages x (state_in old).records) at (pages_fit old) in
-      run_bounded g stream opened runs.0 (after_events h (moves_by e step)) es steps new (runs.1.moves.geometry ∙ at) served.1
-      (events_on g opened h (state_in old) (moves_by e step) (state_in runs.0) k moves)
-      (event_bounded g stream opened h (state_in old) e step (state_in runs.0) k b fit served.0 first) runs.2
+      let one = after_one g stream opened old h e step runs.0 runs.1 at served.0 k b runs.2 runs.3 in
+      run_bounded g stream opened runs.1 (after_events h (moves_by e step)) es steps new one.geometry served.1 one.history one.bounded runs.4
   run_bounded g stream opened old h [] (step ∷ steps) new at served k b runs = absurd runs
   run_bounded g stream opened old h (e ∷ es) [] new at served k b runs = absurd runs
 
   -- ---- a crash at any moment
 
   runs_kept : (front : List ℕ) (old : World D G) (events : List Event) (steps : List Step) (new : World D G) → IsKept old front → Runs old events steps new → IsKept new front
-  runs_kept front old [] [] new k runs = subst (λ (w : World D G). IsKept w front) (sym runs) k
-  runs_kept front old (e ∷ es) (step ∷ steps) new k runs = runs_kept front runs.0 es steps new (runs.1.moves.kept front k) runs.2
+  runs_kept front old [] [] new k runs = runs.kept front k
+  runs_kept front old (e ∷ es) (step ∷ steps) new k runs = runs_kept front runs.1 es steps new (runs.3.moves.kept front (runs.2.kept front k)) runs.4
   runs_kept front old [] (step ∷ steps) new k runs = absurd runs
   runs_kept front old (e ∷ es) [] new k runs = absurd runs
 
@@ -187,6 +240,20 @@ module _ {D : Type 0} {G : Ghosts D} where
         };
       }
 
+  -- what it leaves is in bounds, and each force had its room
+  pub stays_in_bounds : (g : Geometry) (bytes : ℕ) (rs : List LogRecord) (image : List ℕ) (m : Manager D G) → StandsFor g bytes rs image → IsManager bytes image m
+      → IsBounded g (bytes - 4096) (state_in m.ended) × NoForceIsFull m.events m.steps
+  stays_in_bounds g bytes rs image m stood is =
+      let list = is.list rs stood.log in
+      let at = is.geometry g stood.front in
+      let served = all_served m.events is.served in
+      let opened : IsOpened rs (state_in m.opened) = subst (λ (l : List LogRecord). IsOpened l (state_in m.opened)) list is.opened in
+      let after = open_on rs (state_in m.opened) opened in
+      let bounded = is.bounded g rs stood in (
+        run_bounded g (bytes - 4096) rs m.opened (opened_on rs) m.events m.steps m.ended at served after bounded is.runs,
+        run_never_full g (bytes - 4096) rs (take 4096 image) m.opened (opened_on rs) m.events m.steps m.ended at (ap (λ n. n - 4096) is.long) served after bounded is.kept is.runs,
+      )
+
   -- ---- managers one after another
 
   pub record Chained (g : Geometry) (bytes : ℕ) (rs : List LogRecord) (ms : List (Manager D G)) (last : List ℕ) : Type 0 where
@@ -195,9 +262,10 @@ module _ {D : Type 0} {G : Ghosts D} where
     pub are : AreRuns g rs runs end
     pub stands : StandsFor g bytes end last
     pub entries : map (λ (r : Run). made_by r.events) runs ≡ map entries_of ms
+    pub opened : map (λ (r : Run). r.first.list) runs ≡ map (λ (m : Manager D G). (state_in m.opened).list) ms
 
   pub chained : (g : Geometry) (bytes : ℕ) (rs : List LogRecord) (image : List ℕ) (ms : List (Manager D G)) (last : List ℕ) → StandsFor g bytes rs image → AreManagers bytes image ms last → Chained g bytes rs ms last
-  chained g bytes rs image [] last stood are = record { runs = []; end = rs; are = refl; stands = subst (StandsFor g bytes rs) (sym are) stood; entries = refl }
+  chained g bytes rs image [] last stood are = record { runs = []; end = rs; are = refl; stands = subst (StandsFor g bytes rs) (sym are) stood; entries = refl; opened = refl }
   chained g bytes rs image (m ∷ ms) last stood are =
       let one = managed g bytes rs image m stood are.0 in
       let run : Run = record { first = state_in m.opened; events = all_moves m.events m.steps; last = state_in m.ended; kept = one.kept } in
@@ -208,4 +276,5 @@ module _ {D : Type 0} {G : Ghosts D} where
         are = ((one.opened, one.moves, (one.durable, one.within)), later.are);
         stands = later.stands;
         entries = ap (λ l. entries_of m ∷ l) later.entries;
+        opened = ap (λ l. (state_in m.opened).list ∷ l) later.opened;
       }

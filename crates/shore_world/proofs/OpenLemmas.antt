@@ -9,7 +9,9 @@ use Rattle.shore_disk.specs.Device.{Rose}
 use Rattle.shore_disk.specs.Cause.{HasCause}
 use Rattle.shore_model.specs.declared.log_records.LogRecord.{LogRecord}
 use Rattle.shore_model.specs.Logs.{id_in}
-use Rattle.shore_core.specs.Opened.{ChangesAt}
+use Rattle.shore_types.specs.declared.layout.Geometry.{Geometry}
+use Rattle.shore_types.specs.declared.layout.TheConstants.{LAST_TXN}
+use Rattle.shore_core.specs.Opened.{ChangesAt, IsBadRecord}
 use Rattle.shore_core.specs.declared.replay.OpenError.{OpenError}
 use Rattle.shore_core.specs.declared.replay.OpenError.TheVariants.{Memory, NoRoom, BadRecord}
 
@@ -28,16 +30,24 @@ no_room_is_no_memory is = absurd cc
 pub record_is_no_memory : (n : ℕ) → BadRecord n ≡ Memory → ⊥
 record_is_no_memory n is = absurd cc
 
+some_there : {A : Type 0} (o : Option A) (P : A → Type 0) → IsSomeAnd o P → (a : A) × (o ≡ Some a)
+some_there (Some a) P p = (a, refl)
+some_there None P p = absurd p
+
 -- a record that changes an id is one of the list
-pub change_within : (rs : List LogRecord) (id : Rid) (n : ℕ) → ChangesAt rs id n → (1 ≤ n) × (n ≤ length rs)
+change_within : (rs : List LogRecord) (id : Rid) (n : ℕ) → ChangesAt rs id n → (1 ≤ n) × (n ≤ length rs)
 change_within rs id n change =
     let found = some_there (slice_get rs (n - 1)) (λ r. id_in r.payload ≡ Some id) change.1 in
     let lt = slice_get_within rs (n - 1) found.0 found.1 in
     (omega (arith, change.0), omega (arith, change.0, lt))
-  where
-    some_there : {A : Type 0} (o : Option A) (P : A → Type 0) → IsSomeAnd o P → (a : A) × (o ≡ Some a)
-    some_there (Some a) P p = (a, refl)
-    some_there None P p = absurd p
+
+-- a record that a list is refused for is one of the list
+pub bad_within : (g : Geometry) (rs : List LogRecord) (n : ℕ) → IsBadRecord g rs n → (1 ≤ n) × (n ≤ length rs)
+bad_within g rs n (inl bad) =
+    let found = some_there (slice_get rs (n - 1)) (λ r. LAST_TXN ≤ r.txn) bad.bad in
+    let lt = slice_get_within rs (n - 1) found.0 found.1 in
+    (omega (arith, bad.some), omega (arith, bad.some, lt))
+bad_within g rs n (inr bad) = change_within rs bad.1 n bad.3.change
 
 -- a failure after a call that answered
 pub later_cause : {T U V : Type 0} (r : Result T Fault) (x : T) (f : Fault) (a b c : ℕ) → r ≡ Ok x → HasCause r a b → HasCause {T = U} (Err f) b c → HasCause {T = V} (Err f) a c

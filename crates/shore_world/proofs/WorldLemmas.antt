@@ -1,6 +1,6 @@
 -- What an event leaves of a world, by what it did to the log device.
-use Rattle.std.proofs.Common.{◌≡◌, ◌≢◌, ◌⊎◌, inl, inr, ℕ, ◌+◌, ◌-◌, ◌≤◌, List, [], ◌∷◌, ◌++◌, length, take, Bool, true, false, Option, Some, None, Ok, IsTrue, refl, sym, ◌∙◌, ap, subst, arith, length-append, length-drop}
-use Rattle.std.specs.Prelude.{◌↔◌, IsSome}
+use Rattle.std.proofs.Common.{◌≡◌, ◌≢◌, ◌⊎◌, inl, inr, ℕ, ◌+◌, ◌-◌, ◌≤◌, List, [], ◌∷◌, ◌++◌, length, take, drop, Bool, true, false, Option, Some, None, Ok, IsTrue, refl, sym, ◌∙◌, ap, subst, arith, length-append, length-drop}
+use Rattle.std.specs.Prelude.{◌↔◌, IsSome, IsSomeAnd}
 use Rattle.std.proofs.lemmas.List.{take-append-le, take_all, length-take, length-take-le}
 use Rattle.shore_disk.specs.Device.{History, noted, synced, seen, Stands, may_leave, LeavesOnly}
 use Rattle.shore_disk.specs.declared.device.Disk.{Ghosts}
@@ -10,7 +10,7 @@ use Rattle.shore_machine.specs.declared.step.Step.{Step}
 use Rattle.shore_machine.specs.States.{State}
 use Rattle.shore_machine.specs.Steps.{with_failure}
 use Rattle.shore_machine.proofs.Growth.{Grows, same_grows}
-use Rattle.shore_log.specs.Frames.{GivesBehind, GivesWithOrWithout}
+use Rattle.shore_log.specs.Frames.{GivesBehind, GivesWithOrWithout, IsLongest}
 use Rattle.shore_log.specs.Settled.{stable, waiting, IsSettled, IsStaged}
 use Rattle.shore_log.specs.declared.device.LogDev.{LogDev}
 use Rattle.shore_log.proofs.ForceLemmas.{settled_gives}
@@ -25,7 +25,7 @@ use Rattle.shore_types.specs.declared.layout.Geometry.{Geometry}
 use Rattle.shore_machine.specs.declared.step.Step.TheVariants.{Refused}
 use Rattle.shore_world.specs.declared.event.Event.TheVariants as event
 use Rattle.shore_world.specs.Events.{IsCall}
-use Rattle.shore_world.specs.Worlds.{Runs, state_in, geometry_in, history_in, EventStep, GivesBeginning, IsReady, IsKept, Moves, Steps}
+use Rattle.shore_world.specs.Worlds.{HasStaged, IsLike, Runs, state_in, geometry_in, history_in, EventStep, GivesBeginning, IsReady, IsKept, Moves, Steps}
 use Rattle.shore_world.proofs.RoomLemmas.{no_failure}
 
 -- ---- what gives a beginning of the list
@@ -53,6 +53,12 @@ some_stands None some is = absurd cc
 none_where : {A : Type 0} (o : Option A) → (IsSome o → ⊥) → o ≡ None
 none_where None isnt = refl
 none_where (Some a) isnt = absurd (isnt refl)
+
+pub is_some_and : {A : Type 0} (o : Option A) (a : A) (P : A → Type 0) → o ≡ Some a → P a → IsSomeAnd o P
+is_some_and o a P is p = subst (λ o. IsSomeAnd o P) (sym is) p
+
+pub open_is_no_stage : event.ForceOpen ≡ event.ForceStage → ⊥
+open_is_no_stage is = absurd cc
 
 module _ {D : Type 0} {G : Ghosts D} where
   pub length-stable : (log : LogDev D G) → length (stable log) ≡ log.forced
@@ -199,18 +205,55 @@ module _ {D : Type 0} {G : Ghosts D} where
         any_moment = leaves;
       }
 
+  -- what is staged is the longest list of what is not durable
+  pub has_staged : (old new : World D G) (mid : LogDev D G) (n number : ℕ) → number ≡ n → (state_in old).durable ≡ mid.forced → mid.records.items ≡ (state_in old).list
+      → IsLongest (waiting mid) (number - mid.forced) → IsSomeAnd new.log.staged (λ frame. frame.count ≡ number - mid.forced)
+      → ((front : List ℕ) → IsKept old front → IsStaged new.log front (take (number - mid.forced) (waiting mid))) → HasStaged old new n
+  has_staged old new mid n number same forced list longest under_way staged =
+      let rest : waiting mid ≡ drop (state_in old).durable (state_in old).list = ap (λ k. drop k mid.records.items) (sym forced) ∙ ap (drop (state_in old).durable) list in
+      let count : number - mid.forced ≡ n - (state_in old).durable = ap (λ k. k - mid.forced) same ∙ ap (λ k. n - k) (sym forced) in
+      record {
+        longest = subst (λ k. IsLongest (drop (state_in old).durable (state_in old).list) k) count (subst (λ (l : List LogRecord). IsLongest l (number - mid.forced)) rest longest);
+        under_way = subst (λ k. IsSomeAnd new.log.staged (λ frame. frame.count ≡ k)) count under_way;
+        on_device = λ front k. subst (λ j. IsStaged new.log front (take j (drop (state_in old).durable (state_in old).list))) count
+            (subst (λ (l : List LogRecord). IsStaged new.log front (take (number - mid.forced) l)) rest (staged front k));
+      }
+
 -- ---- a run of events
 
 module _ {D : Type 0} {G : Ghosts D} where
+  pub like_itself : (w : World D G) → IsLike w w
+  like_itself w = record { geometry = refl; state = refl; history = refl; kept = λ front k. k }
+
   pub no_event : (w : World D G) → Runs w [] [] w
-  no_event w = refl
+  no_event w = like_itself w
 
   pub one_more : (old : World D G) (es : List Event) (steps : List Step) (mid : World D G) (e : Event) (step : Step) (new : World D G)
       → Runs old es steps mid → Steps mid e step new → Runs old (es ++ e ∷ []) (steps ++ step ∷ []) new
-  one_more old [] [] mid e step new runs one = (new, subst (λ (w : World D G). Steps w e step new) runs one, refl)
-  one_more old (first ∷ es) (s ∷ steps) mid e step new runs one = (runs.0, runs.1, one_more runs.0 es steps mid e step new runs.2 one)
+  one_more old [] [] mid e step new runs one = (mid, new, runs, one, like_itself new)
+  one_more old (first ∷ es) (s ∷ steps) mid e step new runs one = (runs.0, runs.1, runs.2, runs.3, one_more runs.1 es steps mid e step new runs.4 one)
   one_more old [] (s ∷ steps) mid e step new runs one = absurd runs
   one_more old (first ∷ es) [] mid e step new runs one = absurd runs
+
+  like_further : (a b c : World D G) → IsLike a b → IsLike b c → IsLike a c
+  like_further a b c one two = record {
+    geometry = two.geometry ∙ one.geometry;
+    state = two.state ∙ one.state;
+    history = two.history ∙ one.history;
+    kept = λ front k. two.kept front (one.kept front k);
+  }
+
+  like_first : (old mid new : World D G) (es : List Event) (steps : List Step) → IsLike old mid → Runs mid es steps new → Runs old es steps new
+  like_first old mid new [] [] like runs = like_further old mid new like runs
+  like_first old mid new (e ∷ es) (s ∷ steps) like runs = (runs.0, runs.1, like_further old mid runs.0 like runs.2, runs.3, runs.4)
+  like_first old mid new [] (s ∷ steps) like runs = absurd runs
+  like_first old mid new (e ∷ es) [] like runs = absurd runs
+
+  pub runs_further : (old mid new : World D G) (es later : List Event) (steps more : List Step) → Runs old es steps mid → Runs mid later more new → Runs old (es ++ later) (steps ++ more) new
+  runs_further old mid new [] later [] more one two = like_first old mid new later more one two
+  runs_further old mid new (e ∷ es) later (s ∷ steps) more one two = (one.0, one.1, one.2, one.3, runs_further one.1 mid new es later steps more one.4 two)
+  runs_further old mid new [] later (s ∷ steps) more one two = absurd one
+  runs_further old mid new (e ∷ es) later [] more one two = absurd one
 
 -- ---- an event that is no step of a force
 
@@ -229,6 +272,8 @@ pub no_force : {D : Type 0} {G : Ghosts D} (old new : World D G) (e : Event) (st
     → ((front : List ℕ) → IsReady old front → IsReady new front) → Steps old e step new
 no_force {G = G} old new e step other geometry state untold device grows ready = record {
   moves = unmoved old new e step geometry state device grows ready;
+  staged = λ n is done. absurd (subst IsNoForce is other);
+  forced = λ n is done. absurd (subst IsNoForce is other);
   idle = λ is nothing. absurd (subst IsNoForce is other);
   shut = λ is nothing. absurd (subst IsNoForce is other);
   full = λ is refused room. subst IsNoForce is other;

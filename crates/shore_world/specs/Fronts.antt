@@ -16,11 +16,9 @@ use Rattle.shore_gate.specs.Anchor.{Counts, anchor_bytes, place_of, damaged}
 use Rattle.shore_model.specs.declared.log_records.LogRecord.{LogRecord}
 use Rattle.shore_log.specs.Frames.{Gives}
 use Rattle.shore_core.specs.Bounds.{AreInBounds, InBounds}
-use Rattle.shore_core.specs.Opened.{IsLastChange}
-use Rattle.shore_core.specs.RecordMaps.{IsMisfit}
+use Rattle.shore_core.specs.Opened.{HasTxns, IsBadRecord}
 use Rattle.shore_machine.specs.Pages.{FitPages}
 use Rattle.shore_model.specs.Logs.{told}
-use Rattle.shore_types.specs.declared.ids.Rid.{Rid}
 use Rattle.shore_types.specs.declared.faults.Fault.TheVariants.{Damaged}
 use Rattle.shore_log.specs.Places.{IsBadAt, IsFrameOf}
 use Rattle.shore_world.specs.declared.front.Front.{Front}
@@ -74,23 +72,21 @@ pub record StandsFor (g : Geometry) (bytes : ℕ) (rs : List LogRecord) (image :
 
 -- ---- what an open is refused with
 
--- the frame of the last change of a record that has no room on its page
-pub record IsMisfitAt (g : Geometry) (rs : List LogRecord) (image : List ℕ) (place : ℕ) : Type 0 where
-  pub id : Rid
-  pub misfit : IsMisfit g (told rs) id
+-- the frame of a record that the list is refused for
+pub record IsBadRecordAt (g : Geometry) (rs : List LogRecord) (image : List ℕ) (place : ℕ) : Type 0 where
   pub number : ℕ
-  pub last : IsLastChange rs id number
+  pub bad : IsBadRecord g rs number
   pub frame : IsFrameOf 4096 image number place
 
--- The frames give a list that is out of bounds: where the pages have room for what it tells, at the anchor that counts, and else
--- at the last change of what has none.
+-- The frames give a list that is out of bounds: damaged at the frame of a bad record if there is one, and else at the anchor that
+-- counts.
 pub record IsOutOfBounds (bytes : ℕ) (image : List ℕ) (place : ℕ) : Type 0 where
   pub geometry : Geometry
   pub list : List LogRecord
   pub front : HasFront geometry bytes image
   pub log : Gives list image
   pub outside : ¬ InBounds geometry (bytes - 4096) list
-  pub named : (FitPages geometry (told list) × (place ≡ place_of front.slot)) ⊎ IsMisfitAt geometry list image place
+  pub named : (HasTxns list × FitPages geometry (told list) × (place ≡ place_of front.slot)) ⊎ IsBadRecordAt geometry list image place
 
 -- Beside a failure of the device and a want of memory, an open is refused by the first check of the front that is not passed;
 -- where all are, by the first byte where neither a closed gate nor a frame stands; and where there is none, by a list that is

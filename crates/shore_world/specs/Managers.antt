@@ -1,16 +1,17 @@
 -- Managers one after another over one device: each opens what the crash before it left. Each condition is what a contract says of
 -- the call that it names.
-use Rattle.std.specs.Prelude.{◌≡◌, ◌⊎◌, ℕ, ◌-◌, List, [], ◌∷◌, ◌++◌, All, take}
+use Rattle.std.specs.Prelude.{◌≡◌, ◌≢◌, ◌⊎◌, ℕ, ◌-◌, List, [], ◌∷◌, ◌++◌, All, take}
 use Rattle.shore_types.specs.declared.faults.Fault.{Fault}
-use Rattle.shore_types.specs.declared.faults.Fault.TheVariants.{Device}
+use Rattle.shore_types.specs.declared.faults.Fault.TheVariants.{Device, LogFull}
 use Rattle.shore_types.specs.declared.layout.Geometry.{Geometry}
-use Rattle.shore_disk.specs.Device.{may_leave, moment, left_since}
+use Rattle.shore_disk.specs.Device.{may_leave, moment, left_since, size}
 use Rattle.shore_disk.specs.declared.device.Disk.{Ghosts}
-use Rattle.shore_model.specs.declared.calls.Answer.TheVariants.{Forced}
+use Rattle.shore_model.specs.declared.calls.Answer.{Answer}
+use Rattle.shore_model.specs.declared.calls.Answer.TheVariants.{Began, Got, Inserted, Updated, Deleted, Scanned, Locked, Saved, WentBack, Committed, Aborted, Prepared, Resolved, AreInDoubt, Staged, Forced, Flushed, Begun, Ended, Anchored, Moved, Cut}
 use Rattle.shore_model.specs.declared.histories.Entry.{Entry}
 use Rattle.shore_model.specs.declared.log_records.LogRecord.{LogRecord}
 use Rattle.shore_machine.specs.declared.step.Step.{Step}
-use Rattle.shore_machine.specs.declared.step.Step.TheVariants.{Done, Refused}
+use Rattle.shore_machine.specs.declared.step.Step.TheVariants.{Done, Waits, Refused, Nothing}
 use Rattle.shore_machine.specs.Runs as machine
 use Rattle.shore_machine.specs.Runs.{made_by}
 use Rattle.shore_machine.specs.Trails.{IsOpened}
@@ -30,18 +31,56 @@ abbrev pub failure_by : Fault → List machine.Event
 failure_by Device = machine.HasFailed ∷ []
 failure_by _ = []
 
+-- the number that a step of a force made durable
+abbrev pub forced_by : Answer → List machine.Event
+forced_by (Forced n) = machine.Forced n ∷ []
+forced_by (Began t) = []
+forced_by (Got bytes) = []
+forced_by (Inserted id) = []
+forced_by Updated = []
+forced_by Deleted = []
+forced_by (Scanned pairs) = []
+forced_by Locked = []
+forced_by (Saved index) = []
+forced_by WentBack = []
+forced_by Committed = []
+forced_by Aborted = []
+forced_by Prepared = []
+forced_by Resolved = []
+forced_by (AreInDoubt pairs) = []
+forced_by (Staged n) = []
+forced_by (Flushed count) = []
+forced_by (Begun n) = []
+forced_by (Ended n) = []
+forced_by (Anchored checkpoint tail) = []
+forced_by Moved = []
+forced_by Cut = []
+
 -- a call and a resume with what they came to; of a force the number that it made durable, or the device's failure
 abbrev pub moves_by : Event → Step → List machine.Event
 moves_by (event.Call session call) step = machine.Called call step ∷ []
 moves_by (event.Resume session) step = machine.Resumed step ∷ []
+moves_by event.ForceStage (Done answer) = []
 moves_by event.ForceStage (Refused fault) = failure_by fault
-moves_by event.ForceOpen (Done (Forced n)) = machine.Forced n ∷ []
+moves_by event.ForceStage (Waits wait) = []
+moves_by event.ForceStage Nothing = []
+moves_by event.ForceOpen (Done answer) = forced_by answer
 moves_by event.ForceOpen (Refused fault) = failure_by fault
-moves_by _ _ = []
+moves_by event.ForceOpen (Waits wait) = []
+moves_by event.ForceOpen Nothing = []
 
 abbrev pub all_moves : List Event → List Step → List machine.Event
 all_moves (e ∷ es) (step ∷ steps) = moves_by e step ++ all_moves es steps
-all_moves _ _ = []
+all_moves [] [] = []
+all_moves [] (step ∷ steps) = []
+all_moves (e ∷ es) [] = []
+
+-- no force of these was refused for want of room
+abbrev pub NoForceIsFull : List Event → List Step → Type 0
+NoForceIsFull (e ∷ es) (step ∷ steps) = (e ≡ event.ForceStage → step ≢ Refused LogFull) × NoForceIsFull es steps
+NoForceIsFull [] [] = Unit {0}
+NoForceIsFull [] (step ∷ steps) = ⊥
+NoForceIsFull (e ∷ es) [] = ⊥
 
 -- ---- one manager
 
@@ -62,6 +101,7 @@ IsLeft {D = D} {G = G} w image =
 -- The device has this length and read as this image when the manager was opened.
 pub record IsManager {D : Type 0} {G : Ghosts D} (bytes : ℕ) (image : List ℕ) (m : Manager D G) : Type 0 where
   -- what an open says
+  pub long : size (history_in m.opened) ≡ bytes
   pub geometry : (g : Geometry) → HasFront g bytes image → geometry_in m.opened ≡ g
   pub list : (rs : List LogRecord) → Gives rs image → (state_in m.opened).list ≡ rs
   pub opened : IsOpened (state_in m.opened).list (state_in m.opened)

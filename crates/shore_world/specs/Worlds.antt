@@ -1,5 +1,5 @@
 -- What a world is, what an event does to it, and what a crash leaves of it.
-use Rattle.std.specs.Prelude.{◌≡◌, ◌⊎◌, ℕ, ◌-◌, ◌<◌, ◌≤◌, List, [], ◌∷◌, false, IsTrue, IsSome, None, Result, Ok, Err, length, take}
+use Rattle.std.specs.Prelude.{◌≡◌, ◌⊎◌, ℕ, ◌+◌, ◌-◌, ◌<◌, ◌≤◌, List, [], ◌∷◌, false, IsTrue, IsSome, IsSomeAnd, None, Result, Ok, Err, length, take, drop}
 use Rattle.shore_types.specs.declared.faults.Fault.{Fault}
 use Rattle.shore_types.specs.declared.faults.Fault.TheVariants.{Device, Failed, Memory, LogFull}
 use Rattle.shore_types.specs.declared.layout.Geometry.{Geometry}
@@ -12,7 +12,7 @@ use Rattle.shore_machine.specs.declared.step.Step.{Step}
 use Rattle.shore_machine.specs.declared.step.Step.TheVariants.{Done, Waits, Refused, Nothing}
 use Rattle.shore_machine.specs.States.{State}
 use Rattle.shore_machine.specs.Steps.{CallStep, ResumeStep, told_durable, with_failure}
-use Rattle.shore_log.specs.Frames.{GivesBehind}
+use Rattle.shore_log.specs.Frames.{GivesBehind, IsLongest}
 use Rattle.shore_log.specs.Settled.{list_of, IsSettled, IsStaged}
 use Rattle.shore_core.specs.Bounds.{IsBounded}
 use Rattle.shore_core.specs.Cores.{state_of, geometry_of}
@@ -33,12 +33,18 @@ geometry_in w = geometry_of w.core
 abbrev pub history_in : {D : Type 0} {G : Ghosts D} → World D G → History
 history_in {G = G} w = G.history w.log.device
 
--- a step of a force was refused: a device had failed before; or it fails now, which the core is told; or nothing was done
+-- a frame was not staged: a device had failed before; or it fails now, which the core is told; or nothing was done
 abbrev pub ForceRefused : State → Fault → State → Type 0
 ForceRefused s fault new =
     (IsTrue s.failed × (fault ≡ Failed) × (new ≡ s))
     ⊎ ((s.failed ≡ false) × (fault ≡ Device) × (new ≡ with_failure s))
     ⊎ ((s.failed ≡ false) × ((fault ≡ Memory) ⊎ (fault ≡ LogFull)) × (new ≡ s))
+
+-- a gate was not opened: a device had failed before, or it fails now, which the core is told
+abbrev pub OpenRefused : State → Fault → State → Type 0
+OpenRefused s fault new =
+    (IsTrue s.failed × (fault ≡ Failed) × (new ≡ s))
+    ⊎ ((s.failed ≡ false) × (fault ≡ Device) × (new ≡ with_failure s))
 
 -- What an event does to the state. A force is made in two steps, and only the second makes records durable.
 abbrev pub EventStep : Geometry → State → Event → Step → State → Type 0
@@ -49,7 +55,7 @@ EventStep g s event.ForceStage Nothing new = (s.failed ≡ false) × (new ≡ s)
 EventStep g s event.ForceStage (Refused fault) new = ForceRefused s fault new
 EventStep g s event.ForceOpen (Done (Forced n)) new = (s.failed ≡ false) × (s.durable < n) × (n ≤ length s.list) × (new ≡ told_durable n s)
 EventStep g s event.ForceOpen Nothing new = (s.failed ≡ false) × (new ≡ s)
-EventStep g s event.ForceOpen (Refused fault) new = ForceRefused s fault new
+EventStep g s event.ForceOpen (Refused fault) new = OpenRefused s fault new
 EventStep g s event step new = ⊥
 
 -- ---- what a crash leaves
@@ -91,20 +97,42 @@ pub record Moves {D : Type 0} {G : Ghosts D} (old : World D G) (e : Event) (step
 abbrev pub HasForceRoom : {D : Type 0} {G : Ghosts D} → World D G → Type 0
 HasForceRoom w = (front : List ℕ) × IsKept w front × IsBounded (geometry_in w) (size (history_in w) - 4096) (state_in w)
 
--- One event: what it moves, when a step of a force may come to nothing, and who tells of a failure.
+-- A frame is under way now: it has the longest list of the records not yet durable that one frame holds, the last of this number.
+pub record HasStaged {D : Type 0} {G : Ghosts D} (old new : World D G) (n : ℕ) : Type 0 where
+  pub longest : IsLongest (drop (state_in old).durable (state_in old).list) (n - (state_in old).durable)
+  pub under_way : IsSomeAnd new.log.staged (λ frame. frame.count ≡ n - (state_in old).durable)
+  pub on_device : (front : List ℕ) → IsKept old front → IsStaged new.log front (take (n - (state_in old).durable) (drop (state_in old).durable (state_in old).list))
+
+-- The frame that was under way is durable now, and no other: its last record has this number.
+pub record HasForced {D : Type 0} {G : Ghosts D} (old new : World D G) (n : ℕ) : Type 0 where
+  pub frame : IsSomeAnd old.log.staged (λ frame. n ≡ (state_in old).durable + frame.count)
+  pub none_left : new.log.staged ≡ None
+
+-- One event: what it moves, what a step of a force that was made has done, when it may come to nothing, and who tells of a failure.
 pub record Steps {D : Type 0} {G : Ghosts D} (old : World D G) (e : Event) (step : Step) (new : World D G) : Type 0 where
   pub moves : Moves old e step new
-  -- nothing is staged only where every record is durable or a frame is under way, and no gate is opened only where none is
+  pub staged : (n : ℕ) → e ≡ event.ForceStage → step ≡ Done (Staged n) → HasStaged old new n
+  pub forced : (n : ℕ) → e ≡ event.ForceOpen → step ≡ Done (Forced n) → HasForced old new n
+  -- nothing is staged only if every record is durable or a frame is under way, and no gate is opened only if none is
   pub idle : e ≡ event.ForceStage → step ≡ Nothing → IsIdle old
   pub shut : e ≡ event.ForceOpen → step ≡ Nothing → old.log.staged ≡ None
   pub full : e ≡ event.ForceStage → step ≡ Refused LogFull → ¬ HasForceRoom old
   pub cause : HasCause (fault_at step) (G.faults old.log.device) (G.faults new.log.device)
 
--- the events, one step each, from a world to another
+-- The same but for what a device is told that changes none of its bytes, as the fuse of one that is made to fail.
+pub record IsLike {D : Type 0} {G : Ghosts D} (old new : World D G) : Type 0 where
+  pub geometry : geometry_in new ≡ geometry_in old
+  pub state : state_in new ≡ state_in old
+  pub history : history_in new ≡ history_in old
+  pub kept : (front : List ℕ) → IsKept old front → IsKept new front
+
+-- The events, one step each, from a world to another. Between two of them a fuse may be set.
 abbrev pub Runs : {D : Type 0} {G : Ghosts D} → World D G → List Event → List Step → World D G → Type 0
-Runs old [] [] new = new ≡ old
-Runs {D = D} {G = G} old (e ∷ es) (step ∷ steps) new = (mid : World D G) × Steps old e step mid × Runs mid es steps new
-Runs old _ _ new = ⊥
+Runs old [] [] new = IsLike old new
+Runs {D = D} {G = G} old (e ∷ es) (step ∷ steps) new =
+    (start : World D G) × (mid : World D G) × IsLike old start × Steps start e step mid × Runs mid es steps new
+Runs old [] (step ∷ steps) new = ⊥
+Runs old (e ∷ es) [] new = ⊥
 
 -- ---- what an open answers
 

@@ -1,9 +1,9 @@
 //! What the contracts of the calls come to over whole lives of a device. Each law is the contract of a function with nothing to do.
-ghost use Rattle.std.specs.Prelude.{◌≡◌, ℕ, List, [], All, map};
+ghost use Rattle.std.specs.Prelude.{◌≡◌, ◌-◌, ◌++◌, ℕ, List, [], All, map};
 ghost use Rattle.shore_types.specs.declared.layout.Geometry.{Geometry};
 ghost use Rattle.shore_model.specs.declared.log_records.LogRecord.{LogRecord};
 ghost use Rattle.shore_model.specs.Lives.{IsLife, Span};
-ghost use Rattle.shore_machine.specs.Runs.{MovesBy};
+ghost use Rattle.shore_machine.specs.Runs.{AreFixed, MovesBy};
 ghost use Rattle.shore_machine.specs.States.{State};
 ghost use Rattle.shore_machine.specs.Trails.{IsOpened, opening_of};
 ghost use Rattle.shore_machine.specs.declared.step.Step.{Step};
@@ -12,7 +12,8 @@ ghost use Rattle.shore_world.specs.Fronts.{StandsFor};
 ghost use Rattle.shore_world.specs.declared.event.Event.{Event};
 ghost use Rattle.shore_world.specs.declared.world.World.{World};
 ghost use Rattle.shore_world.specs.Events.{IsServedEvent};
-ghost use Rattle.shore_world.specs.Managers.{AreManagers, Manager, all_moves, entries_of};
+ghost use Rattle.shore_core.specs.Bounds.{IsBounded};
+ghost use Rattle.shore_world.specs.Managers.{AreManagers, IsManager, Manager, NoForceIsFull, all_moves, entries_of};
 ghost use Rattle.shore_world.specs.Worlds.{Runs, geometry_in, state_in};
 
 use shore_disk::Disk;
@@ -28,12 +29,26 @@ pub fn a_run_moves_the_machine<D: Disk>()
 /// committed transactions of each run in turn, of a beginning of the run's decisions that holds every acknowledged one, each
 /// transaction alone, in the order of the commits. And each image on the way stands for a list, so that its open answers unless
 /// the device fails or memory is wanting. `first` is an image that a crash after the format leaves, `last` the one that is opened
-/// in the end, and `shown` what that open made of it.
+/// in the end, and `shown` what that open made of it. And each open on the way fixes what it showed: the list that it was of is a prefix
+/// of the list of every later open.
 pub fn managers_are_a_life<D: Disk>()
     ensures { (g : Geometry) (bytes : ℕ) (first last : List ℕ) (managers : List (Manager D D.Disk)) (shown : State) →
         StandsFor g bytes [] first → AreManagers bytes first managers last →
         ((rs : List LogRecord) → Gives rs last → shown.list ≡ rs) → IsOpened shown.list shown →
         (spans : List Span) × (map (λ s. s.entries) spans ≡ map entries_of managers)
         × IsLife (opening_of []) spans (opening_of shown.list) × (shown.records ≡ (opening_of shown.list).records)
-        × StandsFor g bytes shown.list last }
+        × StandsFor g bytes shown.list last × AreFixed (map (λ m. (state_in m.opened).list) managers) shown.list }
+{}
+
+/// A run from an image that stands for a list stays in bounds, and no force of it is refused for want of room.
+pub fn runs_stay_in_bounds<D: Disk>()
+    ensures { (g : Geometry) (bytes : ℕ) (rs : List LogRecord) (image : List ℕ) (manager : Manager D D.Disk) →
+        StandsFor g bytes rs image → IsManager bytes image manager →
+        IsBounded g (bytes - 4096) (state_in manager.ended) × NoForceIsFull manager.events manager.steps }
+{}
+
+/// Runs one after another are one run.
+pub fn runs_join<D: Disk>()
+    ensures { (old mid new : World D D.Disk) (events later : List Event) (steps more : List Step) →
+        Runs old events steps mid → Runs mid later more new → Runs old (events ++ later) (steps ++ more) new }
 {}

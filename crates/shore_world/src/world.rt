@@ -6,10 +6,8 @@ ghost use Rattle.shore_model.specs.declared.log_records.LogRecord.{LogRecord};
 ghost use Rattle.shore_disk.specs.Device.{size, seen, may_leave, LeavesOnly};
 ghost use Rattle.shore_disk.specs.Cause.{HasCause};
 ghost use Rattle.shore_log.specs.Frames.{Gives};
-ghost use Rattle.shore_types.specs.declared.ids.Rid.{Rid};
 ghost use Rattle.shore_types.specs.declared.faults.Device.TheVariants as Device;
-ghost use Rattle.shore_core.specs.Opened.{IsLastChange};
-ghost use Rattle.shore_core.specs.RecordMaps.{IsMisfit};
+ghost use Rattle.shore_core.specs.Opened.{HasTxns, IsBadRecord, cost_of_log};
 ghost use Rattle.shore_machine.specs.Pages.{FitPages};
 ghost use Rattle.shore_model.specs.Logs.{told};
 ghost use Rattle.shore_log.specs.Places.{IsFrameOf};
@@ -26,7 +24,7 @@ ghost use Rattle.shore_world.specs.Events.{IsServedEvent};
 use crate::Event;
 use crate::front::{Front, damaged, read_front};
 use shore_core::{Core, OpenError, Step};
-use shore_disk::{Disk, FuseDisk};
+use shore_disk::{Disk, FuseDisk, MemDisk, Pick};
 use shore_log::{LogDev, LogRecord, PlainTail};
 use shore_model::{Answer, RidMap};
 use shore_types::{Bytes, Fault, Geometry, Lsn};
@@ -43,7 +41,7 @@ pub struct World<D: Disk> {
 
 impl<D: Disk> World<D> {
     ghost use Rattle.shore_world.specs.Fronts.{HasFront, RefusesOpen, StandsFor};
-    ghost use Rattle.shore_world.specs.Worlds.{Moves, Steps, Runs, HasForceRoom, IsIdle, IsKept, state_in, geometry_in, device_in, fault_at, fault_in};
+    ghost use Rattle.shore_world.specs.Worlds.{Moves, HasForced, HasStaged, Steps, Runs, HasForceRoom, IsIdle, IsKept, state_in, geometry_in, device_in, fault_at, fault_in};
 
     /// Opens the manager of a formatted log device: a barrier, the label, the anchors, the frames, and then the records in place
     /// as the log tells them. Refused by 29, 26 or 25 with the place where the device is not in order, by 23 where it failed, by
@@ -55,6 +53,8 @@ impl<D: Disk> World<D> {
         ensures front { IsTrue (D.is_honest log) → IfOk result (λ w. HasFront (geometry_in w) (size (D.history log)) (seen (D.history log))) }
         ensures geometry { IsTrue (D.is_honest log) → (g : Geometry) → HasFront g (size (D.history log)) (seen (D.history log)) → IfOk result (λ w. geometry_in w ≡ g) }
         ensures opened { IfOk result (λ w. IsOpened (state_in w).list (state_in w)) }
+        ensures room { IsTrue (D.is_honest log) → IfOk result (λ w. (state_in w).room
+            ≡ record { kept = cost_of_log (state_in w).list; reserved = 0; stream = size (D.history log) - 4096 }) }
         ensures kept { IsTrue (D.is_honest log) → IfOk result (λ w. IsKept w (take 4096 (seen (D.history log)))) }
 
         // What is refused goes by the checks in their order.
@@ -130,7 +130,8 @@ impl<D: Disk> World<D> {
         self.core.has_failed()
     }
 
-    /// One event. A refusal has changed nothing, but for 23: after it every event is refused, by 24 or 27.
+    /// One event. A refusal has changed nothing, but for `Device`: after it every call is refused by `Failed` or `Memory`, and so is the
+    /// call that waits, once.
     pub fn step(&mut self, alloc: Global, event: Event) -> Step
         requires { IsServedEvent event }
         ensures { Steps self.old event result self.new }
@@ -145,6 +146,7 @@ impl<D: Disk> World<D> {
 
     fn force_stage(&mut self, alloc: Global) -> Step
         ensures moves { Moves self.old Event.ForceStage result self.new }
+        ensures staged { (n : ℕ) → result ≡ Step.Done (Answer.Staged n) → HasStaged self.old self.new n }
         ensures idle { result ≡ Step.Nothing → IsIdle self.old }
         ensures full { result ≡ Step.Refused Fault.LogFull → ¬ HasForceRoom self.old }
         ensures cause { HasCause (fault_at result) (D.faults self.old.log.device) (D.faults self.new.log.device) }
@@ -167,6 +169,7 @@ impl<D: Disk> World<D> {
 
     fn force_open(&mut self) -> Step
         ensures moves { Moves self.old Event.ForceOpen result self.new }
+        ensures forced { (n : ℕ) → result ≡ Step.Done (Answer.Forced n) → HasForced self.old self.new n }
         ensures shut { result ≡ Step.Nothing → self.old.log.staged ≡ None }
         ensures cause { HasCause (fault_at result) (D.faults self.old.log.device) (D.faults self.new.log.device) }
     {
@@ -227,16 +230,32 @@ impl<D: Disk> World<D> {
 
 impl<D: Disk> World<FuseDisk<D>> {
     ghost use Rattle.shore_disk.specs.Fuse.{fuse_inner, fuse_calls};
-    ghost use Rattle.shore_world.specs.Worlds.{state_in, geometry_in};
+    ghost use Rattle.shore_world.specs.Worlds.{IsLike};
 
     /// Lets so many more writes and syncs of the device pass; then every call of it fails.
     pub fn set_fuse(&mut self, calls: u64)
         ensures calls { fuse_calls self.new.log.device ≡ calls }
         ensures inner { fuse_inner self.new.log.device ≡ fuse_inner self.old.log.device }
-        ensures state { state_in self.new ≡ state_in self.old }
-        ensures geometry { geometry_in self.new ≡ geometry_in self.old }
+        ensures like { IsLike self.old self.new }
     {
         self.log.set_fuse(calls);
+    }
+}
+
+impl World<FuseDisk<MemDisk>> {
+    ghost use Rattle.shore_disk.specs.MemDisk.{history_of};
+    ghost use Rattle.shore_world.specs.Managers.{IsLeft};
+    ghost use Rattle.shore_world.specs.Worlds.{history_in};
+
+    /// A loss of power: what is in memory is lost with the fuse, and of the writes since the last sync the device keeps what is picked.
+    pub fn lose_power(self, pick: Pick) -> MemDisk
+        ensures left { IsLeft self (seen (history_of result)) }
+        ensures stable { (c : List ℕ) → may_leave (history_of result) c → c ≡ seen (history_of result) }
+        ensures size { size (history_of result) ≡ size (history_in self) }
+    {
+        let mut disk = self.into_devices().into_inner();
+        disk.crash(pick);
+        disk
     }
 }
 
@@ -247,8 +266,10 @@ fn open_core<D: Disk>(
 ) -> Result<Core<PlainTail>, OpenError>
     requires { stable log.now ≡ list_of log.now }
     ensures opened { IfOk result (λ core. IsOpened (list_of log.now) (state_of (list_of log.now) core)) }
-    ensures bad { (n : ℕ) → result ≡ Err (OpenError.BadRecord n) → (id : Rid) × IsMisfit geometry (told (list_of log.now)) id × IsLastChange (list_of log.now) id n }
-    ensures no_room { result ≡ Err OpenError.NoRoom → FitPages geometry (told (list_of log.now)) }
+    ensures bad { (n : ℕ) → result ≡ Err (OpenError.BadRecord n) → IsBadRecord geometry (list_of log.now) n }
+    ensures no_room { result ≡ Err OpenError.NoRoom → HasTxns (list_of log.now) × FitPages geometry (told (list_of log.now)) }
+    ensures room { log.now.limit ≤ MAX_LOG_BYTES → IfOk result (λ core. (state_of (list_of log.now) core).room
+        ≡ record { kept = cost_of_log (list_of log.now); reserved = 0; stream = log.now.limit - 4096 }) }
     ensures in_bounds { log.now.limit ≤ MAX_LOG_BYTES → InBounds geometry (log.now.limit - 4096) (list_of log.now) → IfErr result (λ error. error ≡ OpenError.Memory) }
     ensures bounded { log.now.limit ≤ MAX_LOG_BYTES → AreInBounds geometry (log.now.limit - 4096) (list_of log.now)
         → IfOk result (λ core. IsBounded geometry (log.now.limit - 4096) (state_of (list_of log.now) core)) }

@@ -1,8 +1,9 @@
-use Rattle.std.proofs.Common.{[], List, sym, ◌∙◌, subst}
+use Rattle.std.proofs.Common.{[], List, map, sym, ◌∙◌, subst}
 use Rattle.shore_model.specs.declared.log_records.LogRecord.{LogRecord}
 use Rattle.shore_model.specs.Lives.{IsLife}
+use Rattle.shore_machine.specs.Runs.{AreFixed, Run}
 use Rattle.shore_machine.specs.Trails.{opening_of}
-use Rattle.shore_machine.proofs.RunsOn.{runs_on}
+use Rattle.shore_machine.proofs.RunsOn.{runs_fix, runs_on}
 use Rattle.shore_world.specs.Fronts.{StandsFor}
 use Rattle.shore_world.proofs.ManagerLemmas.{chained}
 use Rattle.shore_world.proofs.laws.managers_are_a_life.Goals as goal
@@ -17,4 +18,6 @@ returns g c geometry bytes first last managers shown stood are only opened =
       subst (λ (l : List LogRecord). IsLife (opening_of []) life.0 (opening_of l)) (sym list) life.2,
       opened.records,
       subst (λ (l : List LogRecord). StandsFor geometry bytes l last) (sym list) found.stands,
+      subst (λ (ls : List (List LogRecord)). AreFixed ls shown.list) found.opened
+      (subst (λ (l : List LogRecord). AreFixed (map (λ (r : Run). r.first.list) found.runs) l) (sym list) (runs_fix geometry [] found.runs found.end found.are)),
     )

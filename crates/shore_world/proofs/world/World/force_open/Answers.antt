@@ -36,7 +36,7 @@ returns-in-Err-clause-moves g c =
     rw c.refuse.ensures.refused (elim c.refuse.ensures.state [
       | inl failed ↦
           let last = failed.1 ∙ ap with_failure same in
-          opening_gate old new ForceOpen _ c.refuse.ensures.geometry (inr (inl (running, failed.0, last))) running (some_stands old.log.staged c.in-Err.ensures.waited) (ap (λ (s : State). s.list) last)
+          opening_gate old new ForceOpen _ c.refuse.ensures.geometry (inr (running, failed.0, last)) running (some_stands old.log.staged c.in-Err.ensures.waited) (ap (λ (s : State). s.list) last)
           (λ front group s. subst (λ (l : LogDev g.row.D.Denot g.D.Disk). LeavesOnly (g.D.Disk.history old.log.device) (g.D.Disk.history l.device) (GivesWithOrWithout front (stable old.log) group)) (sym c.refuse.ensures.log) (c.open_staged.ensures.any_moment front group s))
           (λ front group s. inl (ap (λ (s : State). s.durable) last, still_running (state_in old) (state_in new) last))
       | inr other ↦ absurd (other.0 c.in-Err.ensures.only_device)

@@ -1,4 +1,4 @@
-use Rattle.std.proofs.Common.{◌≡◌, inl, inr, ◌-◌, ◌≤◌, List, length, take, Ok, Err, refl, sym, ◌∙◌, ap, subst, arith, length-append, length-drop}
+use Rattle.std.proofs.Common.{◌≡◌, inl, inr, ◌-◌, ◌≤◌, ◌++◌, [], List, None, length, take, append-nil, Ok, Err, refl, sym, ◌∙◌, ap, subst, arith, length-append, length-drop}
 use Rattle.shore_disk.specs.Device.{LeavesOnly, size}
 use Rattle.shore_model.specs.declared.log_records.LogRecord.{LogRecord}
 use Rattle.shore_machine.specs.States.{State}
@@ -11,7 +11,7 @@ use Rattle.shore_log.specs.declared.device.LogDev.{LogDev}
 use Rattle.shore_core.specs.Cores.{state_of, tail_of}
 use Rattle.shore_world.specs.Worlds.{state_in}
 use Rattle.shore_world.specs.declared.event.Event.TheVariants.{ForceStage}
-use Rattle.shore_world.proofs.WorldLemmas.{unmoved, staging, handed, none_staged, length-stable, still_running, not_left}
+use Rattle.shore_world.proofs.WorldLemmas.{unmoved, staging, handed, has_staged, is_some_and, none_staged, length-stable, still_running, not_left}
 use Rattle.shore_core.specs.Opened.{cost_of_log}
 use Rattle.shore_types.specs.declared.faults.Fault.TheVariants.{LogFull}
 use Rattle.shore_world.proofs.RoomLemmas.{cost_append, frame_has_room, ready_settled, refused_is}
@@ -100,9 +100,28 @@ returns-in-Err-stage-clause-full g c refused has_room =
     let settled = c.hand_over.ensures.settled front (ready_settled old front none (has_room.1.ready running)) in
     let fault : c.in-Err-stage.fault ≡ LogFull = refused_is _ _ _ c.refuse.ensures.refused refused in
     let full = c.in-Err-stage.ensures.full (ap (λ f. Err f) fault) in
-    let room = frame_has_room mid front settled full.0 full.1 full.2 in
+    let room = frame_has_room mid front settled full.count full.some full.longest.within in
     let list = ap (λ (s : State). s.list) c.hand_over.ensures.state in
     let costs = ap cost_of_log list in
     let longer = cost_append (list_of mid) (waiting_in (tail_of c.hand_over.new.self)) in
     let long = mid.as_long in
     omega (arith, room, costs, longer, long, ap (λ d. size (g.D.Disk.history d)) c.hand_over.ensures.still.0, bounded.kept, bounded.fits, bounded.as_long)
+
+pub returns-in-Ok-Some-clause-staged : goal.returns-in-Ok-Some-clause-staged
+returns-in-Ok-Some-clause-staged g c n is =
+    let old = c.args.self.now in
+    let mid = c.hand_over.new.log in
+    let none = none_staged old.log c.is_staged.result c.is_staged.ensures c.if-is_staged.false in
+    let running = sym c.has_failed.ensures ∙ c.if-has_failed.false in
+    let still = c.hand_over.ensures.still in
+    let waits : mid.staged ≡ None = still.1 ∙ none in
+    let number = c.in-Ok-Some.number in
+    let same : number ≡ n = cc is in
+    let longest = rw c.in-Ok-Some.field-0-is at (c.in-Ok-Some.ensures.longest waits) in
+    let frame = rw c.in-Ok-Some.field-0-is at (c.in-Ok-Some.ensures.frame waits) in
+    let forced : (state_in old).durable ≡ mid.forced = old.told ∙ sym (ap length still.2) ∙ length-stable mid in
+    let emptied : waiting_in (tail_of c.hand_over.new.self) ≡ [] = c.in_default.ensures.emptied in
+    let list : mid.records.items ≡ (state_in old).list =
+    sym (append-nil mid.records.items) ∙ sym (ap (λ (l : List LogRecord). mid.records.items ++ l) emptied) ∙ ap (λ (s : State). s.list) c.hand_over.ensures.state in
+    has_staged old _ mid n number same forced list longest.1 (is_some_and _ _ _ frame refl)
+    (λ front k. rw c.in-Ok-Some.field-0-is at (c.in-Ok-Some.ensures.staged front (c.hand_over.ensures.settled front (ready_settled old front none (k.ready running))) waits))

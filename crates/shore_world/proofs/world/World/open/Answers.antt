@@ -7,7 +7,7 @@ use Rattle.shore_log.specs.Places.{IsBadAt, IsFrameOf}
 use Rattle.shore_model.specs.declared.log_records.LogRecord.{LogRecord}
 use Rattle.shore_core.specs.Bounds.{InBounds}
 use Rattle.shore_core.specs.declared.replay.OpenError.TheVariants.{Memory}
-use Rattle.shore_world.proofs.OpenLemmas.{each_error, no_room_is_no_memory, record_is_no_memory, change_within, later_cause}
+use Rattle.shore_world.proofs.OpenLemmas.{each_error, no_room_is_no_memory, record_is_no_memory, bad_within, later_cause}
 use Rattle.shore_core.specs.Cores.{state_of}
 use Rattle.shore_world.proofs.WorldLemmas.{synced_only, synced_stands, settled_kept, bounds_at, all_bounds, moved}
 use Rattle.shore_world.proofs.world.World.open.Goals as goal
@@ -125,7 +125,7 @@ returns-in-Err-open_core-clause-refused g c honest =
     λ other bounds. other (c.in-Err-open_core.ensures.in_bounds (omega (arith, c.in-Ok.ensures.long.0.1, long)) (subst (λ n. InBounds c.in-Ok.front.geometry (n - 4096) (list_of log)) (sym long) bounds)) in
     elim (each_error error) [
       | inl memory ↦ inl (inr (c.fault_of-fault.ensures.memory memory))
-      | inr (inl room) ↦ inr (inr (
+      | inr (inl room) ↦ let fits = c.in-Err-open_core.ensures.no_room (ap (λ e. Err e) room) in inr (inr (
         passed,
         place,
         c.fault_of-fault.ensures.room room,
@@ -135,12 +135,12 @@ returns-in-Err-open_core-clause-refused g c honest =
           front = front.0;
           log = gives;
           outside = outside (λ is. no_room_is_no_memory (sym room ∙ is));
-          named = inl (c.in-Err-open_core.ensures.no_room (ap (λ e. Err e) room), front.1);
+          named = inl (fits.0, fits.1, front.1);
         }),
       ))
       | inr (inr bad) ↦
-          let change = c.in-Err-open_core.ensures.bad bad.0 (ap (λ e. Err e) bad.1) in
-          let within = change_within (list_of log) change.0 bad.0 change.2.change in
+          let refused = c.in-Err-open_core.ensures.bad bad.0 (ap (λ e. Err e) bad.1) in
+          let within = bad_within c.in-Ok.front.geometry (list_of log) bad.0 refused in
           let settled = c.in-Ok-open.ensures.settled later _ (synced_stands _ _ (c.in-Ok.ensures.synced honest)) in
           elim (c.fault_of-fault.ensures.record_of bad.0 _ bad.1 settled within.0 (omega (arith, within.1, ap length c.in-Ok-open.ensures.none_waits.1))) [
             | inl device ↦ inl (inl device)
@@ -155,10 +155,8 @@ returns-in-Err-open_core-clause-refused g c honest =
                 log = gives;
                 outside = outside (λ is. record_is_no_memory bad.0 (sym bad.1 ∙ is));
                 named = inr (record {
-                  id = change.0;
-                  misfit = change.1;
                   number = bad.0;
-                  last = change.2;
+                  bad = refused;
                   frame = subst (λ (i : List ℕ). IsFrameOf 4096 i bad.0 found.0) device_same found.2;
                 });
               }),

@@ -5,7 +5,7 @@ use Rattle.shore_machine.specs.Steps.{CallStep, ResumeStep}
 use Rattle.shore_world.specs.Worlds.{state_in, geometry_in}
 use Rattle.shore_world.proofs.RoomLemmas.{call_tells_none, resume_tells_none}
 use Rattle.shore_machine.proofs.Growth.{call_grows, resume_grows}
-use Rattle.shore_world.proofs.WorldLemmas.{IsNoForce, no_force}
+use Rattle.shore_world.proofs.WorldLemmas.{IsNoForce, no_force, open_is_no_stage}
 use Rattle.shore_world.proofs.world.World.step.Goals as goal
 
 pub returns-in-Call : goal.returns-in-Call
@@ -24,3 +24,15 @@ returns-in-Resume g c =
     no_force _ _ _ _ (subst IsNoForce (sym c.in-Resume.is) tt) c.resume.ensures.geometry (rw c.in-Resume.is step)
     (λ is. resume_tells_none _ _ (subst (λ s. ResumeStep (state_in old) s (state_of (list_of old.log) c.resume.new.self)) is step))
     refl (resume_grows _ c.resume.result _ step) (λ front ready. ready)
+
+pub returns-in-ForceOpen : goal.returns-in-ForceOpen
+returns-in-ForceOpen g c =
+    rw c.in-ForceOpen.is (record {
+      moves = c.force_open.ensures.moves;
+      staged = λ n is. absurd (open_is_no_stage is);
+      forced = λ n is done. c.force_open.ensures.forced n done;
+      idle = λ is. absurd (open_is_no_stage is);
+      shut = λ is nothing. c.force_open.ensures.shut nothing;
+      full = λ is. absurd (open_is_no_stage is);
+      cause = c.force_open.ensures.cause;
+    })
