@@ -87,12 +87,10 @@ impl Manager {
 
     // Everything in memory is lost, and the fuse goes away.
     fn crash(self, alloc: Global, pick: Pick, out: &mut String) -> Result<Manager, AllocError> {
-        let device = match self {
-            Manager::Open { world, waits: _ } => world.into_devices(),
-            Manager::Closed(device) => device,
+        let disk = match self {
+            Manager::Open { world, waits: _ } => world.lose_power(pick),
+            Manager::Closed(device) => crashed(device, pick),
         };
-        let mut disk = device.into_inner();
-        disk.crash(pick);
         match World::open(alloc, FuseDisk::new(disk, NO_FUSE)) {
             Ok(world) => {
                 out.push_str("opened\n")?;
@@ -120,6 +118,13 @@ impl Manager {
             }
         }
     }
+}
+
+// What a loss of power leaves of a device that no manager has open.
+fn crashed(device: Device, pick: Pick) -> MemDisk {
+    let mut disk = device.into_inner();
+    disk.crash(pick);
+    disk
 }
 
 fn zeros(alloc: Global, len: u64) -> Result<Vec<u8>, AllocError> {
@@ -173,7 +178,8 @@ fn print(step: &Step, out: &mut String) -> Result<(), AllocError> {
     }
 }
 
-// Goes on with a call that waits: forces what it waits for, and resumes it.
+// Goes on with a call that waits: forces what it waits for, and resumes it. If the device fails now, the call is answered with that. A
+// force that was refused for another cause has changed nothing: the call waits on, and the next line tries again.
 fn settle(
     alloc: Global,
     world: &mut World<Device>,
@@ -183,10 +189,22 @@ fn settle(
     if !*waits {
         return Ok(());
     }
-    if let Err(fault) = force(alloc, world) {
-        *waits = false;
-        return render::fault(out, Some(SESSION), &fault);
+    match force(alloc, world) {
+        Ok(()) | Err(Fault::Failed) => resume(alloc, world, waits, out),
+        Err(Fault::Device) => {
+            give_up(alloc, world, waits);
+            render::fault(out, Some(SESSION), &Fault::Device)
+        }
+        Err(_) => Ok(()),
     }
+}
+
+fn resume(
+    alloc: Global,
+    world: &mut World<Device>,
+    waits: &mut bool,
+    out: &mut String,
+) -> Result<(), AllocError> {
     match world.step(alloc, Event::Resume(SESSION)) {
         Step::Waits(_) => Ok(()),
         step => {
@@ -194,6 +212,12 @@ fn settle(
             print(&step, out)
         }
     }
+}
+
+// The call that waits is answered, and waits no more.
+fn give_up(alloc: Global, world: &mut World<Device>, waits: &mut bool) {
+    *waits = false;
+    let _answered = world.step(alloc, Event::Resume(SESSION));
 }
 
 // Forces every waiting record.
