@@ -1,5 +1,6 @@
 mod anchors;
 mod devices;
+mod files;
 mod gates;
 mod labels;
 mod pages;

@@ -1,0 +1,74 @@
+//! A device over a real file.
+use shore_disk::{Disk, FileDisk};
+use std::fs::{File, Files, OpenOptions};
+use std::io;
+use std::process::Abort;
+
+const PATH: &str = "device";
+
+const DEVICE_BYTES: u64 = 8192;
+
+const WORD: &[u8] = b"a word that stands";
+
+fn open(rt: &(impl Files<File = File>), path: &str, anew: bool) -> io::Result<File> {
+    let mut options = OpenOptions::new();
+    options.read(true).write(true).create(anew).truncate(anew);
+    options.open(rt, path)
+}
+
+fn new_device(rt: &(impl Files<File = File>)) -> io::Result<FileDisk> {
+    let file = open(rt, PATH, true)?;
+    file.set_len(DEVICE_BYTES)?;
+    FileDisk::new(file)
+}
+
+// The test of what a call asks, and the call.
+fn write(disk: &mut FileDisk, at: u64, bytes: &[u8]) -> bool {
+    at <= DEVICE_BYTES && at + bytes.len() as u64 <= disk.len() && disk.write_at(at, bytes).is_ok()
+}
+
+fn read(disk: &mut FileDisk, at: u64, out: &mut [u8]) -> bool {
+    at <= DEVICE_BYTES && at + out.len() as u64 <= disk.len() && disk.read_at(at, out).is_ok()
+}
+
+// What is written is read back, also by one who opens the file later; all else reads as zeros.
+#[test]
+fn a_file_keeps_what_is_written(rt: HostRuntime) -> io::Result<()> {
+    let mut disk = new_device(&rt)?;
+    assert!(rt; disk.len() == DEVICE_BYTES);
+    assert!(rt; write(&mut disk, 4096, WORD));
+    assert!(rt; write(&mut disk, DEVICE_BYTES - 1, b"z"));
+    assert!(rt; disk.sync().is_ok());
+    let mut again = FileDisk::new(open(&rt, PATH, false)?)?;
+    for device in [&mut disk, &mut again] {
+        let mut word = [0; 20];
+        assert!(rt; read(device, 4095, &mut word));
+        assert!(rt; word[0] == 0 && &word[1..19] == WORD && word[19] == 0);
+        let mut last = [0];
+        assert!(rt; read(device, DEVICE_BYTES - 1, &mut last));
+        assert!(rt; last == *b"z");
+        assert!(rt; device.failures() == 0);
+    }
+    Ok(())
+}
+
+// A file that lost its end fails where it has none, and counts each failure; what is left reads on.
+#[test]
+fn a_file_shorter_than_it_was_fails_at_its_end(rt: HostRuntime) -> io::Result<()> {
+    let mut disk = new_device(&rt)?;
+    open(&rt, PATH, false)?.set_len(100)?;
+    let mut word = [1; 8];
+    assert!(rt; read(&mut disk, 0, &mut word));
+    assert!(rt; word == [0; 8]);
+    assert!(rt; !read(&mut disk, 4096, &mut word));
+    assert!(rt; !read(&mut disk, 96, &mut word));
+    assert!(rt; disk.failures() == 2 && disk.len() == DEVICE_BYTES);
+    Ok(())
+}
+
+#[test]
+fn a_path_that_leads_nowhere_opens_no_device(rt: HostRuntime) -> io::Result<()> {
+    assert!(rt; open(&rt, "nowhere/device", true).is_err());
+    assert!(rt; open(&rt, "missing", false).is_err());
+    Ok(())
+}
