@@ -69,9 +69,9 @@ pub struct Core<T: Tail> {
 impl<T: Tail> Core<T> {
     ghost use Rattle.shore_core.specs.Cores.{records_of, durable_of, committing_of, has_failed, geometry_of, state_of, Replies};
 
-    /// A call of the session. Refused in this order: 24 after a failure of a device, 14 while its earlier call waits, 2 or 1 for a
-    /// transaction that is there or missing, and then as the call says; 27 where a growth was refused. A refused call has
-    /// changed nothing.
+    /// A call of the session. Refused in this order: `Failed` after a failure of a device, `Busy` while its earlier call waits,
+    /// `AlreadyActive` or `NoTransaction`, and then as the call says; `Memory` if an allocation failed. A refused call has changed
+    /// nothing.
     pub fn call(&mut self, alloc: Global, call: Call) -> Step
         requires { IsServed call }
 
@@ -258,7 +258,7 @@ impl<T: Tail> Core<T> {
     /// Goes on with the session's call that waits: it is answered once, when its record is durable or a device has failed (`Failed`).
     /// With no call that waits there is nothing to do.
     pub fn resume(&mut self) -> Step
-        // A commit is answered only where the force of its record was told.
+        // A commit is answered only if the force of its record was told.
         ensures step { (before : List LogRecord) → ResumeStep (state_of before self.old) result (state_of before self.new) }
         ensures durable { durable_of self.new ≡ durable_of self.old }
         ensures geometry { geometry_of self.new ≡ geometry_of self.old }
@@ -288,7 +288,7 @@ impl<T: Tail> Core<T> {
         self.durable = durable.number();
     }
 
-    /// A device has failed: every later call answers 24.
+    /// A device has failed: every later call answers `Failed`.
     pub fn fail(&mut self)
         ensures failed { (before : List LogRecord) → state_of before self.new ≡ with_failure (state_of before self.old) }
         ensures durable { durable_of self.new ≡ durable_of self.old }
@@ -336,7 +336,7 @@ impl Core<PlainTail> {
         ensures bad { (n : ℕ) → result ≡ Err (OpenError.BadRecord n) → IsBadRecord geometry log.now n }
         ensures no_room { result ≡ Err OpenError.NoRoom → HasTxns log.now × FitPages geometry (told log.now) }
 
-        // A log that is in bounds gives a core, unless memory is wanting; where each of its beginnings is, so is the core.
+        // A log that is in bounds gives a core, unless an allocation fails; if each of its prefixes is in bounds, so is the core.
         ensures bounded { size ≤ MAX_LOG_BYTES → AreInBounds geometry size log.now → IfOk result (λ core. IsBounded geometry size (state_of log.now core)) }
         ensures in_bounds { size ≤ MAX_LOG_BYTES → InBounds geometry size log.now → IfErr result (λ error. error ≡ OpenError.Memory) }
         ensures numbers { IfOk result (λ core. first_of core.tail ≡ 1 + length log.now) }
@@ -373,7 +373,7 @@ impl Core<PlainTail> {
         self.tail.waiting()
     }
 
-    /// Hands the records that wait in the tail over to the log device. 27 where a growth was refused: they stay.
+    /// Hands the records that wait in the log buffer over to the log device. `Memory` if an allocation failed: they stay.
     pub fn hand_over<D: Disk>(&mut self, log: &mut LogDev<D>) -> Result<(), Fault>
         requires { first_of self.old.tail ≡ 1 + length (list_of log.old) }
         ensures state { state_of (list_of log.new) self.new ≡ state_of (list_of log.old) self.old }

@@ -63,7 +63,7 @@ impl Changes {
     }
 }
 
-/// The records that a log tells: the changes of each committed transaction, in their order, where its Commit stands. What
+/// The records that a log tells: the changes of each committed transaction, in their order, at its Commit. What
 /// other transactions changed is passed over.
 #[tactic(auto, using(crate::proofs::Tellings::tellings))]
 pub fn records_told(alloc: Global, log: &[LogRecord]) -> Result<RidMap<Bytes>, AllocError>
@@ -78,7 +78,7 @@ pub fn records_told(alloc: Global, log: &[LogRecord]) -> Result<RidMap<Bytes>, A
     Ok(records)
 }
 
-// Puts what a transaction has left, where the record is its Commit.
+// Puts what a transaction has left, if the record is its Commit.
 #[tactic(auto, using(crate::proofs::Tellings::tellings))]
 fn put_committed(
     alloc: Global,

@@ -68,7 +68,7 @@ impl PageUse {
         len <= PAGE_ROOM - SLOT_ENTRY_BYTES * self.slots as usize - self.bytes
     }
 
-    /// What is used with a new record of so many bytes in an empty slot. None where the page has no room for it.
+    /// What is used with a new record of so many bytes in an empty slot. `None` if the page has no room for it.
     pub fn with_record(&self, slot: u16, len: usize) -> Option<PageUse>
         ensures with { IfSome result (IsWith self.now slot len) }
         ensures some { IsSome result ↔ ((max self.now.slots (slot + 1) ≤ MAX_SLOTS)

@@ -32,7 +32,7 @@ pub struct Place {
 /// Why records are not taken as those of a volume.
 #[derive(Clone, Copy, Debug, PartialEq, Eq)]
 pub enum Misfit {
-    /// A growth was refused.
+    /// An allocation failed.
     Memory,
     /// The record at this id is too long, or its page is not there or has no room for it.
     At(Rid),
@@ -89,8 +89,8 @@ impl RecordMap {
         &self.map
     }
 
-    /// Where a new record of so many bytes goes: the lowest page of the store, and on it the lowest slot, that takes it. None
-    /// where no page of the store does.
+    /// Where a new record of so many bytes goes: the lowest page of the store, and on it the lowest slot, that takes it. `None` if
+    /// no page of the store does.
     pub fn place_for(&self, store: StoreId, len: usize) -> Option<Place>
         ensures absent { IfSome result (λ place. maps.get (records_in self.now) place.id ≡ None) }
         ensures store { IfSome result (λ place. place.id.page.store ≡ store) }
@@ -171,7 +171,7 @@ impl RecordMap {
         }
     }
 
-    /// Puts a new record in its place. Where the growth is refused nothing has changed.
+    /// Puts a new record in its place. If an allocation fails nothing has changed.
     pub fn insert(&mut self, place: &Place, bytes: Bytes) -> Result<(), AllocError>
         requires place { IsPlace self.old (length bytes) place.now }
         requires short { length bytes ≤ MAX_RECORD_BYTES }
@@ -199,7 +199,7 @@ impl RecordMap {
         }
     }
 
-    // The lowest empty slot of a page, or where its table ends.
+    // The lowest empty slot of a page, or the one behind its last.
     fn lowest_gap(&self, page: PageId, used: &PageUse) -> u16
         requires { use_at self.now.uses page ≡ Some used.now }
         ensures inside { result ≤ used.now.slots }

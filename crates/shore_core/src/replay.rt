@@ -46,7 +46,7 @@ pub fn replay(alloc: Global, geometry: &Geometry, log: &[LogRecord]) -> Result<R
     ensures pages { IfOk result (IsOn geometry.now) }
     ensures fits { IfOk result (λ m. FitPages geometry.now (records_in m)) }
 
-    // Where the pages have room for what the log tells, only memory may be wanting.
+    // If the pages have room for what the log tells, only an allocation can fail.
     ensures earned { FitPages geometry.now (told log.now) → IfErr result (λ error. error ≡ Memory) }
     ensures bad { (n : ℕ) → result ≡ Err (BadRecord n) → (id : Rid) × IsMisfit geometry.now (told log.now) id × IsLastChange log.now id n }
     ensures cause { IfErr result (λ error. error ≢ NoRoom) }
@@ -59,7 +59,7 @@ pub fn replay(alloc: Global, geometry: &Geometry, log: &[LogRecord]) -> Result<R
     }
 }
 
-// The number of the last record that changes an id, 0 where there is none.
+// The number of the last record that changes an id, 0 if there is none.
 fn last_change(log: &[LogRecord], id: &Rid) -> Lsn
     ensures change { 0 < result → ChangesAt log.now id.now result }
     ensures last { AllWithin (λ r. id_in r.payload ≢ Some id.now) log.now result (length log.now) }
@@ -95,8 +95,8 @@ pub fn bad_transaction(log: &[LogRecord]) -> Option<Lsn>
     None
 }
 
-/// What the records cost together, each its text and its share of a frame. It stays at the greatest number where the sum is
-/// above it.
+/// What the records cost together, each its text and its share of a frame. Saturates at
+/// `u64::MAX`.
 pub fn cost_of_all(log: &[LogRecord]) -> u64
     requires { All Fits log.now }
     ensures { result ≡ min (cost_of_log log.now) (2 ^ 64 - 1) }
@@ -108,8 +108,7 @@ pub fn cost_of_all(log: &[LogRecord]) -> u64
     sum
 }
 
-/// The number after the greatest transaction of the log, 1 where it has none. It stays at the greatest number where that is
-/// a transaction's.
+/// The number after the greatest transaction of the log, 1 if it has none. Saturates at `u64::MAX`.
 pub fn next_transaction(log: &[LogRecord]) -> u64
     ensures some { 1 ≤ result }
     ensures above { result < 2 ^ 64 - 1 → All (λ r. r.txn < result) log.now }

@@ -19,7 +19,7 @@ pub struct LogRoom {
 impl LogRoom {
     ghost use Rattle.shore_core.specs.Room.{Admits};
 
-    /// The room of a log whose records have these costs. None where they leave no room for the longest frame.
+    /// The room of a log whose records have these costs. `None` if they leave no room for the longest frame.
     pub fn new(size: u64, kept: u64) -> Option<LogRoom>
         ensures some { IfSome result (λ room. (room.size ≡ size) × (room.kept ≡ kept) × (room.reserved ≡ 0)) }
         ensures none { IsSome result ↔ ((size ≤ MAX_LOG_BYTES) × (kept + LONGEST_FRAME ≤ size)) }

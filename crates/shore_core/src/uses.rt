@@ -32,7 +32,7 @@ impl PageUses {
         Ok(PageUses { stores })
     }
 
-    /// How many pages a store has, 0 where it is not there.
+    /// How many pages a store has, 0 if there is no such store.
     pub fn page_count(&self, store: StoreId) -> u32
         ensures { (p : PageId) → p.store ≡ store → is_some (use_at self.now p) ≡ nat_lt p.page result }
     {
@@ -65,7 +65,7 @@ impl PageUses {
         }
     }
 
-    /// Counts a record more of so many bytes. False where it is too long, or its page is not there or has no room for it; then
+    /// Counts a record more of so many bytes. False if it is too long, or its page does not exist or has no room for it; then
     /// nothing has changed.
     pub fn add(&mut self, id: Rid, len: usize) -> bool
         ensures added { IsTrue result → Adds self.old self.new id len }

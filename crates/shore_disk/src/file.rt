@@ -19,7 +19,7 @@ pub struct FileDisk {
 impl FileDisk {
     ghost use Rattle.shore_disk.specs.FileDisk.{failures_of};
 
-    /// The device of a file that is open for reading and writing. It fails where the file does not tell its length.
+    /// The device of a file that is open for reading and writing. It fails if the length of the file cannot be read.
     pub fn new(file: File) -> io::Result<FileDisk>
         ensures { IfOk result (λ d. failures_of d ≡ 0) }
     {

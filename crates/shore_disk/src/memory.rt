@@ -25,7 +25,7 @@ pub enum Pick {
     Noise,
 }
 
-/// A device in memory. A growth that is refused inside it is a failure of the device.
+/// A device in memory. An allocation that fails inside it is a failure of the device.
 #[derive(Debug, Drop)]
 pub struct MemDisk {
     first: Vec<u8>,

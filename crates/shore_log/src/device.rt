@@ -20,10 +20,10 @@ use shore_types::layout::MAX_LOG_BYTES;
 use shore_types::{Fault, Lsn};
 use std::alloc::Global;
 
-/// Where the stream of frames begins on the device.
+/// The offset at which the stream of frames begins.
 pub const STREAM: u64 = 4096;
 
-// Where a device's label tells its length.
+// The offset of the length in a device's label.
 const LENGTH_PLACE: u64 = 16;
 
 /// The number of the last durable record. Only the log makes one, so none is told before its force.
@@ -82,7 +82,7 @@ impl<D: Disk> LogDev<D> {
     ghost use Rattle.shore_log.specs.Settled.{HasNoFrameRoom, IsSettled, IsStaged, KeepsFrames, list_of, stable, waiting, device_of, fault_of};
     ghost use Rattle.shore_log.specs.PlainTails.{first_of, waiting_in};
 
-    /// Takes all records that wait in the tail. 27 where a growth was refused: each stays where it was.
+    /// Takes all records that wait in the log buffer. `Memory` if an allocation failed: each stays where it was.
     pub fn take_in(&mut self, tail: &mut PlainTail) -> Result<(), Fault>
         requires { first_of tail.old ≡ 1 + length (list_of self.old) }
         ensures taken { OnOk result (list_of self.new ≡ list_of self.old ++ waiting_in tail.old) }
@@ -98,7 +98,7 @@ impl<D: Disk> LogDev<D> {
     }
 
     /// Stages the longest list of waiting records that one frame holds: writes it behind the closed gate, with a closed gate
-    /// behind it, and syncs. Answers the last number staged, and None where no record waits or a frame is under way.
+    /// behind it, and syncs. Answers the last number staged, and `None` if no record waits or a frame is under way.
     /// `LogFull` if the device has no room for the frame and a byte behind it, `Memory` if an allocation failed; after both nothing has
     /// changed. `Device` if the device failed: no frame is staged then.
     pub fn stage(&mut self, alloc: Global) -> Result<Option<Lsn>, Fault>
@@ -108,7 +108,9 @@ impl<D: Disk> LogDev<D> {
         ensures longest { self.old.staged ≡ None → IfOk result (λ n. IfSome n (λ last.
             (self.old.forced < last) × IsLongest (waiting self.old) (last - self.old.forced))) }
         ensures frame { self.old.staged ≡ None → IfOk result (λ n. IfSome n (λ last. self.new.staged ≡ Some record {
-            count = last - self.old.forced; len = length (texts (take (last - self.old.forced) (waiting self.old))) })) }
+          count = last - self.old.forced;
+          len = length (texts (take (last - self.old.forced) (waiting self.old)));
+        })) }
         ensures none_waits { self.old.staged ≡ None → result ≡ Ok None → waiting self.old ≡ [] }
         ensures under_way { IsSome self.old.staged → result ≡ Ok None }
         ensures nothing { result ≡ Ok None → self.new ≡ self.old }
@@ -142,7 +144,7 @@ impl<D: Disk> LogDev<D> {
         Ok(Some(Lsn((self.forced + count) as u64)))
     }
 
-    /// Opens the gate of the staged frame, and syncs. Answers the last durable number, and None where no frame is staged.
+    /// Opens the gate of the staged frame, and syncs. Answers the last durable number, and `None` if no frame is staged.
     pub fn open_staged(&mut self) -> Result<Option<Durable>, Fault>
         ensures settled { (front : List ℕ) (group : List LogRecord) → IsStaged self.old front group
             → OnOk result (IsSettled self.new front × (stable self.new ≡ stable self.old ++ group)) }
@@ -210,7 +212,7 @@ impl<D: Disk> LogDev<D> {
         &self.records[self.forced..]
     }
 
-    /// The last durable number, 0 where none is.
+    /// The last durable number, 0 if there is none.
     pub fn durable(&self) -> Durable
         ensures { result.lsn ≡ length (stable self.now) }
     {
@@ -227,9 +229,9 @@ impl<D: Disk> LogDev<D> {
         &self.records
     }
 
-    /// Opens the log of a device that is formatted: reads its frames, the first record of which has number 1. 25 at the byte of the
-    /// first frame that is none, and at the label's length where that is no log's; 23 where the device failed, 27 where a
-    /// growth was refused. The device is handed back then.
+    /// Opens the log of a device that is formatted: reads its frames, the first record of which has number 1. `Damaged` at the
+    /// first offset where neither a closed gate nor a whole frame stands, and at the label's length if no log has that length; `Device`
+    /// if the device failed, `Memory` if an allocation failed. The device is handed back then.
     pub fn open(alloc: Global, device: D) -> Result<LogDev<D>, (Fault, D)>
         // What is opened is settled, and all of its records are stable.
         ensures settled { IsTrue (D.is_honest device) → (image : List ℕ) → Stands (D.history device) image → IfOk result (λ log. IsSettled log (take 4096 image)) }
@@ -274,8 +276,8 @@ impl<D: Disk> LogDev<D> {
         }
     }
 
-    /// Reads the stable records from the device once more, from the tail number on. 25 at the byte of the first frame that is none,
-    /// 23 where the device failed, 27 where a growth was refused; nothing has changed.
+    /// Reads the stable records from the device once more, from the oldest kept number on. `Damaged` at the first offset where neither a
+    /// closed gate nor a whole frame stands, `Device` if the device failed, `Memory` if an allocation failed; nothing has changed.
     pub fn read_from(&mut self, alloc: Global) -> Result<Vec<LogRecord>, Fault>
         ensures found { IsTrue (D.is_honest self.old.device) → IfOk result (λ read. Gives read.items (seen (D.history self.old.device))) }
         ensures only { IsTrue (D.is_honest self.old.device) → (rs : List LogRecord) → Gives rs (seen (D.history self.old.device))
@@ -295,7 +297,7 @@ impl<D: Disk> LogDev<D> {
         Ok(read.records)
     }
 
-    /// The byte of the frame that holds the record of a stable number. 23 where the device failed; nothing has changed.
+    /// The byte of the frame that holds the record of a stable number. `Device` if the device failed; nothing has changed.
     pub fn frame_of(&mut self, number: Lsn) -> Result<u64, Fault>
         ensures found { (front : List ℕ) → IsSettled self.old front → 1 ≤ number → number ≤ length (stable self.old)
             → IfOk result (IsFrameOf 4096 (seen (D.history self.old.device)) number) }

@@ -8,5 +8,6 @@ mod reading;
 mod tail;
 
 pub use device::{Durable, LogDev, STREAM};
+pub use reading::damaged;
 pub use shore_logrec::{LogRecord, Payload};
 pub use tail::{PlainTail, Tail};

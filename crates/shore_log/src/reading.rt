@@ -59,7 +59,7 @@ pub struct Head {
     pub first: u64,
 }
 
-/// The log device is no log's at this byte.
+/// The log device is damaged at this offset.
 pub fn damaged(place: u64) -> Fault
     ensures { result ≡ Fault.Damaged Device.Log place }
 {
@@ -69,8 +69,8 @@ pub fn damaged(place: u64) -> Fault
     }
 }
 
-/// Reads the frames of a device from a byte on; the first record has number 1. 25 at the byte of the first frame that is none,
-/// 23 where the device failed, 27 where a growth was refused.
+/// Reads the frames of a device from a byte on; the first record has number 1. `Damaged` at the first offset where neither a closed
+/// gate nor a whole frame stands, `Device` if the device failed, `Memory` if an allocation failed.
 pub fn read_stream<D: Disk>(
     alloc: Global,
     device: &mut D,
@@ -91,7 +91,7 @@ pub fn read_stream<D: Disk>(
     ensures only { IsTrue (D.is_honest device.old) → (gs : List (List LogRecord)) → Frames 1 (drop from (seen (D.history device.old))) gs
         → IfOk result (λ s. s.records.items ≡ joined gs) }
 
-    // Where it holds frames, all within its length, they are read.
+    // If it holds frames, all within its length, they are read.
     ensures undamaged { IsTrue (D.is_honest device.old) → length (seen (D.history device.old)) ≤ limit
         → (gs : List (List LogRecord)) → Frames 1 (drop from (seen (D.history device.old))) gs
         → IfErr result (λ fault. (fault ≡ Fault.Device) ⊎ (fault ≡ Fault.Memory)) }
@@ -131,7 +131,7 @@ fn is_gate_open<D: Disk>(device: &mut D, at: u64) -> Result<bool, Fault>
     Ok(is_open(gate[0]))
 }
 
-/// Reads the head behind the gate at a byte; None where it lies past the end.
+/// Reads the head behind the gate at a byte; `None` if it lies past the end.
 pub fn read_head<D: Disk>(device: &mut D, limit: u64, at: u64) -> Result<Option<Head>, Fault>
     requires short { at < 2 ^ 30 }
     requires size { limit ≤ size (D.history device.old) }
@@ -153,8 +153,8 @@ pub fn read_head<D: Disk>(device: &mut D, limit: u64, at: u64) -> Result<Option<
     Ok(Some(head_of(&bytes)))
 }
 
-/// The byte of the frame that holds the record of a number, where frames stand from a byte up to an end. It walks their heads.
-/// 23 where the device failed.
+/// The byte of the frame that holds the record of a number, if frames stand from a byte up to an end. It walks their heads.
+/// `Device` if the device failed.
 pub fn find_frame<D: Disk>(device: &mut D, from: u64, end: u64, number: u64) -> Result<u64, Fault>
     requires short { end < 2 ^ 30 }
     requires size { end ≤ size (D.history device.old) }

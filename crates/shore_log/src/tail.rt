@@ -1,4 +1,4 @@
-//! Where records wait on their way from the core to the log device.
+//! The log buffer: the records that wait on their way from the core to the log device.
 ghost use Rattle.std.specs.Prelude.{◌≡◌, ◌+◌, ◌<◌, ◌≤◌, ◌^◌, [], ◌∷◌, ◌++◌, ℕ, List, All, IsTrue, length, IfOk, IfErr, OnOk, OnErr};
 ghost use Rattle.shore_types.specs.declared.faults.Fault.TheVariants as fault;
 ghost use Rattle.shore_model.specs.declared.log_records.LogRecord.{LogRecord};
@@ -17,8 +17,8 @@ pub trait Tail {
     /// The records that it has, in the order of their numbers.
     ghost records: { Self → List LogRecord };
 
-    /// Adds a record and answers its number. A refused record is handed back and none is added: 27 where a growth was
-    /// refused.
+    /// Adds a record and answers its number. A refused record is handed back and none is added: `Memory` if an allocation
+    /// failed.
     fn push(&mut self, logged: LogRecord) -> Result<Lsn, (Fault, LogRecord)>
         requires text { Fits logged }
         requires previous { logged.previous < first self.old + length (records self.old) }
@@ -59,7 +59,7 @@ impl PlainTail {
         }
     }
 
-    /// Moves the records that wait to the end of a list. Where the growth is refused they stay.
+    /// Moves the records that wait to the end of a list. If an allocation fails they stay.
     pub fn hand_over(&mut self, records: &mut Vec<LogRecord>) -> Result<(), AllocError>
         ensures ok { OnOk result (records.new.items ≡ records.old.items ++ waiting_in self.old) }
         ensures emptied { OnOk result (waiting_in self.new ≡ []) }

@@ -1,4 +1,4 @@
-//! Laws over the definitions, each the contract of a function with nothing to do.
+//! Laws over the definitions, each stated as the contract of an empty function.
 ghost use Rattle.std.specs.Prelude.{◌≡◌, ◌≤◌, ◌∷◌, ◌++◌, ℕ, List, [], Some, None, take, length, map};
 ghost use Rattle.std.specs.FinMap.{empty};
 ghost use Rattle.shore_types.specs.declared.ids.Rid.{Rid};
@@ -42,7 +42,7 @@ pub fn open_begins()
     ensures { (opened : List LogRecord) (s : State) → IsOpened opened s → IsAfter opened (opened_on opened) s }
 {}
 
-/// What a crash keeps of the list tells the serial records of a beginning of the decisions that holds every acknowledged one.
+/// What a crash keeps of the list tells the serial records of a prefix of the decisions that holds every acknowledged one.
 pub fn crash_keeps_acknowledged()
     ensures { (opened : List LogRecord) (h : History) (s : State) (n : ℕ) → IsAfter opened h s → KeepsDurable s n →
         (kept : List Decision) × Kept h.entries kept × (told (take n s.list) ≡ serial (writes_in h) h.opening.records kept) }

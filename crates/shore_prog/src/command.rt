@@ -31,7 +31,7 @@ pub enum Command {
     Log,
 }
 
-/// What the line asks for; an inner None is for a line that is none of the script's.
+/// What the line asks for. `Ok(None)`: the line is not a script line.
 pub fn parse(alloc: Global, line: &str) -> Result<Option<Command>, AllocError>
     ensures { IfOk result (λ found. IfSome found IsServedCommand) }
 {

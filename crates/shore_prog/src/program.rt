@@ -50,7 +50,7 @@ impl From<io::Error> for Stop {
 }
 
 /// Runs the script of the input under its settings, and writes the answers to the output. Exit status 0: done. 1: bad settings
-/// or a bad line, where the run ends, or input or output failed. 2: the first format or open was refused, or the last open of
+/// or a bad line, at which the run ends, or input or output failed. 2: the first format or open was refused, or the last open of
 /// the script was, or memory ended.
 pub fn run<R: Read + Drop, W: Write + Drop>(
     alloc: Global,
@@ -163,7 +163,7 @@ fn run_script<W: Write>(
 ) -> Result<Status, Stop> {
     let mut answers = String::new(alloc);
     for (number, line) in (1u64..u64::MAX).zip(script.split(|byte| *byte == b'\n')) {
-        let Some(command) = command_of(alloc, line)? else {
+        let Some(command) = read_line(alloc, line)? else {
             let place = Fault::BadConfig(ConfigPlace::Line(number));
             render::fault(&mut answers, None, &place)?;
             output.write_all(answers.as_bytes())?;
@@ -182,7 +182,7 @@ fn run_script<W: Write>(
     })
 }
 
-fn command_of(alloc: Global, line: &[u8]) -> Result<Option<Command>, AllocError>
+fn read_line(alloc: Global, line: &[u8]) -> Result<Option<Command>, AllocError>
     ensures { IfOk result (λ found. IfSome found IsServedCommand) }
 {
     match str::from_utf8(line) {

@@ -80,7 +80,7 @@ fn kind_name(payload: &Payload) -> &'static str {
     }
 }
 
-// Pairs of hexadecimal digits, or `-` where there is no byte.
+// Pairs of hexadecimal digits, or `-` if there is no byte.
 fn bytes(out: &mut String, found: &[u8]) -> Result<(), AllocError> {
     if found.is_empty() {
         return out.push('-');

@@ -28,8 +28,8 @@ fn refused(setting: Setting) -> Fault {
     Fault::BadConfig(ConfigPlace::Setting(setting))
 }
 
-/// The settings of a TOML text. Each key has a default. Refused by 31: a text that is no TOML; then the least unknown key by
-/// bytes; then the first key, in the order of the settings, with a wrong value. 27 where a growth was refused.
+/// The settings of a TOML text. Each key has a default. Refused by `BadConfig`: a text that is no TOML; then the least unknown key
+/// by bytes; then the first key, in the order of the settings, with a wrong value. `Memory` if an allocation failed.
 pub fn read_settings(alloc: Global, text: &str) -> Result<Settings, Fault> {
     let table = match toml::table_from_str(alloc, text) {
         Ok(table) => table,

@@ -50,7 +50,7 @@ pub fn record(word: &str) -> Option<Rid> {
 }
 
 /// Bytes: pairs of lower-case hexadecimal digits, `HH*N` for so many times one byte, or `-` for none.
-/// An inner None is for a word that is none of these.
+/// `Ok(None)`: the word is none of these.
 pub fn bytes(alloc: Global, word: &str) -> Result<Option<Bytes>, AllocError> {
     if word == "-" {
         return Ok(Some(Sequence::new(alloc)));

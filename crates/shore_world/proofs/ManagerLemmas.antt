@@ -177,9 +177,10 @@ module _ {D : Type 0} {G : Ghosts D} where
       let b_start : IsBounded g stream (state_in start) = subst (IsBounded g stream) (sym like.state) b in
       let room : IsBounded (geometry_in start) (size (history_in start) - 4096) (state_in start) =
       subst (λ (x : Geometry). IsBounded x (size (history_in start) - 4096) (state_in start)) (sym (like.geometry ∙ at)) (subst (λ n. IsBounded g n (state_in start)) (sym long_start) b_start) in
-      let one = after_one g stream opened old h e step start mid at served.0 k b like runs.3 in
-      (λ is full. runs.3.full is full (front, kept_start, room),
-      run_never_full g stream opened front mid (after_events h (moves_by e step)) es steps new one.geometry long_mid served.1 one.history one.bounded (runs.3.moves.kept front kept_start) runs.4)
+      let one = after_one g stream opened old h e step start mid at served.0 k b like runs.3 in (
+        λ is full. runs.3.full is full (front, kept_start, room),
+        run_never_full g stream opened front mid (after_events h (moves_by e step)) es steps new one.geometry long_mid served.1 one.history one.bounded (runs.3.moves.kept front kept_start) runs.4,
+      )
   run_never_full g stream opened front old h [] (step ∷ steps) new at long served k b kept runs = absurd runs
   run_never_full g stream opened front old h (e ∷ es) [] new at long served k b kept runs = absurd runs
 

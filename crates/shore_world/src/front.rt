@@ -13,7 +13,7 @@ use shore_gate::{
     Anchor, Anchors, CLOSED, LABEL_BYTES, Label, OPEN, close_gate, open_gate, read_label,
     write_label,
 };
-use shore_log::STREAM;
+use shore_log::{STREAM, damaged};
 use shore_types::layout::{MAX_LOG_BYTES, MIN_LOG_BYTES};
 use shore_types::{ConfigPlace, Device, Fault, Geometry, Lsn, Setting};
 use std::alloc::{AllocError, Global};
@@ -28,7 +28,7 @@ const ANCHOR_B: usize = 2048 - LABEL_BYTES;
 
 const STREAM_GATE: usize = STREAM as usize - LABEL_BYTES;
 /// Formats a log device: closes the gate of its label, writes the label, the anchors and a closed gate at the front of the stream,
-/// and opens the gate last. Refused by 31 with the setting where the device is of another length than a log's or the geometry
+/// and opens the gate last. Refused by `BadConfig` with the setting if the device has another length than a log's or the geometry
 /// is outside the limits; nothing is written then. After 23 or 27 the device is not formatted, or as it was but for that gate.
 pub fn format<D: Disk>(alloc: Global, log: &mut D, geometry: &Geometry) -> Result<(), Fault>
     // A device of another length, and a geometry outside the limits, are refused with the setting.
@@ -139,7 +139,7 @@ pub struct Front {
 }
 
 /// Reads the front of a log device: a barrier, the label, and the anchor that counts. No checkpoint is made as yet, and the log
-/// begins at its first record: another anchor is 25 at its place.
+/// begins at its first record: another anchor is `Damaged` at its offset.
 pub fn read_front<D: Disk>(alloc: Global, log: &mut D) -> Result<Front, Fault>
     // The front that stands there is answered, and nothing else is taken for one.
     ensures found { IsTrue (D.is_honest log.old) → IfOk result (IsFront (size (D.history log.old)) (seen (D.history log.old))) }
@@ -182,14 +182,4 @@ fn is_first(anchor: &Anchor) -> bool
     ensures { result ≡ is_first anchor.now }
 {
     anchor.checkpoint.0 == 0 && anchor.tail.0 == 1 && anchor.tail_place == 0
-}
-
-/// The log device is no log's at this byte.
-pub fn damaged(place: u64) -> Fault
-    ensures { result ≡ Fault.Damaged Device.Log place }
-{
-    Fault::Damaged {
-        device: Device::Log,
-        place,
-    }
 }

@@ -1,4 +1,4 @@
-//! What the contracts of the calls come to over whole lives of a device. Each law is the contract of a function with nothing to do.
+//! What the contracts of the calls come to over whole lives of a device. Each law is stated as the contract of an empty function.
 ghost use Rattle.std.specs.Prelude.{◌≡◌, ◌-◌, ◌++◌, ℕ, List, [], All, map};
 ghost use Rattle.shore_types.specs.declared.layout.Geometry.{Geometry};
 ghost use Rattle.shore_model.specs.declared.log_records.LogRecord.{LogRecord};
@@ -25,10 +25,10 @@ pub fn a_run_moves_the_machine<D: Disk>()
         MovesBy (geometry_in old) (state_in old) (all_moves events steps) (state_in new) }
 {}
 
-/// Format, then any number of opens, runs and crashes at any moment, and an open: what it shows is what nothing becomes by the
-/// committed transactions of each run in turn, of a beginning of the run's decisions that holds every acknowledged one, each
+/// Format, then any number of opens, runs and crashes at any moment, and an open: it shows the empty store with the
+/// committed transactions of each run applied in turn, those of a prefix of the run's decisions that holds every acknowledged one, each
 /// transaction alone, in the order of the commits. And each image on the way stands for a list, so that its open answers unless
-/// the device fails or memory is wanting. `first` is an image that a crash after the format leaves, `last` the one that is opened
+/// the device or an allocation fails. `first` is an image that a crash after the format leaves, `last` the one that is opened
 /// in the end, and `shown` what that open made of it. And each open on the way fixes what it showed: the list that it was of is a prefix
 /// of the list of every later open.
 pub fn managers_are_a_life<D: Disk>()
@@ -40,7 +40,7 @@ pub fn managers_are_a_life<D: Disk>()
         × StandsFor g bytes shown.list last × AreFixed (map (λ m. (state_in m.opened).list) managers) shown.list }
 {}
 
-/// A run from an image that stands for a list stays in bounds, and no force of it is refused for want of room.
+/// A run from an image that stands for a list stays in bounds, and no force of it is refused by `LogFull`.
 pub fn runs_stay_in_bounds<D: Disk>()
     ensures { (g : Geometry) (bytes : ℕ) (rs : List LogRecord) (image : List ℕ) (manager : Manager D D.Disk) →
         StandsFor g bytes rs image → IsManager bytes image manager →

@@ -22,10 +22,10 @@ ghost use Rattle.shore_core.specs.Cores.{tail_of, durable_of, geometry_of, state
 ghost use Rattle.shore_world.specs.Events.{IsServedEvent};
 
 use crate::Event;
-use crate::front::{Front, damaged, read_front};
+use crate::front::{Front, read_front};
 use shore_core::{Core, OpenError, Step};
 use shore_disk::{Disk, FuseDisk, MemDisk, Pick};
-use shore_log::{LogDev, LogRecord, PlainTail};
+use shore_log::{LogDev, LogRecord, PlainTail, damaged};
 use shore_model::{Answer, RidMap};
 use shore_types::{Bytes, Fault, Geometry, Lsn};
 use std::alloc::Global;
@@ -44,8 +44,8 @@ impl<D: Disk> World<D> {
     ghost use Rattle.shore_world.specs.Worlds.{Moves, HasForced, HasStaged, Steps, Runs, HasForceRoom, IsIdle, IsKept, state_in, geometry_in, device_in, fault_at, fault_in};
 
     /// Opens the manager of a formatted log device: a barrier, the label, the anchors, the frames, and then the records in place
-    /// as the log tells them. Refused by 29, 26 or 25 with the place where the device is not in order, by 23 where it failed, by
-    /// 27 where a growth was refused; the device is handed back, and may be opened again.
+    /// as the log tells them. Refused by `NotFormatted`, `WrongVersion` or `Damaged` with the offset if the device is not in order, by
+    /// `Device` if it failed, by `Memory` if an allocation failed; the device is handed back, and may be opened again.
     pub fn open(alloc: Global, mut log: D) -> Result<World<D>, (Fault, D)>
         // Its list is the one that stood there, and its geometry the label's.
         ensures list { IsTrue (D.is_honest log) → IfOk result (λ w. Gives (state_in w).list (seen (D.history log))) }
@@ -60,7 +60,7 @@ impl<D: Disk> World<D> {
         // What is refused goes by the checks in their order.
         ensures refused { IsTrue (D.is_honest log) → IfErr result (λ e. IsFromOutside e.0 ⊎ RefusesOpen (D.history log) e.0) }
 
-        // An image that stands for a list is opened, unless the device fails or memory is wanting; and the world is in bounds.
+        // An image that stands for a list is opened, unless the device or an allocation fails; and the world is in bounds.
         ensures stands { IsTrue (D.is_honest log) → (g : Geometry) (rs : List LogRecord) → StandsFor g (size (D.history log)) rs (seen (D.history log))
             → IfErr result (λ e. IsFromOutside e.0) }
         ensures bounded { IsTrue (D.is_honest log) → (g : Geometry) (rs : List LogRecord) → StandsFor g (size (D.history log)) rs (seen (D.history log))
@@ -123,7 +123,7 @@ impl<D: Disk> World<D> {
         self.log.durable().number()
     }
 
-    /// A device has failed: every call answers 24 until the devices are opened again.
+    /// A device has failed: every call answers `Failed` until the devices are opened again.
     pub fn has_failed(&self) -> bool
         ensures { result ≡ (state_in self.now).failed }
     {
@@ -201,7 +201,7 @@ impl<D: Disk> World<D> {
         Step::Refused(fault)
     }
 
-    /// The events, one step each. 27 where there is no room for the answers, and then no event was made.
+    /// The events, one step each. `Memory` if the room for the answers could not be allocated, and then no event was made.
     pub fn run(&mut self, alloc: Global, events: &[Event], out: &mut Vec<Step>) -> Result<(), Fault>
         requires { All IsServedEvent events.now }
         ensures runs { OnOk result ((steps : List Step) × (out.new.items ≡ out.old.items ++ steps) × Runs self.old events.now steps self.new) }
@@ -216,7 +216,7 @@ impl<D: Disk> World<D> {
         Ok(())
     }
 
-    // One event, which is copied: a copy that is refused is answered by 27, and nothing has changed.
+    // One event, which is copied. If that fails the answer is `Memory`, and nothing has changed.
     fn step_of(&mut self, alloc: Global, event: &Event) -> Step
         requires { IsServedEvent event.now }
         ensures { Steps self.old event.now result self.new }

@@ -19,5 +19,5 @@ returns g c geometry bytes first last managers shown stood are only opened =
       opened.records,
       subst (λ (l : List LogRecord). StandsFor geometry bytes l last) (sym list) found.stands,
       subst (λ (ls : List (List LogRecord)). AreFixed ls shown.list) found.opened
-      (subst (λ (l : List LogRecord). AreFixed (map (λ (r : Run). r.first.list) found.runs) l) (sym list) (runs_fix geometry [] found.runs found.end found.are)),
+          (subst (λ (l : List LogRecord). AreFixed (map (λ (r : Run). r.first.list) found.runs) l) (sym list) (runs_fix geometry [] found.runs found.end found.are)),
     )
