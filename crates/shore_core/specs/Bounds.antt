@@ -16,7 +16,7 @@ pub record InBounds (g : Geometry) (stream : ℕ) (rs : List LogRecord) : Type 0
   pub numbers : length rs < LAST_OPENED
   pub txns : HasTxns rs
 
--- so is each beginning of it, which a crash may leave
+-- so is each prefix of it, which a crash may leave
 abbrev pub AreInBounds : Geometry → ℕ → List LogRecord → Type 0
 AreInBounds g stream rs = (n : ℕ) → n ≤ length rs → InBounds g stream (take n rs)
 
@@ -27,7 +27,7 @@ pub record HasOwnRoom (reserved number : ℕ) (a : Active) : Type 0 where
   pub txn : a.txn < LAST_TXN
   pub few : number ≤ LAST_LSN + 1
 
--- a state over a stream of this length, whose list is in bounds with each of its beginnings, whose sums are those of the list, and which has the room that
+-- a state over a stream of this length, whose list is in bounds with each of its prefixes, whose sums are those of the list, and which has the room that
 -- it owes
 pub record IsBounded (g : Geometry) (stream : ℕ) (s : State) : Type 0 where
   pub as_long : s.room.stream ≡ stream

@@ -23,7 +23,7 @@ pub fn first_waiters_are_refused()
     ensures { (rs : List Request) → IsOrderly rs → FirstWaitersAreRefused rs }
 {}
 
-/// What a grant pass grants is a beginning of the queue's waiters.
+/// What a grant pass grants is a prefix of the queue's waiters.
 pub fn pass_grants_a_beginning()
     ensures { (rs : List Request) (g : Granule) → AreRequests rs → GrantsABeginning rs g }
 {}

@@ -129,7 +129,7 @@ numbered-append n (x ∷ xs) ys hx hy =
 pub numbered-push : (n : ℕ) (rs : List LogRecord) (r : LogRecord) → IsTrue (are_numbered n rs) → Fits r → r.previous < n + length rs → IsTrue (are_numbered n (rs ++ r ∷ []))
 numbered-push n rs r h fits below = numbered-append n rs (r ∷ []) h (both _ _ (both _ _ (has_text-fits r fits) (lt_test _ _ below)) refl)
 
--- a beginning, and what is left
+-- a prefix, and what is left
 pub AreNumbered-take : (n k : ℕ) (rs : List LogRecord) → AreNumbered n rs → AreNumbered n (take k rs)
 AreNumbered-take n zero rs are = tt
 AreNumbered-take n (suc k) [] are = tt

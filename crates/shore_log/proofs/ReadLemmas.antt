@@ -38,7 +38,7 @@ goes_on first front rest after r rs are left some only =
     let found = only d (texts others) fits.0 f.3 in
     ((others, rs_is ∙ ap (λ (x : LogRecord). front ++ x ∷ others) (sym found.0) ∙ sym (append_assoc front (r ∷ []) others), found.1), subst (λ (x : LogRecord). x.previous < first + length front) (sym found.0) fits.1)
 
--- an error in the midst of the texts of some records is for want of memory
+-- an error in the midst of the texts of some records is that an allocation failed
 pub fails : {X : Type 0} (one : X → LogRecord) (left_of : X → List ℕ) (e : ReadError) (first : ℕ) (front : List LogRecord) (rest : List ℕ) (rs : List LogRecord) → AreNumbered first rs → Left rs front rest → 1 ≤ length rest
     → ((d : LogRecord) (s : List ℕ) → Fits d → rest ≡ text d ++ s → ReadsOne one left_of (Err e) d s) → Reads (Err e) rs
 fails one left_of Memory first front rest rs are left some only = tt

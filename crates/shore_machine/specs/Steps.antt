@@ -86,7 +86,7 @@ IsRefusal g s (call.Insert store bytes) LogFull =
 IsRefusal g s call.Commit NoTransaction = s.active ≡ None
 IsRefusal g s _ _ = ⊥
 
--- a refusal of a call: a growth was refused; a device has failed; the session's earlier call still waits; or the call's own
+-- a refusal of a call: an allocation failed; a device has failed; the session's earlier call still waits; or the call's own
 abbrev pub Refuses : Geometry → State → Call → Fault → Type 0
 Refuses g s c fault =
     (fault ≡ Memory)

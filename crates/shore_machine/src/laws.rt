@@ -73,7 +73,7 @@ pub fn events_go_on()
 
 /// A format, and then any number of runs, each opened on what the crash before it kept: the entries that the runs made are
 /// those of a life. What the next open shows is what nothing becomes by the committed transactions of each run in turn, of
-/// a beginning of its decisions with every acknowledged one, each running alone in their order. And what a run was opened on is
+/// a prefix of its decisions with every acknowledged one, each running alone in their order. And what a run was opened on is
 /// fixed: it is a prefix of what every later one is opened on.
 pub fn runs_are_a_life()
     ensures lawful { (g : Geometry) (runs : List Run) (last : List LogRecord) → AreRuns g [] runs last → IsFirstList last }

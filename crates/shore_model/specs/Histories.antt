@@ -251,7 +251,7 @@ TakeTurns h ds = (n : ℕ) (d : Decision) → slice_get ds n ≡ Some d → Take
 abbrev pub Sound : History → Type 0
 Sound h = TakeTurns h (decisions h.entries)
 
--- a beginning of the decisions, which holds every acknowledged one
+-- a prefix of the decisions, which holds every acknowledged one
 pub record Kept (es : List Entry) (ds : List Decision) : Type 0 where
   pub beginning : (n : ℕ) × (ds ≡ take n (decisions es))
   pub acknowledged_kept : All (Contains ds) (acknowledged es)

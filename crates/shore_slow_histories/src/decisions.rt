@@ -90,7 +90,7 @@ fn copied(alloc: Global, decision: &Decision) -> Result<Decision, AllocError>
     }
 }
 
-/// Whether what is kept is a beginning of the decisions that holds every acknowledged one.
+/// Whether what is kept is a prefix of the decisions that holds every acknowledged one.
 pub fn is_kept(alloc: Global, entries: &[Entry], kept: &[Decision]) -> Result<bool, AllocError>
     ensures { IfOk result (λ yes. IsTrue yes ↔ Kept entries.now kept.now) }
 {

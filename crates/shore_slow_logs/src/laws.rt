@@ -12,7 +12,7 @@ pub fn overlay_answers()
     ensures { OverlayAnswers }
 {}
 
-/// A beginning of a lawful list is lawful.
+/// A prefix of a lawful list is lawful.
 pub fn beginning_is_lawful()
     ensures { (rs : List LogRecord) (n : ℕ) → Lawful rs → Lawful (take n rs) }
 {}

@@ -82,7 +82,7 @@ pub enum Fault {
     Damaged { device: Device, place: u64 },
     /// The device is of another version of the format.
     WrongVersion,
-    /// A growth was refused. Nothing changed but locks already taken, or steps of a rollback already made.
+    /// An allocation failed. Nothing changed but locks already taken, or steps of a rollback already made.
     Memory,
     /// A transaction is in the table, or a session is missing.
     NotQuiet,

@@ -56,7 +56,7 @@ frames_cost n (g ∷ gs) are =
       frames_cost (n + length g) gs are.1,
     )
 
--- what stands behind a beginning costs the rest
+-- what stands behind a prefix costs the rest
 cost_parts : (n : ℕ) (rs : List LogRecord) → cost_of_log rs ≡ cost_of_log (take n rs) + cost_of_log (drop n rs)
 cost_parts n rs = sym (sum_by-take-drop (λ r. cost_of r.payload) rs n)
 

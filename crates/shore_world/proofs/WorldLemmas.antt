@@ -28,7 +28,7 @@ use Rattle.shore_world.specs.Events.{IsCall}
 use Rattle.shore_world.specs.Worlds.{HasStaged, IsLike, Runs, state_in, geometry_in, history_in, EventStep, GivesBeginning, IsReady, IsKept, Moves, Steps}
 use Rattle.shore_world.proofs.RoomLemmas.{no_failure}
 
--- ---- what gives a beginning of the list
+-- ---- what gives a prefix of the list
 
 -- of a longer list too
 pub longer : (front : List ℕ) (least : ℕ) (rs more : List LogRecord) (c : List ℕ) → GivesBeginning front least rs c → GivesBeginning front least (rs ++ more) c

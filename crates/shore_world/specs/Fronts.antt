@@ -64,7 +64,7 @@ abbrev pub front_verdict : History → Result Unit Fault
 front_verdict history = and_then (verdict_of Log history) (first_checked (anchors.verdict_of (seen history)))
 
 -- Stands for, as long as there is one device and no page: the front is in order, the frames give just these records, and they
--- are in bounds with each beginning of them.
+-- are in bounds with each prefix of them.
 pub record StandsFor (g : Geometry) (bytes : ℕ) (rs : List LogRecord) (image : List ℕ) : Type 0 where
   pub front : HasFront g bytes image
   pub log : Gives rs image
@@ -88,7 +88,7 @@ pub record IsOutOfBounds (bytes : ℕ) (image : List ℕ) (place : ℕ) : Type 0
   pub outside : ¬ InBounds geometry (bytes - 4096) list
   pub named : (HasTxns list × FitPages geometry (told list) × (place ≡ place_of front.slot)) ⊎ IsBadRecordAt geometry list image place
 
--- Beside a failure of the device and a want of memory, an open is refused by the first check of the front that is not passed;
+-- Beside a failure of the device or of an allocation, an open is refused by the first check of the front that is not passed;
 -- where all are, by the first byte where neither a closed gate nor a frame stands; and where there is none, by a list that is
 -- out of bounds.
 abbrev pub RefusesOpen : History → Fault → Type 0

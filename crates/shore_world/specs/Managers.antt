@@ -75,7 +75,7 @@ all_moves [] [] = []
 all_moves [] (step ∷ steps) = []
 all_moves (e ∷ es) [] = []
 
--- no force of these was refused for want of room
+-- no force of these was refused by `LogFull`
 abbrev pub NoForceIsFull : List Event → List Step → Type 0
 NoForceIsFull (e ∷ es) (step ∷ steps) = (e ≡ event.ForceStage → step ≢ Refused LogFull) × NoForceIsFull es steps
 NoForceIsFull [] [] = Unit {0}

@@ -60,7 +60,7 @@ EventStep g s event step new = ⊥
 
 -- ---- what a crash leaves
 
--- behind this front the frames give a beginning of the list, of this many records at least
+-- behind this front the frames give a prefix of the list, of this many records at least
 abbrev pub GivesBeginning : List ℕ → ℕ → List LogRecord → List ℕ → Type 0
 GivesBeginning front least rs image = (n : ℕ) × (least ≤ n) × (n ≤ length rs) × GivesBehind front (take n rs) image
 
@@ -68,7 +68,7 @@ GivesBeginning front least rs image = (n : ℕ) × (least ≤ n) × (n ≤ lengt
 abbrev pub IsReady : {D : Type 0} {G : Ghosts D} → World D G → List ℕ → Type 0
 IsReady w front = (IsSettled w.log front × (w.log.staged ≡ None)) ⊎ ((group : List LogRecord) × IsStaged w.log front group)
 
--- Behind this front a crash now leaves a beginning of the list with all that is durable; and as long as no device has failed
+-- Behind this front a crash now leaves a prefix of the list with all that is durable; and as long as no device has failed
 -- the next force can be made.
 pub record IsKept {D : Type 0} {G : Ghosts D} (w : World D G) (front : List ℕ) : Type 0 where
   pub images : (c : List ℕ) → may_leave (history_in w) c → GivesBeginning front (state_in w).durable (state_in w).list c
@@ -85,7 +85,7 @@ fault_at (Done answer) = Ok tt
 fault_at (Waits wait) = Ok tt
 fault_at Nothing = Ok tt
 
--- What an event moves: the state by a step of the machine, and the log device so that at each moment a crash leaves a beginning
+-- What an event moves: the state by a step of the machine, and the log device so that at each moment a crash leaves a prefix
 -- of the list as it was before, with all that was durable then.
 pub record Moves {D : Type 0} {G : Ghosts D} (old : World D G) (e : Event) (step : Step) (new : World D G) : Type 0 where
   pub geometry : geometry_in new ≡ geometry_in old
