@@ -23,7 +23,7 @@ pub fn first_waiters_are_refused()
     ensures { (rs : List Request) → IsOrderly rs → FirstWaitersAreRefused rs }
 {}
 
-/// What a grant pass grants is a beginning of the queue's waiters.
+/// What a grant pass grants is a prefix of the queue's waiters.
 pub fn pass_grants_a_beginning()
     ensures { (rs : List Request) (g : Granule) → AreRequests rs → GrantsABeginning rs g }
 {}
@@ -63,7 +63,7 @@ pub fn refused_changes_nothing()
     ensures { (table : Table) (t : ℕ) (g : Granule) (mode : Mode) → RefusedChangesNothing table t g mode }
 {}
 
-/// A transaction that does not wait waits afterwards only where it was told so: it may ask again.
+/// A transaction that does not wait waits afterwards only if it was told so: it may ask again.
 pub fn waits_only_where_told()
     ensures { (table : Table) (t : ℕ) (g : Granule) (mode : Mode) → AreRequests table.requests → is_waiting t table.requests ≡ false → StaysQuiet table t g mode }
 {}

@@ -15,12 +15,12 @@ pub fn sup_is_least_above()
     ensures { (a b : Mode) → IsLeastAbove a b (sup a b) }
 {}
 
-/// Which of two holders came first makes no difference to whether they may stand together.
+/// Which of two holders came first makes no difference to whether they are compatible.
 pub fn standing_together_is_mutual()
     ensures { (a b : Mode) → IsTrue (coexist a b) → IsTrue (coexist b a) }
 {}
 
-/// What a held mode grants may stand beside it.
+/// What a held mode grants is compatible with it.
 pub fn grant_stands()
     ensures { (held asked : Mode) → IsTrue (grants held asked) → IsTrue (coexist held asked) }
 {}

@@ -1,4 +1,4 @@
-//! The decisions of a history, and what stands of them, computed slowly.
+//! The decisions of a history, and what a crash may keep of them, computed slowly.
 ghost use Rattle.std.specs.Prelude.{◌≡◌, ◌==◌, ◌∷◌, ◌++◌, ◌↔◌, [], ℕ, filter, take, All, Contains, IfOk, OnOk, IsTrue};
 ghost use Rattle.std.specs.List.{cons_option, filter_map, list_any};
 ghost use Rattle.shore_model.specs.declared.histories.Doubt.{Doubt};
@@ -90,7 +90,7 @@ fn copied(alloc: Global, decision: &Decision) -> Result<Decision, AllocError>
     }
 }
 
-/// Whether what is kept is a beginning of the decisions that holds every acknowledged one.
+/// Whether what is kept is a prefix of the decisions that holds every acknowledged one.
 pub fn is_kept(alloc: Global, entries: &[Entry], kept: &[Decision]) -> Result<bool, AllocError>
     ensures { IfOk result (λ yes. IsTrue yes ↔ Kept entries.now kept.now) }
 {

@@ -12,7 +12,7 @@ pub fn overlay_answers()
     ensures { OverlayAnswers }
 {}
 
-/// A beginning of a lawful list is lawful.
+/// A prefix of a lawful list is lawful.
 pub fn beginning_is_lawful()
     ensures { (rs : List LogRecord) (n : ℕ) → Lawful rs → Lawful (take n rs) }
 {}
@@ -22,7 +22,7 @@ pub fn next_is_lawful()
     ensures { (rs : List LogRecord) (r : LogRecord) → Lawful rs → MayFollow rs r → Lawful (rs ++ r ∷ []) }
 {}
 
-/// A Commit lays its transaction's writes over what the list tells, where none is in doubt.
+/// A Commit lays its transaction's writes over what the list tells, if none is in doubt.
 pub fn told_after_commit()
     ensures { (rs : List LogRecord) (t p : ℕ) → in_doubt_in rs ≡ [] →
         told (rs ++ record { txn = t; previous = p; payload = Payload.Commit } ∷ []) ≡ overlay (told rs) (logged_writes rs t) }

@@ -1,4 +1,4 @@
-//! A refused growth is a fault.
+//! A failed allocation is a fault.
 ghost use Rattle.std.specs.Prelude.{◌≡◌};
 ghost use Rattle.shore_types.specs.declared.faults.Fault.TheVariants.{Memory};
 
