@@ -1,4 +1,4 @@
--- What a search finds of those for whom a transaction waits: nobody else, and enough to come by all.
+-- What a search finds of those for whom a transaction waits: `blockers` lists only edges, and every edge is reachable through them.
 use Rattle.std.proofs.Common.{◌≡◌, ◌++◌, inl, inr, ⊎_elim, ℕ, List, [], ◌∷◌, true, false, Option, None, Some, refl, ap, sym, subst, ◌∙◌}
 use Rattle.std.specs.Prelude.{cond, not, ◌&&◌, ◌==◌, is_some}
 use Rattle.std.proofs.lemmas.Bool.Decides.{Decides-eqb}

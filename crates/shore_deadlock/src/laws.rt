@@ -1,4 +1,4 @@
-//! Laws of waits and of cycles, each the contract of a function with nothing to do.
+//! Laws of waits and of cycles, each stated as the contract of an empty function.
 ghost use Rattle.std.specs.Prelude.{◌≡◌, ℕ, List, false};
 ghost use Rattle.shore_types.specs.declared.locking.Granule.{Granule};
 ghost use Rattle.shore_types.specs.declared.locking.Mode.{Mode};

@@ -1,4 +1,4 @@
-//! Laws over the modes, each the contract of a function with nothing to do.
+//! Laws over the modes, each stated as the contract of an empty function.
 ghost use Rattle.std.specs.Prelude.{◌≡◌, IsTrue};
 ghost use Rattle.shore_types.specs.declared.locking.Mode.{Mode};
 ghost use Rattle.shore_model.specs.Modes.{coexist, grants, is_at_most, sup, IsLeastAbove};

@@ -1,4 +1,4 @@
-//! Laws of locks along paths, each the contract of a function with nothing to do.
+//! Laws of locks along paths, each stated as the contract of an empty function.
 ghost use Rattle.std.specs.Prelude.{◌∷◌, [], ℕ, List, All};
 ghost use Rattle.shore_model.specs.declared.holds.Hold.{Hold};
 ghost use Rattle.shore_model.specs.declared.requests.Request.{Request};

@@ -1,4 +1,4 @@
-//! Laws of lists of log records, and of the records that they tell, each the contract of a function with nothing to do.
+//! Laws of lists of log records, and of the records that they tell, each stated as the contract of an empty function.
 ghost use Rattle.std.specs.Prelude.{◌≡◌, ◌++◌, ◌∷◌, [], ℕ, List, take, false};
 ghost use Rattle.shore_types.specs.declared.locking.Granule.{Granule};
 ghost use Rattle.shore_model.specs.declared.log_records.LogRecord.{LogRecord};
