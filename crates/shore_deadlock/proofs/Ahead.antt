@@ -1,4 +1,4 @@
--- What a search finds of those for whom a transaction waits: nobody else, and enough to come by all.
+-- What a search finds of those for whom a transaction waits: `blockers` lists only edges, and every edge is reachable through them.
 use Rattle.std.proofs.Common.{◌≡◌, ◌++◌, inl, inr, ⊎_elim, ℕ, List, [], ◌∷◌, true, false, Option, None, Some, refl, ap, sym, subst, ◌∙◌}
 use Rattle.std.specs.Prelude.{cond, not, ◌&&◌, ◌==◌, is_some}
 use Rattle.std.proofs.lemmas.Bool.Decides.{Decides-eqb}
@@ -245,7 +245,7 @@ module _ (victims : List Victim) (rs : List Request) (fit : Fit rs) (Found Fine 
       goes_on t w waits found u
       (In-right (refusing victims w (holders_at w.granule rs) ++ refusing victims w (waiters_at w.granule rs)) (at_most_one (nearest_ahead victims w rs)) u (one_In (nearest_ahead victims w rs) u is))
 
-  -- all before a place in a queue, where the nearest is
+  -- all before the place in a queue at which the nearest is
   ahead_fine : (g : Granule) (back ys : List Request) → waiters_at g rs ≡ about back ys → ((n : ℕ) → first_spared victims back ≡ Some n → Fine n)
       → (q : Request) → In q back → is_victim victims q.txn ≡ false → Fine q.txn
   ahead_fine g [] ys whole near q h spared = absurd h

@@ -162,7 +162,7 @@ waits_without t rs a b other_a other_b h =
           e.why;
     })
 
--- edges of two others stay where the requests of all others do
+-- edges of two others stay if the requests of all others do
 pub waits_apart : (t : ℕ) (rs new : List Request) → of_others t rs ≡ of_others t new → (a b : ℕ) → (a ≡ t → ⊥) → (b ≡ t → ⊥) → WaitsFor rs a b → WaitsFor new a b
 waits_apart t rs new same a b other_a other_b h =
     waits-filtered (λ r. not (r.txn == t)) new a b (subst (λ xs. WaitsFor xs a b) same (waits_without t rs a b other_a other_b h))

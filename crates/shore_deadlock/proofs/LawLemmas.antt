@@ -26,12 +26,12 @@ cancel_keeps_free rs t orderly free = free_of_fewer rs (cancelled t rs) (λ a b 
 pub release_keeps_free : (rs : List Request) (t : ℕ) → IsOrderly rs → HasNoCycle rs → HasNoCycle (released t rs)
 release_keeps_free rs t orderly free = free_of_fewer rs (released t rs) (λ a b h. released_adds_none rs t a b orderly h) free
 
--- where the requests of others stay, each new cycle passes the transaction
+-- if the requests of others stay, each new cycle passes the transaction
 on_each_new : (t : ℕ) (rs new : List Request) → of_others t new ≡ of_others t rs → HasNoCycle rs → IsOnEachCycle new t
 on_each_new t rs new same free cycle closed =
     ⊎_elim (λ member. In-Contains cycle t member) (λ out. absurd (free cycle (cycle_apart t new rs same cycle out closed))) (member_or_not t cycle)
 
--- .. and where it waits for nobody there is none
+-- .. and if it waits for nobody there is none
 free_of_quiet : (t : ℕ) (rs new : List Request) → of_others t new ≡ of_others t rs → ((u : ℕ) → WaitsFor new t u → ⊥) → HasNoCycle rs → HasNoCycle new
 free_of_quiet t rs new same never free cycle closed =
     ⊎_elim (λ member. let on = member_waits new cycle t closed member in never on.0 on.1) (λ out. free cycle (cycle_apart t new rs same cycle out closed)) (member_or_not t cycle)

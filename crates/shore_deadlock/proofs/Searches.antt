@@ -1,4 +1,4 @@
--- A search: what it has explored, the cycle that it finds, and that there is none where it ends.
+-- A search: what it has explored, the cycle that it finds, and that there is none when it ends.
 use Rattle.std.proofs.Common.{◌≡◌, ◌<◌, ◌≤◌, ◌+◌, ◌++◌, inl, inr, ⊎_elim, ℕ, List, [], ◌∷◌, true, false, Some, refl, ap, sym, subst, ◌∙◌, length, get_or, map, arith, below_more}
 use Rattle.std.specs.Prelude.{◌==◌, slice_get}
 use Rattle.std.specs.List.{list_any}

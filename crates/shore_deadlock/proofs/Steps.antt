@@ -86,7 +86,7 @@ released_adds_none rs t a b orderly h = given_adds_none (requests_by t rs) rs (f
 
 -- ---- cycles that stay
 
--- a grant pass leaves each cycle: who is granted waits for nobody, and so stands in none
+-- a grant pass leaves each cycle: who is granted waits for nobody, and so is on none
 pass_leaves_cycle : (g : Granule) (rs : List Request) (cycle : List ℕ) → Fit rs → IsCycle rs cycle → IsCycle (passed g rs) cycle
 pass_leaves_cycle g rs cycle fit closed =
     pass_goes (λ xs. IsCycle xs cycle) g

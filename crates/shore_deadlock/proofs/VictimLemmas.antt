@@ -60,7 +60,7 @@ later_spared v vs u spared =
     clash all spared))
     (λ none. none) (either (is_victim vs u))
 
--- a cycle without victims stands after them
+-- a cycle without victims stays after them
 pub cycle_after : (vs : List Victim) (rs : List Request) (cycle : List ℕ) → IsOrderly rs → AreNoVictims vs cycle → IsCycle rs cycle → IsCycle (after_victims vs rs) cycle
 cycle_after [] rs cycle orderly spared closed = closed
 cycle_after (v ∷ vs) rs cycle orderly spared closed =

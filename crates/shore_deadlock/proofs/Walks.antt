@@ -27,12 +27,12 @@ walk_as rs new cycle step t (u ∷ us) end among ends walk = (
   walk_as rs new cycle step u us end (λ v h. among v (inr h)) ends walk.1,
 )
 
--- where its edges stay, a cycle stays
+-- if its edges stay, a cycle stays
 pub cycle_as : (rs new : List Request) (cycle : List ℕ) → ((a b : ℕ) → In a cycle → In b cycle → WaitsFor rs a b → WaitsFor new a b) → IsCycle rs cycle → IsCycle new cycle
 cycle_as rs new [] step closed = closed
 cycle_as rs new (t ∷ ts) step closed = walk_as rs new (t ∷ ts) step t ts t (λ u h. h) (inl refl) closed
 
--- a cycle of others than a transaction stays where all their requests do
+-- a cycle of others than a transaction stays if all their requests do
 pub cycle_apart : (t : ℕ) (rs new : List Request) → of_others t rs ≡ of_others t new → (cycle : List ℕ) → (In t cycle → ⊥) → IsCycle rs cycle → IsCycle new cycle
 cycle_apart t rs new same cycle out closed =
     cycle_as rs new cycle (λ a b in_a in_b h. waits_apart t rs new same a b (λ e. out (subst (λ x. In x cycle) e in_a)) (λ e. out (subst (λ x. In x cycle) e in_b)) h) closed

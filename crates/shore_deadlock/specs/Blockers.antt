@@ -1,4 +1,4 @@
--- Whom a transaction waits for, as a search needs it: those that refuse its request, and the nearest that waits ahead.
+-- Whom a transaction waits for, as a search of the waits-for graph needs it: those that refuse its request, and the nearest that waits ahead.
 use Rattle.std.specs.Prelude.{◌≡◌, ◌==◌, ◌&&◌, ◌++◌, ℕ, List, [], ◌∷◌, Bool, false, not, cond, Option, None, Some, All}
 use Rattle.std.specs.List.{list_any}
 use Rattle.shore_model.specs.declared.requests.Request.{Request}
@@ -14,7 +14,7 @@ is_victim victims t = list_any (λ v. v.txn == t) victims
 abbrev pub AreNoVictims : List Victim → List ℕ → Type 0
 AreNoVictims victims ts = All (λ t. is_victim victims t ≡ false) ts
 
--- the other's transaction, where it refuses the waiter and is no victim
+-- the other's transaction, if it refuses the waiter and is no victim
 abbrev pub refusing_one : List Victim → Request → Request → List ℕ
 refusing_one victims w other = cond (refuses w other && not (is_victim victims other.txn)) (other.txn ∷ []) []
 

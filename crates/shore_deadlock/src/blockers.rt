@@ -11,7 +11,7 @@ use shore_types::TxnId;
 use std::alloc::AllocError;
 
 /// Lists those for whom a transaction waits, without the victims, in the place of what the list had: whoever holds what
-/// refuses its request, and the nearest of those that wait ahead of it. That one waits for all that stand further ahead, so
+/// refuses its request, and the nearest of those that wait ahead of it. That one waits for all that are further ahead, so
 /// that a search that goes on from it comes by them too.
 pub fn list_blockers(
     out: &mut Vec<TxnId>,

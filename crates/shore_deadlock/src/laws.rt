@@ -1,4 +1,4 @@
-//! Laws of waits and of cycles, each the contract of a function with nothing to do.
+//! Laws of waits and of cycles, each stated as the contract of an empty function.
 ghost use Rattle.std.specs.Prelude.{◌≡◌, ℕ, List, false};
 ghost use Rattle.shore_types.specs.declared.locking.Granule.{Granule};
 ghost use Rattle.shore_types.specs.declared.locking.Mode.{Mode};
@@ -10,12 +10,12 @@ ghost use Rattle.shore_locks.specs.Grants.{after_request, after_try, answer_to, 
 ghost use Rattle.shore_locks.specs.Tables.{Table, is_waiting};
 ghost use Rattle.shore_deadlock.specs.Cycles.{IsOnEachCycle};
 
-/// Where a transaction waits no more, nobody waits for somebody for whom he did not wait before.
+/// If a transaction waits no more, nobody waits for somebody for whom he did not wait before.
 pub fn cancel_adds_no_wait()
     ensures { (rs : List Request) (t a b : ℕ) → IsOrderly rs → WaitsFor (cancelled t rs) a b → WaitsFor rs a b }
 {}
 
-/// Nor where a transaction gives up all that it holds and wants.
+/// Nor if a transaction gives up all that it holds and wants.
 pub fn release_adds_no_wait()
     ensures { (rs : List Request) (t a b : ℕ) → IsOrderly rs → WaitsFor (released t rs) a b → WaitsFor rs a b }
 {}
@@ -46,7 +46,7 @@ pub fn answered_request_closes_no_cycle()
         (answer_to table t g mode ≡ Waiting → ⊥) → HasNoCycle (after_request table t g mode) }
 {}
 
-/// Where no cycle stood, each one that a request closes passes the one who asked.
+/// If there was no cycle, each one that a request closes passes the one who asked.
 pub fn cycles_pass_the_asker()
     ensures { (table : Table) (t : ℕ) (g : Granule) (mode : Mode) → IsOrderly table.requests → is_waiting t table.requests ≡ false → HasNoCycle table.requests →
         IsOnEachCycle (after_request table t g mode) t }

@@ -13,7 +13,7 @@ use shore_types::{Fault, Sequence, TxnId};
 use std::alloc::{AllocError, Global};
 
 /// A cycle of waits that passes a transaction, from it on: each waits for the next, and the last for the first. None:
-/// no cycle passes it. The error is 27 Memory alone.
+/// no cycle passes it. The error is Memory alone.
 pub fn find_cycle(
     alloc: Global,
     table: &LockTable,

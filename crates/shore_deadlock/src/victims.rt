@@ -20,8 +20,8 @@ pub struct Victim {
 }
 
 /// Breaks the cycles that pass a transaction, until none is left: of each the transaction with the greatest number waits
-/// no more. The answer is these victims, in their turn. Where each cycle passed the transaction none is left at all. The
-/// error is 27 Memory alone, and then the table is as it was: the victims are chosen before the first waits no more.
+/// no more. The answer is these victims, in their turn. If each cycle passed the transaction none is left at all. The
+/// error is Memory alone, and then the table is as it was: the victims are chosen before the first waits no more.
 pub fn break_cycles(alloc: Global, table: &mut LockTable, txn: TxnId) -> Result<Vec<Victim>, Fault>
     ensures victims { IfOk result (λ victims. AreVictims table.old.requests txn victims.items) }
     ensures table { IfOk result (λ victims. table.new ≡ record { limit = table.old.limit; requests = after_victims victims.items table.old.requests }) }
@@ -39,7 +39,7 @@ pub fn break_cycles(alloc: Global, table: &mut LockTable, txn: TxnId) -> Result<
     Ok(victims)
 }
 
-// What is chosen while the table stands is right when its turn comes: a cycle that passes no victim stands as long as
+// What is chosen before the table changes is right when its turn comes: a cycle that passes no victim stays as long as
 // victims alone wait no more.
 fn choose(alloc: Global, table: &LockTable, txn: TxnId) -> Result<Vec<Victim>, Fault>
     ensures victims { IfOk result (λ victims. AreVictims table.now.requests txn victims.items) }

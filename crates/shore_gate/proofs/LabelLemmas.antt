@@ -97,7 +97,7 @@ length_bounds : (device : Device) (pages size : ℕ) → pages ≤ 65536 → Has
 length_bounds Log pages size few long = (omega arith, omega arith)
 length_bounds Volume pages size few long = (omega arith, omega arith)
 
--- what stands behind the fields
+-- what comes behind the fields
 rest_is : (bytes : List ℕ) (count : ℕ) → length bytes ≡ 512 → IsBytes bytes → count ≤ 64 → are_zero (drop (32 + 4 * count) bytes) ≡ true
     → drop 32 bytes ≡ flat_map (little_bytes 4) (numbers_at bytes 32 count) ++ replicate (480 - 4 * length (numbers_at bytes 32 count)) 0
 rest_is bytes count long fits few zeros =
@@ -204,7 +204,7 @@ pub verdict_stores_err : (device : Device) (size : ℕ) (bytes : List ℕ) (faul
 verdict_stores_err device size bytes fault kind field store =
     verdict_stores device size bytes kind field ∙ judged-append_err (store_checks device 32 0 (stores_of bytes)) (ends_of device size bytes) fault store
 
--- The end is judged where all before it is passed.
+-- The end is judged if all before it is passed.
 pub verdict_end : (device : Device) (size : ℕ) (bytes : List ℕ) → judged (kind_checks device size bytes) ≡ Ok tt → judged (field_checks device size bytes) ≡ Ok tt
     → judged (store_checks device 32 0 (stores_of bytes)) ≡ Ok tt → label_verdict device size bytes ≡ judged (end_checks device size bytes (number_at bytes 28 4) (sum (stores_of bytes)))
 verdict_end device size bytes kind field store =

@@ -41,7 +41,7 @@ little_bytes-little_number (suc n) (a ∷ bytes) fits long =
     let lowest : (a + 256 * little_from 0 n bytes) % 256 ≡ a = omega arith in
     rw (little_from-cons 0 n a bytes, lowest, bytes_above n 0 a (little_from 0 n bytes) low, rest) refl
 
--- what stands at a place is the text of the number there, and what follows
+-- what is at an offset is the text of the number there, and what follows
 pub drop-number_at : (bytes : List ℕ) (place n next : ℕ) → IsBytes bytes → place + n ≡ next → next ≤ length bytes
     → drop place bytes ≡ little_bytes n (number_at bytes place n) ++ drop next bytes
 unfolding number_at
@@ -51,7 +51,7 @@ drop-number_at bytes place n next fits sum long =
     let back : drop n (drop place bytes) ≡ drop next bytes = drop-drop n place bytes ∙ ap (λ (k : ℕ). drop k bytes) sum in
     rw (front, ← back) (sym (take-append-drop n (drop place bytes)))
 
--- the number at a place where its text stands
+-- the number at an offset at which its text is
 pub number_at-text : (bytes : List ℕ) (place n x : ℕ) (rest : List ℕ) → drop place bytes ≡ little_bytes n x ++ rest → x < 256 ^ n → number_at bytes place n ≡ x
 unfolding number_at
 number_at-text bytes place n x rest text small = ap (little_number n) text ∙ little_number-reads_back n x rest small
@@ -88,7 +88,7 @@ length-numbers_at bytes place (suc count) = let rest = length-numbers_at bytes (
 pub sum-cons : (number : ℕ) (numbers : List ℕ) → sum (number ∷ numbers) ≡ number + sum numbers
 sum-cons number numbers = sum_by-cons (λ x. x) number numbers
 
--- numbers one after another are read as they stand
+-- numbers one after another are read as they are
 pub drop-numbers_at : (bytes : List ℕ) (place count : ℕ) → IsBytes bytes → place + 4 * count ≤ length bytes
     → drop place bytes ≡ flat_map (little_bytes 4) (numbers_at bytes place count) ++ drop (place + 4 * count) bytes
 drop-numbers_at bytes place zero fits long = let same : place + 4 * 0 ≡ place = omega arith in rw same refl

@@ -1,4 +1,4 @@
--- The two anchors of a log: their bytes, their limits, and which of them counts.
+-- The two anchors of a log (its master record, in two alternating slots): their bytes, their limits, and which of them counts.
 use Rattle.std.specs.Prelude.{◌≡◌, ◌≢◌, ◌⊎◌, ℕ, ◌+◌, ◌-◌, ◌*◌, ◌^◌, ◌<◌, ◌≤◌, Bool, ◌&&◌, ◌||◌, nat_le, nat_lt, ◌==◌, List, ◌∷◌, ◌++◌, take, drop, replicate, slice_index, Option, Some, None, Result, Ok, Err, if◌then◌else◌}
 use Rattle.byteorder.specs.Endian.{little_bytes}
 use Rattle.shore_types.specs.declared.faults.Device.TheVariants.{Log}
@@ -45,7 +45,7 @@ pub record MayCount (anchor : Anchor) : Type 0 where
   pub most_sequence : anchor.sequence ≤ anchor.checkpoint + 1
   pub checkpoint : (anchor.checkpoint ≡ 0) ⊎ (anchor.tail ≤ anchor.checkpoint)
 
--- the anchor stands in these bytes, behind an open gate
+-- the anchor is in these bytes, behind an open gate
 pub record HoldsAnchor (bytes : List ℕ) (anchor : Anchor) : Type 0 where
   pub fits : IsAnchor anchor
   pub text : bytes ≡ OPEN ∷ anchor_bytes anchor

@@ -3,7 +3,7 @@ use Rattle.std.specs.Prelude.{◌≡◌, ◌⊎◌, Bool, ℕ, ◌&&◌, nat_le,
 use Rattle.shore_types.specs.declared.faults.Fault.{Fault}
 use Rattle.shore_types.specs.declared.faults.Fault.TheVariants.{Device, Memory}
 
--- a check, and the fault where it is not passed
+-- a check, and the fault if it is not passed
 pub record Check : Type 0 where
   pub passes : Bool
   pub fault : Fault

@@ -1,4 +1,4 @@
--- The label at the front of a device: its bytes, its limits, and the checks that refuse it.
+-- The label at the front of a device (its superblock): its bytes, its limits, and the checks that refuse it.
 use Rattle.std.specs.Prelude.{◌≡◌, ℕ, ◌+◌, ◌-◌, ◌*◌, ◌^◌, ◌<◌, ◌≤◌, Bool, true, ◌&&◌, nat_le, ◌==◌, List, [], ◌∷◌, ◌++◌, length, take, drop, replicate, slice_index, sum, All, Result}
 use Rattle.std.specs.List.{flat_map}
 use Rattle.byteorder.specs.Endian.{little_bytes}
@@ -43,7 +43,7 @@ pub record IsLabel (device : Device) (bytes : ℕ) (label : Label) : Type 0 wher
   pub some_page : All (λ pages. 1 ≤ pages) label.stores
   pub most_pages : sum label.stores ≤ 65536
 
--- such a label stands in these bytes, behind an open gate
+-- such a label is in these bytes, behind an open gate
 pub record HoldsLabel (device : Device) (size : ℕ) (bytes : List ℕ) (label : Label) : Type 0 where
   pub limits : IsLabel device size label
   pub text : bytes ≡ OPEN ∷ label_bytes device label
@@ -67,7 +67,7 @@ kind_checks device size bytes =
     ∷ check (number_at bytes 2 2 == 1) WrongVersion
     ∷ []
 
--- the fields before the pages of the stores, by their places
+-- the fields before the pages of the stores, by their offsets
 abbrev pub field_checks : Device → ℕ → List ℕ → List Check
 field_checks device size bytes =
     check (number_at bytes 4 4 == 8192) (Damaged device 4)

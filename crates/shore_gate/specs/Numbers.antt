@@ -3,7 +3,7 @@ use Rattle.std.specs.Prelude.{Bool, ◌==◌, ℕ, zero, suc, ◌+◌, List, [],
 use Rattle.std.specs.List.{list_all}
 use Rattle.byteorder.specs.Endian.{little_number}
 
--- the number of so many bytes at a place
+-- the number of so many bytes at an offset
 unfoldable pub number_at : List ℕ → ℕ → ℕ → ℕ
 number_at bytes place count = little_number count (drop place bytes)
 

@@ -1,4 +1,4 @@
-//! The two anchors of a log, from which its reading begins. They are written in turn, so one is always whole.
+//! The two anchors of a log (its master record), from which its reading begins. They are written in turn, so one is always whole.
 ghost use Rattle.std.specs.Prelude.{◌≡◌, ◌+◌, ◌≤◌, ◌⊎◌, List, ℕ, length, IsTrue, IfOk, IfErr, MatchResult, Ok, Err};
 ghost use Rattle.shore_disk.specs.Device.{size, seen, CountsFault};
 ghost use Rattle.shore_disk.specs.Cause.{HasCause};
@@ -70,7 +70,7 @@ pub struct Anchors {
 impl Anchors {
     /// Reads both anchors, and answers the one that counts. An open slot whose bytes 1 to 7 are not zero is `Damaged` at
     /// that slot, A before B; no open slot at all is `Damaged` at A, two of the same sequence at B; and one that breaks
-    /// a limit, where it counts, at its own slot. Whether the log holds the checkpoint is left to the one who opens it.
+    /// a limit, if it counts, at its own slot. Whether the log holds the checkpoint is left to the one who opens it.
     pub fn read<D: Disk>(disk: &mut D) -> Result<Anchors, Fault>
         requires { 2088 ≤ size (D.history disk.old) }
 
@@ -96,7 +96,7 @@ impl Anchors {
 impl Anchor {
     ghost use Rattle.shore_gate.specs.Anchor.{anchor_bytes};
 
-    /// The bytes that stand for it behind the gate of a slot.
+    /// Its encoding, behind the gate of a slot.
     #[tactic(auto, unfolding(crate::specs::Anchor::anchor_bytes))]
     pub fn to_bytes(&self) -> [u8; ANCHOR_BYTES - 1]
         ensures text { result ≡ anchor_bytes self.now }

@@ -69,7 +69,7 @@ pub fn write_label<D: Disk>(
 /// is `NotFormatted`, another version is `WrongVersion`; then the first field that breaks a limit is `Damaged` at its
 /// byte. A volume whose length is not that of its pages is `Damaged` at the length.
 pub fn read_label<D: Disk>(alloc: Global, disk: &mut D, device: Device) -> Result<Label, Fault>
-    // The label that stands there is answered, and nothing else is taken for one.
+    // The label that is there is answered, and nothing else is taken for one.
     ensures found { IsTrue (D.is_honest disk.old) → IfOk result (HasLabel device (D.history disk.old)) }
     ensures only { (label : Label) → IsTrue (D.is_honest disk.old) → HasLabel device (D.history disk.old) label
         → MatchResult result (λ read. read ≡ label) IsFromOutside }
@@ -241,7 +241,7 @@ fn check_stores(device: Device, stores: &[u32]) -> Result<u64, Fault>
     Ok(total)
 }
 
-// Checks what stands behind so many stores, and the length of a volume of so many pages.
+// Checks what comes behind so many stores, and the length of a volume of so many pages.
 fn check_end(device: Device, len: u64, bytes: &[u8], count: usize, pages: u64) -> Result<(), Fault>
     requires whole { length bytes.now ≡ 512 }
     requires few { count ≤ 64 }

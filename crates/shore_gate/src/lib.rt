@@ -1,4 +1,4 @@
-//! What stands at fixed places of a device: gates, the label that says what the device is, and the two anchors from
+//! What is at fixed offsets of a device: gates, the label that says what the device is, and the two anchors from
 //! which a log is read.
 #![tactic(auto)]
 

@@ -141,7 +141,7 @@ in_without xs k ys x h = ⊎_elim (λ t. In-left xs (k ∷ ys) x t) (λ t. In-ri
 long_unlinked : (place : ℕ) (links : List Link) → length (unlinked place links) ≡ length links
 long_unlinked place links = long_joined place place (joined (before_at links place) (after_at links place) links) ∙ long_joined (before_at links place) (after_at links place) links
 
--- where a place stands in a ring: its neighbours are others of the ring
+-- a node in a ring: its neighbours are others of the ring
 record Neighbours (links : List Link) (head : ℕ) (xs : List ℕ) (place : ℕ) (ys : List ℕ) : Type 0 where
   here : place < length links
   previous : In (before_at links place) (head ∷ xs)

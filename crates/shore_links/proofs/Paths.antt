@@ -28,7 +28,7 @@ pub way_split : (f g : ℕ → ℕ) (a : ℕ) (xs : List ℕ) (k : ℕ) (ys : Li
 way_split f g a [] k ys b w = (w.0, w.1)
 way_split f g a (x ∷ xs) k ys b w = let r = way_split f g x xs k ys b w.1 in ((w.0, r.0), r.1)
 
--- a way stays where the links that it takes stay
+-- a way stays if the links that it takes stay
 pub way_same : (f g f' g' : ℕ → ℕ) (a : ℕ) (xs : List ℕ) (b : ℕ) → ((i : ℕ) → In i (a ∷ xs) → f' i ≡ f i) → ((i : ℕ) → In i (xs ++ b ∷ []) → g' i ≡ g i) → Way f g a xs b → Way f' g' a xs b
 way_same f g f' g' a [] b fs gs w = (fs a (inl refl) ∙ w.0, gs b (inl refl) ∙ w.1)
 way_same f g f' g' a (x ∷ xs) b fs gs w =
@@ -55,7 +55,7 @@ way_linked f g f' g' a (x ∷ xs) k b w new apart fresh end =
       way_linked f g f' g' x xs k b w.1 new apart.1 (λ h. fresh (inr h)) (λ h. end (inr h)),
     )
 
--- the new links where a place is taken out
+-- the new links if a place is taken out
 pub record Without (f g f' g' : ℕ → ℕ) (k : ℕ) : Type 0 where
   pub over : f' (g k) ≡ f k
   pub back : g' (f k) ≡ g k

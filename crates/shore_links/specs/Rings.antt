@@ -1,12 +1,12 @@
--- Rings of places: doubly linked lists that end where they begin.
+-- Rings of nodes: doubly linked lists that end where they begin.
 use Rattle.std.specs.Prelude.{◌≡◌, ◌<◌, ◌⊎◌, ℕ, List, [], ◌∷◌, slice_index_or, slice_set, length}
 use Rattle.shore_links.specs.declared.ring.Link.{Link}
 
--- the link of a place
+-- the link of a node
 abbrev pub link_at : List Link → ℕ → Link
 link_at links place = slice_index_or links place (record { before = 0; after = 0 })
 
--- the place behind a place, and the one before it
+-- the node behind a node, and the one before it
 abbrev pub after_at : List Link → ℕ → ℕ
 after_at links place = (link_at links place).after
 
@@ -19,19 +19,19 @@ with_after place next links = slice_set links place (record { before = before_at
 abbrev pub with_before : ℕ → ℕ → List Link → List Link
 with_before place previous links = slice_set links place (record { before = previous; after = after_at links place })
 
--- two places stand one behind the other
+-- two nodes are one behind the other
 abbrev pub joined : ℕ → ℕ → List Link → List Link
 joined a b links = with_before b a (with_after a b links)
 
--- a place goes last in the ring of a head: between the head and the one before it
+-- a node goes last in the ring of a head: between the head and the one before it
 abbrev pub linked : ℕ → ℕ → List Link → List Link
 linked head place links = joined place head (joined (before_at links head) place links)
 
--- a place is taken out of its ring, and stands alone
+-- a node is taken out of its ring, and is alone in its own
 abbrev pub unlinked : ℕ → List Link → List Link
 unlinked place links = joined place place (joined (before_at links place) (after_at links place) links)
 
--- from one place through others to a last, where the first function tells the next place and the second the one before
+-- from one node through others to a last: the first function tells the next node and the second the one before
 abbrev pub Way : (ℕ → ℕ) → (ℕ → ℕ) → ℕ → List ℕ → ℕ → Type 0
 Way next previous a [] b = (next a ≡ b) × (previous b ≡ a)
 Way next previous a (x ∷ xs) b = ((next a ≡ x) × (previous x ≡ a)) × Way next previous x xs b
@@ -50,12 +50,12 @@ Distinct (x ∷ xs) = (In x xs → ⊥) × Distinct xs
 abbrev pub Apart : List ℕ → List ℕ → Type 0
 Apart xs ys = (x : ℕ) → In x xs → In x ys → ⊥
 
--- the ring of a head: these places in this order, and then the head again
+-- the ring of a head: these nodes in this order, and then the head again
 pub record IsRing (links : List Link) (head : ℕ) (xs : List ℕ) : Type 0 where
   pub way : Way (after_at links) (before_at links) head xs head
   pub distinct : Distinct (head ∷ xs)
   pub within : (x : ℕ) → In x (head ∷ xs) → x < length links
 
--- each place links to places that are there
+-- each node links to nodes that are there
 abbrev pub IsClosed : List Link → Type 0
 IsClosed links = (x : ℕ) → x < length links → (after_at links x < length links) × (before_at links x < length links)

@@ -1,5 +1,5 @@
-//! Rings: doubly linked lists that end where they begin. One vector has the links of many, and a place stands in one ring, which
-//! may be its own alone. A ring is known by any of its places; where that is a head that stays, the others are its list.
+//! Rings: doubly linked lists that end where they begin. One vector has the links of many. Each node is in exactly one ring, possibly
+//! alone. A ring is known by any of its nodes. A ring with a fixed head is a list.
 ghost use Rattle.std.specs.Prelude.{◌≡◌, ◌<◌, ◌+◌, ◌++◌, ◌∷◌, [], ℕ, List, length, IfOk, OnOk, OnErr};
 ghost use Rattle.shore_links.specs.Rings as spec;
 ghost use Rattle.shore_links.specs.Rings.{Apart, In, IsRing, after_at, before_at};
@@ -50,7 +50,7 @@ impl Rings {
         self.links.len()
     }
 
-    /// One place more, which stands alone.
+    /// One node more, in a ring of its own.
     pub fn add(&mut self) -> Result<(), AllocError>
         ensures ok { OnOk result (self.new ≡ self.old ++ record { before = length self.old; after = length self.old } ∷ []) }
         ensures err { OnErr result (self.new ≡ self.old) }
@@ -83,7 +83,7 @@ impl Rings {
         self.links[place].before
     }
 
-    /// Puts a place that stands alone last in the ring of a head.
+    /// Puts a node that is alone in its ring last in the ring of a head.
     pub fn link(&mut self, head: usize, place: usize)
         requires head { head < length self.old }
         requires place { place < length self.old }
@@ -97,7 +97,7 @@ impl Rings {
         self.join(place, head);
     }
 
-    /// Takes a place out of its ring. It stands alone then.
+    /// Takes a node out of its ring. It is alone in one of its own then.
     pub fn unlink(&mut self, place: usize)
         requires { place < length self.old }
         ensures links { self.new ≡ spec.unlinked place self.old }

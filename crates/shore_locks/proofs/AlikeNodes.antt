@@ -137,7 +137,7 @@ threaded_same heads slots new queues lists ks same len threaded = record {
   list_heads = threaded.list_heads;
 }
 
--- .. and so where the rings have places more
+-- .. and so if the rings have places more
 pub threaded_wider : (heads : ℕ) (slots : Slab Request) (queues lists queues_now lists_now : List Link) (ks : List ℕ) → ((head : ℕ) (xs : List ℕ) → IsRing queues head xs → IsRing queues_now head xs) → ((head : ℕ) (xs : List ℕ) → IsRing lists head xs → IsRing lists_now head xs)
     → length queues ≤ length queues_now → length lists ≤ length lists_now → IsThreaded heads slots queues lists ks → IsThreaded heads slots queues_now lists_now ks
 threaded_wider heads slots queues lists queues_now lists_now ks more_queues more_lists long_queues long_lists threaded = record {

@@ -111,7 +111,7 @@ length-given_up (r ∷ mine) rs one =
     let short = length-removed r rs in
     omega (arith, then, now, short)
 
--- where a request of the transaction for the granule stands, one goes where it is placed last
+-- if a request of the transaction for the granule is there, one goes where it is placed last
 pub length-removed_one : (r : Request) (rs : List Request) → is_some (request_for r.txn r.granule rs) ≡ true → suc (length (removed r rs)) ≤ length rs
 length-removed_one r [] has = cc
 length-removed_one r (q ∷ rs) has =
@@ -133,7 +133,7 @@ short_of : (b : Bool) (n limit : ℕ) → n ≤ limit → (not b && not (nat_lt 
 short_of true n limit most e = inl refl
 short_of false n limit most e = inr (ltb-true n limit (not_of (nat_lt n limit) e))
 
--- there is room for a request, where the table is not full for it
+-- there is room for a request, if the table is not full for it
 pub length-placed_within : (r : Request) (rs : List Request) (limit : ℕ) → length rs ≤ limit → (not (is_some (request_for r.txn r.granule rs)) && not (nat_lt (length rs) limit)) ≡ false → length (placed_last r rs) ≤ limit
 length-placed_within r rs limit most room =
     let e = length-placed r rs in

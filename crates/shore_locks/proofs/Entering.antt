@@ -116,7 +116,7 @@ Fit-placed t g mode rs fit quiet =
     Fit-join rs (placed_last (asking t g mode rs) rs) (asking t g mode rs) fit (AreRequests-placed (asking t g mode rs) rs fit.one) (Joins-asking t g mode rs fit quiet)
     (In-placed (asking t g mode rs) rs)
 
--- one for whom nobody stands in the way joins as a holder
+-- one for whom nobody is in the way joins as a holder
 pub Joins-at_once : (t : ℕ) (g : Granule) (mode : Mode) (rs : List Request) → obstacle (asking t g mode rs) rs ≡ None → Joins rs (granted (asking t g mode rs))
 Joins-at_once t g mode rs free = record {
   of_use = of_use_held (Some (aim (mode_held t g rs) mode)) None refl;
@@ -152,7 +152,7 @@ Fit-put t g mode rs fit free =
     Fit-join rs (put (granted (asking t g mode rs)) rs) (granted (asking t g mode rs)) fit (AreRequests-put (granted (asking t g mode rs)) rs fit.one)
     (Joins-at_once t g mode rs free) (In-put (granted (asking t g mode rs)) rs)
 
--- what is put where none alike stands goes last
+-- what is put if none alike is there goes last
 pub put_after_removed : (r : Request) (rs : List Request) → put r (removed r rs) ≡ placed_last r rs
 put_after_removed r rs =
     put_last r (removed r rs) (⊎_elim
@@ -160,12 +160,12 @@ put_after_removed r rs =
     let gone = (In-filter (λ q. not (are_alike q r)) rs f.0 f.1).1 in absurd (let here : not (are_alike f.0 r) ≡ false = ap not f.2 in cc))
     (λ no. no) (either (list_any (λ q. are_alike q r) (removed r rs))))
 
--- one is found exactly where some pass
+-- one is found if and only if some pass
 pub found_any_same : {A : Type 0} (p : A → Bool) (xs : List A) → is_some (find p xs) ≡ list_any p xs
 found_any_same p [] = refl
 found_any_same p (x ∷ xs) = ⊎_elim (λ yes. rw yes refl) (λ no. rw no (found_any_same p xs)) (either (p x))
 
--- a transaction has a node for the granule where one in the list is alike
+-- a transaction has a node for the granule if one in the list is alike
 pub known_as : (t : ℕ) (g : Granule) (mode : Mode) (rs : List Request) (r : Request) (known : Bool) → r ≡ asking t g mode rs → known ≡ is_some (request_for t g rs) → known ≡ list_any (λ q. are_alike q r) rs
 known_as t g mode rs r known is found = found ∙ found_any_same (is_for t g) rs ∙ ap (λ x. list_any (λ q. are_alike q x) rs) (sym is)
 
@@ -173,6 +173,6 @@ pub some_from : {A B : Type 0} (f : A → B) (o : Option A) (y : B) → option_m
 some_from f None y e = cc
 some_from f (Some x) y e = refl
 
--- where none is alike, one placed last comes last
+-- if none is alike, one placed last comes last
 pub placed_new : (r : Request) (rs : List Request) → list_any (λ q. are_alike q r) rs ≡ false → rs ++ r ∷ [] ≡ placed_last r rs
 placed_new r rs none = ap (λ xs. xs ++ r ∷ []) (sym (removed_none r rs (λ q h. none_any (λ x. are_alike x r) rs none q h)))

@@ -14,6 +14,6 @@ abbrev pub conversion_or : List Request → Option Request → Option Request
 conversion_or [] seen = seen
 conversion_or (c ∷ cs) seen = Some c
 
--- the first waiter, where those were seen of which this is the first that is new, and these are left
+-- the first waiter, if those were seen of which this is the first that is new, and these are left
 abbrev pub first_after : Option Request → List Request → Option Request
 first_after seen rs = conversion_or (filter (is_in_group Conversions) rs) (or_first seen rs)

@@ -17,7 +17,7 @@ use Rattle.shore_locks.proofs.Members.{In, either, All-In, In-filter, filter-In,
 use Rattle.shore_locks.proofs.Keys.{in_place-yes, in_place-no, same_granule-Decides, AreRequests-filter, AreRequests-append, AreRequests-replaced}
 use Rattle.shore_locks.proofs.Passes.{In-waiters, first_granted}
 
--- what two holders hold stands together
+-- what two holders hold is compatible
 abbrev pub StandBoth : Option Mode → Option Mode → Type 0
 StandBoth (Some m) (Some n) = IsTrue (coexist m n)
 StandBoth _ _ = Unit {0}

@@ -41,7 +41,7 @@ none_found_by : (o : Option (ℕ × Request)) → None ≡ option_map (λ (p : �
 none_found_by None e = refl
 none_found_by (Some node) e = cc
 
--- what a search along a granule's ring comes to
+-- what a search along a granule's ring gives
 pub search_found : (heads : ℕ) (slots : Slab Request) (queues lists : List Link) (ks : List ℕ) (r : Request) (head place : ℕ) (walk : List (ℕ × Request)) → IsThreaded heads slots queues lists ks → head ≡ granule_number r.granule % heads
     → walk ≡ pairs_from (slab_len slots) slots queues heads head (after_at queues head) → Some place ≡ option_map (λ (p : ℕ × Request). p.0) (find (λ (p : ℕ × Request). are_alike p.1 r) walk) → FoundNode heads slots ks r place
 search_found heads slots queues lists ks r head place walk threaded at is e =

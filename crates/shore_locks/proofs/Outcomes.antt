@@ -1,4 +1,4 @@
--- What a request, a try and a cancel come to.
+-- What a request, a try and a cancel answer and leave.
 use Rattle.std.proofs.Common.{◌≡◌, ◌++◌, ◌⊎◌, inl, inr, ⊎_elim, ℕ, List, [], ◌∷◌, Bool, true, false, Option, None, Some, refl, ap, sym, subst, ◌∙◌}
 use Rattle.std.specs.Prelude.{filter, not, cond, ◌&&◌, ◌||◌, ◌==◌, is_some, Any, find}
 use Rattle.std.specs.List.{list_any}
@@ -52,7 +52,7 @@ before_right : (xs ys : List Request) (a b : Request) → Before ys a b → Befo
 before_right [] ys a b h = h
 before_right (x ∷ xs) ys a b h = inr (before_right xs ys a b h)
 
--- each request for a granule stands in one of the groups of its queue
+-- each request for a granule is in one of the groups of its queue
 group_of : (held wanted : Option Mode) → (not (is_some wanted) ≡ true) ⊎ (((is_some held && is_some wanted) ≡ true) ⊎ ((not (is_some held) && is_some wanted) ≡ true))
 group_of held None = inl refl
 group_of None (Some w) = inr (inr refl)
@@ -73,7 +73,7 @@ in_queue g rs q h =
     (filter-In (is_in_group NewWaiters) (requests_at g rs) q h d)))
     (group_of q.held q.wanted)
 
--- a request in a group stands behind all others of the group, where it is last
+-- a request in a group is behind all others of the group, if it is last
 last_of_group : (group : Group) (g : Granule) (r : Request) (rs : List Request) (o : Request) → r.granule ≡ g → is_in_group group r ≡ true → In o (requests_at g (removed r rs)) → is_in_group group o ≡ true
     → Before (filter (is_in_group group) (requests_at g (placed_last r rs))) o r
 last_of_group group g r rs o at mine there its =
@@ -90,7 +90,7 @@ in_group_last group g r rs at mine =
     filter-In (is_in_group group) (requests_at g (placed_last r rs)) r
     (filter-In (λ q. same_granule q.granule g) (placed_last r rs) r (In-right (removed r rs) (r ∷ []) r (inl refl)) ((same_granule-Decides r.granule g).1 at)) mine
 
--- whether it wants a conversion or is new, those ahead of it stand before it in the queue
+-- whether it wants a conversion or is new, those ahead of it are before it in the queue
 ahead_before : (g : Granule) (r : Request) (rs : List Request) (o : Request) (held wanted mine : Option Mode) (w : Mode) → o.held ≡ held → o.wanted ≡ wanted → r.held ≡ mine → r.wanted ≡ Some w
     → r.granule ≡ g → In o (requests_at g (removed r rs)) → (is_some wanted && (is_some held || not (is_some mine))) ≡ true → Before (queue_at g (placed_last r rs)) o r
 ahead_before g r rs o held None mine w eh ew em er at there ahead = absurd (let f : false ≡ true = ahead in cc)
@@ -108,7 +108,7 @@ ahead_before g r rs o None (Some v) None w eh ew em er at there ahead =
     (last_of_group NewWaiters g r rs o at (rw (em, er) refl) there (rw (eh, ew) refl))
 ahead_before g r rs o None (Some v) (Some m) w eh ew em er at there ahead = absurd (let f : false ≡ true = ahead in cc)
 
--- the one that stands in the way is one for whom the transaction would wait
+-- the one that is in the way is one for whom the transaction would wait
 pub waits_for_obstacle : (t : ℕ) (g : Granule) (mode : Mode) (rs : List Request) (o : Request) → obstacle (asking t g mode rs) rs ≡ Some o → WaitsFor (placed_last (asking t g mode rs) rs) t o.txn
 waits_for_obstacle t g mode rs o is =
     let r = asking t g mode rs in
@@ -201,7 +201,7 @@ none_found : {A : Type 0} (p : A → Bool) (xs : List A) → ((x : A) → In x x
 none_found p [] each = refl
 none_found p (x ∷ xs) each = find_step p x xs (each x (inl refl)) ∙ none_found p xs (λ y h. each y (inr h))
 
--- where no request of the transaction wants anything it does not wait
+-- if no request of the transaction wants anything it does not wait
 pub nobody_wants : (t : ℕ) (rs : List Request) → ((q : Request) → In q rs → q.txn ≡ t → is_some q.wanted ≡ true → ⊥) → is_waiting t rs ≡ false
 nobody_wants t rs none =
     ap is_some (none_found (λ r. (r.txn == t) && is_some r.wanted) rs (λ q h. ⊎_elim

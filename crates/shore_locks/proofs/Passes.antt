@@ -31,7 +31,7 @@ filter_by_key p r same (q ∷ rs) =
 pub requests_at-replaced : (g : Granule) (r : Request) (rs : List Request) → requests_at g (replaced r rs) ≡ replaced r (requests_at g rs)
 requests_at-replaced g r rs = filter_by_key (λ q. same_granule q.granule g) r (λ q. ap (λ h. same_granule h g) ((in_place-keys r q).1)) rs
 
--- where a test refuses the new request, the one in whose place it stands is gone
+-- if a test refuses the new request, the one in whose place it is is gone
 pub filter_refused : (p : Request → Bool) (r : Request) → p r ≡ false → (rs : List Request) → filter p (replaced r rs) ≡ removed r (filter p rs)
 filter_refused p r refuse [] = refl
 filter_refused p r refuse (q ∷ rs) =

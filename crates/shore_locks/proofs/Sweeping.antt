@@ -87,7 +87,7 @@ any_same : {A : Type 0} (p q : A → Bool) (xs : List A) → ((x : A) → member
 any_same p q [] same = refl
 any_same p q (x ∷ xs) same = λ i. same x (inl refl) i || any_same p q xs (λ y h. same y (inr h)) i
 
--- a new waiter is granted where all that is held grants its mode
+-- a new waiter is granted if all that is held grants its mode
 pub new_can : (w : Request) (mode : Mode) (xs : List Request) → AreRequests xs → members.In w xs → w.held ≡ None → w.wanted ≡ Some mode → ((q : Request) → members.In q xs → q.granule ≡ w.granule) → can_be_granted w xs ≡ all_grant xs mode
 new_can w mode xs one h none wants at =
     ap not (any_same (refuses w) (λ q. is_refused (Some mode) q.held) xs (λ q i. ⊎_elim
@@ -135,7 +135,7 @@ module _ (heads : ℕ) (first : Slab Request) (queues lists : List Link) (head :
         target = ap (λ xs. granted_in_turn (filter (is_in_group NewWaiters) xs) (requests_in first ks)) same;
       }
 
--- where the first waiter is new, all waiters are
+-- if the first waiter is new, all waiters are
 new_alone : (g : Granule) (rs : List Request) (w : Request) (cs : List Request) → filter (is_in_group Conversions) (requests_at g rs) ≡ cs → Some w ≡ slice_get (waiters_at g rs) 0 → not (is_some w.held) ≡ true → cs ≡ []
 new_alone g rs w [] are first new = refl
 new_alone g rs w (c ∷ cs) are first new =
@@ -201,7 +201,7 @@ holds_none (Some m) b e = cc
 allowed_as : (openings : Openings) (wanted : Option Mode) (mode : Mode) → wanted ≡ Some mode → allow openings wanted ≡ is_open openings mode
 allowed_as openings wanted mode e = ap (allow openings) e
 
--- a new waiter is granted where its mode is open
+-- a new waiter is granted if its mode is open
 may_come : (g : Granule) (openings : Openings) (w : Request) (rs : List Request) → AreRequests rs → members.In w rs → same_granule w.granule g ≡ true → is_new w ≡ true → Opens openings (requests_at g rs) → can_be_granted w (requests_at w.granule rs) ≡ allow openings w.wanted
 may_come g openings w rs one there at new opens =
     let facts = holds_none w.held (is_some w.wanted) new in
@@ -238,7 +238,7 @@ module _ (heads : ℕ) (first slots : Slab Request) (queues lists : List Link) (
     key_here : (key : ℕ) → key ≡ place - heads → key ≡ next.key
     key_here key is = let h = next.here in omega (arith, h, is)
 
-    -- what stands at the place is no new waiter
+    -- what is at the place is no new waiter
     pub sweep_passes : (key now : ℕ) → key ≡ place - heads → now ≡ after_at queues place → ((r : Request) → get slots key ≡ Some r → (same_granule r.granule g && is_new r) ≡ false) → Sweeping heads first slots queues lists head g openings ks now (left - 1)
     sweep_passes key now is moves old =
         let r = some_one (get slots next.key) (s.threaded.there next.key in_keys) in

@@ -172,7 +172,7 @@ kept_released limit t rs kept =
     let short = length-given_up (requests_by t rs) rs kept.orderly.one_each in
     record { orderly = orderly_given_up (requests_by t rs) rs kept.orderly; within = omega (arith, short, kept.within) }
 
--- a table stays as it is kept, where a transaction begins to wait
+-- a table stays as it is kept, if a transaction begins to wait
 pub kept_placed : (limit t : ℕ) (g : Granule) (mode : Mode) (rs : List Request) → IsKept limit rs → is_waiting t rs ≡ false → is_full (record { limit = limit; requests = rs }) t g ≡ false → is_some (obstacle (asking t g mode rs) rs) ≡ true
     → IsKept limit (placed_last (asking t g mode rs) rs)
 kept_placed limit t g mode rs kept quiet room stopped = record {
@@ -180,7 +180,7 @@ kept_placed limit t g mode rs kept quiet room stopped = record {
   within = length-placed_within (asking t g mode rs) rs limit kept.within room;
 }
 
--- .. and where it is granted at once
+-- .. and if it is granted at once
 pub kept_granted : (limit t : ℕ) (g : Granule) (mode : Mode) (rs : List Request) → IsKept limit rs → is_waiting t rs ≡ false → is_full (record { limit = limit; requests = rs }) t g ≡ false → obstacle (asking t g mode rs) rs ≡ None
     → IsKept limit (after_grant t g mode rs)
 kept_granted limit t g mode rs kept quiet room free =

@@ -1,4 +1,4 @@
--- Rings that hold the keys of buckets: what becomes of them where a key comes or goes.
+-- Rings that hold the keys of buckets: what becomes of them when a key comes or goes.
 use Rattle.std.proofs.Common.{◌≡◌, ◌++◌, ◌⊎◌, ◌<◌, ◌+◌, inl, inr, ⊎_elim, ℕ, List, [], ◌∷◌, Bool, true, false, refl, ap, sym, subst, ◌∙◌, arith}
 use Rattle.std.specs.Prelude.{filter, not, ◌==◌}
 use Rattle.std.proofs.lemmas.List.{append-nil, map-append}

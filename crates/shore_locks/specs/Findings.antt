@@ -12,7 +12,7 @@ use Rattle.shore_locks.specs.Tables.{Table, mode_held, request_for}
 abbrev pub MayAsk : Table → ℕ → Granule → Mode → Type 0
 MayAsk table t g mode = (is_enough mode (mode_held t g table.requests) ≡ false) × (is_full table t g ≡ false)
 
--- what is found is what stands in the table
+-- what is found is what is in the table
 abbrev pub Finds : Table → ℕ → Granule → Mode → Finding → Type 0
 Finds table t g mode Enough = is_enough mode (mode_held t g table.requests) ≡ true
 Finds table t g mode Full = (is_enough mode (mode_held t g table.requests) ≡ false) × (is_full table t g ≡ true)

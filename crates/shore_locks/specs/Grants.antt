@@ -51,7 +51,7 @@ granted_in_turn [] rs = rs
 granted_in_turn (w ∷ ws) rs =
     cond (can_be_granted w (requests_at w.granule rs)) (granted_in_turn ws (replaced (granted w) rs)) rs
 
--- a grant pass over the queue of a granule
+-- a grant pass over the queue of a granule (the wake-up of its waiters)
 abbrev pub passed : Granule → List Request → List Request
 passed g rs = granted_in_turn (waiters_at g rs) rs
 
@@ -69,7 +69,7 @@ aim (Some held) mode = sup held mode
 abbrev pub asking : ℕ → Granule → Mode → List Request → Request
 asking t g mode rs = record { txn = t; granule = g; held = mode_held t g rs; wanted = Some (aim (mode_held t g rs) mode) }
 
--- one who already waits stands ahead of one who begins to: conversions go before new waiters
+-- one who already waits is ahead of one who begins to: conversions go before new waiters
 abbrev pub is_ahead : Request → Request → Bool
 is_ahead waiter other = is_some other.wanted && (is_some other.held || not (is_some waiter.held))
 
@@ -102,7 +102,7 @@ given_up (r ∷ mine) rs = given_up mine (passed r.granule (removed r rs))
 abbrev pub released : ℕ → List Request → List Request
 released t rs = given_up (requests_by t rs) rs
 
--- a new node is needed, and as many stand as may
+-- a new node is needed, and the table is at its limit
 abbrev pub is_full : Table → ℕ → Granule → Bool
 is_full table t g = not (is_some (request_for t g table.requests)) && not (nat_lt (length table.requests) table.limit)
 
@@ -126,7 +126,7 @@ after_request table t g mode =
     (placed_last (asking t g mode table.requests) table.requests)
     (after_grant t g mode table.requests)))
 
--- what a try is answered where somebody stands in the way, or nobody
+-- what a try is answered if somebody is in the way, or nobody
 abbrev pub blocked_by : Option Request → Tried
 blocked_by None = TryGranted
 blocked_by (Some other) = Blocked other.txn

@@ -15,7 +15,7 @@ FirstWaitersAreRefused rs =
     (g : Granule) (w : Request) → slice_get (waiters_at g rs) 0 ≡ Some w →
     Any (λ other. (other.txn ≢ w.txn) × IsRefusedBy w other) (requests_at g rs)
 
--- what a grant pass grants is a beginning of the queue's waiters: the others still wait, in their order
+-- what a grant pass grants is a prefix of the queue's waiters: the others still wait, in their order
 abbrev pub GrantsABeginning : List Request → Granule → Type 0
 GrantsABeginning rs g = (n : ℕ) × (waiters_at g (passed g rs) ≡ drop n (waiters_at g rs))
 
@@ -49,11 +49,11 @@ RefusedChangesNothing table t g mode =
     × (answer_to_try table t g mode ≡ TryFull → after_try table t g mode ≡ table.requests)
     × ((u : ℕ) → answer_to_try table t g mode ≡ Blocked u → after_try table t g mode ≡ table.requests)
 
--- a pass only grants: each request after it stood before, or is one that stood before with what it wanted held
+-- a pass only grants: each request after it was there before, or is one that was with what it wanted held
 abbrev pub OnlyGrants : List Request → List Request → Type 0
 OnlyGrants before after = All (λ r. Contains before r ⊎ Any (λ q. r ≡ granted q) before) after
 
--- a transaction that did not wait waits only where it is told to
+-- a transaction that did not wait waits only if it is told to
 abbrev pub StaysQuiet : Table → ℕ → Granule → Mode → Type 0
 StaysQuiet table t g mode =
     ((answer_to table t g mode ≡ Waiting → ⊥) → is_waiting t (after_request table t g mode) ≡ false)

@@ -1,4 +1,4 @@
--- Requests as nodes of a slab, threaded by two rings each: that of a bucket of granules, and that of a bucket of transactions.
+-- Requests as nodes of a slab, linked into two rings each: that of a bucket of granules, and that of a bucket of transactions.
 use Rattle.std.specs.Prelude.{◌≡◌, ◌==◌, ◌<◌, ◌≤◌, ◌+◌, ◌-◌, ◌*◌, ◌%◌, ◌++◌, ℕ, zero, suc, List, [], ◌∷◌, Bool, true, not, cond, Option, None, Some, is_some, filter, map, length}
 use Rattle.slab.specs.Slab.{Slab, get, slab_len}
 use Rattle.shore_types.specs.declared.locking.Granule.{Granule}
@@ -72,7 +72,7 @@ abbrev pub pair_and : ℕ → Option Request → List (ℕ × Request) → List 
 pair_and place None rest = []
 pair_and place (Some r) rest = (place, r) ∷ rest
 
--- the nodes of a ring from a place on, up to its head, and at most so many
+-- the nodes of a ring from one on, up to its head, and at most so many
 abbrev pub pairs_from : ℕ → Slab Request → List Link → ℕ → ℕ → ℕ → List (ℕ × Request)
 pairs_from zero slots links heads head place = []
 pairs_from (suc n) slots links heads head place =

@@ -27,7 +27,7 @@ Rises _ _ = Unit {0}
 abbrev pub WaitsOnce : List Request → Type 0
 WaitsOnce rs = (a b : Request) → Contains rs a → Contains rs b → a.txn ≡ b.txn → IsSome a.wanted → IsSome b.wanted → a ≡ b
 
--- a request that stands before another of its transaction wants nothing: a transaction waits with its newest
+-- a request before another of its transaction wants nothing: a transaction waits with its newest
 abbrev pub WaitsLast : List Request → Type 0
 WaitsLast [] = Unit {0}
 WaitsLast (r ∷ rs) = All (λ q. q.txn ≡ r.txn → r.wanted ≡ None) rs × WaitsLast rs
@@ -36,7 +36,7 @@ WaitsLast (r ∷ rs) = All (λ q. q.txn ≡ r.txn → r.wanted ≡ None) rs × W
 abbrev pub IsNewest : ℕ → List Request → Request → Type 0
 IsNewest t rs r = (xs : List Request) × (requests_by t rs ≡ xs ++ r ∷ [])
 
--- the requests of a table: one for a transaction and a granule; holders stand together; nobody is left whom a grant
+-- the requests of a table: one for a transaction and a granule; holders are compatible; nobody is left whom a grant
 -- pass would grant
 pub record IsOrderly (rs : List Request) : Type 0 where
   pub one_each : AreRequests rs

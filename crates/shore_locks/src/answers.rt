@@ -1,7 +1,7 @@
 //! What requests for locks are answered.
 use shore_types::TxnId;
 
-/// What became of a request. Full: it needs a new node, and as many stand as may.
+/// What became of a request. Full: it needs a new node, and the table is at its limit.
 #[derive(Clone, Copy, Debug, PartialEq, Eq)]
 pub enum Requested {
     Granted,

@@ -69,7 +69,7 @@ pub fn release(nodes: &mut Nodes, txn: TxnId) -> usize
     most
 }
 
-/// Puts a request last, and takes the one of its transaction for its granule away. Where memory is refused nothing has
+/// Puts a request last, and takes the one of its transaction for its granule away. If an allocation failed nothing has
 /// changed.
 pub fn place_last(nodes: &mut Nodes, request: Request) -> Result<(), AllocError>
     requires { AreRequests nodes.old }
@@ -83,8 +83,8 @@ pub fn place_last(nodes: &mut Nodes, request: Request) -> Result<(), AllocError>
     Ok(())
 }
 
-/// Grants a request at once, in the place of the one of its transaction for its granule where that is known, else last; a
-/// grant pass follows. Where memory is refused nothing has changed.
+/// Grants a request at once, in the place of the one of its transaction for its granule if that is known, else last; a
+/// grant pass follows. If an allocation failed nothing has changed.
 pub fn grant(nodes: &mut Nodes, request: &Request, known: bool) -> Result<(), AllocError>
     requires one { AreRequests nodes.old }
     requires known { known ≡ list_any (λ q. asked.are_alike q request.now) nodes.old }

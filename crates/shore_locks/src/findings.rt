@@ -15,7 +15,7 @@ use shore_types::{Granule, Mode, TxnId};
 pub enum Finding {
     /// It holds as much already.
     Enough,
-    /// It has no node for the granule, and as many stand as may.
+    /// It has no node for the granule, and the table is at its limit.
     Full,
     /// It would wait with this request, for this transaction among others.
     Stopped { request: Request, other: TxnId },
@@ -23,7 +23,7 @@ pub enum Finding {
     Free { request: Request, known: bool },
 }
 
-/// What a transaction meets, where so many nodes may stand. It looks for the transaction's node once.
+/// What a transaction meets, with a limit on the nodes. It looks for the transaction's node once.
 pub fn look(nodes: &Nodes, limit: usize, txn: TxnId, granule: &Granule, mode: Mode) -> Finding
     ensures { Finds (record { limit = limit; requests = nodes.now }) txn granule.now mode result }
 {

@@ -24,7 +24,7 @@ pub fn is_at(request: &Request, granule: &Granule) -> bool
     request.granule == *granule
 }
 
-/// Whether a request stands in a group of its queue.
+/// Whether a request is in a group of its queue.
 pub fn is_in(request: &Request, group: Group) -> bool
     ensures { result ≡ is_in_group group request.now }
 {

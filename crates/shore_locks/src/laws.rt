@@ -1,4 +1,4 @@
-//! Laws over the list of requests, each the contract of a function with nothing to do.
+//! Laws over the list of requests, each stated as the contract of an empty function.
 ghost use Rattle.std.specs.Prelude.{◌≡◌, ℕ, List, false};
 ghost use Rattle.shore_types.specs.declared.locking.Granule.{Granule};
 ghost use Rattle.shore_types.specs.declared.locking.Mode.{Mode};
@@ -63,7 +63,7 @@ pub fn refused_changes_nothing()
     ensures { (table : Table) (t : ℕ) (g : Granule) (mode : Mode) → RefusedChangesNothing table t g mode }
 {}
 
-/// A transaction that does not wait waits afterwards only where it was told so: it may ask again.
+/// A transaction that does not wait waits afterwards only if it was told so: it may ask again.
 pub fn waits_only_where_told()
     ensures { (table : Table) (t : ℕ) (g : Granule) (mode : Mode) → AreRequests table.requests → is_waiting t table.requests ≡ false → StaysQuiet table t g mode }
 {}

@@ -80,7 +80,7 @@ impl Nodes {
         Walk::new(&self.slots, &self.lists, self.heads, head)
     }
 
-    /// The newest request of a transaction, unless a newer one of another stands in its bucket. It takes no search.
+    /// The newest request of a transaction, unless a newer one of another is in its bucket. It takes no search.
     pub fn newest(&self, txn: TxnId) -> Option<Request>
         ensures { IfSome result (λ r. IsNewest txn self.now r) }
     {
@@ -95,7 +95,7 @@ impl Nodes {
         }
     }
 
-    /// A request comes last. Where memory for its node is refused nothing has changed.
+    /// A request comes last. If its node cannot be allocated nothing has changed.
     pub fn push(&mut self, request: Request) -> Result<(), AllocError>
         ensures ok { OnOk result (self.new ≡ self.old ++ request ∷ []) }
         ensures err { OnErr result (self.new ≡ self.old) }
@@ -232,7 +232,7 @@ fn only_of(request: &Request, txn: TxnId) -> Option<Request>
     }
 }
 
-// Adds places that stand alone, up to this one.
+// Adds nodes that are alone in their rings, up to this one.
 fn reach(rings: &mut Rings, place: usize) -> Result<(), AllocError>
     ensures kept { (head : ℕ) (xs : List ℕ) → IsRing rings.old head xs → IsRing rings.new head xs }
     ensures longer { length rings.old ≤ length rings.new }

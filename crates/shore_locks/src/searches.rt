@@ -30,7 +30,7 @@ pub fn mode_held(nodes: &Nodes, txn: TxnId, granule: &Granule) -> Option<Mode>
     request_for(nodes, txn, granule)?.held
 }
 
-/// The request with which a transaction waits. It could only be its newest, which mostly stands last in its ring: then no other
+/// The request with which a transaction waits. It could only be its newest, which is mostly the last in its ring: then no other
 /// is looked at.
 pub fn waiting_request(nodes: &Nodes, txn: TxnId) -> Option<Request>
     requires { WaitsLast nodes.now }

@@ -63,7 +63,7 @@ pub fn sweep(
     }
 }
 
-// The request at a key, where it is a new waiter for the granule.
+// The request at a key, if it is a new waiter for the granule.
 fn new_waiter_at(slots: &Slab<Request>, key: usize, granule: &Granule) -> Option<Request>
     ensures { MatchOption result
         ((r : Request) → get slots.now key ≡ Some r → (same_granule r.granule granule.now && is_new r) ≡ false)

@@ -16,7 +16,7 @@ use shore_types::{Fault, Granule, Mode, TxnId};
 use std::alloc::{AllocError, Global};
 use std::marker::Model;
 
-/// What each transaction holds and wants of each granule. One node stands for each pair of the two.
+/// What each transaction holds and wants of each granule. There is one node (lock request block) for each pair of the two.
 #[derive(Drop)]
 pub struct LockTable {
     limit: usize,
@@ -46,7 +46,7 @@ impl LockTable {
         Ok(LockTable { limit, nodes })
     }
 
-    /// How many nodes stand.
+    /// How many nodes there are.
     pub fn nodes(&self) -> usize
         ensures nodes { result ≡ length self.now.requests }
         ensures within { length self.now.requests ≤ self.now.limit }
@@ -113,7 +113,7 @@ impl LockTable {
         }
     }
 
-    /// As `request`, where the transaction would not wait: then the answer is one for whom it would, and nothing changes.
+    /// As `request`, but the transaction is not to wait: then the answer is one for whom it would, and nothing changes.
     pub fn try_request(&mut self, txn: TxnId, granule: Granule, mode: Mode) -> Result<Tried, Fault>
         requires { is_waiting txn self.old.requests ≡ false }
         ensures answer { IfOk result (λ answer. answer ≡ answer_to_try self.old txn granule mode) }

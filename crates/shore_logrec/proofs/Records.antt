@@ -126,7 +126,7 @@ front_reads =
 
 -- ---- records
 
--- a head and a payload's bytes, where they are a record's, are its text
+-- a head and a payload's bytes, if they are a record's, are its text
 front_is : (head : Head) (bytes : List ℕ) (p : Payload) → head.kind ≡ kind_of p → bytes ≡ payload_text p → front_text (head, bytes) ≡ text (record_of head p)
 unfolding string_text head_text text
 front_is head bytes p kind_is parts =
@@ -170,7 +170,7 @@ record_again r rest fits =
     is_some_txn zero h = absurd (omega arith)
     is_some_txn (suc n) h = grind (arith, nat_tests)
 
--- the front that is left when what stands behind it is taken away
+-- the front that is left when what comes behind it is taken away
 pub front_taken : (bytes front rest : List ℕ) → bytes ≡ front ++ rest → (length bytes - length rest ≤ length bytes) × (take (length bytes - length rest) bytes ≡ front)
 front_taken bytes front rest parts =
     let n_is : length front ≡ length bytes - length rest = omega (arith, length-append front rest, ap (λ (l : List ℕ). length l) parts) in

@@ -1,4 +1,4 @@
--- Readers: what stands at the front of some bytes.
+-- Readers: what is at the front of some bytes.
 use Rattle.std.specs.Prelude.{ℕ, zero, suc, ◌||◌, List, [], ◌∷◌, length, take, drop, Option, Some, None, is_some, nat_lt, ◌==◌, if◌then◌else◌}
 use Rattle.byteorder.specs.Endian.{little_number}
 use Rattle.shore_types.specs.declared.ids.Rid.{Rid}

@@ -6,7 +6,7 @@ use Rattle.std.specs.Global.{Vec}
 abbrev pub HasRoom : Vec ℕ → ℕ → Type 0
 HasRoom out n = vec_len out + n ≤ vec_capacity out
 
--- these bytes stand at the end now, and no room was lost
+-- these bytes are at the end now, and no room was lost
 pub record Puts (old new : Vec ℕ) (bytes : List ℕ) : Type 0 where
   pub items : new.items ≡ old.items ++ bytes
   pub len : vec_len new ≡ vec_len old + length bytes

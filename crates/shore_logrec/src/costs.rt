@@ -10,7 +10,7 @@ ghost use Rattle.shore_logrec.specs.Text.{cost_of, image_text_len};
 use crate::lengths::{LSN_BYTES, RID_BYTES, image_len};
 use shore_types::layout::ENDING_COST;
 
-/// The cost of a Change whose images have these lengths, None where one is absent.
+/// The cost of a Change whose images have these lengths, None for an absent one.
 #[tactic(auto, using(crate::proofs::TextLengths::lengths))]
 pub fn change_cost(before: Option<usize>, after: Option<usize>) -> u64
     requires before { ForSome before (λ n. n ≤ MAX_RECORD_BYTES) }
@@ -22,7 +22,7 @@ pub fn change_cost(before: Option<usize>, after: Option<usize>) -> u64
     ENDING_COST + (RID_BYTES + image_len(before) + image_len(after)) as u64
 }
 
-/// The cost of a Compensation whose image has this length, None where it is absent.
+/// The cost of a Compensation whose image has this length, None for an absent one.
 pub fn compensation_cost(image: Option<usize>) -> u64
     requires { ForSome image (λ n. n ≤ MAX_RECORD_BYTES) }
     ensures { result ≡ 52 + image_text_len image }

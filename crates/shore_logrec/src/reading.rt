@@ -10,7 +10,7 @@ use shore_types::layout::MAX_RECORD_BYTES;
 use shore_types::{Bytes, Lsn, PageId, Rid, Sequence, StoreId, TxnId};
 use std::alloc::{AllocError, Global};
 
-// Two bytes as a number, and the bytes behind them; None where there are fewer.
+// Two bytes as a number, and the bytes behind them; None if there are fewer.
 #[tactic(auto, unfolding(crate::specs::Reading::number_at))]
 fn u16_at(bytes: &[u8]) -> Option<(u16, &[u8])>
     ensures { option_map (λ x. (x.0, x.1.now)) result ≡ spec.number_at 2 bytes.now }
@@ -21,7 +21,7 @@ fn u16_at(bytes: &[u8]) -> Option<(u16, &[u8])>
     Some((LittleEndian::read_u16(bytes), &bytes[2..]))
 }
 
-/// Four bytes as a number, and the bytes behind them; None where there are fewer.
+/// Four bytes as a number, and the bytes behind them; None if there are fewer.
 #[tactic(auto, unfolding(crate::specs::Reading::number_at))]
 pub fn u32_at(bytes: &[u8]) -> Option<(u32, &[u8])>
     ensures { option_map (λ x. (x.0, x.1.now)) result ≡ spec.number_at 4 bytes.now }
@@ -32,7 +32,7 @@ pub fn u32_at(bytes: &[u8]) -> Option<(u32, &[u8])>
     Some((LittleEndian::read_u32(bytes), &bytes[4..]))
 }
 
-/// Eight bytes as a number, and the bytes behind them; None where there are fewer.
+/// Eight bytes as a number, and the bytes behind them; None if there are fewer.
 #[tactic(auto, unfolding(crate::specs::Reading::number_at))]
 pub fn u64_at(bytes: &[u8]) -> Option<(u64, &[u8])>
     ensures { option_map (λ x. (x.0, x.1.now)) result ≡ spec.number_at 8 bytes.now }
@@ -187,7 +187,7 @@ pub fn decode(alloc: Global, bytes: &[u8]) -> Result<Option<(LogRecord, usize)>,
     // What is found is the text of a front.
     ensures found { IfOk result (λ found. IfSome found (λ x.
         Fits x.0 × (x.1 ≤ length bytes.now) × (take x.1 bytes.now ≡ text x.0))) }
-    // Where a front is a record's text, it is found.
+    // If a front is a record's text, it is found.
     ensures only { (r : LogRecord) (rest : List ℕ) → Fits r → bytes.now ≡ text r ++ rest
         → IfOk result (λ found. IsSomeAnd found (λ x. (x.0 ≡ r) × (x.1 ≡ length (text r)))) }
 {

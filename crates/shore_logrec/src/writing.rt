@@ -124,7 +124,7 @@ fn put_head(out: &mut Vec<u8>, logged: &LogRecord)
     put_u32(out, payload_len(&logged.payload) as u32);
 }
 
-/// Appends the record's text. If an allocation fails nothing is appended.
+/// Appends the record's text. If an allocation failed nothing is appended.
 #[tactic(auto, using(crate::proofs::TextLengths::lengths), unfolding(crate::specs::Text::text))]
 pub fn encode(logged: &LogRecord, out: &mut Vec<u8>) -> Result<(), AllocError>
     requires { Fits logged.now }

@@ -25,7 +25,7 @@ rest_contained y ys x h = (suc h.0, omega arith, h.2)
 pub head_contained : {A : Type 0} (y : A) (ys : List A) → Contains (y ∷ ys) y
 head_contained y ys = (0, omega arith, refl)
 
--- what stands in a list and is not its head stands in the rest
+-- what is in a list and is not its head is in the rest
 pub not_head : {A : Type 0} (y : A) (ys : List A) (x : A) → (x ≡ y → ⊥) → Contains (y ∷ ys) x → Contains ys x
 not_head y ys x differ h = ⊎_elim (λ e. absurd (differ (sym e))) (λ r. r) (cons_contained y ys x h)
 

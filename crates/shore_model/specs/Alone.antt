@@ -1,4 +1,4 @@
--- What one transaction's calls answer when it runs alone on some records. This project's own.
+-- What one transaction's calls answer when it runs alone on some records: the specification of a transaction. This project's own.
 use Rattle.std.specs.Prelude.{◌≡◌, ◌+◌, ◌<◌, ◌≤◌, ◌⊎◌, ℕ, List, [], ◌∷◌, ◌++◌, Option, None, Some, Result, Ok, Err, length, take, slice_get, unwrap_or, IsSome, IsSomeAnd}
 use Rattle.std.specs.FinMap.{empty, get, insert}
 use Rattle.shore_types.specs.declared.ids.Rid.{Rid}
@@ -47,7 +47,7 @@ named call.InDoubt = None
 abbrev pub IsAbsent : Records → Rid → Type 0
 IsAbsent R id = (get R id ≡ None) ⊎ (MAX_SLOTS ≤ id.slot)
 
--- the answer is right where the transaction finds these records and has this many savepoints
+-- the answer is right if the transaction finds these records and has this many savepoints
 abbrev pub IsRight : Records → ℕ → Call → Answer → Type 0
 IsRight R n call.Begin answer = (t : ℕ) × (answer ≡ Began t)
 IsRight R n (call.Get id) answer = IsSomeAnd (get R id) (λ bytes. answer ≡ Got bytes)

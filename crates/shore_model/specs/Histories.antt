@@ -1,4 +1,4 @@
--- What happened since an opening, and what it comes to. This project's own: the serial order that "serial" and "Sound"
+-- What happened since an opening, and the records that it leaves. This project's own: the serial order that "serial" and "Sound"
 -- speak of is the one that locks held to the end are taken for (degree 3 of Gray, Lorie, Putzolu and Traiger 1976), with
 -- the prepare as the turn of a transaction that prepared.
 use Rattle.std.specs.Prelude.{◌≡◌, ◌<◌, ◌==◌, ◌&&◌, ◌||◌, ℕ, List, [], ◌∷◌, ◌++◌, Bool, true, false, not, if◌then◌else◌, Option, None, Some, Result, Ok, Err, map, filter, take, slice_get, unwrap_or, nat_eq, is_ok, IsTrue, IfSome, All, Contains, OnOk}
@@ -28,7 +28,7 @@ pub record History : Type 0 where
 
 -- ---- its calls and decisions
 
--- a call with its answer, where the entry is one of the transaction
+-- a call with its answer, if the entry is one of the transaction
 abbrev pub exchange_of : ℕ → Entry → Option Exchange
 exchange_of t (Exchanged session txn exchange) = if txn == t then Some exchange else None
 exchange_of t (Decided d) = None
@@ -56,11 +56,11 @@ abbrev pub began : Entry → Option ℕ
 began (Exchanged session txn exchange) = begun_by exchange.reply
 began (Decided d) = None
 
--- a session stands in no transaction
+-- a session is in no transaction
 abbrev pub free : Standing
 free = record { txn = 0; prepared = false }
 
--- where a session stands after a reply: a begin puts it into a transaction, a commit's or an abort's answer frees it
+-- the state of a session after a reply: a begin puts it into a transaction, a commit's or an abort's answer frees it
 abbrev pub after_own_reply : Standing → Result Answer Fault → Standing
 after_own_reply p (Ok (Began t)) = record { txn = t; prepared = false }
 after_own_reply p (Ok Committed) = free
@@ -86,11 +86,11 @@ after_own_reply p (Ok Moved) = p
 after_own_reply p (Ok Cut) = p
 after_own_reply p (Err fault) = p
 
--- where it stands once a transaction is prepared
+-- its state once a transaction is prepared
 abbrev pub once_prepared : Standing → ℕ → Standing
 once_prepared p t = if p.txn == t then record { txn = t; prepared = true } else p
 
--- where it stands once a transaction is decided: free, if that is its own and prepared
+-- its state once a transaction is decided: free, if that is its own and prepared
 abbrev pub once_decided : Standing → ℕ → Standing
 once_decided p t = if (p.txn == t) && p.prepared then free else p
 
@@ -100,12 +100,12 @@ after_decision p (Prepare t global) = once_prepared p t
 after_decision p (Commit t) = once_decided p t
 after_decision p (RollBack t) = once_decided p t
 
--- where it stands after an entry
+-- its state after an entry
 abbrev pub after_entry : ℕ → Standing → Entry → Standing
 after_entry s p (Exchanged session txn exchange) = if session == s then after_own_reply p exchange.reply else p
 after_entry s p (Decided d) = after_decision p d
 
--- where it stands after entries
+-- its state after entries
 abbrev pub standing : ℕ → Standing → List Entry → Standing
 standing s p [] = p
 standing s p (e ∷ es) = standing s (after_entry s p e) es
@@ -146,7 +146,7 @@ pub record IsNewNumber (o : Opening) (before : List Entry) (t : ℕ) : Type 0 wh
   pub above_doubts : All (λ (d : Doubt). d.txn < t) o.in_doubt
   pub above_begun : All (λ e. IfSome (began e) (λ u. u < t)) before
 
--- An entry may stand after those before it: a begin answers a number above all earlier ones, a call is of the transaction
+-- An entry may follow those before it: a begin answers a number above all earlier ones, a call is of the transaction
 -- that its session's earlier entries say, and only a prepared transaction is rolled back by a decision.
 abbrev pub MayStand : Opening → List Entry → Entry → Type 0
 MayStand o before (Exchanged session txn exchange) =
@@ -155,7 +155,7 @@ MayStand o before (Exchanged session txn exchange) =
 MayStand o before (Decided (RollBack t)) = IsTrue (has_prepared o.in_doubt (decisions before) t)
 MayStand o before (Decided _) = Unit {0}
 
--- each entry may stand after those before it
+-- each entry may follow those before it
 abbrev pub IsHistory : History → Type 0
 IsHistory h = (n : ℕ) (e : Entry) → slice_get h.entries n ≡ Some e → MayStand h.opening (take n h.entries) e
 
@@ -179,7 +179,7 @@ asked_by t (call.BackTo k) = None
 asked_by t call.Abort = None
 asked_by t call.InDoubt = None
 
--- the decision that an entry acknowledges: the one that its call asks for, where the answer is Ok
+-- the decision that an entry acknowledges: the one that its call asks for, if the answer is Ok
 abbrev pub acknowledged_by : Entry → Option Decision
 acknowledged_by (Exchanged session txn exchange) = if is_ok exchange.reply then asked_by txn exchange.call else None
 acknowledged_by (Decided d) = None
@@ -188,7 +188,7 @@ acknowledged_by (Decided d) = None
 abbrev pub acknowledged : List Entry → List Decision
 acknowledged es = filter_map acknowledged_by es
 
--- ---- the records that decisions come to
+-- ---- the records that decisions leave
 
 -- what an opening says that a transaction in doubt wrote
 abbrev pub given : List Doubt → ℕ → Option WriteSet
@@ -199,7 +199,7 @@ given (d ∷ ds) t = if d.txn == t then Some d.writes else given ds t
 abbrev pub writes_in : History → ℕ → WriteSet
 writes_in h t = unwrap_or (given h.opening.in_doubt t) (writes_of (calls_of t h.entries))
 
--- the write sets of the committed, laid over the records in the order of the commits
+-- the write sets of the committed, laid over the records in the order of the commits (serial execution)
 abbrev pub serial : (ℕ → WriteSet) → Records → List Decision → Records
 serial writes R [] = R
 serial writes R (Commit t ∷ ds) = serial writes (overlay R (writes t)) ds
@@ -228,18 +228,18 @@ shown h ds =
 
 -- ---- what must hold of a history
 
--- The transaction, if any, whose turn a decision is, after those before it. The turn of a transaction is its prepare
--- where it prepared, else its commit; that of one in doubt at the opening lies before the opening.
+-- The transaction, if any, whose turn a decision is, after those before it. The turn of a transaction (its serialization point) is its
+-- prepare if it prepared, else its commit; that of one in doubt at the opening lies before the opening.
 abbrev pub turn_of : List Doubt → List Decision → Decision → Option ℕ
 turn_of doubts before (Prepare t global) = if has_prepared doubts before t then None else Some t
 turn_of doubts before (Commit t) = if has_prepared doubts before t then None else Some t
 turn_of doubts before (RollBack t) = None
 
--- a transaction, with its own answers and its write set, runs alone on the serial records that these decisions come to
+-- a transaction, with its own answers and its write set, runs alone on the serial records that these decisions leave
 abbrev pub RunsAloneAfter : History → List Decision → ℕ → Type 0
 RunsAloneAfter h before t = Alone (serial (writes_in h) h.opening.records before) (calls_of t h.entries) (writes_in h t)
 
--- where the decision is a turn, its transaction runs alone on the serial records just before it
+-- if the decision is a turn, its transaction runs alone on the serial records just before it
 abbrev pub TakesTurn : History → List Decision → Decision → Type 0
 TakesTurn h before d = IfSome (turn_of h.opening.in_doubt before d) (RunsAloneAfter h before)
 
@@ -247,11 +247,11 @@ TakesTurn h before d = IfSome (turn_of h.opening.in_doubt before d) (RunsAloneAf
 abbrev pub TakeTurns : History → List Decision → Type 0
 TakeTurns h ds = (n : ℕ) (d : Decision) → slice_get ds n ≡ Some d → TakesTurn h (take n ds) d
 
--- each transaction that has a turn runs alone on the serial records just before its turn
+-- each transaction that has a turn runs alone on the serial records just before its turn (serializability, the answers included)
 abbrev pub Sound : History → Type 0
 Sound h = TakeTurns h (decisions h.entries)
 
--- a prefix of the decisions, which holds every acknowledged one
+-- the recovered prefix: a prefix of the decisions that holds every acknowledged one
 pub record Kept (es : List Entry) (ds : List Decision) : Type 0 where
   pub beginning : (n : ℕ) × (ds ≡ take n (decisions es))
   pub acknowledged_kept : All (Contains ds) (acknowledged es)

@@ -28,16 +28,16 @@ MayRead held t r = Any (λ h. (h.txn ≡ t) × Contains (path (Record r)) h.gran
 abbrev pub MayWrite : List Hold → ℕ → Rid → Type 0
 MayWrite held t r = Any (λ h. (h.txn ≡ t) × Contains (path (Record r)) h.granule × IsTrue (is_write h.mode)) held
 
--- two locks are of one transaction, on different granules, or in modes that stand together
+-- two locks are of one transaction, on different granules, or in compatible modes
 abbrev pub Agree : Hold → Hold → Type 0
 Agree h k = h.granule ≡ k.granule → h.txn ≢ k.txn → IsTrue (coexist h.mode k.mode)
 
--- on each granule the modes of different holders stand together
+-- on each granule the modes of different holders are compatible
 abbrev pub StandTogether : List Hold → Type 0
 StandTogether held = All (λ h. All (Agree h) held) held
 
--- no transaction may write a record that another may read, and on each granule the modes of different holders stand
--- together
+-- no transaction may write a record that another may read, and on each granule the modes of different holders are
+-- compatible
 pub record Harmony (held : List Hold) : Type 0 where
   pub stand_together : StandTogether held
   pub none_interferes : (r : Rid) (t u : ℕ) → t ≢ u → MayWrite held t r → MayRead held u r → ⊥
@@ -58,6 +58,6 @@ HoldsAtLeast held t m g = Any (λ h. (h.txn ≡ t) × (h.granule ≡ g) × IsTru
 abbrev pub IsRooted : List Hold → Hold → Type 0
 IsRooted held h = AllByRecursion (HoldsAtLeast held h.txn (parent_mode h.mode)) (ancestors h.granule)
 
--- each lock has its parent mode, or a stronger one, on each ancestor
+-- each lock has its parent mode, or a stronger one, on each ancestor: the hierarchical protocol is obeyed
 abbrev pub WellRooted : List Hold → Type 0
 WellRooted held = All (IsRooted held) held

@@ -104,7 +104,7 @@ with_image images None = images
 abbrev pub last_images : List LogRecord → WriteSet
 last_images rs = from_entries (reverse (filter_map (λ r. image_in r.payload) rs))
 
--- what the records leave at an id: the last image for it, and nothing where there is none
+-- what the records leave at an id: the last image for it, and nothing if there is none
 abbrev pub image_at : List LogRecord → Rid → Image
 image_at rs id = unwrap_or (get (last_images rs) id) None
 
@@ -219,7 +219,7 @@ pub record IsAsAtBegin (rs : List LogRecord) (begin next : ℕ) (txns : List Log
   pub table : IsTable (before_begin rs begin) txns
   pub above : All (λ r. r.txn < next) (before_begin rs begin)
 
--- a Change: no Prepare stands before it, its before image is what the list leaves at the id, and no other has changed that
+-- a Change: no Prepare comes before it, its before image is what the list leaves at the id, and no other has changed that
 abbrev pub MayChange : List LogRecord → ℕ → Rid → Image → Type 0
 MayChange rs t id before = IsTrue (is_unprepared t rs) × (before ≡ image_at rs id) × NoOtherChanged rs t id
 
@@ -227,7 +227,7 @@ MayChange rs t id before = IsTrue (is_unprepared t rs) × (before ≡ image_at r
 abbrev pub MayCompensate : List LogRecord → ℕ → Rid → Image → ℕ → Type 0
 MayCompensate rs t id image undo_next = IsTrue (is_undoable t rs) × Answers (unanswered t rs) id image undo_next
 
--- a Commit: no Prepare stands before it, or its transaction is in doubt
+-- a Commit: no Prepare comes before it, or its transaction is in doubt
 abbrev pub MayCommit : List LogRecord → ℕ → Type 0
 MayCommit rs t = IsTrue (is_unprepared t rs || is_in_doubt t rs)
 
@@ -262,7 +262,7 @@ MaySay rs t (Anchor checkpoint tail) = Unit {0}
 abbrev pub previous_of : ℕ → List LogRecord → ℕ
 previous_of t rs = if t == 0 then 0 else last_of t rs
 
--- the record may stand after these: it is of a transaction or of a checkpoint, it names its transaction's record before it,
+-- the record may follow these: it is of a transaction or of a checkpoint, it names its transaction's record before it,
 -- its transaction has not ended, and may say this
 pub record MayFollow (rs : List LogRecord) (r : LogRecord) : Type 0 where
   pub of : is_of_checkpoint r.payload ≡ (r.txn == 0)
@@ -270,7 +270,7 @@ pub record MayFollow (rs : List LogRecord) (r : LogRecord) : Type 0 where
   pub not_over : is_over r.txn rs ≡ false
   pub says : MaySay rs r.txn r.payload
 
--- a lawful list: each record may stand after those before it
+-- a lawful list (a well-formed log): each record may follow those before it
 abbrev pub Lawful : List LogRecord → Type 0
 Lawful rs = (n : ℕ) (r : LogRecord) → slice_get rs n ≡ Some r → MayFollow (take n rs) r
 
@@ -295,6 +295,6 @@ abbrev pub is_decision : Payload → Bool
 is_decision p = is_commit p || is_prepare p || is_rollback p
 
 -- what a list tells: the empty map, with the writes of the committed laid over it in the order of the Commits, and then of
--- those in doubt. All others tell nothing (ARIES: what restart leaves once it has undone the losers)
+-- those in doubt. The others contribute nothing (ARIES: what restart leaves once it has undone the losers)
 abbrev pub told : List LogRecord → Records
 told rs = overlays (overlays empty (map (logged_writes rs) (committed_in rs))) (map (logged_writes rs) (in_doubt_in rs))

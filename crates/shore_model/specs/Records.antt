@@ -11,7 +11,7 @@ use Rattle.shore_types.specs.declared.layout.TheConstants.{MAX_RECORD_BYTES}
 abbrev pub Records : Type 0
 Records = FinMap rid_cmp (List ℕ)
 
--- what may stand at an id: bytes, or nothing
+-- an image, what may be at an id: bytes, or nothing
 abbrev pub Image : Type 0
 Image = Option (List ℕ)
 
@@ -32,7 +32,7 @@ abbrev pub put_image : Records → Rid → Image → Records
 put_image R id (Some bytes) = insert R id bytes
 put_image R id None = remove R id
 
--- the records with each image in its place. At an id that stands twice the first image counts
+-- the records with each image in its place. At an id that comes twice the first image counts
 abbrev pub laid_over : Records → List (Rid × Image) → Records
 laid_over R [] = R
 laid_over R (e ∷ es) = put_image (laid_over R es) e.0 e.1

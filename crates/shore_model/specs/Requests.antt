@@ -20,11 +20,11 @@ abbrev pub AreRequests : List Request → Type 0
 AreRequests [] = Unit {0}
 AreRequests (r ∷ rs) = All (λ other. are_alike r other ≡ false) rs × AreRequests rs
 
--- a holder that wants nothing
+-- a holder that wants nothing: one of the granted group
 abbrev pub wants_nothing : Request → Bool
 wants_nothing r = not (is_some r.wanted)
 
--- a holder that waits for a stronger mode
+-- a holder that waits for a stronger mode: a lock conversion
 abbrev pub is_conversion : Request → Bool
 is_conversion r = is_some r.held && is_some r.wanted
 
@@ -70,7 +70,7 @@ hold_of r = hold_in r r.held
 abbrev pub held_by_all : List Request → List Hold
 held_by_all rs = filter_map hold_of rs
 
--- the first stands somewhere before the second
+-- the first is somewhere before the second
 abbrev pub Before : List Request → Request → Request → Type 0
 Before [] a b = ⊥
 Before (r ∷ rs) a b = ((r ≡ a) × Contains rs b) ⊎ Before rs a b
@@ -79,7 +79,7 @@ Before (r ∷ rs) a b = ((r ≡ a) × Contains rs b) ⊎ Before rs a b
 abbrev pub IsRefusedBy : Request → Request → Type 0
 IsRefusedBy waiter other = IsSomeAnd waiter.wanted (λ asked. IsSomeAnd other.held (λ held. grants held asked ≡ false))
 
--- both wait, and the other stands ahead in the queue
+-- both wait, and the other is ahead in the queue
 abbrev pub IsBehind : List Request → Request → Request → Type 0
 IsBehind queue waiter other = IsSome waiter.wanted × IsSome other.wanted × Before queue other waiter
 
@@ -87,7 +87,7 @@ IsBehind queue waiter other = IsSome waiter.wanted × IsSome other.wanted × Bef
 abbrev pub WaitsIn : List Request → Request → ℕ → Type 0
 WaitsIn queue waiter u = Any (λ other. (other.txn ≡ u) × (IsRefusedBy waiter other ⊎ IsBehind queue waiter other)) queue
 
--- a transaction waits for another: one of its requests does, in the queue of its granule
+-- a transaction waits for another (an edge of the waits-for graph): one of its requests does, in the queue of its granule
 abbrev pub WaitsFor : List Request → ℕ → ℕ → Type 0
 WaitsFor rs t u = (t ≢ u) × Any (λ waiter. (waiter.txn ≡ t) × WaitsIn (queue_at waiter.granule rs) waiter u) rs
 

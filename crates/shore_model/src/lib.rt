@@ -1,6 +1,6 @@
 //! What the storage manager promises, as definitions, with the plain types that they speak of and a map from record ids.
 //! The crates above stand on this one, so it has little to prove: the slow functions that compute the definitions for tests
-//! stand in crates of their own beside the chain.
+//! are in crates of their own beside the chain.
 #![tactic(auto)]
 
 pub mod calls;

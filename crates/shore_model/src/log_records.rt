@@ -21,7 +21,7 @@ impl TxnState {
     }
 }
 
-/// A transaction in the table of a checkpoint.
+/// A transaction in the table of a checkpoint: an entry of the transaction table (first, LastLSN, UndoNxtLSN, state).
 #[derive(Clone, Copy, Debug, PartialEq, Eq)]
 pub struct LogTxn {
     pub txn: TxnId,
@@ -33,7 +33,7 @@ pub struct LogTxn {
     pub prepare: Lsn,
 }
 
-/// A page in the table of a checkpoint: redo of it begins at this number.
+/// A page in the table of a checkpoint: an entry of the dirty page table. Redo of it begins at this number (RecLSN).
 #[derive(Clone, Copy, Debug, PartialEq, Eq)]
 pub struct DirtyPage {
     pub page: PageId,
@@ -125,8 +125,8 @@ impl Payload {
     }
 }
 
-/// A record: its transaction (0 for a checkpoint's), the number of that transaction's record before it (0 if none), and
-/// what it says.
+/// A record: its transaction (0 for a checkpoint's), the number of that transaction's record before it (PrevLSN, 0 if none), and
+/// what it says. A Change is an update record with its undo and redo images, a Compensation a CLR with its UndoNxtLSN.
 #[derive(Debug, Drop, PartialEq)]
 pub struct LogRecord {
     pub txn: TxnId,

@@ -2,7 +2,7 @@
 use crate::RidMap;
 use shore_types::{Bytes, Sequence};
 
-/// How far a transaction has come: what it has written, and what it had written at each savepoint that stands.
+/// How far a transaction has come: what it has written, and what it had written at each savepoint that is left.
 #[derive(Debug, Drop)]
 pub struct Progress {
     pub writes: RidMap<Option<Bytes>>,

@@ -43,7 +43,7 @@ impl<V> RidMap<V> {
         self.entries.get(&id)
     }
 
-    /// What stands at each id, in place order.
+    /// What is at each id, in place order.
     pub fn iter(&self) -> Iter<'_, Rid, V>
         ensures { result ≡ map.entries self.now }
     {
@@ -52,7 +52,7 @@ impl<V> RidMap<V> {
 }
 
 impl<V: Drop> RidMap<V> {
-    /// Sets what stands at an id.
+    /// Sets what is at an id.
     pub fn insert(&mut self, id: Rid, value: V) -> Result<(), AllocError>
         ensures ok { OnOk result (self.new ≡ map.insert self.old id value) }
         ensures err { OnErr result (self.new ≡ self.old) }

@@ -1,7 +1,7 @@
-//! Where a session stands.
+//! The state of a session.
 use shore_types::TxnId;
 
-/// Where a session stands: its transaction, 0 if it has none, and whether that is prepared.
+/// The state of a session: its transaction, 0 if it has none, and whether that is prepared.
 #[derive(Clone, Copy, Debug, PartialEq, Eq)]
 pub struct Standing {
     pub txn: TxnId,

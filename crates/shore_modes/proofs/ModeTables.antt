@@ -85,7 +85,7 @@ write_of : (a b : Mode) → IsTrue (write_test a b)
 unfolding write_test
 write_of = each_two write_test refl
 
--- a writer stands with nobody
+-- a writer is compatible with nobody
 pub writer_alone : (a b : Mode) → IsTrue (is_write a) → IsTrue (coexist a b) → ⊥
 unfolding write_test
 writer_alone a b = refuted (is_write a) (coexist a b) (write_of a b)
@@ -97,7 +97,7 @@ read_of : (a b : Mode) → IsTrue (read_test a b)
 unfolding read_test
 read_of = each_two read_test refl
 
--- an intention to write, or more, stands with no reader
+-- an intention to write, or more, is compatible with no reader
 pub intention_without_readers : (a b : Mode) → IsTrue (is_at_most IX a) → IsTrue (is_read b) → IsTrue (coexist a b) → ⊥
 unfolding read_test
 intention_without_readers a b p = refuted (is_read b) (coexist a b) (implied (is_at_most IX a) (not (is_read b && coexist a b)) (read_of a b) p)
@@ -120,7 +120,7 @@ grant_of : (a b : Mode) → IsTrue (grant_test a b)
 unfolding grant_test
 grant_of = each_two grant_test refl
 
--- what a held mode grants may stand beside it
+-- what a held mode grants is compatible with it
 pub grants-coexist : (a b : Mode) → IsTrue (grants a b) → IsTrue (coexist a b)
 unfolding grant_test
 grants-coexist a b h = implied (grants a b) (coexist a b) (grant_of a b) h

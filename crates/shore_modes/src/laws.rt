@@ -1,4 +1,4 @@
-//! Laws over the modes, each the contract of a function with nothing to do.
+//! Laws over the modes, each stated as the contract of an empty function.
 ghost use Rattle.std.specs.Prelude.{◌≡◌, IsTrue};
 ghost use Rattle.shore_types.specs.declared.locking.Mode.{Mode};
 ghost use Rattle.shore_model.specs.Modes.{coexist, grants, is_at_most, sup, IsLeastAbove};
@@ -15,12 +15,12 @@ pub fn sup_is_least_above()
     ensures { (a b : Mode) → IsLeastAbove a b (sup a b) }
 {}
 
-/// Which of two holders came first makes no difference to whether they may stand together.
+/// Which of two holders came first makes no difference to whether they are compatible.
 pub fn standing_together_is_mutual()
     ensures { (a b : Mode) → IsTrue (coexist a b) → IsTrue (coexist b a) }
 {}
 
-/// What a held mode grants may stand beside it.
+/// What a held mode grants is compatible with it.
 pub fn grant_stands()
     ensures { (held asked : Mode) → IsTrue (grants held asked) → IsTrue (coexist held asked) }
 {}

@@ -1,4 +1,4 @@
-//! Lock modes: which stand together, which are granted beside which, and what each asks of the granules above it.
+//! Lock modes: which are compatible, which are granted beside which, and what each asks of the granules above it.
 #![tactic(auto)]
 
 pub mod laws;

@@ -4,7 +4,7 @@ ghost use Rattle.shore_model.specs.Modes as modes;
 
 use shore_types::{Level, Mode};
 
-/// Whether two holders of one granule may stand together.
+/// Whether two holders of one granule are compatible (the compatibility matrix).
 pub fn coexist(a: Mode, b: Mode) -> bool
     ensures { result ≡ modes.coexist a b }
 {

@@ -10,7 +10,7 @@ use Rattle.shore_page.specs.Reading.{marked, Marks, IsTaken}
 length-part : (marks : List Bool) (from to : ℕ) → from ≤ to → to ≤ length marks → length (take (to - from) (drop from marks)) ≡ to - from
 length-part marks from to order within = length-take-le (to - from) (drop from marks) (omega (arith, length-drop from marks))
 
--- what stands in a part, by its place in the whole
+-- what is in a part, by its place in the whole
 in_part : (marks : List Bool) (from to place : ℕ) → from ≤ place → place < to → get_or (take (to - from) (drop from marks)) (place - from) false ≡ get_or marks place false
 in_part marks from to place low high =
     let here : from + (place - from) ≡ place = omega arith in

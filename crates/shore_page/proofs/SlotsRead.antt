@@ -139,7 +139,7 @@ images_more bytes i = ap (map settled) (map-range_with_len_more (slot_image byte
 pub length-images_in : (bytes : List ℕ) (slots : ℕ) → length (images_in bytes slots) ≡ slots
 length-images_in bytes slots = length-map-range_with_len (slot_image bytes) 0 slots
 
--- what stands in a slot has an entry
+-- what is in a slot has an entry
 entry_of_slot : (bytes : List ℕ) (table slot : ℕ) (image : Image) → HasSlot bytes table slot image → IsEntry table (offset_at bytes slot) (length_at bytes slot)
 entry_of_slot bytes table slot None empty = inl empty
 entry_of_slot bytes table slot (Some image) full = inr record {
@@ -156,7 +156,7 @@ image_of_slot bytes table slot (Some image) full =
     rw (ne_eqb (offset_at bytes slot) 0 (λ (e : offset_at bytes slot ≡ 0). omega (arith, full.0.behind_header)))
     (ap (λ (n : ℕ). Some (between (offset_at bytes slot) (offset_at bytes slot + n) bytes)) full.1 ∙ ap (λ (l : List ℕ). Some l) full.0.here)
 
--- an entry names what stands in its slot
+-- an entry names what is in its slot
 slot_of_entry : (bytes : List ℕ) (table slot : ℕ) → length bytes ≡ 8192 → table ≤ 8192 → IsEntry table (offset_at bytes slot) (length_at bytes slot) → HasSlot bytes table slot (slot_image bytes slot)
 unfolding slot_image
 slot_of_entry bytes table slot whole inside (inl empty) = rw (eq-eqb (offset_at bytes slot) 0 empty.0) empty

@@ -120,7 +120,7 @@ written_more old new slots i offset next x so_far inside here kept end slot begi
         let behind : offset ≤ place = begins place (subst (λ (k : ℕ). Covers new k place) same covers_b) in
         omega (arith, old_a.1, so_far.ends a earlier)
 
--- a header stays where nothing before the records changed
+-- a header stays if nothing before the records changed
 pub header_kept : (old new : List ℕ) (id : PageId) (number slots to : ℕ) → KeepsBeside old new 24 to → HasHeader old id number slots → HasHeader new id number slots
 header_kept old new id number slots to kept header = record {
   store = number_below old new 24 to 0 4 kept (omega arith) ∙ header.store;

@@ -26,7 +26,7 @@ map-with_change f g h same [] i = refl
 map-with_change f g h same (x ∷ xs) zero = ap (λ y. y ∷ map f xs) (same x)
 map-with_change f g h same (x ∷ xs) (suc i) = ap (λ ys. f x ∷ ys) (map-with_change f g h same xs i)
 
--- the same where the function and the changes agree at the element alone
+-- the same if the function and the changes agree at the element alone
 map-with_change_at : {A B : Type 0} (f : A → B) (g : A → A) (h : B → B) (xs : List A) (i : ℕ) (x : A) → slice_get xs i ≡ Some x → f (g x) ≡ h (f x) → map f (with_change g xs i) ≡ with_change h (map f xs) i
 map-with_change_at f g h [] i x here same = refl
 map-with_change_at f g h (y ∷ xs) zero x here same = let is : x ≡ y = cc in ap (λ z. z ∷ map f xs) (rw (← is) same)

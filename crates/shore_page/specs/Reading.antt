@@ -26,7 +26,7 @@ slot_image bytes slot = if offset_at bytes slot == 0
     then None
     else Some (between (offset_at bytes slot) (offset_at bytes slot + length_at bytes slot) bytes)
 
--- what stands in the first slots
+-- what is in the first slots
 abbrev pub images_in : List ℕ → ℕ → List Image
 images_in bytes slots = map (slot_image bytes) (range_with_len 0 slots)
 

@@ -36,7 +36,7 @@ pub record HasRoom (slots : List Slot) : Type 0 where
   pub room : 4 * length slots + claims slots ≤ 8168
   pub each : All HoldsItsImage slots
 
--- the claim raised to so many bytes, where it is lower
+-- the claim raised to so many bytes, if it is lower
 abbrev pub raised : ℕ → Slot → Slot
 raised bytes s = record { image = s.image; claim = max s.claim bytes }
 
@@ -49,8 +49,8 @@ pub record IsKept (slots : List Slot) (claimed : ℕ) : Type 0 where
   pub sum : claimed ≡ claims slots
   pub room : HasRoom slots
 
--- One slot changed: an image stands there, and the slot keeps what it claimed, or what the image takes. Every other slot stands as it
--- stood, none went away, and the free bytes lost what was needed.
+-- One slot changed: an image is there, and the slot keeps what it claimed, or what the image takes. Every other slot is as it
+-- was, none went away, and the free bytes lost what was needed.
 pub record ChangesOne (old new : List Slot) (slot : ℕ) (image : Image) : Type 0 where
   pub here : image_at new slot ≡ image
   pub claim : claim_at new slot ≡ max (claim_at old slot) (image_len image)

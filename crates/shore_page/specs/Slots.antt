@@ -1,4 +1,4 @@
--- What a page is: its id, the number of its last change, and its slots. A slot has an image and a claim.
+-- What a page is: its id, the number of its last change (page_LSN), and its slots. A slot has an image and a claim.
 use Rattle.std.specs.Prelude.{ℕ, zero, suc, max, nat_lt, List, [], ◌∷◌, ◌++◌, length, slice_get, Option, Some, None, if◌then◌else◌}
 use Rattle.std.specs.Option.{option_and_then}
 use Rattle.shore_types.specs.declared.ids.PageId.{PageId}
@@ -7,7 +7,7 @@ use Rattle.shore_types.specs.declared.ids.PageId.{PageId}
 abbrev pub Image : Type 0
 Image = Option (List ℕ)
 
--- what stands in a slot, and how many bytes of the page are kept for it
+-- what is in a slot, and how many bytes of the page are kept for it
 pub record Slot : Type 0 where
   pub image : Option (List ℕ)
   pub claim : ℕ
@@ -23,7 +23,7 @@ abbrev pub image_len : Image → ℕ
 image_len None = 0
 image_len (Some bytes) = length bytes
 
--- what stands in a slot; nothing in one that is not there
+-- what is in a slot; nothing in one that is not there
 abbrev pub image_at : List Slot → ℕ → Image
 image_at slots slot = option_and_then (λ s. s.image) (slice_get slots slot)
 
@@ -33,7 +33,7 @@ with_change f [] place = []
 with_change f (x ∷ rest) zero = f x ∷ rest
 with_change f (x ∷ rest) (suc place) = x ∷ with_change f rest place
 
--- another image stands in a slot: it keeps its claim, or as many bytes as the image has
+-- another image is in a slot: it keeps its claim, or as many bytes as the image has
 abbrev pub holding : Image → Slot → Slot
 holding image s = record { image = image; claim = max s.claim (image_len image) }
 

@@ -1,4 +1,4 @@
--- Page text: which 8,192 bytes are the text of a page.
+-- Page text: which 8,192 bytes are the text (the encoding) of a page.
 use Rattle.std.specs.Prelude.{◌≡◌, ℕ, ◌+◌, ◌-◌, ◌*◌, ◌<◌, ◌≤◌, List, length, map, slice_get, Some, None}
 use Rattle.std.specs.List.{between}
 use Rattle.byteorder.specs.Endian.{little_number}
@@ -6,11 +6,11 @@ use Rattle.shore_types.specs.declared.ids.PageId.{PageId}
 use Rattle.shore_types.specs.declared.layout.TheConstants.{PAGE_BYTES, MAX_RECORD_BYTES, MAX_SLOTS}
 use Rattle.shore_page.specs.Slots.{Image, Slot, PageState, settled}
 
--- the number of so many bytes at a place, the lowest byte first
+-- the number of so many bytes at an offset, the lowest byte first
 abbrev pub number_at : List ℕ → ℕ → ℕ → ℕ
 number_at bytes place count = little_number count (between place (place + count) bytes)
 
--- where the table of so many slots begins, and where the entry of the last of them stands
+-- where the table of so many slots begins, and where the entry of the last of them is
 abbrev pub table_of : ℕ → ℕ
 table_of slots = 8192 - 4 * slots
 
@@ -38,7 +38,7 @@ pub record HasRecord (bytes : List ℕ) (table offset : ℕ) (image : List ℕ) 
   pub most : length image ≤ MAX_RECORD_BYTES
   pub here : between offset (offset + length image) bytes ≡ image
 
--- what stands in a slot: an empty one has zeros for its entry, a full one a record at its offset
+-- what is in a slot: an empty one has zeros for its entry, a full one a record at its offset
 abbrev pub HasSlot : List ℕ → ℕ → ℕ → Image → Type 0
 HasSlot bytes table slot None = (offset_at bytes slot ≡ 0) × (length_at bytes slot ≡ 0)
 HasSlot bytes table slot (Some image) = HasRecord bytes table (offset_at bytes slot) image × (length_at bytes slot ≡ length image)
@@ -55,7 +55,7 @@ pub record IsPageText (bytes : List ℕ) (id : PageId) (number : ℕ) (images : 
   pub slots : (slot : ℕ) (image : Image) → slice_get images slot ≡ Some image → HasSlot bytes (table_of (length images)) slot image
   pub apart : (a b place : ℕ) → a < length images → b < length images → Covers bytes a place → Covers bytes b place → a ≡ b
 
--- what stands in the slots, without the claims
+-- what is in the slots, without the claims
 abbrev pub images_of : List Slot → List Image
 images_of slots = map (λ s. s.image) slots
 

@@ -21,11 +21,11 @@ claiming s = record { image = s.image; claim = max (image_len s.image) (longest 
 abbrev pub claiming_all : List Undecided → List Slot
 claiming_all slots = map claiming slots
 
--- an undecided change: what stood there may come back
+-- an undecided change: what was there may come back
 abbrev pub changing : Image → Undecided → Undecided
 changing image s = record { image = image; befores = s.image ∷ s.befores }
 
--- an undecided change to a slot, or to a new one behind the last, where nothing stood
+-- an undecided change to a slot, or to a new one behind the last, where nothing was
 abbrev pub with_undecided : List Undecided → ℕ → Image → List Undecided
 with_undecided slots slot image = if nat_lt slot (length slots)
     then with_change (changing image) slots slot
@@ -44,11 +44,11 @@ undoing s = undone s.image s.befores
 abbrev pub deciding : Undecided → Undecided
 deciding s = record { image = s.image; befores = [] }
 
--- what an undo puts into a slot; none where nothing is left to undo
+-- what an undo puts into a slot; none if nothing is left to undo
 abbrev pub undo_image : List Undecided → ℕ → Option Image
 undo_image slots slot = option_and_then (λ s. slice_get s.befores 0) (slice_get slots slot)
 
--- Each undo fits when it is made, where the slots are taken in this order: each turn undoes the newest change of its slot that is left.
+-- Each undo fits when it is made, if the slots are taken in this order: each turn undoes the newest change of its slot that is left.
 abbrev pub UndoFits : List Undecided → List ℕ → Type 0
 UndoFits slots [] = Unit {0}
 UndoFits slots (slot ∷ later) = IfSome (undo_image slots slot) (λ before. Fits (claiming_all slots) slot (image_len before)) × UndoFits (with_change undoing slots slot) later

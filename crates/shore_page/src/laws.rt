@@ -6,20 +6,20 @@ ghost use Rattle.shore_types.specs.declared.ids.PageId.{PageId};
 ghost use Rattle.shore_page.specs.Text.{IsPageText};
 ghost use Rattle.shore_page.specs.Undo.{Undecided, longest, claiming_all, with_undecided, undoing, deciding, UndoFits};
 
-/// Where a change fits, every undo of undecided changes fits after it, in whatever order the slots are taken.
+/// If a change fits, every undo of undecided changes fits after it, in whatever order the slots are taken.
 pub fn every_undo_fits()
     ensures { (slots : List Undecided) (slot : ℕ) (after : Image) (turns : List ℕ)
         → HasRoom (claiming_all slots) → Fits (claiming_all slots) slot (image_len after)
         → UndoFits (with_undecided slots slot after) turns }
 {}
 
-/// Claims of undecided slots stay so where `Page::put`, `Page::remove` or `Page::apply` makes an undecided change.
+/// Claims of undecided slots stay so when `Page::put`, `Page::remove` or `Page::apply` makes an undecided change.
 pub fn change_keeps_claims()
     ensures { (slots : List Undecided) (slot : ℕ) (after : Image)
         → with_image (claiming_all slots) slot after ≡ claiming_all (with_undecided slots slot after) }
 {}
 
-/// They stay so where `Page::apply` puts back the image before a slot's newest change, and `Page::unreserve` then keeps what the
+/// They stay so when `Page::apply` puts back the image before a slot's newest change, and `Page::unreserve` then keeps what the
 /// longest image that is left has.
 pub fn undo_keeps_claims()
     ensures { (slots : List Undecided) (slot : ℕ) (image before : Image) (rest : List Image)
@@ -28,7 +28,7 @@ pub fn undo_keeps_claims()
         ≡ claiming_all (with_change undoing slots slot) }
 {}
 
-/// And where a slot's changes are decided and `Page::unreserve` keeps nothing for it but its record.
+/// And when a slot's changes are decided and `Page::unreserve` keeps nothing for it but its record.
 pub fn decision_keeps_claims()
     ensures { (slots : List Undecided) (slot : ℕ)
         → with_change (lowered 0) (claiming_all slots) slot ≡ claiming_all (with_change deciding slots slot) }

@@ -1,4 +1,4 @@
-//! A page of records in slots: what stands in each slot, the bytes that are kept for it, and the page's text.
+//! A page of records in slots: what is in each slot, the bytes that are kept for it, and the page's text (encoding).
 #![tactic(auto)]
 
 pub mod laws;

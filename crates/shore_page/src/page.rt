@@ -15,7 +15,7 @@ use std::alloc::{AllocError, Global};
 use std::marker::Model;
 
 /// A page: its id, the number of the last change that was logged for it, and its slots. A slot has a record or none, and
-/// a claim, the bytes of the page that are kept for it: never fewer than its record has, and more where a change that is not
+/// a claim, the bytes of the page that are kept for it: never fewer than its record has, and more if a change that is not
 /// decided yet may be undone. A slot number never goes away.
 #[derive(Debug, Drop)]
 pub struct Page {
@@ -74,7 +74,7 @@ impl Page {
         self.slots.len() as u16
     }
 
-    /// The record in a slot; None in an empty slot, and where there is no such slot.
+    /// The record in a slot; None in an empty slot, and if there is no such slot.
     pub fn get(&self, slot: u16) -> Option<&[u8]>
         ensures { option_map (λ bytes. bytes.now) result ≡ image_at self.now.slots slot }
     {
@@ -175,13 +175,13 @@ impl Page {
         put_page(out, self.id, self.number, &self.slots);
     }
 
-    /// The page of this id whose text the bytes are; None where they are no text of it. Each slot claims what its record takes.
+    /// The page of this id whose text the bytes are; None if they are no text of it. Each slot claims what its record takes.
     /// It takes memory for the records, and for a mark for each byte.
     pub fn from_bytes(alloc: Global, id: PageId, bytes: &[u8]) -> Result<Option<Page>, AllocError>
         // What is answered is a page whose text the bytes are.
         ensures found { IfOk result (λ found. IfSome found (λ page.
             IsPageText bytes.now id page.number (images_of page.slots))) }
-        // Where they are a text of the page, it is found.
+        // If they are a text of the page, it is found.
         ensures only { (number : ℕ) (images : List Image) → IsPageText bytes.now id number images
             → IfOk result (λ found. found ≡ Some (settled_page id number images)) }
     {

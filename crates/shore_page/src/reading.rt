@@ -44,7 +44,7 @@ pub struct Header {
     pub slots: usize,
 }
 
-/// The header of a page of this id; None where the front of the bytes is none.
+/// The header of a page of this id; None if the front of the bytes is none.
 pub fn read_header(id: &PageId, bytes: &[u8]) -> Option<Header>
     requires { length bytes.now ≡ 8192 }
     ensures found { IfSome result (λ header. HasHeader bytes.now id.now header.number header.slots) }
@@ -87,7 +87,7 @@ fn entry_at(bytes: &[u8], slot: usize) -> Entry
     }
 }
 
-// Whether a record may stand where an entry says.
+// Whether a record may be where an entry says.
 fn lies(entry: Entry, table: usize) -> bool
     requires { entry.offset + entry.bytes < 131072 }
     ensures { IsTrue result ↔ Lies table entry.offset entry.bytes }
@@ -97,7 +97,7 @@ fn lies(entry: Entry, table: usize) -> bool
         && entry.bytes <= MAX_RECORD_BYTES
 }
 
-// Marks places that have no mark yet; false where one has.
+// Marks bytes that have no mark yet; false if one has.
 fn mark(marks: &mut [bool], from: usize, to: usize) -> bool
     requires order { from ≤ to }
     requires within { to ≤ length marks.old }
@@ -113,7 +113,7 @@ fn mark(marks: &mut [bool], from: usize, to: usize) -> bool
     true
 }
 
-// Marks the bytes of a slot's record, counted from behind the header. False where its entry is none, or where a byte belongs
+// Marks the bytes of a slot's record, counted from behind the header. False if its entry is none, or if a byte belongs
 // to another record.
 fn take_entry(entry: Entry, table: usize, marks: &mut [bool]) -> bool
     requires small { entry.offset + entry.bytes < 131072 }
@@ -135,7 +135,7 @@ fn take_entry(entry: Entry, table: usize, marks: &mut [bool]) -> bool
     mark(marks, from, from + entry.bytes)
 }
 
-/// How many bytes the records of all slots have; None where the slot table has an entry that is none, or where two records
+/// How many bytes the records of all slots have; None if the slot table has an entry that is none, or if two records
 /// overlap. It takes a mark for each byte between the header and the slot table.
 pub fn check_slots(bytes: &[u8], slots: usize, marks: &mut [bool]) -> Option<usize>
     requires whole { length bytes.now ≡ 8192 }

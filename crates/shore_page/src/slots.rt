@@ -20,7 +20,7 @@ impl Model for Slot {
     ghost view = { λ s. record { image = s.image; claim = s.claim } };
 }
 
-/// The bytes of an image, none where it is absent.
+/// The bytes of an image, none if it is absent.
 pub fn image_len(image: &Option<Bytes>) -> usize
     ensures { result ≡ image_len image.now }
 {
@@ -51,7 +51,7 @@ impl Slot {
         self.claim
     }
 
-    /// Puts an image in place of what stood here. The claim grows where it has to.
+    /// Puts an image in place of what was here. The claim grows if it has to.
     pub fn hold(&mut self, image: Option<Bytes>)
         ensures { self.new ≡ holding image self.old }
     {
@@ -59,7 +59,7 @@ impl Slot {
         self.image = image;
     }
 
-    /// Raises the claim to so many bytes, where it is lower.
+    /// Raises the claim to so many bytes, if it is lower.
     pub fn raise(&mut self, bytes: usize)
         ensures { self.new ≡ raised bytes self.old }
     {

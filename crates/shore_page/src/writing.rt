@@ -93,7 +93,7 @@ fn put_record(out: &mut [u8], slot: usize, offset: usize, bytes: &[u8])
     put(out, offset, bytes);
 }
 
-// What stands in a slot, with its record at an offset; answers where the next record may begin.
+// What is in a slot, with its record at an offset; answers where the next record may begin.
 fn put_slot(out: &mut [u8], slot: usize, offset: usize, image: Option<&[u8]>) -> usize
     requires whole { length out.old ≡ 8192 }
     requires few { slot < MAX_SLOTS }
@@ -118,7 +118,7 @@ fn put_slot(out: &mut [u8], slot: usize, offset: usize, image: Option<&[u8]>) ->
     }
 }
 
-// What stands in each slot, one record behind another.
+// What is in each slot, one record behind another.
 fn put_slots(out: &mut [u8], slots: &[Slot])
     requires whole { length out.old ≡ 8192 }
     requires room { HasRoom slots.now }

@@ -1,4 +1,4 @@
--- What an acquire's walk comes to, in the words of its contract.
+-- What an acquire's walk gives, in the words of its contract.
 use Rattle.std.proofs.Common.{◌≡◌, ◌≢◌, ◌⊎◌, inl, inr, ⊎_elim, ℕ, List, [], true, false, refl, ap, sym, subst, ◌∙◌, length, reverse, take}
 use Rattle.std.specs.Prelude.{Result, Ok, Err, IfErr, Contains}
 use Rattle.shore_types.specs.declared.faults.Fault.{Fault}
@@ -48,7 +48,7 @@ module _ (c : OnConflict) (t : ℕ) (target : Granule) (mode : Mode) (old new : 
   abbrev whole : Outcome
   whole = walk c t target mode old.limit way old.requests
 
-  -- whatever the answer, a beginning of the walk leaves the table, and it waits only where the answer says so
+  -- whatever the answer, a prefix of the walk leaves the table, and it waits only if the answer says so
   record Begun : Type 0 where
     n : ℕ
     left : (walked n).requests ≡ new.requests

@@ -22,7 +22,7 @@ use Rattle.shore_path.proofs.Holding.{SameAt, held_as, holding, same_held}
 use Rattle.shore_path.proofs.ModeFacts.{aim_above, aim_intends}
 use Rattle.shore_path.proofs.Moving.{Above, HasMode, Rooted, Stays, onto_placed, onto_put, onto_replaced, rooted_after, rooted_passed, stays-on, stays_onto, stays_passed}
 
--- what is held as one asks is what the request holds that stands already
+-- what is held as one asks is what the request holds that is there already
 asking_held : (t : ℕ) (g : Granule) (mode : Mode) (rs : List Request) → AreRequests rs → (q : Request) → In q rs → are_alike q (asking t g mode rs) ≡ true → mode_held t g rs ≡ q.held
 asking_held t g mode rs one q h alike =
     let key = (alike-Decides q (asking t g mode rs)).0 alike in
@@ -116,7 +116,7 @@ waits_placed t g mode rs quiet = waits_found t g mode rs quiet (waiting_request 
 
 -- ---- what a transaction holds that does not wait
 
--- the transaction's requests stand in both lists, or in neither
+-- the transaction's requests are in both lists, or in neither
 abbrev SameOf : ℕ → List Request → List Request → Type 0
 SameOf t xs ys = (q : Request) → q.txn ≡ t → (In q xs → In q ys) × (In q ys → In q xs)
 
@@ -191,7 +191,7 @@ held_grant t g mode rs one quiet k =
     ∙ sym (same_held t k rs (put (granted (asking t g mode rs)) rs) one ones (same_put t k (granted (asking t g mode rs)) rs other))))
     (either (same_granule g k))
 
--- .. nor does anything where it begins to wait
+-- .. nor does anything if it begins to wait
 pub held_placed : (t : ℕ) (g : Granule) (mode : Mode) (rs : List Request) → AreRequests rs → (k : Granule) → mode_held t k (placed_last (asking t g mode rs) rs) ≡ mode_held t k rs
 held_placed t g mode rs one k =
     let all = AreRequests-placed (asking t g mode rs) rs one in

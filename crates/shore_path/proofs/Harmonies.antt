@@ -71,7 +71,7 @@ agree_swapped h k a same apart = coexist-swap h.mode k.mode (a (sym same) (λ e.
 All-both : (held : List Hold) (n : Hold) → ((h : Hold) → Agree n h → All (Agree h) held → All (Agree h) (n ∷ held)) → All (Agree n) held → All (λ h. All (Agree h) held) held → All (λ h. All (Agree h) (n ∷ held)) held
 All-both held n f a b k d lt = f (get_or held k d) (a k d lt) (b k d lt)
 
--- a lock that agrees with all of them stands with them
+-- a lock that agrees with all of them is compatible with them
 stand_with : (held : List Hold) (n : Hold) → StandTogether held → All (Agree n) held → StandTogether (n ∷ held)
 stand_with held n together agrees =
     All-cons (λ h. All (Agree h) (n ∷ held)) n held

@@ -59,7 +59,7 @@ holding_in t g m rs (Some r) is e = let f = found_for t g rs r is in (r, f.0, f.
 pub holding : (t : ℕ) (g : Granule) (m : Mode) (rs : List Request) → mode_held t g rs ≡ Some m → (r : Request) × In r rs × (r.txn ≡ t) × (r.granule ≡ g) × (r.held ≡ Some m)
 holding t g m rs e = holding_in t g m rs (request_for t g rs) refl e
 
--- a transaction's requests for a granule stand in both lists, or in neither
+-- a transaction's requests for a granule are in both lists, or in neither
 abbrev pub SameAt : ℕ → Granule → List Request → List Request → Type 0
 SameAt t g xs ys = (q : Request) → q.txn ≡ t → q.granule ≡ g → (In q xs → In q ys) × (In q ys → In q xs)
 

@@ -18,7 +18,7 @@ use Rattle.shore_locks.proofs.Others.{put_in_place, put_last}
 use Rattle.shore_path.proofs.Holding.{Holder, enough_of, holder_of}
 use Rattle.shore_path.proofs.ModeFacts.{enough_trans}
 
--- a request for each of a list stands in another: itself, or a new one in the place of one alike
+-- a request for each of a list is in another: itself, or a new one in the place of one alike
 abbrev pub Onto : Request → List Request → List Request → Type 0
 Onto r rs new = (q : Request) → In q rs → ((are_alike q r ≡ true) × In r new) ⊎ In q new
 
@@ -47,7 +47,7 @@ onto_placed r rs q h =
     (λ no. inr (In-left (removed r rs) (r ∷ []) q (filter-In (λ x. not (are_alike x r)) rs q h (ap not no))))
     (either (are_alike q r))
 
--- each lock of the transactions that are looked at stands, or a stronger one
+-- each lock of the transactions that are looked at stays, or a stronger one
 abbrev pub Stays : (ℕ → Type 0) → List Request → List Request → Type 0
 Stays P rs new = (q : Request) → In q rs → P q.txn → (m : Mode) → is_enough m q.held ≡ true → Holder new q.txn q.granule m
 

@@ -1,4 +1,4 @@
--- The loop over a path: how far the walk has come, and what it comes to where it ends.
+-- The loop over a path: how far the walk has come, and what it gives when it ends.
 use Rattle.std.proofs.Common.{◌≡◌, ◌++◌, ◌<◌, ◌≤◌, ◌+◌, ℕ, suc, List, [], ◌∷◌, true, false, refl, ap, sym, subst, ◌∙◌, length, take, drop, get_or, min, arith, drop-cons}
 use Rattle.std.specs.Prelude.{Result, Ok}
 use Rattle.std.proofs.lemmas.List.{append-nil, take_min, take-append-drop}

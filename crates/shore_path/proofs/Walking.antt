@@ -1,4 +1,4 @@
--- What a walk comes to, by the cases of each granule.
+-- What a walk gives, by the cases of each granule.
 use Rattle.std.proofs.Common.{◌≡◌, ◌++◌, ℕ, List, [], ◌∷◌, Bool, true, false, Option, None, Some, refl, ap, sym, subst}
 use Rattle.std.specs.Prelude.{cond, is_some, Result, Ok, Err}
 use Rattle.shore_types.specs.declared.faults.Fault.{Fault}
@@ -46,7 +46,7 @@ module _ (c : OnConflict) (t : ℕ) (target : Granule) (mode : Mode) (limit : �
         → P below (after_grant t g (asked_of target mode g) rs) (walk_on below (after_grant t g (asked_of target mode g) rs))
         → P (g ∷ below) rs (walk_on below (after_grant t g (asked_of target mode g) rs))
 
-  -- an answer and the requests after it, by what stands in the list
+  -- an answer and the requests after it, by what is in the list
   abbrev answered : OnConflict → Granule → Bool → Bool → Option Request → Result Acquired Fault
   answered Wait g enough full o = of_request g (cond enough Granted (cond full Full (cond (is_some o) Waiting Granted)))
   answered Refuse g enough full o = of_try (cond enough TryGranted (cond full TryFull (blocked_by o)))

@@ -31,7 +31,7 @@ pub record WaitsAt (rs : List Request) (t : ℕ) (g : Granule) (asked : Mode) : 
   pub someone : ℕ
   pub waits_for : WaitsFor rs t someone
 
--- on the path some granule has no node of the transaction, and as many nodes stand as may
+-- on the path some granule has no node of the transaction, and the table is at its limit
 abbrev pub IsFullOnPath : Table → ℕ → Granule → Type 0
 IsFullOnPath table t target = Any (λ g. IsTrue (is_full table t g)) (path target)
 
@@ -39,7 +39,7 @@ IsFullOnPath table t target = Any (λ g. IsTrue (is_full table t g)) (path targe
 abbrev pub IsBlockedBy : List Request → ℕ → Granule → Mode → ℕ → Type 0
 IsBlockedBy rs t target mode u = Any (λ g. WaitsFor (placed_last (asking t g (asked_of target mode g) rs) rs) t u) (path target)
 
--- when an acquire is refused with a fault, in the table as it then stands
+-- when an acquire is refused with a fault, in the table as it then is
 abbrev pub MayRefuse : OnConflict → Table → ℕ → Granule → Mode → Fault → Type 0
 MayRefuse c table t target mode fault.BadMode = IsFalse (is_allowed (level_of target) mode)
 MayRefuse c table t target mode fault.LockTableFull = IsFullOnPath table t target
@@ -47,7 +47,7 @@ MayRefuse c table t target mode (fault.WouldBlock holder) = (c ≡ Refuse) × Is
 MayRefuse c table t target mode fault.Memory = Unit {0}
 MayRefuse c table t target mode _ = ⊥
 
--- the table is left as a walk over a beginning of these granules leaves it, one that came to Done
+-- the table is left as a walk over a prefix of these granules leaves it, one that came to Done
 abbrev pub WalkedSome : OnConflict → Table → Table → ℕ → Granule → Mode → List Granule → Type 0
 WalkedSome c old new t target mode granules =
     (n : ℕ) × (n < length granules)
@@ -65,6 +65,6 @@ GrowsAsAsked rs new t target mode =
     (mode_held t g new ≡ mode_held t g rs)
     ⊎ (Contains (path target) g × (mode_held t g new ≡ Some (aim (mode_held t g rs) (asked_of target mode g))))
 
--- each request of others afterwards stood before, or is one that stood before with what it wanted held
+-- each request of others afterwards was there before, or is one that was with what it wanted held
 abbrev pub OthersOnlyGranted : List Request → List Request → ℕ → Type 0
 OthersOnlyGranted rs new t = All (λ r. (r.txn ≡ t) ⊎ (Contains rs r ⊎ Any (λ q. r ≡ granted q) rs)) new

@@ -50,7 +50,7 @@ of_try TryGranted = Ok acquire.Done
 of_try (Blocked holder) = Err (fault.WouldBlock holder)
 of_try TryFull = Err fault.LockTableFull
 
--- what is answered where a granule is asked for
+-- what is answered if a granule is asked for
 abbrev pub answer_at : OnConflict → Table → ℕ → Granule → Mode → Result Acquired Fault
 answer_at Wait table t g mode = of_request g (answer_to table t g mode)
 answer_at Refuse table t g mode = of_try (answer_to_try table t g mode)

@@ -1,7 +1,7 @@
 //! What an acquire may do, and what it is answered.
 use shore_types::Granule;
 
-/// What to do where another transaction stands in the way: wait for it, or refuse.
+/// What to do if another transaction is in the way: wait for it, or refuse.
 #[derive(Clone, Copy, Debug, PartialEq, Eq)]
 pub enum OnConflict {
     Wait,

@@ -1,4 +1,4 @@
-//! Laws of locks along paths, each the contract of a function with nothing to do.
+//! Laws of locks along paths, each stated as the contract of an empty function.
 ghost use Rattle.std.specs.Prelude.{◌∷◌, [], ℕ, List, All};
 ghost use Rattle.shore_model.specs.declared.holds.Hold.{Hold};
 ghost use Rattle.shore_model.specs.declared.requests.Request.{Request};
@@ -8,12 +8,12 @@ ghost use Rattle.shore_locks.specs.Grants.{cancelled, released};
 ghost use Rattle.shore_locks.specs.Orderly.{IsOrderly};
 ghost use Rattle.shore_path.specs.Rooted.{AreRooted};
 
-/// Locks with their intentions, whose holders stand together on each granule, are in harmony along every path.
+/// Locks with their intentions, whose holders are compatible on each granule, are in harmony along every path.
 pub fn intentions_give_harmony()
     ensures { (held : List Hold) → StandTogether held → WellRooted held → Harmony held }
 {}
 
-/// A lock whose intentions are held, and whose mode stands with those of the other holders, keeps harmony.
+/// A lock whose intentions are held, and whose mode is compatible with those of the other holders, keeps harmony.
 pub fn grant_keeps_harmony()
     ensures { (held : List Hold) (new : Hold) → StandTogether held → WellRooted held → IsRooted held new → All (Agree new) held →
         Harmony (new ∷ held) × WellRooted (new ∷ held) }
@@ -29,12 +29,12 @@ pub fn empty_table_is_rooted()
     ensures { AreRooted [] }
 {}
 
-/// Where a transaction waits no more, all requests that are left have their intentions, and those that are granted then too.
+/// If a transaction waits no more, all requests that are left have their intentions, and those that are granted then too.
 pub fn cancel_keeps_intentions()
     ensures { (rs : List Request) (t : ℕ) → IsOrderly rs → AreRooted rs → AreRooted (cancelled t rs) }
 {}
 
-/// So it is where a transaction gives up all that it has.
+/// So it is when a transaction gives up all that it has.
 pub fn release_keeps_intentions()
     ensures { (rs : List Request) (t : ℕ) → IsOrderly rs → AreRooted rs → AreRooted (released t rs) }
 {}

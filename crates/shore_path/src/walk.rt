@@ -22,8 +22,8 @@ use std::alloc::Global;
 /// then the granule in the mode itself; each request is joined to what the transaction holds there. Where the mode held on an
 /// ancestor covers the mode that is asked, that is all, and nothing further is taken.
 ///
-/// Refused with 11 where a granule of the level is not asked in the mode, and nothing has changed; with 10 where a granule of the
-/// path needs a node and none is left; with 21 in place of waiting, where told so; and with 27 for memory. Locks that a refused or
+/// Refused with BadMode if a granule of the level does not take the mode, and nothing has changed; with LockTableFull if a granule of the
+/// path needs a node and none is left; with WouldBlock in place of waiting, if told so; and with Memory. Locks that a refused or
 /// waiting call has taken on its way stay. A transaction that waits asks for nothing; once it waits no more it asks again, and what
 /// it has is found to be enough. After Gray, Lorie, Putzolu and Traiger (1976).
 pub fn acquire(

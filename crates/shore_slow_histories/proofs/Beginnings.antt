@@ -1,4 +1,4 @@
--- Beginnings of a list of decisions.
+-- Prefixes of a list of decisions.
 use Rattle.std.proofs.Common.{◌≡◌, ℕ, List, Bool, ◌++◌, length, take, drop, sym, ap, subst, ◌∙◌, take-append-drop}
 use Rattle.std.specs.Prelude.{IsTrue, All, Contains}
 use Rattle.std.proofs.lemmas.Slice.Eq.{starts_is}
@@ -10,7 +10,7 @@ use Rattle.shore_model.specs.Histories.{decisions, acknowledged, Kept}
 use Rattle.shore_model.proofs.Equalities.{decision_eq-Decides}
 use Rattle.std.specs.List.{starts_with}
 
--- the test finds just the beginnings
+-- the test finds just the prefixes
 pub begins : (ds kept : List Decision) (b : Bool) → b ≡ starts_with eq-value.it ds kept → (IsTrue b → (n : ℕ) × (kept ≡ take n ds)) × (((n : ℕ) × (kept ≡ take n ds)) → IsTrue b)
 begins ds kept b is =
     let front = starts_is {E = eq-value.it} decision_eq-Decides ds kept b is in (

@@ -1,4 +1,4 @@
--- What holds at each place of a list, of what stands before the place and of what stands there.
+-- What holds at each place of a list, of what comes before the place and of what is there.
 use Rattle.std.proofs.Common.{◌≡◌, ◌<◌, ℕ, List, Some, take}
 use Rattle.std.specs.Prelude.{slice_get}
 

@@ -10,7 +10,7 @@ use Rattle.shore_model.specs.Alone.{Alone, MayReply, MayReplyAll, after, start}
 use Rattle.shore_model.specs.Histories.{calls_of, exchange_of}
 use Rattle.shore_model.proofs.Steps.{at_place}
 
--- the replies so far could come: to all of them comes what comes to the rest from here
+-- the replies so far could come: all of them may come if and only if the rest may from here
 pub record ComesTo (R : Records) (all rest : List Exchange) (p : Progress) : Type 0 where
   pub forth : MayReplyAll R start all → MayReplyAll R p rest
   pub back : MayReplyAll R p rest → MayReplyAll R start all

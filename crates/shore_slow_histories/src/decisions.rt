@@ -1,4 +1,4 @@
-//! The decisions of a history, and what stands of them, computed slowly.
+//! The decisions of a history, and what a crash may keep of them, computed slowly.
 ghost use Rattle.std.specs.Prelude.{◌≡◌, ◌==◌, ◌∷◌, ◌++◌, ◌↔◌, [], ℕ, filter, take, All, Contains, IfOk, OnOk, IsTrue};
 ghost use Rattle.std.specs.List.{cons_option, filter_map, list_any};
 ghost use Rattle.shore_model.specs.declared.histories.Doubt.{Doubt};

@@ -48,7 +48,7 @@ fn take_answer(
     Ok(())
 }
 
-/// Goes on by an entry of a history, where it is a call of the transaction.
+/// Goes on by an entry of a history, if it is a call of the transaction.
 pub fn enter(
     alloc: Global,
     progress: &mut Progress,
@@ -73,7 +73,7 @@ fn take_reply(alloc: Global, progress: &mut Progress, exchange: &Exchange) -> Re
     Ok(())
 }
 
-// Goes back to a savepoint. One that does not stand changes nothing.
+// Goes back to a savepoint. One that is not there changes nothing.
 fn go_back(alloc: Global, progress: &mut Progress, index: usize) -> Result<(), AllocError>
     ensures writes { OnOk result (progress.new.writes ≡ unwrap_or (slice_get progress.old.saved index) progress.old.writes) }
     ensures saved { OnOk result (progress.new.saved ≡ take (index + 1) progress.old.saved) }
@@ -85,7 +85,7 @@ fn go_back(alloc: Global, progress: &mut Progress, index: usize) -> Result<(), A
     Ok(())
 }
 
-// The answer is right where the transaction finds these records and has this many savepoints.
+// The answer is right if the transaction finds these records and has this many savepoints.
 fn is_right(
     alloc: Global,
     found: &RidMap<Bytes>,
@@ -154,7 +154,7 @@ fn is_saved(index: usize, answer: &Answer) -> bool
     }
 }
 
-// A refusal may come to the call where the transaction finds these records.
+// A refusal may come to the call if the transaction finds these records.
 fn may_refuse(found: &RidMap<Bytes>, call: &Call, fault: &Fault) -> bool
     ensures { IsTrue result ↔ MayRefuse found.now call.now fault.now }
 {
@@ -210,7 +210,7 @@ fn may_reply(
     }
 }
 
-// The entry, where it is a call of the transaction, may have its reply where the transaction has come so far.
+// The entry, if it is a call of the transaction, may have its reply when the transaction has come so far.
 fn may_enter(
     alloc: Global,
     records: &RidMap<Bytes>,
@@ -226,7 +226,7 @@ fn may_enter(
     }
 }
 
-// The call with its answer that the entry is, where it is one of the transaction.
+// The call with its answer that the entry is, if it is one of the transaction.
 fn call_of(txn: TxnId, entry: &Entry) -> Option<&Exchange>
     ensures { option_copied result ≡ exchange_of txn entry.now }
 {
@@ -241,7 +241,7 @@ fn call_of(txn: TxnId, entry: &Entry) -> Option<&Exchange>
 }
 
 /// What a transaction writes that runs alone on the records and has its calls answered as in the history. There is
-/// nothing where no such run has these answers.
+/// nothing if no such run has these answers.
 pub fn alone(
     alloc: Global,
     records: &RidMap<Bytes>,

@@ -1,4 +1,4 @@
-//! The records that decisions come to, computed slowly.
+//! The records that decisions leave, computed slowly.
 ghost use Rattle.std.specs.Prelude.{◌≡◌, ◌∷◌, ◌↔◌, [], map, filter, IfOk, if◌then◌else◌};
 ghost use Rattle.std.specs.Option.{option_copied};
 ghost use Rattle.std.specs.List.{list_any, filter_map};

@@ -10,7 +10,7 @@ use shore_model::{Answer, Call, Decision, Doubt, Entry, Exchange, Opening, Stand
 use shore_types::{Fault, GlobalId, SessionId, TxnId};
 use std::alloc::{AllocError, Global};
 
-/// A session that stands in no transaction.
+/// A session that is in no transaction.
 pub fn free() -> Standing
     ensures { result ≡ histories.free }
 {
@@ -86,7 +86,7 @@ fn after_entry(session: SessionId, stands: Standing, entry: &Entry) -> Standing
     }
 }
 
-/// Where a session stands after the entries.
+/// The state of a session after the entries.
 pub fn standing_after(session: SessionId, entries: &[Entry]) -> Standing
     ensures { result ≡ histories.standing session histories.free entries.now }
 {
@@ -118,7 +118,7 @@ fn newer(global: &GlobalId, found: Option<TxnId>, pair: &(TxnId, GlobalId)) -> O
     }
 }
 
-// The call is of the transaction, where its session stands so and these were prepared.
+// The call is of the transaction, if its session is in this state and these were prepared.
 fn is_of_txn(stands: Standing, pairs: &[(TxnId, GlobalId)], txn: TxnId, exchange: &Exchange) -> bool
     ensures { IsTrue result ↔ IsOfTxn stands pairs.now txn exchange.now.call exchange.now.reply }
 {
@@ -199,7 +199,7 @@ fn begins_below(entry: &Entry, txn: TxnId) -> bool
     }
 }
 
-// The entry may stand after those before it.
+// The entry may follow those before it.
 fn may_stand(
     alloc: Global,
     opening: &Opening,
@@ -240,7 +240,7 @@ fn begins_anew(opening: &Opening, before: &[Entry], reply: &Result<Answer, Fault
     }
 }
 
-/// Whether each entry may stand after those before it.
+/// Whether each entry may follow those before it.
 pub fn is_history(alloc: Global, opening: &Opening, entries: &[Entry]) -> Result<bool, AllocError>
     ensures { IfOk result (λ yes. IsTrue yes ↔ IsHistory (record { opening = opening.now; entries = entries.now })) }
 {

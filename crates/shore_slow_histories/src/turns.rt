@@ -35,7 +35,7 @@ fn takes_turns(
     Ok(true)
 }
 
-// Where the decision is a turn, its transaction runs alone after the decisions before it.
+// If the decision is a turn, its transaction runs alone after the decisions before it.
 fn takes_turn(
     alloc: Global,
     opening: &Opening,
@@ -72,7 +72,7 @@ fn unless_prepared(opening: &Opening, before: &[Decision], txn: TxnId) -> Option
     }
 }
 
-// A transaction that the opening has not in doubt runs alone on the serial records that the decisions come to.
+// A transaction that the opening has not in doubt runs alone on the serial records that the decisions leave.
 fn runs_alone_after(
     alloc: Global,
     opening: &Opening,

@@ -24,13 +24,13 @@ group_parts g group r rs =
     ap (filter (is_in_group group)) (filter-append (λ q. same_granule q.granule g) (r ∷ []) rs)
     ∙ filter-append (is_in_group group) (requests_at g (r ∷ [])) (requests_at g rs)
 
--- what stands in the rest of a queue stands in the queue
+-- what is in the rest of a queue is in the queue
 pub Before-from_drop : (queue : List Request) (i : ℕ) (a b : Request) → Before (drop i queue) a b → Before queue a b
 Before-from_drop queue zero a b h = h
 Before-from_drop [] (suc i) a b h = h
 Before-from_drop (r ∷ rs) (suc i) a b h = inr (Before-from_drop rs i a b h)
 
--- not found at a place, they stand in the rest
+-- not found at a place, they are in the rest
 pub Before-passed : (queue : List Request) (i : ℕ) (x a b : Request) → i < length queue → x ≡ get_or queue i x → (((x ≡ a) × Contains (drop (i + 1) queue) b) → ⊥) → Before (drop i queue) a b → Before (drop (i + 1) queue) a b
 Before-passed queue i x a b within is never h =
     ⊎_elim (λ here. absurd (never here)) (λ later. later) (subst (λ rs. Before rs a b) (at_place queue i x within is) h)
@@ -39,7 +39,7 @@ pub Before-found : (queue : List Request) (i : ℕ) (x a b : Request) → i < le
 Before-found queue i x a b within is here =
     Before-from_drop queue i a b (subst (λ rs. Before rs a b) (sym (at_place queue i x within is)) (inl here))
 
--- a walk so far: the whole is a walk just where the rest is
+-- a walk so far: the whole is a walk exactly if the rest is
 pub record WalksOn (rs : List Request) (end start : ℕ) (steps : List ℕ) (at : ℕ) (left : List ℕ) : Type 0 where
   pub forth : Walk rs start steps end → Walk rs at left end
   pub back : Walk rs at left end → Walk rs start steps end

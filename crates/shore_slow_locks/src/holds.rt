@@ -7,7 +7,7 @@ use shore_model::Hold;
 use shore_modes::{coexist, is_at_most, is_read, is_write, parent_mode};
 use shore_types::{Granule, Mode, PageId, StoreId, TxnId};
 
-/// On each granule the modes of different holders stand together.
+/// On each granule the modes of different holders are compatible.
 pub fn stand_together(held: &[Hold]) -> bool
     ensures { IsTrue result ↔ StandTogether held.now }
 {
@@ -19,7 +19,7 @@ pub fn stand_together(held: &[Hold]) -> bool
     true
 }
 
-/// On each granule the modes of different holders stand together, and no transaction may write a record that another
+/// On each granule the modes of different holders are compatible, and no transaction may write a record that another
 /// may read.
 pub fn harmony(held: &[Hold]) -> bool
     ensures { IsTrue result ↔ Harmony held.now }

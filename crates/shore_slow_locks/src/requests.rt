@@ -216,7 +216,7 @@ fn stands_before(queue: &[Request], first: &Request, second: &Request) -> bool
     false
 }
 
-// The request is the first, and the second stands among the later ones.
+// The request is the first, and the second is among the later ones.
 fn are_in_turn(request: &Request, later: &[Request], first: &Request, second: &Request) -> bool
     ensures { IsTrue result ↔ ((request.now ≡ first.now) × Contains later.now second.now) }
 {

@@ -6,7 +6,7 @@ use Rattle.shore_model.specs.declared.log_records.LogRecord.{LogRecord}
 use Rattle.shore_model.specs.Logs.{Lawful, MayFollow}
 
 module _ (rs : List LogRecord) (i : ℕ) where
-  -- each of the first records may stand after those before it
+  -- each of the first records may follow those before it
   abbrev pub LawfulBelow : Type 0
   LawfulBelow = (n : ℕ) → n < i → (r : LogRecord) → slice_get rs n ≡ Some r → MayFollow (take n rs) r
 

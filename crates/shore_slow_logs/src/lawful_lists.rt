@@ -1,4 +1,4 @@
-//! Which lists of log records are lawful, decided slowly: each record is judged anew by all that stand before it.
+//! Which lists of log records are lawful, decided slowly: each record is judged anew by all those before it.
 ghost use Rattle.std.specs.Prelude.{◌≡◌, ◌↔◌, reverse, All, Contains, IfOk, IfSome, IsTrue};
 ghost use Rattle.shore_types.specs.declared.locking.Granule.{Granule};
 ghost use Rattle.shore_model.specs.Locks.{path};
@@ -13,7 +13,7 @@ use shore_model::{LogRecord, Payload, UnansweredChange};
 use shore_types::{Bytes, Granule, Lsn, Rid, TxnId};
 use std::alloc::{AllocError, Global};
 
-/// Each record may stand after those before it.
+/// Each record may follow those before it.
 pub fn is_lawful(alloc: Global, records: &[LogRecord]) -> Result<bool, AllocError>
     ensures { IfOk result (λ yes. IsTrue yes ↔ logs.Lawful records.now) }
 {
@@ -25,7 +25,7 @@ pub fn is_lawful(alloc: Global, records: &[LogRecord]) -> Result<bool, AllocErro
     Ok(true)
 }
 
-/// A record may stand after these: it is of a transaction or of a checkpoint, it names its transaction's record before
+/// A record may follow these: it is of a transaction or of a checkpoint, it names its transaction's record before
 /// it, its transaction has not ended, and may say this.
 pub fn may_follow(
     alloc: Global,
@@ -89,7 +89,7 @@ fn may_say(
     }
 }
 
-// No Prepare stands before a Change, its before image is what the list leaves at the id, and no other has changed that.
+// No Prepare comes before a Change, its before image is what the list leaves at the id, and no other has changed that.
 fn change_may_follow(
     alloc: Global,
     records: &[LogRecord],
@@ -152,7 +152,7 @@ fn compensation_may_follow(
     Ok(is_undoable(records, txn) && answers(&changes, id, image, undo_next))
 }
 
-// A Compensation answers the newest of the Changes, which stands last.
+// A Compensation (CLR) answers the newest of the Changes, which is the last.
 fn answers(changes: &[UnansweredChange], id: Rid, image: &Option<Bytes>, undo_next: Lsn) -> bool
     ensures { IsTrue result ↔ logs.Answers (reverse changes.now) id image.now undo_next }
 {

@@ -1,4 +1,4 @@
-//! Laws of lists of log records, and of the records that they tell, each the contract of a function with nothing to do.
+//! Laws of lists of log records, and of the records that they tell, each stated as the contract of an empty function.
 ghost use Rattle.std.specs.Prelude.{◌≡◌, ◌++◌, ◌∷◌, [], ℕ, List, take, false};
 ghost use Rattle.shore_types.specs.declared.locking.Granule.{Granule};
 ghost use Rattle.shore_model.specs.declared.log_records.LogRecord.{LogRecord};
@@ -22,7 +22,7 @@ pub fn next_is_lawful()
     ensures { (rs : List LogRecord) (r : LogRecord) → Lawful rs → MayFollow rs r → Lawful (rs ++ r ∷ []) }
 {}
 
-/// A Commit lays its transaction's writes over what the list tells, where none is in doubt.
+/// A Commit lays its transaction's writes over what the list tells, if none is in doubt.
 pub fn told_after_commit()
     ensures { (rs : List LogRecord) (t p : ℕ) → in_doubt_in rs ≡ [] →
         told (rs ++ record { txn = t; previous = p; payload = Payload.Commit } ∷ []) ≡ overlay (told rs) (logged_writes rs t) }

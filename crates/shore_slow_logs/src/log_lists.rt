@@ -147,7 +147,7 @@ fn answer(
     Ok(())
 }
 
-/// The number of the newest of the Changes, which stands last: the one to be undone next, 0 if there is none.
+/// The number of the newest of the Changes, which is the last: the one to be undone next, 0 if there is none.
 pub fn undo_next_of(changes: &[UnansweredChange]) -> Lsn
     ensures { result ≡ logs.undo_next_of (reverse changes.now) }
 {

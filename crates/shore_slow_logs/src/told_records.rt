@@ -24,7 +24,7 @@ pub fn told(alloc: Global, records: &[LogRecord]) -> Result<RidMap<Bytes>, Alloc
     Ok(found)
 }
 
-// What is found so far, overlaid with a transaction's writes where the record is its Commit.
+// What is found so far, overlaid with a transaction's writes if the record is its Commit.
 fn committed(
     alloc: Global,
     records: &[LogRecord],
@@ -41,7 +41,7 @@ fn committed(
     overlaid(alloc, &found, &writes)
 }
 
-// What is found so far, overlaid with a transaction's writes where the record is its Prepare and it is in doubt.
+// What is found so far, overlaid with a transaction's writes if the record is its Prepare and it is in doubt.
 fn doubted(
     alloc: Global,
     records: &[LogRecord],

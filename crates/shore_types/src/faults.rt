@@ -25,7 +25,7 @@ impl fmt::Display for Device {
     }
 }
 
-/// Why a call is refused. It prints its number, its name and its data, parted by spaces. Where a variant says no more,
+/// Why a call is refused. It prints its number, its name and its data, separated by spaces. If a variant says no more,
 /// no record, decision or savepoint changed, and locks that the call had already taken stay.
 #[derive(Debug, Drop, PartialEq)]
 pub enum Fault {
@@ -39,7 +39,7 @@ pub enum Fault {
     NoStore,
     /// The store has no such page.
     NoPage,
-    /// No record stands at the id.
+    /// No record is at the id.
     NoRecord,
     /// A record is longer than `MAX_RECORD_BYTES`.
     TooLong,
@@ -47,7 +47,7 @@ pub enum Fault {
     StoreFull,
     /// The log has no room for the record and all that is reserved.
     LogFull,
-    /// As many lock nodes stand as the volume was made for.
+    /// The lock needs a node, and the table is at the limit that the volume was made for.
     LockTableFull,
     /// The mode cannot be asked for on a granule of this level.
     BadMode,

@@ -48,7 +48,7 @@ impl fmt::Display for PageId {
     }
 }
 
-/// A record id: a page, and a slot of its table. Ids stand in the order of store, page and slot, the place order.
+/// A record id: a page, and a slot of its table. Ids are ordered by store, page and slot, the place order (RID order).
 #[derive(Clone, Copy, Debug, PartialEq, Eq, PartialOrd, Ord, Hash)]
 pub struct Rid {
     pub page: PageId,
@@ -65,7 +65,7 @@ impl fmt::Display for Rid {
     }
 }
 
-/// The number of a transaction. 0 stands for none.
+/// The number of a transaction. 0 means none.
 #[derive(Clone, Copy, Debug, PartialEq, Eq, PartialOrd, Ord, Hash)]
 pub struct TxnId(pub u64);
 
@@ -88,7 +88,7 @@ impl fmt::Display for TxnId {
     }
 }
 
-/// The number of a log record, its ordinal from 1. 0 stands for none.
+/// The number of a log record (LSN): its ordinal from 1, and no byte address. 0 means none.
 #[derive(Clone, Copy, Debug, PartialEq, Eq, PartialOrd, Ord, Hash)]
 pub struct Lsn(pub u64);
 

@@ -32,7 +32,7 @@ pub const MOST_MAX_LOCKS: u32 = 4096;
 
 /// The most transactions in the table.
 pub const MAX_TRANSACTIONS: usize = 256;
-/// The most savepoints of a transaction that stand at once.
+/// The most savepoints of a transaction at once.
 pub const MAX_SAVEPOINTS: usize = 64;
 /// The most bytes of a global id, which has at least one.
 pub const MAX_GLOBAL_ID_BYTES: usize = 64;

@@ -5,7 +5,7 @@ ghost use Rattle.shore_types.specs.Locking.{level_of, parent_of};
 use crate::{PageId, Rid, StoreId};
 use std::fmt;
 
-/// A granule of the tree: the volume, which is the root and the default, a store, a page or a record. Granules stand in the
+/// A granule of the tree: the volume, which is the root and the default, a store, a page or a record. Granules are in the
 /// order of their levels, from the volume down, and then of their ids.
 #[derive(Clone, Copy, Debug, Default, PartialEq, Eq, PartialOrd, Ord, Hash)]
 pub enum Granule {
