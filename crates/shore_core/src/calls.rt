@@ -41,7 +41,7 @@ const LAST_OPENED: u64 = LAST_LSN + (1 << 32);
 const LAST_TXN: u64 = 1 << 62;
 
 /// The session's transaction.
-#[derive(Clone, Copy, Debug, PartialEq, Eq)]
+#[derive(Clone, Copy)]
 struct Active {
     txn: TxnId,
     /// The number of its last record, 0 if it has none.

@@ -19,7 +19,7 @@ use std::alloc::{AllocError, Global};
 const FRAME_SHARE: u64 = 13;
 
 /// Why a log gives no core.
-#[derive(Clone, Copy, Debug, PartialEq, Eq)]
+#[derive(Clone, Copy)]
 pub enum OpenError {
     /// A growth was refused.
     Memory,

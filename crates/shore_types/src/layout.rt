@@ -56,7 +56,7 @@ pub const MIN_LOG_BYTES: u64 = 135_168;
 pub const MAX_LOG_BYTES: u64 = 1_073_741_824;
 
 /// How a pair of devices is laid out.
-#[derive(Debug, Drop, PartialEq)]
+#[derive(Drop)]
 pub struct Geometry {
     /// The number of the pair, on both labels.
     pub pair: u64,
