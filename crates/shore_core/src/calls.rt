@@ -32,7 +32,7 @@ use shore_types::{Bytes, Fault, Geometry, Lsn, PageId, Rid, StoreId, TxnId};
 use std::alloc::Global;
 
 /// The session's transaction.
-#[derive(Clone, Copy, Debug, PartialEq, Eq)]
+#[derive(Clone, Copy)]
 struct Active {
     txn: TxnId,
     /// The number of its last record, 0 if it has none.

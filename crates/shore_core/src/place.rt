@@ -6,7 +6,7 @@ ghost use Rattle.shore_types.specs.declared.layout.TheConstants.{PAGE_ROOM};
 use shore_types::layout::{MAX_SLOTS, PAGE_ROOM, SLOT_ENTRY_BYTES};
 
 /// What is used of a page.
-#[derive(Clone, Copy, Debug, PartialEq, Eq)]
+#[derive(Clone, Copy)]
 pub struct PageUse {
     /// The slots of its table, up to the last full one.
     slots: u16,

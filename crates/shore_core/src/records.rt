@@ -21,7 +21,7 @@ use shore_types::{Bytes, Geometry, PageId, Rid, StoreId};
 use std::alloc::{AllocError, Global};
 
 /// Where a new record goes.
-#[derive(Clone, Copy, Debug)]
+#[derive(Clone, Copy)]
 pub struct Place {
     pub id: Rid,
     // What is used of its page without it, and with it.
@@ -30,7 +30,7 @@ pub struct Place {
 }
 
 /// Why records are not taken as those of a volume.
-#[derive(Clone, Copy, Debug, PartialEq, Eq)]
+#[derive(Clone, Copy)]
 pub enum Misfit {
     /// An allocation failed.
     Memory,
@@ -47,7 +47,7 @@ impl From<AllocError> for Misfit {
 }
 
 /// The records of a volume, as a map from their ids. Each page has room for its own.
-#[derive(Debug, Drop)]
+#[derive(Drop)]
 pub struct RecordMap {
     map: RidMap<Bytes>,
     uses: PageUses,

@@ -20,7 +20,7 @@ use std::alloc::{AllocError, Global};
 const FRAME_SHARE: u64 = 13;
 
 /// Why a log gives no core.
-#[derive(Clone, Copy, Debug, PartialEq, Eq)]
+#[derive(Clone, Copy)]
 pub enum OpenError {
     /// An allocation failed.
     Memory,

@@ -4,7 +4,7 @@ ghost use Rattle.std.specs.Prelude.{◌≡◌, ◌+◌, ◌≤◌, ◌↔◌, Is
 use shore_types::layout::{GREATEST_CHECKPOINT, LONGEST_FRAME, MAX_LOG_BYTES};
 
 /// The sums of costs, in bytes. Each is kept as records come and go, and never computed anew.
-#[derive(Clone, Copy, Debug, PartialEq, Eq)]
+#[derive(Clone, Copy)]
 pub struct LogRoom {
     /// The length of the log's stream.
     pub size: u64,

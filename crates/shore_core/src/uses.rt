@@ -10,7 +10,7 @@ use shore_types::{Geometry, PageId, Rid, StoreId};
 use std::alloc::{AllocError, Global};
 
 /// By store and page.
-#[derive(Debug, Drop)]
+#[derive(Drop)]
 pub struct PageUses {
     stores: Vec<Vec<PageUse>>,
     ghost few: { (s : ℕ) (pages : Vec PageUse) → slice_get stores.items s ≡ Some pages → length pages.items < 2 ^ 32 },

@@ -8,7 +8,7 @@ use std::alloc::{AllocError, Global};
 
 /// A transaction that a search has reached, and the place in the trail of the one that waits for it. The first of a
 /// trail was reached from nowhere.
-#[derive(Clone, Copy, Debug)]
+#[derive(Clone, Copy)]
 pub struct Step {
     pub txn: TxnId,
     pub parent: usize,

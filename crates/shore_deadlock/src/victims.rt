@@ -13,7 +13,7 @@ use std::alloc::Global;
 
 /// A transaction whose waiting request is taken back to break a cycle, and that cycle, from it on: each waits for the next,
 /// and the last for the first.
-#[derive(Debug, Drop)]
+#[derive(Drop)]
 pub struct Victim {
     pub txn: TxnId,
     pub cycle: Sequence<TxnId>,

@@ -6,7 +6,7 @@ use crate::{Disk, DiskFault};
 
 /// A device that passes so many writes and syncs, and of which each call, reads too, fails after them. It is honest as the
 /// device inside.
-#[derive(Debug, Drop)]
+#[derive(Drop)]
 pub struct FuseDisk<D: Disk> {
     inner: D,
     calls_left: u64,

@@ -7,7 +7,7 @@ use crate::{Disk, DiskFault};
 use std::alloc::{AllocError, Global};
 
 /// A call that changed what a read or a crash leaves.
-#[derive(Debug, Drop)]
+#[derive(Drop)]
 pub enum DiskCall {
     /// Bytes at an offset.
     Write(u64, Vec<u8>),
@@ -15,7 +15,7 @@ pub enum DiskCall {
 }
 
 /// What a crash makes of the writes since the last sync.
-#[derive(Clone, Copy, Debug, PartialEq, Eq)]
+#[derive(Clone, Copy, Debug, PartialEq)]
 pub enum Pick {
     /// They are lost.
     Old,
@@ -26,7 +26,7 @@ pub enum Pick {
 }
 
 /// A device in memory. An allocation that fails inside it is a failure of the device.
-#[derive(Debug, Drop)]
+#[derive(Drop)]
 pub struct MemDisk {
     first: Vec<u8>,
     bytes: Vec<u8>,

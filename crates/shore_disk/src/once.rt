@@ -7,7 +7,7 @@ use crate::fuse::refuse;
 use crate::{Disk, DiskFault};
 
 /// A device of which one call alone fails, counted from 0, reads too. It is honest as the device inside.
-#[derive(Debug, Drop)]
+#[derive(Drop)]
 pub struct OnceDisk<D: Disk> {
     inner: D,
     /// How many calls pass before the one that fails; none after it.

@@ -17,7 +17,7 @@ pub const ANCHOR_BYTES: usize = 40;
 const MAX_TAIL: u64 = (1 << 46) + (1 << 32);
 
 /// The place of one of the two anchors.
-#[derive(Clone, Copy, Debug, PartialEq, Eq)]
+#[derive(Clone, Copy, PartialEq)]
 pub enum Slot {
     A,
     B,
@@ -48,7 +48,7 @@ impl Slot {
 }
 
 /// Where the reading of a log begins.
-#[derive(Clone, Copy, Debug, PartialEq, Eq)]
+#[derive(Clone, Copy)]
 pub struct Anchor {
     /// It rises by one with each move, and tells which anchor is the newer.
     pub sequence: u64,
@@ -61,7 +61,7 @@ pub struct Anchor {
 }
 
 /// The anchor of a log that counts, and its slot. The next one is written in the other slot.
-#[derive(Clone, Copy, Debug, PartialEq, Eq)]
+#[derive(Clone, Copy)]
 pub struct Anchors {
     pub slot: Slot,
     pub anchor: Anchor,

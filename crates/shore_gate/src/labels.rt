@@ -31,7 +31,7 @@ const STORES_AT: usize = 32;
 const VOLUME_HEAD_BYTES: u64 = 270_336;
 
 /// What the label of a device says, in version 1.
-#[derive(Debug, Drop, PartialEq)]
+#[derive(Drop, PartialEq)]
 pub struct Label {
     /// The number of the pair that the device belongs to.
     pub pair: u64,

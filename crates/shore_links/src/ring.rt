@@ -8,14 +8,14 @@ use std::alloc::{AllocError, Global};
 use std::marker::Model;
 
 /// The places before and behind a place.
-#[derive(Clone, Copy, Debug, PartialEq, Eq)]
+#[derive(Clone, Copy)]
 pub struct Link {
     before: usize,
     after: usize,
 }
 
 /// Rings of places.
-#[derive(Debug, Drop)]
+#[derive(Drop)]
 pub struct Rings {
     links: Vec<Link>,
 }

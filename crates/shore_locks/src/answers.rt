@@ -2,7 +2,7 @@
 use shore_types::TxnId;
 
 /// What became of a request. Full: it needs a new node, and the table is at its limit.
-#[derive(Clone, Copy, Debug, PartialEq, Eq)]
+#[derive(Clone, Copy, PartialEq)]
 pub enum Requested {
     Granted,
     Waiting,
@@ -10,7 +10,7 @@ pub enum Requested {
 }
 
 /// What became of a request that never waits. Blocked: it would have waited for this transaction.
-#[derive(Clone, Copy, Debug, PartialEq, Eq)]
+#[derive(Clone, Copy, PartialEq)]
 pub enum Tried {
     Granted,
     Blocked(TxnId),

@@ -8,7 +8,7 @@ use shore_modes::grants;
 use shore_types::Mode;
 
 /// For each mode, whether all that is held grants it.
-#[derive(Clone, Copy, Debug, PartialEq, Eq)]
+#[derive(Clone, Copy)]
 pub struct Openings {
     is: bool,
     ix: bool,

@@ -27,7 +27,7 @@ pub const STREAM: u64 = 4096;
 const LENGTH_PLACE: u64 = 16;
 
 /// The number of the last durable record. Only the log makes one, so none is told before its force.
-#[derive(Clone, Copy, Debug, PartialEq, Eq)]
+#[derive(Clone, Copy)]
 pub struct Durable {
     lsn: Lsn,
 }
@@ -41,7 +41,7 @@ impl Durable {
 }
 
 // A frame that stands behind a closed gate.
-#[derive(Clone, Copy, Debug)]
+#[derive(Clone, Copy)]
 struct Staged {
     // How many records it has, and their bytes.
     count: usize,

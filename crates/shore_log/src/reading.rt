@@ -20,7 +20,7 @@ use shore_types::{Device, Fault};
 use std::alloc::{AllocError, AllocFailed, Global};
 
 /// What the frames of a device give.
-#[derive(Debug, Drop)]
+#[derive(Drop)]
 pub struct Stream {
     /// The records, in the order of their numbers.
     pub records: Vec<LogRecord>,
@@ -51,7 +51,7 @@ impl<T: Drop> From<AllocFailed<T>> for ReadError {
 }
 
 /// What stands behind an open gate.
-#[derive(Clone, Copy, Debug)]
+#[derive(Clone, Copy)]
 pub struct Head {
     /// The bytes of the frame's records.
     pub len: u32,

@@ -36,7 +36,7 @@ pub trait Tail {
 }
 
 /// A tail for one caller's thread: the records wait in memory until the log device takes them.
-#[derive(Debug, Drop)]
+#[derive(Drop)]
 pub struct PlainTail {
     first: u64,
     waiting: Vec<LogRecord>,

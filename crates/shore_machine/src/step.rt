@@ -3,7 +3,7 @@ use shore_model::Answer;
 use shore_types::{Fault, Granule, Lsn};
 
 /// What a call waits for.
-#[derive(Clone, Copy, Debug, PartialEq, Eq)]
+#[derive(Clone, Copy)]
 pub enum Wait {
     /// A lock of this granule.
     Lock(Granule),
@@ -12,7 +12,7 @@ pub enum Wait {
 }
 
 /// What an event came to.
-#[derive(Debug, Drop, PartialEq)]
+#[derive(Drop)]
 pub enum Step {
     Done(Answer),
     Waits(Wait),

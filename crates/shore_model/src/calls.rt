@@ -5,14 +5,14 @@ use shore_types::{Bytes, Fault, GlobalId, Granule, Lsn, Mode, Rid, Sequence, Sto
 use std::alloc::{AllocError, Global};
 
 /// How a transaction ends.
-#[derive(Clone, Copy, Debug, PartialEq, Eq)]
+#[derive(Clone, Copy)]
 pub enum Outcome {
     Commit,
     Abort,
 }
 
 /// What a session asks.
-#[derive(Debug, Drop, PartialEq)]
+#[derive(Drop)]
 pub enum Call {
     Begin,
     Get(Rid),
@@ -59,7 +59,7 @@ impl Call {
 }
 
 /// What is answered: a variant for each call, and one for each step that no session asks for.
-#[derive(Debug, Drop, PartialEq)]
+#[derive(Drop)]
 pub enum Answer {
     Began(TxnId),
     Got(Bytes),
@@ -86,7 +86,7 @@ pub enum Answer {
 }
 
 /// A call with its answer, or the fault that it was refused with.
-#[derive(Debug, Drop, PartialEq)]
+#[derive(Drop)]
 pub struct Exchange {
     pub call: Call,
     pub reply: Result<Answer, Fault>,

@@ -2,7 +2,7 @@
 use shore_types::{Granule, Mode, TxnId};
 
 /// A transaction holds a granule in a mode.
-#[derive(Clone, Copy, Debug, PartialEq, Eq)]
+#[derive(Clone, Copy, PartialEq)]
 pub struct Hold {
     pub txn: TxnId,
     pub granule: Granule,

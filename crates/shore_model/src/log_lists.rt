@@ -2,7 +2,7 @@
 use shore_types::{Bytes, Lsn, Rid};
 
 /// A Change that no Compensation has answered.
-#[derive(Debug, Drop)]
+#[derive(Drop)]
 pub struct UnansweredChange {
     pub number: Lsn,
     pub id: Rid,

@@ -6,7 +6,7 @@ ghost use Rattle.shore_model.specs.Logs as logs;
 use shore_types::{Bytes, GlobalId, Granule, Lsn, PageId, Rid, Sequence, TxnId};
 
 /// What a checkpoint says of a transaction's state.
-#[derive(Clone, Copy, Debug, PartialEq, Eq)]
+#[derive(Clone, Copy, PartialEq)]
 pub enum TxnState {
     Active,
     Prepared,
@@ -22,7 +22,7 @@ impl TxnState {
 }
 
 /// A transaction in the table of a checkpoint: an entry of the transaction table (first, LastLSN, UndoNxtLSN, state).
-#[derive(Clone, Copy, Debug, PartialEq, Eq)]
+#[derive(Clone, Copy, PartialEq)]
 pub struct LogTxn {
     pub txn: TxnId,
     pub state: TxnState,
@@ -34,14 +34,14 @@ pub struct LogTxn {
 }
 
 /// A page in the table of a checkpoint: an entry of the dirty page table. Redo of it begins at this number (RecLSN).
-#[derive(Clone, Copy, Debug, PartialEq, Eq)]
+#[derive(Clone, Copy, PartialEq)]
 pub struct DirtyPage {
     pub page: PageId,
     pub recovery: Lsn,
 }
 
 /// What a record says.
-#[derive(Debug, Drop, PartialEq)]
+#[derive(Drop, PartialEq)]
 pub enum Payload {
     Change {
         id: Rid,
@@ -127,7 +127,7 @@ impl Payload {
 
 /// A record: its transaction (0 for a checkpoint's), the number of that transaction's record before it (PrevLSN, 0 if none), and
 /// what it says. A Change is an update record with its undo and redo images, a Compensation a CLR with its UndoNxtLSN.
-#[derive(Debug, Drop, PartialEq)]
+#[derive(Drop, PartialEq)]
 pub struct LogRecord {
     pub txn: TxnId,
     pub previous: Lsn,

@@ -2,7 +2,7 @@
 use shore_types::{Granule, Mode, TxnId};
 
 /// What a transaction holds and wants of a granule. A conversion has both.
-#[derive(Clone, Copy, Debug, PartialEq, Eq)]
+#[derive(Clone, Copy, PartialEq)]
 pub struct Request {
     pub txn: TxnId,
     pub granule: Granule,
@@ -11,7 +11,7 @@ pub struct Request {
 }
 
 /// The groups of a granule's queue, in their order.
-#[derive(Clone, Copy, Debug, PartialEq, Eq)]
+#[derive(Clone, Copy, PartialEq)]
 pub enum Group {
     Holders,
     Conversions,

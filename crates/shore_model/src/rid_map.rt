@@ -12,7 +12,7 @@ use std::collections::btree_map::Iter;
 use std::marker::Model;
 
 /// A finite map from record ids, kept in place order.
-#[derive(Debug, Drop)]
+#[derive(Drop)]
 pub struct RidMap<V> {
     entries: BTreeMap<Rid, V>,
 }

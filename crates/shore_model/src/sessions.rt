@@ -2,7 +2,7 @@
 use shore_types::TxnId;
 
 /// The state of a session: its transaction, 0 if it has none, and whether that is prepared.
-#[derive(Clone, Copy, Debug, PartialEq, Eq)]
+#[derive(Clone, Copy)]
 pub struct Standing {
     pub txn: TxnId,
     pub prepared: bool,

@@ -17,7 +17,7 @@ use std::marker::Model;
 /// A page: its id, the number of the last change that was logged for it, and its slots. A slot has a record or none, and
 /// a claim, the bytes of the page that are kept for it: never fewer than its record has, and more if a change that is not
 /// decided yet may be undone. A slot number never goes away.
-#[derive(Debug, Drop)]
+#[derive(Drop)]
 pub struct Page {
     alloc: Global,
     id: PageId,

@@ -6,7 +6,7 @@ ghost use Rattle.shore_page.specs.Room.{raised, lowered};
 use shore_types::Bytes;
 use std::marker::Model;
 
-#[derive(Debug, Drop)]
+#[derive(Drop)]
 pub struct Slot {
     image: Option<Bytes>,
     claim: usize,

@@ -13,7 +13,7 @@ use std::alloc::{AllocError, Global};
 pub const SESSION: SessionId = SessionId(1);
 
 /// What a line of the script asks for.
-#[derive(Debug, Drop, PartialEq)]
+#[derive(Drop)]
 pub enum Command {
     /// An empty line, or a remark.
     Nothing,

@@ -15,7 +15,7 @@ const DEFAULT_MAX_LOCKS: u32 = 1024;
 const DEFAULT_POOL_FRAMES: u32 = 64;
 
 /// How the manager is made: over devices in memory, which are formatted at the start.
-#[derive(Debug, Drop, PartialEq)]
+#[derive(Drop)]
 pub struct Settings {
     pub geometry: Geometry,
     /// The length of the log device.

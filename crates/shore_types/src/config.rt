@@ -8,7 +8,7 @@ use std::fmt;
 use std::marker::Model;
 
 /// A setting, in the order in which settings are checked.
-#[derive(Clone, Copy, Debug, PartialEq, Eq)]
+#[derive(Clone, Copy, PartialEq)]
 pub enum Setting {
     /// Where the devices are, in memory or in files.
     Devices,
@@ -61,7 +61,7 @@ impl fmt::Display for Setting {
 }
 
 /// A text. A contract sees it as its bytes.
-#[derive(Debug, Drop)]
+#[derive(Drop)]
 pub struct Text {
     text: String,
 }
@@ -99,7 +99,7 @@ impl PartialEq for Text {
 }
 
 /// What is wrong in the settings or in the script.
-#[derive(Debug, Drop, PartialEq)]
+#[derive(Drop, PartialEq)]
 pub enum ConfigPlace {
     /// The settings are no settings text, or no script follows them.
     Toml,

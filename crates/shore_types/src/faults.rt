@@ -8,7 +8,7 @@ use crate::{ConfigPlace, Lsn, Sequence, TxnId};
 use std::fmt;
 
 /// One of the two devices.
-#[derive(Clone, Copy, Debug, PartialEq, Eq)]
+#[derive(Clone, Copy, PartialEq)]
 pub enum Device {
     Log,
     Volume,
@@ -27,7 +27,7 @@ impl fmt::Display for Device {
 
 /// Why a call is refused. It prints its number, its name and its data, separated by spaces. If a variant says no more,
 /// no record, decision or savepoint changed, and locks that the call had already taken stay.
-#[derive(Debug, Drop, PartialEq)]
+#[derive(Drop, PartialEq)]
 pub enum Fault {
     /// The session has no transaction.
     NoTransaction,
@@ -206,6 +206,15 @@ fn write_cycle<W: fmt::Write>(cycle: &Sequence<TxnId>, f: &mut fmt::Formatter<W>
         write!(f, " {txn}")?;
     }
     Ok(())
+}
+
+// An error is asked for both, and says the same by either.
+impl fmt::Debug for Fault {
+    ghost debug_output = { λ fault. Some (text_of fault) };
+
+    fn fmt<W: fmt::Write>(&self, f: &mut fmt::Formatter<W>) -> fmt::Result {
+        fmt::Display::fmt(self, f)
+    }
 }
 
 impl std::error::Error for Fault {}

@@ -9,7 +9,7 @@ use std::fmt;
 use std::marker::Model;
 
 /// A store of the volume.
-#[derive(Clone, Copy, Debug, PartialEq, Eq, PartialOrd, Ord, Hash)]
+#[derive(Clone, Copy, PartialEq, Eq, PartialOrd, Ord)]
 pub struct StoreId(pub u32);
 
 impl Model for StoreId {
@@ -32,7 +32,7 @@ impl fmt::Display for StoreId {
 }
 
 /// A page: a store, and the page's place in it.
-#[derive(Clone, Copy, Debug, PartialEq, Eq, PartialOrd, Ord, Hash)]
+#[derive(Clone, Copy, PartialEq, Eq, PartialOrd, Ord)]
 pub struct PageId {
     pub store: StoreId,
     pub page: u32,
@@ -49,7 +49,7 @@ impl fmt::Display for PageId {
 }
 
 /// A record id: a page, and a slot of its table. Ids are ordered by store, page and slot, the place order (RID order).
-#[derive(Clone, Copy, Debug, PartialEq, Eq, PartialOrd, Ord, Hash)]
+#[derive(Clone, Copy, PartialEq, Eq, PartialOrd, Ord)]
 pub struct Rid {
     pub page: PageId,
     pub slot: u16,
@@ -66,7 +66,7 @@ impl fmt::Display for Rid {
 }
 
 /// The number of a transaction. 0 means none.
-#[derive(Clone, Copy, Debug, PartialEq, Eq, PartialOrd, Ord, Hash)]
+#[derive(Clone, Copy, PartialEq, PartialOrd)]
 pub struct TxnId(pub u64);
 
 impl Model for TxnId {
@@ -89,7 +89,7 @@ impl fmt::Display for TxnId {
 }
 
 /// The number of a log record (LSN): its ordinal from 1, and no byte address. 0 means none.
-#[derive(Clone, Copy, Debug, PartialEq, Eq, PartialOrd, Ord, Hash)]
+#[derive(Clone, Copy, PartialEq, PartialOrd)]
 pub struct Lsn(pub u64);
 
 impl Model for Lsn {
@@ -112,7 +112,7 @@ impl fmt::Display for Lsn {
 }
 
 /// A session of the manager.
-#[derive(Clone, Copy, Debug, PartialEq, Eq, PartialOrd, Ord, Hash)]
+#[derive(Clone, Copy, PartialEq)]
 pub struct SessionId(pub u32);
 
 impl Model for SessionId {
@@ -135,7 +135,7 @@ impl fmt::Display for SessionId {
 }
 
 /// What a lazy commit answers: the number of its Commit record, past every commit that it read from.
-#[derive(Clone, Copy, Debug, PartialEq, Eq, PartialOrd, Ord, Hash)]
+#[derive(Clone, Copy, PartialEq)]
 pub struct Ticket {
     lsn: Lsn,
 }

@@ -76,7 +76,7 @@ pub fn limits_are_those_of_version_1()
 {}
 
 /// How a pair of devices is laid out.
-#[derive(Debug, Drop, PartialEq)]
+#[derive(Drop)]
 pub struct Geometry {
     /// The number of the pair, on both labels.
     pub pair: u64,

@@ -7,7 +7,7 @@ use std::fmt;
 
 /// A granule of the tree: the volume, which is the root and the default, a store, a page or a record. Granules are in the
 /// order of their levels, from the volume down, and then of their ids.
-#[derive(Clone, Copy, Debug, Default, PartialEq, Eq, PartialOrd, Ord, Hash)]
+#[derive(Clone, Copy, Default, PartialEq)]
 pub enum Granule {
     #[default]
     Volume,
@@ -17,7 +17,7 @@ pub enum Granule {
 }
 
 /// A level of the tree, the root first.
-#[derive(Clone, Copy, Debug, PartialEq, Eq, PartialOrd, Ord, Hash)]
+#[derive(Clone, Copy, PartialEq)]
 pub enum Level {
     Volume,
     Store,
@@ -26,7 +26,7 @@ pub enum Level {
 }
 
 /// A lock mode: intention share, intention exclusive, share, share with intention exclusive, exclusive and update.
-#[derive(Clone, Copy, Debug, PartialEq, Eq, PartialOrd, Ord, Hash)]
+#[derive(Clone, Copy, PartialEq)]
 pub enum Mode {
     IS,
     IX,

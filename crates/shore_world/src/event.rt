@@ -7,7 +7,7 @@ use shore_types::SessionId;
 use std::alloc::{AllocError, Global};
 
 /// One event.
-#[derive(Debug, Drop, PartialEq)]
+#[derive(Drop)]
 pub enum Event {
     /// A session makes a call.
     Call(SessionId, Call),

@@ -131,7 +131,7 @@ fn bytes_behind_label(alloc: Global) -> Result<Vec<u8>, AllocError>
 }
 
 /// What the front of a log device says.
-#[derive(Debug, Drop)]
+#[derive(Drop)]
 pub struct Front {
     pub geometry: Geometry,
     /// The byte of the anchor that counts.
