@@ -15,7 +15,7 @@ use Rattle.shore_model.specs.declared.calls.Call.{Call}
 use Rattle.shore_model.specs.declared.calls.Call.TheVariants.{Begin, Get, Insert, Commit}
 use Rattle.shore_model.specs.declared.log_records.LogRecord.{LogRecord}
 use Rattle.shore_model.specs.Histories.{History}
-use Rattle.shore_model.specs.Logs.{told}
+use Rattle.shore_model.specs.Logs.{records_told}
 use Rattle.shore_logrec.specs.Text.{cost_of}
 use Rattle.shore_logrec.proofs.TextLengths.{length-change_text, length-image_text}
 use Rattle.shore_machine.specs.declared.step.Step.{Step}
@@ -26,7 +26,7 @@ use Rattle.shore_machine.specs.States.{State, Active, Room, next_number}
 use Rattle.shore_machine.specs.Steps.{CallStep, ResumeStep, Answers, begun, inserted, committed, insert_record, commit_record}
 use Rattle.shore_machine.specs.Trails.{IsAfter}
 use Rattle.shore_machine.proofs.Calls.{some_and}
-use Rattle.shore_machine.proofs.StepTellings.{insert_tells_nothing, commit_tells_all}
+use Rattle.shore_machine.proofs.RecordsAfterSteps.{insert_tells_nothing, commit_tells_all}
 use Rattle.shore_core.specs.Opened.{cost_of_log}
 use Rattle.shore_core.specs.Bounds.{InBounds, AreInBounds, HasOwnRoom, IsBounded}
 
@@ -34,13 +34,13 @@ use Rattle.shore_core.specs.Bounds.{InBounds, AreInBounds, HasOwnRoom, IsBounded
 cost_push : (rs : List LogRecord) (r : LogRecord) → cost_of_log (rs ++ r ∷ []) ≡ cost_of_log rs + cost_of r.payload
 cost_push rs r = sum_by-append (λ r. cost_of r.payload) rs (r ∷ []) ∙ omega arith
 
-push_bounds : (g : Geometry) (stream : ℕ) (rs : List LogRecord) (r : LogRecord) → AreInBounds g stream rs → FitPages g (told (rs ++ r ∷ [])) → cost_of_log (rs ++ r ∷ []) + LONGEST_FRAME ≤ stream
-    → length rs + 1 < 2 ^ 46 + 2 ^ 32 → r.txn < 2 ^ 62 → AreInBounds g stream (rs ++ r ∷ [])
-push_bounds g stream rs r each fit room numbers txn n le = elim (eq-or-lt_of_le le) [
+push_bounds : (g : Geometry) (stream_bytes : ℕ) (rs : List LogRecord) (r : LogRecord) → AreInBounds g stream_bytes rs → FitPages g (records_told (rs ++ r ∷ [])) → cost_of_log (rs ++ r ∷ []) + LONGEST_FRAME ≤ stream_bytes
+    → length rs + 1 < 2 ^ 46 + 2 ^ 32 → r.txn < 2 ^ 62 → AreInBounds g stream_bytes (rs ++ r ∷ [])
+push_bounds g stream_bytes rs r each fit room numbers txn n le = elim (eq-or-lt_of_le le) [
   | inl is ↦
       let whole : take n (rs ++ r ∷ []) ≡ rs ++ r ∷ [] = take_all n (rs ++ r ∷ []) (omega (arith, is)) in
-      let before : InBounds g stream rs = subst (InBounds g stream) (take_all (length rs) rs (omega arith)) (each (length rs) (omega arith)) in
-      subst (InBounds g stream) (sym whole) (record {
+      let before : InBounds g stream_bytes rs = subst (InBounds g stream_bytes) (take_all (length rs) rs (omega arith)) (each (length rs) (omega arith)) in
+      subst (InBounds g stream_bytes) (sym whole) (record {
         pages = fit;
         room = room;
         numbers = omega (arith, numbers, length-append rs (r ∷ []));
@@ -48,11 +48,11 @@ push_bounds g stream rs r each fit room numbers txn n le = elim (eq-or-lt_of_le 
       })
   | inr lt ↦
       let within : n ≤ length rs = omega (arith, lt, length-append rs (r ∷ [])) in
-      subst (InBounds g stream) (sym (take-append-le n rs (r ∷ []) within)) (each n within)
+      subst (InBounds g stream_bytes) (sym (take-append-le n rs (r ∷ []) within)) (each n within)
 ]
 
-whole_bounds : (g : Geometry) (stream : ℕ) (s : State) → IsBounded g stream s → InBounds g s.room.stream s.list
-whole_bounds g stream s b = subst (InBounds g s.room.stream) (take_all (length s.list) s.list (omega arith)) (b.beginnings (length s.list) (omega arith))
+whole_bounds : (g : Geometry) (stream_bytes : ℕ) (s : State) → IsBounded g stream_bytes s → InBounds g s.room.stream_bytes s.log
+whole_bounds g stream_bytes s b = subst (InBounds g s.room.stream_bytes) (take_all (length s.log) s.log (omega arith)) (b.beginnings (length s.log) (omega arith))
 
 insert_costs : (a : Active) (id : Rid) (bytes : List ℕ) → cost_of (insert_record a id bytes).payload ≡ 48 + length bytes
 insert_costs a id bytes = omega (arith, length-change_text id None (Some bytes), length-image_text None, length-image_text (Some bytes))
@@ -61,11 +61,11 @@ commit_costs : (a : Active) → cost_of (commit_record a).payload ≡ 34
 commit_costs a = refl
 
 -- what the session's transaction owes
-own_room : (g : Geometry) (stream : ℕ) (s : State) (a : Active) → IsBounded g stream s → s.active ≡ Some a → HasOwnRoom s.room.reserved (next_number s) a
-own_room g stream s a b is = subst (λ o. IfSome o (HasOwnRoom s.room.reserved (next_number s))) is b.own
+own_room : (g : Geometry) (stream_bytes : ℕ) (s : State) (a : Active) → IsBounded g stream_bytes s → s.active ≡ Some a → HasOwnRoom s.room.reserved (next_number s) a
+own_room g stream_bytes s a b is = subst (λ o. IfSome o (HasOwnRoom s.room.reserved (next_number s))) is b.own
 
-module _ (g : Geometry) (stream : ℕ) (opened : List LogRecord) (h : History) (s : State) (k : IsAfter opened h s) (b : IsBounded g stream s) where
-  begun_bounded : s.room.kept + s.room.reserved + 34 + LONGEST_FRAME ≤ s.room.stream → next_number s ≤ 2 ^ 46 → s.next < 2 ^ 62 → IsBounded g stream (begun s)
+module _ (g : Geometry) (stream_bytes : ℕ) (opened : List LogRecord) (h : History) (s : State) (k : IsAfter opened h s) (b : IsBounded g stream_bytes s) where
+  begun_bounded : s.room.kept + s.room.reserved + 34 + LONGEST_FRAME ≤ s.room.stream_bytes → next_number s ≤ 2 ^ 46 → s.next_txn < 2 ^ 62 → IsBounded g stream_bytes (begun s)
   begun_bounded room number txn = record {
     as_long = b.as_long;
     beginnings = b.beginnings;
@@ -75,57 +75,57 @@ module _ (g : Geometry) (stream : ℕ) (opened : List LogRecord) (h : History) (
   }
 
   inserted_bounded : (a : Active) → s.active ≡ Some a → s.committing ≡ None → (store : ℕ) (bytes : List ℕ) (id : Rid) → IsFree s.records store id
-      → s.room.kept + s.room.reserved + (48 + length bytes + 53) + LONGEST_FRAME ≤ s.room.stream → next_number s ≤ 2 ^ 46 → IsBounded g stream (inserted s a id bytes)
+      → s.room.kept + s.room.reserved + (48 + length bytes + 53) + LONGEST_FRAME ≤ s.room.stream_bytes → next_number s ≤ 2 ^ 46 → IsBounded g stream_bytes (inserted s a id bytes)
   inserted_bounded a active quiet store bytes id is_free room number =
       let r = insert_record a id bytes in
-      let own = own_room g stream s a b active in
-      let cost : cost_of_log (s.list ++ r ∷ []) ≡ cost_of_log s.list + (48 + length bytes) = cost_push s.list r ∙ ap (λ n. cost_of_log s.list + n) (insert_costs a id bytes) in
+      let own = own_room g stream_bytes s a b active in
+      let cost : cost_of_log (s.log ++ r ∷ []) ≡ cost_of_log s.log + (48 + length bytes) = cost_push s.log r ∙ ap (λ n. cost_of_log s.log + n) (insert_costs a id bytes) in
       let tells = insert_tells_nothing opened h s k a active quiet store bytes id is_free in
       record {
         as_long = b.as_long;
-        beginnings = push_bounds g s.room.stream s.list r b.beginnings (subst (FitPages g) (sym tells) (whole_bounds g stream s b).pages) (omega (arith, cost, b.kept, room)) (omega (arith, number)) own.txn;
+        beginnings = push_bounds g s.room.stream_bytes s.log r b.beginnings (subst (FitPages g) (sym tells) (whole_bounds g stream_bytes s b).pages) (omega (arith, cost, b.kept, room)) (omega (arith, number)) own.txn;
         kept = omega (arith, cost, b.kept);
         fits = omega (arith, room);
-        own = record { ending = omega (arith, own.ending); within = omega (arith, own.within); txn = own.txn; few = omega (arith, number, length-append s.list (r ∷ [])) };
+        own = record { ending = omega (arith, own.ending); within = omega (arith, own.within); txn = own.txn; few = omega (arith, number, length-append s.log (r ∷ [])) };
       }
 
-  committed_bounded : (a : Active) → s.active ≡ Some a → s.committing ≡ None → FitPages g s.records → IsBounded g stream (committed s a)
+  committed_bounded : (a : Active) → s.active ≡ Some a → s.committing ≡ None → FitPages g s.records → IsBounded g stream_bytes (committed s a)
   committed_bounded a active quiet fit =
       let r = commit_record a in
-      let own = own_room g stream s a b active in
-      let cost : cost_of_log (s.list ++ r ∷ []) ≡ cost_of_log s.list + 34 = cost_push s.list r in
+      let own = own_room g stream_bytes s a b active in
+      let cost : cost_of_log (s.log ++ r ∷ []) ≡ cost_of_log s.log + 34 = cost_push s.log r in
       let tells = commit_tells_all opened h s k a active quiet in
       record {
         as_long = b.as_long;
-        beginnings = push_bounds g s.room.stream s.list r b.beginnings (subst (FitPages g) (sym tells) fit) (omega (arith, cost, b.kept, b.fits, own.ending, own.within)) (omega (arith, own.few)) own.txn;
+        beginnings = push_bounds g s.room.stream_bytes s.log r b.beginnings (subst (FitPages g) (sym tells) fit) (omega (arith, cost, b.kept, b.fits, own.ending, own.within)) (omega (arith, own.few)) own.txn;
         kept = omega (arith, cost, b.kept);
         fits = omega (arith, b.fits, own.ending, own.within);
         own = tt;
       }
 
-  answer_bounded : (c : Call) (answer : Answer) (new : State) → IsServed c → s.committing ≡ None → Answers g s c answer new → IsBounded g stream new
-  answer_bounded Begin answer new served quiet p = subst (IsBounded g stream) (sym p.3) (begun_bounded (omega (arith, p.1.0.1)) p.1.0.0 p.1.1)
-  answer_bounded (Get id) answer new served quiet p = subst (IsBounded g stream) (sym p.3) b
+  answer_bounded : (c : Call) (answer : Answer) (new : State) → IsServed c → s.committing ≡ None → Answers g s c answer new → IsBounded g stream_bytes new
+  answer_bounded Begin answer new served quiet p = subst (IsBounded g stream_bytes) (sym p.3) (begun_bounded (omega (arith, p.1.0.1)) p.1.0.0 p.1.1)
+  answer_bounded (Get id) answer new served quiet p = subst (IsBounded g stream_bytes) (sym p.3) b
   answer_bounded (Insert store bytes) answer new served quiet p =
       let found = some_and s.active _ p in
       let ins = found.2 in
-      subst (IsBounded g stream) (sym ins.5) (inserted_bounded found.0 found.1 quiet store bytes ins.0 ins.2.free (omega (arith, ins.3.1)) ins.3.0)
+      subst (IsBounded g stream_bytes) (sym ins.5) (inserted_bounded found.0 found.1 quiet store bytes ins.0 ins.2.free (omega (arith, ins.3.1)) ins.3.0)
   answer_bounded Commit answer new served quiet p = absurd p
   answer_bounded _ answer new served quiet p = absurd served
 
-  pub call_bounded : (c : Call) (step : Step) (new : State) → IsServed c → FitPages g s.records → CallStep g s c step new → IsBounded g stream new
-  call_bounded c (Refused fault) new served fit p = subst (IsBounded g stream) (sym p.1) b
+  pub call_bounded : (c : Call) (step : Step) (new : State) → IsServed c → FitPages g s.records → CallStep g s c step new → IsBounded g stream_bytes new
+  call_bounded c (Refused fault) new served fit p = subst (IsBounded g stream_bytes) (sym p.1) b
   call_bounded c (Done answer) new served fit p = answer_bounded c answer new served p.1 p.2
   call_bounded c (Waits wait) new served fit p =
       let found = some_and s.active _ p.3 in
-      subst (IsBounded g stream) (sym found.2.1) (committed_bounded found.0 found.1 p.2 fit)
+      subst (IsBounded g stream_bytes) (sym found.2.1) (committed_bounded found.0 found.1 p.2 fit)
   call_bounded c Nothing new served fit p = absurd p
 
-pub resume_bounded : (g : Geometry) (stream : ℕ) (s : State) (step : Step) (new : State) → IsBounded g stream s → ResumeStep s step new → IsBounded g stream new
-resume_bounded g stream s (Done answer) new b p = subst (IsBounded g stream) (sym p.3) (record { as_long = b.as_long; beginnings = b.beginnings; kept = b.kept; fits = b.fits; own = b.own })
-resume_bounded g stream s (Waits wait) new b p = subst (IsBounded g stream) (sym p.2) b
-resume_bounded g stream s (Refused fault) new b p = subst (IsBounded g stream) (sym p.3) (record { as_long = b.as_long; beginnings = b.beginnings; kept = b.kept; fits = b.fits; own = b.own })
-resume_bounded g stream s Nothing new b p = subst (IsBounded g stream) (sym p.1) b
+pub resume_bounded : (g : Geometry) (stream_bytes : ℕ) (s : State) (step : Step) (new : State) → IsBounded g stream_bytes s → ResumeStep s step new → IsBounded g stream_bytes new
+resume_bounded g stream_bytes s (Done answer) new b p = subst (IsBounded g stream_bytes) (sym p.3) (record { as_long = b.as_long; beginnings = b.beginnings; kept = b.kept; fits = b.fits; own = b.own })
+resume_bounded g stream_bytes s (Waits wait) new b p = subst (IsBounded g stream_bytes) (sym p.2) b
+resume_bounded g stream_bytes s (Refused fault) new b p = subst (IsBounded g stream_bytes) (sym p.3) (record { as_long = b.as_long; beginnings = b.beginnings; kept = b.kept; fits = b.fits; own = b.own })
+resume_bounded g stream_bytes s Nothing new b p = subst (IsBounded g stream_bytes) (sym p.1) b
 
 -- ---- at an open
 
@@ -146,25 +146,25 @@ none_fits g = record {
     none_is_some id bytes is = absurd cc
 
 -- no record fits any stream that has room for the longest frame
-pub none_in_bounds : (g : Geometry) (stream : ℕ) → LONGEST_FRAME ≤ stream → AreInBounds g stream []
-none_in_bounds g stream long n le =
+pub none_in_bounds : (g : Geometry) (stream_bytes : ℕ) → LONGEST_FRAME ≤ stream_bytes → AreInBounds g stream_bytes []
+none_in_bounds g stream_bytes long n le =
     let none : take {A = LogRecord} n [] ≡ [] = take_all n [] (omega arith) in
-    subst (InBounds g stream) (sym none) (record {
+    subst (InBounds g stream_bytes) (sym none) (record {
       pages = none_fits g;
       room = omega (arith, long);
       numbers = omega arith;
       txns = All-nil (λ r. r.txn < 2 ^ 62);
     })
 
-pub opened_bounded : (g : Geometry) (stream : ℕ) (s : State) → AreInBounds g stream s.list → s.room ≡ record { kept = cost_of_log s.list; reserved = 0; stream = stream } → s.active ≡ None → IsBounded g stream s
-opened_bounded g stream s each room none =
-    let whole : InBounds g stream s.list = subst (InBounds g stream) (take_all (length s.list) s.list (omega arith)) (each (length s.list) (omega arith)) in
-    let long : s.room.stream ≡ stream = ap (λ (r : Room). r.stream) room in
-    let kept : s.room.kept ≡ cost_of_log s.list = ap (λ (r : Room). r.kept) room in
+pub opened_bounded : (g : Geometry) (stream_bytes : ℕ) (s : State) → AreInBounds g stream_bytes s.log → s.room ≡ record { kept = cost_of_log s.log; reserved = 0; stream_bytes = stream_bytes } → s.active ≡ None → IsBounded g stream_bytes s
+opened_bounded g stream_bytes s each room none =
+    let whole : InBounds g stream_bytes s.log = subst (InBounds g stream_bytes) (take_all (length s.log) s.log (omega arith)) (each (length s.log) (omega arith)) in
+    let long : s.room.stream_bytes ≡ stream_bytes = ap (λ (r : Room). r.stream_bytes) room in
+    let kept : s.room.kept ≡ cost_of_log s.log = ap (λ (r : Room). r.kept) room in
     let reserved : s.room.reserved ≡ 0 = ap (λ (r : Room). r.reserved) room in
     record {
       as_long = long;
-      beginnings = subst (λ n. AreInBounds g n s.list) (sym long) each;
+      beginnings = subst (λ n. AreInBounds g n s.log) (sym long) each;
       kept = kept;
       fits = omega (arith, long, kept, reserved, whole.room);
       own = subst (λ o. IfSome o (HasOwnRoom s.room.reserved (next_number s))) (sym none) tt;

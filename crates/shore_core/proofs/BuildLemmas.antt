@@ -11,10 +11,10 @@ use Rattle.shore_types.specs.declared.ids.Rid.{Rid}
 use Rattle.shore_types.specs.declared.layout.Geometry.{Geometry}
 use Rattle.shore_types.specs.Ids.{rid_cmp, rids_total}
 use Rattle.shore_model.specs.Records.{Records, IsRecord}
-use Rattle.shore_core.specs.declared.place.PageUse.{PageUse}
-use Rattle.shore_core.specs.declared.uses.PageUses.{PageUses}
+use Rattle.shore_core.specs.declared.page_use.PageUse.{PageUse}
+use Rattle.shore_core.specs.declared.page_uses.PageUses.{PageUses}
 use Rattle.shore_machine.specs.Pages.{is_page, lying_on, bytes_of, slots_of, slots_on, bytes_on, FitPages, FitsPage}
-use Rattle.shore_core.specs.RecordMaps.{IsMisfit}
+use Rattle.shore_core.specs.RecordMaps.{IsUnplaceable}
 use Rattle.shore_core.specs.Uses.{Adds, Counts, HasNoRoom, IsUnused, page_counts, use_at}
 use Rattle.shore_core.proofs.UseLemmas.{use_of_page}
 use Rattle.shore_core.proofs.PageLemmas.{Gains-push, bytes-cons, slots-cons, counts_with, counts_same, find-push, is_page-refl, is_page-same, same_some, tied}
@@ -140,18 +140,18 @@ module _ {all left : List (Rid × List ℕ)} {uses : PageUses} (h : CountedFrom 
 
 -- ---- a record that has no room
 
-pub is_misfit : (g : Geometry) (R : Records) (id : Rid) (bytes : List ℕ) → get R id ≡ Some bytes → (IsRecord g id bytes → FitsPage R id.page → ⊥) → IsMisfit g R id
-is_misfit g R id bytes there unfit = subst (λ (o : Option (List ℕ)). IsSomeAnd o (λ b. IsRecord g id b → FitsPage R id.page → ⊥)) (sym there) unfit
+pub is_unplaceable : (g : Geometry) (R : Records) (id : Rid) (bytes : List ℕ) → get R id ≡ Some bytes → (IsRecord g id bytes → FitsPage R id.page → ⊥) → IsUnplaceable g R id
+is_unplaceable g R id bytes there unfit = subst (λ (o : Option (List ℕ)). IsSomeAnd o (λ b. IsRecord g id b → FitsPage R id.page → ⊥)) (sym there) unfit
 
-pub misfit_there : (g : Geometry) (R : Records) (id : Rid) → IsMisfit g R id → is_some (get R id) ≡ true
-misfit_there g R id misfit = there (get R id) (λ bytes. IsRecord g id bytes → FitsPage R id.page → ⊥) misfit
+pub unplaceable_there : (g : Geometry) (R : Records) (id : Rid) → IsUnplaceable g R id → is_some (get R id) ≡ true
+unplaceable_there g R id unplaceable = there (get R id) (λ bytes. IsRecord g id bytes → FitsPage R id.page → ⊥) unplaceable
   where
     there : (o : Option (List ℕ)) (P : List ℕ → Type 0) → IsSomeAnd o P → is_some o ≡ true
     there (Some bytes) P p = refl
     there None P p = absurd p
 
-pub misfit_unfit : (g : Geometry) (R : Records) (id : Rid) → IsMisfit g R id → FitPages g R → ⊥
-misfit_unfit g R id misfit fits = unfit (get R id) misfit (λ bytes is. fits.are_records id bytes is)
+pub unplaceable_unfit : (g : Geometry) (R : Records) (id : Rid) → IsUnplaceable g R id → FitPages g R → ⊥
+unplaceable_unfit g R id unplaceable fits = unfit (get R id) unplaceable (λ bytes is. fits.are_records id bytes is)
   where
     unfit : (o : Option (List ℕ)) → IsSomeAnd o (λ bytes. IsRecord g id bytes → FitsPage R id.page → ⊥) → ((bytes : List ℕ) → o ≡ Some bytes → IsRecord g id bytes) → ⊥
     unfit (Some bytes) p there = p (there bytes refl) (fits.pages id.page)

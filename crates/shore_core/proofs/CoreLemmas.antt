@@ -10,7 +10,7 @@ use Rattle.shore_machine.specs.States.{State}
 use Rattle.shore_types.specs.declared.ids.Rid.{Rid}
 use Rattle.shore_model.specs.declared.log_records.Payload.TheVariants.{Change}
 use Rattle.shore_logrec.specs.Text.{Fits, RidFits}
-use Rattle.shore_core.specs.declared.calls.Active.{Active}
+use Rattle.shore_core.specs.declared.core_calls.Active.{Active}
 
 -- what holds of the transaction that is put there
 pub at_some : (P : Active → Type 0) (made a : Active) → Some made ≡ Some a → P made → P a
@@ -26,8 +26,8 @@ remove_inserted R id bytes absent = same_map rids_total exact_rids (remove (inse
     step q false other = refl
 
 -- a state with these records and this list in the place of its own, where they are the same
-pub same_state : (s : State) (R : Records) (list : List LogRecord) → R ≡ s.records → list ≡ s.list → record s { records = R; list = list } ≡ s
-same_state s R list r l = ap (λ (x : Records). record s { records = x; list = list }) r ∙ ap (λ (x : List LogRecord). record s { list = x }) l
+pub same_state : (s : State) (R : Records) (list : List LogRecord) → R ≡ s.records → list ≡ s.log → record s { records = R; log = list } ≡ s
+same_state s R list r l = ap (λ (x : Records). record s { records = x; log = list }) r ∙ ap (λ (x : List LogRecord). record s { log = x }) l
 
 -- the Change of an insert has a text
 pub Fits-insert : (txn previous : ℕ) (id : Rid) (bytes : List ℕ) → 1 ≤ txn → txn < 2 ^ 64 → previous < 2 ^ 64 → RidFits id → length bytes ≤ 4000

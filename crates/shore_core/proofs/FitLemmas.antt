@@ -8,9 +8,9 @@ use Rattle.shore_types.specs.declared.ids.Rid.{Rid}
 use Rattle.shore_types.specs.declared.layout.Geometry.{Geometry}
 use Rattle.shore_types.specs.Ids.{rid_cmp}
 use Rattle.shore_model.specs.Records.{Records}
-use Rattle.shore_core.specs.declared.place.PageUse.{PageUse}
-use Rattle.shore_core.specs.declared.records.RecordMap.{RecordMap}
-use Rattle.shore_core.specs.declared.uses.PageUses.{PageUses}
+use Rattle.shore_core.specs.declared.page_use.PageUse.{PageUse}
+use Rattle.shore_core.specs.declared.record_map.RecordMap.{RecordMap}
+use Rattle.shore_core.specs.declared.page_uses.PageUses.{PageUses}
 use Rattle.shore_machine.specs.Pages.{is_page, lying_on, bytes_of, slots_of, FitPages}
 use Rattle.shore_core.specs.RecordMaps.{IsOn, records_in}
 use Rattle.shore_core.specs.Uses.{page_counts, use_at}

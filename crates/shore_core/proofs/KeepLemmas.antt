@@ -8,8 +8,8 @@ use Rattle.shore_types.specs.declared.ids.PageId.{PageId}
 use Rattle.shore_types.specs.declared.ids.Rid.{Rid}
 use Rattle.shore_types.specs.Ids.{rid_cmp, rids_total, exact_rids}
 use Rattle.shore_model.specs.Records.{Records}
-use Rattle.shore_core.specs.declared.place.PageUse.{PageUse}
-use Rattle.shore_core.specs.declared.uses.PageUses.{PageUses}
+use Rattle.shore_core.specs.declared.page_use.PageUse.{PageUse}
+use Rattle.shore_core.specs.declared.page_uses.PageUses.{PageUses}
 use Rattle.shore_machine.specs.Pages.{is_page, lying_on, bytes_of, slots_of}
 use Rattle.shore_core.specs.Uses.{Counts, IsWith, slot_on, use_at}
 use Rattle.shore_core.proofs.PageLemmas.{Gains, Gains-put, counts_with, counts_same, is_page-refl, is_page-same, exact, same_some, some_of, zero_sum, zero_max, tied}

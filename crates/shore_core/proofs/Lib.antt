@@ -4,6 +4,6 @@ pub mod FitLemmas
 pub mod KeepLemmas
 pub mod PageLemmas
 pub mod PlaceLemmas
-pub mod Tellings
+pub mod CommittedRecords
 pub mod UseLemmas
 pub mod BoundLemmas

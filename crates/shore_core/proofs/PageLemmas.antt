@@ -11,7 +11,7 @@ use Rattle.std.specs.FinMap.Entries.{by_order, find-put}
 use Rattle.shore_types.specs.declared.ids.PageId.{PageId}
 use Rattle.shore_types.specs.declared.ids.Rid.{Rid}
 use Rattle.shore_types.specs.Ids.{rid_cmp, rids_total, exact_rids}
-use Rattle.shore_core.specs.declared.place.PageUse.{PageUse}
+use Rattle.shore_core.specs.declared.page_use.PageUse.{PageUse}
 use Rattle.shore_machine.specs.Pages.{is_page, lying_on, bytes_of, slots_of}
 use Rattle.shore_core.specs.Uses.{Counts, IsWith, slot_on}
 

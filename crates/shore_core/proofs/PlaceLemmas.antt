@@ -8,7 +8,7 @@ use Rattle.shore_types.specs.declared.ids.PageId.{PageId}
 use Rattle.shore_types.specs.declared.ids.Rid.{Rid}
 use Rattle.shore_types.specs.Ids.{rid_cmp}
 use Rattle.shore_model.specs.Records.{Records}
-use Rattle.shore_core.specs.declared.place.PageUse.{PageUse}
+use Rattle.shore_core.specs.declared.page_use.PageUse.{PageUse}
 use Rattle.shore_machine.specs.Pages.{is_page, lying_on, slots_of, slots_on, bytes_on, FitsPage, Takes}
 use Rattle.shore_core.specs.Uses.{Counts, IsWith, slot_on}
 use Rattle.shore_core.proofs.PageLemmas.{counts_with, is_page-refl, exact, slots-cons}

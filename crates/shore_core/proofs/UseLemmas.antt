@@ -5,13 +5,13 @@ use Rattle.std.proofs.lemmas.Option.{slice_get-map}
 use Rattle.shore_types.specs.Layout.{HasPage}
 use Rattle.shore_types.specs.declared.layout.Geometry.{Geometry}
 use Rattle.shore_types.specs.declared.ids.PageId.{PageId}
-use Rattle.shore_core.specs.declared.uses.PageUses.{PageUses}
+use Rattle.shore_core.specs.declared.page_uses.PageUses.{PageUses}
 use Rattle.shore_core.specs.Uses.{use_at, page_counts, IsUnused}
 use Rattle.std.specs.Option.{option_and_then}
 use Rattle.std.specs.Global.{Vec}
 use Rattle.std.proofs.lemmas.List.{take_more, map-append}
 use Rattle.std.specs.Vec.{with_item}
-use Rattle.shore_core.specs.declared.place.PageUse.{PageUse}
+use Rattle.shore_core.specs.declared.page_use.PageUse.{PageUse}
 
 abbrev pub count_of : Vec PageUse → ℕ
 count_of pages = length pages.items

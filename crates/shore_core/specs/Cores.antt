@@ -15,9 +15,9 @@ use Rattle.shore_machine.specs.declared.step.Wait.TheVariants.{Durable}
 use Rattle.shore_machine.specs.States as machine
 use Rattle.shore_machine.specs.States.{State, next_number}
 use Rattle.shore_machine.specs.Steps.{Answers, IsRefusal, committed}
-use Rattle.shore_core.specs.declared.calls.Active.{Active}
+use Rattle.shore_core.specs.declared.core_calls.Active.{Active}
 use Rattle.shore_core.specs.RecordMaps.{records_in}
-use Rattle.shore_core.specs.declared.calls.Core.{Core}
+use Rattle.shore_core.specs.declared.core_calls.Core.{Core}
 
 -- the records in place
 abbrev pub records_of : {T : Type 0} {G : Ghosts T} → Core T G → Records
@@ -35,7 +35,7 @@ committing_of core = core.committing
 abbrev pub has_failed : {T : Type 0} {G : Ghosts T} → Core T G → Bool
 has_failed core = core.failed
 
--- the tail that it pushes records to
+-- the log buffer that it pushes records to
 abbrev pub tail_of : {T : Type 0} {G : Ghosts T} → Core T G → T
 tail_of core = core.tail
 
@@ -49,16 +49,16 @@ abbrev pub active_in : Option Active → Option machine.Active
 active_in None = None
 active_in (Some a) = Some record { txn = a.txn; last = a.last; reserved = a.reserved }
 
--- the state of the machine, where these records stand before those that the tail has
+-- the state of the machine, where these records stand before those that the log buffer has
 abbrev pub state_of : {T : Type 0} {G : Ghosts T} → List LogRecord → Core T G → State
 state_of {G = G} before core = record {
   records = records_of core;
   active = active_in core.active;
   committing = core.committing;
-  next = core.next_txn;
-  list = before ++ G.records core.tail;
+  next_txn = core.next_txn;
+  log = before ++ G.records core.tail;
   durable = core.durable;
-  room = record { kept = core.room.kept; reserved = core.room.reserved; stream = core.room.size };
+  room = record { kept = core.room.kept; reserved = core.room.reserved; stream_bytes = core.room.stream_bytes };
   failed = core.failed;
 }
 

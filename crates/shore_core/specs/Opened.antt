@@ -5,9 +5,9 @@ use Rattle.shore_types.specs.declared.ids.Rid.{Rid}
 use Rattle.shore_types.specs.declared.layout.Geometry.{Geometry}
 use Rattle.shore_types.specs.declared.layout.TheConstants.{LAST_TXN}
 use Rattle.shore_model.specs.declared.log_records.LogRecord.{LogRecord}
-use Rattle.shore_model.specs.Logs.{id_in, told}
+use Rattle.shore_model.specs.Logs.{id_in, records_told}
 use Rattle.shore_logrec.specs.Text.{cost_of}
-use Rattle.shore_core.specs.RecordMaps.{IsMisfit}
+use Rattle.shore_core.specs.RecordMaps.{IsUnplaceable}
 
 -- what the records of a log take of its room together
 abbrev pub cost_of_log : List LogRecord → ℕ
@@ -35,4 +35,4 @@ pub record IsFirstBadTxn (rs : List LogRecord) (n : ℕ) : Type 0 where
 -- the record that an open refuses a log for: the first whose transaction has a bad number; and if none has, the last change of a
 -- record that has no room
 abbrev pub IsBadRecord : Geometry → List LogRecord → ℕ → Type 0
-IsBadRecord g rs n = IsFirstBadTxn rs n ⊎ (HasTxns rs × (id : Rid) × IsMisfit g (told rs) id × IsLastChange rs id n)
+IsBadRecord g rs n = IsFirstBadTxn rs n ⊎ (HasTxns rs × (id : Rid) × IsUnplaceable g (records_told rs) id × IsLastChange rs id n)

@@ -5,8 +5,8 @@ use Rattle.shore_types.specs.declared.layout.Geometry.{Geometry}
 use Rattle.shore_types.specs.declared.ids.Rid.{Rid}
 use Rattle.shore_model.specs.Records.{Records, IsRecord}
 use Rattle.shore_machine.specs.Pages.{FitsPage}
-use Rattle.shore_core.specs.declared.records.Place.{Place}
-use Rattle.shore_core.specs.declared.records.RecordMap.{RecordMap}
+use Rattle.shore_core.specs.declared.record_map.Place.{Place}
+use Rattle.shore_core.specs.declared.record_map.RecordMap.{RecordMap}
 use Rattle.shore_core.specs.Uses.{Counts, IsWith, page_counts, use_at}
 
 abbrev pub records_in : RecordMap → Records
@@ -30,5 +30,5 @@ pub record WasPut (m : RecordMap) (place : Place) (R : Records) : Type 0 where
   pub before : Counts (entries R) place.id.page place.before
 
 -- the record at this id is too long or outside the geometry, or its page has no room for its records
-abbrev pub IsMisfit : Geometry → Records → Rid → Type 0
-IsMisfit g R id = IsSomeAnd (get R id) (λ bytes. IsRecord g id bytes → FitsPage R id.page → ⊥)
+abbrev pub IsUnplaceable : Geometry → Records → Rid → Type 0
+IsUnplaceable g R id = IsSomeAnd (get R id) (λ bytes. IsRecord g id bytes → FitsPage R id.page → ⊥)

@@ -5,8 +5,8 @@ use Rattle.std.specs.FinMap.{find}
 use Rattle.shore_types.specs.Ids.{rid_cmp}
 use Rattle.shore_types.specs.declared.ids.PageId.{PageId}
 use Rattle.shore_types.specs.declared.ids.Rid.{Rid}
-use Rattle.shore_core.specs.declared.place.PageUse.{PageUse}
-use Rattle.shore_core.specs.declared.uses.PageUses.{PageUses}
+use Rattle.shore_core.specs.declared.page_use.PageUse.{PageUse}
+use Rattle.shore_core.specs.declared.page_uses.PageUses.{PageUses}
 use Rattle.shore_machine.specs.Pages.{is_page, lying_on, bytes_of, slots_of}
 use Rattle.shore_types.specs.declared.layout.TheConstants.{MAX_RECORD_BYTES, MAX_SLOTS, SLOT_ENTRY_BYTES}
 use Rattle.shore_types.specs.declared.layout.TheConstants.{PAGE_ROOM}

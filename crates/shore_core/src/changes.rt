@@ -1,9 +1,10 @@
 //! What the transactions of a log have changed, and the records that those leave that committed.
 ghost use Rattle.std.specs.Prelude.{◌≡◌, ◌==◌, ◌++◌, ◌∷◌, [], ℕ, if◌then◌else◌, All, IfOk, OnOk, map, reverse, option_to_list};
 ghost use Rattle.shore_model.specs.Records.{laid_over, overlays, put_image};
-ghost use Rattle.shore_model.specs.Logs.{committed_in, image_in, logged_writes, told};
+ghost use Rattle.shore_model.specs.Logs as logs;
+ghost use Rattle.shore_model.specs.Logs.{committed_in, image_in, logged_writes};
 ghost use Rattle.shore_logrec.specs.Text.{Fits};
-ghost use Rattle.shore_core.specs.Changes.{AreOf, images_at, places_in};
+ghost use Rattle.shore_core.specs.Changes.{AreOf, images_logged_at, indices_in};
 
 use shore_logrec::{LogRecord, Payload};
 use shore_model::RidMap;
@@ -11,7 +12,7 @@ use shore_types::{Bytes, Rid, TxnId};
 use std::alloc::{AllocError, Global};
 use std::collections::BTreeMap;
 
-// The places in a log of each transaction's changes, in their order.
+// The indices in a log of each transaction's changes, in their order.
 #[derive(Drop)]
 struct Changes {
     of: BTreeMap<u64, Vec<usize>>,
@@ -19,7 +20,7 @@ struct Changes {
 
 impl Changes {
     fn new(alloc: Global) -> Changes
-        ensures { (t : ℕ) → places_in result t ≡ [] }
+        ensures { (t : ℕ) → indices_in result t ≡ [] }
     {
         Changes {
             of: BTreeMap::new(alloc),
@@ -30,34 +31,34 @@ impl Changes {
         ensures { IfOk result (AreOf log.now) }
     {
         let mut changes = Changes::new(alloc);
-        for place in 0..log.len() {
-            let record = &log[place];
+        for index in 0..log.len() {
+            let record = &log[index];
             if record.payload.id().is_some() {
-                changes.note(alloc, record.txn, place)?;
+                changes.note(alloc, record.txn, index)?;
             }
         }
         Ok(changes)
     }
 
-    fn note(&mut self, alloc: Global, txn: TxnId, place: usize) -> Result<(), AllocError>
-        ensures { OnOk result ((t : ℕ) → places_in self.new t ≡ places_in self.old t ++ (if txn == t then place ∷ [] else [])) }
+    fn note(&mut self, alloc: Global, txn: TxnId, index: usize) -> Result<(), AllocError>
+        ensures { OnOk result ((t : ℕ) → indices_in self.new t ≡ indices_in self.old t ++ (if txn == t then index ∷ [] else [])) }
     {
         match self.of.get_mut(&txn.0) {
-            Some(places) => places.push(place)?,
+            Some(indices) => indices.push(index)?,
             None => {
-                let mut places = Vec::new(alloc);
-                places.push(place)?;
-                self.of.insert(txn.0, places)?;
+                let mut indices = Vec::new(alloc);
+                indices.push(index)?;
+                self.of.insert(txn.0, indices)?;
             }
         }
         Ok(())
     }
 
-    fn places(&self, txn: TxnId) -> &[usize]
-        ensures { result.now ≡ places_in self.now txn }
+    fn indices(&self, txn: TxnId) -> &[usize]
+        ensures { result.now ≡ indices_in self.now txn }
     {
         match self.of.get(&txn.0) {
-            Some(places) => places.as_slice(),
+            Some(indices) => indices.as_slice(),
             None => &[],
         }
     }
@@ -65,10 +66,10 @@ impl Changes {
 
 /// The records that a log tells: the changes of each committed transaction, in their order, at its Commit. What
 /// other transactions changed is passed over.
-#[tactic(auto, using(crate::proofs::Tellings::tellings))]
+#[tactic(auto, using(crate::proofs::CommittedRecords::committed_records))]
 pub fn records_told(alloc: Global, log: &[LogRecord]) -> Result<RidMap<Bytes>, AllocError>
     requires { All Fits log.now }
-    ensures { IfOk result (λ records. records ≡ told log.now) }
+    ensures { IfOk result (λ records. records ≡ logs.records_told log.now) }
 {
     let changes = Changes::of_log(alloc, log)?;
     let mut records = RidMap::new(alloc);
@@ -79,7 +80,7 @@ pub fn records_told(alloc: Global, log: &[LogRecord]) -> Result<RidMap<Bytes>, A
 }
 
 // Puts what a transaction has left, if the record is its Commit.
-#[tactic(auto, using(crate::proofs::Tellings::tellings))]
+#[tactic(auto, using(crate::proofs::CommittedRecords::committed_records))]
 fn put_committed(
     alloc: Global,
     records: &mut RidMap<Bytes>,
@@ -91,22 +92,22 @@ fn put_committed(
     ensures { OnOk result (records.new ≡ overlays records.old (map (logged_writes log.now) (committed_in (candidate.now ∷ [])))) }
 {
     if candidate.payload.is_commit() {
-        put_all(alloc, records, log, changes.places(candidate.txn))?;
+        put_all(alloc, records, log, changes.indices(candidate.txn))?;
     }
     Ok(())
 }
 
-// Puts what the records at these places have left, in their order.
+// Puts what the records at these indices have left, in their order.
 fn put_all(
     alloc: Global,
     records: &mut RidMap<Bytes>,
     log: &[LogRecord],
-    places: &[usize],
+    indices: &[usize],
 ) -> Result<(), AllocError>
-    ensures { OnOk result (records.new ≡ laid_over records.old (reverse (images_at log.now places.now))) }
+    ensures { OnOk result (records.new ≡ laid_over records.old (reverse (images_logged_at log.now indices.now))) }
 {
-    for place in places {
-        if let Some(record) = log.get(*place) {
+    for index in indices {
+        if let Some(record) = log.get(*index) {
             put_left(alloc, records, &record.payload)?;
         }
     }

@@ -5,12 +5,13 @@ ghost use Rattle.shore_core.specs.Opened.{ChangesAt, HasTxns, IsFirstBadTxn, IsL
 ghost use Rattle.shore_logrec.specs.Text.{Fits};
 ghost use Rattle.shore_core.specs.declared.replay.OpenError.TheVariants.{Memory, NoRoom, BadRecord};
 ghost use Rattle.shore_machine.specs.Pages.{FitPages};
-ghost use Rattle.shore_core.specs.RecordMaps.{IsMisfit, IsOn, records_in};
-ghost use Rattle.shore_model.specs.Logs.{id_in, told};
+ghost use Rattle.shore_core.specs.RecordMaps.{IsUnplaceable, IsOn, records_in};
+ghost use Rattle.shore_model.specs.Logs as logs;
+ghost use Rattle.shore_model.specs.Logs.{id_in};
 ghost use Rattle.shore_types.specs.declared.ids.Rid.{Rid};
 
 use crate::changes::records_told;
-use crate::records::{Misfit, RecordMap};
+use crate::record_map::{RecordMap, Unplaceable};
 use shore_logrec::{LogRecord, encoded_len};
 use shore_types::layout::LAST_TXN;
 use shore_types::{Geometry, Lsn, Rid};
@@ -42,20 +43,20 @@ impl From<AllocError> for OpenError {
 /// The records that a log tells, on the pages of a geometry.
 pub fn replay(alloc: Global, geometry: &Geometry, log: &[LogRecord]) -> Result<RecordMap, OpenError>
     requires { All Fits log.now }
-    ensures told { IfOk result (λ m. records_in m ≡ told log.now) }
+    ensures told { IfOk result (λ m. records_in m ≡ logs.records_told log.now) }
     ensures pages { IfOk result (IsOn geometry.now) }
     ensures fits { IfOk result (λ m. FitPages geometry.now (records_in m)) }
 
     // If the pages have room for what the log tells, only an allocation can fail.
-    ensures earned { FitPages geometry.now (told log.now) → IfErr result (λ error. error ≡ Memory) }
-    ensures bad { (n : ℕ) → result ≡ Err (BadRecord n) → (id : Rid) × IsMisfit geometry.now (told log.now) id × IsLastChange log.now id n }
+    ensures earned { FitPages geometry.now (logs.records_told log.now) → IfErr result (λ error. error ≡ Memory) }
+    ensures bad { (n : ℕ) → result ≡ Err (BadRecord n) → (id : Rid) × IsUnplaceable geometry.now (logs.records_told log.now) id × IsLastChange log.now id n }
     ensures cause { IfErr result (λ error. error ≢ NoRoom) }
 {
-    let told = records_told(alloc, log)?;
-    match RecordMap::of(alloc, geometry, told) {
+    let committed = records_told(alloc, log)?;
+    match RecordMap::of(alloc, geometry, committed) {
         Ok(records) => Ok(records),
-        Err(Misfit::Memory) => Err(OpenError::Memory),
-        Err(Misfit::At(id)) => Err(OpenError::BadRecord(last_change(log, &id))),
+        Err(Unplaceable::Memory) => Err(OpenError::Memory),
+        Err(Unplaceable::At(id)) => Err(OpenError::BadRecord(last_change(log, &id))),
     }
 }
 
@@ -65,9 +66,9 @@ fn last_change(log: &[LogRecord], id: &Rid) -> Lsn
     ensures last { AllWithin (λ r. id_in r.payload ≢ Some id.now) log.now result (length log.now) }
 {
     let mut last = 0;
-    for place in 0..log.len() {
-        if is_change(&log[place], id) {
-            last = place + 1;
+    for index in 0..log.len() {
+        if is_change(&log[index], id) {
+            last = index + 1;
         }
     }
     Lsn(last as u64)

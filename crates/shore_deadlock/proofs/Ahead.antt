@@ -19,7 +19,7 @@ use Rattle.shore_deadlock.specs.Blockers.{at_most_one, blockers, is_victim, near
 use Rattle.shore_deadlock.proofs.Edges.{edge_of, group, of_group, queue-In, waits_of, clash}
 use Rattle.shore_deadlock.proofs.Changes.{Before-In, Before-waiters, before_right, is_refused_of, no_holder, queue_parts, waiter_wants}
 use Rattle.shore_deadlock.proofs.Steps.{Waits, waits_as}
-use Rattle.shore_deadlock.proofs.TrailLemmas.{AreFound}
+use Rattle.shore_deadlock.proofs.ReachedLemmas.{AreFound}
 
 -- ---- those that refuse
 

@@ -1,11 +1,11 @@
-pub mod TrailSteps
+pub mod ReachedSteps
 pub mod Edges
 pub mod Changes
 pub mod Walks
 pub mod Steps
 pub mod LawLemmas
 pub mod Fewer
-pub mod TrailLemmas
+pub mod ReachedLemmas
 pub mod Ahead
 pub mod Searches
 pub mod VictimLemmas

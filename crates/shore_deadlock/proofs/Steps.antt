@@ -14,7 +14,7 @@ use Rattle.shore_locks.proofs.Fits.{Fit, Fit-filter, Fit-passed, Fit-withdrawn, 
 use Rattle.shore_locks.proofs.Entering.{both_true, found_in, none_waits}
 use Rattle.shore_locks.proofs.Tables.{fit_of}
 use Rattle.shore_locks.proofs.Counts.{AreRequests-passed, AreRequests-removed, AreRequests-stopped}
-use Rattle.shore_locks.proofs.Outcomes.{nobody_wants, pass_only_grants}
+use Rattle.shore_locks.proofs.Outcomes.{nobody_wants, grant_pass_only_grants}
 use Rattle.shore_deadlock.proofs.Edges.{edge_of, waits-filtered, waits_of}
 use Rattle.shore_deadlock.proofs.Changes.{next_waits_not, others-removed, others-replaced, pass_adds_none, pass_goes, settled, waiter_wants}
 use Rattle.shore_deadlock.proofs.Walks.{cycle_apart, member_waits}
@@ -116,7 +116,7 @@ IsIdle u rs = (q : Request) → In q rs → q.txn ≡ u → is_some q.wanted ≡
 
 idle_passed : (u : ℕ) (g : Granule) (rs : List Request) → AreRequests rs → IsIdle u rs → IsIdle u (passed g rs)
 idle_passed u g rs one idle q h by wants =
-    ⊎_elim (λ stood. idle q stood by wants) (λ was. wants_nothing q.wanted (ap (λ (x : Request). x.wanted) was.2) wants) (pass_only_grants g rs one q h)
+    ⊎_elim (λ stood. idle q stood by wants) (λ was. wants_nothing q.wanted (ap (λ (x : Request). x.wanted) was.2) wants) (grant_pass_only_grants g rs one q h)
 
 idle_filtered : (u : ℕ) (p : Request → Bool) (rs : List Request) → IsIdle u rs → IsIdle u (filter p rs)
 idle_filtered u p rs idle q h = idle q (In-filter p rs q h).0

@@ -1,3 +1,3 @@
 pub mod Blockers
-pub mod Trails
+pub mod Reached
 pub mod Cycles

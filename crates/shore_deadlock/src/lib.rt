@@ -3,8 +3,8 @@
 
 mod blockers;
 pub mod laws;
+mod reached;
 pub mod search;
-mod trails;
 pub mod victims;
 
 pub use search::find_cycle;

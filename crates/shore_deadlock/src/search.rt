@@ -5,7 +5,7 @@ ghost use Rattle.shore_deadlock.specs.Blockers.{AreNoVictims};
 ghost use Rattle.shore_deadlock.specs.Cycles.{IsSimpleCycleFrom, IsOnNoCycle, IsOnNoCycleWithout};
 
 use crate::blockers::{is_victim, list_blockers};
-use crate::trails::{Step, extend, path_to};
+use crate::reached::{Step, extend, path_to};
 use crate::victims::Victim;
 use shore_locks::LockTable;
 use shore_locks::laws::tables_are_orderly;
@@ -45,18 +45,18 @@ pub(crate) fn cycle_without(
     if is_victim(victims, txn) {
         return Ok(None);
     }
-    let mut trail = Vec::new(alloc);
-    trail.push(Step { txn, parent: 0 })?;
+    let mut reached = Vec::new(alloc);
+    reached.push(Step { txn, parent: 0 })?;
     let mut blockers = Vec::new(alloc);
-    let mut place = 0;
-    while place < trail.len() {
-        list_blockers(&mut blockers, table, trail[place].txn, victims)?;
+    let mut index = 0;
+    while index < reached.len() {
+        list_blockers(&mut blockers, table, reached[index].txn, victims)?;
         if blockers.contains(&txn) {
-            let cycle = path_to(alloc, &trail, place)?;
+            let cycle = path_to(alloc, &reached, index)?;
             return Ok(Some(cycle));
         }
-        extend(&mut trail, &blockers, place)?;
-        place += 1;
+        extend(&mut reached, &blockers, index)?;
+        index += 1;
     }
     Ok(None)
 }

@@ -61,24 +61,24 @@ fn victim_of(mut cycle: Vec<TxnId>) -> Victim
     ensures first { slice_get result.cycle 0 ≡ Some result.txn }
     ensures greatest { All (λ t. t ≤ result.txn) result.cycle }
 {
-    let place = place_of_greatest(&cycle);
-    let txn = cycle[place];
-    cycle.rotate_left(place);
+    let index = index_of_greatest(&cycle);
+    let txn = cycle[index];
+    cycle.rotate_left(index);
     Victim {
         txn,
         cycle: Sequence::from_vec(cycle),
     }
 }
 
-fn place_of_greatest(txns: &[TxnId]) -> usize
+fn index_of_greatest(txns: &[TxnId]) -> usize
     requires { 0 < length txns.now }
     ensures there { result < length txns.now }
     ensures greatest { All (λ t. t ≤ slice_index txns.now result) txns.now }
 {
     let mut greatest = 0;
-    for (place, txn) in txns.iter().enumerate() {
+    for (index, txn) in txns.iter().enumerate() {
         if *txn > txns[greatest] {
-            greatest = place;
+            greatest = index;
         }
     }
     greatest

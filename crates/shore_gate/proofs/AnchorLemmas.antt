@@ -93,17 +93,17 @@ closed_open slot bytes closed =
 pub limits_of : (anchor : Anchor) → may_count anchor ≡ true → MayCount anchor
 limits_of anchor test =
     let tail = is_within 1 (2 ^ 46 + 2 ^ 32) anchor.tail in
-    let place = nat_le anchor.tail_place (65549 * (anchor.tail - 1)) in
+    let offset = nat_le anchor.tail_place (65549 * (anchor.tail - 1)) in
     let sequence = is_within 1 (anchor.checkpoint + 1) anchor.sequence in
-    let last = and_parts (tail && place && sequence) ((anchor.checkpoint == 0) || nat_le anchor.tail anchor.checkpoint) test in
-    let third = and_parts (tail && place) sequence last.0 in
-    let second = and_parts tail place third.0 in
+    let last = and_parts (tail && offset && sequence) ((anchor.checkpoint == 0) || nat_le anchor.tail anchor.checkpoint) test in
+    let third = and_parts (tail && offset) sequence last.0 in
+    let second = and_parts tail offset third.0 in
     let tails = within 1 (2 ^ 46 + 2 ^ 32) anchor.tail second.0 in
     let sequences = within 1 (anchor.checkpoint + 1) anchor.sequence third.1 in
     record {
       some_tail = tails.0;
       most_tail = tails.1;
-      place = leb-true anchor.tail_place (65549 * (anchor.tail - 1)) second.1;
+      offset = leb-true anchor.tail_place (65549 * (anchor.tail - 1)) second.1;
       some_sequence = sequences.0;
       most_sequence = sequences.1;
       checkpoint = elim (or_cases (anchor.checkpoint == 0) (nat_le anchor.tail anchor.checkpoint) last.1) [
@@ -118,5 +118,5 @@ or_of checkpoint tail (inr some) = or_right (checkpoint == 0) (nat_le tail check
 
 pub test_of : (anchor : Anchor) → MayCount anchor → may_count anchor ≡ true
 test_of anchor may =
-    and_from _ _ (and_from _ _ (and_from _ _ (is_within-true 1 (2 ^ 46 + 2 ^ 32) anchor.tail may.some_tail may.most_tail) (le-leb anchor.tail_place (65549 * (anchor.tail - 1)) may.place))
+    and_from _ _ (and_from _ _ (and_from _ _ (is_within-true 1 (2 ^ 46 + 2 ^ 32) anchor.tail may.some_tail may.most_tail) (le-leb anchor.tail_place (65549 * (anchor.tail - 1)) may.offset))
     (is_within-true 1 (anchor.checkpoint + 1) anchor.sequence may.some_sequence may.most_sequence)) (or_of anchor.checkpoint anchor.tail may.checkpoint)

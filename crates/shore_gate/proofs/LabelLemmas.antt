@@ -247,9 +247,9 @@ pub only_memory : (device : Device) (size : ℕ) (bytes : List ℕ) (label : Lab
 only_memory device size bytes label fault (inl memory) holds = memory
 only_memory device size bytes label fault (inr refused) holds = let passed = holds_verdict device size bytes label holds in absurd (cc (passed, refused))
 
-stores_no_device : (device : Device) (place before : ℕ) (stores : List ℕ) → NoDevice (store_checks device place before stores)
-stores_no_device device place before [] = tt
-stores_no_device device place before (pages ∷ stores) = (λ e. cc, stores_no_device device (place + 4) (before + pages) stores)
+stores_no_device : (device : Device) (offset before : ℕ) (stores : List ℕ) → NoDevice (store_checks device offset before stores)
+stores_no_device device offset before [] = tt
+stores_no_device device offset before (pages ∷ stores) = (λ e. cc, stores_no_device device (offset + 4) (before + pages) stores)
 
 -- no check tells that the device failed
 pub verdict_device : (device : Device) (size : ℕ) (bytes : List ℕ) → label_verdict device size bytes ≡ Err faults.Device → ⊥

@@ -42,73 +42,73 @@ little_bytes-little_number (suc n) (a ∷ bytes) fits long =
     rw (little_from-cons 0 n a bytes, lowest, bytes_above n 0 a (little_from 0 n bytes) low, rest) refl
 
 -- what is at an offset is the text of the number there, and what follows
-pub drop-number_at : (bytes : List ℕ) (place n next : ℕ) → IsBytes bytes → place + n ≡ next → next ≤ length bytes
-    → drop place bytes ≡ little_bytes n (number_at bytes place n) ++ drop next bytes
+pub drop-number_at : (bytes : List ℕ) (offset n next : ℕ) → IsBytes bytes → offset + n ≡ next → next ≤ length bytes
+    → drop offset bytes ≡ little_bytes n (number_at bytes offset n) ++ drop next bytes
 unfolding number_at
-drop-number_at bytes place n next fits sum long =
-    let enough : n ≤ length (drop place bytes) = omega (arith, length-drop place bytes) in
-    let front = little_bytes-little_number n (drop place bytes) (IsBytes-drop place bytes fits) enough in
-    let back : drop n (drop place bytes) ≡ drop next bytes = drop-drop n place bytes ∙ ap (λ (k : ℕ). drop k bytes) sum in
-    rw (front, ← back) (sym (take-append-drop n (drop place bytes)))
+drop-number_at bytes offset n next fits sum long =
+    let enough : n ≤ length (drop offset bytes) = omega (arith, length-drop offset bytes) in
+    let front = little_bytes-little_number n (drop offset bytes) (IsBytes-drop offset bytes fits) enough in
+    let back : drop n (drop offset bytes) ≡ drop next bytes = drop-drop n offset bytes ∙ ap (λ (k : ℕ). drop k bytes) sum in
+    rw (front, ← back) (sym (take-append-drop n (drop offset bytes)))
 
 -- the number at an offset at which its text is
-pub number_at-text : (bytes : List ℕ) (place n x : ℕ) (rest : List ℕ) → drop place bytes ≡ little_bytes n x ++ rest → x < 256 ^ n → number_at bytes place n ≡ x
+pub number_at-text : (bytes : List ℕ) (offset n x : ℕ) (rest : List ℕ) → drop offset bytes ≡ little_bytes n x ++ rest → x < 256 ^ n → number_at bytes offset n ≡ x
 unfolding number_at
-number_at-text bytes place n x rest text small = ap (little_number n) text ∙ little_number-reads_back n x rest small
+number_at-text bytes offset n x rest text small = ap (little_number n) text ∙ little_number-reads_back n x rest small
 
 -- what follows a text
 -- a number's text, and what follows it
-pub text_at : (bytes : List ℕ) (place n next x : ℕ) (rest : List ℕ) → IsBytes bytes → place + n ≡ next → next ≤ length bytes → number_at bytes place n ≡ x → drop next bytes ≡ rest
-    → drop place bytes ≡ little_bytes n x ++ rest
-text_at bytes place n next x rest fits sum long value after =
-    drop-number_at bytes place n next fits sum long ∙ ap (λ (y : ℕ). little_bytes n y ++ drop next bytes) value ∙ ap (λ (r : List ℕ). little_bytes n x ++ r) after
+pub text_at : (bytes : List ℕ) (offset n next x : ℕ) (rest : List ℕ) → IsBytes bytes → offset + n ≡ next → next ≤ length bytes → number_at bytes offset n ≡ x → drop next bytes ≡ rest
+    → drop offset bytes ≡ little_bytes n x ++ rest
+text_at bytes offset n next x rest fits sum long value after =
+    drop-number_at bytes offset n next fits sum long ∙ ap (λ (y : ℕ). little_bytes n y ++ drop next bytes) value ∙ ap (λ (r : List ℕ). little_bytes n x ++ r) after
 
-pub drop-text : (bytes : List ℕ) (place n next x : ℕ) (rest : List ℕ) → drop place bytes ≡ little_bytes n x ++ rest → place + n ≡ next → drop next bytes ≡ rest
-drop-text bytes place n next x rest text sum =
-    ap (λ (k : ℕ). drop k bytes) (sym sum) ∙ sym (drop-drop n place bytes) ∙ ap (drop n) text ∙ drop_at (little_bytes n x) rest n (length-bytes_low_first 0 n x)
+pub drop-text : (bytes : List ℕ) (offset n next x : ℕ) (rest : List ℕ) → drop offset bytes ≡ little_bytes n x ++ rest → offset + n ≡ next → drop next bytes ≡ rest
+drop-text bytes offset n next x rest text sum =
+    ap (λ (k : ℕ). drop k bytes) (sym sum) ∙ sym (drop-drop n offset bytes) ∙ ap (drop n) text ∙ drop_at (little_bytes n x) rest n (length-bytes_low_first 0 n x)
 
-pub number_at-lt : (bytes : List ℕ) (place n : ℕ) → IsBytes bytes → number_at bytes place n < 256 ^ n
+pub number_at-lt : (bytes : List ℕ) (offset n : ℕ) → IsBytes bytes → number_at bytes offset n < 256 ^ n
 unfolding number_at
-number_at-lt bytes place n fits = little_from-lt 0 n (drop place bytes) (IsBytes-drop place bytes fits)
+number_at-lt bytes offset n fits = little_from-lt 0 n (drop offset bytes) (IsBytes-drop offset bytes fits)
 
-more : (bytes : List ℕ) (place count : ℕ) → numbers_at bytes place (suc count) ≡ numbers_at bytes place count ++ number_at bytes (place + 4 * count) 4 ∷ []
-more bytes place zero = let same : place + 4 * 0 ≡ place = omega arith in rw same refl
-more bytes place (suc count) =
-    let same : place + 4 * suc count ≡ place + 4 + 4 * count = omega arith in
-    rw (same, more bytes (place + 4) count) refl
+more : (bytes : List ℕ) (offset count : ℕ) → numbers_at bytes offset (suc count) ≡ numbers_at bytes offset count ++ number_at bytes (offset + 4 * count) 4 ∷ []
+more bytes offset zero = let same : offset + 4 * 0 ≡ offset = omega arith in rw same refl
+more bytes offset (suc count) =
+    let same : offset + 4 * suc count ≡ offset + 4 + 4 * count = omega arith in
+    rw (same, more bytes (offset + 4) count) refl
 
 -- one number more
-pub numbers_at_more : (bytes : List ℕ) (place count : ℕ) → numbers_at bytes place (count + 1) ≡ numbers_at bytes place count ++ number_at bytes (place + 4 * count) 4 ∷ []
-numbers_at_more bytes place count = rw (add-one) (more bytes place count)
+pub numbers_at_more : (bytes : List ℕ) (offset count : ℕ) → numbers_at bytes offset (count + 1) ≡ numbers_at bytes offset count ++ number_at bytes (offset + 4 * count) 4 ∷ []
+numbers_at_more bytes offset count = rw (add-one) (more bytes offset count)
 
-pub length-numbers_at : (bytes : List ℕ) (place count : ℕ) → length (numbers_at bytes place count) ≡ count
-length-numbers_at bytes place zero = refl
-length-numbers_at bytes place (suc count) = let rest = length-numbers_at bytes (place + 4) count in omega (arith, rest)
+pub length-numbers_at : (bytes : List ℕ) (offset count : ℕ) → length (numbers_at bytes offset count) ≡ count
+length-numbers_at bytes offset zero = refl
+length-numbers_at bytes offset (suc count) = let rest = length-numbers_at bytes (offset + 4) count in omega (arith, rest)
 
 pub sum-cons : (number : ℕ) (numbers : List ℕ) → sum (number ∷ numbers) ≡ number + sum numbers
 sum-cons number numbers = sum_by-cons (λ x. x) number numbers
 
 -- numbers one after another are read as they are
-pub drop-numbers_at : (bytes : List ℕ) (place count : ℕ) → IsBytes bytes → place + 4 * count ≤ length bytes
-    → drop place bytes ≡ flat_map (little_bytes 4) (numbers_at bytes place count) ++ drop (place + 4 * count) bytes
-drop-numbers_at bytes place zero fits long = let same : place + 4 * 0 ≡ place = omega arith in rw same refl
-drop-numbers_at bytes place (suc count) fits long =
-    let first = drop-number_at bytes place 4 (place + 4) fits refl (omega arith) in
-    let later = drop-numbers_at bytes (place + 4) count fits (omega arith) in
-    let same : place + 4 + 4 * count ≡ place + 4 * suc count = omega arith in
-    first ∙ ap (λ (r : List ℕ). little_bytes 4 (number_at bytes place 4) ++ r) (later ∙ ap (λ (k : ℕ). flat_map (little_bytes 4) (numbers_at bytes (place + 4) count) ++ drop k bytes) same)
-    ∙ sym (append_assoc (little_bytes 4 (number_at bytes place 4)) (flat_map (little_bytes 4) (numbers_at bytes (place + 4) count)) (drop (place + 4 * suc count) bytes))
+pub drop-numbers_at : (bytes : List ℕ) (offset count : ℕ) → IsBytes bytes → offset + 4 * count ≤ length bytes
+    → drop offset bytes ≡ flat_map (little_bytes 4) (numbers_at bytes offset count) ++ drop (offset + 4 * count) bytes
+drop-numbers_at bytes offset zero fits long = let same : offset + 4 * 0 ≡ offset = omega arith in rw same refl
+drop-numbers_at bytes offset (suc count) fits long =
+    let first = drop-number_at bytes offset 4 (offset + 4) fits refl (omega arith) in
+    let later = drop-numbers_at bytes (offset + 4) count fits (omega arith) in
+    let same : offset + 4 + 4 * count ≡ offset + 4 * suc count = omega arith in
+    first ∙ ap (λ (r : List ℕ). little_bytes 4 (number_at bytes offset 4) ++ r) (later ∙ ap (λ (k : ℕ). flat_map (little_bytes 4) (numbers_at bytes (offset + 4) count) ++ drop k bytes) same)
+    ∙ sym (append_assoc (little_bytes 4 (number_at bytes offset 4)) (flat_map (little_bytes 4) (numbers_at bytes (offset + 4) count)) (drop (offset + 4 * suc count) bytes))
 
 -- and numbers that were written are read again
-pub numbers_at-text : (numbers bytes : List ℕ) (place : ℕ) (rest : List ℕ) → sum numbers < 256 ^ 4 → drop place bytes ≡ flat_map (little_bytes 4) numbers ++ rest
-    → (numbers_at bytes place (length numbers) ≡ numbers) × (drop (place + 4 * length numbers) bytes ≡ rest)
-numbers_at-text [] bytes place rest small text = let same : place + 4 * 0 ≡ place = omega arith in (refl, rw same text)
-numbers_at-text (number ∷ numbers) bytes place rest small text =
+pub numbers_at-text : (numbers bytes : List ℕ) (offset : ℕ) (rest : List ℕ) → sum numbers < 256 ^ 4 → drop offset bytes ≡ flat_map (little_bytes 4) numbers ++ rest
+    → (numbers_at bytes offset (length numbers) ≡ numbers) × (drop (offset + 4 * length numbers) bytes ≡ rest)
+numbers_at-text [] bytes offset rest small text = let same : offset + 4 * 0 ≡ offset = omega arith in (refl, rw same text)
+numbers_at-text (number ∷ numbers) bytes offset rest small text =
     let total = sum-cons number numbers in
-    let front : drop place bytes ≡ little_bytes 4 number ++ (flat_map (little_bytes 4) numbers ++ rest) = text ∙ append_assoc (little_bytes 4 number) (flat_map (little_bytes 4) numbers) rest in
-    let first = number_at-text bytes place 4 number (flat_map (little_bytes 4) numbers ++ rest) front (omega arith) in
-    let later = numbers_at-text numbers bytes (place + 4) rest (omega arith) (drop-text bytes place 4 (place + 4) number (flat_map (little_bytes 4) numbers ++ rest) front refl) in
-    let same : place + 4 * suc (length numbers) ≡ place + 4 + 4 * length numbers = omega arith in
+    let front : drop offset bytes ≡ little_bytes 4 number ++ (flat_map (little_bytes 4) numbers ++ rest) = text ∙ append_assoc (little_bytes 4 number) (flat_map (little_bytes 4) numbers) rest in
+    let first = number_at-text bytes offset 4 number (flat_map (little_bytes 4) numbers ++ rest) front (omega arith) in
+    let later = numbers_at-text numbers bytes (offset + 4) rest (omega arith) (drop-text bytes offset 4 (offset + 4) number (flat_map (little_bytes 4) numbers ++ rest) front refl) in
+    let same : offset + 4 * suc (length numbers) ≡ offset + 4 + 4 * length numbers = omega arith in
     (rw (first, later.0) refl, rw same later.1)
 
 -- zeros are the zeros of their length

@@ -13,9 +13,9 @@ use Rattle.shore_gate.specs.Numbers.{number_at, are_zero}
 use Rattle.shore_gate.specs.Checks.{is_within}
 
 -- the byte of the log device at which the slot begins
-abbrev pub place_of : Slot → ℕ
-place_of A = 1024
-place_of B = 2048
+abbrev pub offset_of : Slot → ℕ
+offset_of A = 1024
+offset_of B = 2048
 
 abbrev pub other_of : Slot → Slot
 other_of A = B
@@ -23,7 +23,7 @@ other_of B = A
 
 -- the 40 bytes of a slot
 abbrev pub slot_bytes : Slot → List ℕ → List ℕ
-slot_bytes slot image = take 40 (drop (place_of slot) image)
+slot_bytes slot image = take 40 (drop (offset_of slot) image)
 
 -- the 39 bytes behind the gate
 unfoldable pub anchor_bytes : Anchor → List ℕ
@@ -40,7 +40,7 @@ pub record IsAnchor (anchor : Anchor) : Type 0 where
 pub record MayCount (anchor : Anchor) : Type 0 where
   pub some_tail : 1 ≤ anchor.tail
   pub most_tail : anchor.tail ≤ 2 ^ 46 + 2 ^ 32
-  pub place : anchor.tail_place ≤ 65549 * (anchor.tail - 1)
+  pub offset : anchor.tail_place ≤ 65549 * (anchor.tail - 1)
   pub some_sequence : 1 ≤ anchor.sequence
   pub most_sequence : anchor.sequence ≤ anchor.checkpoint + 1
   pub checkpoint : (anchor.checkpoint ≡ 0) ⊎ (anchor.tail ≤ anchor.checkpoint)
@@ -65,7 +65,7 @@ abbrev pub anchor_at : List ℕ → Anchor
 anchor_at bytes = record { sequence = number_at bytes 8 8; checkpoint = number_at bytes 16 8; tail = number_at bytes 24 8; tail_place = number_at bytes 32 8 }
 
 abbrev pub damaged : Slot → Fault
-damaged slot = Damaged Log (place_of slot)
+damaged slot = Damaged Log (offset_of slot)
 
 -- the anchor of a slot, none behind a closed gate
 abbrev pub open_anchor : Slot → List ℕ → Result (Option Anchor) Fault

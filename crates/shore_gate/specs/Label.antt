@@ -78,9 +78,9 @@ field_checks device size bytes =
 
 -- the pages of each store: at least one, and with those before it at most 65,536
 abbrev pub store_checks : Device → ℕ → ℕ → List ℕ → List Check
-store_checks device place before [] = []
-store_checks device place before (pages ∷ later) =
-    check (nat_le 1 pages && nat_le (before + pages) 65536) (Damaged device place) ∷ store_checks device (place + 4) (before + pages) later
+store_checks device offset before [] = []
+store_checks device offset before (pages ∷ later) =
+    check (nat_le 1 pages && nat_le (before + pages) 65536) (Damaged device offset) ∷ store_checks device (offset + 4) (before + pages) later
 
 -- the pages of the stores, as many as the label names
 abbrev pub stores_of : List ℕ → List ℕ

@@ -5,12 +5,12 @@ use Rattle.byteorder.specs.Endian.{little_number}
 
 -- the number of so many bytes at an offset
 unfoldable pub number_at : List ℕ → ℕ → ℕ → ℕ
-number_at bytes place count = little_number count (drop place bytes)
+number_at bytes offset count = little_number count (drop offset bytes)
 
 -- so many numbers of four bytes each, one after another
 abbrev pub numbers_at : List ℕ → ℕ → ℕ → List ℕ
-numbers_at bytes place zero = []
-numbers_at bytes place (suc count) = number_at bytes place 4 ∷ numbers_at bytes (place + 4) count
+numbers_at bytes offset zero = []
+numbers_at bytes offset (suc count) = number_at bytes offset 4 ∷ numbers_at bytes (offset + 4) count
 
 -- whether each byte is zero
 unfoldable pub are_zero : List ℕ → Bool

@@ -2,7 +2,7 @@
 ghost use Rattle.std.specs.Prelude.{◌≡◌, ◌+◌, ◌≤◌, ◌⊎◌, List, ℕ, length, IsTrue, IfOk, IfErr, MatchResult, Ok, Err};
 ghost use Rattle.shore_disk.specs.Device.{size, seen, CountsFault};
 ghost use Rattle.shore_disk.specs.Cause.{HasCause};
-ghost use Rattle.shore_gate.specs.Anchor.{place_of, other_of, slot_bytes, damaged, may_count, open_anchor, counted, chosen, anchors_verdict, verdict_of, Counts};
+ghost use Rattle.shore_gate.specs.Anchor.{offset_of, other_of, slot_bytes, damaged, may_count, open_anchor, counted, chosen, anchors_verdict, verdict_of, Counts};
 
 use crate::is_open;
 use crate::numbers::{are_zero, u64_at};
@@ -16,7 +16,7 @@ pub const ANCHOR_BYTES: usize = 40;
 /// The greatest number that the first record of the kept log may have.
 const MAX_TAIL: u64 = (1 << 46) + (1 << 32);
 
-/// The place of one of the two anchors.
+/// One of the two anchors.
 #[derive(Clone, Copy, PartialEq)]
 pub enum Slot {
     A,
@@ -24,7 +24,7 @@ pub enum Slot {
 }
 
 impl Slot {
-    ghost use Rattle.shore_gate.specs.Anchor.{other_of, place_of};
+    ghost use Rattle.shore_gate.specs.Anchor.{other_of, offset_of};
 
     /// The other slot.
     pub fn other(self) -> Slot
@@ -37,8 +37,8 @@ impl Slot {
     }
 
     /// The byte of the log device at which it begins, with its gate.
-    pub fn place(self) -> u64
-        ensures { result ≡ place_of self }
+    pub fn offset(self) -> u64
+        ensures { result ≡ offset_of self }
     {
         match self {
             Slot::A => 1024,
@@ -56,7 +56,7 @@ pub struct Anchor {
     pub checkpoint: Lsn,
     /// The number of the first record of the frame at which the kept log begins.
     pub tail: Lsn,
-    /// The place of that frame in the stream.
+    /// The offset of that frame in the stream.
     pub tail_place: u64,
 }
 
@@ -120,7 +120,7 @@ fn read_slot<D: Disk>(disk: &mut D, slot: Slot) -> Result<[u8; ANCHOR_BYTES], Di
     ensures cause { CountsFault result (D.faults disk.old) (D.faults disk.new) }
 {
     let mut bytes = [0; ANCHOR_BYTES];
-    disk.read_at(slot.place(), &mut bytes)?;
+    disk.read_at(slot.offset(), &mut bytes)?;
     Ok(bytes)
 }
 
@@ -155,7 +155,7 @@ fn damaged(slot: Slot) -> Fault
 {
     Fault::Damaged {
         device: Device::Log,
-        place: slot.place(),
+        place: slot.offset(),
     }
 }
 

@@ -229,14 +229,17 @@ fn check_stores(device: Device, stores: &[u32]) -> Result<u64, Fault>
     ensures passed { IfOk result (λ pages. (judged (store_checks device 32 0 stores.now) ≡ Ok tt) × (pages ≡ sum stores.now) × (pages ≤ 65536)) }
     ensures refused { IfErr result (λ fault. judged (store_checks device 32 0 stores.now) ≡ Err fault) }
 {
-    let mut place = STORES_AT as u64;
+    let mut offset = STORES_AT as u64;
     let mut total = 0;
     for pages in stores {
         total += u64::from(*pages);
         if *pages == 0 || total > u64::from(MAX_PAGES) {
-            return Err(Fault::Damaged { device, place });
+            return Err(Fault::Damaged {
+                device,
+                place: offset,
+            });
         }
-        place += 4;
+        offset += 4;
     }
     Ok(total)
 }

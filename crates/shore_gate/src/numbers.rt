@@ -6,27 +6,27 @@ use byteorder::{ByteOrder, LittleEndian};
 use std::alloc::{AllocError, Global};
 
 #[tactic(auto, unfolding(crate::specs::Numbers::number_at))]
-pub fn u16_at(bytes: &[u8], place: usize) -> u16
-    requires { place + 2 ≤ length bytes.now }
-    ensures { result ≡ number_at bytes.now place 2 }
+pub fn u16_at(bytes: &[u8], offset: usize) -> u16
+    requires { offset + 2 ≤ length bytes.now }
+    ensures { result ≡ number_at bytes.now offset 2 }
 {
-    LittleEndian::read_u16(&bytes[place..])
+    LittleEndian::read_u16(&bytes[offset..])
 }
 
 #[tactic(auto, unfolding(crate::specs::Numbers::number_at))]
-pub fn u32_at(bytes: &[u8], place: usize) -> u32
-    requires { place + 4 ≤ length bytes.now }
-    ensures { result ≡ number_at bytes.now place 4 }
+pub fn u32_at(bytes: &[u8], offset: usize) -> u32
+    requires { offset + 4 ≤ length bytes.now }
+    ensures { result ≡ number_at bytes.now offset 4 }
 {
-    LittleEndian::read_u32(&bytes[place..])
+    LittleEndian::read_u32(&bytes[offset..])
 }
 
 #[tactic(auto, unfolding(crate::specs::Numbers::number_at))]
-pub fn u64_at(bytes: &[u8], place: usize) -> u64
-    requires { place + 8 ≤ length bytes.now }
-    ensures { result ≡ number_at bytes.now place 8 }
+pub fn u64_at(bytes: &[u8], offset: usize) -> u64
+    requires { offset + 8 ≤ length bytes.now }
+    ensures { result ≡ number_at bytes.now offset 8 }
 {
-    LittleEndian::read_u64(&bytes[place..])
+    LittleEndian::read_u64(&bytes[offset..])
 }
 
 /// So many numbers of four bytes each, one after another.
@@ -34,15 +34,15 @@ pub fn u64_at(bytes: &[u8], place: usize) -> u64
 pub fn u32s_at(
     alloc: Global,
     bytes: &[u8],
-    place: usize,
+    offset: usize,
     count: usize,
 ) -> Result<Vec<u32>, AllocError>
-    requires { place + 4 * count ≤ length bytes.now }
-    ensures { IfOk result (λ numbers. numbers.items ≡ numbers_at bytes.now place count) }
+    requires { offset + 4 * count ≤ length bytes.now }
+    ensures { IfOk result (λ numbers. numbers.items ≡ numbers_at bytes.now offset count) }
 {
     let mut numbers = Vec::with_capacity(alloc, count)?;
     for i in 0..count {
-        numbers.push(u32_at(bytes, place + 4 * i))?;
+        numbers.push(u32_at(bytes, offset + 4 * i))?;
     }
     Ok(numbers)
 }

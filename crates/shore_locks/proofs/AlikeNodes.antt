@@ -5,16 +5,16 @@ use Rattle.std.proofs.lemmas.Bool.Decides.{Decides-eqb}
 use Rattle.slab.specs.Slab.{Slab, Updates, get, slab_len}
 use Rattle.shore_model.specs.declared.requests.Request.{Request}
 use Rattle.shore_model.specs.Requests.{are_alike, AreRequests}
-use Rattle.shore_links.specs.declared.ring.Link.{Link}
-use Rattle.shore_links.specs.Rings.{In, IsRing}
+use Rattle.shore_rings.specs.declared.ring.Link.{Link}
+use Rattle.shore_rings.specs.Rings.{In, IsRing}
 use Rattle.shore_locks.specs.Grants.{removed, replaced}
-use Rattle.shore_locks.specs.Nodes.{IsThreaded, in_bucket, places, queue_of, list_of, request_at, request_or, requests_in, without, granule_number}
+use Rattle.shore_locks.specs.Nodes.{IsLinked, in_bucket, nodes_of, queue_of, list_of, request_at, request_or, requests_in, without, granule_number}
 use Rattle.shore_locks.proofs.Entering.{found_in, found_none}
 use Rattle.shore_locks.proofs.Keys.{alike-Decides, alike-swap, alike_by_keys, in_place, in_place-no, in_place-yes}
 use Rattle.shore_locks.proofs.Members as members
 use Rattle.shore_locks.proofs.Members.{either, filter-yes, filter-no, In-All}
 use Rattle.shore_locks.proofs.NodeLemmas.{pair_at}
-use Rattle.shore_locks.proofs.Threads.{filter_in, holds_same, in_filter, from_member}
+use Rattle.shore_locks.proofs.Links.{filter_in, holds_same, in_filter, from_member}
 
 pub in_map : {A : Type 0} (f : ℕ → A) (ks : List ℕ) (k : ℕ) → In k ks → members.In (f k) (map f ks)
 in_map f [] k h = absurd h
@@ -83,16 +83,16 @@ replaced_is slots new ks r one key h alike updates =
     ∙ map_twice r (request_at slots) ks
 
 -- what a search through the nodes of a bucket finds
-pub record FoundNode (heads : ℕ) (slots : Slab Request) (ks : List ℕ) (r : Request) (place : ℕ) : Type 0 where
+pub record FoundNode (heads : ℕ) (slots : Slab Request) (ks : List ℕ) (r : Request) (node : ℕ) : Type 0 where
   pub key : ℕ
-  pub at : heads + key ≡ place
+  pub at : heads + key ≡ node
   pub there : In key ks
   pub alike : are_alike (request_at slots key) r ≡ true
 
-pub found_node : (heads : ℕ) (slots : Slab Request) (bucket : ℕ → ℕ) (b : ℕ) (ks : List ℕ) (r : Request) (node : ℕ × Request) → find (λ (p : ℕ × Request). are_alike p.1 r) (map (pair_at heads slots) (in_bucket bucket b ks)) ≡ Some node → FoundNode heads slots ks r node.0
-found_node heads slots bucket b ks r node is =
-    let f = found_in (λ (p : ℕ × Request). are_alike p.1 r) (map (pair_at heads slots) (in_bucket bucket b ks)) node is in
-    let m = from_map (pair_at heads slots) (in_bucket bucket b ks) node f.0 in
+pub found_node : (heads : ℕ) (slots : Slab Request) (bucket : ℕ → ℕ) (b : ℕ) (ks : List ℕ) (r : Request) (alike_node : ℕ × Request) → find (λ (p : ℕ × Request). are_alike p.1 r) (map (pair_at heads slots) (in_bucket bucket b ks)) ≡ Some alike_node → FoundNode heads slots ks r alike_node.0
+found_node heads slots bucket b ks r alike_node is =
+    let f = found_in (λ (p : ℕ × Request). are_alike p.1 r) (map (pair_at heads slots) (in_bucket bucket b ks)) alike_node is in
+    let m = from_map (pair_at heads slots) (in_bucket bucket b ks) alike_node f.0 in
     record {
       key = m.0;
       at = ap (λ (p : ℕ × Request). p.0) m.2;
@@ -116,37 +116,37 @@ no_node heads slots ks r none q h =
     (either (are_alike q r))
 
 -- the place of a node is there in both rings
-pub place_within : (heads : ℕ) (slots : Slab Request) (queues lists : List Link) (ks : List ℕ) (key : ℕ) → IsThreaded heads slots queues lists ks → In key ks → queue_of heads slots key < heads → list_of heads slots key < heads → (heads + key < length queues) × (heads + key < length lists)
-place_within heads slots queues lists ks key threaded h small_queue small_list =
-    let in_places : (bucket : ℕ → ℕ) → In (heads + key) (places heads (in_bucket bucket (bucket key) ks)) = λ bucket.
-    from_member (heads + key) (places heads (in_bucket bucket (bucket key) ks)) (in_map (λ k. heads + k) (in_bucket bucket (bucket key) ks) key (filter_in (λ k. bucket k == bucket key) ks key h ((Decides-eqb (bucket key) (bucket key)).1 refl))) in (
-      (threaded.queues_hold (queue_of heads slots key) small_queue).within (heads + key) (inr (in_places (queue_of heads slots))),
-      (threaded.lists_hold (list_of heads slots key) small_list).within (heads + key) (inr (in_places (list_of heads slots))),
+pub node_within : (heads : ℕ) (slots : Slab Request) (queues lists : List Link) (ks : List ℕ) (key : ℕ) → IsLinked heads slots queues lists ks → In key ks → queue_of heads slots key < heads → list_of heads slots key < heads → (heads + key < length queues) × (heads + key < length lists)
+node_within heads slots queues lists ks key are_linked h small_queue small_list =
+    let in_places : (bucket : ℕ → ℕ) → In (heads + key) (nodes_of heads (in_bucket bucket (bucket key) ks)) = λ bucket.
+    from_member (heads + key) (nodes_of heads (in_bucket bucket (bucket key) ks)) (in_map (λ k. heads + k) (in_bucket bucket (bucket key) ks) key (filter_in (λ k. bucket k == bucket key) ks key h ((Decides-eqb (bucket key) (bucket key)).1 refl))) in (
+      (are_linked.queues_hold (queue_of heads slots key) small_queue).within (heads + key) (inr (in_places (queue_of heads slots))),
+      (are_linked.lists_hold (list_of heads slots key) small_list).within (heads + key) (inr (in_places (list_of heads slots))),
     )
 
--- nodes that are as they were stay threaded
-pub threaded_same : (heads : ℕ) (slots new : Slab Request) (queues lists : List Link) (ks : List ℕ) → ((k : ℕ) → get new k ≡ get slots k) → slab_len new ≡ slab_len slots → IsThreaded heads slots queues lists ks → IsThreaded heads new queues lists ks
-threaded_same heads slots new queues lists ks same len threaded = record {
-  some_heads = threaded.some_heads;
-  distinct = threaded.distinct;
-  there = λ k h. ap is_some (same k) ∙ threaded.there k h;
-  count = len ∙ threaded.count;
-  queues_hold = holds_same queues heads (queue_of heads slots) (queue_of heads new) ks (λ k h. ap (λ (x : Request). granule_number x.granule % heads) (ap request_or (sym (same k)))) threaded.queues_hold;
-  lists_hold = holds_same lists heads (list_of heads slots) (list_of heads new) ks (λ k h. ap (λ (x : Request). x.txn % heads) (ap request_or (sym (same k)))) threaded.lists_hold;
-  queue_heads = threaded.queue_heads;
-  list_heads = threaded.list_heads;
+-- nodes that are as they were stay linked
+pub linked_same : (heads : ℕ) (slots new : Slab Request) (queues lists : List Link) (ks : List ℕ) → ((k : ℕ) → get new k ≡ get slots k) → slab_len new ≡ slab_len slots → IsLinked heads slots queues lists ks → IsLinked heads new queues lists ks
+linked_same heads slots new queues lists ks same len are_linked = record {
+  some_heads = are_linked.some_heads;
+  distinct = are_linked.distinct;
+  there = λ k h. ap is_some (same k) ∙ are_linked.there k h;
+  count = len ∙ are_linked.count;
+  queues_hold = holds_same queues heads (queue_of heads slots) (queue_of heads new) ks (λ k h. ap (λ (x : Request). granule_number x.granule % heads) (ap request_or (sym (same k)))) are_linked.queues_hold;
+  lists_hold = holds_same lists heads (list_of heads slots) (list_of heads new) ks (λ k h. ap (λ (x : Request). x.txn % heads) (ap request_or (sym (same k)))) are_linked.lists_hold;
+  queue_heads = are_linked.queue_heads;
+  list_heads = are_linked.list_heads;
 }
 
 -- .. and so if the rings have places more
-pub threaded_wider : (heads : ℕ) (slots : Slab Request) (queues lists queues_now lists_now : List Link) (ks : List ℕ) → ((head : ℕ) (xs : List ℕ) → IsRing queues head xs → IsRing queues_now head xs) → ((head : ℕ) (xs : List ℕ) → IsRing lists head xs → IsRing lists_now head xs)
-    → length queues ≤ length queues_now → length lists ≤ length lists_now → IsThreaded heads slots queues lists ks → IsThreaded heads slots queues_now lists_now ks
-threaded_wider heads slots queues lists queues_now lists_now ks more_queues more_lists long_queues long_lists threaded = record {
-  some_heads = threaded.some_heads;
-  distinct = threaded.distinct;
-  there = threaded.there;
-  count = threaded.count;
-  queues_hold = λ b small. more_queues b (places heads (in_bucket (queue_of heads slots) b ks)) (threaded.queues_hold b small);
-  lists_hold = λ b small. more_lists b (places heads (in_bucket (list_of heads slots) b ks)) (threaded.lists_hold b small);
-  queue_heads = let h = threaded.queue_heads in omega arith;
-  list_heads = let h = threaded.list_heads in omega arith;
+pub linked_wider : (heads : ℕ) (slots : Slab Request) (queues lists queues_now lists_now : List Link) (ks : List ℕ) → ((head : ℕ) (xs : List ℕ) → IsRing queues head xs → IsRing queues_now head xs) → ((head : ℕ) (xs : List ℕ) → IsRing lists head xs → IsRing lists_now head xs)
+    → length queues ≤ length queues_now → length lists ≤ length lists_now → IsLinked heads slots queues lists ks → IsLinked heads slots queues_now lists_now ks
+linked_wider heads slots queues lists queues_now lists_now ks more_queues more_lists long_queues long_lists are_linked = record {
+  some_heads = are_linked.some_heads;
+  distinct = are_linked.distinct;
+  there = are_linked.there;
+  count = are_linked.count;
+  queues_hold = λ b small. more_queues b (nodes_of heads (in_bucket (queue_of heads slots) b ks)) (are_linked.queues_hold b small);
+  lists_hold = λ b small. more_lists b (nodes_of heads (in_bucket (list_of heads slots) b ks)) (are_linked.lists_hold b small);
+  queue_heads = let h = are_linked.queue_heads in omega arith;
+  list_heads = let h = are_linked.list_heads in omega arith;
 }

@@ -15,12 +15,12 @@ use Rattle.shore_locks.specs.Laws.{BlockedByOneInTheWay, GrantedIsHeld, OnlyGran
 use Rattle.shore_locks.proofs.Entering.{AreRequests-put, In-put, none_waits}
 use Rattle.shore_locks.proofs.Fits.{wants_nothing}
 use Rattle.shore_locks.proofs.Members.{All-In, In-Contains}
-use Rattle.shore_locks.proofs.Outcomes.{any_from, held_after_grant, nobody_wants, pass_only_grants, waits_for_obstacle}
+use Rattle.shore_locks.proofs.Outcomes.{any_from, held_after_grant, nobody_wants, grant_pass_only_grants, waits_for_obstacle}
 
 pub only_grants : (rs : List Request) (g : Granule) → AreRequests rs → OnlyGrants rs (passed g rs)
 only_grants rs g one =
     All-In (λ r. Contains rs r ⊎ Any (λ q. r ≡ granted q) rs) (passed g rs)
-    (λ r h. ⊎_elim (λ stood. inl (In-Contains rs r stood)) (λ was. inr (any_from (λ q. r ≡ granted q) rs was.0 was.1 was.2)) (pass_only_grants g rs one r h))
+    (λ r h. ⊎_elim (λ stood. inl (In-Contains rs r stood)) (λ was. inr (any_from (λ q. r ≡ granted q) rs was.0 was.1 was.2)) (grant_pass_only_grants g rs one r h))
 
 -- the cases of an answer, and of the requests after it
 abbrev answered : Bool → Bool → Bool → Requested
@@ -121,7 +121,7 @@ after_grant_quiet t g mode rs one quiet =
     (λ old. none_waits t rs quiet q old.0 by wants)
     (In-put (granted (asking t g mode rs)) rs q stood))
     (λ was. wants_nothing q.wanted (ap (λ (x : Request). x.wanted) was.2) wants)
-    (pass_only_grants g (put (granted (asking t g mode rs)) rs) ones q h))
+    (grant_pass_only_grants g (put (granted (asking t g mode rs)) rs) ones q h))
 
 quiet_among : (P : List Request → Bool) (enough full : Bool) (o : Option Request) (same waits grants : List Request) → P same ≡ false → P grants ≡ false → (answered enough full (is_some o) ≡ Waiting → ⊥) → P (among enough full (is_some o) same waits grants) ≡ false
 quiet_among P true full o same waits grants e f never = e

@@ -11,7 +11,7 @@ use Rattle.shore_model.specs.declared.requests.Request.{Request}
 use Rattle.shore_model.specs.Requests.{are_alike, AreRequests, requests_at, placed_last}
 use Rattle.shore_modes.proofs.ModeTables.{sup_least}
 use Rattle.shore_locks.specs.Tables.{is_for, request_for, mode_held, waiting_request, is_waiting}
-use Rattle.shore_locks.specs.Grants.{removed, put, granted, asking, aim, is_refused, is_stopped_by, is_ahead, obstacle}
+use Rattle.shore_locks.specs.Grants.{removed, put, granted, asking, wanted_mode, is_refused, is_stopped_by, is_ahead, obstacle}
 use Rattle.shore_locks.specs.Orderly.{Rises}
 use Rattle.shore_locks.proofs.Members.{In, either, All-In, In-filter, filter-In, In-append}
 use Rattle.shore_locks.proofs.Keys.{alike-self, same_granule-Decides, only_one, AreRequests-append, AreRequests-replaced}
@@ -78,9 +78,9 @@ held_in : (o : Option Request) (m : Mode) → option_and_then (λ (r : Request).
 held_in None m e = cc
 held_in (Some r) m e = (r, refl, e)
 
-rises_to_aim : (held : Option Mode) (mode : Mode) → Rises held (Some (aim held mode))
-rises_to_aim None mode = tt
-rises_to_aim (Some h) mode = (sup_least h mode).left
+rises_to_wanted : (held : Option Mode) (mode : Mode) → Rises held (Some (wanted_mode held mode))
+rises_to_wanted None mode = tt
+rises_to_wanted (Some h) mode = (sup_least h mode).left
 
 wants_use : (held : Option Mode) (m : Mode) → IsTrue (is_some held || is_some (Some m))
 wants_use None m = refl
@@ -105,8 +105,8 @@ stands_as_held t g rs fit q in_q at other (Some m) is =
 
 pub Joins-asking : (t : ℕ) (g : Granule) (mode : Mode) (rs : List Request) → Fit rs → is_waiting t rs ≡ false → Joins rs (asking t g mode rs)
 Joins-asking t g mode rs fit quiet = record {
-  of_use = wants_use (mode_held t g rs) (aim (mode_held t g rs) mode);
-  rising = rises_to_aim (mode_held t g rs) mode;
+  of_use = wants_use (mode_held t g rs) (wanted_mode (mode_held t g rs) mode);
+  rising = rises_to_wanted (mode_held t g rs) mode;
   pairs = λ q in_q at other. stands_as_held t g rs fit q in_q at other (mode_held t g rs) refl;
   once = λ q in_q apart by wants waits. none_waits t rs quiet q in_q (sym by) waits;
 }
@@ -119,14 +119,14 @@ Fit-placed t g mode rs fit quiet =
 -- one for whom nobody is in the way joins as a holder
 pub Joins-at_once : (t : ℕ) (g : Granule) (mode : Mode) (rs : List Request) → obstacle (asking t g mode rs) rs ≡ None → Joins rs (granted (asking t g mode rs))
 Joins-at_once t g mode rs free = record {
-  of_use = of_use_held (Some (aim (mode_held t g rs) mode)) None refl;
-  rising = rises_none (Some (aim (mode_held t g rs) mode));
+  of_use = of_use_held (Some (wanted_mode (mode_held t g rs) mode)) None refl;
+  rising = rises_none (Some (wanted_mode (mode_held t g rs) mode));
   pairs = λ q in_q at other.
       let here = filter-In (λ r. same_granule r.granule g) rs q in_q ((same_granule-Decides q.granule g).1 (sym at)) in
       let mild = found_none (is_stopped_by (asking t g mode rs)) (requests_at g rs) free q here in
       let apart : (q.txn == t) ≡ false = ⊎_elim (λ yes. absurd (other (sym ((Decides-eqb q.txn t).0 yes)))) (λ no. no) (either (q.txn == t)) in
-      stands_as_granted (Some (aim (mode_held t g rs) mode)) q.held
-      (first_false (q.txn == t) (is_refused (Some (aim (mode_held t g rs) mode)) q.held) (is_ahead (asking t g mode rs) q) mild apart);
+      stands_as_granted (Some (wanted_mode (mode_held t g rs) mode)) q.held
+      (first_false (q.txn == t) (is_refused (Some (wanted_mode (mode_held t g rs) mode)) q.held) (is_ahead (asking t g mode rs) q) mild apart);
   once = λ q in_q apart by wants waits. wants_nothing None refl wants;
 }
 

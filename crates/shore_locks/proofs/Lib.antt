@@ -7,7 +7,7 @@ mod Firsts
 pub mod Fits
 pub mod Keys
 mod Lasts
-mod Sweeping
+mod GrantWalks
 pub mod LawLemmas
 pub mod Members
 mod NodeLemmas
@@ -16,5 +16,5 @@ pub mod Others
 pub mod Outcomes
 pub mod Passes
 pub mod Tables
-mod Threads
+mod Links
 pub mod Waiting

@@ -8,13 +8,13 @@ use Rattle.shore_types.specs.declared.locking.Granule.{Granule}
 use Rattle.shore_types.specs.Locking.{same_granule}
 use Rattle.shore_model.specs.declared.requests.Request.{Request}
 use Rattle.shore_model.specs.Requests.{requests_at, requests_by}
-use Rattle.shore_links.specs.declared.ring.Link.{Link}
-use Rattle.shore_links.specs.Rings.{Distinct, In, Way, after_at, before_at}
-use Rattle.shore_locks.specs.Nodes.{IsThreaded, LinksIn, LinksOut, alive, granule_number, in_bucket, left_after, list_of, pair_and, pairs_from, places, queue_of, request_at, request_or, requests_in, without}
+use Rattle.shore_rings.specs.declared.ring.Link.{Link}
+use Rattle.shore_rings.specs.Rings.{Distinct, In, Way, after_at, before_at}
+use Rattle.shore_locks.specs.Nodes.{IsLinked, LinksIn, LinksOut, alive, granule_number, in_bucket, left_after, list_of, pair_and, pairs_from, nodes_of, queue_of, request_at, request_or, requests_in, without}
 use Rattle.shore_locks.proofs.Counts.{length-filter_most}
 use Rattle.shore_locks.proofs.Keys.{same_granule-Decides}
 use Rattle.shore_locks.proofs.Members.{either, filter-yes, filter-no}
-use Rattle.shore_locks.proofs.Threads.{distinct_filter, distinct_push, holds_less, holds_more, holds_same, in_either, in_filter, without_none}
+use Rattle.shore_locks.proofs.Links.{distinct_filter, distinct_push, holds_less, holds_more, holds_same, in_either, in_filter, without_none}
 
 -- the history of keys
 after_events : (ks : List ℕ) (es : List (ℕ × Bool)) (e : ℕ × Bool) → left_after ks (es ++ e ∷ []) ≡ cond e.1 (left_after ks es ++ e.0 ∷ []) (without e.0 (left_after ks es))
@@ -36,41 +36,41 @@ not_that : (key : ℕ) (ks : List ℕ) → (In key ks → ⊥) → (k : ℕ) →
 not_that key ks fresh k h e = fresh (subst (λ z. In z ks) e h)
 
 -- a key at which nothing stood is none of those that are there
-pub fresh_key : (heads : ℕ) (slots : Slab Request) (queues lists : List Link) (ks : List ℕ) (key : ℕ) → IsThreaded heads slots queues lists ks → get slots key ≡ None → In key ks → ⊥
-fresh_key heads slots queues lists ks key threaded vacant h =
-    let e = threaded.there key h in let f : is_some (get slots key) ≡ false = ap is_some vacant in cc
+pub fresh_key : (heads : ℕ) (slots : Slab Request) (queues lists : List Link) (ks : List ℕ) (key : ℕ) → IsLinked heads slots queues lists ks → get slots key ≡ None → In key ks → ⊥
+fresh_key heads slots queues lists ks key are_linked vacant h =
+    let e = are_linked.there key h in let f : is_some (get slots key) ≡ false = ap is_some vacant in cc
 
 module _ (heads : ℕ) (slots : Slab Request) (queues lists : List Link) (ks : List ℕ) where
   -- a node comes
-  pub threaded_more : (new : Slab Request) (queues_now lists_now : List Link) (key : ℕ) (r : Request) → IsThreaded heads slots queues lists ks → get slots key ≡ None → Updates slots new key (Some r) → slab_len new ≡ slab_len slots + 1
+  pub linked_more : (new : Slab Request) (queues_now lists_now : List Link) (key : ℕ) (r : Request) → IsLinked heads slots queues lists ks → get slots key ≡ None → Updates slots new key (Some r) → slab_len new ≡ slab_len slots + 1
       → LinksIn queues queues_now (granule_number r.granule % heads) (heads + key) → LinksIn lists lists_now (r.txn % heads) (heads + key) → heads ≤ length queues_now → heads ≤ length lists_now
       → granule_number r.granule % heads < heads → r.txn % heads < heads
-      → IsThreaded heads new queues_now lists_now (ks ++ key ∷ [])
-  threaded_more new queues_now lists_now key r threaded vacant updates more in_queue in_list long_queues long_lists small_queue small_list =
-      let fresh = fresh_key heads slots queues lists ks key threaded vacant in
+      → IsLinked heads new queues_now lists_now (ks ++ key ∷ [])
+  linked_more new queues_now lists_now key r are_linked vacant updates more in_queue in_list long_queues long_lists small_queue small_list =
+      let fresh = fresh_key heads slots queues lists ks key are_linked vacant in
       let here : request_at new key ≡ r = ap request_or updates.changed in
       let same : (k : ℕ) → In k ks → request_at slots k ≡ request_at new k = λ k h. ap request_or (sym (updates.others k (not_that key ks fresh k h))) in
       let queue_key : queue_of heads new key ≡ granule_number r.granule % heads = ap (λ (x : Request). granule_number x.granule % heads) here in
       let list_key : list_of heads new key ≡ r.txn % heads = ap (λ (x : Request). x.txn % heads) here in
       record {
-        some_heads = threaded.some_heads;
-        distinct = distinct_push ks key threaded.distinct fresh;
-        there = λ k h. ⊎_elim (λ t. ap is_some (updates.others k (not_that key ks fresh k t)) ∙ threaded.there k t)
+        some_heads = are_linked.some_heads;
+        distinct = distinct_push ks key are_linked.distinct fresh;
+        there = λ k h. ⊎_elim (λ t. ap is_some (updates.others k (not_that key ks fresh k t)) ∙ are_linked.there k t)
             (λ t. ⊎_elim (λ e. subst (λ z. is_some (get new z) ≡ true) e (ap is_some updates.changed)) (λ nothing. absurd nothing) t) (in_either ks (key ∷ []) k h);
-        count = more ∙ ap (λ n. n + 1) threaded.count ∙ sym (length_push ks key);
+        count = more ∙ ap (λ n. n + 1) are_linked.count ∙ sym (length_push ks key);
         queues_hold = holds_more heads (queue_of heads new) ks queues queues_now key
-            (holds_same queues heads (queue_of heads slots) (queue_of heads new) ks (λ k h. ap (λ (x : Request). granule_number x.granule % heads) (same k h)) threaded.queues_hold)
+            (holds_same queues heads (queue_of heads slots) (queue_of heads new) ks (λ k h. ap (λ (x : Request). granule_number x.granule % heads) (same k h)) are_linked.queues_hold)
             fresh (subst (λ b. b < heads) (sym queue_key) small_queue) (subst (λ b. LinksIn queues queues_now b (heads + key)) (sym queue_key) in_queue);
         lists_hold = holds_more heads (list_of heads new) ks lists lists_now key
-            (holds_same lists heads (list_of heads slots) (list_of heads new) ks (λ k h. ap (λ (x : Request). x.txn % heads) (same k h)) threaded.lists_hold)
+            (holds_same lists heads (list_of heads slots) (list_of heads new) ks (λ k h. ap (λ (x : Request). x.txn % heads) (same k h)) are_linked.lists_hold)
             fresh (subst (λ b. b < heads) (sym list_key) small_list) (subst (λ b. LinksIn lists lists_now b (heads + key)) (sym list_key) in_list);
         queue_heads = long_queues;
         list_heads = long_lists;
       }
 
-  pub requests_more : (new : Slab Request) (key : ℕ) (r : Request) → IsThreaded heads slots queues lists ks → get slots key ≡ None → Updates slots new key (Some r) → requests_in new (ks ++ key ∷ []) ≡ requests_in slots ks ++ r ∷ []
-  requests_more new key r threaded vacant updates =
-      let fresh = fresh_key heads slots queues lists ks key threaded vacant in
+  pub requests_more : (new : Slab Request) (key : ℕ) (r : Request) → IsLinked heads slots queues lists ks → get slots key ≡ None → Updates slots new key (Some r) → requests_in new (ks ++ key ∷ []) ≡ requests_in slots ks ++ r ∷ []
+  requests_more new key r are_linked vacant updates =
+      let fresh = fresh_key heads slots queues lists ks key are_linked vacant in
       map-append (request_at new) ks (key ∷ []) ∙ ap (λ xs. xs ++ request_at new key ∷ []) (requests_same slots new ks (λ k h. updates.others k (not_that key ks fresh k h)))
       ∙ ap (λ x. requests_in slots ks ++ x ∷ []) (ap request_or updates.changed)
 
@@ -90,30 +90,30 @@ module _ (heads : ℕ) (slots : Slab Request) (queues lists : List Link) (ks : L
       let gone : not (k == key) ≡ false = ap not yes in cc
 
   -- a node goes
-  pub threaded_less : (new : Slab Request) (queues_now lists_now : List Link) (key : ℕ) → IsThreaded heads slots queues lists ks → In key ks → Updates slots new key None → slab_len new + 1 ≡ slab_len slots
+  pub linked_less : (new : Slab Request) (queues_now lists_now : List Link) (key : ℕ) → IsLinked heads slots queues lists ks → In key ks → Updates slots new key None → slab_len new + 1 ≡ slab_len slots
       → LinksOut queues queues_now (heads + key) → LinksOut lists lists_now (heads + key) → heads ≤ length queues_now → heads ≤ length lists_now
       → queue_of heads slots key < heads → list_of heads slots key < heads
-      → IsThreaded heads new queues_now lists_now (without key ks)
-  threaded_less new queues_now lists_now key threaded there updates less out_queue out_list long_queues long_lists small_queue small_list =
+      → IsLinked heads new queues_now lists_now (without key ks)
+  linked_less new queues_now lists_now key are_linked there updates less out_queue out_list long_queues long_lists small_queue small_list =
       let same : (k : ℕ) → In k (without key ks) → request_at slots k ≡ request_at new k = λ k h. ap request_or (sym (updates.others k (other_key key k h))) in
-      let shorter = length_without key ks threaded.distinct there in
+      let shorter = length_without key ks are_linked.distinct there in
       record {
-        some_heads = threaded.some_heads;
-        distinct = distinct_filter (λ k. not (k == key)) ks threaded.distinct;
-        there = λ k h. ap is_some (updates.others k (other_key key k h)) ∙ threaded.there k (in_filter (λ x. not (x == key)) ks k h).0;
-        count = omega (arith, less, threaded.count, shorter);
+        some_heads = are_linked.some_heads;
+        distinct = distinct_filter (λ k. not (k == key)) ks are_linked.distinct;
+        there = λ k h. ap is_some (updates.others k (other_key key k h)) ∙ are_linked.there k (in_filter (λ x. not (x == key)) ks k h).0;
+        count = omega (arith, less, are_linked.count, shorter);
         queues_hold = holds_same queues_now heads (queue_of heads slots) (queue_of heads new) (without key ks) (λ k h. ap (λ (x : Request). granule_number x.granule % heads) (same k h))
-            (holds_less heads (queue_of heads slots) ks queues queues_now key threaded.queues_hold threaded.distinct there small_queue out_queue);
+            (holds_less heads (queue_of heads slots) ks queues queues_now key are_linked.queues_hold are_linked.distinct there small_queue out_queue);
         lists_hold = holds_same lists_now heads (list_of heads slots) (list_of heads new) (without key ks) (λ k h. ap (λ (x : Request). x.txn % heads) (same k h))
-            (holds_less heads (list_of heads slots) ks lists lists_now key threaded.lists_hold threaded.distinct there small_list out_list);
+            (holds_less heads (list_of heads slots) ks lists lists_now key are_linked.lists_hold are_linked.distinct there small_list out_list);
         queue_heads = long_queues;
         list_heads = long_lists;
       }
 
   -- a node has another request of its transaction for its granule
-  pub threaded_set : (new : Slab Request) (key : ℕ) (r : Request) → IsThreaded heads slots queues lists ks → In key ks → Updates slots new key (Some r) → slab_len new ≡ slab_len slots
-      → r.txn ≡ (request_at slots key).txn → r.granule ≡ (request_at slots key).granule → IsThreaded heads new queues lists ks
-  threaded_set new key r threaded in_key updates len by at =
+  pub linked_set : (new : Slab Request) (key : ℕ) (r : Request) → IsLinked heads slots queues lists ks → In key ks → Updates slots new key (Some r) → slab_len new ≡ slab_len slots
+      → r.txn ≡ (request_at slots key).txn → r.granule ≡ (request_at slots key).granule → IsLinked heads new queues lists ks
+  linked_set new key r are_linked in_key updates len by at =
       let same_granules : (k : ℕ) → In k ks → queue_of heads slots k ≡ queue_of heads new k = λ k h.
       ⊎_elim
       (λ yes. let e = (Decides-eqb k key).0 yes in subst (λ z. queue_of heads slots z ≡ queue_of heads new z) (sym e)
@@ -127,28 +127,28 @@ module _ (heads : ℕ) (slots : Slab Request) (queues lists : List Link) (ks : L
       (λ no. ap (λ (x : Request). x.txn % heads) (ap request_or (sym (updates.others k (λ e. let yes = (Decides-eqb k key).1 e in let f : (k == key) ≡ false = no in cc)))))
       (either (k == key)) in
       record {
-        some_heads = threaded.some_heads;
-        distinct = threaded.distinct;
+        some_heads = are_linked.some_heads;
+        distinct = are_linked.distinct;
         there = λ k h. ⊎_elim
             (λ yes. subst (λ z. is_some (get new z) ≡ true) (sym ((Decides-eqb k key).0 yes)) (ap is_some updates.changed))
-            (λ no. ap is_some (updates.others k (λ e. let yes = (Decides-eqb k key).1 e in let f : (k == key) ≡ false = no in cc)) ∙ threaded.there k h)
+            (λ no. ap is_some (updates.others k (λ e. let yes = (Decides-eqb k key).1 e in let f : (k == key) ≡ false = no in cc)) ∙ are_linked.there k h)
             (either (k == key));
-        count = len ∙ threaded.count;
-        queues_hold = holds_same queues heads (queue_of heads slots) (queue_of heads new) ks same_granules threaded.queues_hold;
-        lists_hold = holds_same lists heads (list_of heads slots) (list_of heads new) ks same_txns threaded.lists_hold;
-        queue_heads = threaded.queue_heads;
-        list_heads = threaded.list_heads;
+        count = len ∙ are_linked.count;
+        queues_hold = holds_same queues heads (queue_of heads slots) (queue_of heads new) ks same_granules are_linked.queues_hold;
+        lists_hold = holds_same lists heads (list_of heads slots) (list_of heads new) ks same_txns are_linked.lists_hold;
+        queue_heads = are_linked.queue_heads;
+        list_heads = are_linked.list_heads;
       }
 
 -- the nodes that a walk comes by
 abbrev pub pair_at : ℕ → Slab Request → ℕ → ℕ × Request
 pair_at heads slots k = (heads + k, request_at slots k)
 
-there_at : (heads : ℕ) (slots : Slab Request) (place k : ℕ) (o : Option Request) (rest : List (ℕ × Request)) → place ≡ heads + k → is_some o ≡ true → get slots k ≡ o → pair_and place o rest ≡ pair_at heads slots k ∷ rest
-there_at heads slots place k None rest e is at = cc
-there_at heads slots place k (Some r) rest e is at = λ i. (e i, request_or (sym at i)) ∷ rest
+there_at : (heads : ℕ) (slots : Slab Request) (node k : ℕ) (o : Option Request) (rest : List (ℕ × Request)) → node ≡ heads + k → is_some o ≡ true → get slots k ≡ o → pair_and node o rest ≡ pair_at heads slots k ∷ rest
+there_at heads slots node k None rest e is at = cc
+there_at heads slots node k (Some r) rest e is at = λ i. (e i, request_or (sym at i)) ∷ rest
 
-pub walk_is : (n : ℕ) (slots : Slab Request) (links : List Link) (heads head : ℕ) (ks : List ℕ) (a : ℕ) → Way (after_at links) (before_at links) a (places heads ks) head → head < heads → ((k : ℕ) → In k ks → is_some (get slots k) ≡ true) → length ks ≤ n
+pub walk_is : (n : ℕ) (slots : Slab Request) (links : List Link) (heads head : ℕ) (ks : List ℕ) (a : ℕ) → Way (after_at links) (before_at links) a (nodes_of heads ks) head → head < heads → ((k : ℕ) → In k ks → is_some (get slots k) ≡ true) → length ks ≤ n
     → pairs_from n slots links heads head (after_at links a) ≡ map (pair_at heads slots) ks
 walk_is zero slots links heads head [] a w small there most = refl
 walk_is (suc n) slots links heads head [] a w small there most =
@@ -184,33 +184,33 @@ length-in_bucket : (bucket : ℕ → ℕ) (b : ℕ) (ks : List ℕ) → length (
 length-in_bucket bucket b ks = length-filter_most (λ k. bucket k == b) ks
 
 -- the nodes of the bucket of a head
-pub queue_walk : (heads : ℕ) (slots : Slab Request) (queues lists : List Link) (ks : List ℕ) (b : ℕ) → IsThreaded heads slots queues lists ks → b < heads
+pub queue_walk : (heads : ℕ) (slots : Slab Request) (queues lists : List Link) (ks : List ℕ) (b : ℕ) → IsLinked heads slots queues lists ks → b < heads
     → pairs_from (slab_len slots) slots queues heads b (after_at queues b) ≡ map (pair_at heads slots) (in_bucket (queue_of heads slots) b ks)
-queue_walk heads slots queues lists ks b threaded small =
-    walk_is (slab_len slots) slots queues heads b (in_bucket (queue_of heads slots) b ks) b (threaded.queues_hold b small).way small
-    (λ k h. threaded.there k (in_filter (λ x. queue_of heads slots x == b) ks k h).0)
-    (let most = length-in_bucket (queue_of heads slots) b ks in let n = threaded.count in omega arith)
+queue_walk heads slots queues lists ks b are_linked small =
+    walk_is (slab_len slots) slots queues heads b (in_bucket (queue_of heads slots) b ks) b (are_linked.queues_hold b small).way small
+    (λ k h. are_linked.there k (in_filter (λ x. queue_of heads slots x == b) ks k h).0)
+    (let most = length-in_bucket (queue_of heads slots) b ks in let n = are_linked.count in omega arith)
 
-pub list_walk : (heads : ℕ) (slots : Slab Request) (queues lists : List Link) (ks : List ℕ) (b : ℕ) → IsThreaded heads slots queues lists ks → b < heads
+pub list_walk : (heads : ℕ) (slots : Slab Request) (queues lists : List Link) (ks : List ℕ) (b : ℕ) → IsLinked heads slots queues lists ks → b < heads
     → pairs_from (slab_len slots) slots lists heads b (after_at lists b) ≡ map (pair_at heads slots) (in_bucket (list_of heads slots) b ks)
-list_walk heads slots queues lists ks b threaded small =
-    walk_is (slab_len slots) slots lists heads b (in_bucket (list_of heads slots) b ks) b (threaded.lists_hold b small).way small
-    (λ k h. threaded.there k (in_filter (λ x. list_of heads slots x == b) ks k h).0)
-    (let most = length-in_bucket (list_of heads slots) b ks in let n = threaded.count in omega arith)
+list_walk heads slots queues lists ks b are_linked small =
+    walk_is (slab_len slots) slots lists heads b (in_bucket (list_of heads slots) b ks) b (are_linked.lists_hold b small).way small
+    (λ k h. are_linked.there k (in_filter (λ x. list_of heads slots x == b) ks k h).0)
+    (let most = length-in_bucket (list_of heads slots) b ks in let n = are_linked.count in omega arith)
 
 -- .. have the requests for each of its granules, and of each of its transactions
-pub queue_requests : (heads : ℕ) (slots : Slab Request) (queues lists : List Link) (ks : List ℕ) (g : Granule) → IsThreaded heads slots queues lists ks → granule_number g % heads < heads
+pub queue_requests : (heads : ℕ) (slots : Slab Request) (queues lists : List Link) (ks : List ℕ) (g : Granule) → IsLinked heads slots queues lists ks → granule_number g % heads < heads
     → requests_at g (map (λ (p : ℕ × Request). p.1) (pairs_from (slab_len slots) slots queues heads (granule_number g % heads) (after_at queues (granule_number g % heads)))) ≡ requests_at g (requests_in slots ks)
-queue_requests heads slots queues lists ks g threaded small =
-    ap (λ xs. requests_at g (map (λ (p : ℕ × Request). p.1) xs)) (queue_walk heads slots queues lists ks (granule_number g % heads) threaded small)
+queue_requests heads slots queues lists ks g are_linked small =
+    ap (λ xs. requests_at g (map (λ (p : ℕ × Request). p.1) xs)) (queue_walk heads slots queues lists ks (granule_number g % heads) are_linked small)
     ∙ ap (requests_at g) (seconds heads slots (in_bucket (queue_of heads slots) (granule_number g % heads) ks))
     ∙ filter_of_bucket (λ r. same_granule r.granule g) (request_at slots) (queue_of heads slots) (granule_number g % heads) ks
     (λ k h. ap (λ x. granule_number x % heads) ((same_granule-Decides (request_at slots k).granule g).0 h))
 
-pub list_requests : (heads : ℕ) (slots : Slab Request) (queues lists : List Link) (ks : List ℕ) (t : ℕ) → IsThreaded heads slots queues lists ks → t % heads < heads
+pub list_requests : (heads : ℕ) (slots : Slab Request) (queues lists : List Link) (ks : List ℕ) (t : ℕ) → IsLinked heads slots queues lists ks → t % heads < heads
     → requests_by t (map (λ (p : ℕ × Request). p.1) (pairs_from (slab_len slots) slots lists heads (t % heads) (after_at lists (t % heads)))) ≡ requests_by t (requests_in slots ks)
-list_requests heads slots queues lists ks t threaded small =
-    ap (λ xs. requests_by t (map (λ (p : ℕ × Request). p.1) xs)) (list_walk heads slots queues lists ks (t % heads) threaded small)
+list_requests heads slots queues lists ks t are_linked small =
+    ap (λ xs. requests_by t (map (λ (p : ℕ × Request). p.1) xs)) (list_walk heads slots queues lists ks (t % heads) are_linked small)
     ∙ ap (requests_by t) (seconds heads slots (in_bucket (list_of heads slots) (t % heads) ks))
     ∙ filter_of_bucket (λ r. r.txn == t) (request_at slots) (list_of heads slots) (t % heads) ks
     (λ k h. ap (λ u. u % heads) ((Decides-eqb (request_at slots k).txn t).0 h))

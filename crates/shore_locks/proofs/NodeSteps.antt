@@ -9,18 +9,18 @@ use Rattle.std.proofs.lemmas.List.Elements.{filter-append}
 use Rattle.slab.specs.Slab.{Slab, Updates, get, slab_len}
 use Rattle.shore_model.specs.declared.requests.Request.{Request}
 use Rattle.shore_model.specs.Requests.{are_alike, AreRequests, requests_by}
-use Rattle.shore_links.specs.declared.ring.Link.{Link}
-use Rattle.shore_links.specs.Rings.{IsRing, Way, after_at, before_at}
+use Rattle.shore_rings.specs.declared.ring.Link.{Link}
+use Rattle.shore_rings.specs.Rings.{IsRing, Way, after_at, before_at}
 use Rattle.shore_locks.specs.Grants.{removed, replaced}
-use Rattle.shore_locks.specs.Nodes.{IsThreaded, LinksIn, LinksOut, alive, granule_number, in_bucket, list_of, places, pairs_from, queue_of, request_at, request_or, requests_in, without}
+use Rattle.shore_locks.specs.Nodes.{IsLinked, LinksIn, LinksOut, alive, granule_number, in_bucket, list_of, nodes_of, pairs_from, queue_of, request_at, request_or, requests_in, without}
 use Rattle.shore_locks.specs.Orderly.{IsNewest}
-use Rattle.shore_locks.proofs.AlikeNodes.{FoundNode, found_node, from_map, in_map, no_node, place_within, removed_is, replaced_is, threaded_same, threaded_wider}
+use Rattle.shore_locks.proofs.AlikeNodes.{FoundNode, found_node, from_map, in_map, no_node, node_within, removed_is, replaced_is, linked_same, linked_wider}
 use Rattle.shore_locks.proofs.Entering.{found_in}
 use Rattle.shore_locks.proofs.Fits.{any_of, found_any}
 use Rattle.shore_locks.proofs.Keys.{alike-Decides, alike-self}
 use Rattle.shore_locks.proofs.Members as members
-use Rattle.shore_locks.proofs.NodeLemmas.{alive_comes, alive_goes, list_requests, list_walk, pair_at, queue_walk, filter_of_bucket, requests_more, requests_same, threaded_less, threaded_more, threaded_set}
-use Rattle.shore_locks.proofs.Threads.{in_filter}
+use Rattle.shore_locks.proofs.NodeLemmas.{alive_comes, alive_goes, list_requests, list_walk, pair_at, queue_walk, filter_of_bucket, requests_more, requests_same, linked_less, linked_more, linked_set}
+use Rattle.shore_locks.proofs.Links.{in_filter}
 
 pub mod_small : (n heads : ℕ) → 0 < heads → n % heads < heads
 mod_small n heads some = omega arith
@@ -33,108 +33,108 @@ both_yes : (b c : Bool) → b ≡ true → c ≡ true → (b && c) ≡ true
 both_yes true c e f = f
 both_yes false c e f = cc
 
-first_of_found : (o : Option (ℕ × Request)) (place : ℕ) → Some place ≡ option_map (λ (p : ℕ × Request). p.0) o → (node : ℕ × Request) × (o ≡ Some node) × (node.0 ≡ place)
-first_of_found None place e = cc
-first_of_found (Some node) place e = (node, refl, cc)
+first_of_found : (o : Option (ℕ × Request)) (node : ℕ) → Some node ≡ option_map (λ (p : ℕ × Request). p.0) o → (alike_node : ℕ × Request) × (o ≡ Some alike_node) × (alike_node.0 ≡ node)
+first_of_found None node e = cc
+first_of_found (Some alike_node) node e = (alike_node, refl, cc)
 
 none_found_by : (o : Option (ℕ × Request)) → None ≡ option_map (λ (p : ℕ × Request). p.0) o → o ≡ None
 none_found_by None e = refl
-none_found_by (Some node) e = cc
+none_found_by (Some alike_node) e = cc
 
 -- what a search along a granule's ring gives
-pub search_found : (heads : ℕ) (slots : Slab Request) (queues lists : List Link) (ks : List ℕ) (r : Request) (head place : ℕ) (walk : List (ℕ × Request)) → IsThreaded heads slots queues lists ks → head ≡ granule_number r.granule % heads
-    → walk ≡ pairs_from (slab_len slots) slots queues heads head (after_at queues head) → Some place ≡ option_map (λ (p : ℕ × Request). p.0) (find (λ (p : ℕ × Request). are_alike p.1 r) walk) → FoundNode heads slots ks r place
-search_found heads slots queues lists ks r head place walk threaded at is e =
-    let small : head < heads = subst (λ b. b < heads) (sym at) (mod_small (granule_number r.granule) heads threaded.some_heads) in
-    let f = first_of_found (find (λ (p : ℕ × Request). are_alike p.1 r) walk) place e in
+pub search_found : (heads : ℕ) (slots : Slab Request) (queues lists : List Link) (ks : List ℕ) (r : Request) (head node : ℕ) (walk : List (ℕ × Request)) → IsLinked heads slots queues lists ks → head ≡ granule_number r.granule % heads
+    → walk ≡ pairs_from (slab_len slots) slots queues heads head (after_at queues head) → Some node ≡ option_map (λ (p : ℕ × Request). p.0) (find (λ (p : ℕ × Request). are_alike p.1 r) walk) → FoundNode heads slots ks r node
+search_found heads slots queues lists ks r head node walk are_linked at is e =
+    let small : head < heads = subst (λ b. b < heads) (sym at) (mod_small (granule_number r.granule) heads are_linked.some_heads) in
+    let f = first_of_found (find (λ (p : ℕ × Request). are_alike p.1 r) walk) node e in
     let in_walk : find (λ (p : ℕ × Request). are_alike p.1 r) (map (pair_at heads slots) (in_bucket (queue_of heads slots) head ks)) ≡ Some f.0 =
-    ap (find (λ (p : ℕ × Request). are_alike p.1 r)) (sym (is ∙ queue_walk heads slots queues lists ks head threaded small)) ∙ f.1 in
+    ap (find (λ (p : ℕ × Request). are_alike p.1 r)) (sym (is ∙ queue_walk heads slots queues lists ks head are_linked small)) ∙ f.1 in
     subst (FoundNode heads slots ks r) f.2 (found_node heads slots (queue_of heads slots) head ks r f.0 in_walk)
 
-pub search_none : (heads : ℕ) (slots : Slab Request) (queues lists : List Link) (ks : List ℕ) (r : Request) (head : ℕ) (walk : List (ℕ × Request)) → IsThreaded heads slots queues lists ks → head ≡ granule_number r.granule % heads
+pub search_none : (heads : ℕ) (slots : Slab Request) (queues lists : List Link) (ks : List ℕ) (r : Request) (head : ℕ) (walk : List (ℕ × Request)) → IsLinked heads slots queues lists ks → head ≡ granule_number r.granule % heads
     → walk ≡ pairs_from (slab_len slots) slots queues heads head (after_at queues head) → None ≡ option_map (λ (p : ℕ × Request). p.0) (find (λ (p : ℕ × Request). are_alike p.1 r) walk)
     → (q : Request) → members.In q (requests_in slots ks) → are_alike q r ≡ false
-search_none heads slots queues lists ks r head walk threaded at is e =
-    let small : head < heads = subst (λ b. b < heads) (sym at) (mod_small (granule_number r.granule) heads threaded.some_heads) in
+search_none heads slots queues lists ks r head walk are_linked at is e =
+    let small : head < heads = subst (λ b. b < heads) (sym at) (mod_small (granule_number r.granule) heads are_linked.some_heads) in
     let none : find (λ (p : ℕ × Request). are_alike p.1 r) (map (pair_at heads slots) (in_bucket (queue_of heads slots) head ks)) ≡ None =
-    ap (find (λ (p : ℕ × Request). are_alike p.1 r)) (sym (is ∙ queue_walk heads slots queues lists ks head threaded small)) ∙ none_found_by (find (λ (p : ℕ × Request). are_alike p.1 r) walk) e in
+    ap (find (λ (p : ℕ × Request). are_alike p.1 r)) (sym (is ∙ queue_walk heads slots queues lists ks head are_linked small)) ∙ none_found_by (find (λ (p : ℕ × Request). are_alike p.1 r) walk) e in
     no_node heads slots ks r (subst (λ b. find (λ (p : ℕ × Request). are_alike p.1 r) (map (pair_at heads slots) (in_bucket (queue_of heads slots) b ks)) ≡ None) at none)
 
--- the places of a node that was found are there
-pub found_within : (heads : ℕ) (slots : Slab Request) (queues lists : List Link) (ks : List ℕ) (r : Request) (place : ℕ) → IsThreaded heads slots queues lists ks → FoundNode heads slots ks r place → (place < length queues) × (place < length lists)
-found_within heads slots queues lists ks r place threaded node =
-    let w = place_within heads slots queues lists ks node.key threaded node.there (mod_small (granule_number (request_at slots node.key).granule) heads threaded.some_heads) (mod_small (request_at slots node.key).txn heads threaded.some_heads) in
-    (subst (λ p. p < length queues) node.at w.0, subst (λ p. p < length lists) node.at w.1)
+-- a node that was found is in both rings
+pub found_within : (heads : ℕ) (slots : Slab Request) (queues lists : List Link) (ks : List ℕ) (r : Request) (node : ℕ) → IsLinked heads slots queues lists ks → FoundNode heads slots ks r node → (node < length queues) × (node < length lists)
+found_within heads slots queues lists ks r node are_linked alike_node =
+    let w = node_within heads slots queues lists ks alike_node.key are_linked alike_node.there (mod_small (granule_number (request_at slots alike_node.key).granule) heads are_linked.some_heads) (mod_small (request_at slots alike_node.key).txn heads are_linked.some_heads) in
+    (subst (λ p. p < length queues) alike_node.at w.0, subst (λ p. p < length lists) alike_node.at w.1)
 
-key_is : (heads key place : ℕ) → heads + key ≡ place → place - heads ≡ key
-key_is heads key place e = omega arith
+key_is : (heads key node : ℕ) → heads + key ≡ node → node - heads ≡ key
+key_is heads key node e = omega arith
 
-module _ (heads : ℕ) (slots : Slab Request) (queues lists : List Link) (events : List (ℕ × Bool)) (r : Request) (place key : ℕ) where
-  pub found_there : IsThreaded heads slots queues lists (alive events) → FoundNode heads slots (alive events) r place → key ≡ place - heads → is_some (get slots key) ≡ true
-  found_there threaded node at = subst (λ k. is_some (get slots k) ≡ true) (sym (at ∙ key_is heads node.key place node.at)) (threaded.there node.key node.there)
+module _ (heads : ℕ) (slots : Slab Request) (queues lists : List Link) (events : List (ℕ × Bool)) (r : Request) (node key : ℕ) where
+  pub found_there : IsLinked heads slots queues lists (alive events) → FoundNode heads slots (alive events) r node → key ≡ node - heads → is_some (get slots key) ≡ true
+  found_there are_linked alike_node at = subst (λ k. is_some (get slots k) ≡ true) (sym (at ∙ key_is heads alike_node.key node alike_node.at)) (are_linked.there alike_node.key alike_node.there)
 
   -- the node goes
-  pub less_threaded : (new : Slab Request) (queues_now lists_now : List Link) (now : List (ℕ × Bool)) → IsThreaded heads slots queues lists (alive events) → FoundNode heads slots (alive events) r place → key ≡ place - heads
-      → Updates slots new key None → slab_len new + 1 ≡ slab_len slots → LinksOut queues queues_now place → LinksOut lists lists_now place → length queues_now ≡ length queues → length lists_now ≡ length lists
-      → now ≡ events ++ (key, false) ∷ [] → IsThreaded heads new queues_now lists_now (alive now)
-  less_threaded new queues_now lists_now now threaded node at updates less out_queue out_list long_queues long_lists goes =
-      let same : key ≡ node.key = at ∙ key_is heads node.key place node.at in
-      subst (IsThreaded heads new queues_now lists_now) (sym (ap alive goes ∙ alive_goes events key ∙ ap (λ k. without k (alive events)) same))
-      (threaded_less heads slots queues lists (alive events) new queues_now lists_now node.key threaded node.there (subst (λ k. Updates slots new k None) same updates) less
-      (subst (LinksOut queues queues_now) (sym node.at) out_queue) (subst (LinksOut lists lists_now) (sym node.at) out_list)
-      (let h = threaded.queue_heads in omega arith) (let h = threaded.list_heads in omega arith)
-      (mod_small (granule_number (request_at slots node.key).granule) heads threaded.some_heads) (mod_small (request_at slots node.key).txn heads threaded.some_heads))
+  pub less_linked : (new : Slab Request) (queues_now lists_now : List Link) (now : List (ℕ × Bool)) → IsLinked heads slots queues lists (alive events) → FoundNode heads slots (alive events) r node → key ≡ node - heads
+      → Updates slots new key None → slab_len new + 1 ≡ slab_len slots → LinksOut queues queues_now node → LinksOut lists lists_now node → length queues_now ≡ length queues → length lists_now ≡ length lists
+      → now ≡ events ++ (key, false) ∷ [] → IsLinked heads new queues_now lists_now (alive now)
+  less_linked new queues_now lists_now now are_linked alike_node at updates less out_queue out_list long_queues long_lists goes =
+      let same : key ≡ alike_node.key = at ∙ key_is heads alike_node.key node alike_node.at in
+      subst (IsLinked heads new queues_now lists_now) (sym (ap alive goes ∙ alive_goes events key ∙ ap (λ k. without k (alive events)) same))
+      (linked_less heads slots queues lists (alive events) new queues_now lists_now alike_node.key are_linked alike_node.there (subst (λ k. Updates slots new k None) same updates) less
+      (subst (LinksOut queues queues_now) (sym alike_node.at) out_queue) (subst (LinksOut lists lists_now) (sym alike_node.at) out_list)
+      (let h = are_linked.queue_heads in omega arith) (let h = are_linked.list_heads in omega arith)
+      (mod_small (granule_number (request_at slots alike_node.key).granule) heads are_linked.some_heads) (mod_small (request_at slots alike_node.key).txn heads are_linked.some_heads))
 
-  pub less_requests : (new : Slab Request) (now : List (ℕ × Bool)) → AreRequests (requests_in slots (alive events)) → FoundNode heads slots (alive events) r place → key ≡ place - heads
+  pub less_requests : (new : Slab Request) (now : List (ℕ × Bool)) → AreRequests (requests_in slots (alive events)) → FoundNode heads slots (alive events) r node → key ≡ node - heads
       → Updates slots new key None → now ≡ events ++ (key, false) ∷ [] → requests_in new (alive now) ≡ removed r (requests_in slots (alive events))
-  less_requests new now one node at updates goes =
-      let same : key ≡ node.key = at ∙ key_is heads node.key place node.at in
+  less_requests new now one alike_node at updates goes =
+      let same : key ≡ alike_node.key = at ∙ key_is heads alike_node.key node alike_node.at in
       ap (requests_in new) (ap alive goes ∙ alive_goes events key)
       ∙ requests_same slots new (without key (alive events)) (λ k h. updates.others k (λ e. let yes = (Decides-eqb k key).1 e in let kept = (in_filter (λ x. not (x == key)) (alive events) k h).1 in let gone : not (k == key) ≡ false = ap not yes in cc))
       ∙ ap (λ k. requests_in slots (without k (alive events))) same
-      ∙ sym (removed_is slots (alive events) r one node.key node.there node.alike)
+      ∙ sym (removed_is slots (alive events) r one alike_node.key alike_node.there alike_node.alike)
 
   -- it has another request
-  pub set_threaded : (new : Slab Request) → IsThreaded heads slots queues lists (alive events) → FoundNode heads slots (alive events) r place → key ≡ place - heads → Updates slots new key (Some r) → slab_len new ≡ slab_len slots
-      → IsThreaded heads new queues lists (alive events)
-  set_threaded new threaded node at updates len =
-      let same : key ≡ node.key = at ∙ key_is heads node.key place node.at in
-      let keys = (alike-Decides (request_at slots node.key) r).0 node.alike in
-      threaded_set heads slots queues lists (alive events) new node.key r threaded node.there (subst (λ k. Updates slots new k (Some r)) same updates) len (sym keys.0) (sym keys.1)
+  pub set_linked : (new : Slab Request) → IsLinked heads slots queues lists (alive events) → FoundNode heads slots (alive events) r node → key ≡ node - heads → Updates slots new key (Some r) → slab_len new ≡ slab_len slots
+      → IsLinked heads new queues lists (alive events)
+  set_linked new are_linked alike_node at updates len =
+      let same : key ≡ alike_node.key = at ∙ key_is heads alike_node.key node alike_node.at in
+      let keys = (alike-Decides (request_at slots alike_node.key) r).0 alike_node.alike in
+      linked_set heads slots queues lists (alive events) new alike_node.key r are_linked alike_node.there (subst (λ k. Updates slots new k (Some r)) same updates) len (sym keys.0) (sym keys.1)
 
-  pub set_requests : (new : Slab Request) → AreRequests (requests_in slots (alive events)) → FoundNode heads slots (alive events) r place → key ≡ place - heads → Updates slots new key (Some r)
+  pub set_requests : (new : Slab Request) → AreRequests (requests_in slots (alive events)) → FoundNode heads slots (alive events) r node → key ≡ node - heads → Updates slots new key (Some r)
       → requests_in new (alive events) ≡ replaced r (requests_in slots (alive events))
-  set_requests new one node at updates =
-      let same : key ≡ node.key = at ∙ key_is heads node.key place node.at in
-      replaced_is slots new (alive events) r one node.key node.there node.alike (subst (λ k. Updates slots new k (Some r)) same updates)
+  set_requests new one alike_node at updates =
+      let same : key ≡ alike_node.key = at ∙ key_is heads alike_node.key node alike_node.at in
+      replaced_is slots new (alive events) r one alike_node.key alike_node.there alike_node.alike (subst (λ k. Updates slots new k (Some r)) same updates)
 
 -- room for a node is taken first, in the slab and then in the rings
 module _ (heads : ℕ) (slots reserved : Slab Request) (queues lists : List Link) (ks : List ℕ) where
-  pub reserved_threaded : reserved ≡ record slots { capacity = reserved.capacity } → IsThreaded heads slots queues lists ks → IsThreaded heads reserved queues lists ks
-  reserved_threaded kept threaded = threaded_same heads slots reserved queues lists ks (λ k. ap (λ s. get s k) kept) (ap slab_len kept) threaded
+  pub reserved_linked : reserved ≡ record slots { capacity = reserved.capacity } → IsLinked heads slots queues lists ks → IsLinked heads reserved queues lists ks
+  reserved_linked kept are_linked = linked_same heads slots reserved queues lists ks (λ k. ap (λ s. get s k) kept) (ap slab_len kept) are_linked
 
-  pub reached_threaded : (queues_now lists_now : List Link) → reserved ≡ record slots { capacity = reserved.capacity } → IsThreaded heads slots queues lists ks
+  pub grown_linked : (queues_now lists_now : List Link) → reserved ≡ record slots { capacity = reserved.capacity } → IsLinked heads slots queues lists ks
       → ((head : ℕ) (xs : List ℕ) → IsRing queues head xs → IsRing queues_now head xs) → ((head : ℕ) (xs : List ℕ) → IsRing lists head xs → IsRing lists_now head xs)
-      → length queues ≤ length queues_now → length lists ≤ length lists_now → IsThreaded heads reserved queues_now lists_now ks
-  reached_threaded queues_now lists_now kept threaded more_queues more_lists long_queues long_lists =
-      threaded_wider heads reserved queues lists queues_now lists_now ks more_queues more_lists long_queues long_lists (reserved_threaded kept threaded)
+      → length queues ≤ length queues_now → length lists ≤ length lists_now → IsLinked heads reserved queues_now lists_now ks
+  grown_linked queues_now lists_now kept are_linked more_queues more_lists long_queues long_lists =
+      linked_wider heads reserved queues lists queues_now lists_now ks more_queues more_lists long_queues long_lists (reserved_linked kept are_linked)
 
 -- a node comes
-pub more_threaded : (heads : ℕ) (slots new : Slab Request) (queues lists queues_now lists_now : List Link) (events now : List (ℕ × Bool)) (r : Request) (key place : ℕ) → IsThreaded heads slots queues lists (alive events)
-    → get slots key ≡ None → place ≡ heads + key → Updates slots new key (Some r) → slab_len new ≡ slab_len slots + 1
-    → LinksIn queues queues_now (granule_number r.granule % heads) place → LinksIn lists lists_now (r.txn % heads) place → length queues_now ≡ length queues → length lists_now ≡ length lists
-    → now ≡ events ++ (key, true) ∷ [] → IsThreaded heads new queues_now lists_now (alive now)
-more_threaded heads slots new queues lists queues_now lists_now events now r key place threaded vacant at updates more in_queue in_list long_queues long_lists comes =
-    subst (IsThreaded heads new queues_now lists_now) (sym (ap alive comes ∙ alive_comes events key))
-    (threaded_more heads slots queues lists (alive events) new queues_now lists_now key r threaded vacant updates more
+pub more_linked : (heads : ℕ) (slots new : Slab Request) (queues lists queues_now lists_now : List Link) (events now : List (ℕ × Bool)) (r : Request) (key node : ℕ) → IsLinked heads slots queues lists (alive events)
+    → get slots key ≡ None → node ≡ heads + key → Updates slots new key (Some r) → slab_len new ≡ slab_len slots + 1
+    → LinksIn queues queues_now (granule_number r.granule % heads) node → LinksIn lists lists_now (r.txn % heads) node → length queues_now ≡ length queues → length lists_now ≡ length lists
+    → now ≡ events ++ (key, true) ∷ [] → IsLinked heads new queues_now lists_now (alive now)
+more_linked heads slots new queues lists queues_now lists_now events now r key node are_linked vacant at updates more in_queue in_list long_queues long_lists comes =
+    subst (IsLinked heads new queues_now lists_now) (sym (ap alive comes ∙ alive_comes events key))
+    (linked_more heads slots queues lists (alive events) new queues_now lists_now key r are_linked vacant updates more
     (subst (LinksIn queues queues_now (granule_number r.granule % heads)) at in_queue) (subst (LinksIn lists lists_now (r.txn % heads)) at in_list)
-    (let h = threaded.queue_heads in omega arith) (let h = threaded.list_heads in omega arith)
-    (mod_small (granule_number r.granule) heads threaded.some_heads) (mod_small r.txn heads threaded.some_heads))
+    (let h = are_linked.queue_heads in omega arith) (let h = are_linked.list_heads in omega arith)
+    (mod_small (granule_number r.granule) heads are_linked.some_heads) (mod_small r.txn heads are_linked.some_heads))
 
-pub more_requests : (heads : ℕ) (slots new : Slab Request) (queues lists : List Link) (events now : List (ℕ × Bool)) (r : Request) (key : ℕ) → IsThreaded heads slots queues lists (alive events)
+pub more_requests : (heads : ℕ) (slots new : Slab Request) (queues lists : List Link) (events now : List (ℕ × Bool)) (r : Request) (key : ℕ) → IsLinked heads slots queues lists (alive events)
     → get slots key ≡ None → Updates slots new key (Some r) → now ≡ events ++ (key, true) ∷ [] → requests_in new (alive now) ≡ requests_in slots (alive events) ++ r ∷ []
-more_requests heads slots new queues lists events now r key threaded vacant updates comes =
-    ap (requests_in new) (ap alive comes ∙ alive_comes events key) ∙ requests_more heads slots queues lists (alive events) new key r threaded vacant updates
+more_requests heads slots new queues lists events now r key are_linked vacant updates comes =
+    ap (requests_in new) (ap alive comes ∙ alive_comes events key) ∙ requests_more heads slots queues lists (alive events) new key r are_linked vacant updates
 
 pub requests_reserved : (slots reserved : Slab Request) (ks : List ℕ) → reserved ≡ record slots { capacity = reserved.capacity } → requests_in reserved ks ≡ requests_in slots ks
 requests_reserved slots reserved ks kept = requests_same slots reserved ks (λ k h. ap (λ s. get s k) kept)
@@ -144,12 +144,12 @@ found_first : {A : Type 0} (p : A → Bool) (xs : List A) → find p xs ≡ slic
 found_first p [] = refl
 found_first p (x ∷ xs) = ⊎_elim (λ yes. rw yes refl) (λ no. rw no (found_first p xs)) (members.either (p x))
 
-found_second : (p : Request → Bool) (nodes : List (ℕ × Request)) (node : ℕ × Request) → Some node ≡ find (λ (n : ℕ × Request). p n.1) nodes → find p (map (λ (n : ℕ × Request). n.1) nodes) ≡ Some node.1
-found_second p [] node e = cc
-found_second p (x ∷ xs) node e =
+found_second : (p : Request → Bool) (nodes : List (ℕ × Request)) (alike_node : ℕ × Request) → Some alike_node ≡ find (λ (n : ℕ × Request). p n.1) nodes → find p (map (λ (n : ℕ × Request). n.1) nodes) ≡ Some alike_node.1
+found_second p [] alike_node e = cc
+found_second p (x ∷ xs) alike_node e =
     ⊎_elim
-    (λ yes. let same : Some node ≡ Some x = rw yes at e in let it : node ≡ x = cc in rw yes (ap Some (ap (λ (n : ℕ × Request). n.1) (sym it))))
-    (λ no. let there : Some node ≡ find (λ (n : ℕ × Request). p n.1) xs = rw no at e in rw no (found_second p xs node there))
+    (λ yes. let same : Some alike_node ≡ Some x = rw yes at e in let it : alike_node ≡ x = cc in rw yes (ap Some (ap (λ (n : ℕ × Request). n.1) (sym it))))
+    (λ no. let there : Some alike_node ≡ find (λ (n : ℕ × Request). p n.1) xs = rw no at e in rw no (found_second p xs alike_node there))
     (members.either (p x.1))
 
 none_second : (p : Request → Bool) (nodes : List (ℕ × Request)) → None ≡ find (λ (n : ℕ × Request). p n.1) nodes → find p (map (λ (n : ℕ × Request). n.1) nodes) ≡ None
@@ -161,63 +161,63 @@ none_second p (x ∷ xs) e =
     (members.either (p x.1))
 
 module _ (heads : ℕ) (slots : Slab Request) (queues lists : List Link) (ks : List ℕ) (t head : ℕ) (walk : List (ℕ × Request)) where
-  list_of_walk : IsThreaded heads slots queues lists ks → head ≡ t % heads → walk ≡ pairs_from (slab_len slots) slots lists heads head (after_at lists head) → requests_by t (map (λ (n : ℕ × Request). n.1) walk) ≡ requests_by t (requests_in slots ks)
-  list_of_walk threaded at is =
+  list_of_walk : IsLinked heads slots queues lists ks → head ≡ t % heads → walk ≡ pairs_from (slab_len slots) slots lists heads head (after_at lists head) → requests_by t (map (λ (n : ℕ × Request). n.1) walk) ≡ requests_by t (requests_in slots ks)
+  list_of_walk are_linked at is =
       ap (λ w. requests_by t (map (λ (n : ℕ × Request). n.1) w)) (is ∙ ap (λ b. pairs_from (slab_len slots) slots lists heads b (after_at lists b)) at)
-      ∙ list_requests heads slots queues lists ks t threaded (mod_small t heads threaded.some_heads)
+      ∙ list_requests heads slots queues lists ks t are_linked (mod_small t heads are_linked.some_heads)
 
   -- the first node of a transaction has its first request
-  pub first_request : (node : ℕ × Request) → IsThreaded heads slots queues lists ks → head ≡ t % heads → walk ≡ pairs_from (slab_len slots) slots lists heads head (after_at lists head) → Some node ≡ find (λ (p : ℕ × Request). p.1.txn == t) walk
-      → Some node.1 ≡ slice_get (requests_by t (requests_in slots ks)) 0
-  first_request node threaded at is e =
-      sym (ap (λ xs. slice_get xs 0) (sym (list_of_walk threaded at is)) ∙ sym (found_first (λ r. r.txn == t) (map (λ (n : ℕ × Request). n.1) walk)) ∙ found_second (λ r. r.txn == t) walk node e)
+  pub first_request : (alike_node : ℕ × Request) → IsLinked heads slots queues lists ks → head ≡ t % heads → walk ≡ pairs_from (slab_len slots) slots lists heads head (after_at lists head) → Some alike_node ≡ find (λ (p : ℕ × Request). p.1.txn == t) walk
+      → Some alike_node.1 ≡ slice_get (requests_by t (requests_in slots ks)) 0
+  first_request alike_node are_linked at is e =
+      sym (ap (λ xs. slice_get xs 0) (sym (list_of_walk are_linked at is)) ∙ sym (found_first (λ r. r.txn == t) (map (λ (n : ℕ × Request). n.1) walk)) ∙ found_second (λ r. r.txn == t) walk alike_node e)
 
-  pub no_request : IsThreaded heads slots queues lists ks → head ≡ t % heads → walk ≡ pairs_from (slab_len slots) slots lists heads head (after_at lists head) → None ≡ find (λ (p : ℕ × Request). p.1.txn == t) walk
+  pub no_request : IsLinked heads slots queues lists ks → head ≡ t % heads → walk ≡ pairs_from (slab_len slots) slots lists heads head (after_at lists head) → None ≡ find (λ (p : ℕ × Request). p.1.txn == t) walk
       → None ≡ slice_get (requests_by t (requests_in slots ks)) 0
-  no_request threaded at is e =
-      sym (ap (λ xs. slice_get xs 0) (sym (list_of_walk threaded at is)) ∙ sym (found_first (λ r. r.txn == t) (map (λ (n : ℕ × Request). n.1) walk)) ∙ none_second (λ r. r.txn == t) walk e)
+  no_request are_linked at is e =
+      sym (ap (λ xs. slice_get xs 0) (sym (list_of_walk are_linked at is)) ∙ sym (found_first (λ r. r.txn == t) (map (λ (n : ℕ × Request). n.1) walk)) ∙ none_second (λ r. r.txn == t) walk e)
 
   -- .. and is a node of that request
-  pub first_node : (node : ℕ × Request) → IsThreaded heads slots queues lists ks → head ≡ t % heads → walk ≡ pairs_from (slab_len slots) slots lists heads head (after_at lists head) → Some node ≡ find (λ (p : ℕ × Request). p.1.txn == t) walk
-      → FoundNode heads slots ks node.1 node.0
-  first_node node threaded at is e =
-      let small : head < heads = subst (λ b. b < heads) (sym at) (mod_small t heads threaded.some_heads) in
-      let in_walk : find (λ (p : ℕ × Request). p.1.txn == t) (map (pair_at heads slots) (in_bucket (list_of heads slots) head ks)) ≡ Some node =
-      ap (find (λ (p : ℕ × Request). p.1.txn == t)) (sym (is ∙ list_walk heads slots queues lists ks head threaded small)) ∙ sym e in
-      let f = found_in (λ (p : ℕ × Request). p.1.txn == t) (map (pair_at heads slots) (in_bucket (list_of heads slots) head ks)) node in_walk in
-      let m = from_map (pair_at heads slots) (in_bucket (list_of heads slots) head ks) node f.0 in
+  pub first_node : (alike_node : ℕ × Request) → IsLinked heads slots queues lists ks → head ≡ t % heads → walk ≡ pairs_from (slab_len slots) slots lists heads head (after_at lists head) → Some alike_node ≡ find (λ (p : ℕ × Request). p.1.txn == t) walk
+      → FoundNode heads slots ks alike_node.1 alike_node.0
+  first_node alike_node are_linked at is e =
+      let small : head < heads = subst (λ b. b < heads) (sym at) (mod_small t heads are_linked.some_heads) in
+      let in_walk : find (λ (p : ℕ × Request). p.1.txn == t) (map (pair_at heads slots) (in_bucket (list_of heads slots) head ks)) ≡ Some alike_node =
+      ap (find (λ (p : ℕ × Request). p.1.txn == t)) (sym (is ∙ list_walk heads slots queues lists ks head are_linked small)) ∙ sym e in
+      let f = found_in (λ (p : ℕ × Request). p.1.txn == t) (map (pair_at heads slots) (in_bucket (list_of heads slots) head ks)) alike_node in_walk in
+      let m = from_map (pair_at heads slots) (in_bucket (list_of heads slots) head ks) alike_node f.0 in
       record {
         key = m.0;
         at = ap (λ (p : ℕ × Request). p.0) m.2;
         there = (in_filter (λ k. list_of heads slots k == head) ks m.0 m.1).0;
-        alike = ap (λ (p : ℕ × Request). are_alike p.1 node.1) m.2 ∙ alike-self node.1;
+        alike = ap (λ (p : ℕ × Request). are_alike p.1 alike_node.1) m.2 ∙ alike-self alike_node.1;
       }
 
-pub place_is : (heads key place : ℕ) → heads + key ≡ place → place ≡ heads + (place - heads)
-place_is heads key place e = omega arith
+pub place_is : (heads key node : ℕ) → heads + key ≡ node → node ≡ heads + (node - heads)
+place_is heads key node e = omega arith
 
-pub node_any : (heads : ℕ) (slots : Slab Request) (ks : List ℕ) (r : Request) (place : ℕ) → FoundNode heads slots ks r place → list_any (λ q. are_alike q r) (requests_in slots ks) ≡ true
-node_any heads slots ks r place node = any_of (λ q. are_alike q r) (requests_in slots ks) (request_at slots node.key) (in_map (request_at slots) ks node.key node.there) node.alike
+pub node_any : (heads : ℕ) (slots : Slab Request) (ks : List ℕ) (r : Request) (node : ℕ) → FoundNode heads slots ks r node → list_any (λ q. are_alike q r) (requests_in slots ks) ≡ true
+node_any heads slots ks r node alike_node = any_of (λ q. are_alike q r) (requests_in slots ks) (request_at slots alike_node.key) (in_map (request_at slots) ks alike_node.key alike_node.there) alike_node.alike
 
 pub none_of_any : (p : Request → Bool) (rs : List Request) → ((q : Request) → members.In q rs → p q ≡ false) → list_any p rs ≡ false
 none_of_any p rs none =
     ⊎_elim (λ yes. absurd (let f = found_any p rs yes in let g = none f.0 f.1 in let h = f.2 in cc)) (λ no. no) (members.either (list_any p rs))
 
 -- the place before the head is the last of its ring
-last_key : (heads : ℕ) (f g : ℕ → ℕ) (a k : ℕ) (ks : List ℕ) (b : ℕ) → Way f g a (places heads (k ∷ ks)) b → (zs : List ℕ) × (j : ℕ) × (k ∷ ks ≡ zs ++ j ∷ []) × (heads + j ≡ g b)
+last_key : (heads : ℕ) (f g : ℕ → ℕ) (a k : ℕ) (ks : List ℕ) (b : ℕ) → Way f g a (nodes_of heads (k ∷ ks)) b → (zs : List ℕ) × (j : ℕ) × (k ∷ ks ≡ zs ++ j ∷ []) × (heads + j ≡ g b)
 last_key heads f g a k [] b w = ([], k, refl, sym w.1.1)
 last_key heads f g a k (l ∷ ks) b w = let r = last_key heads f g (heads + k) l ks b w.1 in (k ∷ r.0, r.1, ap (λ xs. k ∷ xs) r.2, r.3)
 
-last_of_ring : (heads : ℕ) (f g : ℕ → ℕ) (head : ℕ) (ks : List ℕ) → Way f g head (places heads ks) head → (g head ≡ head → ⊥) → (zs : List ℕ) × (j : ℕ) × (ks ≡ zs ++ j ∷ []) × (heads + j ≡ g head)
+last_of_ring : (heads : ℕ) (f g : ℕ → ℕ) (head : ℕ) (ks : List ℕ) → Way f g head (nodes_of heads ks) head → (g head ≡ head → ⊥) → (zs : List ℕ) × (j : ℕ) × (ks ≡ zs ++ j ∷ []) × (heads + j ≡ g head)
 last_of_ring heads f g head [] w other = absurd (other w.1)
 last_of_ring heads f g head (k ∷ ks) w other = last_key heads f g head k ks head w
 
 -- the node before a head is the newest of its transaction
-pub newest_there : (heads : ℕ) (slots : Slab Request) (queues lists : List Link) (ks : List ℕ) (t head place key : ℕ) (r : Request) → IsThreaded heads slots queues lists ks → head ≡ t % heads → place ≡ before_at lists head → (place ≡ head → ⊥) → key ≡ place - heads → get slots key ≡ Some r
+pub newest_there : (heads : ℕ) (slots : Slab Request) (queues lists : List Link) (ks : List ℕ) (t head node key : ℕ) (r : Request) → IsLinked heads slots queues lists ks → head ≡ t % heads → node ≡ before_at lists head → (node ≡ head → ⊥) → key ≡ node - heads → get slots key ≡ Some r
     → r.txn ≡ t → IsNewest t (requests_in slots ks) r
-newest_there heads slots queues lists ks t head place key r threaded at is other key_at stands by =
-    let small : head < heads = subst (λ b. b < heads) (sym at) (mod_small t heads threaded.some_heads) in
-    let ring = threaded.lists_hold head small in
+newest_there heads slots queues lists ks t head node key r are_linked at is other key_at stands by =
+    let small : head < heads = subst (λ b. b < heads) (sym at) (mod_small t heads are_linked.some_heads) in
+    let ring = are_linked.lists_hold head small in
     let last = last_of_ring heads (after_at lists) (before_at lists) head (in_bucket (list_of heads slots) head ks) ring.way (λ e. other (is ∙ e)) in
     let same : key ≡ last.1 = let e = last.3 in omega arith in
     let here : request_at slots last.1 ≡ r = ap (request_at slots) (sym same) ∙ ap request_or stands in

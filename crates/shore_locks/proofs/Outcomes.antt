@@ -15,7 +15,7 @@ use Rattle.shore_model.specs.Modes.{is_at_most}
 use Rattle.shore_model.specs.Requests.{are_alike, AreRequests, Before, IsBehind, IsRefusedBy, WaitsFor, WaitsIn, is_in_group, placed_last, queue_at, requests_at}
 use Rattle.shore_modes.proofs.ModeTables.{sup_least}
 use Rattle.shore_locks.specs.Tables.{is_waiting, mode_held, request_for, waiters_at, waiting_request}
-use Rattle.shore_locks.specs.Grants.{after_grant, aim, asking, cancelled, granted, is_ahead, is_enough, is_refused, is_stopped_by, obstacle, passed, put, removed, replaced, taken_back, taken_back_if, withdrawn}
+use Rattle.shore_locks.specs.Grants.{after_grant, wanted_mode, asking, cancelled, granted, is_ahead, is_enough, is_refused, is_stopped_by, obstacle, passed, put, removed, replaced, taken_back, taken_back_if, withdrawn}
 use Rattle.shore_locks.specs.Orderly.{IsOrderly}
 use Rattle.shore_locks.proofs.Members.{In, either, In-filter, filter-In, Contains-In, In-Contains, In-left, In-right, filter-yes}
 use Rattle.shore_locks.proofs.Keys.{in_place-no, in_place-yes, alike-Decides, alike-self, only_one, same_granule-Decides}
@@ -132,7 +132,7 @@ waits_for_obstacle t g mode rs o is =
                   (λ x. inr (
                     refl,
                     (both_true (is_some o.wanted) (is_some o.held || not (is_some (mode_held t g rs))) x.1).0,
-                    ahead_before g (asking t g mode rs) rs o o.held o.wanted (mode_held t g rs) (aim (mode_held t g rs) mode) refl refl refl refl refl left x.1,
+                    ahead_before g (asking t g mode rs) rs o o.held o.wanted (mode_held t g rs) (wanted_mode (mode_held t g rs) mode) refl refl refl refl refl left x.1,
                   ))
                   (refused_or_ahead (o.txn == t) (is_refused (asking t g mode rs).wanted o.held) (is_ahead (asking t g mode rs) o) f.1),
             ),
@@ -155,8 +155,8 @@ put_there r rs =
     (λ none. subst (In r) (sym (put_last r rs none)) (In-right rs (r ∷ []) r (inl refl))) (either (list_any (λ q. are_alike q r) rs))
 
 -- each request after a pass stood before it, or is one of those that waited, granted
-pub pass_only_grants : (g : Granule) (rs : List Request) → AreRequests rs → (a : Request) → In a (passed g rs) → In a rs ⊎ ((q : Request) × In q rs × (a ≡ granted q))
-pass_only_grants g rs one =
+pub grant_pass_only_grants : (g : Granule) (rs : List Request) → AreRequests rs → (a : Request) → In a (passed g rs) → In a rs ⊎ ((q : Request) × In q rs × (a ≡ granted q))
+grant_pass_only_grants g rs one =
     pass_keeps (λ xs. (a : Request) → In a xs → In a rs ⊎ ((q : Request) × In q rs × (a ≡ granted q))) g
     (λ xs w before ones in_w at wants can a in_a. ⊎_elim
     (λ e. ⊎_elim (λ stood. inr (w, stood, e)) (λ was. absurd (wants_nothing w.wanted (ap (λ (x : Request). x.wanted) was.2) wants)) (before w in_w))
@@ -183,9 +183,9 @@ enough_as_self SIX = refl
 enough_as_self EX = refl
 enough_as_self UD = refl
 
-aim_is_enough : (held : Option Mode) (mode : Mode) → is_at_most mode (aim held mode) ≡ true
-aim_is_enough None mode = enough_as_self mode
-aim_is_enough (Some h) mode = (sup_least h mode).right
+wanted_is_enough : (held : Option Mode) (mode : Mode) → is_at_most mode (wanted_mode held mode) ≡ true
+wanted_is_enough None mode = enough_as_self mode
+wanted_is_enough (Some h) mode = (sup_least h mode).right
 
 -- what was granted at once is held in the mode, or in a stronger one
 pub held_after_grant : (t : ℕ) (g : Granule) (mode : Mode) (rs : List Request) → AreRequests rs → is_enough mode (mode_held t g (after_grant t g mode rs)) ≡ true
@@ -195,7 +195,7 @@ held_after_grant t g mode rs one =
     let there = pass_keeps_holders g (put (granted (asking t g mode rs)) rs) (granted (asking t g mode rs)) ones refl (put_there (granted (asking t g mode rs)) rs) in
     let found : request_for t g (after_grant t g mode rs) ≡ Some (granted (asking t g mode rs)) =
     request_in (after_grant t g mode rs) (AreRequests-passed g (put (granted (asking t g mode rs)) rs) ones) (granted (asking t g mode rs)) there in
-    rw found (aim_is_enough (mode_held t g rs) mode)
+    rw found (wanted_is_enough (mode_held t g rs) mode)
 
 none_found : {A : Type 0} (p : A → Bool) (xs : List A) → ((x : A) → In x xs → p x ≡ false) → find p xs ≡ None
 none_found p [] each = refl
@@ -232,7 +232,7 @@ quiet_after t rs orderly (Some r) is =
     nobody_wants t (taken_back r rs) (λ q h q_by q_wants. ⊎_elim
     (λ stood. rest_quiet t rs r orderly f.0 by p.1 q stood q_by q_wants)
     (λ was. wants_nothing q.wanted (ap (λ (x : Request). x.wanted) was.2) q_wants)
-    (pass_only_grants r.granule (cond (is_some r.held) (replaced (withdrawn r) rs) (removed r rs)) ones q h))
+    (grant_pass_only_grants r.granule (cond (is_some r.held) (replaced (withdrawn r) rs) (removed r rs)) ones q h))
 
 -- a transaction whose request was taken back waits no more
 pub quiet_after_cancel : (t : ℕ) (rs : List Request) → IsOrderly rs → is_waiting t (cancelled t rs) ≡ false

@@ -11,7 +11,7 @@ use Rattle.shore_model.specs.Locks.{Agree, StandTogether}
 use Rattle.shore_model.specs.Requests.{are_alike, requests_by, placed_last, held_by_all, hold_in}
 use Rattle.shore_locks.specs.Tables.{is_waiting, waiting_request}
 use Rattle.shore_locks.specs.Grants.{removed, replaced, put, granted, withdrawn, asking, obstacle, passed, taken_back, taken_back_if, cancelled, given_up, released, is_full, after_grant}
-use Rattle.shore_locks.specs.Orderly.{IsKept, IsOrderly, IsOfUse, Rises, WaitsLast}
+use Rattle.shore_locks.specs.Orderly.{IsOrderlyWithin, IsOrderly, IsOfUse, Rises, WaitsLast}
 use Rattle.shore_locks.proofs.Members.{In, either, In-All, All-In, In-Contains, Contains-In}
 use Rattle.shore_locks.proofs.Fits.{Fit, Fit-filter, Fit-withdrawn, Fit-passed, StandBoth}
 use Rattle.shore_locks.proofs.Others.{NoneLeftAt, none_left_as, none_left_passed, at_other_removed, at_other_replaced, at_other_put}
@@ -162,27 +162,27 @@ pub orderly_given_up : (mine rs : List Request) → IsOrderly rs → IsOrderly (
 orderly_given_up [] rs orderly = orderly
 orderly_given_up (r ∷ mine) rs orderly = orderly_given_up mine (passed r.granule (removed r rs)) (orderly_removed r rs orderly)
 
-pub kept_taken_back : (limit : ℕ) (t : ℕ) (rs : List Request) (r : Request) → IsKept limit rs → waiting_request t rs ≡ Some r → IsKept limit (taken_back r rs)
+pub kept_taken_back : (limit : ℕ) (t : ℕ) (rs : List Request) (r : Request) → IsOrderlyWithin limit rs → waiting_request t rs ≡ Some r → IsOrderlyWithin limit (taken_back r rs)
 kept_taken_back limit t rs r kept is =
     let short = length-taken_back r rs kept.orderly.one_each in
     record { orderly = orderly_taken_back r rs kept.orderly (found_in (λ r. (r.txn == t) && is_some r.wanted) rs r is).0; within = omega (arith, short, kept.within) }
 
-pub kept_released : (limit : ℕ) (t : ℕ) (rs : List Request) → IsKept limit rs → IsKept limit (released t rs)
+pub kept_released : (limit : ℕ) (t : ℕ) (rs : List Request) → IsOrderlyWithin limit rs → IsOrderlyWithin limit (released t rs)
 kept_released limit t rs kept =
     let short = length-given_up (requests_by t rs) rs kept.orderly.one_each in
     record { orderly = orderly_given_up (requests_by t rs) rs kept.orderly; within = omega (arith, short, kept.within) }
 
 -- a table stays as it is kept, if a transaction begins to wait
-pub kept_placed : (limit t : ℕ) (g : Granule) (mode : Mode) (rs : List Request) → IsKept limit rs → is_waiting t rs ≡ false → is_full (record { limit = limit; requests = rs }) t g ≡ false → is_some (obstacle (asking t g mode rs) rs) ≡ true
-    → IsKept limit (placed_last (asking t g mode rs) rs)
+pub kept_placed : (limit t : ℕ) (g : Granule) (mode : Mode) (rs : List Request) → IsOrderlyWithin limit rs → is_waiting t rs ≡ false → is_full (record { limit = limit; requests = rs }) t g ≡ false → is_some (obstacle (asking t g mode rs) rs) ≡ true
+    → IsOrderlyWithin limit (placed_last (asking t g mode rs) rs)
 kept_placed limit t g mode rs kept quiet room stopped = record {
   orderly = orderly_placed t g mode rs kept.orderly quiet stopped;
   within = length-placed_within (asking t g mode rs) rs limit kept.within room;
 }
 
 -- .. and if it is granted at once
-pub kept_granted : (limit t : ℕ) (g : Granule) (mode : Mode) (rs : List Request) → IsKept limit rs → is_waiting t rs ≡ false → is_full (record { limit = limit; requests = rs }) t g ≡ false → obstacle (asking t g mode rs) rs ≡ None
-    → IsKept limit (after_grant t g mode rs)
+pub kept_granted : (limit t : ℕ) (g : Granule) (mode : Mode) (rs : List Request) → IsOrderlyWithin limit rs → is_waiting t rs ≡ false → is_full (record { limit = limit; requests = rs }) t g ≡ false → obstacle (asking t g mode rs) rs ≡ None
+    → IsOrderlyWithin limit (after_grant t g mode rs)
 kept_granted limit t g mode rs kept quiet room free =
     let one = AreRequests-put (granted (asking t g mode rs)) rs kept.orderly.one_each in
     let same = length-passed g (put (granted (asking t g mode rs)) rs) one in

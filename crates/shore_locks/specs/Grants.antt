@@ -61,13 +61,13 @@ is_enough mode None = false
 is_enough mode (Some held) = is_at_most mode held
 
 -- what is wanted by one who holds a mode, or none, and asks for another
-abbrev pub aim : Option Mode → Mode → Mode
-aim None mode = mode
-aim (Some held) mode = sup held mode
+abbrev pub wanted_mode : Option Mode → Mode → Mode
+wanted_mode None mode = mode
+wanted_mode (Some held) mode = sup held mode
 
 -- a transaction's request for a mode that it does not hold
 abbrev pub asking : ℕ → Granule → Mode → List Request → Request
-asking t g mode rs = record { txn = t; granule = g; held = mode_held t g rs; wanted = Some (aim (mode_held t g rs) mode) }
+asking t g mode rs = record { txn = t; granule = g; held = mode_held t g rs; wanted = Some (wanted_mode (mode_held t g rs) mode) }
 
 -- one who already waits is ahead of one who begins to: conversions go before new waiters
 abbrev pub is_ahead : Request → Request → Bool

@@ -3,5 +3,5 @@ pub mod Grants
 pub mod Laws
 pub mod Nodes
 pub mod Orderly
-pub mod Sweeps
+pub mod Granting
 pub mod Tables

@@ -4,8 +4,8 @@ use Rattle.slab.specs.Slab.{Slab, get, slab_len}
 use Rattle.shore_types.specs.declared.locking.Granule.{Granule}
 use Rattle.shore_types.specs.declared.locking.Granule.TheVariants.{Volume, Store, Page, Record}
 use Rattle.shore_model.specs.declared.requests.Request.{Request}
-use Rattle.shore_links.specs.declared.ring.Link.{Link}
-use Rattle.shore_links.specs.Rings.{Apart, Distinct, In, IsRing, after_at}
+use Rattle.shore_rings.specs.declared.ring.Link.{Link}
+use Rattle.shore_rings.specs.Rings.{Apart, Distinct, In, IsRing, after_at}
 
 -- a number by which a granule finds its bucket
 abbrev pub granule_number : Granule → ℕ
@@ -45,19 +45,19 @@ alive events = left_after [] events
 abbrev pub requests_in : Slab Request → List ℕ → List Request
 requests_in slots keys = map (request_at slots) keys
 
--- the keys of a bucket, and their places behind those of the heads
+-- the keys of a bucket, and their nodes behind those of the heads
 abbrev pub in_bucket : (ℕ → ℕ) → ℕ → List ℕ → List ℕ
 in_bucket bucket b keys = filter (λ k. bucket k == b) keys
 
-abbrev pub places : ℕ → List ℕ → List ℕ
-places heads keys = map (λ k. heads + k) keys
+abbrev pub nodes_of : ℕ → List ℕ → List ℕ
+nodes_of heads keys = map (λ k. heads + k) keys
 
 -- the ring of each head has the keys of its bucket
 abbrev pub Holds : List Link → ℕ → (ℕ → ℕ) → List ℕ → Type 0
-Holds links heads bucket keys = (b : ℕ) → b < heads → IsRing links b (places heads (in_bucket bucket b keys))
+Holds links heads bucket keys = (b : ℕ) → b < heads → IsRing links b (nodes_of heads (in_bucket bucket b keys))
 
 -- the nodes are those of the keys, each in its two rings
-pub record IsThreaded (heads : ℕ) (slots : Slab Request) (queues lists : List Link) (keys : List ℕ) : Type 0 where
+pub record IsLinked (heads : ℕ) (slots : Slab Request) (queues lists : List Link) (keys : List ℕ) : Type 0 where
   pub some_heads : 0 < heads
   pub distinct : Distinct keys
   pub there : (k : ℕ) → In k keys → is_some (get slots k) ≡ true
@@ -67,25 +67,25 @@ pub record IsThreaded (heads : ℕ) (slots : Slab Request) (queues lists : List 
   pub queue_heads : heads ≤ length queues
   pub list_heads : heads ≤ length lists
 
--- a node with its place, if it is there, and then the others
+-- a node with its number, if it is there, and then the others
 abbrev pub pair_and : ℕ → Option Request → List (ℕ × Request) → List (ℕ × Request)
-pair_and place None rest = []
-pair_and place (Some r) rest = (place, r) ∷ rest
+pair_and node None rest = []
+pair_and node (Some r) rest = (node, r) ∷ rest
 
 -- the nodes of a ring from one on, up to its head, and at most so many
 abbrev pub pairs_from : ℕ → Slab Request → List Link → ℕ → ℕ → ℕ → List (ℕ × Request)
-pairs_from zero slots links heads head place = []
-pairs_from (suc n) slots links heads head place =
-    cond (place == head) [] (pair_and place (get slots (place - heads)) (pairs_from n slots links heads head (after_at links place)))
+pairs_from zero slots links heads head node = []
+pairs_from (suc n) slots links heads head node =
+    cond (node == head) [] (pair_and node (get slots (node - heads)) (pairs_from n slots links heads head (after_at links node)))
 
--- what a link of a place to a head's ring says
+-- what the link of a node into a head's ring says
 abbrev pub LinksIn : List Link → List Link → ℕ → ℕ → Type 0
-LinksIn links new head place =
-    ((xs : List ℕ) → IsRing links head xs → (In place (head ∷ xs) → ⊥) → IsRing new head (xs ++ place ∷ []))
-    × ((xs ys : List ℕ) (other : ℕ) → IsRing links head xs → IsRing links other ys → (In place (other ∷ ys) → ⊥) → Apart (head ∷ xs) (other ∷ ys) → IsRing new other ys)
+LinksIn links new head node =
+    ((xs : List ℕ) → IsRing links head xs → (In node (head ∷ xs) → ⊥) → IsRing new head (xs ++ node ∷ []))
+    × ((xs ys : List ℕ) (other : ℕ) → IsRing links head xs → IsRing links other ys → (In node (other ∷ ys) → ⊥) → Apart (head ∷ xs) (other ∷ ys) → IsRing new other ys)
 
 -- .. and what its unlinking says
 abbrev pub LinksOut : List Link → List Link → ℕ → Type 0
-LinksOut links new place =
-    ((head : ℕ) (xs ys : List ℕ) → IsRing links head (xs ++ place ∷ ys) → IsRing new head (xs ++ ys))
-    × ((head : ℕ) (xs ys : List ℕ) (other : ℕ) (zs : List ℕ) → IsRing links head (xs ++ place ∷ ys) → IsRing links other zs → Apart (head ∷ (xs ++ place ∷ ys)) (other ∷ zs) → IsRing new other zs)
+LinksOut links new node =
+    ((head : ℕ) (xs ys : List ℕ) → IsRing links head (xs ++ node ∷ ys) → IsRing new head (xs ++ ys))
+    × ((head : ℕ) (xs ys : List ℕ) (other : ℕ) (zs : List ℕ) → IsRing links head (xs ++ node ∷ ys) → IsRing links other zs → Apart (head ∷ (xs ++ node ∷ ys)) (other ∷ zs) → IsRing new other zs)

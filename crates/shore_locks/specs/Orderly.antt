@@ -48,6 +48,6 @@ pub record IsOrderly (rs : List Request) : Type 0 where
   pub waits_last : WaitsLast rs
 
 -- .. and as many as it may have
-pub record IsKept (limit : ℕ) (rs : List Request) : Type 0 where
+pub record IsOrderlyWithin (limit : ℕ) (rs : List Request) : Type 0 where
   pub orderly : IsOrderly rs
   pub within : length rs ≤ limit

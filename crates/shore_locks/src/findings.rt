@@ -4,7 +4,7 @@ ghost use Rattle.shore_locks.specs.Findings.{Finds};
 ghost use Rattle.shore_locks.specs.Grants as steps;
 ghost use Rattle.shore_locks.specs.Tables as tables;
 
-use crate::judgements::{aim, is_enough};
+use crate::judgements::{is_enough, wanted_mode};
 use crate::nodes::Nodes;
 use crate::searches::{obstacle, request_for};
 use shore_model::Request;
@@ -24,7 +24,13 @@ pub enum Finding {
 }
 
 /// What a transaction meets, with a limit on the nodes. It looks for the transaction's node once.
-pub fn look(nodes: &Nodes, limit: usize, txn: TxnId, granule: &Granule, mode: Mode) -> Finding
+pub fn check_request(
+    nodes: &Nodes,
+    limit: usize,
+    txn: TxnId,
+    granule: &Granule,
+    mode: Mode,
+) -> Finding
     ensures { Finds (record { limit = limit; requests = nodes.now }) txn granule.now mode result }
 {
     let own = request_for(nodes, txn, granule);
@@ -40,7 +46,7 @@ pub fn look(nodes: &Nodes, limit: usize, txn: TxnId, granule: &Granule, mode: Mo
         txn,
         granule: *granule,
         held,
-        wanted: Some(aim(held, mode)),
+        wanted: Some(wanted_mode(held, mode)),
     };
     match obstacle(nodes, &request) {
         Some(other) => Finding::Stopped {

@@ -75,8 +75,8 @@ pub fn is_enough(mode: Mode, held: Option<Mode>) -> bool
 }
 
 /// What is wanted by one who holds a mode, or none, and asks for another.
-pub fn aim(held: Option<Mode>, mode: Mode) -> Mode
-    ensures { result ≡ steps.aim held mode }
+pub fn wanted_mode(held: Option<Mode>, mode: Mode) -> Mode
+    ensures { result ≡ steps.wanted_mode held mode }
 {
     match held {
         Some(held) => sup(held, mode),

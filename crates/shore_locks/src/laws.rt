@@ -24,7 +24,7 @@ pub fn first_waiters_are_refused()
 {}
 
 /// What a grant pass grants is a prefix of the queue's waiters.
-pub fn pass_grants_a_beginning()
+pub fn grant_pass_grants_a_prefix()
     ensures { (rs : List Request) (g : Granule) → AreRequests rs → GrantsABeginning rs g }
 {}
 
@@ -34,7 +34,7 @@ pub fn release_removes_its_own()
 {}
 
 /// A grant pass only grants.
-pub fn pass_only_grants()
+pub fn grant_pass_only_grants()
     ensures { (rs : List Request) (g : Granule) → AreRequests rs → OnlyGrants rs (passed g rs) }
 {}
 
@@ -44,12 +44,12 @@ pub fn cancelled_waits_no_more()
 {}
 
 /// The transaction that a try names is one for whom the asker would wait.
-pub fn blocked_by_one_in_the_way()
+pub fn blocked_names_a_blocker()
     ensures { (table : Table) (t : ℕ) (g : Granule) (mode : Mode) → BlockedByOneInTheWay table t g mode }
 {}
 
 /// A transaction that begins to wait waits for somebody.
-pub fn waits_for_somebody()
+pub fn each_waiter_has_a_blocker()
     ensures { (table : Table) (t : ℕ) (g : Granule) (mode : Mode) → WaitsForSomebody table t g mode }
 {}
 
@@ -64,6 +64,6 @@ pub fn refused_changes_nothing()
 {}
 
 /// A transaction that does not wait waits afterwards only if it was told so: it may ask again.
-pub fn waits_only_where_told()
+pub fn waits_only_if_told_to()
     ensures { (table : Table) (t : ℕ) (g : Granule) (mode : Mode) → AreRequests table.requests → is_waiting t table.requests ≡ false → StaysQuiet table t g mode }
 {}

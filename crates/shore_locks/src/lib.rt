@@ -4,13 +4,13 @@
 pub mod answers;
 mod changes;
 mod findings;
+mod granting;
 mod judgements;
 pub mod laws;
 mod nodes;
 mod openings;
 pub mod queues;
 mod searches;
-mod sweeps;
 pub mod table;
 mod walks;
 

@@ -5,19 +5,19 @@ ghost use Rattle.std.specs.List.{list_any};
 ghost use Rattle.std.specs.Option.{option_map};
 ghost use Rattle.shore_model.specs.Requests.{AreRequests, are_alike, placed_last, requests_at, requests_by};
 ghost use Rattle.shore_model.specs.declared.requests.Request.{Request};
-ghost use Rattle.shore_links.specs.Rings.{In, IsRing, after_at};
+ghost use Rattle.shore_rings.specs.Rings.{In, IsRing, after_at};
 ghost use Rattle.slab.specs.Slab.{HasRoomFor, Updates, get, slab_len};
 ghost use Rattle.shore_locks.specs.Grants.{granted_in_turn, removed, replaced};
-ghost use Rattle.shore_locks.specs.Sweeps.{new_waiters};
+ghost use Rattle.shore_locks.specs.Granting.{new_waiters};
 ghost use Rattle.shore_locks.specs.Nodes as spec;
 ghost use Rattle.shore_locks.specs.Orderly.{IsNewest};
-ghost use Rattle.shore_locks.specs.Nodes.{IsThreaded, LinksIn, LinksOut, pairs_from, request_at, without};
+ghost use Rattle.shore_locks.specs.Nodes.{IsLinked, LinksIn, LinksOut, pairs_from, request_at, without};
 
-use crate::sweeps::{openings_among, sweep};
+use crate::granting::{grant_new_waiters, openings_among};
 use crate::walks::Walk;
 use http_server::Log;
-use shore_links::Rings;
 use shore_model::Request;
+use shore_rings::Rings;
 use shore_types::{Granule, PageId, TxnId};
 use slab::Slab;
 use std::alloc::{AllocError, Global};
@@ -40,11 +40,11 @@ impl Model for Nodes {
 
     ghost Value = { List Request };
 
-    ghost use Rattle.shore_locks.specs.Nodes.{IsThreaded, alive, requests_in};
+    ghost use Rattle.shore_locks.specs.Nodes.{IsLinked, alive, requests_in};
 
     ghost view = { λ n. requests_in n.slots (alive n.history.items) };
 
-    ghost invariant = { λ n. IsThreaded n.heads n.slots n.queues n.lists (alive n.history.items) };
+    ghost invariant = { λ n. IsLinked n.heads n.slots n.queues n.lists (alive n.history.items) };
 }
 
 impl Nodes {
@@ -53,8 +53,8 @@ impl Nodes {
         requires { 0 < heads }
         ensures { IfOk result (λ nodes. nodes ≡ []) }
     {
-        let queues = alone(alloc, heads)?;
-        let lists = alone(alloc, heads)?;
+        let queues = lone_rings(alloc, heads)?;
+        let lists = lone_rings(alloc, heads)?;
         Ok(Nodes {
             slots: Slab::new(alloc),
             queues,
@@ -85,11 +85,11 @@ impl Nodes {
         ensures { IfSome result (λ r. IsNewest txn self.now r) }
     {
         let head = list_head(txn, self.heads);
-        let place = self.lists.before(head);
-        if place == head {
+        let node = self.lists.before(head);
+        if node == head {
             return None;
         }
-        match self.slots.get(place.saturating_sub(self.heads)) {
+        match self.slots.get(node.saturating_sub(self.heads)) {
             Some(request) => only_of(request, txn),
             None => None,
         }
@@ -102,16 +102,16 @@ impl Nodes {
     {
         self.slots.reserve(1)?;
         let key = self.slots.vacant_key();
-        let Some(place) = self.heads.checked_add(key) else {
+        let Some(node) = self.heads.checked_add(key) else {
             return Err(AllocError);
         };
-        reach(&mut self.queues, place)?;
-        reach(&mut self.lists, place)?;
-        thread(
+        grow_to(&mut self.queues, node)?;
+        grow_to(&mut self.lists, node)?;
+        link_node(
             &mut self.queues,
             &mut self.lists,
             self.heads,
-            place,
+            node,
             &request,
         );
         insert(&mut self.slots, &request);
@@ -126,9 +126,9 @@ impl Nodes {
     {
         let head = queue_head(&request.granule, self.heads);
         let walk = Walk::new(&self.slots, &self.queues, self.heads, head);
-        if let Some(place) = find_node(walk, request) {
-            let key = place.saturating_sub(self.heads);
-            unthread(&mut self.queues, &mut self.lists, place);
+        if let Some(node) = find_node(walk, request) {
+            let key = node.saturating_sub(self.heads);
+            unlink_node(&mut self.queues, &mut self.lists, node);
             self.slots.try_remove(key);
             self.history = self.history.and(&key, &false);
         }
@@ -143,18 +143,12 @@ impl Nodes {
         let head = queue_head(&request.granule, self.heads);
         let walk = Walk::new(&self.slots, &self.queues, self.heads, head);
         match find_node(walk, request) {
-            Some(place) => {
-                let key = place.saturating_sub(self.heads);
-                unthread(&mut self.queues, &mut self.lists, place);
+            Some(node) => {
+                let key = node.saturating_sub(self.heads);
+                unlink_node(&mut self.queues, &mut self.lists, node);
                 self.slots.try_remove(key);
                 let gone = self.history.and(&key, &false);
-                thread(
-                    &mut self.queues,
-                    &mut self.lists,
-                    self.heads,
-                    place,
-                    request,
-                );
+                link_node(&mut self.queues, &mut self.lists, self.heads, node, request);
                 insert(&mut self.slots, request);
                 self.history = gone.and(&key, &true);
                 true
@@ -171,9 +165,9 @@ impl Nodes {
         let head = list_head(txn, self.heads);
         let walk = Walk::new(&self.slots, &self.lists, self.heads, head);
         match first_of(walk, txn) {
-            Some((place, request)) => {
-                let key = place.saturating_sub(self.heads);
-                unthread(&mut self.queues, &mut self.lists, place);
+            Some((node, request)) => {
+                let key = node.saturating_sub(self.heads);
+                unlink_node(&mut self.queues, &mut self.lists, node);
                 self.slots.try_remove(key);
                 self.history = self.history.and(&key, &false);
                 Some(request)
@@ -196,8 +190,8 @@ impl Nodes {
     {
         let head = queue_head(&request.granule, self.heads);
         let walk = Walk::new(&self.slots, &self.queues, self.heads, head);
-        if let Some(place) = find_node(walk, request) {
-            let key = place.saturating_sub(self.heads);
+        if let Some(node) = find_node(walk, request) {
+            let key = node.saturating_sub(self.heads);
             set_slot(&mut self.slots, key, request);
         }
     }
@@ -211,7 +205,7 @@ impl Nodes {
         let head = queue_head(granule, self.heads);
         let walk = Walk::new(&self.slots, &self.queues, self.heads, head);
         let openings = openings_among(walk, granule);
-        sweep(
+        grant_new_waiters(
             &mut self.slots,
             &self.queues,
             self.heads,
@@ -233,46 +227,46 @@ fn only_of(request: &Request, txn: TxnId) -> Option<Request>
 }
 
 // Adds nodes that are alone in their rings, up to this one.
-fn reach(rings: &mut Rings, place: usize) -> Result<(), AllocError>
+fn grow_to(rings: &mut Rings, node: usize) -> Result<(), AllocError>
     ensures kept { (head : ℕ) (xs : List ℕ) → IsRing rings.old head xs → IsRing rings.new head xs }
     ensures longer { length rings.old ≤ length rings.new }
-    ensures there { OnOk result (place < length rings.new) }
+    ensures there { OnOk result (node < length rings.new) }
 {
-    while rings.places() <= place {
+    while rings.nodes() <= node {
         rings.add()?;
     }
     Ok(())
 }
 
 // A node goes last in the rings of its two buckets.
-fn thread(queues: &mut Rings, lists: &mut Rings, heads: usize, place: usize, request: &Request)
+fn link_node(queues: &mut Rings, lists: &mut Rings, heads: usize, node: usize, request: &Request)
     requires some { 0 < heads }
     requires queue_heads { heads ≤ length queues.old }
     requires list_heads { heads ≤ length lists.old }
-    requires queue_place { place < length queues.old }
-    requires list_place { place < length lists.old }
-    ensures queues { LinksIn queues.old queues.new (spec.granule_number request.now.granule % heads) place }
-    ensures lists { LinksIn lists.old lists.new (request.now.txn % heads) place }
-    ensures queue_places { length queues.new ≡ length queues.old }
-    ensures list_places { length lists.new ≡ length lists.old }
+    requires queue_node { node < length queues.old }
+    requires list_node { node < length lists.old }
+    ensures queues { LinksIn queues.old queues.new (spec.granule_number request.now.granule % heads) node }
+    ensures lists { LinksIn lists.old lists.new (request.now.txn % heads) node }
+    ensures queue_nodes { length queues.new ≡ length queues.old }
+    ensures list_nodes { length lists.new ≡ length lists.old }
 {
     let queue = queue_head(&request.granule, heads);
-    queues.link(queue, place);
+    queues.link(queue, node);
     let list = list_head(request.txn, heads);
-    lists.link(list, place);
+    lists.link(list, node);
 }
 
 // A node leaves its two rings.
-fn unthread(queues: &mut Rings, lists: &mut Rings, place: usize)
-    requires queue_place { place < length queues.old }
-    requires list_place { place < length lists.old }
-    ensures queues { LinksOut queues.old queues.new place }
-    ensures lists { LinksOut lists.old lists.new place }
-    ensures queue_places { length queues.new ≡ length queues.old }
-    ensures list_places { length lists.new ≡ length lists.old }
+fn unlink_node(queues: &mut Rings, lists: &mut Rings, node: usize)
+    requires queue_node { node < length queues.old }
+    requires list_node { node < length lists.old }
+    ensures queues { LinksOut queues.old queues.new node }
+    ensures lists { LinksOut lists.old lists.new node }
+    ensures queue_nodes { length queues.new ≡ length queues.old }
+    ensures list_nodes { length lists.new ≡ length lists.old }
 {
-    queues.unlink(place);
-    lists.unlink(place);
+    queues.unlink(node);
+    lists.unlink(node);
 }
 
 fn insert(slots: &mut Slab<Request>, request: &Request)
@@ -299,12 +293,12 @@ pub fn set_slot(slots: &mut Slab<Request>, key: usize, request: &Request)
     }
 }
 
-fn alone(alloc: Global, count: usize) -> Result<Rings, AllocError>
-    ensures places { IfOk result (λ rings. length rings ≡ count) }
+fn lone_rings(alloc: Global, count: usize) -> Result<Rings, AllocError>
+    ensures nodes { IfOk result (λ rings. length rings ≡ count) }
     ensures alone { IfOk result (λ rings. (head : ℕ) → head < count → IsRing rings head []) }
 {
     let mut rings = Rings::new(alloc);
-    while rings.places() < count {
+    while rings.nodes() < count {
         rings.add()?;
     }
     Ok(rings)
@@ -344,13 +338,13 @@ fn list_head(txn: TxnId, heads: usize) -> usize
     (txn.0 % heads as u64) as usize
 }
 
-// The place of the request of its transaction for its granule.
+// The node of the request of its transaction for its granule.
 fn find_node(mut walk: Walk<'_>, request: &Request) -> Option<usize>
     ensures { result ≡ option_map (λ (p : ℕ × Request). p.0) (find (λ (p : ℕ × Request). are_alike p.1 request.now) walk.entry) }
 {
-    while let Some((place, other)) = walk.advance() {
+    while let Some((node, other)) = walk.advance() {
         if other.txn == request.txn && other.granule == request.granule {
-            return Some(place);
+            return Some(node);
         }
     }
     None
@@ -360,9 +354,9 @@ fn find_node(mut walk: Walk<'_>, request: &Request) -> Option<usize>
 fn first_of(mut walk: Walk<'_>, txn: TxnId) -> Option<(usize, Request)>
     ensures { result ≡ find (λ (p : ℕ × Request). p.1.txn == txn) walk.entry }
 {
-    while let Some((place, request)) = walk.advance() {
+    while let Some((node, request)) = walk.advance() {
         if request.txn == txn {
-            return Some((place, request));
+            return Some((node, request));
         }
     }
     None

@@ -2,7 +2,7 @@
 ghost use Rattle.std.specs.Prelude.{◌≡◌, ◌&&◌, Some, not, true};
 ghost use Rattle.shore_types.specs.declared.locking.Mode.{Mode};
 ghost use Rattle.shore_locks.specs.Grants as steps;
-ghost use Rattle.shore_locks.specs.Sweeps as sweeps;
+ghost use Rattle.shore_locks.specs.Granting as sweeps;
 
 use shore_modes::grants;
 use shore_types::Mode;

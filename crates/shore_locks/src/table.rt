@@ -7,7 +7,7 @@ ghost use Rattle.shore_locks.specs.Tables.{holders_at, is_waiting, mode_held, wa
 ghost use Rattle.shore_locks.specs.Orderly.{IsOrderly};
 
 use crate::answers::{Requested, Tried};
-use crate::findings::{Finding, look};
+use crate::findings::{Finding, check_request};
 use crate::nodes::Nodes;
 use crate::queues::{Holders, Waiters};
 use crate::{changes, searches};
@@ -29,11 +29,11 @@ impl Model for LockTable {
 
     ghost Value = { Table };
 
-    ghost use Rattle.shore_locks.specs.Orderly.{IsKept};
+    ghost use Rattle.shore_locks.specs.Orderly.{IsOrderlyWithin};
 
     ghost view = { λ t. record { limit = t.limit; requests = t.nodes } };
 
-    ghost invariant = { λ t. IsKept t.limit t.nodes };
+    ghost invariant = { λ t. IsOrderlyWithin t.limit t.nodes };
 }
 
 impl LockTable {
@@ -99,7 +99,7 @@ impl LockTable {
         ensures refused { OnErr result (self.new ≡ self.old) }
         ensures memory { IfErr result (λ fault. fault ≡ Memory) }
     {
-        match look(&self.nodes, self.limit, txn, &granule, mode) {
+        match check_request(&self.nodes, self.limit, txn, &granule, mode) {
             Finding::Enough => Ok(Requested::Granted),
             Finding::Full => Ok(Requested::Full),
             Finding::Stopped { request, .. } => {
@@ -121,7 +121,7 @@ impl LockTable {
         ensures refused { OnErr result (self.new ≡ self.old) }
         ensures memory { IfErr result (λ fault. fault ≡ Memory) }
     {
-        match look(&self.nodes, self.limit, txn, &granule, mode) {
+        match check_request(&self.nodes, self.limit, txn, &granule, mode) {
             Finding::Enough => Ok(Tried::Granted),
             Finding::Full => Ok(Tried::Full),
             Finding::Stopped { other, .. } => Ok(Tried::Blocked(other)),

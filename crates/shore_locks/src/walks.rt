@@ -1,22 +1,22 @@
 //! A walk along a ring of nodes.
 ghost use Rattle.std.specs.Prelude.{◌≡◌, ◌∷◌, ◌<◌, [], length, MatchOption};
 ghost use Rattle.slab.specs.Slab.{slab_len};
-ghost use Rattle.shore_links.specs.Rings.{after_at};
+ghost use Rattle.shore_rings.specs.Rings.{after_at};
 ghost use Rattle.shore_locks.specs.Nodes.{pairs_from};
 
-use shore_links::Rings;
 use shore_model::Request;
+use shore_rings::Rings;
 use slab::Slab;
 use std::marker::Model;
 
-/// The nodes of a ring that are left, each with its place.
+/// The nodes of a ring that are left, each with its number.
 #[derive(Drop)]
 pub struct Walk<'a> {
     slots: &'a Slab<Request>,
     rings: &'a Rings,
     heads: usize,
     head: usize,
-    place: usize,
+    node: usize,
     // No more than so many are left: no ring has more nodes than there are.
     left: usize,
 }
@@ -28,9 +28,9 @@ impl<'a> Model for Walk<'a> {
 
     ghost Value = { List (ℕ × Request) };
 
-    ghost view = { λ w. pairs_from w.left w.slots.now w.rings.now w.heads w.head w.place };
+    ghost view = { λ w. pairs_from w.left w.slots.now w.rings.now w.heads w.head w.node };
 
-    ghost invariant = { λ w. w.place < length w.rings.now };
+    ghost invariant = { λ w. w.node < length w.rings.now };
 }
 
 impl<'a> Walk<'a> {
@@ -44,7 +44,7 @@ impl<'a> Walk<'a> {
             rings,
             heads,
             head,
-            place: rings.after(head),
+            node: rings.after(head),
             left: slots.len(),
         }
     }
@@ -53,16 +53,16 @@ impl<'a> Walk<'a> {
     pub fn advance(&mut self) -> Option<(usize, Request)>
         ensures { MatchOption result ((self.old ≡ []) × (self.new ≡ [])) (λ node. self.old ≡ node ∷ self.new) }
     {
-        if self.left == 0 || self.place == self.head {
+        if self.left == 0 || self.node == self.head {
             return None;
         }
-        let key = self.place.saturating_sub(self.heads);
+        let key = self.node.saturating_sub(self.heads);
         match self.slots.get(key) {
             Some(request) => {
-                let place = self.place;
-                self.place = self.rings.after(place);
+                let node = self.node;
+                self.node = self.rings.after(node);
                 self.left -= 1;
-                Some((place, *request))
+                Some((node, *request))
             }
             None => None,
         }

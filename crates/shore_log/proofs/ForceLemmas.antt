@@ -11,10 +11,10 @@ use Rattle.shore_model.specs.declared.log_records.LogRecord.{LogRecord}
 use Rattle.shore_log.specs.Frames.{AreNumbered, IsGroup, IsLongest, behind_gate, Frames, GivesBehind, GivesWithOrWithout, text, number_behind, AreGroups, joined}
 use Rattle.shore_log.specs.Settled.{IsSettled, IsStaged, stable, waiting}
 use Rattle.shore_log.specs.declared.device.LogDev.{LogDev}
-use Rattle.shore_log.proofs.ListLemmas.{AreNumbered-test, AreNumbered-drop, IsGroup-longest, length-stable}
+use Rattle.shore_log.proofs.LoggedLemmas.{AreNumbered-test, AreNumbered-drop, IsGroup-longest, length-stable}
 use Rattle.shore_log.proofs.FrameLemmas.{AreGroups-push, closed_behind, text-push, joined-push, number_behind-joined, parts_of}
 
-module _ (front : List ℕ) (long : length front ≡ 4096) (gs : List (List LogRecord)) (place : ℕ) (place_is : place ≡ length (text 1 gs)) where
+module _ (front : List ℕ) (long : length front ≡ 4096) (gs : List (List LogRecord)) (offset : ℕ) (offset_is : offset ≡ length (text 1 gs)) where
   -- an image with these frames, and then the rest
   abbrev pub image : List ℕ → List ℕ
   image rest = front ++ (text 1 gs ++ rest)
@@ -40,23 +40,23 @@ module _ (front : List ℕ) (long : length front ≡ 4096) (gs : List (List LogR
   )
 
   -- a write behind the gate
-  pub over_rest : (gate : ℕ) (rest bytes : List ℕ) → overwritten (image (gate ∷ rest)) (4096 + place + 1) bytes ≡ image (gate ∷ (bytes ++ drop (length bytes) rest))
+  pub over_rest : (gate : ℕ) (rest bytes : List ℕ) → overwritten (image (gate ∷ rest)) (4096 + offset + 1) bytes ≡ image (gate ∷ (bytes ++ drop (length bytes) rest))
   over_rest gate rest bytes =
       let before = front ++ (text 1 gs ++ gate ∷ []) in
       let parts : (l : List ℕ) → before ++ l ≡ image (gate ∷ l) = λ l. append_assoc front (text 1 gs ++ gate ∷ []) l ∙ ap (λ (m : List ℕ). front ++ m) (append_assoc (text 1 gs) (gate ∷ []) l) in
-      ap (λ (l : List ℕ). overwritten l (4096 + place + 1) bytes) (sym (parts rest))
-      ∙ overwritten-append before rest (4096 + place + 1) bytes (omega (arith, length-append front (text 1 gs ++ gate ∷ []), length-append (text 1 gs) (gate ∷ []), long, place_is))
+      ap (λ (l : List ℕ). overwritten l (4096 + offset + 1) bytes) (sym (parts rest))
+      ∙ overwritten-append before rest (4096 + offset + 1) bytes (omega (arith, length-append front (text 1 gs ++ gate ∷ []), length-append (text 1 gs) (gate ∷ []), long, offset_is))
       ∙ parts (bytes ++ drop (length bytes) rest)
 
   -- a write of the gate
-  pub over_gate : (gate new : ℕ) (rest : List ℕ) → overwritten (image (gate ∷ rest)) (4096 + place) (new ∷ []) ≡ image (new ∷ rest)
+  pub over_gate : (gate new : ℕ) (rest : List ℕ) → overwritten (image (gate ∷ rest)) (4096 + offset) (new ∷ []) ≡ image (new ∷ rest)
   over_gate gate new rest =
       let before = front ++ text 1 gs in
-      ap (λ (l : List ℕ). overwritten l (4096 + place) (new ∷ [])) (sym (append_assoc front (text 1 gs) (gate ∷ rest)))
-      ∙ overwritten-append before (gate ∷ rest) (4096 + place) (new ∷ []) (omega (arith, length-append front (text 1 gs), long, place_is))
+      ap (λ (l : List ℕ). overwritten l (4096 + offset) (new ∷ [])) (sym (append_assoc front (text 1 gs) (gate ∷ rest)))
+      ∙ overwritten-append before (gate ∷ rest) (4096 + offset) (new ∷ []) (omega (arith, length-append front (text 1 gs), long, offset_is))
       ∙ append_assoc front (text 1 gs) (new ∷ rest)
 
-  pub torn_rest : (gate : ℕ) (rest : List ℕ) (n : ℕ) (c : List ℕ) → AreGroups 1 gs → gate ≢ OPEN → Torn (4096 + place + 1) n (image (gate ∷ rest)) c → GivesBehind front (joined gs) c
+  pub torn_rest : (gate : ℕ) (rest : List ℕ) (n : ℕ) (c : List ℕ) → AreGroups 1 gs → gate ≢ OPEN → Torn (4096 + offset + 1) n (image (gate ∷ rest)) c → GivesBehind front (joined gs) c
   torn_rest gate rest n c are shut (inl same) = subst (GivesBehind front (joined gs)) (sym same) (gives gate rest are shut)
   torn_rest gate rest n c are shut (inr torn) = subst (GivesBehind front (joined gs)) (sym (torn.2 ∙ over_rest gate rest torn.0)) (gives gate (torn.0 ++ drop (length torn.0) rest) are shut)
 
@@ -72,25 +72,25 @@ module _ (front : List ℕ) (long : length front ≡ 4096) (gs : List (List LogR
     | inr shut ↦ inl (gives gate (behind_gate (number_behind 1 gs) (texts g) ++ 0 ∷ rest) are shut)
   ]
 
-  torn_open : (g : List LogRecord) (gate : ℕ) (rest : List ℕ) (c : List ℕ) → AreGroups 1 gs → AreGroups 1 (gs ++ g ∷ []) → Torn (4096 + place) 1 (image (gate ∷ (behind_gate (number_behind 1 gs) (texts g) ++ 0 ∷ rest))) c → GivesWithOrWithout front (joined gs) g c
+  torn_open : (g : List LogRecord) (gate : ℕ) (rest : List ℕ) (c : List ℕ) → AreGroups 1 gs → AreGroups 1 (gs ++ g ∷ []) → Torn (4096 + offset) 1 (image (gate ∷ (behind_gate (number_behind 1 gs) (texts g) ++ 0 ∷ rest))) c → GivesWithOrWithout front (joined gs) g c
   torn_open g gate rest c are more (inl same) = subst (GivesWithOrWithout front (joined gs) g) (sym same) (any_gate g gate rest are more)
   torn_open g gate rest c are more (inr torn) =
       let b = one_byte torn.0 torn.1 in
-      let is : c ≡ image (b.0 ∷ (behind_gate (number_behind 1 gs) (texts g) ++ 0 ∷ rest)) = torn.2 ∙ ap (overwritten (image (gate ∷ (behind_gate (number_behind 1 gs) (texts g) ++ 0 ∷ rest))) (4096 + place)) b.1 ∙ over_gate gate b.0 (behind_gate (number_behind 1 gs) (texts g) ++ 0 ∷ rest) in
+      let is : c ≡ image (b.0 ∷ (behind_gate (number_behind 1 gs) (texts g) ++ 0 ∷ rest)) = torn.2 ∙ ap (overwritten (image (gate ∷ (behind_gate (number_behind 1 gs) (texts g) ++ 0 ∷ rest))) (4096 + offset)) b.1 ∙ over_gate gate b.0 (behind_gate (number_behind 1 gs) (texts g) ++ 0 ∷ rest) in
       subst (GivesWithOrWithout front (joined gs) g) (sym is) (any_gate g b.0 rest are more)
 
-  pub torn_gate : (g : List LogRecord) (gate : ℕ) (rest : List ℕ) (next : ℕ) → next ≡ number_behind 1 gs → (c : List ℕ) → AreGroups 1 gs → AreGroups 1 (gs ++ g ∷ []) → Torn (4096 + place) 1 (image (gate ∷ (behind_gate next (texts g) ++ 0 ∷ rest))) c → GivesWithOrWithout front (joined gs) g c
-  torn_gate g gate rest next is c are more torn = torn_open g gate rest c are more (subst (λ n. Torn (4096 + place) 1 (image (gate ∷ (behind_gate n (texts g) ++ 0 ∷ rest))) c) is torn)
+  pub torn_gate : (g : List LogRecord) (gate : ℕ) (rest : List ℕ) (next : ℕ) → next ≡ number_behind 1 gs → (c : List ℕ) → AreGroups 1 gs → AreGroups 1 (gs ++ g ∷ []) → Torn (4096 + offset) 1 (image (gate ∷ (behind_gate next (texts g) ++ 0 ∷ rest))) c → GivesWithOrWithout front (joined gs) g c
+  torn_gate g gate rest next is c are more torn = torn_open g gate rest c are more (subst (λ n. Torn (4096 + offset) 1 (image (gate ∷ (behind_gate n (texts g) ++ 0 ∷ rest))) c) is torn)
 
 -- a settled log: each image that a crash leaves gives its stable records
 pub settled_gives : {D : Type 0} {G : Ghosts D} (log : LogDev D G) (front : List ℕ) → IsSettled log front → (c : List ℕ) → may_leave (G.history log.device) c → GivesBehind front (stable log) c
 settled_gives log front s c left =
-    subst (λ rs. GivesBehind front rs c) (sym s.forced) (subst (GivesBehind front (joined s.groups)) (sym (s.stands.only c left)) (gives front s.front_long s.groups log.place s.place s.gate s.rest s.are s.shut))
+    subst (λ rs. GivesBehind front rs c) (sym s.forced) (subst (GivesBehind front (joined s.groups)) (sym (s.stands.only c left)) (gives front s.front_long s.groups log.offset s.offset s.gate s.rest s.are s.shut))
 
 -- what frames of a stable image are: the device is settled where its next frame goes behind them
 pub settled_from : {D : Type 0} {G : Ghosts D} (log : LogDev D G) (image : List ℕ) (gs : List (List LogRecord)) → IsTrue (G.is_honest log.device) → Stands (G.history log.device) image → 4096 ≤ length image → Frames 1 (drop 4096 image) gs
-    → log.place ≡ length (text 1 gs) → stable log ≡ joined gs → IsSettled log (take 4096 image)
-settled_from {G = G} log image gs honest stands long frames place forced =
+    → log.offset ≡ length (text 1 gs) → stable log ≡ joined gs → IsSettled log (take 4096 image)
+settled_from {G = G} log image gs honest stands long frames offset forced =
     let p = parts_of 1 (drop 4096 image) gs frames in
     let is : image ≡ take 4096 image ++ (text 1 gs ++ p.gate ∷ p.rest) = sym (take-append-drop 4096 image) ∙ ap (λ (l : List ℕ). take 4096 image ++ l) p.is in
     record {
@@ -103,7 +103,7 @@ settled_from {G = G} log image gs honest stands long frames place forced =
       are = p.groups;
       forced = forced;
       stands = subst (Stands (G.history log.device)) is stands;
-      place = place;
+      offset = offset;
     }
 
 -- the number of the first staged record is the one behind those of the frames
@@ -113,10 +113,10 @@ number_of_staged log front group s =
 
 -- a settled log behind whose gate the first so many of its waiting records stand in a frame
 pub staged_from : {D : Type 0} {G : Ghosts D} (old new : LogDev D G) (front : List ℕ) (s : IsSettled old front) (count n len : ℕ) (left : List ℕ) → n ≡ count → 1 ≤ count → IsLongest (waiting old) count
-    → IsTrue (G.is_honest new.device) → new.records ≡ old.records → new.forced ≡ old.forced → new.place ≡ old.place
+    → IsTrue (G.is_honest new.device) → new.records ≡ old.records → new.forced ≡ old.forced → new.offset ≡ old.offset
     → Stands (G.history new.device) (front ++ (text 1 s.groups ++ s.gate ∷ (behind_gate (old.forced + 1) (texts (take count (waiting old))) ++ 0 ∷ left)))
     → len ≡ length (texts (take count (waiting old))) → new.staged ≡ Some record { count = count; len = len } → IsStaged new front (take n (waiting old))
-staged_from {G = G} old new front s count n len left n_is some longest honest records forced place stands len_is staged =
+staged_from {G = G} old new front s count n len left n_is some longest honest records forced offset stands len_is staged =
     let rs = waiting old in
     let group = take count rs in
     let number = old.forced + 1 in
@@ -137,7 +137,7 @@ staged_from {G = G} old new front s count n len left n_is some longest honest re
       forced = same ∙ s.forced;
       first = ap (λ (l : List LogRecord). take (length group) l) wait ∙ ap (λ (k : ℕ). take k rs) count_is;
       stands = subst (λ k. Stands (G.history new.device) (front ++ (text 1 s.groups ++ s.gate ∷ (behind_gate (k + 1) (texts group) ++ 0 ∷ left)))) (sym forced) stands;
-      place = place ∙ s.place;
+      offset = offset ∙ s.offset;
       waits = cc (staged, count_is, len_is);
     } in
     subst (λ k. IsStaged new front (take k rs)) (sym n_is) made

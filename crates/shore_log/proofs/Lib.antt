@@ -1,7 +1,7 @@
 pub mod FrameLemmas
 pub mod ForceLemmas
-pub mod ListLemmas
+pub mod LoggedLemmas
 pub mod ReadLemmas
-pub mod PlaceLemmas
+pub mod OffsetLemmas
 pub mod StreamLemmas
 pub mod WalkLemmas

@@ -8,9 +8,9 @@ use Rattle.shore_types.specs.declared.faults.Fault.TheVariants.{Damaged}
 use Rattle.shore_model.specs.declared.log_records.LogRecord.{LogRecord}
 use Rattle.shore_logrec.specs.Text.{texts}
 use Rattle.shore_log.specs.Frames.{IsGroup, AreGroups, Frames, behind_gate, text, number_behind, joined}
-use Rattle.shore_log.specs.Places.{GateAt, IsFrameAt, HasNoFrame, NoneStands, IsBadAt}
+use Rattle.shore_log.specs.Offsets.{GateAt, IsFrameAt, HasNoFrame, NoneStands, IsBadAt}
 use Rattle.shore_log.proofs.FrameLemmas.{closed_behind, text-push, length-text-push, AreGroups-push, joined-push, number_behind-joined}
-use Rattle.shore_log.proofs.PlaceLemmas.{same_frame}
+use Rattle.shore_log.proofs.OffsetLemmas.{same_frame}
 use Rattle.shore_log.proofs.ReadLemmas.{not_both}
 
 -- from one byte to another stand frames of these groups, and every reading of the first bytes begins with them
@@ -18,11 +18,11 @@ pub record IsRead (from : ℕ) (image : List ℕ) (front : List (List LogRecord)
   pub parts : drop from image ≡ text 1 front ++ drop at image
   pub groups : AreGroups 1 front
   pub number_is : number ≡ number_behind 1 front
-  pub place_is : at ≡ from + length (text 1 front)
+  pub offset_is : at ≡ from + length (text 1 front)
   pub only : (gs : List (List LogRecord)) → Frames 1 (drop from image) gs → (more : List (List LogRecord)) × (gs ≡ front ++ more) × Frames number (drop at image) more
 
 pub begun : (from : ℕ) (image : List ℕ) → IsRead from image [] 1 from
-begun from image = record { parts = refl; groups = tt; number_is = refl; place_is = omega arith; only = λ gs frames. (gs, refl, frames) }
+begun from image = record { parts = refl; groups = tt; number_is = refl; offset_is = omega arith; only = λ gs frames. (gs, refl, frames) }
 
 -- an open gate
 opened : (image : List ℕ) (at : ℕ) (b : Bool) → b ≡ true → GateAt image at b → drop at image ≡ OPEN ∷ drop (at + 1) image
@@ -55,14 +55,14 @@ module _ (from : ℕ) (image : List ℕ) (front : List (List LogRecord)) (number
   -- one frame on
   pub frame_on : b ≡ true → (number' at' : ℕ) (g : List LogRecord) → number < 2 ^ 64 → IsGroup number g → IsFrameAt image at number g → number' ≡ number + length g → at' ≡ at + 13 + length (texts g)
       → IsRead from image (front ++ g ∷ []) number' at'
-  frame_on is_open number' at' g small group frame next place =
+  frame_on is_open number' at' g small group frame next offset =
       let here = opened image at b is_open gate in
-      let behind : drop (at + 1) image ≡ behind_gate number (texts g) ++ drop at' image = frame.stands ∙ ap (λ (k : ℕ). behind_gate number (texts g) ++ drop k image) (sym place) in
+      let behind : drop (at + 1) image ≡ behind_gate number (texts g) ++ drop at' image = frame.stands ∙ ap (λ (k : ℕ). behind_gate number (texts g) ++ drop k image) (sym offset) in
       record {
         parts = read.parts ∙ ap (λ (l : List ℕ). text 1 front ++ l) (here ∙ ap (λ (l : List ℕ). OPEN ∷ l) (behind ∙ ap (λ (n : ℕ). behind_gate n (texts g) ++ drop at' image) read.number_is)) ∙ sym (text-push 1 front g (drop at' image));
         groups = AreGroups-push 1 front g read.groups (subst (λ n. IsGroup n g) read.number_is group);
         number_is = omega (arith, next, read.number_is, number_behind-joined 1 front, number_behind-joined 1 (front ++ g ∷ []), ap length (joined-push front g), length-append (joined front) g);
-        place_is = omega (arith, place, read.place_is, length-text-push 1 front g);
+        offset_is = omega (arith, offset, read.offset_is, length-text-push 1 front g);
         only = λ gs frames. step here behind gs (read.only gs frames);
       }
     where
@@ -84,7 +84,7 @@ module _ (from : ℕ) (image : List ℕ) (front : List (List LogRecord)) (number
         front = front;
         groups = read.groups;
         parts = read.parts;
-        place_is = read.place_is;
+        offset_is = read.offset_is;
         bad = subst (λ n. NoneStands n (drop at image)) read.number_is record {
           no_gate = λ other rest shut e. no_other_gate (drop at image) (drop (at + 1) image) rest other here shut e;
           no_frame = λ g rest group some e. none g rest group some (behind_open (drop at image) (drop (at + 1) image) (behind_gate number (texts g) ++ rest) here e);
@@ -98,7 +98,7 @@ module _ (from : ℕ) (image : List ℕ) (front : List (List LogRecord)) (number
       step here ([], all, left) = no_other_gate (drop at image) (drop (at + 1) image) left.1 left.0 here left.2 left.3
       step here (h ∷ more, all, (r, is_group, some, e, frames)) = none h r is_group some (behind_open (drop at image) (drop (at + 1) image) (behind_gate number (texts h) ++ r) here e)
 
--- the place that a fault tells
+-- the offset that a fault tells
 pub damaged_at : {T : Type 0} (fault : Fault) (a b : ℕ) → fault ≡ Damaged Log a → (let one : Result T Fault = Err fault in let two : Result T Fault = Err (Damaged Log b) in one ≡ two) → a ≡ b
 damaged_at fault a b is e = cc
 

@@ -5,9 +5,9 @@ use Rattle.shore_gate.specs.declared.gates.TheConstants.{OPEN}
 use Rattle.shore_model.specs.declared.log_records.LogRecord.{LogRecord}
 use Rattle.shore_logrec.specs.Text.{texts}
 use Rattle.shore_log.specs.Frames.{IsGroup, AreGroups, frame_head, behind_gate, text, number_behind, joined}
-use Rattle.shore_log.specs.Places.{IsFrameOf}
+use Rattle.shore_log.specs.Offsets.{IsFrameOf}
 use Rattle.shore_log.proofs.FrameLemmas.{length-behind_gate, length-text-push, joined-push, number_behind-joined}
-use Rattle.shore_log.proofs.PlaceLemmas.{same_head, frame_is}
+use Rattle.shore_log.proofs.OffsetLemmas.{same_head, frame_is}
 use Rattle.shore_log.proofs.ReadLemmas.{length-texts}
 
 text-append : (n : ℕ) (xs ys : List (List LogRecord)) → text n (xs ++ ys) ≡ text n xs ++ text (number_behind n xs) ys
@@ -101,20 +101,20 @@ module _ (from : ℕ) (image : List ℕ) (groups : List (List LogRecord)) (rest 
     -- one frame on
     pub one_on : (len first at' : ℕ) → len < 2 ^ 32 → first < 2 ^ 64 → length (text 1 groups) < 2 ^ 30 → at < from + length (text 1 groups) → drop (at + 1) image ≡ frame_head len first ++ drop (at + 13) image
         → first ≤ number → at' ≡ at + 13 + len → IsWalked from groups number at' at
-    one_on len first at' len_small first_small short within head no_later place =
+    one_on len first at' len_small first_small short within head no_later offset =
         let n = next within in
         let is = head_is len first n len_small first_small short head in
         record {
           before = walk.before ++ n.group ∷ [];
           after = n.more;
           all = walk.all ∙ ap (λ (gs : List (List LogRecord)). walk.before ++ gs) n.after_is ∙ sym (append_assoc walk.before (n.group ∷ []) n.more);
-          at_is = omega (arith, place, is.0, walk.at_is, length-text-push 1 walk.before n.group);
+          at_is = omega (arith, offset, is.0, walk.at_is, length-text-push 1 walk.before n.group);
           held = inr (walk.before, n.group, refl, walk.at_is, omega (arith, is.1, no_later));
         }
 
     found_in : (1 ≤ number) → number < number_behind 1 walk.before → (walk.before ≡ []) ⊎ IsPassed from walk.before number found → IsFrameOf from image number found
     found_in some below (inl none) = absurd (omega (arith, some, below, ap (number_behind 1) none))
-    found_in some below (inr (front, group, is, place, no_less)) =
+    found_in some below (inr (front, group, is, offset, no_less)) =
         let all : groups ≡ front ++ group ∷ walk.after = walk.all ∙ ap (λ (gs : List (List LogRecord)). gs ++ walk.after) is ∙ append_assoc front (group ∷ []) walk.after in
         record {
           before = front;
@@ -123,7 +123,7 @@ module _ (from : ℕ) (image : List ℕ) (groups : List (List LogRecord)) (rest 
           rest = rest;
           groups = subst (AreGroups 1) all are;
           parts = parts ∙ ap (λ (gs : List (List LogRecord)). text 1 gs ++ rest) all;
-          place_is = place;
+          offset_is = offset;
           first = no_less;
           last = omega (arith, below, ap (number_behind 1) is, number_behind-joined 1 front, number_behind-joined 1 (front ++ group ∷ []), ap length (joined-push front group), length-append (joined front) group);
         }

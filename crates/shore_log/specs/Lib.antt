@@ -1,6 +1,6 @@
 pub mod Frames
-pub mod Lists
-pub mod Places
+pub mod LoggedRecords
+pub mod Offsets
 pub mod PlainTails
 pub mod Reading
 pub mod Settled

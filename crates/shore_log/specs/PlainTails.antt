@@ -1,4 +1,4 @@
--- What a plain tail has.
+-- What a plain log buffer has.
 use Rattle.std.specs.Prelude.{ℕ, List}
 use Rattle.shore_model.specs.declared.log_records.LogRecord.{LogRecord}
 use Rattle.shore_log.specs.declared.tail.PlainTail.{PlainTail}

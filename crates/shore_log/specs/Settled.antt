@@ -10,8 +10,8 @@ use Rattle.shore_log.specs.Frames.{behind_gate, text, AreGroups, IsLongest, join
 use Rattle.shore_log.specs.declared.device.LogDev.{LogDev}
 
 -- every record, in the order of their numbers
-abbrev pub list_of : {D : Type 0} {G : Ghosts D} → LogDev D G → List LogRecord
-list_of log = log.records.items
+abbrev pub records_of_log : {D : Type 0} {G : Ghosts D} → LogDev D G → List LogRecord
+records_of_log log = log.records.items
 
 -- those that are forced
 abbrev pub stable : {D : Type 0} {G : Ghosts D} → LogDev D G → List LogRecord
@@ -22,7 +22,7 @@ abbrev pub waiting : {D : Type 0} {G : Ghosts D} → LogDev D G → List LogReco
 waiting log = drop log.forced log.records.items
 
 -- The device is honest and holds this front, the stable records in frames and a closed gate behind them, all of it stable.
--- The next frame goes to the place of that gate.
+-- The next frame goes to the offset of that gate.
 pub record IsSettled {D : Type 0} {G : Ghosts D} (log : LogDev D G) (front : List ℕ) : Type 0 where
   pub honest : IsTrue (G.is_honest log.device)
   pub groups : List (List LogRecord)
@@ -33,7 +33,7 @@ pub record IsSettled {D : Type 0} {G : Ghosts D} (log : LogDev D G) (front : Lis
   pub are : AreGroups 1 groups
   pub forced : stable log ≡ joined groups
   pub stands : Stands (G.history log.device) (front ++ (text 1 groups ++ gate ∷ rest))
-  pub place : log.place ≡ length (text 1 groups)
+  pub offset : log.offset ≡ length (text 1 groups)
 
 -- One frame more, of these records, stands behind the closed gate, and a closed gate behind it, all of it stable.
 pub record IsStaged {D : Type 0} {G : Ghosts D} (log : LogDev D G) (front : List ℕ) (group : List LogRecord) : Type 0 where
@@ -47,7 +47,7 @@ pub record IsStaged {D : Type 0} {G : Ghosts D} (log : LogDev D G) (front : List
   pub forced : stable log ≡ joined groups
   pub first : take (length group) (waiting log) ≡ group
   pub stands : Stands (G.history log.device) (front ++ (text 1 groups ++ gate ∷ (behind_gate (log.forced + 1) (texts group) ++ 0 ∷ rest)))
-  pub place : log.place ≡ length (text 1 groups)
+  pub offset : log.offset ≡ length (text 1 groups)
   pub waits : log.staged ≡ Some record { count = length group; len = length (texts group) }
 
 -- the device has no room for the frame of the longest list of waiting records that one frame holds, and a byte behind it
@@ -55,7 +55,7 @@ pub record HasNoFrameRoom {D : Type 0} {G : Ghosts D} (log : LogDev D G) : Type 
   pub count : ℕ
   pub some : 1 ≤ count
   pub longest : IsLongest (waiting log) count
-  pub full : log.limit ≤ 4096 + log.place + (13 + length (texts (take count (waiting log))))
+  pub full : log.device_bytes ≤ 4096 + log.offset + (13 + length (texts (take count (waiting log))))
 
 -- The forced records and the frame under way are the same, and what was settled or staged is so still.
 pub record KeepsFrames {D : Type 0} {G : Ghosts D} (old new : LogDev D G) : Type 0 where

@@ -6,9 +6,9 @@ ghost use Rattle.shore_disk.specs.Device.{size, seen, LeavesOnly, Stands};
 ghost use Rattle.shore_disk.specs.Cause.{HasCause};
 ghost use Rattle.shore_model.specs.declared.log_records.LogRecord.{LogRecord};
 ghost use Rattle.shore_logrec.specs.Text.{Fits, texts};
-ghost use Rattle.shore_log.specs.Lists.{are_numbered};
+ghost use Rattle.shore_log.specs.LoggedRecords.{are_numbered};
 ghost use Rattle.shore_log.specs.Frames.{Gives, GivesBehind, GivesWithOrWithout, IsLongest};
-ghost use Rattle.shore_log.specs.Places.{IsBadAt, IsFrameOf, RefusesReading};
+ghost use Rattle.shore_log.specs.Offsets.{IsBadAt, IsFrameOf, RefusesReading};
 
 use crate::group::{HEAD_BYTES, frame_bytes, longest_group};
 use crate::reading::{Stream, damaged, find_frame, read_stream};
@@ -24,7 +24,7 @@ use std::alloc::Global;
 pub const STREAM: u64 = 4096;
 
 // The offset of the length in a device's label.
-const LENGTH_PLACE: u64 = 16;
+const LENGTH_OFFSET: u64 = 16;
 
 /// The number of the last durable record. Only the log makes one, so none is told before its force.
 #[derive(Clone, Copy)]
@@ -53,42 +53,42 @@ struct Staged {
 pub struct LogDev<D: Disk> {
     device: D,
     // The device's length.
-    limit: u64,
+    device_bytes: u64,
     records: Vec<LogRecord>,
     // How many records are forced.
     forced: usize,
-    // The stream place of the next frame.
-    place: u64,
+    // The offset of the next frame in the stream.
+    offset: u64,
     staged: Option<Staged>,
     ghost numbered: { IsTrue (are_numbered 1 records.items) },
-    ghost is_short: { limit ≤ 2 ^ 30 },
-    ghost gate_inside: { 4096 + place < limit },
+    ghost is_short: { device_bytes ≤ 2 ^ 30 },
+    ghost gate_inside: { 4096 + offset < device_bytes },
     ghost forced_inside: { forced ≤ length records.items },
-    ghost staged_inside: { ForSome staged (λ s. 4096 + place + s.len + 13 < limit) },
+    ghost staged_inside: { ForSome staged (λ s. 4096 + offset + s.len + 13 < device_bytes) },
     ghost staged_waits: { ForSome staged (λ s. forced + s.count ≤ length records.items) },
     ghost staged_short: { ForSome staged (λ s. s.len ≤ 65536) },
     ghost staged_some: { ForSome staged (λ s. 1 ≤ s.count) },
-    ghost as_long: { limit ≡ size (D.Disk.history device) },
+    ghost as_long: { device_bytes ≡ size (D.Disk.history device) },
 }
 
 // Whether a device of this length has a stream of frames, and is no longer than a log may be.
-fn has_stream(limit: u64) -> bool
-    ensures { IsTrue result ↔ ((4096 < limit) × (limit ≤ 2 ^ 30)) }
+fn has_stream(device_bytes: u64) -> bool
+    ensures { IsTrue result ↔ ((4096 < device_bytes) × (device_bytes ≤ 2 ^ 30)) }
 {
-    limit > STREAM && limit <= MAX_LOG_BYTES
+    device_bytes > STREAM && device_bytes <= MAX_LOG_BYTES
 }
 
 impl<D: Disk> LogDev<D> {
-    ghost use Rattle.shore_log.specs.Settled.{HasNoFrameRoom, IsSettled, IsStaged, KeepsFrames, list_of, stable, waiting, device_of, fault_of};
+    ghost use Rattle.shore_log.specs.Settled.{HasNoFrameRoom, IsSettled, IsStaged, KeepsFrames, records_of_log, stable, waiting, device_of, fault_of};
     ghost use Rattle.shore_log.specs.PlainTails.{first_of, waiting_in};
 
     /// Takes all records that wait in the log buffer. `Memory` if an allocation failed: each stays where it was.
     pub fn take_in(&mut self, tail: &mut PlainTail) -> Result<(), Fault>
-        requires { first_of tail.old ≡ 1 + length (list_of self.old) }
-        ensures taken { OnOk result (list_of self.new ≡ list_of self.old ++ waiting_in tail.old) }
+        requires { first_of tail.old ≡ 1 + length (records_of_log self.old) }
+        ensures taken { OnOk result (records_of_log self.new ≡ records_of_log self.old ++ waiting_in tail.old) }
         ensures emptied { OnOk result (waiting_in tail.new ≡ []) }
         ensures next { first_of tail.new + length (waiting_in tail.new) ≡ first_of tail.old + length (waiting_in tail.old) }
-        ensures refused { OnErr result ((list_of self.new ≡ list_of self.old) × (waiting_in tail.new ≡ waiting_in tail.old)) }
+        ensures refused { OnErr result ((records_of_log self.new ≡ records_of_log self.old) × (waiting_in tail.new ≡ waiting_in tail.old)) }
         ensures only_memory { IfErr result (λ fault. fault ≡ Fault.Memory) }
         ensures frames { KeepsFrames self.old self.new }
         ensures device { self.new.device ≡ self.old.device }
@@ -119,7 +119,7 @@ impl<D: Disk> LogDev<D> {
         ensures any_moment { (front : List ℕ) → IsSettled self.old front → self.old.staged ≡ None
             → LeavesOnly (D.history self.old.device) (D.history self.new.device) (GivesBehind front (stable self.old)) }
 
-        ensures same { (list_of self.new ≡ list_of self.old) × (stable self.new ≡ stable self.old) }
+        ensures same { (records_of_log self.new ≡ records_of_log self.old) × (stable self.new ≡ stable self.old) }
         ensures refused { IfErr result (λ fault. (fault ≡ Fault.Device) ⊎ (self.new ≡ self.old)) }
         ensures others { IfErr result (λ fault. (fault ≡ Fault.Device) ⊎ (fault ≡ Fault.Memory) ⊎ (fault ≡ Fault.LogFull)) }
         ensures full { result ≡ Err Fault.LogFull → HasNoFrameRoom self.old }
@@ -134,12 +134,12 @@ impl<D: Disk> LogDev<D> {
         if count == 0 {
             return Ok(None);
         }
-        if STREAM + self.place + (1 + HEAD_BYTES + len) as u64 >= self.limit {
+        if STREAM + self.offset + (1 + HEAD_BYTES + len) as u64 >= self.device_bytes {
             return Err(Fault::LogFull);
         }
         let first = self.forced as u64 + 1;
         let bytes = frame_bytes(alloc, first, &waiting[..count], len)?;
-        write_synced(&mut self.device, STREAM + self.place + 1, &bytes)?;
+        write_synced(&mut self.device, STREAM + self.offset + 1, &bytes)?;
         self.staged = Some(Staged { count, len });
         Ok(Some(Lsn((self.forced + count) as u64)))
     }
@@ -149,7 +149,7 @@ impl<D: Disk> LogDev<D> {
         ensures settled { (front : List ℕ) (group : List LogRecord) → IsStaged self.old front group
             → OnOk result (IsSettled self.new front × (stable self.new ≡ stable self.old ++ group)) }
         ensures opened { IfOk result (λ n. IsSome n ↔ IsSome self.old.staged) }
-        ensures grown { IfOk result (λ n. IfSome n (λ durable. (length (stable self.old) < durable.lsn) × (durable.lsn ≤ length (list_of self.new)))) }
+        ensures grown { IfOk result (λ n. IfSome n (λ durable. (length (stable self.old) < durable.lsn) × (durable.lsn ≤ length (records_of_log self.new)))) }
         ensures frame { IfOk result (λ n. IfSome n (λ durable. ForSome self.old.staged (λ s. durable.lsn ≡ self.old.forced + s.count))) }
         ensures waited { OnErr result (IsSome self.old.staged) }
         ensures none_staged { OnOk result (self.new.staged ≡ None) }
@@ -160,7 +160,7 @@ impl<D: Disk> LogDev<D> {
         ensures any_moment { (front : List ℕ) (group : List LogRecord) → IsStaged self.old front group
             → LeavesOnly (D.history self.old.device) (D.history self.new.device) (GivesWithOrWithout front (stable self.old) group) }
 
-        ensures same { list_of self.new ≡ list_of self.old }
+        ensures same { records_of_log self.new ≡ records_of_log self.old }
         ensures only_device { IfErr result (λ fault. fault ≡ Fault.Device) }
         ensures unforced { OnErr result (stable self.new ≡ stable self.old) }
         ensures cause { HasCause result (D.faults self.old.device) (D.faults self.new.device) }
@@ -168,9 +168,9 @@ impl<D: Disk> LogDev<D> {
         let Some(staged) = self.staged else {
             return Ok(None);
         };
-        open_gate(&mut self.device, STREAM + self.place)?;
+        open_gate(&mut self.device, STREAM + self.offset)?;
         self.staged = None;
-        self.place += (1 + HEAD_BYTES + staged.len) as u64;
+        self.offset += (1 + HEAD_BYTES + staged.len) as u64;
         self.forced += staged.count;
         Ok(Some(self.durable()))
     }
@@ -191,7 +191,7 @@ impl<D: Disk> LogDev<D> {
         ensures none_waits { self.old.staged ≡ None → result ≡ Ok None → waiting self.old ≡ [] }
         ensures under_way { IsSome self.old.staged → result ≡ Ok None }
         ensures nothing { result ≡ Ok None → self.new ≡ self.old }
-        ensures same { list_of self.new ≡ list_of self.old }
+        ensures same { records_of_log self.new ≡ records_of_log self.old }
         ensures unforced { OnErr result (stable self.new ≡ stable self.old) }
         ensures refused { IfErr result (λ fault. (fault ≡ Fault.Device) ⊎ (self.new ≡ self.old)) }
         ensures others { IfErr result (λ fault. (fault ≡ Fault.Device) ⊎ (fault ≡ Fault.Memory) ⊎ (fault ≡ Fault.LogFull)) }
@@ -221,9 +221,9 @@ impl<D: Disk> LogDev<D> {
         }
     }
 
-    /// Every record from the tail number on, in the order of their numbers.
+    /// Every record from the oldest kept number on, in the order of their numbers.
     pub fn records(&self) -> &[LogRecord]
-        ensures list { result.now ≡ list_of self.now }
+        ensures log { result.now ≡ records_of_log self.now }
         ensures fit { All Fits result.now }
     {
         &self.records
@@ -235,19 +235,19 @@ impl<D: Disk> LogDev<D> {
     pub fn open(alloc: Global, device: D) -> Result<LogDev<D>, (Fault, D)>
         // What is opened is settled, and all of its records are stable.
         ensures settled { IsTrue (D.is_honest device) → (image : List ℕ) → Stands (D.history device) image → IfOk result (λ log. IsSettled log (take 4096 image)) }
-        ensures none_waits { IfOk result (λ log. (log.staged ≡ None) × (stable log ≡ list_of log)) }
+        ensures none_waits { IfOk result (λ log. (log.staged ≡ None) × (stable log ≡ records_of_log log)) }
 
         // The records are those that the device's frames give, and no others.
-        ensures found { IsTrue (D.is_honest device) → IfOk result (λ log. Gives (list_of log) (seen (D.history device))) }
+        ensures found { IsTrue (D.is_honest device) → IfOk result (λ log. Gives (records_of_log log) (seen (D.history device))) }
         ensures only { IsTrue (D.is_honest device) → (rs : List LogRecord) → Gives rs (seen (D.history device))
-            → IfOk result (λ log. list_of log ≡ rs) }
+            → IfOk result (λ log. records_of_log log ≡ rs) }
 
         // A device of a log's length with all of its frames within is opened.
         ensures undamaged { IsTrue (D.is_honest device) → size (D.history device) ≤ 2 ^ 30
             → (rs : List LogRecord) → Gives rs (seen (D.history device)) → IfErr result (λ e. (e.0 ≡ Fault.Device) ⊎ (e.0 ≡ Fault.Memory)) }
         ensures damaged { IsTrue (D.is_honest device)
             → 4096 < size (D.history device) → size (D.history device) ≤ 2 ^ 30
-            → (place : ℕ) → IfErr result (λ e. e.0 ≡ Fault.Damaged Device.Log place → IsBadAt 4096 (seen (D.history device)) place) }
+            → (offset : ℕ) → IfErr result (λ e. e.0 ≡ Fault.Damaged Device.Log offset → IsBadAt 4096 (seen (D.history device)) offset) }
         ensures outside { (size (D.history device) ≤ 4096) ⊎ (2 ^ 30 < size (D.history device))
             → result ≡ Err (Fault.Damaged Device.Log 16, device) }
         ensures refused { IfErr result (λ e. RefusesReading e.0) }
@@ -259,17 +259,17 @@ impl<D: Disk> LogDev<D> {
         ensures cause { HasCause (fault_of result) (D.faults device) (D.faults (device_of result)) }
     {
         let mut device = device;
-        let limit = device.len();
-        if !has_stream(limit) {
-            return Err((damaged(LENGTH_PLACE), device));
+        let device_bytes = device.len();
+        if !has_stream(device_bytes) {
+            return Err((damaged(LENGTH_OFFSET), device));
         }
-        match read_stream(alloc, &mut device, limit, STREAM) {
+        match read_stream(alloc, &mut device, device_bytes, STREAM) {
             Ok(Stream { records, end }) => Ok(LogDev {
                 device,
-                limit,
+                device_bytes,
                 forced: records.len(),
                 records,
-                place: end - STREAM,
+                offset: end - STREAM,
                 staged: None,
             }),
             Err(fault) => Err((fault, device)),
@@ -284,16 +284,16 @@ impl<D: Disk> LogDev<D> {
             → IfOk result (λ read. read.items ≡ rs) }
         ensures undamaged { IsTrue (D.is_honest self.old.device) → (rs : List LogRecord) → Gives rs (seen (D.history self.old.device))
             → IfErr result (λ fault. (fault ≡ Fault.Device) ⊎ (fault ≡ Fault.Memory)) }
-        ensures damaged { IsTrue (D.is_honest self.old.device) → (place : ℕ) → result ≡ Err (Fault.Damaged Device.Log place)
-            → IsBadAt 4096 (seen (D.history self.old.device)) place }
+        ensures damaged { IsTrue (D.is_honest self.old.device) → (offset : ℕ) → result ≡ Err (Fault.Damaged Device.Log offset)
+            → IsBadAt 4096 (seen (D.history self.old.device)) offset }
         ensures refused { IfErr result RefusesReading }
         ensures frames { KeepsFrames self.old self.new }
-        ensures list { list_of self.new ≡ list_of self.old }
+        ensures log { records_of_log self.new ≡ records_of_log self.old }
         ensures same { IsTrue (D.is_honest self.old.device) → D.history self.new.device ≡ D.history self.old.device }
         ensures honest { D.is_honest self.new.device ≡ D.is_honest self.old.device }
         ensures cause { HasCause result (D.faults self.old.device) (D.faults self.new.device) }
     {
-        let read = read_stream(alloc, &mut self.device, self.limit, STREAM)?;
+        let read = read_stream(alloc, &mut self.device, self.device_bytes, STREAM)?;
         Ok(read.records)
     }
 
@@ -303,13 +303,13 @@ impl<D: Disk> LogDev<D> {
             → IfOk result (IsFrameOf 4096 (seen (D.history self.old.device)) number) }
         ensures only_device { IfErr result (λ fault. fault ≡ Fault.Device) }
         ensures frames { KeepsFrames self.old self.new }
-        ensures list { list_of self.new ≡ list_of self.old }
+        ensures log { records_of_log self.new ≡ records_of_log self.old }
         ensures same { IsTrue (D.is_honest self.old.device) → D.history self.new.device ≡ D.history self.old.device }
         ensures honest { D.is_honest self.new.device ≡ D.is_honest self.old.device }
         ensures cause { HasCause result (D.faults self.old.device) (D.faults self.new.device) }
         ensures size { size (D.history self.new.device) ≡ size (D.history self.old.device) }
     {
-        let end = STREAM + self.place;
+        let end = STREAM + self.offset;
         find_frame(&mut self.device, STREAM, end, number.0)
     }
 
@@ -321,10 +321,10 @@ impl<D: Disk> LogDev<D> {
     }
 
     /// The length of the stream.
-    pub fn size(&self) -> u64
-        ensures { result + 4096 ≡ self.now.limit }
+    pub fn stream_bytes(&self) -> u64
+        ensures { result + 4096 ≡ self.now.device_bytes }
     {
-        self.limit - STREAM
+        self.device_bytes - STREAM
     }
 
     /// Gives the device back.
@@ -344,8 +344,8 @@ impl<D: Disk> LogDev<FuseDisk<D>> {
         ensures inner { fuse_inner self.new.device ≡ fuse_inner self.old.device }
         ensures calls { fuse_calls self.new.device ≡ calls }
         ensures refused { fuse_refused self.new.device ≡ fuse_refused self.old.device }
-        ensures list { (self.new.records ≡ self.old.records) × (self.new.forced ≡ self.old.forced) }
-        ensures frame { (self.new.place ≡ self.old.place) × (self.new.staged ≡ self.old.staged) }
+        ensures log { (self.new.records ≡ self.old.records) × (self.new.forced ≡ self.old.forced) }
+        ensures frame { (self.new.offset ≡ self.old.offset) × (self.new.staged ≡ self.old.staged) }
         ensures frames { KeepsFrames self.old self.new }
     {
         self.device.set_calls(calls);

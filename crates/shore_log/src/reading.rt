@@ -7,7 +7,7 @@ ghost use Rattle.shore_logrec.specs.Text.{Fits, texts};
 ghost use Rattle.shore_logrec.specs.Text as logrec;
 ghost use Rattle.shore_log.specs.Frames.{AreNumbered, AreGroups, Frames, IsGroup, frame_head, joined, text};
 ghost use Rattle.shore_log.specs.Reading.{Reads, ReadsOne};
-ghost use Rattle.shore_log.specs.Places.{GateAt, HeadAt, BodyAt, IsFrameAt, IsFrameOf, HasNoFrame, IsBadAt, RefusesReading};
+ghost use Rattle.shore_log.specs.Offsets.{GateAt, HeadAt, BodyAt, IsFrameAt, IsFrameOf, HasNoFrame, IsBadAt, RefusesReading};
 ghost use Rattle.shore_log.specs.declared.reading.ReadError.TheVariants.{Memory};
 
 use crate::group::HEAD_BYTES;
@@ -60,12 +60,12 @@ pub struct Head {
 }
 
 /// The log device is damaged at this offset.
-pub fn damaged(place: u64) -> Fault
-    ensures { result ≡ Fault.Damaged Device.Log place }
+pub fn damaged(offset: u64) -> Fault
+    ensures { result ≡ Fault.Damaged Device.Log offset }
 {
     Fault::Damaged {
         device: Device::Log,
-        place,
+        place: offset,
     }
 }
 
@@ -74,14 +74,14 @@ pub fn damaged(place: u64) -> Fault
 pub fn read_stream<D: Disk>(
     alloc: Global,
     device: &mut D,
-    limit: u64,
+    device_bytes: u64,
     from: u64,
 ) -> Result<Stream, Fault>
-    requires inside { from < limit }
-    requires short { limit ≤ 2 ^ 30 }
-    requires size { limit ≤ size (D.history device.old) }
+    requires inside { from < device_bytes }
+    requires short { device_bytes ≤ 2 ^ 30 }
+    requires size { device_bytes ≤ size (D.history device.old) }
     ensures numbered { IfOk result (λ s. AreNumbered 1 s.records.items) }
-    ensures end { IfOk result (λ s. (from ≤ s.end) × (s.end < limit)) }
+    ensures end { IfOk result (λ s. (from ≤ s.end) × (s.end < device_bytes)) }
 
     // What an honest device holds is frames, and these are their records.
     ensures found { IsTrue (D.is_honest device.old) → IfOk result (λ s. (gs : List (List LogRecord))
@@ -92,12 +92,12 @@ pub fn read_stream<D: Disk>(
         → IfOk result (λ s. s.records.items ≡ joined gs) }
 
     // If it holds frames, all within its length, they are read.
-    ensures undamaged { IsTrue (D.is_honest device.old) → length (seen (D.history device.old)) ≤ limit
+    ensures undamaged { IsTrue (D.is_honest device.old) → length (seen (D.history device.old)) ≤ device_bytes
         → (gs : List (List LogRecord)) → Frames 1 (drop from (seen (D.history device.old))) gs
         → IfErr result (λ fault. (fault ≡ Fault.Device) ⊎ (fault ≡ Fault.Memory)) }
 
-    ensures damaged { IsTrue (D.is_honest device.old) → length (seen (D.history device.old)) ≤ limit
-        → (place : ℕ) → result ≡ Err (Fault.Damaged Device.Log place) → IsBadAt from (seen (D.history device.old)) place }
+    ensures damaged { IsTrue (D.is_honest device.old) → length (seen (D.history device.old)) ≤ device_bytes
+        → (offset : ℕ) → result ≡ Err (Fault.Damaged Device.Log offset) → IsBadAt from (seen (D.history device.old)) offset }
     ensures refused { IfErr result RefusesReading }
     ensures same { IsTrue (D.is_honest device.old) → D.history device.new ≡ D.history device.old }
     ensures honest { D.is_honest device.new ≡ D.is_honest device.old }
@@ -108,7 +108,7 @@ pub fn read_stream<D: Disk>(
     let mut at = from;
     while is_gate_open(device, at)? {
         let number = records.len() as u64 + 1;
-        let Some((mut group, len)) = read_frame(alloc, device, limit, at, number)? else {
+        let Some((mut group, len)) = read_frame(alloc, device, device_bytes, at, number)? else {
             return Err(damaged(at));
         };
         records.append(&mut group)?;
@@ -132,12 +132,12 @@ fn is_gate_open<D: Disk>(device: &mut D, at: u64) -> Result<bool, Fault>
 }
 
 /// Reads the head behind the gate at a byte; `None` if it lies past the end.
-pub fn read_head<D: Disk>(device: &mut D, limit: u64, at: u64) -> Result<Option<Head>, Fault>
+pub fn read_head<D: Disk>(device: &mut D, device_bytes: u64, at: u64) -> Result<Option<Head>, Fault>
     requires short { at < 2 ^ 30 }
-    requires size { limit ≤ size (D.history device.old) }
-    ensures inside { IfOk result (λ head. IsSome head → at + 13 ≤ limit) }
+    requires size { device_bytes ≤ size (D.history device.old) }
+    ensures inside { IfOk result (λ head. IsSome head → at + 13 ≤ device_bytes) }
     ensures head { IsTrue (D.is_honest device.old) → IfOk result (λ found. IfSome found (HeadAt (seen (D.history device.old)) at)) }
-    ensures none { result ≡ Ok None → limit < at + 13 }
+    ensures none { result ≡ Ok None → device_bytes < at + 13 }
     ensures only_device { IfErr result (λ fault. fault ≡ Fault.Device) }
     ensures same { IsTrue (D.is_honest device.old) → D.history device.new ≡ D.history device.old }
     ensures honest { D.is_honest device.new ≡ D.is_honest device.old }
@@ -145,7 +145,7 @@ pub fn read_head<D: Disk>(device: &mut D, limit: u64, at: u64) -> Result<Option<
     ensures cause { HasCause result (D.faults device.old) (D.faults device.new) }
 {
     let begin = at + 1;
-    if begin + HEAD_BYTES as u64 > limit {
+    if begin + HEAD_BYTES as u64 > device_bytes {
         return Ok(None);
     }
     let mut bytes = [0; HEAD_BYTES];
@@ -208,17 +208,17 @@ fn fits(head: Head, number: u64, left: u64) -> bool
 fn read_body<D: Disk>(
     alloc: Global,
     device: &mut D,
-    limit: u64,
+    device_bytes: u64,
     at: u64,
     number: u64,
 ) -> Result<Option<Vec<u8>>, Fault>
     requires short { at < 2 ^ 30 }
-    requires size { limit ≤ size (D.history device.old) }
+    requires size { device_bytes ≤ size (D.history device.old) }
     ensures inside { IfOk result (λ found. IfSome found (λ body.
-        (1 ≤ length body.items) × (length body.items ≤ 65536) × (at + 13 + length body.items < limit))) }
+        (1 ≤ length body.items) × (length body.items ≤ 65536) × (at + 13 + length body.items < device_bytes))) }
     ensures body { IsTrue (D.is_honest device.old) → IfOk result (λ found. IfSome found (λ body.
         BodyAt (seen (D.history device.old)) at number body.items)) }
-    ensures none { IsTrue (D.is_honest device.old) → length (seen (D.history device.old)) ≤ limit → result ≡ Ok None
+    ensures none { IsTrue (D.is_honest device.old) → length (seen (D.history device.old)) ≤ device_bytes → result ≡ Ok None
         → HasNoFrame (seen (D.history device.old)) at number }
     ensures refused { IfErr result (λ fault. (fault ≡ Fault.Device) ⊎ (fault ≡ Fault.Memory)) }
     ensures same { IsTrue (D.is_honest device.old) → D.history device.new ≡ D.history device.old }
@@ -226,11 +226,11 @@ fn read_body<D: Disk>(
     ensures size { size (D.history device.new) ≡ size (D.history device.old) }
     ensures cause { HasCause result (D.faults device.old) (D.faults device.new) }
 {
-    let Some(head) = read_head(device, limit, at)? else {
+    let Some(head) = read_head(device, device_bytes, at)? else {
         return Ok(None);
     };
     let begin = at + 1 + HEAD_BYTES as u64;
-    if !fits(head, number, limit - begin) {
+    if !fits(head, number, device_bytes - begin) {
         return Ok(None);
     }
     let body = read_bytes(alloc, device, begin, head.len as usize)?;
@@ -258,18 +258,18 @@ fn read_bytes<D: Disk>(alloc: Global, device: &mut D, at: u64, len: usize) -> Re
 fn read_frame<D: Disk>(
     alloc: Global,
     device: &mut D,
-    limit: u64,
+    device_bytes: u64,
     at: u64,
     number: u64,
 ) -> Result<Option<(Vec<LogRecord>, usize)>, Fault>
     requires short { at < 2 ^ 30 }
     requires few { number ≤ 2 ^ 30 }
-    requires size { limit ≤ size (D.history device.old) }
+    requires size { device_bytes ≤ size (D.history device.old) }
     ensures group { IfOk result (λ found. IfSome found (λ x. IsGroup number x.0.items × (x.1 ≡ length (texts x.0.items)))) }
-    ensures inside { IfOk result (λ found. IfSome found (λ x. at + 13 + x.1 < limit)) }
+    ensures inside { IfOk result (λ found. IfSome found (λ x. at + 13 + x.1 < device_bytes)) }
     ensures frame { IsTrue (D.is_honest device.old) → IfOk result (λ found. IfSome found (λ x.
         IsFrameAt (seen (D.history device.old)) at number x.0.items)) }
-    ensures none { IsTrue (D.is_honest device.old) → length (seen (D.history device.old)) ≤ limit → result ≡ Ok None
+    ensures none { IsTrue (D.is_honest device.old) → length (seen (D.history device.old)) ≤ device_bytes → result ≡ Ok None
         → HasNoFrame (seen (D.history device.old)) at number }
     ensures refused { IfErr result (λ fault. (fault ≡ Fault.Device) ⊎ (fault ≡ Fault.Memory)) }
     ensures same { IsTrue (D.is_honest device.old) → D.history device.new ≡ D.history device.old }
@@ -277,7 +277,7 @@ fn read_frame<D: Disk>(
     ensures size { size (D.history device.new) ≡ size (D.history device.old) }
     ensures cause { HasCause result (D.faults device.old) (D.faults device.new) }
 {
-    let Some(body) = read_body(alloc, device, limit, at, number)? else {
+    let Some(body) = read_body(alloc, device, device_bytes, at, number)? else {
         return Ok(None);
     };
     match read_group(alloc, number, &body) {

@@ -3,7 +3,7 @@ ghost use Rattle.std.specs.Prelude.{◌≡◌, ◌+◌, ◌<◌, ◌≤◌, ◌^
 ghost use Rattle.shore_types.specs.declared.faults.Fault.TheVariants as fault;
 ghost use Rattle.shore_model.specs.declared.log_records.LogRecord.{LogRecord};
 ghost use Rattle.shore_logrec.specs.Text.{Fits};
-ghost use Rattle.shore_log.specs.Lists.{are_numbered};
+ghost use Rattle.shore_log.specs.LoggedRecords.{are_numbered};
 
 use shore_logrec::LogRecord;
 use shore_types::{Fault, Lsn};
@@ -35,7 +35,7 @@ pub trait Tail {
         ensures { result ≡ first self.now + length (records self.now) };
 }
 
-/// A tail for one caller's thread: the records wait in memory until the log device takes them.
+/// A log buffer for one caller: the records wait in memory until the log device takes them.
 #[derive(Drop)]
 pub struct PlainTail {
     first: u64,
@@ -47,7 +47,7 @@ pub struct PlainTail {
 impl PlainTail {
     ghost use Rattle.shore_log.specs.PlainTails.{first_of, waiting_in};
 
-    /// A tail with no record, whose next has this number.
+    /// A log buffer with no record, whose next has this number.
     pub fn new(alloc: Global, next: Lsn) -> PlainTail
         requires { next ≤ 2 ^ 62 }
         ensures first { first_of result ≡ next }

@@ -4,7 +4,7 @@ use Rattle.std.proofs.lemmas.Bool.{cases_lt, eqb-true, ltb-false, le-ltb}
 use Rattle.std.proofs.lemmas.List.{append-nil, nil_from_length, take_at, drop_at, take-append-drop, length-append, length-take, get_or_append_left, get_or-append_right, get_or_past}
 use Rattle.byteorder.specs.Endian.{little_bytes, little_number}
 use Rattle.shore_types.specs.declared.layout.TheConstants.{MAX_RECORD_BYTES}
-use Rattle.shore_model.specs.Records.{Image}
+use Rattle.shore_types.specs.Images.{Image}
 use Rattle.shore_logrec.specs.Text.{rid_text, string_text, image_text, RidFits, ImageFits}
 use Rattle.shore_logrec.specs.Reading.{◌>>=◌, Reader, pair_at, made_at, whole, byte_at, number_at, string_at, image_at, rid_at, rid_of}
 use Rattle.shore_logrec.proofs.Numbers.{IsBytes, number-of_bytes, bytes-of_number, number_fits}

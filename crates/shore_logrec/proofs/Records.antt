@@ -6,7 +6,7 @@ use Rattle.std.proofs.lemmas.Bool.Decides.{nat_tests}
 use Rattle.std.proofs.lemmas.List.{nil_from_length, length-append, take_at}
 use Rattle.byteorder.specs.Endian.{little_bytes}
 use Rattle.shore_types.specs.declared.ids.Rid.{Rid}
-use Rattle.shore_model.specs.Records.{Image}
+use Rattle.shore_types.specs.Images.{Image}
 use Rattle.shore_model.specs.declared.log_records.LogRecord.{LogRecord}
 use Rattle.shore_model.specs.declared.log_records.Payload.{Payload}
 use Rattle.shore_model.specs.declared.log_records.Payload.TheVariants.{Change, Compensation, Commit, End, Prepare, RollbackDecided, CheckpointBegin, CheckpointEnd, Anchor}

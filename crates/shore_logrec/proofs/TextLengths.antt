@@ -5,7 +5,7 @@ use Rattle.std.proofs.lemmas.List.{length-append}
 use Rattle.byteorder.specs.Endian.{little_bytes}
 use Rattle.byteorder.specs.Numbers.{length-bytes_low_first}
 use Rattle.shore_types.specs.declared.ids.Rid.{Rid}
-use Rattle.shore_model.specs.Records.{Image}
+use Rattle.shore_types.specs.Images.{Image}
 use Rattle.shore_model.specs.declared.log_records.LogRecord.{LogRecord}
 use Rattle.shore_logrec.specs.Text.{rid_text, string_text, image_text, image_text_len, change_text, payload_text, head_text, text}
 

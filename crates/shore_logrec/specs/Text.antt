@@ -8,7 +8,7 @@ use Rattle.shore_types.specs.declared.locking.Granule.TheVariants.{Volume, Store
 use Rattle.shore_types.specs.declared.locking.Level.{Level}
 use Rattle.shore_types.specs.declared.locking.Level.TheVariants as level
 use Rattle.shore_types.specs.declared.layout.TheConstants.{MAX_RECORD_BYTES}
-use Rattle.shore_model.specs.Records.{Image}
+use Rattle.shore_types.specs.Images.{Image}
 use Rattle.shore_model.specs.declared.log_records.DirtyPage.{DirtyPage}
 use Rattle.shore_model.specs.declared.log_records.LogRecord.{LogRecord}
 use Rattle.shore_model.specs.declared.log_records.LogTxn.{LogTxn}

@@ -3,7 +3,7 @@ ghost use Rattle.std.specs.Prelude.{◌≡◌, ◌≤◌, ◌+◌, length, optio
 ghost use Rattle.std.specs.Option.{ForSome};
 ghost use Rattle.shore_types.specs.declared.ids.Rid.{Rid};
 ghost use Rattle.shore_types.specs.declared.layout.TheConstants.{MAX_RECORD_BYTES};
-ghost use Rattle.shore_model.specs.Records.{Image};
+ghost use Rattle.shore_types.specs.Images.{Image};
 ghost use Rattle.shore_model.specs.declared.log_records.Payload.TheVariants.{Change};
 ghost use Rattle.shore_logrec.specs.Text.{cost_of, image_text_len};
 

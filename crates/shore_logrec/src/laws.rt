@@ -4,7 +4,7 @@ ghost use Rattle.shore_model.specs.declared.log_records.LogRecord.{LogRecord};
 ghost use Rattle.shore_logrec.specs.Text.{Fits, text};
 
 /// No record's text begins another's, so bytes are the texts of one list of records at most.
-pub fn no_text_begins_another()
+pub fn encoding_is_prefix_free()
     ensures { (a b : LogRecord) (xs ys : List ℕ) → Fits a → Fits b
         → text a ++ xs ≡ text b ++ ys → (a ≡ b) × (xs ≡ ys) }
 {}

@@ -8,7 +8,7 @@ mod reading;
 mod writing;
 
 pub use costs::{change_cost, compensation_cost};
-pub use laws::no_text_begins_another;
+pub use laws::encoding_is_prefix_free;
 pub use lengths::{MAX_TEXT_BYTES, encoded_len};
 pub use reading::{decode, u32_at, u64_at};
 pub use shore_model::{LogRecord, Payload};

@@ -10,10 +10,11 @@ use Rattle.shore_types.specs.declared.ids.Rid.{Rid}
 use Rattle.shore_model.specs.declared.log_records.LogRecord.{LogRecord}
 use Rattle.shore_model.specs.declared.log_records.Payload.{Payload}
 use Rattle.shore_model.specs.declared.log_records.Payload.TheVariants.{Change, Commit}
-use Rattle.shore_model.specs.Records.{Records, WriteSet, Image, overlay, overlays}
-use Rattle.shore_model.specs.Logs.{image_in, image_at, is_commit, last_images}
+use Rattle.shore_model.specs.Records.{Records, WriteSet, overlay, overlays}
+use Rattle.shore_types.specs.Images.{Image}
+use Rattle.shore_model.specs.Logs.{image_in, image_of_record, is_commit, last_images}
 use Rattle.shore_model.proofs.Overlays.{get-overlay}
-use Rattle.shore_machine.specs.FirstLists.{is_insert}
+use Rattle.shore_machine.specs.FirstLogs.{is_insert}
 use Rattle.shore_machine.proofs.Entries.{recursion-push}
 
 abbrev images_in : List LogRecord → List (Rid × Image)
@@ -95,7 +96,7 @@ module _ (id : Rid) where
   left_alone rs h =
       each_alone rs (all_reversed Misses (images_in rs) (missed_by (reverse (images_in rs)) (sym (get-last_images rs id) ∙ h)))
 
-  pub nothing_at : (rs : List LogRecord) → AllByRecursion LeavesAlone rs → image_at rs id ≡ None
+  pub nothing_at : (rs : List LogRecord) → AllByRecursion LeavesAlone rs → image_of_record rs id ≡ None
   nothing_at rs h =
       ap (λ o. unwrap_or o None) (get-last_images rs id ∙ found_none (reverse (images_in rs)) (all_reverse Misses (images_in rs) (alone_each rs h)))
 

@@ -27,7 +27,7 @@ use Rattle.shore_machine.specs.Steps.{CallStep, Refuses, IsRefusal, Answers, ins
 use Rattle.shore_machine.specs.Pages.{IsFree}
 use Rattle.shore_machine.specs.Trails.{IsAfter, after_call, called_by, opening_of, serial_now}
 use Rattle.shore_machine.proofs.UnderWay.{records_found, under_way}
-use Rattle.shore_machine.proofs.Goings.{read_goes_on, insert_goes_on, begin_goes_on, commit_is_decided}
+use Rattle.shore_machine.proofs.CallsGoOn.{read_goes_on, insert_goes_on, begin_goes_on, commit_is_decided}
 use Rattle.shore_machine.proofs.Quiet.{refused, refusal_goes_on}
 use Rattle.shore_machine.proofs.Replies.{IsQuietFault, quiet_or_no_record, refusal_is_quiet}
 use Rattle.shore_machine.proofs.Turns.{history_on, written}
@@ -126,7 +126,7 @@ module _ (g : Geometry) (opened : List LogRecord) (es : List Entry) (s : State) 
   done : (c : Call) (answer : Answer) (new : State) → IsServed c → s.committing ≡ None → Answers g s c answer new → GoesOn c (Done answer) new
   done call.Begin answer new served quiet h =
       subst (λ (answer : Answer). GoesOn call.Begin (Done answer) new) (sym h.2)
-      (subst (λ (new : State). GoesOn call.Begin (Done (Began s.next)) new) (sym h.3) (begin_goes_on opened es s k h.0 quiet))
+      (subst (λ (new : State). GoesOn call.Begin (Done (Began s.next_txn)) new) (sym h.3) (begin_goes_on opened es s k h.0 quiet))
   done (call.Get id) answer new served quiet h =
       let one = is_some_one s.active h.0 in
       subst (λ (new : State). GoesOn (call.Get id) (Done answer) new) (sym h.3) (got one.0 one.1 quiet id answer h.2)

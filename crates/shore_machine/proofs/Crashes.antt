@@ -9,13 +9,13 @@ use Rattle.shore_model.specs.declared.histories.Decision.TheVariants as decision
 use Rattle.shore_model.specs.declared.histories.Entry.{Entry}
 use Rattle.shore_model.specs.declared.log_records.LogRecord.{LogRecord}
 use Rattle.shore_model.specs.Histories.{History, writes_in, Kept, decisions, acknowledged, serial}
-use Rattle.shore_model.specs.Logs.{told, committed_in, commit_of}
+use Rattle.shore_model.specs.Logs.{records_told, committed_in, commit_of}
 use Rattle.shore_machine.specs.Bookkeeping.{commits_in}
 use Rattle.shore_machine.specs.States.{State}
 use Rattle.shore_machine.specs.Trails.{IsAfter, KeepsDurable}
 use Rattle.shore_machine.proofs.Gains.{decisions_logged, commits_more}
 use Rattle.shore_machine.proofs.Turns.{history_on, written}
-use Rattle.shore_machine.proofs.ToldFronts.{told_front}
+use Rattle.shore_machine.proofs.RecordsOfPrefixes.{records_of_prefix}
 
 module _ (opened : List LogRecord) (es : List Entry) (s : State) (k : IsAfter opened (history_on opened es) s) (n : ℕ) (keeps : KeepsDurable s n) where
   abbrev m : ℕ
@@ -25,12 +25,12 @@ module _ (opened : List LogRecord) (es : List Entry) (s : State) (k : IsAfter op
   abbrev kept_gained : List LogRecord
   kept_gained = take m k.gained
 
-  kept_list : take n s.list ≡ opened ++ kept_gained
+  kept_list : take n s.log ≡ opened ++ kept_gained
   kept_list =
       let least = k.forced.least in
       let more = keeps.0 in
       let split : n ≡ length opened + m = omega arith in
-      ap (take n) k.list ∙ ap (λ j. take j (opened ++ k.gained)) split ∙ take-append-add opened k.gained m
+      ap (take n) k.log ∙ ap (λ j. take j (opened ++ k.gained)) split ∙ take-append-add opened k.gained m
 
   abbrev kept_decisions : List Decision
   kept_decisions = commits_in kept_gained
@@ -51,14 +51,14 @@ module _ (opened : List LogRecord) (es : List Entry) (s : State) (k : IsAfter op
             (λ d c. commits_more (s.durable - length opened) m k.gained d le c) (acknowledged es) k.forced.acknowledged;
       }
 
-  told_kept : told (take n s.list) ≡ serial (written es) (told opened) kept_decisions
-  told_kept = ap told kept_list ∙ told_front opened k.gained es k.first k.logged k.ordered m
+  records_kept : records_told (take n s.log) ≡ serial (written es) (records_told opened) kept_decisions
+  records_kept = ap records_told kept_list ∙ records_of_prefix opened k.gained es k.first k.logged k.ordered m
 
-  crash_keeps : (ds : List Decision) × Kept es ds × (told (take n s.list) ≡ serial (written es) (told opened) ds)
-  crash_keeps = (kept_decisions, kept, told_kept)
+  crash_keeps : (ds : List Decision) × Kept es ds × (records_told (take n s.log) ≡ serial (written es) (records_told opened) ds)
+  crash_keeps = (kept_decisions, kept, records_kept)
 
 pub crash_on : (opened : List LogRecord) (h : History) (s : State) (n : ℕ) → IsAfter opened h s → KeepsDurable s n
-    → (kept : List Decision) × Kept h.entries kept × (told (take n s.list) ≡ serial (writes_in h) h.opening.records kept)
+    → (kept : List Decision) × Kept h.entries kept × (records_told (take n s.log) ≡ serial (writes_in h) h.opening.records kept)
 crash_on opened h s n k keeps =
-    subst (λ o. (kept : List Decision) × Kept h.entries kept × (told (take n s.list) ≡ serial (writes_in (record { opening = o; entries = h.entries })) o.records kept)) (sym k.opening)
+    subst (λ o. (kept : List Decision) × Kept h.entries kept × (records_told (take n s.log) ≡ serial (writes_in (record { opening = o; entries = h.entries })) o.records kept)) (sym k.opening)
     (crash_keeps opened h.entries s (subst (λ o. IsAfter opened (record { opening = o; entries = h.entries }) s) k.opening k) n keeps)

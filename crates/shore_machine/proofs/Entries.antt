@@ -9,8 +9,8 @@ use Rattle.shore_model.specs.declared.histories.Decision.{Decision}
 use Rattle.shore_model.specs.declared.histories.Entry.{Entry}
 use Rattle.shore_model.specs.declared.histories.Entry.TheVariants.{Exchanged, Decided}
 use Rattle.shore_model.specs.declared.histories.Opening.{Opening}
-use Rattle.shore_model.specs.declared.sessions.Standing.{Standing}
-use Rattle.shore_model.specs.Histories.{IsHistory, MayStand, calls_of, exchange_of, decisions, decision_of, standing, after_entry}
+use Rattle.shore_model.specs.declared.sessions.SessionState.{SessionState}
+use Rattle.shore_model.specs.Histories.{IsHistory, MayStand, calls_of, exchange_of, decisions, decision_of, session_state, after_entry}
 use Rattle.shore_model.proofs.Beginnings.{slice_get-push}
 
 pub recursion-push : {A : Type 0} (P : A → Type 0) (xs : List A) (x : A) → AllByRecursion P xs → P x → AllByRecursion P (xs ++ x ∷ [])
@@ -35,9 +35,9 @@ pub recursion-each : {A : Type 0} (P : A → Type 0) → ((x : A) → P x) → (
 recursion-each P f [] = tt
 recursion-each P f (x ∷ xs) = (f x, recursion-each P f xs)
 
-pub standing-push : (s : ℕ) (p : Standing) (es : List Entry) (e : Entry) → standing s p (es ++ e ∷ []) ≡ after_entry s (standing s p es) e
-standing-push s p [] e = refl
-standing-push s p (x ∷ es) e = standing-push s (after_entry s p x) es e
+pub session_state-push : (s : ℕ) (p : SessionState) (es : List Entry) (e : Entry) → session_state s p (es ++ e ∷ []) ≡ after_entry s (session_state s p es) e
+session_state-push s p [] e = refl
+session_state-push s p (x ∷ es) e = session_state-push s (after_entry s p x) es e
 
 module _ (es : List Entry) where
   pub calls-exchanged : (t u s : ℕ) (x : Exchange) (b : Bool) → (u == t) ≡ b → calls_of t (es ++ Exchanged s u x ∷ []) ≡ calls_of t es ++ cons_option (cond b (Some x) None) []

@@ -10,9 +10,9 @@ use Rattle.shore_model.specs.declared.histories.Entry.{Entry}
 use Rattle.shore_model.specs.declared.histories.Entry.TheVariants.{Exchanged, Decided}
 use Rattle.shore_model.specs.declared.log_records.LogRecord.{LogRecord}
 use Rattle.shore_model.specs.Histories.{decisions, acknowledged, acknowledged_by}
-use Rattle.shore_model.specs.FirstPath.{IsFirstEntry, IsLogOf, said_by}
+use Rattle.shore_model.specs.FirstPath.{IsFirstEntry, IsLogOf, logged_by}
 use Rattle.shore_model.specs.Logs.{committed_in, commit_of, is_commit}
-use Rattle.shore_model.proofs.FirstPaths.{said, said_commit, commits_said, entry_commits, commit_in}
+use Rattle.shore_model.proofs.FirstPaths.{as_log_entry, logged_commit, commits_logged, entry_commits, commit_in}
 use Rattle.shore_machine.specs.Bookkeeping.{EndWithCommits, IsForced, commits_in}
 use Rattle.shore_machine.proofs.Entries.{recursion-push}
 use Rattle.shore_machine.proofs.Turns.{txn_in}
@@ -27,7 +27,7 @@ all_commits (Decided (decision.Prepare u g) ∷ es) h = absurd h.0
 all_commits (Decided (decision.RollBack u) ∷ es) h = absurd h.0
 
 committed_logged : (es : List Entry) (rs : List LogRecord) → IsLogOf es rs → filter_map commit_in (decisions es) ≡ committed_in rs
-committed_logged es rs is = sym (commits_said rs ∙ ap (filter_map said_commit) is ∙ entry_commits es)
+committed_logged es rs is = sym (commits_logged rs ∙ ap (filter_map logged_commit) is ∙ entry_commits es)
 
 pub decisions_logged : (es : List Entry) (rs : List LogRecord) → AllByRecursion IsFirstEntry es → IsLogOf es rs → decisions es ≡ commits_in rs
 decisions_logged es rs first is = all_commits es first ∙ ap (map decision.Commit) (committed_logged es rs is)
@@ -43,14 +43,14 @@ of_decisions P es rs first is h =
 
 -- ---- one entry more
 
-pub logged_none : (es : List Entry) (rs : List LogRecord) (e : Entry) → said_by e ≡ None → IsLogOf es rs → IsLogOf (es ++ e ∷ []) rs
+pub logged_none : (es : List Entry) (rs : List LogRecord) (e : Entry) → logged_by e ≡ None → IsLogOf es rs → IsLogOf (es ++ e ∷ []) rs
 logged_none es rs e none is =
-    is ∙ sym (filter_map-append said_by es (e ∷ []) ∙ ap (λ o. filter_map said_by es ++ cons_option o []) none ∙ append-nil (filter_map said_by es))
+    is ∙ sym (filter_map-append logged_by es (e ∷ []) ∙ ap (λ o. filter_map logged_by es ++ cons_option o []) none ∙ append-nil (filter_map logged_by es))
 
-pub logged_one : (es : List Entry) (rs : List LogRecord) (e : Entry) (r : LogRecord) → said_by e ≡ Some (said r) → IsLogOf es rs → IsLogOf (es ++ e ∷ []) (rs ++ r ∷ [])
+pub logged_one : (es : List Entry) (rs : List LogRecord) (e : Entry) (r : LogRecord) → logged_by e ≡ Some (as_log_entry r) → IsLogOf es rs → IsLogOf (es ++ e ∷ []) (rs ++ r ∷ [])
 logged_one es rs e r one is =
-    map_push said rs r ∙ ap (λ ss. ss ++ said r ∷ []) is
-    ∙ sym (filter_map-append said_by es (e ∷ []) ∙ ap (λ o. filter_map said_by es ++ cons_option o []) one)
+    map_push as_log_entry rs r ∙ ap (λ ss. ss ++ as_log_entry r ∷ []) is
+    ∙ sym (filter_map-append logged_by es (e ∷ []) ∙ ap (λ o. filter_map logged_by es ++ cons_option o []) one)
 
 pub committed_push : (rs : List LogRecord) (r : LogRecord) (b : Bool) → is_commit r.payload ≡ b → committed_in (rs ++ r ∷ []) ≡ committed_in rs ++ cond b (r.txn ∷ []) []
 committed_push rs r true is = filter_map-append commit_of rs (r ∷ []) ∙ ap (λ b. committed_in rs ++ cons_option (cond b (Some r.txn) None) []) is

@@ -2,9 +2,9 @@ pub mod Absences
 pub mod Calls
 pub mod Crashes
 pub mod Entries
-pub mod FirstLists
+pub mod FirstLogs
 pub mod Gains
-pub mod Goings
+pub mod CallsGoOn
 pub mod Moments
 pub mod Overlaid
 pub mod OwnReplies
@@ -12,9 +12,9 @@ pub mod Quiet
 pub mod Replies
 pub mod Resumes
 pub mod RunsOn
-pub mod Tellings
-pub mod ToldFronts
+pub mod QuietEvents
+pub mod RecordsOfPrefixes
 pub mod Turns
 pub mod UnderWay
 pub mod Growth
-pub mod StepTellings
+pub mod RecordsAfterSteps

@@ -7,29 +7,29 @@ use Rattle.std.proofs.lemmas.List.Elements.{All-from_recursion, All-take}
 use Rattle.shore_model.specs.declared.log_records.LogRecord.{LogRecord}
 use Rattle.shore_model.specs.Histories.{History, RunsAloneAfter, decisions}
 use Rattle.shore_model.specs.Records.{Records}
-use Rattle.shore_model.specs.Logs.{told, is_commit}
+use Rattle.shore_model.specs.Logs.{records_told, is_commit}
 use Rattle.shore_machine.specs.Bookkeeping.{is_plain, IsSession, IsUnderWay}
-use Rattle.shore_machine.specs.FirstLists.{IsFirstList, is_insert}
+use Rattle.shore_machine.specs.FirstLogs.{IsFirstLog, is_insert}
 use Rattle.shore_machine.specs.States.{State, Active}
 use Rattle.shore_machine.specs.Trails.{IsAfter, IsOpened, opening_of, serial_now}
 use Rattle.shore_machine.proofs.Entries.{recursion-take}
-use Rattle.shore_machine.proofs.FirstLists.{lawful_take}
+use Rattle.shore_machine.proofs.FirstLogs.{lawful_take}
 use Rattle.shore_machine.proofs.Turns.{history_on}
-use Rattle.shore_machine.proofs.UnderWay.{list_is_plain, told_now}
+use Rattle.shore_machine.proofs.UnderWay.{list_is_plain, records_now}
 
 module _ (opened : List LogRecord) (h : History) (s : State) (k : IsAfter opened h s) where
   k_on : IsAfter opened (record { opening = opening_of opened; entries = h.entries }) s
   k_on = subst (λ o. IsAfter opened (record { opening = o; entries = h.entries }) s) k.opening k
 
-  pub first_list_cut : (n : ℕ) → IsFirstList opened → IsFirstList (take n s.list)
+  pub first_list_cut : (n : ℕ) → IsFirstLog opened → IsFirstLog (take n s.log)
   first_list_cut n start =
-      let all : IsFirstList s.list = subst IsFirstList (sym k.list) (k.ordered.lawful start) in
-      record { kinds = All-take (λ r. IsTrue (is_commit r.payload || is_insert r.payload)) n s.list all.kinds; lawful = lawful_take s.list n all.lawful }
+      let all : IsFirstLog s.log = subst IsFirstLog (sym k.log) (k.ordered.lawful start) in
+      record { kinds = All-take (λ r. IsTrue (is_commit r.payload || is_insert r.payload)) n s.log all.kinds; lawful = lawful_take s.log n all.lawful }
 
-  pub tells_all : told s.list ≡ serial_now h
+  pub tells_all : records_told s.log ≡ serial_now h
   tells_all =
-      subst (λ o. told s.list ≡ serial_now (record { opening = o; entries = h.entries })) (sym k.opening)
-      (ap told k_on.list ∙ told_now opened h.entries s k_on)
+      subst (λ o. records_told s.log ≡ serial_now (record { opening = o; entries = h.entries })) (sym k.opening)
+      (ap records_told k_on.log ∙ records_now opened h.entries s k_on)
 
 under_way_by : (opened gained : List LogRecord) (h : History) (R : Records) (a : Active) (c : Option ℕ) → IsSession opened gained h R (Some a) c → IsUnderWay opened gained h.entries R a.txn a.last
 under_way_by opened gained h R a None k = k

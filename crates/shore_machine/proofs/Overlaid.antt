@@ -6,7 +6,8 @@ use Rattle.std.specs.FinMap.{empty, get, insert, get-insert, same_map, len-entri
 use Rattle.std.proofs.lemmas.List.{nil_from_length}
 use Rattle.shore_types.specs.Ids.{rid_cmp, rids_total, exact_rids}
 use Rattle.shore_types.specs.declared.ids.Rid.{Rid}
-use Rattle.shore_model.specs.Records.{Records, WriteSet, Image, laid_over, overlay}
+use Rattle.shore_model.specs.Records.{Records, WriteSet, laid_over, overlay}
+use Rattle.shore_types.specs.Images.{Image}
 use Rattle.shore_model.proofs.Overlays.{get-overlay}
 
 unwrap_one : (b : Bool) (bytes : List ℕ) (o : Option Image) (d : Image) → cond b (Some bytes) (unwrap_or o d) ≡ unwrap_or (cond b (Some (Some bytes)) o) d

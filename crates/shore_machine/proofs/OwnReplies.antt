@@ -13,7 +13,7 @@ use Rattle.shore_machine.specs.Trails.{opening_of, serial_now}
 use Rattle.shore_machine.proofs.Entries.{recursion-weaker, calls-own, decisions-exchanged}
 use Rattle.shore_machine.proofs.Gains.{of_decisions}
 use Rattle.shore_machine.proofs.Replies.{after-push, replies-push}
-use Rattle.shore_machine.proofs.Turns.{history_on, written, IsKept, AreKept, txn_in, kept_by_other, serial_kept, sound_stays}
+use Rattle.shore_machine.proofs.Turns.{history_on, written, KeepsTurn, AreKept, txn_in, kept_by_other, serial_kept, sound_stays}
 
 module _ (opened gained : List LogRecord) (es : List Entry) (first : AllByRecursion IsFirstEntry es) (logged : IsLogOf es gained) (t : ℕ) (x : Exchange) (undecided : AllByRecursion (λ u. u ≢ t) (committed_in gained)) where
   abbrev pub with_reply : List Entry
@@ -21,7 +21,7 @@ module _ (opened gained : List LogRecord) (es : List Entry) (first : AllByRecurs
 
   others_kept : AreKept es with_reply (decisions es)
   others_kept =
-      recursion-weaker (λ d. txn_in d ≢ t) (λ d. IsKept es with_reply (txn_in d)) (λ d other. kept_by_other es (txn_in d) t 1 x (λ same. other (sym same)))
+      recursion-weaker (λ d. txn_in d ≢ t) (λ d. KeepsTurn es with_reply (txn_in d)) (λ d other. kept_by_other es (txn_in d) t 1 x (λ same. other (sym same)))
       (decisions es) (of_decisions (λ u. u ≢ t) es gained first logged undecided)
 
   pub own_now : serial_now (history_on opened with_reply) ≡ serial_now (history_on opened es)

@@ -18,21 +18,21 @@ use Rattle.shore_machine.specs.Bookkeeping.{BeginsBelow, IsCalledBelow, IsSessio
 use Rattle.shore_machine.specs.States.{State, Active}
 use Rattle.shore_machine.specs.Steps.{answered}
 use Rattle.shore_machine.specs.Trails.{IsAfter, in_place, opening_of, serial_now}
-use Rattle.shore_machine.proofs.Entries.{recursion-push, recursion-each, standing-push, decisions-exchanged, history-push}
+use Rattle.shore_machine.proofs.Entries.{recursion-push, recursion-each, session_state-push, decisions-exchanged, history-push}
 use Rattle.shore_machine.proofs.Gains.{logged_none, forced_none, Contains-map, committed_more, acknowledged_one}
 use Rattle.shore_machine.proofs.Replies.{IsQuiet, commit_is_quiet}
-use Rattle.shore_machine.proofs.Turns.{history_on, written, IsKept, AreKept, txn_in, kept_by_quiet, serial_kept, sound_stays}
+use Rattle.shore_machine.proofs.Turns.{history_on, written, KeepsTurn, AreKept, txn_in, kept_by_quiet, serial_kept, sound_stays}
 
 -- a call with the fault that it was refused with
 abbrev pub refused : Call → Fault → Exchange
 refused c fault = record { call = c; reply = Err fault }
 
 module _ (opened : List LogRecord) (es : List Entry) where
-  in_place_kept : (more : List Entry) (R : Records) (a : Option Active) → ((t : ℕ) → IsKept es more t) → in_place R (history_on opened more) a ≡ in_place R (history_on opened es) a
+  in_place_kept : (more : List Entry) (R : Records) (a : Option Active) → ((t : ℕ) → KeepsTurn es more t) → in_place R (history_on opened more) a ≡ in_place R (history_on opened es) a
   in_place_kept more R None kept = refl
   in_place_kept more R (Some a) kept = ap (overlay R) (kept a.txn).writes
 
-  session_kept : (more : List Entry) (gained : List LogRecord) (R : Records) (a : Option Active) (c : Option ℕ) → ((t : ℕ) → IsKept es more t) → session_after more ≡ session_after es
+  session_kept : (more : List Entry) (gained : List LogRecord) (R : Records) (a : Option Active) (c : Option ℕ) → ((t : ℕ) → KeepsTurn es more t) → session_after more ≡ session_after es
       → IsSession opened gained (history_on opened es) R a c → IsSession opened gained (history_on opened more) R a c
   session_kept more gained R (Some a) None kept same k = record { stands = same ∙ k.stands; some = k.some; above = k.above; undecided = k.undecided; replies = (kept a.txn).replies R k.replies; last_is = k.last_is }
   session_kept more gained R None (Some n) kept same k = record { txn = k.txn; stands = same ∙ k.stands; numbered = k.numbered }
@@ -47,35 +47,35 @@ module _ (opened : List LogRecord) (es : List Entry) where
     abbrev more : List Entry
     more = es ++ entry ∷ []
 
-    kept : (t : ℕ) → IsKept es more t
+    kept : (t : ℕ) → KeepsTurn es more t
     kept t = kept_by_quiet es t u 1 x quiet
 
     all_kept : AreKept es more (decisions es)
-    all_kept = recursion-each (λ d. IsKept es more (txn_in d)) (λ d. kept (txn_in d)) (decisions es)
+    all_kept = recursion-each (λ d. KeepsTurn es more (txn_in d)) (λ d. kept (txn_in d)) (decisions es)
 
     now_kept : serial_now (history_on opened more) ≡ serial_now (history_on opened es)
-    now_kept = serial_kept opened es more (opening_of opened).records (decisions more) (recursion-each (λ d. IsKept es more (txn_in d)) (λ d. kept (txn_in d)) (decisions more)) ∙ ap (serial (written es) (opening_of opened).records) (decisions-exchanged es u 1 x)
+    now_kept = serial_kept opened es more (opening_of opened).records (decisions more) (recursion-each (λ d. KeepsTurn es more (txn_in d)) (λ d. kept (txn_in d)) (decisions more)) ∙ ap (serial (written es) (opening_of opened).records) (decisions-exchanged es u 1 x)
 
-  pub refusal_goes_on : (s : State) (u : ℕ) (c : Call) (fault : Fault) → IsQuiet (refused c fault) → IsFirst c → u < s.next
+  pub refusal_goes_on : (s : State) (u : ℕ) (c : Call) (fault : Fault) → IsQuiet (refused c fault) → IsFirst c → u < s.next_txn
       → MayStand (opening_of opened) es (Exchanged 1 u (refused c fault)) → IsAfter opened (history_on opened es) s → IsAfter opened (history_on opened (es ++ Exchanged 1 u (refused c fault) ∷ [])) s
   refusal_goes_on s u c fault quiet first below may k =
       let x = refused c fault in
       let e = entry u x quiet in
-      let same : session_after (more u x quiet) ≡ session_after es = standing-push 1 free es e in
+      let same : session_after (more u x quiet) ≡ session_after es = session_state-push 1 free es e in
       record {
         opening = refl;
         first = recursion-push IsFirstEntry es e k.first first;
         history = history-push es (opening_of opened) e k.history may;
         sound = sound_stays opened es (more u x quiet) (decisions-exchanged es u 1 x) (all_kept u x quiet) k.sound;
         gained = k.gained;
-        list = k.list;
+        log = k.log;
         logged = logged_none es k.gained e refl k.logged;
         records = k.records ∙ sym (ap (λ R. in_place R (history_on opened (more u x quiet)) s.active) (now_kept u x quiet) ∙ in_place_kept (more u x quiet) (serial_now (history_on opened es)) s.active (kept u x quiet));
         numbers = record {
           some = k.numbers.some;
-          begun = All-push (BeginsBelow s.next) es e k.numbers.begun tt;
-          called = recursion-push (IsCalledBelow s.next) es e k.numbers.called below;
-          own = subst (λ p. p.txn < s.next) (sym same) k.numbers.own;
+          begun = All-push (BeginsBelow s.next_txn) es e k.numbers.begun tt;
+          called = recursion-push (IsCalledBelow s.next_txn) es e k.numbers.called below;
+          own = subst (λ p. p.txn < s.next_txn) (sym same) k.numbers.own;
           over_opened = k.numbers.over_opened;
           over_gained = k.numbers.over_gained;
         };
@@ -112,7 +112,7 @@ gives_up opened h s k waits = record {
   history = k.history;
   sound = k.sound;
   gained = k.gained;
-  list = k.list;
+  log = k.log;
   logged = k.logged;
   records = k.records;
   numbers = k.numbers;
@@ -132,9 +132,9 @@ commit_goes_on opened es s k forced =
     let e = Exchanged 1 u x in
     let more = es ++ e ∷ [] in
     let w = waited opened k.gained es (serial_now (history_on opened es)) s.durable s.active s.committing k.session forced in
-    let keeps : (t : ℕ) → IsKept es more t = kept opened es u x commit_is_quiet in
+    let keeps : (t : ℕ) → KeepsTurn es more t = kept opened es u x commit_is_quiet in
     let now : serial_now (history_on opened more) ≡ serial_now (history_on opened es) = now_kept opened es u x commit_is_quiet in
-    let freed : session_after more ≡ free = standing-push 1 free es e in
+    let freed : session_after more ≡ free = session_state-push 1 free es e in
     let le : w.n - length opened ≤ s.durable - length opened = let l = w.forced in omega arith in
     let own : u ≡ w.decided.txn = ap (λ p. p.txn) w.decided.stands in
     let durable_one : Contains (commits_in (take (s.durable - length opened) k.gained)) (decision.Commit u) =
@@ -146,14 +146,14 @@ commit_goes_on opened es s k forced =
       history = history-push es (opening_of opened) e k.history (tt, refl);
       sound = sound_stays opened es more (decisions-exchanged es u 1 x) (all_kept opened es u x commit_is_quiet) k.sound;
       gained = k.gained;
-      list = k.list;
+      log = k.log;
       logged = logged_none es k.gained e refl k.logged;
       records = k.records ∙ sym (ap (λ R. in_place R (history_on opened more) s.active) now ∙ in_place_kept opened es more (serial_now (history_on opened es)) s.active keeps);
       numbers = record {
         some = k.numbers.some;
-        begun = All-push (BeginsBelow s.next) es e k.numbers.begun tt;
-        called = recursion-push (IsCalledBelow s.next) es e k.numbers.called k.numbers.own;
-        own = subst (λ p. p.txn < s.next) (sym freed) k.numbers.some;
+        begun = All-push (BeginsBelow s.next_txn) es e k.numbers.begun tt;
+        called = recursion-push (IsCalledBelow s.next_txn) es e k.numbers.called k.numbers.own;
+        own = subst (λ p. p.txn < s.next_txn) (sym freed) k.numbers.some;
         over_opened = k.numbers.over_opened;
         over_gained = k.numbers.over_gained;
       };

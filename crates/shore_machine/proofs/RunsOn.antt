@@ -17,10 +17,10 @@ use Rattle.shore_model.specs.declared.histories.Opening.{Opening}
 use Rattle.shore_model.specs.declared.log_records.LogRecord.{LogRecord}
 use Rattle.shore_model.specs.Histories.{History, IsHistory, Sound, Kept, serial, writes_in, in_doubt, is_undecided, prepared_by}
 use Rattle.shore_model.specs.Lives.{IsLife, Span, history_of, next_opening}
-use Rattle.shore_model.specs.Logs.{told, committed_in}
+use Rattle.shore_model.specs.Logs.{records_told, committed_in}
 use Rattle.shore_machine.specs.declared.step.Step.TheVariants.{Done, Waits, Refused, Nothing}
-use Rattle.shore_machine.specs.Runs.{Event, Called, Resumed, Forced, HasFailed, Moves, MovesBy, left_by, after_event, after_events, made_by, Run, IsRun, AreRuns, IsPrefix, AreFixed, list_left}
-use Rattle.shore_machine.specs.FirstLists.{IsFirstList}
+use Rattle.shore_machine.specs.Runs.{Event, Called, Resumed, Forced, HasFailed, EventMoves, EventsMove, left_by, after_event, after_events, made_by, Run, IsRun, AreRuns, IsPrefix, AreFixed, list_left}
+use Rattle.shore_machine.specs.FirstLogs.{IsFirstLog}
 use Rattle.shore_machine.specs.States.{State}
 use Rattle.shore_machine.specs.Trails.{IsAfter, KeepsDurable, called_by, opened_on, opening_of}
 use Rattle.shore_machine.proofs.Calls.{call_on}
@@ -29,17 +29,17 @@ use Rattle.shore_machine.proofs.Gains.{decisions_logged}
 use Rattle.shore_machine.proofs.Moments.{first_list_cut}
 use Rattle.shore_machine.proofs.Resumes.{resume_on}
 use Rattle.shore_machine.proofs.Turns.{written}
-use Rattle.shore_machine.proofs.Tellings.{open_on, force_on, failure_on}
+use Rattle.shore_machine.proofs.QuietEvents.{open_on, force_on, failure_on}
 
 -- ---- events
 
-event_on : (g : Geometry) (opened : List LogRecord) (h : History) (s : State) (e : Event) (new : State) → IsAfter opened h s → Moves g s e new → IsAfter opened (after_event h e) new
+event_on : (g : Geometry) (opened : List LogRecord) (h : History) (s : State) (e : Event) (new : State) → IsAfter opened h s → EventMoves g s e new → IsAfter opened (after_event h e) new
 event_on g opened h s (Called c step) new k moves = call_on g opened h s new c step moves.0 k moves.1
 event_on g opened h s (Resumed step) new k moves = resume_on opened h s new step k moves
 event_on g opened h s (Forced n) new k moves = subst (IsAfter opened h) (sym moves.2) (force_on opened h s n k moves.0 moves.1)
 event_on g opened h s HasFailed new k moves = subst (IsAfter opened h) (sym moves) (failure_on opened h s k)
 
-pub events_on : (g : Geometry) (opened : List LogRecord) (h : History) (s : State) (events : List Event) (last : State) → IsAfter opened h s → MovesBy g s events last → IsAfter opened (after_events h events) last
+pub events_on : (g : Geometry) (opened : List LogRecord) (h : History) (s : State) (events : List Event) (last : State) → IsAfter opened h s → EventsMove g s events last → IsAfter opened (after_events h events) last
 events_on g opened h s [] last k moves = subst (IsAfter opened h) (sym moves) k
 events_on g opened h s (e ∷ events) last k moves = events_on g opened (after_event h e) moves.0 events last (event_on g opened h s e moves.0 k moves.1) moves.2
 
@@ -93,11 +93,11 @@ module _ (rs : List LogRecord) (h : History) (s : State) (n : ℕ) (k : IsAfter 
       ∙ take-map_commits kept_is.beginning.0 (committed_in k.gained))
 
   -- the next open finds what the list tells that is left
-  pub span_tells : told (take n s.list) ≡ serial (written h.entries) (told rs) span.kept
+  pub span_tells : records_told (take n s.log) ≡ serial (written h.entries) (records_told rs) span.kept
   span_tells =
-      subst (λ o. told (take n s.list) ≡ serial (writes_in (record { opening = o; entries = h.entries })) o.records span.kept) k.opening (crash_on rs h s n k keeps).2
+      subst (λ o. records_told (take n s.log) ≡ serial (writes_in (record { opening = o; entries = h.entries })) o.records span.kept) k.opening (crash_on rs h s n k keeps).2
 
-  next_is : next_opening (opening_of rs) span ≡ opening_of (take n s.list)
+  next_is : next_opening (opening_of rs) span ≡ opening_of (take n s.log)
   next_is = λ i. record {
     records = sym span_tells i;
     in_doubt = map (λ p. record { txn = p.0; global = p.1; writes = writes_in (history_of (opening_of rs) span) p.0 }) (none_in_doubt i);
@@ -108,23 +108,23 @@ module _ (rs : List LogRecord) (h : History) (s : State) (n : ℕ) (k : IsAfter 
       subst (λ o. IsHistory (record { opening = o; entries = h.entries }) × Sound (record { opening = o; entries = h.entries }) × Kept h.entries span.kept) k.opening
       (k.history, k.sound, kept_is)
 
-run_lawful : (g : Geometry) (rs : List LogRecord) (r : Run) → IsRun g rs r → IsFirstList rs → IsFirstList (list_left r)
+run_lawful : (g : Geometry) (rs : List LogRecord) (r : Run) → IsRun g rs r → IsFirstLog rs → IsFirstLog (list_left r)
 run_lawful g rs r run start =
     first_list_cut rs (after_events (opened_on rs) r.events) r.last (events_on g rs (opened_on rs) r.first r.events r.last (open_on rs r.first run.0) run.1) r.kept start
 
-runs_lawful : (g : Geometry) (rs : List LogRecord) (runs : List Run) (last : List LogRecord) → AreRuns g rs runs last → IsFirstList rs → IsFirstList last
-runs_lawful g rs [] last h start = subst IsFirstList (sym h) start
+runs_lawful : (g : Geometry) (rs : List LogRecord) (runs : List Run) (last : List LogRecord) → AreRuns g rs runs last → IsFirstLog rs → IsFirstLog last
+runs_lawful g rs [] last h start = subst IsFirstLog (sym h) start
 runs_lawful g rs (r ∷ runs) last h start = runs_lawful g (list_left r) runs last h.1 (run_lawful g rs r h.0 start)
 
-pub runs_from_nothing_lawful : (g : Geometry) (runs : List Run) (last : List LogRecord) → AreRuns g [] runs last → IsFirstList last
+pub runs_from_nothing_lawful : (g : Geometry) (runs : List Run) (last : List LogRecord) → AreRuns g [] runs last → IsFirstLog last
 runs_from_nothing_lawful g runs last h = runs_lawful g [] runs last h (record { kinds = All-nil _; lawful = λ n r at. cc })
 
 -- what runs from a list come to
 abbrev ComeTo : List LogRecord → List Run → List LogRecord → Type 0
-ComeTo rs runs last = (spans : List Span) × (map (λ s. s.entries) spans ≡ map (λ r. made_by r.events) runs) × IsLife (opening_of rs) spans (opening_of last) × (told last ≡ left_by (told rs) spans)
+ComeTo rs runs last = (spans : List Span) × (map (λ s. s.entries) spans ≡ map (λ r. made_by r.events) runs) × IsLife (opening_of rs) spans (opening_of last) × (records_told last ≡ left_by (records_told rs) spans)
 
 pub runs_on : (g : Geometry) (rs : List LogRecord) (runs : List Run) (last : List LogRecord) → AreRuns g rs runs last → ComeTo rs runs last
-runs_on g rs [] last h = ([], refl, ap opening_of h, ap told h)
+runs_on g rs [] last h = ([], refl, ap opening_of h, ap records_told h)
 runs_on g rs (r ∷ runs) last h =
     let run = h.0 in
     let k : IsAfter rs (after_events (opened_on rs) r.events) r.last = events_on g rs (opened_on rs) r.first r.events r.last (open_on rs r.first run.0) run.1 in
@@ -150,19 +150,19 @@ run_grows g rs r run =
     let least : length rs ≤ r.last.durable = k.forced.least in
     let kept : r.last.durable ≤ r.kept = run.2.0 in
     let split : r.kept ≡ length rs + (r.kept - length rs) = omega arith in
-    (take (r.kept - length rs) k.gained, ap (take r.kept) k.list ∙ ap (λ n. take n (rs ++ k.gained)) split ∙ take-append-add rs k.gained (r.kept - length rs))
+    (take (r.kept - length rs) k.gained, ap (take r.kept) k.log ∙ ap (λ n. take n (rs ++ k.gained)) split ∙ take-append-add rs k.gained (r.kept - length rs))
 
 -- what stands at the beginning of the first list stands there in each later one
 runs_grow : (g : Geometry) (rs before : List LogRecord) (runs : List Run) (last : List LogRecord) → AreRuns g rs runs last → IsPrefix before rs
-    → AllByRecursion (IsPrefix before) (map (λ r. r.first.list) runs) × IsPrefix before last
+    → AllByRecursion (IsPrefix before) (map (λ r. r.first.log) runs) × IsPrefix before last
 runs_grow g rs before [] last h begins = (tt, subst (IsPrefix before) (sym h) begins)
 runs_grow g rs before (r ∷ runs) last h begins =
     let later = runs_grow g (list_left r) before runs last h.1 (prefix_of_prefix before rs (list_left r) begins (run_grows g rs r h.0)) in
-    ((subst (IsPrefix before) (sym h.0.0.list) begins, later.0), later.1)
+    ((subst (IsPrefix before) (sym h.0.0.log) begins, later.0), later.1)
 
-pub runs_fix : (g : Geometry) (rs : List LogRecord) (runs : List Run) (last : List LogRecord) → AreRuns g rs runs last → AreFixed (map (λ r. r.first.list) runs) last
+pub runs_fix : (g : Geometry) (rs : List LogRecord) (runs : List Run) (last : List LogRecord) → AreRuns g rs runs last → AreFixed (map (λ r. r.first.log) runs) last
 runs_fix g rs [] last h = tt
 runs_fix g rs (r ∷ runs) last h =
-    let first : IsPrefix r.first.list (list_left r) = subst (λ opened. IsPrefix opened (list_left r)) (sym h.0.0.list) (run_grows g rs r h.0) in
-    let later = runs_grow g (list_left r) r.first.list runs last h.1 first in
+    let first : IsPrefix r.first.log (list_left r) = subst (λ opened. IsPrefix opened (list_left r)) (sym h.0.0.log) (run_grows g rs r h.0) in
+    let later = runs_grow g (list_left r) r.first.log runs last h.1 first in
     (later.0, later.1, runs_fix g (list_left r) runs last h.1)

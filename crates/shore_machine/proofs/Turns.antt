@@ -23,29 +23,29 @@ abbrev pub written : List Entry → ℕ → WriteSet
 written es t = writes_of (calls_of t es)
 
 -- with more entries a transaction has written the same, and its replies may still come
-pub record IsKept (es more : List Entry) (t : ℕ) : Type 0 where
+pub record KeepsTurn (es more : List Entry) (t : ℕ) : Type 0 where
   pub writes : written more t ≡ written es t
   pub replies : (R : Records) → MayReplyAll R start (calls_of t es) → MayReplyAll R start (calls_of t more)
 
-kept_if_same : (es more : List Entry) (t : ℕ) → calls_of t more ≡ calls_of t es → IsKept es more t
+kept_if_same : (es more : List Entry) (t : ℕ) → calls_of t more ≡ calls_of t es → KeepsTurn es more t
 kept_if_same es more t e = record { writes = ap writes_of e; replies = λ R h. subst (MayReplyAll R start) (sym e) h }
 
-pub kept_by_other : (es : List Entry) (t u s : ℕ) (x : Exchange) → u ≢ t → IsKept es (es ++ Exchanged s u x ∷ []) t
+pub kept_by_other : (es : List Entry) (t u s : ℕ) (x : Exchange) → u ≢ t → KeepsTurn es (es ++ Exchanged s u x ∷ []) t
 kept_by_other es t u s x other = kept_if_same es _ t (calls-other es t u s x other)
 
-pub kept_by_decided : (es : List Entry) (t : ℕ) (d : Decision) → IsKept es (es ++ Decided d ∷ []) t
+pub kept_by_decided : (es : List Entry) (t : ℕ) (d : Decision) → KeepsTurn es (es ++ Decided d ∷ []) t
 kept_by_decided es t d = kept_if_same es _ t (calls-decided es t d)
 
-kept_by_push : (es more : List Entry) (t : ℕ) (x : Exchange) → IsQuiet x → calls_of t more ≡ calls_of t es ++ x ∷ [] → IsKept es more t
+kept_by_push : (es more : List Entry) (t : ℕ) (x : Exchange) → IsQuiet x → calls_of t more ≡ calls_of t es ++ x ∷ [] → KeepsTurn es more t
 kept_by_push es more t x quiet e = record {
   writes = ap writes_of e ∙ ap (λ p. p.writes) (after-push start (calls_of t es) x ∙ quiet.leaves (after start (calls_of t es)));
   replies = λ R h. subst (MayReplyAll R start) (sym e) (replies-push R start (calls_of t es) x h (quiet.may R (after start (calls_of t es))));
 }
 
 -- a quiet reply leaves each transaction
-pub kept_by_quiet : (es : List Entry) (t u s : ℕ) (x : Exchange) → IsQuiet x → IsKept es (es ++ Exchanged s u x ∷ []) t
+pub kept_by_quiet : (es : List Entry) (t u s : ℕ) (x : Exchange) → IsQuiet x → KeepsTurn es (es ++ Exchanged s u x ∷ []) t
 kept_by_quiet es t u s x quiet =
-    elim (u == t) as (λ b. (u == t) ≡ b → IsKept es (es ++ Exchanged s u x ∷ []) t) [
+    elim (u == t) as (λ b. (u == t) ≡ b → KeepsTurn es (es ++ Exchanged s u x ∷ []) t) [
       | true ↦ λ e. kept_by_push es _ t x quiet (calls-exchanged es t u s x true e)
       | false ↦ λ e. kept_if_same es _ t (calls-exchanged es t u s x false e ∙ append-nil (calls_of t es))
     ] refl
@@ -74,17 +74,17 @@ if_turn false t P Q f h = f h
 
 -- with more entries the transactions of decisions are kept
 abbrev pub AreKept : List Entry → List Entry → List Decision → Type 0
-AreKept es more ds = AllByRecursion (λ d. IsKept es more (txn_in d)) ds
+AreKept es more ds = AllByRecursion (λ d. KeepsTurn es more (txn_in d)) ds
 
 module _ (opened : List LogRecord) (es more : List Entry) where
   pub serial_kept : (R : Records) (ds : List Decision) → AreKept es more ds → serial (written more) R ds ≡ serial (written es) R ds
-  serial_kept R ds kept = serial_if_same (written more) (written es) R ds (recursion-weaker (λ d. IsKept es more (txn_in d)) _ (λ d k. k.writes) ds kept)
+  serial_kept R ds kept = serial_if_same (written more) (written es) R ds (recursion-weaker (λ d. KeepsTurn es more (txn_in d)) _ (λ d k. k.writes) ds kept)
 
-  runs_kept : (before : List Decision) (t : ℕ) → AreKept es more before → IsKept es more t → RunsAloneAfter (history_on opened es) before t → RunsAloneAfter (history_on opened more) before t
+  runs_kept : (before : List Decision) (t : ℕ) → AreKept es more before → KeepsTurn es more t → RunsAloneAfter (history_on opened es) before t → RunsAloneAfter (history_on opened more) before t
   runs_kept before t kept own runs =
       (subst (λ R. MayReplyAll R start (calls_of t more)) (sym (serial_kept (opening_of opened).records before kept)) (own.replies _ runs.0), refl)
 
-  turn_kept : (before : List Decision) (d : Decision) → AreKept es more before → IsKept es more (txn_in d) → TakesTurn (history_on opened es) before d → TakesTurn (history_on opened more) before d
+  turn_kept : (before : List Decision) (d : Decision) → AreKept es more before → KeepsTurn es more (txn_in d) → TakesTurn (history_on opened es) before d → TakesTurn (history_on opened more) before d
   turn_kept before (Commit t) kept own = if_turn (has_prepared [] before t) t (RunsAloneAfter (history_on opened es) before) (RunsAloneAfter (history_on opened more) before) (runs_kept before t kept own)
   turn_kept before (Prepare t g) kept own = if_turn (has_prepared [] before t) t (RunsAloneAfter (history_on opened es) before) (RunsAloneAfter (history_on opened more) before) (runs_kept before t kept own)
   turn_kept before (RollBack t) kept own = λ h. h
@@ -92,8 +92,8 @@ module _ (opened : List LogRecord) (es more : List Entry) where
   -- a turn of before is a turn with more entries
   pub turn_stays : AreKept es more (decisions es) → Sound (history_on opened es) → (n : ℕ) (d : Decision) → slice_get (decisions es) n ≡ Some d → TakesTurn (history_on opened more) (take n (decisions es)) d
   turn_stays kept sound n d at =
-      turn_kept (take n (decisions es)) d (recursion-take (λ d. IsKept es more (txn_in d)) n (decisions es) kept)
-      (recursion-at (λ d. IsKept es more (txn_in d)) (decisions es) n d kept at) (sound n d at)
+      turn_kept (take n (decisions es)) d (recursion-take (λ d. KeepsTurn es more (txn_in d)) n (decisions es) kept)
+      (recursion-at (λ d. KeepsTurn es more (txn_in d)) (decisions es) n d kept at) (sound n d at)
 
   -- entries that decide nothing leave the history sound
   pub sound_stays : decisions more ≡ decisions es → AreKept es more (decisions es) → Sound (history_on opened es) → Sound (history_on opened more)
@@ -111,7 +111,7 @@ pub sound_commit : (opened : List LogRecord) (es : List Entry) (t : ℕ) → Sou
 sound_commit opened es t sound replies n d at =
     let more = es ++ Decided (Commit t) ∷ [] in
     let ds = decisions es in
-    let kept : AreKept es more ds = recursion-each (λ d. IsKept es more (txn_in d)) (λ d. kept_by_decided es (txn_in d) (Commit t)) ds in
+    let kept : AreKept es more ds = recursion-each (λ d. KeepsTurn es more (txn_in d)) (λ d. kept_by_decided es (txn_in d) (Commit t)) ds in
     let same : decisions more ≡ ds ++ Commit t ∷ [] = decisions-decided es (Commit t) in
     let now : RunsAloneAfter (history_on opened more) ds t =
     (subst (λ R. MayReplyAll R start (calls_of t more)) (sym (serial_kept opened es more (opening_of opened).records ds kept)) ((kept_by_decided es t (Commit t)).replies _ replies), refl) in

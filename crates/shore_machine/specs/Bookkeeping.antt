@@ -9,12 +9,12 @@ use Rattle.shore_model.specs.declared.histories.Entry.TheVariants.{Exchanged, De
 use Rattle.shore_model.specs.declared.log_records.LogRecord.{LogRecord}
 use Rattle.shore_model.specs.declared.log_records.Payload.{Payload}
 use Rattle.shore_model.specs.declared.log_records.Payload.TheVariants.{Change}
-use Rattle.shore_model.specs.declared.sessions.Standing.{Standing}
+use Rattle.shore_model.specs.declared.sessions.SessionState.{SessionState}
 use Rattle.shore_model.specs.Records.{Records}
 use Rattle.shore_model.specs.Alone.{MayReplyAll, start}
-use Rattle.shore_model.specs.Histories.{History, standing, free, began, calls_of, acknowledged}
+use Rattle.shore_model.specs.Histories.{History, session_state, free, began, calls_of, acknowledged}
 use Rattle.shore_model.specs.Logs.{is_commit, committed_in, last_of}
-use Rattle.shore_machine.specs.FirstLists.{IsFirstList}
+use Rattle.shore_machine.specs.FirstLogs.{IsFirstLog}
 use Rattle.shore_machine.specs.States.{Active}
 
 -- ---- numbers of transactions
@@ -24,8 +24,8 @@ abbrev pub IsAbove : List LogRecord → ℕ → Type 0
 IsAbove rs t = All (λ r. r.txn < t) rs
 
 -- where the one session stands
-abbrev pub session_after : List Entry → Standing
-session_after es = standing 1 free es
+abbrev pub session_after : List Entry → SessionState
+session_after es = session_state 1 free es
 
 -- what an entry begins is below the number
 abbrev pub BeginsBelow : ℕ → Entry → Type 0
@@ -48,7 +48,7 @@ pub record AreNumbered (opened gained : List LogRecord) (es : List Entry) (next 
 -- ---- the session
 
 -- a session in a transaction that has not prepared
-abbrev pub in_txn : ℕ → Standing
+abbrev pub in_txn : ℕ → SessionState
 in_txn t = record { txn = t; prepared = false }
 
 -- the transaction under way is above those of the opening's list, it is not decided, and its replies may come to it alone
@@ -96,7 +96,7 @@ pub record AreOrdered (opened gained : List LogRecord) : Type 0 where
   pub plain : All (λ r. IsTrue (is_plain r)) opened
   pub above : AllByRecursion (λ r. IsAbove opened r.txn) gained
   pub ended : EndWithCommits gained
-  pub lawful : IsFirstList opened → IsFirstList (opened ++ gained)
+  pub lawful : IsFirstLog opened → IsFirstLog (opened ++ gained)
 
 -- ---- what is durable
 

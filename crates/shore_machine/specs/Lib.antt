@@ -1,5 +1,5 @@
 pub mod Bookkeeping
-pub mod FirstLists
+pub mod FirstLogs
 pub mod Pages
 pub mod Runs
 pub mod Served

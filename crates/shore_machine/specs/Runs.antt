@@ -12,7 +12,7 @@ use Rattle.shore_model.specs.Records.{Records}
 use Rattle.shore_machine.specs.declared.step.Step.{Step}
 use Rattle.shore_machine.specs.Served.{IsServed}
 use Rattle.shore_machine.specs.States.{State}
-use Rattle.shore_machine.specs.Steps.{CallStep, ResumeStep, told_durable, with_failure}
+use Rattle.shore_machine.specs.Steps.{CallStep, ResumeStep, with_durable, with_failure}
 use Rattle.shore_machine.specs.Trails.{IsOpened, KeepsDurable, after_call, after_resume, opened_on}
 
 -- what happens to a manager: a call and a resume, each with what it came to, a force that is told, and a device's failure
@@ -23,16 +23,16 @@ pub data Event : Type 0 where
   HasFailed : Event
 
 -- the event may leave this
-abbrev pub Moves : Geometry → State → Event → State → Type 0
-Moves g s (Called c step) new = IsServed c × CallStep g s c step new
-Moves g s (Resumed step) new = ResumeStep s step new
-Moves g s (Forced n) new = (s.durable ≤ n) × (n ≤ length s.list) × (new ≡ told_durable n s)
-Moves g s HasFailed new = new ≡ with_failure s
+abbrev pub EventMoves : Geometry → State → Event → State → Type 0
+EventMoves g s (Called c step) new = IsServed c × CallStep g s c step new
+EventMoves g s (Resumed step) new = ResumeStep s step new
+EventMoves g s (Forced n) new = (s.durable ≤ n) × (n ≤ length s.log) × (new ≡ with_durable n s)
+EventMoves g s HasFailed new = new ≡ with_failure s
 
 -- events may, one after another, leave this
-abbrev pub MovesBy : Geometry → State → List Event → State → Type 0
-MovesBy g s [] last = last ≡ s
-MovesBy g s (e ∷ events) last = (new : State) × Moves g s e new × MovesBy g new events last
+abbrev pub EventsMove : Geometry → State → List Event → State → Type 0
+EventsMove g s [] last = last ≡ s
+EventsMove g s (e ∷ events) last = (new : State) × EventMoves g s e new × EventsMove g new events last
 
 -- the history with what an event adds
 abbrev pub after_event : History → Event → History
@@ -59,11 +59,11 @@ pub record Run : Type 0 where
 
 -- a run of a manager that was opened on a list
 abbrev pub IsRun : Geometry → List LogRecord → Run → Type 0
-IsRun g rs r = IsOpened rs r.first × MovesBy g r.first r.events r.last × KeepsDurable r.last r.kept
+IsRun g rs r = IsOpened rs r.first × EventsMove g r.first r.events r.last × KeepsDurable r.last r.kept
 
 -- the list that a run leaves to the next open
 abbrev pub list_left : Run → List LogRecord
-list_left r = take r.kept r.last.list
+list_left r = take r.kept r.last.log
 
 -- the records that spans of a life leave: over those that each found, the write sets of its kept decisions in their order
 abbrev pub left_by : Records → List Span → Records

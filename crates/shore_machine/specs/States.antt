@@ -14,7 +14,7 @@ pub record Active : Type 0 where
 pub record Room : Type 0 where
   pub kept : ℕ
   pub reserved : ℕ
-  pub stream : ℕ
+  pub stream_bytes : ℕ
 
 pub record State : Type 0 where
   -- the records in place, decided or not
@@ -23,9 +23,9 @@ pub record State : Type 0 where
   -- the number of the Commit record that the session's call waits for
   pub committing : Option ℕ
   -- the number of the next transaction
-  pub next : ℕ
+  pub next_txn : ℕ
   -- every record of the log, forced or not
-  pub list : List LogRecord
+  pub log : List LogRecord
   -- the last number whose force was told
   pub durable : ℕ
   pub room : Room
@@ -34,12 +34,12 @@ pub record State : Type 0 where
 
 -- the number of the next record
 abbrev pub next_number : State → ℕ
-next_number s = 1 + length s.list
+next_number s = 1 + length s.log
 
 -- so much more leaves room for the longest frame and the greatest checkpoint, and there are numbers left
 abbrev pub Admits : State → ℕ → Type 0
-Admits s need = (next_number s ≤ LAST_LSN) × (s.room.kept + s.room.reserved + need + LONGEST_FRAME + GREATEST_CHECKPOINT ≤ s.room.stream)
+Admits s need = (next_number s ≤ LAST_LSN) × (s.room.kept + s.room.reserved + need + LONGEST_FRAME + GREATEST_CHECKPOINT ≤ s.room.stream_bytes)
 
 -- a transaction may begin: there is room for its ending, and a number for it
 abbrev pub MayBegin : State → Type 0
-MayBegin s = Admits s ENDING_COST × (s.next < LAST_TXN)
+MayBegin s = Admits s ENDING_COST × (s.next_txn < LAST_TXN)

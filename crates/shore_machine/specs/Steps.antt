@@ -24,9 +24,9 @@ use Rattle.shore_machine.specs.declared.step.Wait.TheVariants.{Durable}
 -- the next transaction is the session's, and its ending is reserved for
 abbrev pub begun : State → State
 begun s = record s {
-  active = Some record { txn = s.next; last = 0; reserved = ENDING_COST };
-  next = s.next + 1;
-  room = record { kept = s.room.kept; reserved = s.room.reserved + ENDING_COST; stream = s.room.stream };
+  active = Some record { txn = s.next_txn; last = 0; reserved = ENDING_COST };
+  next_txn = s.next_txn + 1;
+  room = record { kept = s.room.kept; reserved = s.room.reserved + ENDING_COST; stream_bytes = s.room.stream_bytes };
 }
 
 -- what the Change of an insert costs: 44, 1 for the image that is absent, and 3 with the record's bytes; and its undo, 53
@@ -45,8 +45,8 @@ abbrev pub inserted : State → Active → Rid → List ℕ → State
 inserted s a id bytes = record s {
   records = insert s.records id bytes;
   active = Some record { txn = a.txn; last = next_number s; reserved = a.reserved + insert_undo };
-  list = s.list ++ insert_record a id bytes ∷ [];
-  room = record { kept = s.room.kept + insert_cost bytes; reserved = s.room.reserved + insert_undo; stream = s.room.stream };
+  log = s.log ++ insert_record a id bytes ∷ [];
+  room = record { kept = s.room.kept + insert_cost bytes; reserved = s.room.reserved + insert_undo; stream_bytes = s.room.stream_bytes };
 }
 
 abbrev pub commit_record : Active → LogRecord
@@ -57,8 +57,8 @@ abbrev pub committed : State → Active → State
 committed s a = record s {
   active = None;
   committing = Some (next_number s);
-  list = s.list ++ commit_record a ∷ [];
-  room = record { kept = s.room.kept + ENDING_COST; reserved = s.room.reserved - a.reserved; stream = s.room.stream };
+  log = s.log ++ commit_record a ∷ [];
+  room = record { kept = s.room.kept + ENDING_COST; reserved = s.room.reserved - a.reserved; stream_bytes = s.room.stream_bytes };
 }
 
 -- the call that waited is answered
@@ -96,7 +96,7 @@ Refuses g s c fault =
 
 -- a call is answered, and leaves this
 abbrev pub Answers : Geometry → State → Call → Answer → State → Type 0
-Answers g s call.Begin answer new = (s.active ≡ None) × MayBegin s × (answer ≡ Began s.next) × (new ≡ begun s)
+Answers g s call.Begin answer new = (s.active ≡ None) × MayBegin s × (answer ≡ Began s.next_txn) × (new ≡ begun s)
 Answers g s (call.Get id) answer new =
     IsSome s.active × HasPage g id.page × IsSomeAnd (get s.records id) (λ bytes. answer ≡ Got bytes) × (new ≡ s)
 Answers g s (call.Insert store bytes) answer new = IsSomeAnd s.active (λ a. (id : Rid)
@@ -124,8 +124,8 @@ ResumeStep s (Waits wait) new = (s.failed ≡ false) × IsSomeAnd s.committing (
 ResumeStep s Nothing new = (s.committing ≡ None) × (new ≡ s)
 
 -- the log device has forced its records up to this number
-abbrev pub told_durable : ℕ → State → State
-told_durable n s = record s { durable = n }
+abbrev pub with_durable : ℕ → State → State
+with_durable n s = record s { durable = n }
 
 -- a device has failed
 abbrev pub with_failure : State → State

@@ -13,9 +13,9 @@ use Rattle.shore_model.specs.declared.histories.Opening.{Opening}
 use Rattle.shore_model.specs.declared.log_records.LogRecord.{LogRecord}
 use Rattle.shore_model.specs.Records.{Records, overlay}
 use Rattle.shore_model.specs.Alone.{writes_of}
-use Rattle.shore_model.specs.Histories.{History, IsHistory, Sound, standing, free, begun_by, calls_of, decisions, serial, writes_in}
+use Rattle.shore_model.specs.Histories.{History, IsHistory, Sound, session_state, free, begun_by, calls_of, decisions, serial, writes_in}
 use Rattle.shore_model.specs.FirstPath.{IsFirstEntry, IsLogOf}
-use Rattle.shore_model.specs.Logs.{told}
+use Rattle.shore_model.specs.Logs.{records_told}
 use Rattle.shore_machine.specs.declared.step.Step.{Step}
 use Rattle.shore_machine.specs.declared.step.Step.TheVariants.{Done, Waits, Refused, Nothing}
 use Rattle.shore_machine.specs.States.{State, Active}
@@ -25,7 +25,7 @@ use Rattle.shore_machine.specs.Bookkeeping.{AreNumbered, IsSession, AreOrdered, 
 
 -- the transaction that a session stands in, 0 for none, as the history says
 abbrev pub txn_of : History → ℕ → ℕ
-txn_of h session = (standing session free h.entries).txn
+txn_of h session = (session_state session free h.entries).txn
 
 -- the transaction of a call that was replied to: a begin's is the one that it began
 abbrev pub called_by : History → ℕ → Call → Result Answer Fault → ℕ
@@ -57,7 +57,7 @@ after_resume h session Nothing = h
 
 -- an opening that shows what a list tells, none in doubt
 abbrev pub opening_of : List LogRecord → Opening
-opening_of rs = record { records = told rs; in_doubt = [] }
+opening_of rs = record { records = records_told rs; in_doubt = [] }
 
 -- the serial records of all decisions so far
 abbrev pub serial_now : History → Records
@@ -76,18 +76,18 @@ pub record IsAfter (opened : List LogRecord) (h : History) (s : State) : Type 0 
   pub history : IsHistory h
   pub sound : Sound h
   pub gained : List LogRecord
-  pub list : s.list ≡ opened ++ gained
+  pub log : s.log ≡ opened ++ gained
   pub logged : IsLogOf h.entries gained
   pub records : s.records ≡ in_place (serial_now h) h s.active
   -- the numbers of transactions, the session's own one, the order of the records, and what is forced of them
-  pub numbers : AreNumbered opened gained h.entries s.next
+  pub numbers : AreNumbered opened gained h.entries s.next_txn
   pub session : IsSession opened gained h (serial_now h) s.active s.committing
   pub ordered : AreOrdered opened gained
   pub forced : IsForced opened gained h.entries s.durable
 
 -- What a crash keeps: of the list its first so many records, of which the durable are some.
 abbrev pub KeepsDurable : State → ℕ → Type 0
-KeepsDurable s n = (s.durable ≤ n) × (n ≤ length s.list)
+KeepsDurable s n = (s.durable ≤ n) × (n ≤ length s.log)
 
 -- the history of a manager that was opened on a list and has not been called yet
 abbrev pub opened_on : List LogRecord → History
@@ -96,14 +96,14 @@ opened_on rs = record { opening = opening_of rs; entries = [] }
 -- what an open leaves: the records that the list tells, no transaction and nothing reserved, as the next transaction's number the
 -- least above all of the list's, and all of the list durable
 pub record IsOpened (rs : List LogRecord) (s : State) : Type 0 where
-  pub records : s.records ≡ told rs
+  pub records : s.records ≡ records_told rs
   pub active : s.active ≡ None
   pub committing : s.committing ≡ None
-  pub list : s.list ≡ rs
+  pub log : s.log ≡ rs
   pub plain : All (λ r. IsTrue (is_plain r)) rs
-  pub some_next : 0 < s.next
-  pub next : All (λ r. r.txn < s.next) rs
-  pub least : (n : ℕ) → 0 < n → All (λ r. r.txn < n) rs → s.next ≤ n
+  pub some_next : 0 < s.next_txn
+  pub next_txn : All (λ r. r.txn < s.next_txn) rs
+  pub least : (n : ℕ) → 0 < n → All (λ r. r.txn < n) rs → s.next_txn ≤ n
   pub unreserved : s.room.reserved ≡ 0
   pub durable : s.durable ≡ length rs
   pub running : s.failed ≡ false

@@ -8,7 +8,8 @@ use Rattle.std.proofs.lemmas.List.Elements.{filter-append, filter_map-append}
 use Rattle.std.proofs.Math.Seq.{take-length}
 use Rattle.shore_types.specs.declared.ids.Rid.{Rid}
 use Rattle.shore_model.specs.declared.log_records.LogRecord.{LogRecord}
-use Rattle.shore_model.specs.Records.{Records, WriteSet, Image, overlays}
+use Rattle.shore_model.specs.Records.{Records, WriteSet, overlays}
+use Rattle.shore_types.specs.Images.{Image}
 use Rattle.shore_model.specs.Logs.{numbered, records_of, first_number, last_of, image_in, with_image, last_images, logged_writes, answered_by, unanswered_in, unanswered, prepare_of}
 use Rattle.shore_model.proofs.Steps.{at_place}
 

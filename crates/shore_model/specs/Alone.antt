@@ -19,29 +19,29 @@ abbrev pub start : Progress
 start = record { writes = empty; saved = [] }
 
 -- the record that a call names
-abbrev pub named : Call → Option Rid
-named (call.Get id) = Some id
-named (call.GetForUpdate id) = Some id
-named (call.Update id bytes) = Some id
-named (call.Delete id) = Some id
-named (call.Lock (Record id) mode) = Some id
-named (call.TryLock (Record id) mode) = Some id
-named call.Begin = None
-named (call.Insert s bytes) = None
-named (call.Scan s) = None
-named (call.Lock Volume mode) = None
-named (call.Lock (Store s) mode) = None
-named (call.Lock (Page p) mode) = None
-named (call.TryLock Volume mode) = None
-named (call.TryLock (Store s) mode) = None
-named (call.TryLock (Page p) mode) = None
-named call.Savepoint = None
-named (call.BackTo k) = None
-named call.Commit = None
-named call.Abort = None
-named (call.Prepare global) = None
-named (call.Resolve global outcome) = None
-named call.InDoubt = None
+abbrev pub record_named_by : Call → Option Rid
+record_named_by (call.Get id) = Some id
+record_named_by (call.GetForUpdate id) = Some id
+record_named_by (call.Update id bytes) = Some id
+record_named_by (call.Delete id) = Some id
+record_named_by (call.Lock (Record id) mode) = Some id
+record_named_by (call.TryLock (Record id) mode) = Some id
+record_named_by call.Begin = None
+record_named_by (call.Insert s bytes) = None
+record_named_by (call.Scan s) = None
+record_named_by (call.Lock Volume mode) = None
+record_named_by (call.Lock (Store s) mode) = None
+record_named_by (call.Lock (Page p) mode) = None
+record_named_by (call.TryLock Volume mode) = None
+record_named_by (call.TryLock (Store s) mode) = None
+record_named_by (call.TryLock (Page p) mode) = None
+record_named_by call.Savepoint = None
+record_named_by (call.BackTo k) = None
+record_named_by call.Commit = None
+record_named_by call.Abort = None
+record_named_by (call.Prepare global) = None
+record_named_by (call.Resolve global outcome) = None
+record_named_by call.InDoubt = None
 
 -- no record is there, or none could be
 abbrev pub IsAbsent : Records → Rid → Type 0
@@ -68,7 +68,7 @@ IsRight R n call.InDoubt answer = (pairs : List (List ℕ × ℕ)) × (answer �
 
 -- of the refusals only `NoRecord` says something of records: that the one the call names is absent
 abbrev pub MayRefuse : Records → Call → Fault → Type 0
-MayRefuse R c NoRecord = IsSomeAnd (named c) (IsAbsent R)
+MayRefuse R c NoRecord = IsSomeAnd (record_named_by c) (IsAbsent R)
 MayRefuse R c _ = Unit {0}
 
 -- the reply may come to a transaction that has come so far

@@ -15,9 +15,9 @@ use Rattle.shore_model.specs.declared.histories.Decision.{Decision}
 use Rattle.shore_model.specs.declared.histories.Decision.TheVariants.{Commit, Prepare, RollBack}
 use Rattle.shore_model.specs.declared.histories.Entry.{Entry}
 use Rattle.shore_model.specs.declared.histories.Entry.TheVariants.{Exchanged, Decided}
-use Rattle.shore_model.specs.declared.histories.Doubt.{Doubt}
+use Rattle.shore_model.specs.declared.histories.InDoubt.{InDoubt}
 use Rattle.shore_model.specs.declared.histories.Opening.{Opening}
-use Rattle.shore_model.specs.declared.sessions.Standing.{Standing}
+use Rattle.shore_model.specs.declared.sessions.SessionState.{SessionState}
 use Rattle.shore_model.specs.Records.{Records, WriteSet, overlay, overlays}
 use Rattle.shore_model.specs.Alone.{Alone, writes_of}
 
@@ -57,11 +57,11 @@ began (Exchanged session txn exchange) = begun_by exchange.reply
 began (Decided d) = None
 
 -- a session is in no transaction
-abbrev pub free : Standing
+abbrev pub free : SessionState
 free = record { txn = 0; prepared = false }
 
 -- the state of a session after a reply: a begin puts it into a transaction, a commit's or an abort's answer frees it
-abbrev pub after_own_reply : Standing → Result Answer Fault → Standing
+abbrev pub after_own_reply : SessionState → Result Answer Fault → SessionState
 after_own_reply p (Ok (Began t)) = record { txn = t; prepared = false }
 after_own_reply p (Ok Committed) = free
 after_own_reply p (Ok Aborted) = free
@@ -87,28 +87,28 @@ after_own_reply p (Ok Cut) = p
 after_own_reply p (Err fault) = p
 
 -- its state once a transaction is prepared
-abbrev pub once_prepared : Standing → ℕ → Standing
+abbrev pub once_prepared : SessionState → ℕ → SessionState
 once_prepared p t = if p.txn == t then record { txn = t; prepared = true } else p
 
 -- its state once a transaction is decided: free, if that is its own and prepared
-abbrev pub once_decided : Standing → ℕ → Standing
+abbrev pub once_decided : SessionState → ℕ → SessionState
 once_decided p t = if (p.txn == t) && p.prepared then free else p
 
 -- a prepare's record prepares, and the decision's record of a prepared transaction frees its session
-abbrev pub after_decision : Standing → Decision → Standing
+abbrev pub after_decision : SessionState → Decision → SessionState
 after_decision p (Prepare t global) = once_prepared p t
 after_decision p (Commit t) = once_decided p t
 after_decision p (RollBack t) = once_decided p t
 
 -- its state after an entry
-abbrev pub after_entry : ℕ → Standing → Entry → Standing
+abbrev pub after_entry : ℕ → SessionState → Entry → SessionState
 after_entry s p (Exchanged session txn exchange) = if session == s then after_own_reply p exchange.reply else p
 after_entry s p (Decided d) = after_decision p d
 
 -- its state after entries
-abbrev pub standing : ℕ → Standing → List Entry → Standing
-standing s p [] = p
-standing s p (e ∷ es) = standing s (after_entry s p e) es
+abbrev pub session_state : ℕ → SessionState → List Entry → SessionState
+session_state s p [] = p
+session_state s p (e ∷ es) = session_state s (after_entry s p e) es
 
 -- the transaction that a decision prepares, with its global id
 abbrev pub prepared_by : Decision → Option (ℕ × List ℕ)
@@ -121,11 +121,11 @@ is_prepare_of t (Prepare u global) = u == t
 is_prepare_of t _ = false
 
 -- those that were prepared before or in the list, with their global ids
-abbrev pub all_prepared : List Doubt → List Decision → List (ℕ × List ℕ)
+abbrev pub all_prepared : List InDoubt → List Decision → List (ℕ × List ℕ)
 all_prepared before ds = map (λ d. (d.txn, d.global)) before ++ filter_map prepared_by ds
 
 -- the transaction was prepared before or in the list
-abbrev pub has_prepared : List Doubt → List Decision → ℕ → Bool
+abbrev pub has_prepared : List InDoubt → List Decision → ℕ → Bool
 has_prepared before ds t = list_any (λ d. d.txn == t) before || list_any (is_prepare_of t) ds
 
 -- the transaction that was prepared last under a global id, or the one found before
@@ -135,7 +135,7 @@ last_under global found (p ∷ ps) = last_under global (if pointwise nat_eq p.1 
 
 -- a begin is of the transaction that it begins, a resolve answered Ok of the last prepared under its global id, and each
 -- other call of its session's transaction
-abbrev pub IsOfTxn : Standing → List (ℕ × List ℕ) → ℕ → Call → Result Answer Fault → Type 0
+abbrev pub IsOfTxn : SessionState → List (ℕ × List ℕ) → ℕ → Call → Result Answer Fault → Type 0
 IsOfTxn p pairs t call.Begin reply = t ≡ unwrap_or (begun_by reply) p.txn
 IsOfTxn p pairs t (call.Resolve global outcome) reply = OnOk reply (last_under global None pairs ≡ Some t)
 IsOfTxn p pairs t _ _ = t ≡ p.txn
@@ -143,7 +143,7 @@ IsOfTxn p pairs t _ _ = t ≡ p.txn
 -- a number above 0, above those of the opening's transactions in doubt and above all that begins have answered
 pub record IsNewNumber (o : Opening) (before : List Entry) (t : ℕ) : Type 0 where
   pub above_none : 0 < t
-  pub above_doubts : All (λ (d : Doubt). d.txn < t) o.in_doubt
+  pub above_doubts : All (λ (d : InDoubt). d.txn < t) o.in_doubt
   pub above_begun : All (λ e. IfSome (began e) (λ u. u < t)) before
 
 -- An entry may follow those before it: a begin answers a number above all earlier ones, a call is of the transaction
@@ -151,7 +151,7 @@ pub record IsNewNumber (o : Opening) (before : List Entry) (t : ℕ) : Type 0 wh
 abbrev pub MayStand : Opening → List Entry → Entry → Type 0
 MayStand o before (Exchanged session txn exchange) =
     IfSome (begun_by exchange.reply) (IsNewNumber o before)
-    × IsOfTxn (standing session free before) (all_prepared o.in_doubt (decisions before)) txn exchange.call exchange.reply
+    × IsOfTxn (session_state session free before) (all_prepared o.in_doubt (decisions before)) txn exchange.call exchange.reply
 MayStand o before (Decided (RollBack t)) = IsTrue (has_prepared o.in_doubt (decisions before) t)
 MayStand o before (Decided _) = Unit {0}
 
@@ -191,13 +191,13 @@ acknowledged es = filter_map acknowledged_by es
 -- ---- the records that decisions leave
 
 -- what an opening says that a transaction in doubt wrote
-abbrev pub given : List Doubt → ℕ → Option WriteSet
-given [] t = None
-given (d ∷ ds) t = if d.txn == t then Some d.writes else given ds t
+abbrev pub writes_given : List InDoubt → ℕ → Option WriteSet
+writes_given [] t = None
+writes_given (d ∷ ds) t = if d.txn == t then Some d.writes else writes_given ds t
 
 -- what a transaction wrote
 abbrev pub writes_in : History → ℕ → WriteSet
-writes_in h t = unwrap_or (given h.opening.in_doubt t) (writes_of (calls_of t h.entries))
+writes_in h t = unwrap_or (writes_given h.opening.in_doubt t) (writes_of (calls_of t h.entries))
 
 -- the write sets of the committed, laid over the records in the order of the commits (serial execution)
 abbrev pub serial : (ℕ → WriteSet) → Records → List Decision → Records
@@ -217,7 +217,7 @@ abbrev pub is_undecided : List Decision → ℕ → Bool
 is_undecided ds t = not (list_any (is_ended_by t) ds)
 
 -- those prepared before or in the list, and in it neither committed nor rolled back, with their global ids
-abbrev pub in_doubt : List Doubt → List Decision → List (ℕ × List ℕ)
+abbrev pub in_doubt : List InDoubt → List Decision → List (ℕ × List ℕ)
 in_doubt before ds = filter (λ p. is_undecided ds p.0) (all_prepared before ds)
 
 -- the serial records, overlaid with the write sets of those in doubt
@@ -230,7 +230,7 @@ shown h ds =
 
 -- The transaction, if any, whose turn a decision is, after those before it. The turn of a transaction (its serialization point) is its
 -- prepare if it prepared, else its commit; that of one in doubt at the opening lies before the opening.
-abbrev pub turn_of : List Doubt → List Decision → Decision → Option ℕ
+abbrev pub turn_of : List InDoubt → List Decision → Decision → Option ℕ
 turn_of doubts before (Prepare t global) = if has_prepared doubts before t then None else Some t
 turn_of doubts before (Commit t) = if has_prepared doubts before t then None else Some t
 turn_of doubts before (RollBack t) = None

@@ -6,14 +6,15 @@ use Rattle.std.specs.FinMap.{empty, from_entries, get, insert}
 use Rattle.shore_types.specs.declared.ids.Rid.{Rid}
 use Rattle.shore_types.specs.declared.locking.Granule.{Granule}
 use Rattle.shore_types.specs.declared.locking.Granule.TheVariants.{Record}
-use Rattle.shore_model.specs.declared.log_lists.UnansweredChange.{UnansweredChange}
+use Rattle.shore_model.specs.declared.unanswered_changes.UnansweredChange.{UnansweredChange}
 use Rattle.shore_model.specs.declared.log_records.LogRecord.{LogRecord}
 use Rattle.shore_model.specs.declared.log_records.LogTxn.{LogTxn}
 use Rattle.shore_model.specs.declared.log_records.TxnState.{TxnState}
 use Rattle.shore_model.specs.declared.log_records.TxnState.TheVariants as state
 use Rattle.shore_model.specs.declared.log_records.Payload.{Payload}
 use Rattle.shore_model.specs.declared.log_records.Payload.TheVariants.{Change, Compensation, Commit, End, Prepare, RollbackDecided, CheckpointBegin, CheckpointEnd, Anchor}
-use Rattle.shore_model.specs.Records.{Records, WriteSet, Image, overlays}
+use Rattle.shore_model.specs.Records.{Records, WriteSet, overlays}
+use Rattle.shore_types.specs.Images.{Image}
 use Rattle.shore_model.specs.Locks.{path}
 
 -- ---- states of a transaction, by the records that it has
@@ -105,8 +106,8 @@ abbrev pub last_images : List LogRecord → WriteSet
 last_images rs = from_entries (reverse (filter_map (λ r. image_in r.payload) rs))
 
 -- what the records leave at an id: the last image for it, and nothing if there is none
-abbrev pub image_at : List LogRecord → Rid → Image
-image_at rs id = unwrap_or (get (last_images rs) id) None
+abbrev pub image_of_record : List LogRecord → Rid → Image
+image_of_record rs id = unwrap_or (get (last_images rs) id) None
 
 -- what one transaction's records leave: the last image for each id
 abbrev pub logged_writes : List LogRecord → ℕ → WriteSet
@@ -221,7 +222,7 @@ pub record IsAsAtBegin (rs : List LogRecord) (begin next : ℕ) (txns : List Log
 
 -- a Change: no Prepare comes before it, its before image is what the list leaves at the id, and no other has changed that
 abbrev pub MayChange : List LogRecord → ℕ → Rid → Image → Type 0
-MayChange rs t id before = IsTrue (is_unprepared t rs) × (before ≡ image_at rs id) × NoOtherChanged rs t id
+MayChange rs t id before = IsTrue (is_unprepared t rs) × (before ≡ image_of_record rs id) × NoOtherChanged rs t id
 
 -- a Compensation: it answers the newest unanswered Change
 abbrev pub MayCompensate : List LogRecord → ℕ → Rid → Image → ℕ → Type 0
@@ -296,5 +297,5 @@ is_decision p = is_commit p || is_prepare p || is_rollback p
 
 -- what a list tells: the empty map, with the writes of the committed laid over it in the order of the Commits, and then of
 -- those in doubt. The others contribute nothing (ARIES: what restart leaves once it has undone the losers)
-abbrev pub told : List LogRecord → Records
-told rs = overlays (overlays empty (map (logged_writes rs) (committed_in rs))) (map (logged_writes rs) (in_doubt_in rs))
+abbrev pub records_told : List LogRecord → Records
+records_told rs = overlays (overlays empty (map (logged_writes rs) (committed_in rs))) (map (logged_writes rs) (in_doubt_in rs))

@@ -6,14 +6,11 @@ use Rattle.shore_types.specs.Layout.{HasSlot}
 use Rattle.shore_types.specs.declared.ids.Rid.{Rid}
 use Rattle.shore_types.specs.declared.layout.Geometry.{Geometry}
 use Rattle.shore_types.specs.declared.layout.TheConstants.{MAX_RECORD_BYTES}
+use Rattle.shore_types.specs.Images.{Image}
 
 -- a finite map from record ids to bytes
 abbrev pub Records : Type 0
 Records = FinMap rid_cmp (List ℕ)
-
--- an image, what may be at an id: bytes, or nothing
-abbrev pub Image : Type 0
-Image = Option (List ℕ)
 
 -- what was written, at the ids that were written: bytes, or that the record is gone
 abbrev pub WriteSet : Type 0

@@ -6,19 +6,19 @@
 pub mod calls;
 pub mod histories;
 pub mod holds;
-pub mod log_lists;
 pub mod log_records;
 pub mod progress;
 pub mod requests;
 pub mod rid_map;
 pub mod sessions;
+pub mod unanswered_changes;
 
 pub use calls::{Answer, Call, Exchange, Outcome};
-pub use histories::{Decision, Doubt, Entry, Opening};
+pub use histories::{Decision, Entry, InDoubt, Opening};
 pub use holds::Hold;
-pub use log_lists::UnansweredChange;
 pub use log_records::{DirtyPage, LogRecord, LogTxn, Payload, TxnState};
 pub use progress::Progress;
 pub use requests::{Group, Request};
 pub use rid_map::RidMap;
-pub use sessions::Standing;
+pub use sessions::SessionState;
+pub use unanswered_changes::UnansweredChange;

@@ -3,7 +3,7 @@ use shore_types::TxnId;
 
 /// The state of a session: its transaction, 0 if it has none, and whether that is prepared.
 #[derive(Clone, Copy)]
-pub struct Standing {
+pub struct SessionState {
     pub txn: TxnId,
     pub prepared: bool,
 }

@@ -21,6 +21,6 @@ pub fn standing_together_is_mutual()
 {}
 
 /// What a held mode grants is compatible with it.
-pub fn grant_stands()
+pub fn granted_modes_stand_together()
     ensures { (held asked : Mode) → IsTrue (grants held asked) → IsTrue (coexist held asked) }
 {}

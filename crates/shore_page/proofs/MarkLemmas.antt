@@ -11,10 +11,10 @@ length-part : (marks : List Bool) (from to : ℕ) → from ≤ to → to ≤ len
 length-part marks from to order within = length-take-le (to - from) (drop from marks) (omega (arith, length-drop from marks))
 
 -- what is in a part, by its place in the whole
-in_part : (marks : List Bool) (from to place : ℕ) → from ≤ place → place < to → get_or (take (to - from) (drop from marks)) (place - from) false ≡ get_or marks place false
-in_part marks from to place low high =
-    let here : from + (place - from) ≡ place = omega arith in
-    get_or-take (to - from) (drop from marks) (place - from) false (omega arith) ∙ get_or-drop from marks (place - from) false ∙ ap (λ (k : ℕ). get_or marks k false) here
+in_part : (marks : List Bool) (from to position : ℕ) → from ≤ position → position < to → get_or (take (to - from) (drop from marks)) (position - from) false ≡ get_or marks position false
+in_part marks from to position low high =
+    let here : from + (position - from) ≡ position = omega arith in
+    get_or-take (to - from) (drop from marks) (position - from) false (omega arith) ∙ get_or-drop from marks (position - from) false ∙ ap (λ (k : ℕ). get_or marks k false) here
 
 marked-append : (xs ys : List Bool) → marked (xs ++ ys) ≡ marked xs + marked ys
 marked-append xs ys = sum_by-append (λ (m : Bool). cond m 1 0) xs ys
@@ -60,18 +60,18 @@ marks_part old part from to order within tests filled =
     let mid : length (take n (drop from old)) ≡ n = length-part old from to order within in
     record {
       len = omega (arith, length-append (take from old) (part ++ drop n (drop from old)), length-append part (drop n (drop from old)), length-drop n (drop from old), length-drop from old);
-      inside = λ place low high. (
-        sym (in_part old from to place low high) ∙ free (place - from) (omega arith),
-        get_or-append_right (take from old) (part ++ drop n (drop from old)) from place false front low
-            ∙ get_or_append_left part (drop n (drop from old)) false (place - from) (omega arith)
-            ∙ ap (λ (l : List Bool). get_or l (place - from) false) is ∙ get_or-replicate n (place - from) true false (omega arith),
+      inside = λ position low high. (
+        sym (in_part old from to position low high) ∙ free (position - from) (omega arith),
+        get_or-append_right (take from old) (part ++ drop n (drop from old)) from position false front low
+            ∙ get_or_append_left part (drop n (drop from old)) false (position - from) (omega arith)
+            ∙ ap (λ (l : List Bool). get_or l (position - from) false) is ∙ get_or-replicate n (position - from) true false (omega arith),
       );
-      below = λ place low. get_or_append_left (take from old) (part ++ drop n (drop from old)) false place (omega arith) ∙ get_or-take from old place false low;
-      above = λ place high.
-          let here : from + (n + (place - from - n)) ≡ place = omega arith in
-          get_or-append_right (take from old) (part ++ drop n (drop from old)) from place false front (omega arith)
-          ∙ get_or-append_right part (drop n (drop from old)) n (place - from) false len (omega arith)
-          ∙ get_or-drop n (drop from old) (place - from - n) false ∙ get_or-drop from old (n + (place - from - n)) false ∙ ap (λ (k : ℕ). get_or old k false) here;
+      below = λ position low. get_or_append_left (take from old) (part ++ drop n (drop from old)) false position (omega arith) ∙ get_or-take from old position false low;
+      above = λ position high.
+          let here : from + (n + (position - from - n)) ≡ position = omega arith in
+          get_or-append_right (take from old) (part ++ drop n (drop from old)) from position false front (omega arith)
+          ∙ get_or-append_right part (drop n (drop from old)) n (position - from) false len (omega arith)
+          ∙ get_or-drop n (drop from old) (position - from - n) false ∙ get_or-drop from old (n + (position - from - n)) false ∙ ap (λ (k : ℕ). get_or old k false) here;
       count =
           let parts : marked old ≡ marked (take from old) + (marked (take n (drop from old)) + marked (drop n (drop from old))) =
           ap marked (sym (take-append-drop from old)) ∙ marked-append (take from old) (drop from old)

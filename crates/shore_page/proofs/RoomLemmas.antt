@@ -8,8 +8,9 @@ use Rattle.std.proofs.lemmas.Bool.{cases_lt, lt-ltb, le-ltb, cond-true, cond-fal
 use Rattle.std.proofs.lemmas.Option.{slice_get_past, slice_get_read, slice_get-get_or}
 use Rattle.std.specs.Option.{option_and_then, option_map_or}
 use Rattle.std.specs.List.{slice_get}
-use Rattle.shore_page.specs.Slots.{Image, Slot, PageState, image_len, with_change, with_image, holding}
-use Rattle.shore_page.specs.Room.{claims, claim_at, free_bytes, need, Fits, HasRoom, HoldsItsImage, IsKept, ChangesOne, raised, lowered}
+use Rattle.shore_page.specs.Slots.{Slot, PageState, image_len, with_change, with_image, holding}
+use Rattle.shore_types.specs.Images.{Image}
+use Rattle.shore_page.specs.Room.{claims, claim_at, free_bytes, need, Fits, HasRoom, HoldsItsImage, KeepsClaims, ChangesOne, raised, lowered}
 
 -- a change of one element sets it
 pub with_change_set : {A : Type 0} (f : A → A) (xs : List A) (i : ℕ) (x y : A) → i < length xs → x ≡ get_or xs i x → y ≡ f x → set xs i y ≡ with_change f xs i
@@ -30,8 +31,8 @@ claims-set slots i x y inside here =
     ap (λ (s : Slot). claims (set slots i y) + s.claim) here ∙ total
 
 -- a slot changed whose claim grows by what is free, at most
-pub set_kept : (slots : List Slot) (claimed i : ℕ) (x y : Slot) → IsKept slots claimed → i < length slots → x ≡ get_or slots i x → HoldsItsImage y
-    → x.claim ≤ y.claim → y.claim - x.claim ≤ free_bytes slots → IsKept (set slots i y) (claimed + (y.claim - x.claim))
+pub set_kept : (slots : List Slot) (claimed i : ℕ) (x y : Slot) → KeepsClaims slots claimed → i < length slots → x ≡ get_or slots i x → HoldsItsImage y
+    → x.claim ≤ y.claim → y.claim - x.claim ≤ free_bytes slots → KeepsClaims (set slots i y) (claimed + (y.claim - x.claim))
 set_kept slots claimed i x y kept inside here holds grows fits =
     let total = claims-set slots i x y inside here in
     let len : length (set slots i y) ≡ length slots = length-set slots i y in
@@ -42,8 +43,8 @@ set_kept slots claimed i x y kept inside here holds grows fits =
     }
 
 -- a slot changed whose claim does not grow
-pub set_kept_less : (slots : List Slot) (claimed i : ℕ) (x y : Slot) → IsKept slots claimed → i < length slots → x ≡ get_or slots i x → HoldsItsImage y
-    → y.claim ≤ x.claim → IsKept (set slots i y) (claimed - (x.claim - y.claim))
+pub set_kept_less : (slots : List Slot) (claimed i : ℕ) (x y : Slot) → KeepsClaims slots claimed → i < length slots → x ≡ get_or slots i x → HoldsItsImage y
+    → y.claim ≤ x.claim → KeepsClaims (set slots i y) (claimed - (x.claim - y.claim))
 set_kept_less slots claimed i x y kept inside here holds falls =
     let total = claims-set slots i x y inside here in
     let len : length (set slots i y) ≡ length slots = length-set slots i y in
@@ -62,8 +63,8 @@ need_behind : (slots : List Slot) (i bytes : ℕ) → length slots ≤ i → nee
 need_behind slots i bytes behind = rw (le-ltb i (length slots) behind, slice_get_past slots i behind) (omega arith)
 
 -- an image in a slot that is there
-pub hold_kept : (slots : List Slot) (claimed i : ℕ) (image : Image) (x y : Slot) → IsKept slots claimed → i < length slots → x ≡ get_or slots i x → y ≡ holding image x
-    → Fits slots i (image_len image) → IsKept (set slots i y) (claimed + (y.claim - x.claim))
+pub hold_kept : (slots : List Slot) (claimed i : ℕ) (image : Image) (x y : Slot) → KeepsClaims slots claimed → i < length slots → x ≡ get_or slots i x → y ≡ holding image x
+    → Fits slots i (image_len image) → KeepsClaims (set slots i y) (claimed + (y.claim - x.claim))
 hold_kept slots claimed i image x y kept inside here is fits =
     let claim : y.claim ≡ max x.claim (image_len image) = ap (λ (s : Slot). s.claim) is in
     let held : image_len y.image ≡ image_len image = ap (λ (s : Slot). image_len s.image) is in
@@ -71,7 +72,7 @@ hold_kept slots claimed i image x y kept inside here is fits =
     let old : HoldsItsImage x = subst HoldsItsImage (sym here) (All-get_or HoldsItsImage slots i x inside kept.room.each) in
     set_kept slots claimed i x y kept inside here (omega arith, omega (arith, fits.most, old.1)) (omega arith) (omega arith)
 
-pub hold_one : (slots : List Slot) (claimed i : ℕ) (image : Image) (x y : Slot) → IsKept slots claimed → i < length slots → x ≡ get_or slots i x → y ≡ holding image x
+pub hold_one : (slots : List Slot) (claimed i : ℕ) (image : Image) (x y : Slot) → KeepsClaims slots claimed → i < length slots → x ≡ get_or slots i x → y ≡ holding image x
     → Fits slots i (image_len image) → ChangesOne slots (set slots i y) i image
 hold_one slots claimed i image x y kept inside here is fits =
     let claim : y.claim ≡ max x.claim (image_len image) = ap (λ (s : Slot). s.claim) is in
@@ -98,8 +99,8 @@ hold_one slots claimed i image x y kept inside here is fits =
     set_others (z ∷ slots) (suc i) y (suc other) apart = set_others slots i y other (λ (e : other ≡ i). apart (ap suc e))
 
 -- an image in a new slot
-pub push_kept : (slots : List Slot) (claimed i : ℕ) (image : Image) (y : Slot) → IsKept slots claimed → length slots ≤ i → y ≡ record { image = image; claim = image_len image }
-    → Fits slots i (image_len image) → IsKept (slots ++ y ∷ []) (claimed + y.claim)
+pub push_kept : (slots : List Slot) (claimed i : ℕ) (image : Image) (y : Slot) → KeepsClaims slots claimed → length slots ≤ i → y ≡ record { image = image; claim = image_len image }
+    → Fits slots i (image_len image) → KeepsClaims (slots ++ y ∷ []) (claimed + y.claim)
 push_kept slots claimed i image y kept behind is fits =
     let claim : y.claim ≡ image_len image = ap (λ (s : Slot). s.claim) is in
     let held : image_len y.image ≡ image_len image = ap (λ (s : Slot). image_len s.image) is in
@@ -112,7 +113,7 @@ push_kept slots claimed i image y kept behind is fits =
       room = record { room = omega (arith, fits.room); each = All-push HoldsItsImage slots y kept.room.each (omega arith, omega (arith, fits.most)) };
     }
 
-pub push_one : (slots : List Slot) (claimed i : ℕ) (image : Image) (y : Slot) → IsKept slots claimed → length slots ≤ i → y ≡ record { image = image; claim = image_len image }
+pub push_one : (slots : List Slot) (claimed i : ℕ) (image : Image) (y : Slot) → KeepsClaims slots claimed → length slots ≤ i → y ≡ record { image = image; claim = image_len image }
     → Fits slots i (image_len image) → ChangesOne slots (slots ++ y ∷ []) i image
 push_one slots claimed i image y kept behind is fits =
     let claim : y.claim ≡ image_len image = ap (λ (s : Slot). s.claim) is in
@@ -163,8 +164,8 @@ pub fits_none : (slots : List Slot) (i : ℕ) (x : Slot) → i < length slots �
 fits_none slots i x inside here = record { there = omega arith; most = omega arith; room = omega (arith, need_inside slots i 0 x inside here) }
 
 -- a claim raised by what is free, at most
-pub raise_kept : (slots : List Slot) (claimed i bytes : ℕ) (x y : Slot) → IsKept slots claimed → i < length slots → x ≡ get_or slots i x → y ≡ raised bytes x
-    → Fits slots i bytes → IsKept (set slots i y) (claimed + (y.claim - x.claim))
+pub raise_kept : (slots : List Slot) (claimed i bytes : ℕ) (x y : Slot) → KeepsClaims slots claimed → i < length slots → x ≡ get_or slots i x → y ≡ raised bytes x
+    → Fits slots i bytes → KeepsClaims (set slots i y) (claimed + (y.claim - x.claim))
 raise_kept slots claimed i bytes x y kept inside here is fits =
     let claim : y.claim ≡ max x.claim bytes = ap (λ (s : Slot). s.claim) is in
     let held : image_len y.image ≡ image_len x.image = ap (λ (s : Slot). image_len s.image) is in
@@ -173,8 +174,8 @@ raise_kept slots claimed i bytes x y kept inside here is fits =
     set_kept slots claimed i x y kept inside here (omega (arith, old.0), omega (arith, old.1)) (omega arith) (omega arith)
 
 -- a claim lowered, but not below its record
-pub lower_kept : (slots : List Slot) (claimed i bytes : ℕ) (x y : Slot) → IsKept slots claimed → i < length slots → x ≡ get_or slots i x → y ≡ lowered bytes x
-    → IsKept (set slots i y) (claimed - (x.claim - y.claim))
+pub lower_kept : (slots : List Slot) (claimed i bytes : ℕ) (x y : Slot) → KeepsClaims slots claimed → i < length slots → x ≡ get_or slots i x → y ≡ lowered bytes x
+    → KeepsClaims (set slots i y) (claimed - (x.claim - y.claim))
 lower_kept slots claimed i bytes x y kept inside here is =
     let claim : y.claim ≡ min x.claim (max (image_len x.image) bytes) = ap (λ (s : Slot). s.claim) is in
     let held : image_len y.image ≡ image_len x.image = ap (λ (s : Slot). image_len s.image) is in
@@ -195,5 +196,5 @@ with_image_room slots i image room fits = elim (cases_lt i (length slots)) [
     nothing : Slot
     nothing = record { image = None; claim = 0 }
 
-    kept : IsKept slots (claims slots)
+    kept : KeepsClaims slots (claims slots)
     kept = record { sum = refl; room = room }

@@ -10,8 +10,9 @@ use Rattle.std.proofs.lemmas.Option.{slice_get-get_or, slice_get_within, get_or_
 use Rattle.std.specs.Prelude.{unwrap_or}
 use Rattle.std.specs.List.{between, sum_by}
 use Rattle.shore_types.specs.declared.ids.PageId.{PageId}
-use Rattle.shore_page.specs.Slots.{settled, Image, Slot, image_len}
-use Rattle.shore_page.specs.Room.{claims, HoldsItsImage, IsKept}
+use Rattle.shore_page.specs.Slots.{settled, Slot, image_len}
+use Rattle.shore_types.specs.Images.{Image}
+use Rattle.shore_page.specs.Room.{claims, HoldsItsImage, KeepsClaims}
 use Rattle.shore_page.specs.Text.{table_of, offset_at, length_at, HasHeader, HasSlot, Covers, IsPageText, images_of}
 use Rattle.shore_page.specs.Reading.{IsEntry, IsTable, slot_image, images_in, marked, Marks, IsTaken}
 
@@ -19,9 +20,9 @@ use Rattle.shore_page.specs.Reading.{IsEntry, IsTable, slot_image, images_in, ma
 pub record Checked (bytes : List ℕ) (slots : ℕ) (marks : List Bool) (i taken : ℕ) : Type 0 where
   pub len : 24 + length marks ≡ table_of slots
   pub each : (j : ℕ) → j < i → IsEntry (table_of slots) (offset_at bytes j) (length_at bytes j)
-  pub apart : (a b place : ℕ) → a < i → b < i → Covers bytes a place → Covers bytes b place → a ≡ b
-  pub covered : (j place : ℕ) → j < i → Covers bytes j place → get_or marks (place - 24) false ≡ true
-  pub owned : (place : ℕ) → get_or marks place false ≡ true → (j : ℕ) × (j < i) × Covers bytes j (24 + place)
+  pub apart : (a b position : ℕ) → a < i → b < i → Covers bytes a position → Covers bytes b position → a ≡ b
+  pub covered : (j position : ℕ) → j < i → Covers bytes j position → get_or marks (position - 24) false ≡ true
+  pub owned : (position : ℕ) → get_or marks position false ≡ true → (j : ℕ) × (j < i) × Covers bytes j (24 + position)
   pub count : marked marks ≡ taken
   pub sum : taken ≡ sum_by image_len (images_in bytes i)
 
@@ -37,13 +38,13 @@ slot_bytes bytes table slot whole inside (inr lies) =
     (length-between bytes (offset_at bytes slot) (offset_at bytes slot + length_at bytes slot) (omega (arith, lies.before_table)) ∙ added_less (offset_at bytes slot) (length_at bytes slot))
 
 -- a byte of a record, counted from behind the header
-covers_place : (table offset bytes place : ℕ) → IsEntry table offset bytes → offset - 24 ≤ place → place < offset - 24 + bytes → (offset ≤ 24 + place) × (24 + place < offset + bytes)
-covers_place table offset bytes place (inl empty) low high = absurd (omega (arith, empty.0, empty.1))
-covers_place table offset bytes place (inr lies) low high = (omega (arith, lies.behind_header), omega (arith, lies.behind_header))
+covers_position : (table offset bytes position : ℕ) → IsEntry table offset bytes → offset - 24 ≤ position → position < offset - 24 + bytes → (offset ≤ 24 + position) × (24 + position < offset + bytes)
+covers_position table offset bytes position (inl empty) low high = absurd (omega (arith, empty.0, empty.1))
+covers_position table offset bytes position (inr lies) low high = (omega (arith, lies.behind_header), omega (arith, lies.behind_header))
 
-place_covered : (table offset bytes place : ℕ) → IsEntry table offset bytes → offset ≤ place → place < offset + bytes → (offset - 24 ≤ place - 24) × (place - 24 < offset - 24 + bytes)
-place_covered table offset bytes place (inl empty) low high = absurd (omega (arith, empty.0, empty.1))
-place_covered table offset bytes place (inr lies) low high = (omega (arith, lies.behind_header), omega (arith, lies.behind_header))
+position_covered : (table offset bytes position : ℕ) → IsEntry table offset bytes → offset ≤ position → position < offset + bytes → (offset - 24 ≤ position - 24) × (position - 24 < offset - 24 + bytes)
+position_covered table offset bytes position (inl empty) low high = absurd (omega (arith, empty.0, empty.1))
+position_covered table offset bytes position (inr lies) low high = (omega (arith, lies.behind_header), omega (arith, lies.behind_header))
 
 -- one slot more
 pub checked_more : (bytes : List ℕ) (slots : ℕ) (marks new : List Bool) (i taken : ℕ) → length bytes ≡ 8192 → Checked bytes slots marks i taken
@@ -55,25 +56,25 @@ checked_more bytes slots marks new i taken whole so_far entry marks_more = recor
     | inl earlier ↦ so_far.each j earlier
     | inr late ↦ (let same : j ≡ i = omega arith in rw same entry)
   ];
-  apart = λ a b place before_a before_b covers_a covers_b. elim (cases_lt a i) [
+  apart = λ a b position before_a before_b covers_a covers_b. elim (cases_lt a i) [
     | inl a_earlier ↦ elim (cases_lt b i) [
-      | inl b_earlier ↦ so_far.apart a b place a_earlier b_earlier covers_a covers_b
-      | inr b_late ↦ absurd (clash a b place a_earlier (omega arith) covers_a covers_b)
+      | inl b_earlier ↦ so_far.apart a b position a_earlier b_earlier covers_a covers_b
+      | inr b_late ↦ absurd (clash a b position a_earlier (omega arith) covers_a covers_b)
     ]
     | inr a_late ↦ elim (cases_lt b i) [
-      | inl b_earlier ↦ absurd (clash b a place b_earlier (omega arith) covers_b covers_a)
+      | inl b_earlier ↦ absurd (clash b a position b_earlier (omega arith) covers_b covers_a)
       | inr b_late ↦ (let same : a ≡ b = omega arith in same)
     ]
   ];
-  covered = λ j place before covers. elim (cases_lt j i) [
-    | inl earlier ↦ stays (place - 24) (so_far.covered j place earlier covers)
-    | inr late ↦ covered_here j place (omega arith) covers
+  covered = λ j position before covers. elim (cases_lt j i) [
+    | inl earlier ↦ stays (position - 24) (so_far.covered j position earlier covers)
+    | inr late ↦ covered_here j position (omega arith) covers
   ];
-  owned = λ place here. elim (cases_lt place from) [
-    | inl low ↦ owned_before place (sym (marks_more.below place low) ∙ here)
-    | inr from_on ↦ elim (cases_lt place (from + length_at bytes i)) [
-      | inl inside ↦ (i, omega arith, covers_place (table_of slots) (offset_at bytes i) (length_at bytes i) place entry from_on inside)
-      | inr high ↦ owned_before place (sym (marks_more.above place high) ∙ here)
+  owned = λ position here. elim (cases_lt position from) [
+    | inl low ↦ owned_before position (sym (marks_more.below position low) ∙ here)
+    | inr from_on ↦ elim (cases_lt position (from + length_at bytes i)) [
+      | inl inside ↦ (i, omega arith, covers_position (table_of slots) (offset_at bytes i) (length_at bytes i) position entry from_on inside)
+      | inr high ↦ owned_before position (sym (marks_more.above position high) ∙ here)
     ]
   ];
   count = omega (arith, marks_more.count, so_far.count);
@@ -87,31 +88,31 @@ checked_more bytes slots marks new i taken whole so_far entry marks_more = recor
     more = sum_by-map-range_with_len_more image_len (slot_image bytes) 0 i i (omega arith)
 
     -- what was marked stays so
-    stays : (place : ℕ) → get_or marks place false ≡ true → get_or new place false ≡ true
-    stays place here = elim (cases_lt place from) [
-      | inl low ↦ marks_more.below place low ∙ here
-      | inr from_on ↦ elim (cases_lt place (from + length_at bytes i)) [
-        | inl inside ↦ (marks_more.inside place from_on inside).1
-        | inr high ↦ marks_more.above place high ∙ here
+    stays : (position : ℕ) → get_or marks position false ≡ true → get_or new position false ≡ true
+    stays position here = elim (cases_lt position from) [
+      | inl low ↦ marks_more.below position low ∙ here
+      | inr from_on ↦ elim (cases_lt position (from + length_at bytes i)) [
+        | inl inside ↦ (marks_more.inside position from_on inside).1
+        | inr high ↦ marks_more.above position high ∙ here
       ]
     ]
 
-    owned_before : (place : ℕ) → get_or marks place false ≡ true → (j : ℕ) × (j < i + 1) × Covers bytes j (24 + place)
-    owned_before place here = let owner = so_far.owned place here in (owner.0, omega (arith, owner.1), owner.2)
+    owned_before : (position : ℕ) → get_or marks position false ≡ true → (j : ℕ) × (j < i + 1) × Covers bytes j (24 + position)
+    owned_before position here = let owner = so_far.owned position here in (owner.0, omega (arith, owner.1), owner.2)
 
-    covered_here : (j place : ℕ) → j ≡ i → Covers bytes j place → get_or new (place - 24) false ≡ true
-    covered_here j place same covers =
-        let here = subst (λ (k : ℕ). Covers bytes k place) same covers in
-        let inside = place_covered (table_of slots) (offset_at bytes i) (length_at bytes i) place entry here.0 here.1 in
-        (marks_more.inside (place - 24) inside.0 inside.1).1
+    covered_here : (j position : ℕ) → j ≡ i → Covers bytes j position → get_or new (position - 24) false ≡ true
+    covered_here j position same covers =
+        let here = subst (λ (k : ℕ). Covers bytes k position) same covers in
+        let inside = position_covered (table_of slots) (offset_at bytes i) (length_at bytes i) position entry here.0 here.1 in
+        (marks_more.inside (position - 24) inside.0 inside.1).1
 
     -- a byte of an earlier record and of this one
-    clash : (a b place : ℕ) → a < i → b ≡ i → Covers bytes a place → Covers bytes b place → ⊥
-    clash a b place earlier same covers_a covers_b =
-        let here = subst (λ (k : ℕ). Covers bytes k place) same covers_b in
-        let inside = place_covered (table_of slots) (offset_at bytes i) (length_at bytes i) place entry here.0 here.1 in
-        let free = (marks_more.inside (place - 24) inside.0 inside.1).0 in
-        let taken = so_far.covered a place earlier covers_a in
+    clash : (a b position : ℕ) → a < i → b ≡ i → Covers bytes a position → Covers bytes b position → ⊥
+    clash a b position earlier same covers_a covers_b =
+        let here = subst (λ (k : ℕ). Covers bytes k position) same covers_b in
+        let inside = position_covered (table_of slots) (offset_at bytes i) (length_at bytes i) position entry here.0 here.1 in
+        let free = (marks_more.inside (position - 24) inside.0 inside.1).0 in
+        let taken = so_far.covered a position earlier covers_a in
         cc
 
 -- a record that cannot be marked is none of a slot table
@@ -119,16 +120,16 @@ pub checked_refused : (bytes : List ℕ) (slots : ℕ) (marks : List Bool) (i ta
     → (IsEntry (table_of slots) (offset_at bytes i) (length_at bytes i) → IsTaken marks (offset_at bytes i - 24) (offset_at bytes i - 24 + length_at bytes i)) → IsTable bytes slots → ⊥
 checked_refused bytes slots marks i taken so_far before refused table =
     let entry = table.each i before in
-    let place = refused entry in
-    let owner = so_far.owned place.0 place.3 in
-    let same : owner.0 ≡ i = table.apart owner.0 i (24 + place.0) (omega (arith, owner.1)) before owner.2 (covers_place (table_of slots) (offset_at bytes i) (length_at bytes i) place.0 entry place.1 place.2) in
+    let position = refused entry in
+    let owner = so_far.owned position.0 position.3 in
+    let same : owner.0 ≡ i = table.apart owner.0 i (24 + position.0) (omega (arith, owner.1)) before owner.2 (covers_position (table_of slots) (offset_at bytes i) (length_at bytes i) position.0 entry position.1 position.2) in
     omega (arith, owner.1)
 
 -- all slots
 pub checked_all : (bytes : List ℕ) (slots : ℕ) (marks : List Bool) (i taken : ℕ) → Checked bytes slots marks i taken → slots ≤ i → i ≤ slots → IsTable bytes slots
 checked_all bytes slots marks i taken so_far reached inside = record {
   each = λ slot before. so_far.each slot (omega arith);
-  apart = λ a b place before_a before_b. so_far.apart a b place (omega arith) (omega arith);
+  apart = λ a b position before_a before_b. so_far.apart a b position (omega arith) (omega arith);
 }
 
 -- ---- the images that a slot table names
@@ -198,7 +199,7 @@ text_of_table bytes id number slots whole header table =
           let is : slot_image bytes slot ≡ image = sym (get_or-map-range_with_len (slot_image bytes) 0 slots slot slot None before (omega arith)) ∙ get_or_from_slice_get (images_in bytes slots) slot image None got in
           subst (λ (n : ℕ). HasSlot bytes (table_of n) slot image) same
           (subst (λ (i : Image). HasSlot bytes (table_of slots) slot i) is (slot_of_entry bytes (table_of slots) slot whole (omega arith) (table.each slot before)));
-      apart = λ a b place before_a before_b. table.apart a b place (omega arith) (omega arith);
+      apart = λ a b position before_a before_b. table.apart a b position (omega arith) (omega arith);
     }
 
 -- the records of a page alone, of slots that claim what their records take
@@ -212,13 +213,13 @@ claims-settled (image ∷ images) = omega (arith, claims-settled images, sum_by-
 
 -- the slots that a slot table names, with their claims, are kept by a page
 pub table_kept : (bytes : List ℕ) (slots taken : ℕ) (items : List Slot) → length bytes ≡ 8192 → IsTable bytes slots → items ≡ map settled (images_in bytes slots)
-    → taken ≡ sum_by image_len (images_in bytes slots) → 4 * slots + taken ≤ 8168 → IsKept items taken
+    → taken ≡ sum_by image_len (images_in bytes slots) → 4 * slots + taken ≤ 8168 → KeepsClaims items taken
 table_kept bytes slots taken items whole table is sum room =
     let read = map settled (images_in bytes slots) in
     let len : length read ≡ slots = length-map (images_in bytes slots) settled ∙ length-images_in bytes slots in
     let claimed : claims read ≡ taken = claims-settled (images_in bytes slots) ∙ sym sum in
     let nothing : Slot = settled None in
-    subst (λ (l : List Slot). IsKept l taken) (sym is) record {
+    subst (λ (l : List Slot). KeepsClaims l taken) (sym is) record {
       sum = sym claimed;
       room = record {
         room = omega arith;

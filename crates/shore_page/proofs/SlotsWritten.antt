@@ -7,7 +7,8 @@ use Rattle.std.proofs.lemmas.Bool.{cases_lt}
 use Rattle.std.proofs.lemmas.Option.{slice_get-map, slice_get_read}
 use Rattle.std.specs.List.{slice_get, sum_by, All}
 use Rattle.std.specs.Prelude.{option_map}
-use Rattle.shore_page.specs.Slots.{Image, Slot, image_len}
+use Rattle.shore_page.specs.Slots.{Slot, image_len}
+use Rattle.shore_types.specs.Images.{Image}
 use Rattle.shore_page.specs.Room.{claims, HasRoom, HoldsItsImage}
 use Rattle.shore_types.specs.declared.ids.PageId.{PageId}
 use Rattle.shore_page.specs.Text.{table_of, offset_at, length_at, HasHeader, HasRecord, HasSlot, Covers, IsPageText, images_of}
@@ -25,7 +26,7 @@ pub record Written (out : List ℕ) (slots : List Slot) (i offset : ℕ) : Type 
   pub rest : offset + record_bytes (drop i slots) ≤ table_of (length slots)
   pub each : (j : ℕ) (image : Image) → j < i → slice_get (images_of slots) j ≡ Some image → HasSlot out (table_of (length slots)) j image
   pub ends : (j : ℕ) → j < i → offset_at out j + length_at out j ≤ offset
-  pub apart : (a b place : ℕ) → a < i → b < i → Covers out a place → Covers out b place → a ≡ b
+  pub apart : (a b position : ℕ) → a < i → b < i → Covers out a position → Covers out b position → a ≡ b
 
 -- records take no more than the claims of their slots
 records_claims : (slots : List Slot) → All HoldsItsImage slots → record_bytes slots ≤ claims slots
@@ -42,7 +43,7 @@ written_none out slots len room = record {
   rest = omega (arith, records_claims slots room.each, room.room);
   each = λ j image none. absurd (omega arith);
   ends = λ j none. absurd (omega arith);
-  apart = λ a b place none. absurd (omega arith);
+  apart = λ a b position none. absurd (omega arith);
 }
 
 -- an entry of an earlier slot stays
@@ -65,8 +66,8 @@ slot_kept old new from i j table (Some image) kept earlier ends here =
     } in
     (subst (λ (o : ℕ). HasRecord new table o image) (sym offset) stands, length_kept old new from i j kept earlier ∙ here.1)
 
-covers_kept : (old new : List ℕ) (from i j place : ℕ) → KeepsBeside old new from (table_of i) → j < i → Covers new j place → Covers old j place
-covers_kept old new from i j place kept earlier covers =
+covers_kept : (old new : List ℕ) (from i j position : ℕ) → KeepsBeside old new from (table_of i) → j < i → Covers new j position → Covers old j position
+covers_kept old new from i j position kept earlier covers =
     let offset = offset_kept old new from i j kept earlier in
     let len = length_kept old new from i j kept earlier in
     (omega (arith, covers.0), omega (arith, covers.1))
@@ -74,7 +75,7 @@ covers_kept old new from i j place kept earlier covers =
 -- one slot more
 pub written_more : (old new : List ℕ) (slots : List Slot) (i offset next : ℕ) (x : Slot) → Written old slots i offset → i < length slots → x ≡ get_or slots i x
     → KeepsBeside old new offset (table_of i) → next ≡ offset + image_len x.image → ((table : ℕ) → next ≤ table → HasSlot new table i x.image)
-    → ((place : ℕ) → Covers new i place → offset ≤ place) → offset_at new i + length_at new i ≤ next → Written new slots (i + 1) next
+    → ((position : ℕ) → Covers new i position → offset ≤ position) → offset_at new i + length_at new i ≤ next → Written new slots (i + 1) next
 written_more old new slots i offset next x so_far inside here kept end slot begins ends =
     let split : record_bytes (drop i slots) ≡ image_len x.image + record_bytes (drop (i + 1) slots) =
     ap record_bytes (drop_more slots i x inside) ∙ ap (λ (s : Slot). record_bytes (s ∷ drop (i + 1) slots)) (sym here) ∙ sum_by-cons (λ (s : Slot). image_len s.image) x (drop (i + 1) slots) in
@@ -91,13 +92,13 @@ written_more old new slots i offset next x so_far inside here kept end slot begi
         | inl earlier ↦ let a = offset_kept old new offset i j kept earlier in let b = length_kept old new offset i j kept earlier in omega (arith, so_far.ends j earlier)
         | inr late ↦ (let same : j ≡ i = omega arith in rw same ends)
       ];
-      apart = λ a b place before_a before_b covers_a covers_b. elim (cases_lt a i) [
+      apart = λ a b position before_a before_b covers_a covers_b. elim (cases_lt a i) [
         | inl a_earlier ↦ elim (cases_lt b i) [
-          | inl b_earlier ↦ so_far.apart a b place a_earlier b_earlier (covers_kept old new offset i a place kept a_earlier covers_a) (covers_kept old new offset i b place kept b_earlier covers_b)
-          | inr b_late ↦ absurd (clash a b place a_earlier (omega arith) covers_a covers_b)
+          | inl b_earlier ↦ so_far.apart a b position a_earlier b_earlier (covers_kept old new offset i a position kept a_earlier covers_a) (covers_kept old new offset i b position kept b_earlier covers_b)
+          | inr b_late ↦ absurd (clash a b position a_earlier (omega arith) covers_a covers_b)
         ]
         | inr a_late ↦ elim (cases_lt b i) [
-          | inl b_earlier ↦ absurd (clash b a place b_earlier (omega arith) covers_b covers_a)
+          | inl b_earlier ↦ absurd (clash b a position b_earlier (omega arith) covers_b covers_a)
           | inr b_late ↦ (let same : a ≡ b = omega arith in same)
         ]
       ];
@@ -114,10 +115,10 @@ written_more old new slots i offset next x so_far inside here kept end slot begi
         rw (same, ← is) (slot (table_of (length slots)) room)
 
     -- a byte of an earlier record and of this one
-    clash : (a b place : ℕ) → a < i → b ≡ i → Covers new a place → Covers new b place → ⊥
-    clash a b place earlier same covers_a covers_b =
-        let old_a = covers_kept old new offset i a place kept earlier covers_a in
-        let behind : offset ≤ place = begins place (subst (λ (k : ℕ). Covers new k place) same covers_b) in
+    clash : (a b position : ℕ) → a < i → b ≡ i → Covers new a position → Covers new b position → ⊥
+    clash a b position earlier same covers_a covers_b =
+        let old_a = covers_kept old new offset i a position kept earlier covers_a in
+        let behind : offset ≤ position = begins position (subst (λ (k : ℕ). Covers new k position) same covers_b) in
         omega (arith, old_a.1, so_far.ends a earlier)
 
 -- a header stays if nothing before the records changed
@@ -135,7 +136,7 @@ header_kept old new id number slots to kept header = record {
 -- a header and slots are a page's text
 pub page_text : (bytes : List ℕ) (id : PageId) (number : ℕ) (slots : List Slot) → length bytes ≡ 8192 → HasHeader bytes id number (length slots)
     → ((slot : ℕ) (image : Image) → slice_get (images_of slots) slot ≡ Some image → HasSlot bytes (table_of (length slots)) slot image)
-    → ((a b place : ℕ) → a < length slots → b < length slots → Covers bytes a place → Covers bytes b place → a ≡ b)
+    → ((a b position : ℕ) → a < length slots → b < length slots → Covers bytes a position → Covers bytes b position → a ≡ b)
     → IsPageText bytes id number (images_of slots)
 page_text bytes id number slots whole header each apart =
     let same : length slots ≡ length (images_of slots) = sym (length-map slots (λ (s : Slot). s.image)) in
@@ -143,5 +144,5 @@ page_text bytes id number slots whole header each apart =
       whole = whole;
       header = subst (λ (n : ℕ). HasHeader bytes id number n) same header;
       slots = λ slot image got. subst (λ (n : ℕ). HasSlot bytes (table_of n) slot image) same (each slot image got);
-      apart = λ a b place before_a before_b. apart a b place (omega arith) (omega arith);
+      apart = λ a b position before_a before_b. apart a b position (omega arith) (omega arith);
     }

@@ -2,7 +2,7 @@
 use Rattle.std.specs.Prelude.{◌≡◌, ◌⊎◌, ◌==◌, ℕ, ◌+◌, ◌-◌, ◌<◌, ◌≤◌, Bool, false, true, List, length, map, get_or, None, Some, if◌then◌else◌}
 use Rattle.std.specs.List.{between, count_by, range_with_len}
 use Rattle.shore_types.specs.declared.layout.TheConstants.{MAX_RECORD_BYTES}
-use Rattle.shore_page.specs.Slots.{Image}
+use Rattle.shore_types.specs.Images.{Image}
 use Rattle.shore_page.specs.Text.{table_of, offset_at, length_at, Covers}
 
 -- so many bytes at an offset lie between the header and the slot table, and may be a record
@@ -18,7 +18,7 @@ IsEntry table offset bytes = ((offset ≡ 0) × (bytes ≡ 0)) ⊎ Lies table of
 -- each entry of the slot table is one, and no byte belongs to two records
 pub record IsTable (bytes : List ℕ) (slots : ℕ) : Type 0 where
   pub each : (slot : ℕ) → slot < slots → IsEntry (table_of slots) (offset_at bytes slot) (length_at bytes slot)
-  pub apart : (a b place : ℕ) → a < slots → b < slots → Covers bytes a place → Covers bytes b place → a ≡ b
+  pub apart : (a b position : ℕ) → a < slots → b < slots → Covers bytes a position → Covers bytes b position → a ≡ b
 
 -- what the entry of a slot names
 unfoldable pub slot_image : List ℕ → ℕ → Image
@@ -37,11 +37,11 @@ marked marks = count_by (λ m. m) marks
 -- places were marked that had no mark, and no other
 pub record Marks (old new : List Bool) (from to : ℕ) : Type 0 where
   pub len : length new ≡ length old
-  pub inside : (place : ℕ) → from ≤ place → place < to → (get_or old place false ≡ false) × (get_or new place false ≡ true)
-  pub below : (place : ℕ) → place < from → get_or new place false ≡ get_or old place false
-  pub above : (place : ℕ) → to ≤ place → get_or new place false ≡ get_or old place false
+  pub inside : (position : ℕ) → from ≤ position → position < to → (get_or old position false ≡ false) × (get_or new position false ≡ true)
+  pub below : (position : ℕ) → position < from → get_or new position false ≡ get_or old position false
+  pub above : (position : ℕ) → to ≤ position → get_or new position false ≡ get_or old position false
   pub count : marked new ≡ marked old + (to - from)
 
 -- a place of these is marked
 abbrev pub IsTaken : List Bool → ℕ → ℕ → Type 0
-IsTaken marks from to = (place : ℕ) × (from ≤ place) × (place < to) × (get_or marks place false ≡ true)
+IsTaken marks from to = (position : ℕ) × (from ≤ position) × (position < to) × (get_or marks position false ≡ true)

@@ -3,7 +3,8 @@ use Rattle.std.specs.Prelude.{◌≡◌, ◌≢◌, ℕ, ◌+◌, ◌-◌, ◌*�
 use Rattle.std.specs.List.{sum_by}
 use Rattle.std.specs.Option.{option_map_or}
 use Rattle.shore_types.specs.declared.layout.TheConstants.{MAX_RECORD_BYTES}
-use Rattle.shore_page.specs.Slots.{Image, Slot, image_len, image_at}
+use Rattle.shore_page.specs.Slots.{Slot, image_len, image_at_slot}
+use Rattle.shore_types.specs.Images.{Image}
 
 -- the bytes that the slots keep together
 abbrev pub claims : List Slot → ℕ
@@ -45,14 +46,14 @@ abbrev pub lowered : ℕ → Slot → Slot
 lowered bytes s = record { image = s.image; claim = min s.claim (max (image_len s.image) bytes) }
 
 -- what each page keeps: its slots have room, and the sum of their claims is at hand
-pub record IsKept (slots : List Slot) (claimed : ℕ) : Type 0 where
+pub record KeepsClaims (slots : List Slot) (claimed : ℕ) : Type 0 where
   pub sum : claimed ≡ claims slots
   pub room : HasRoom slots
 
 -- One slot changed: an image is there, and the slot keeps what it claimed, or what the image takes. Every other slot is as it
 -- was, none went away, and the free bytes lost what was needed.
 pub record ChangesOne (old new : List Slot) (slot : ℕ) (image : Image) : Type 0 where
-  pub here : image_at new slot ≡ image
+  pub here : image_at_slot new slot ≡ image
   pub claim : claim_at new slot ≡ max (claim_at old slot) (image_len image)
   pub others : (other : ℕ) → other ≢ slot → slice_get new other ≡ slice_get old other
   pub stay : length old ≤ length new

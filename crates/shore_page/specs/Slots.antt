@@ -2,10 +2,7 @@
 use Rattle.std.specs.Prelude.{ℕ, zero, suc, max, nat_lt, List, [], ◌∷◌, ◌++◌, length, slice_get, Option, Some, None, if◌then◌else◌}
 use Rattle.std.specs.Option.{option_and_then}
 use Rattle.shore_types.specs.declared.ids.PageId.{PageId}
-
--- the bytes of a record, or none
-abbrev pub Image : Type 0
-Image = Option (List ℕ)
+use Rattle.shore_types.specs.Images.{Image}
 
 -- what is in a slot, and how many bytes of the page are kept for it
 pub record Slot : Type 0 where
@@ -24,14 +21,14 @@ image_len None = 0
 image_len (Some bytes) = length bytes
 
 -- what is in a slot; nothing in one that is not there
-abbrev pub image_at : List Slot → ℕ → Image
-image_at slots slot = option_and_then (λ s. s.image) (slice_get slots slot)
+abbrev pub image_at_slot : List Slot → ℕ → Image
+image_at_slot slots slot = option_and_then (λ s. s.image) (slice_get slots slot)
 
 -- one element changed, and no other
 abbrev pub with_change : {A : Type 0} → (A → A) → List A → ℕ → List A
-with_change f [] place = []
+with_change f [] position = []
 with_change f (x ∷ rest) zero = f x ∷ rest
-with_change f (x ∷ rest) (suc place) = x ∷ with_change f rest place
+with_change f (x ∷ rest) (suc position) = x ∷ with_change f rest position
 
 -- another image is in a slot: it keeps its claim, or as many bytes as the image has
 abbrev pub holding : Image → Slot → Slot

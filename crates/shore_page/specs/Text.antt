@@ -4,11 +4,12 @@ use Rattle.std.specs.List.{between}
 use Rattle.byteorder.specs.Endian.{little_number}
 use Rattle.shore_types.specs.declared.ids.PageId.{PageId}
 use Rattle.shore_types.specs.declared.layout.TheConstants.{PAGE_BYTES, MAX_RECORD_BYTES, MAX_SLOTS}
-use Rattle.shore_page.specs.Slots.{Image, Slot, PageState, settled}
+use Rattle.shore_page.specs.Slots.{Slot, PageState, settled}
+use Rattle.shore_types.specs.Images.{Image}
 
 -- the number of so many bytes at an offset, the lowest byte first
 abbrev pub number_at : List ℕ → ℕ → ℕ → ℕ
-number_at bytes place count = little_number count (between place (place + count) bytes)
+number_at bytes position count = little_number count (between position (position + count) bytes)
 
 -- where the table of so many slots begins, and where the entry of the last of them is
 abbrev pub table_of : ℕ → ℕ
@@ -45,7 +46,7 @@ HasSlot bytes table slot (Some image) = HasRecord bytes table (offset_at bytes s
 
 -- a byte belongs to the record of a slot
 abbrev pub Covers : List ℕ → ℕ → ℕ → Type 0
-Covers bytes slot place = (offset_at bytes slot ≤ place) × (place < offset_at bytes slot + length_at bytes slot)
+Covers bytes slot position = (offset_at bytes slot ≤ position) × (position < offset_at bytes slot + length_at bytes slot)
 
 -- The bytes are the text of a page with these images in its slots. No byte belongs to two records; those that belong to nothing
 -- have any value.
@@ -53,7 +54,7 @@ pub record IsPageText (bytes : List ℕ) (id : PageId) (number : ℕ) (images : 
   pub whole : length bytes ≡ PAGE_BYTES
   pub header : HasHeader bytes id number (length images)
   pub slots : (slot : ℕ) (image : Image) → slice_get images slot ≡ Some image → HasSlot bytes (table_of (length images)) slot image
-  pub apart : (a b place : ℕ) → a < length images → b < length images → Covers bytes a place → Covers bytes b place → a ≡ b
+  pub apart : (a b position : ℕ) → a < length images → b < length images → Covers bytes a position → Covers bytes b position → a ≡ b
 
 -- what is in the slots, without the claims
 abbrev pub images_of : List Slot → List Image

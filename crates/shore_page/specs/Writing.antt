@@ -9,6 +9,6 @@ pub record KeepsBeside (old new : List ℕ) (from to : ℕ) : Type 0 where
   pub above : (a b : ℕ) → to ≤ a → between a b new ≡ between a b old
 
 -- these bytes are at an offset now, and nothing else changed
-pub record Writes (old new : List ℕ) (place : ℕ) (written : List ℕ) : Type 0 where
-  pub here : between place (place + length written) new ≡ written
-  pub beside : KeepsBeside old new place (place + length written)
+pub record Writes (old new : List ℕ) (position : ℕ) (written : List ℕ) : Type 0 where
+  pub here : between position (position + length written) new ≡ written
+  pub beside : KeepsBeside old new position (position + length written)

@@ -1,6 +1,7 @@
 //! Laws, as functions that do nothing: why no undo lacks room on its page, and that bytes are read in one way.
 ghost use Rattle.std.specs.Prelude.{◌≡◌, List, ℕ, ◌∷◌, Some, slice_get};
-ghost use Rattle.shore_page.specs.Slots.{Image, image_len, with_change, with_image};
+ghost use Rattle.shore_page.specs.Slots.{image_len, with_change, with_image};
+ghost use Rattle.shore_types.specs.Images.{Image};
 ghost use Rattle.shore_page.specs.Room.{Fits, HasRoom, lowered};
 ghost use Rattle.shore_types.specs.declared.ids.PageId.{PageId};
 ghost use Rattle.shore_page.specs.Text.{IsPageText};
@@ -35,7 +36,7 @@ pub fn decision_keeps_claims()
 {}
 
 /// Bytes are the text of one page at most.
-pub fn text_is_of_one_page()
+pub fn page_encoding_is_unique()
     ensures { (bytes : List ℕ) (a b : PageId) (m n : ℕ) (images others : List Image)
         → IsPageText bytes a m images → IsPageText bytes b n others → (a ≡ b) × (m ≡ n) × (images ≡ others) }
 {}

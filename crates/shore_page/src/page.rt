@@ -1,7 +1,8 @@
 //! A page as a map of its slots.
 ghost use Rattle.std.specs.Prelude.{◌≡◌, ◌≢◌, ◌+◌, ◌-◌, ◌*◌, ◌<◌, ◌≤◌, ◌↔◌, ℕ, [], length, slice_get, Some, None, option_map, IsTrue, OnOk, OnErr, IfOk, IfSome, List};
 ghost use Rattle.std.specs.Option.{option_copied};
-ghost use Rattle.shore_page.specs.Slots.{Image, image_len, image_at, with_change, with_image};
+ghost use Rattle.shore_page.specs.Slots.{image_len, image_at_slot, with_change, with_image};
+ghost use Rattle.shore_types.specs.Images.{Image};
 ghost use Rattle.shore_page.specs.Room.{free_bytes, need, Fits, HasRoom, ChangesOne, raised, lowered};
 ghost use Rattle.shore_types.specs.declared.layout.TheConstants.{PAGE_BYTES, MAX_SLOTS};
 ghost use Rattle.shore_page.specs.Text.{IsPageText, images_of, settled_page};
@@ -30,13 +31,13 @@ pub struct Page {
 impl Model for Page {
     ghost use Rattle.std.specs.Prelude.{◌≡◌};
     ghost use Rattle.shore_page.specs.Slots.{PageState};
-    ghost use Rattle.shore_page.specs.Room.{IsKept};
+    ghost use Rattle.shore_page.specs.Room.{KeepsClaims};
 
     ghost Value = { PageState };
 
     ghost view = { λ p. record { id = p.id; number = p.number; slots = p.slots.items } };
 
-    ghost invariant = { λ p. IsKept p.slots.items p.claimed };
+    ghost invariant = { λ p. KeepsClaims p.slots.items p.claimed };
 }
 
 impl Page {
@@ -76,7 +77,7 @@ impl Page {
 
     /// The record in a slot; None in an empty slot, and if there is no such slot.
     pub fn get(&self, slot: u16) -> Option<&[u8]>
-        ensures { option_map (λ bytes. bytes.now) result ≡ image_at self.now.slots slot }
+        ensures { option_map (λ bytes. bytes.now) result ≡ image_at_slot self.now.slots slot }
     {
         self.slots.get(slot as usize)?.image()
     }

@@ -14,25 +14,25 @@ use shore_types::layout::{
 use shore_types::{Bytes, Lsn, PageId, Sequence};
 use std::alloc::{AllocError, Global};
 
-fn u16_at(bytes: &[u8], place: usize) -> u16
-    requires { place + 2 ≤ length bytes.now }
-    ensures { result ≡ number_at bytes.now place 2 }
+fn u16_at(bytes: &[u8], position: usize) -> u16
+    requires { position + 2 ≤ length bytes.now }
+    ensures { result ≡ number_at bytes.now position 2 }
 {
-    LittleEndian::read_u16(&bytes[place..place + 2])
+    LittleEndian::read_u16(&bytes[position..position + 2])
 }
 
-fn u32_at(bytes: &[u8], place: usize) -> u32
-    requires { place + 4 ≤ length bytes.now }
-    ensures { result ≡ number_at bytes.now place 4 }
+fn u32_at(bytes: &[u8], position: usize) -> u32
+    requires { position + 4 ≤ length bytes.now }
+    ensures { result ≡ number_at bytes.now position 4 }
 {
-    LittleEndian::read_u32(&bytes[place..place + 4])
+    LittleEndian::read_u32(&bytes[position..position + 4])
 }
 
-fn u64_at(bytes: &[u8], place: usize) -> u64
-    requires { place + 8 ≤ length bytes.now }
-    ensures { result ≡ number_at bytes.now place 8 }
+fn u64_at(bytes: &[u8], position: usize) -> u64
+    requires { position + 8 ≤ length bytes.now }
+    ensures { result ≡ number_at bytes.now position 8 }
 {
-    LittleEndian::read_u64(&bytes[place..place + 8])
+    LittleEndian::read_u64(&bytes[position..position + 8])
 }
 
 /// What the front of a page says.
@@ -80,10 +80,10 @@ fn entry_at(bytes: &[u8], slot: usize) -> Entry
     ensures bytes { result.bytes ≡ length_at bytes.now slot }
     ensures small { result.offset + result.bytes < 131072 }
 {
-    let place = PAGE_BYTES - SLOT_ENTRY_BYTES * (slot + 1);
+    let position = PAGE_BYTES - SLOT_ENTRY_BYTES * (slot + 1);
     Entry {
-        offset: u16_at(bytes, place) as usize,
-        bytes: u16_at(bytes, place + 2) as usize,
+        offset: u16_at(bytes, position) as usize,
+        bytes: u16_at(bytes, position + 2) as usize,
     }
 }
 

@@ -2,7 +2,8 @@
 ghost use Rattle.std.specs.Prelude.{◌≡◌, ◌+◌, ◌*◌, ◌<◌, ◌≤◌, ℕ, length, option_map, slice_get, Some};
 ghost use Rattle.std.specs.List.{between};
 ghost use Rattle.shore_types.specs.declared.layout.TheConstants.{PAGE_BYTES, MAX_RECORD_BYTES, MAX_SLOTS};
-ghost use Rattle.shore_page.specs.Slots.{Image, image_len};
+ghost use Rattle.shore_page.specs.Slots.{image_len};
+ghost use Rattle.shore_types.specs.Images.{Image};
 ghost use Rattle.shore_page.specs.Room.{HasRoom};
 ghost use Rattle.shore_page.specs.Text.{number_at, table_of, offset_at, length_at, HasHeader, HasSlot, Covers, IsPageText, images_of};
 ghost use Rattle.shore_page.specs.Writing.{KeepsBeside, Writes};
@@ -12,41 +13,41 @@ use byteorder::{ByteOrder, LittleEndian};
 use shore_types::layout::{PAGE_BYTES, PAGE_HEADER_BYTES, SLOT_ENTRY_BYTES};
 use shore_types::{Lsn, PageId};
 
-fn put(out: &mut [u8], place: usize, bytes: &[u8])
-    requires { place + length bytes.now ≤ length out.old }
-    ensures { Writes out.old out.new place bytes.now }
+fn put(out: &mut [u8], position: usize, bytes: &[u8])
+    requires { position + length bytes.now ≤ length out.old }
+    ensures { Writes out.old out.new position bytes.now }
 {
-    out[place..place + bytes.len()].copy_from_slice(bytes);
+    out[position..position + bytes.len()].copy_from_slice(bytes);
 }
 
-fn put_u16(out: &mut [u8], place: usize, number: u16)
-    requires { place + 2 ≤ length out.old }
-    ensures here { number_at out.new place 2 ≡ number }
-    ensures beside { KeepsBeside out.old out.new place (place + 2) }
+fn put_u16(out: &mut [u8], position: usize, number: u16)
+    requires { position + 2 ≤ length out.old }
+    ensures here { number_at out.new position 2 ≡ number }
+    ensures beside { KeepsBeside out.old out.new position (position + 2) }
 {
     let mut word = [0u8; 2];
     LittleEndian::write_u16(&mut word, number);
-    put(out, place, &word);
+    put(out, position, &word);
 }
 
-fn put_u32(out: &mut [u8], place: usize, number: u32)
-    requires { place + 4 ≤ length out.old }
-    ensures here { number_at out.new place 4 ≡ number }
-    ensures beside { KeepsBeside out.old out.new place (place + 4) }
+fn put_u32(out: &mut [u8], position: usize, number: u32)
+    requires { position + 4 ≤ length out.old }
+    ensures here { number_at out.new position 4 ≡ number }
+    ensures beside { KeepsBeside out.old out.new position (position + 4) }
 {
     let mut word = [0u8; 4];
     LittleEndian::write_u32(&mut word, number);
-    put(out, place, &word);
+    put(out, position, &word);
 }
 
-fn put_u64(out: &mut [u8], place: usize, number: u64)
-    requires { place + 8 ≤ length out.old }
-    ensures here { number_at out.new place 8 ≡ number }
-    ensures beside { KeepsBeside out.old out.new place (place + 8) }
+fn put_u64(out: &mut [u8], position: usize, number: u64)
+    requires { position + 8 ≤ length out.old }
+    ensures here { number_at out.new position 8 ≡ number }
+    ensures beside { KeepsBeside out.old out.new position (position + 8) }
 {
     let mut word = [0u8; 8];
     LittleEndian::write_u64(&mut word, number);
-    put(out, place, &word);
+    put(out, position, &word);
 }
 
 // The 24 bytes at the front.
@@ -74,9 +75,9 @@ fn put_entry(out: &mut [u8], slot: usize, offset: usize, bytes: usize)
     ensures length { length_at out.new slot ≡ bytes }
     ensures beside { KeepsBeside out.old out.new (table_of (slot + 1)) (table_of slot) }
 {
-    let place = PAGE_BYTES - SLOT_ENTRY_BYTES * (slot + 1);
-    put_u16(out, place, offset as u16);
-    put_u16(out, place + 2, bytes as u16);
+    let position = PAGE_BYTES - SLOT_ENTRY_BYTES * (slot + 1);
+    put_u16(out, position, offset as u16);
+    put_u16(out, position + 2, bytes as u16);
 }
 
 // A record at an offset, and the entry of its slot.
@@ -102,7 +103,7 @@ fn put_slot(out: &mut [u8], slot: usize, offset: usize, image: Option<&[u8]>) ->
     requires room { offset + image_len (option_map (λ bytes. bytes.now) image) ≤ table_of (slot + 1) }
     ensures end { result ≡ offset + image_len (option_map (λ bytes. bytes.now) image.entry) }
     ensures slot { (table : ℕ) → result ≤ table → HasSlot out.new table slot (option_map (λ bytes. bytes.now) image.entry) }
-    ensures begins { (place : ℕ) → Covers out.new slot place → offset ≤ place }
+    ensures begins { (position : ℕ) → Covers out.new slot position → offset ≤ position }
     ensures ends { offset_at out.new slot + length_at out.new slot ≤ result }
     ensures beside { KeepsBeside out.old out.new offset (table_of slot) }
 {
@@ -124,8 +125,8 @@ fn put_slots(out: &mut [u8], slots: &[Slot])
     requires room { HasRoom slots.now }
     ensures slots { (slot : ℕ) (image : Image) → slice_get (images_of slots.now) slot ≡ Some image
         → HasSlot out.new (table_of (length slots.now)) slot image }
-    ensures apart { (a b place : ℕ) → a < length slots.now → b < length slots.now
-        → Covers out.new a place → Covers out.new b place → a ≡ b }
+    ensures apart { (a b position : ℕ) → a < length slots.now → b < length slots.now
+        → Covers out.new a position → Covers out.new b position → a ≡ b }
     ensures beside { KeepsBeside out.old out.new 24 8192 }
 {
     let mut offset = PAGE_HEADER_BYTES;

@@ -8,7 +8,7 @@ use Rattle.shore_types.specs.declared.locking.Mode.{Mode}
 use Rattle.shore_types.specs.Locking.{same_granule}
 use Rattle.shore_model.specs.declared.requests.Request.{Request}
 use Rattle.shore_model.specs.Requests.{are_alike, AreRequests, placed_last}
-use Rattle.shore_locks.specs.Grants.{after_grant, after_try, aim, asking, granted, is_enough, is_full, obstacle, passed, put, removed, replaced}
+use Rattle.shore_locks.specs.Grants.{after_grant, after_try, wanted_mode, asking, granted, is_enough, is_full, obstacle, passed, put, removed, replaced}
 use Rattle.shore_locks.specs.Tables.{is_waiting, mode_held, waiters_at, waiting_request}
 use Rattle.shore_locks.proofs.Members.{In, either, In-right}
 use Rattle.shore_locks.proofs.Keys.{alike-Decides, same_granule-Decides}
@@ -50,7 +50,7 @@ above_held P t g m rs rooted p is =
     let q = holding t g m rs is in
     subst (λ u. Above rs u g m) q.2 (subst (λ k. Above rs q.0.txn k m) q.3 (rooted q.0 q.1 (subst P (sym q.2) p) m (inl q.4)))
 
-above_aim : (P : ℕ → Type 0) (t : ℕ) (g : Granule) (mode : Mode) (rs : List Request) → Rooted P rs → P t → Above rs t g mode → Above rs t g (aim (mode_held t g rs) mode)
+above_aim : (P : ℕ → Type 0) (t : ℕ) (g : Granule) (mode : Mode) (rs : List Request) → Rooted P rs → P t → Above rs t g mode → Above rs t g (wanted_mode (mode_held t g rs) mode)
 above_aim P t g mode rs rooted p above a h =
     aim_intends (mode_held t g rs) mode (mode_held t a rs) (λ m is. above_held P t g m rs rooted p is a h) (above a h)
 
@@ -65,13 +65,13 @@ rooted_placed P t g mode rs one rooted above =
     let p = subst P (ap (λ (x : Request). x.txn) e) p in
     subst (λ (x : Request). Above rs x.txn x.granule m) (sym e)
     (⊎_elim (λ held. above_held P t g m rs rooted p held)
-    (λ wanted. subst (Above rs t g) (some_is (aim (mode_held t g rs) mode) m wanted) (above_aim P t g mode rs rooted p above))
+    (λ wanted. subst (Above rs t g) (some_is (wanted_mode (mode_held t g rs) mode) m wanted) (above_aim P t g mode rs rooted p above))
     (subst (λ (x : Request). HasMode x m) e has)))
     (λ o. rooted r o.0 p m has)
     (In-placed (asking t g mode rs) rs r h))
 
-mode_put : (t : ℕ) (g : Granule) (mode m : Mode) (rs : List Request) → HasMode (granted (asking t g mode rs)) m → aim (mode_held t g rs) mode ≡ m
-mode_put t g mode m rs has = ⊎_elim (λ held. some_is (aim (mode_held t g rs) mode) m held) (λ wanted. cc) has
+mode_put : (t : ℕ) (g : Granule) (mode m : Mode) (rs : List Request) → HasMode (granted (asking t g mode rs)) m → wanted_mode (mode_held t g rs) mode ≡ m
+mode_put t g mode m rs has = ⊎_elim (λ held. some_is (wanted_mode (mode_held t g rs) mode) m held) (λ wanted. cc) has
 
 rooted_put : (P : ℕ → Type 0) (t : ℕ) (g : Granule) (mode : Mode) (rs : List Request) → AreRequests rs → Rooted P rs → Above rs t g mode → Rooted P (put (granted (asking t g mode rs)) rs)
 rooted_put P t g mode rs one rooted above =
@@ -171,7 +171,7 @@ quiet_put t g mode rs quiet =
 
 -- what is granted at once is held, and nothing else changes of what the transaction holds
 pub held_grant : (t : ℕ) (g : Granule) (mode : Mode) (rs : List Request) → AreRequests rs → is_waiting t rs ≡ false → (k : Granule)
-    → (mode_held t k (after_grant t g mode rs) ≡ mode_held t k rs) ⊎ ((g ≡ k) × (mode_held t k (after_grant t g mode rs) ≡ Some (aim (mode_held t k rs) mode)))
+    → (mode_held t k (after_grant t g mode rs) ≡ mode_held t k rs) ⊎ ((g ≡ k) × (mode_held t k (after_grant t g mode rs) ≡ Some (wanted_mode (mode_held t k rs) mode)))
 held_grant t g mode rs one quiet k =
     let r = granted (asking t g mode rs) in
     let ones = AreRequests-put (granted (asking t g mode rs)) rs one in
@@ -182,7 +182,7 @@ held_grant t g mode rs one quiet k =
     let e = (same_granule-Decides g k).0 yes in
     inr (
       e,
-      subst (λ h. mode_held t h (after_grant t g mode rs) ≡ Some (aim (mode_held t h rs) mode)) e
+      subst (λ h. mode_held t h (after_grant t g mode rs) ≡ Some (wanted_mode (mode_held t h rs) mode)) e
           (held_as (after_grant t g mode rs) all (granted (asking t g mode rs)) ((same (granted (asking t g mode rs)) refl).0 (put_there (granted (asking t g mode rs)) rs))),
     ))
     (λ no.

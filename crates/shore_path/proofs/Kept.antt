@@ -8,7 +8,7 @@ use Rattle.shore_model.specs.declared.requests.Request.{Request}
 use Rattle.shore_model.specs.Locks.{ancestors}
 use Rattle.shore_model.specs.Modes.{parent_mode}
 use Rattle.shore_model.specs.Requests.{AreRequests}
-use Rattle.shore_locks.specs.Grants.{after_grant, aim, is_enough}
+use Rattle.shore_locks.specs.Grants.{after_grant, wanted_mode, is_enough}
 use Rattle.shore_locks.specs.Tables.{is_waiting, mode_held}
 use Rattle.shore_locks.proofs.Members.{In}
 use Rattle.shore_locks.proofs.Fits.{Fit}
@@ -88,23 +88,23 @@ module _ (c : OnConflict) (t : ℕ) (target : Granule) (mode : Mode) (limit : �
   -- what is held of a granule stays, or has the mode joined that is asked there
   abbrev Grows : List Granule → List Request → List Request → Type 0
   Grows way rs new =
-      (k : Granule) → (mode_held t k new ≡ mode_held t k rs) ⊎ (In k way × (mode_held t k new ≡ Some (aim (mode_held t k rs) (asked_of target mode k))))
+      (k : Granule) → (mode_held t k new ≡ mode_held t k rs) ⊎ (In k way × (mode_held t k new ≡ Some (wanted_mode (mode_held t k rs) (asked_of target mode k))))
 
   later : (g : Granule) (below : List Granule) (rs new : List Request) → Grows below rs new → Grows (g ∷ below) rs new
   later g below rs new grows k = ⊎_elim (λ same. inl same) (λ a. inr (inr a.0, a.1)) (grows k)
 
   then_grows : (g : Granule) (below : List Granule) (rs mid new : List Request)
-      → ((k : Granule) → (mode_held t k mid ≡ mode_held t k rs) ⊎ ((g ≡ k) × (mode_held t k mid ≡ Some (aim (mode_held t k rs) (asked_of target mode g)))))
+      → ((k : Granule) → (mode_held t k mid ≡ mode_held t k rs) ⊎ ((g ≡ k) × (mode_held t k mid ≡ Some (wanted_mode (mode_held t k rs) (asked_of target mode g)))))
       → Grows below mid new → Grows (g ∷ below) rs new
   then_grows g below rs mid new first grows k =
       ⊎_elim
-      (λ same. ⊎_elim (λ still. inl (still ∙ same)) (λ a. inr (inr a.0, a.1 ∙ ap (λ h. Some (aim h (asked_of target mode k))) same)) (grows k))
+      (λ same. ⊎_elim (λ still. inl (still ∙ same)) (λ a. inr (inr a.0, a.1 ∙ ap (λ h. Some (wanted_mode h (asked_of target mode k))) same)) (grows k))
       (λ grown.
-      let now : mode_held t k mid ≡ Some (aim (mode_held t k rs) (asked_of target mode k)) = grown.1 ∙ ap (λ h. Some (aim (mode_held t k rs) (asked_of target mode h))) grown.0 in
+      let now : mode_held t k mid ≡ Some (wanted_mode (mode_held t k rs) (asked_of target mode k)) = grown.1 ∙ ap (λ h. Some (wanted_mode (mode_held t k rs) (asked_of target mode h))) grown.0 in
       inr (
         inl grown.0,
         ⊎_elim (λ still. still ∙ now)
-            (λ a. a.1 ∙ ap (λ h. Some (aim h (asked_of target mode k))) now ∙ ap Some (aim_twice (mode_held t k rs) (asked_of target mode k))) (grows k),
+            (λ a. a.1 ∙ ap (λ h. Some (wanted_mode h (asked_of target mode k))) now ∙ ap Some (aim_twice (mode_held t k rs) (asked_of target mode k))) (grows k),
       ))
       (first k)
 

@@ -5,7 +5,7 @@ use Rattle.shore_types.specs.declared.locking.Mode.{Mode}
 use Rattle.shore_types.specs.declared.locking.Mode.TheVariants.{IS, IX, SH, SIX, EX, UD}
 use Rattle.shore_model.specs.Modes.{is_at_most, parent_mode, sup}
 use Rattle.shore_modes.proofs.ModeTables.{at_most-antisym, at_most-refl, at_most-trans, each_mode, sup_least}
-use Rattle.shore_locks.specs.Grants.{aim, is_enough}
+use Rattle.shore_locks.specs.Grants.{wanted_mode, is_enough}
 
 abbrev at_each : (Mode → Bool) → Bool
 at_each p = p IS && (p IX && (p SH && (p SIX && (p EX && p UD))))
@@ -36,18 +36,18 @@ enough_trans a b None p e = cc
 enough_trans a b (Some h) p e = at_most-trans a b h p e
 
 -- what is held is no more than what is aimed at
-pub aim_above : (m : Mode) (held : Option Mode) (mode : Mode) → is_enough m held ≡ true → is_enough m (Some (aim held mode)) ≡ true
+pub aim_above : (m : Mode) (held : Option Mode) (mode : Mode) → is_enough m held ≡ true → is_enough m (Some (wanted_mode held mode)) ≡ true
 aim_above m None mode e = cc
 aim_above m (Some h) mode e = at_most-trans m h (sup h mode) e (sup_least h mode).left
 
 -- one above the parent modes of what is held and of what is asked is above that of what is aimed at
 pub aim_intends : (held : Option Mode) (mode : Mode) (above : Option Mode) → ((h : Mode) → held ≡ Some h → is_enough (parent_mode h) above ≡ true) → is_enough (parent_mode mode) above ≡ true
-    → is_enough (parent_mode (aim held mode)) above ≡ true
+    → is_enough (parent_mode (wanted_mode held mode)) above ≡ true
 aim_intends None mode above each e = e
 aim_intends (Some h) mode None each e = cc
 aim_intends (Some h) mode (Some m) each e = intends_sup h mode m (each h refl) e
 
-pub aim_enough : (held : Option Mode) (mode : Mode) → IsTrue (is_at_most mode (aim held mode))
+pub aim_enough : (held : Option Mode) (mode : Mode) → IsTrue (is_at_most mode (wanted_mode held mode))
 aim_enough None mode = at_most-refl mode
 aim_enough (Some h) mode = (sup_least h mode).right
 
@@ -55,5 +55,5 @@ sup_same : (a b : Mode) → IsTrue (is_at_most b a) → sup a b ≡ a
 sup_same a b e = at_most-antisym (sup a b) a ((sup_least a b).least a (at_most-refl a) e) (sup_least a b).left
 
 -- what is asked twice is aimed at once
-pub aim_twice : (held : Option Mode) (mode : Mode) → aim (Some (aim held mode)) mode ≡ aim held mode
-aim_twice held mode = sup_same (aim held mode) mode (aim_enough held mode)
+pub aim_twice : (held : Option Mode) (mode : Mode) → wanted_mode (Some (wanted_mode held mode)) mode ≡ wanted_mode held mode
+aim_twice held mode = sup_same (wanted_mode held mode) mode (aim_enough held mode)

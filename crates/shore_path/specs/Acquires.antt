@@ -9,7 +9,7 @@ use Rattle.shore_model.specs.declared.requests.Request.{Request}
 use Rattle.shore_model.specs.Locks.{ancestors, path}
 use Rattle.shore_model.specs.Modes.{is_allowed}
 use Rattle.shore_model.specs.Requests.{WaitsFor, placed_last}
-use Rattle.shore_locks.specs.Grants.{aim, asking, granted, is_enough, is_full}
+use Rattle.shore_locks.specs.Grants.{wanted_mode, asking, granted, is_enough, is_full}
 use Rattle.shore_locks.specs.Tables.{Table, mode_held, waiting_request}
 use Rattle.shore_path.specs.declared.answers.Acquired.TheVariants as acquire
 use Rattle.shore_path.specs.declared.answers.OnConflict.{OnConflict}
@@ -27,7 +27,7 @@ pub record WaitsAt (rs : List Request) (t : ℕ) (g : Granule) (asked : Mode) : 
   pub waits : waiting_request t rs ≡ Some request
   pub at : request.granule ≡ g
   pub held : request.held ≡ mode_held t g rs
-  pub wanted : request.wanted ≡ Some (aim request.held asked)
+  pub wanted : request.wanted ≡ Some (wanted_mode request.held asked)
   pub someone : ℕ
   pub waits_for : WaitsFor rs t someone
 
@@ -63,7 +63,7 @@ abbrev pub GrowsAsAsked : List Request → List Request → ℕ → Granule → 
 GrowsAsAsked rs new t target mode =
     (g : Granule) →
     (mode_held t g new ≡ mode_held t g rs)
-    ⊎ (Contains (path target) g × (mode_held t g new ≡ Some (aim (mode_held t g rs) (asked_of target mode g))))
+    ⊎ (Contains (path target) g × (mode_held t g new ≡ Some (wanted_mode (mode_held t g rs) (asked_of target mode g))))
 
 -- each request of others afterwards was there before, or is one that was with what it wanted held
 abbrev pub OthersOnlyGranted : List Request → List Request → ℕ → Type 0

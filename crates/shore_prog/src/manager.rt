@@ -12,7 +12,7 @@ use shore_world::{Event, Step, World, format};
 use std::alloc::{AllocError, Global};
 
 /// A device in memory that may be made to fail.
-pub type Device = FuseDisk<MemDisk>;
+pub type ScriptDisk = FuseDisk<MemDisk>;
 
 // A fuse that no run of the program blows.
 const NO_FUSE: u64 = u64::MAX;
@@ -21,11 +21,11 @@ const NO_FUSE: u64 = u64::MAX;
 #[derive(Drop)]
 pub enum Manager {
     Open {
-        world: World<Device>,
+        world: World<ScriptDisk>,
         /// The session's call waits for a force.
         waits: bool,
     },
-    Closed(Device),
+    Closed(ScriptDisk),
 }
 
 impl Manager {
@@ -121,7 +121,7 @@ impl Manager {
 }
 
 // What a loss of power leaves of a device that no manager has open.
-fn crashed(device: Device, pick: Pick) -> MemDisk {
+fn crashed(device: ScriptDisk, pick: Pick) -> MemDisk {
     let mut disk = device.into_inner();
     disk.crash(pick);
     disk
@@ -133,7 +133,7 @@ fn zeros(alloc: Global, len: u64) -> Result<Vec<u8>, AllocError> {
 
 fn answer(
     alloc: Global,
-    world: &mut World<Device>,
+    world: &mut World<ScriptDisk>,
     waits: &mut bool,
     command: Command,
     out: &mut String,
@@ -153,7 +153,7 @@ fn answer(
 
 fn ask(
     alloc: Global,
-    world: &mut World<Device>,
+    world: &mut World<ScriptDisk>,
     waits: &mut bool,
     call: Call,
     out: &mut String,
@@ -182,7 +182,7 @@ fn print(step: &Step, out: &mut String) -> Result<(), AllocError> {
 // force that was refused for another cause has changed nothing: the call waits on, and the next line tries again.
 fn settle(
     alloc: Global,
-    world: &mut World<Device>,
+    world: &mut World<ScriptDisk>,
     waits: &mut bool,
     out: &mut String,
 ) -> Result<(), AllocError> {
@@ -201,7 +201,7 @@ fn settle(
 
 fn resume(
     alloc: Global,
-    world: &mut World<Device>,
+    world: &mut World<ScriptDisk>,
     waits: &mut bool,
     out: &mut String,
 ) -> Result<(), AllocError> {
@@ -215,13 +215,13 @@ fn resume(
 }
 
 // The call that waits is answered, and waits no more.
-fn give_up(alloc: Global, world: &mut World<Device>, waits: &mut bool) {
+fn give_up(alloc: Global, world: &mut World<ScriptDisk>, waits: &mut bool) {
     *waits = false;
     let _answered = world.step(alloc, Event::Resume(SESSION));
 }
 
 // Forces every waiting record.
-fn force(alloc: Global, world: &mut World<Device>) -> Result<(), Fault> {
+fn force(alloc: Global, world: &mut World<ScriptDisk>) -> Result<(), Fault> {
     for _ in 0..u64::MAX {
         match world.step(alloc, Event::ForceStage) {
             Step::Done(_) => {}
@@ -237,7 +237,7 @@ fn force(alloc: Global, world: &mut World<Device>) -> Result<(), Fault> {
 
 fn force_line(
     alloc: Global,
-    world: &mut World<Device>,
+    world: &mut World<ScriptDisk>,
     out: &mut String,
 ) -> Result<(), AllocError> {
     match force(alloc, world) {
@@ -249,7 +249,7 @@ fn force_line(
     }
 }
 
-fn dump(world: &World<Device>, out: &mut String) -> Result<(), AllocError> {
+fn dump(world: &World<ScriptDisk>, out: &mut String) -> Result<(), AllocError> {
     let mut is_empty = true;
     for (id, bytes) in world.dump().iter() {
         is_empty = false;
@@ -262,7 +262,7 @@ fn dump(world: &World<Device>, out: &mut String) -> Result<(), AllocError> {
     }
 }
 
-fn log(world: &World<Device>, out: &mut String) -> Result<(), AllocError> {
+fn log(world: &World<ScriptDisk>, out: &mut String) -> Result<(), AllocError> {
     let mut is_empty = true;
     let (forced, waiting) = world.records();
     for (number, record) in (1u64..u64::MAX).zip(forced.iter().chain(waiting)) {

@@ -15,7 +15,7 @@ use Rattle.shore_gate.specs.declared.anchors.Slot.{Slot}
 use Rattle.shore_gate.specs.declared.anchors.Slot.TheVariants.{A}
 use Rattle.shore_gate.specs.declared.labels.Label.{Label}
 use Rattle.shore_gate.specs.Label.{HoldsLabel, label_bytes}
-use Rattle.shore_gate.specs.Anchor.{Counts, MayCount, anchor_bytes, place_of}
+use Rattle.shore_gate.specs.Anchor.{Counts, MayCount, anchor_bytes, offset_of}
 use Rattle.shore_core.proofs.BoundLemmas.{none_in_bounds}
 use Rattle.shore_gate.proofs.WidthLemmas.{length-label_bytes, length-anchor_bytes}
 use Rattle.shore_world.specs.Fronts.{IsLogLength, log_label, first_anchor, is_first, HasFront, StandsFor, behind_label, IsShut, LeftByFormat}
@@ -86,16 +86,16 @@ module _ (L Z1 N Z2 Z3 tail : List ℕ) (l : length L ≡ 511) (z1 : length Z1 �
       (omega (arith, length-append L (Z1 ++ (N ++ (Z2 ++ (CLOSED ∷ Z3)))), length-append Z1 (N ++ (Z2 ++ (CLOSED ∷ Z3))), length-append N (Z2 ++ (CLOSED ∷ Z3)), length-append Z2 (CLOSED ∷ Z3), l, z1, n, z2, z3))
 
 -- the log of no record stands behind an open gate
-pub formatted : (g : Geometry) (bytes : ℕ) (tail : List ℕ) → g.pair < 2 ^ 64 → IsLogLength bytes → IsInLimits g
-    → StandsFor g bytes [] (OPEN ∷ (label_bytes Log (log_label g bytes) ++ (behind_label ++ tail)))
+pub formatted : (g : Geometry) (device_bytes : ℕ) (tail : List ℕ) → g.pair < 2 ^ 64 → IsLogLength device_bytes → IsInLimits g
+    → StandsFor g device_bytes [] (OPEN ∷ (label_bytes Log (log_label g device_bytes) ++ (behind_label ++ tail)))
 unfolding behind_label
-formatted g bytes tail pair fits limits =
-    let L = label_bytes Log (log_label g bytes) in
+formatted g device_bytes tail pair fits limits =
+    let L = label_bytes Log (log_label g device_bytes) in
     let Z1 = replicate {A = ℕ} 512 0 in
     let N = OPEN ∷ anchor_bytes first_anchor in
     let Z2 = replicate {A = ℕ} 984 0 in
     let Z3 = replicate {A = ℕ} 2047 0 in
-    let l : length L ≡ 511 = length-label_bytes Log (log_label g bytes) limits.0.count in
+    let l : length L ≡ 511 = length-label_bytes Log (log_label g device_bytes) limits.0.count in
     let z1 : length Z1 ≡ 512 = length-replicate {A = ℕ} 512 0 in
     let n : length N ≡ 40 = omega (arith, length-anchor_bytes first_anchor) in
     let z2 : length Z2 ≡ 984 = length-replicate {A = ℕ} 984 0 in
@@ -124,18 +124,18 @@ formatted g bytes tail pair fits limits =
             text = part_first L Z1 N Z2 Z3 tail l z1 n z2 z3;
           };
           older = inl (λ is. let shut : CLOSED ≡ OPEN = sym (ap (λ (b : List ℕ). slice_index b 0) closed) ∙ is in absurd (omega (arith, shut)));
-          limits = record { some_tail = omega arith; most_tail = omega arith; place = omega arith; some_sequence = omega arith; most_sequence = omega arith; checkpoint = inl refl };
+          limits = record { some_tail = omega arith; most_tail = omega arith; offset = omega arith; some_sequence = omega arith; most_sequence = omega arith; checkpoint = inl refl };
         };
       };
       log = ([], (CLOSED, tail, (λ is. absurd (omega (arith, is))), part_stream L Z1 N Z2 Z3 tail l z1 n z2 z3), refl);
-      bounds = none_in_bounds g (bytes - 4096) (omega (arith, fits.0));
+      bounds = none_in_bounds g (device_bytes - 4096) (omega (arith, fits.0));
     }
 
-pub made : (g : Geometry) (bytes : ℕ) (label : Label) (tail : List ℕ) → label ≡ log_label g bytes → label.pair < 2 ^ 64 → IsLogLength bytes → IsInLimits g
-    → StandsFor g bytes [] (OPEN ∷ (label_bytes Log label ++ (behind_label ++ tail)))
-made g bytes label tail is pair fits limits =
-    subst (λ (l : Label). StandsFor g bytes [] (OPEN ∷ (label_bytes Log l ++ (behind_label ++ tail)))) (sym is)
-    (formatted g bytes tail (let same : label.pair ≡ g.pair = ap (λ (l : Label). l.pair) is in omega (arith, same, pair)) fits limits)
+pub made : (g : Geometry) (device_bytes : ℕ) (label : Label) (tail : List ℕ) → label ≡ log_label g device_bytes → label.pair < 2 ^ 64 → IsLogLength device_bytes → IsInLimits g
+    → StandsFor g device_bytes [] (OPEN ∷ (label_bytes Log label ++ (behind_label ++ tail)))
+made g device_bytes label tail is pair fits limits =
+    subst (λ (l : Label). StandsFor g device_bytes [] (OPEN ∷ (label_bytes Log l ++ (behind_label ++ tail)))) (sym is)
+    (formatted g device_bytes tail (let same : label.pair ≡ g.pair = ap (λ (l : Label). l.pair) is in omega (arith, same, pair)) fits limits)
 
 -- ---- the moments of a format
 
@@ -178,21 +178,21 @@ the_first anchor limits is =
     let q = and_parts (anchor.checkpoint == 0) (anchor.tail == 1) p.0 in
     let checkpoint : anchor.checkpoint ≡ 0 = eqb-true anchor.checkpoint 0 q.0 in
     let tail : anchor.tail ≡ 1 = eqb-true anchor.tail 1 q.1 in
-    let place : anchor.tail_place ≡ 0 = eqb-true anchor.tail_place 0 p.1 in
+    let offset : anchor.tail_place ≡ 0 = eqb-true anchor.tail_place 0 p.1 in
     let sequence : anchor.sequence ≡ 1 = omega (arith, limits.some_sequence, limits.most_sequence, checkpoint) in
     let made : (a b c d : ℕ) → Anchor = λ a b c d. record { sequence = a; checkpoint = b; tail = c; tail_place = d } in
-    ap (λ n. made n anchor.checkpoint anchor.tail anchor.tail_place) sequence ∙ ap (λ n. made 1 n anchor.tail anchor.tail_place) checkpoint ∙ ap (λ n. made 1 0 n anchor.tail_place) tail ∙ ap (λ n. made 1 0 1 n) place
+    ap (λ n. made n anchor.checkpoint anchor.tail anchor.tail_place) sequence ∙ ap (λ n. made 1 n anchor.tail anchor.tail_place) checkpoint ∙ ap (λ n. made 1 0 n anchor.tail_place) tail ∙ ap (λ n. made 1 0 1 n) offset
 
 abbrev geometry_of : Label → Geometry
 geometry_of label = record { pair = label.pair; max_locks = label.max_locks; stores = label.stores }
 
-pub found_front : (bytes : ℕ) (image : List ℕ) (label : Label) (slot : Slot) (anchor : Anchor) (place : ℕ) → HoldsLabel Log bytes (take 512 image) label → Counts image slot anchor → is_first anchor ≡ true → place ≡ place_of slot
-    → (x : HasFront (geometry_of label) bytes image) × (place ≡ place_of x.slot)
-found_front bytes bytes_read label slot anchor place holds counts is at =
+pub found_front : (device_bytes : ℕ) (image : List ℕ) (label : Label) (slot : Slot) (anchor : Anchor) (offset : ℕ) → HoldsLabel Log device_bytes (take 512 image) label → Counts image slot anchor → is_first anchor ≡ true → offset ≡ offset_of slot
+    → (x : HasFront (geometry_of label) device_bytes image) × (offset ≡ offset_of x.slot)
+found_front device_bytes bytes_read label slot anchor offset holds counts is at =
     let made : ℕ → Label = λ n. record { pair = label.pair; length = n; max_locks = label.max_locks; stores = label.stores } in
-    let same : label ≡ log_label (geometry_of label) bytes = ap made holds.limits.of_device in (
+    let same : label ≡ log_label (geometry_of label) device_bytes = ap made holds.limits.of_device in (
       record {
-        label = subst (HoldsLabel Log bytes (take 512 bytes_read)) same holds;
+        label = subst (HoldsLabel Log device_bytes (take 512 bytes_read)) same holds;
         slot = slot;
         anchor = subst (Counts bytes_read slot) (the_first anchor counts.limits is) counts;
       },

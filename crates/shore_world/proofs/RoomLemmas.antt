@@ -12,7 +12,7 @@ use Rattle.shore_log.proofs.FrameLemmas.{length-behind_gate}
 use Rattle.shore_core.specs.Opened.{cost_of_log}
 use Rattle.shore_disk.specs.Cause.{HasCause}
 use Rattle.shore_disk.specs.declared.device.Disk.{Ghosts}
-use Rattle.shore_log.specs.Settled.{list_of, waiting, IsSettled}
+use Rattle.shore_log.specs.Settled.{records_of_log, waiting, IsSettled}
 use Rattle.shore_log.specs.declared.device.LogDev.{LogDev}
 use Rattle.shore_types.specs.declared.faults.Fault.{Fault}
 use Rattle.shore_types.specs.declared.faults.Fault.TheVariants as fault
@@ -63,14 +63,14 @@ cost_parts n rs = sym (sum_by-take-drop (λ r. cost_of r.payload) rs n)
 module _ {D : Type 0} {G : Ghosts D} where
   -- the frame of waiting records takes no more than the list's records cost
   pub frame_has_room : (log : LogDev D G) (front : List ℕ) → IsSettled log front → (count : ℕ) → 1 ≤ count → count ≤ length (waiting log)
-      → 4096 + log.place + (13 + length (texts (take count (waiting log)))) ≤ 4096 + cost_of_log (list_of log)
+      → 4096 + log.offset + (13 + length (texts (take count (waiting log)))) ≤ 4096 + cost_of_log (records_of_log log)
   frame_has_room log front s count some within =
       omega (
         arith,
-        s.place,
+        s.offset,
         frames_cost 1 s.groups s.are,
         ap cost_of_log s.forced,
-        cost_parts log.forced (list_of log),
+        cost_parts log.forced (records_of_log log),
         cost_parts count (waiting log),
         cost_texts (take count (waiting log)),
         length-take-le count (waiting log) within,

@@ -14,7 +14,7 @@ use Rattle.shore_log.specs.Frames.{GivesBehind, GivesWithOrWithout, IsLongest}
 use Rattle.shore_log.specs.Settled.{stable, waiting, IsSettled, IsStaged}
 use Rattle.shore_log.specs.declared.device.LogDev.{LogDev}
 use Rattle.shore_log.proofs.ForceLemmas.{settled_gives}
-use Rattle.shore_log.proofs.ListLemmas.{take-more_group}
+use Rattle.shore_log.proofs.LoggedLemmas.{take-more_group}
 use Rattle.shore_log.specs.PlainTails.{waiting_in}
 use Rattle.shore_core.specs.Bounds.{AreInBounds, InBounds, IsBounded}
 use Rattle.shore_core.specs.Cores.{tail_of}
@@ -25,7 +25,7 @@ use Rattle.shore_types.specs.declared.layout.Geometry.{Geometry}
 use Rattle.shore_machine.specs.declared.step.Step.TheVariants.{Refused}
 use Rattle.shore_world.specs.declared.event.Event.TheVariants as event
 use Rattle.shore_world.specs.Events.{IsCall}
-use Rattle.shore_world.specs.Worlds.{HasStaged, IsLike, Runs, state_in, geometry_in, history_in, EventStep, GivesBeginning, IsReady, IsKept, Moves, Steps}
+use Rattle.shore_world.specs.Worlds.{HasStaged, IsLike, Runs, state_in, geometry_in, history_in, EventStep, GivesBeginning, IsReady, SurvivesCrashes, Moves, Steps}
 use Rattle.shore_world.proofs.RoomLemmas.{no_failure}
 
 -- ---- what gives a prefix of the list
@@ -64,15 +64,15 @@ module _ {D : Type 0} {G : Ghosts D} where
   pub length-stable : (log : LogDev D G) → length (stable log) ≡ log.forced
   length-stable log = length-take-le log.forced log.records.items log.forced_inside
 
-  pub durable_within : (w : World D G) → (state_in w).durable ≤ length (state_in w).list
-  durable_within w = omega (arith, w.told, length-stable w.log, w.log.forced_inside, length-append w.log.records.items (waiting_in (tail_of w.core)))
+  pub durable_within : (w : World D G) → (state_in w).durable ≤ length (state_in w).log
+  durable_within w = omega (arith, w.durable_agrees, length-stable w.log, w.log.forced_inside, length-append w.log.records.items (waiting_in (tail_of w.core)))
 
-  pub stable_is : (w : World D G) → take (state_in w).durable (state_in w).list ≡ stable w.log
+  pub stable_is : (w : World D G) → take (state_in w).durable (state_in w).log ≡ stable w.log
   stable_is w =
-      ap (λ n. take n (w.log.records.items ++ waiting_in (tail_of w.core))) (w.told ∙ length-stable w.log)
+      ap (λ n. take n (w.log.records.items ++ waiting_in (tail_of w.core))) (w.durable_agrees ∙ length-stable w.log)
       ∙ take-append-le w.log.forced w.log.records.items (waiting_in (tail_of w.core)) w.log.forced_inside
 
-  pub stable_gives : (w : World D G) (front c : List ℕ) → GivesBehind front (stable w.log) c → GivesBeginning front (state_in w).durable (state_in w).list c
+  pub stable_gives : (w : World D G) (front c : List ℕ) → GivesBehind front (stable w.log) c → GivesBeginning front (state_in w).durable (state_in w).log c
   stable_gives w front c gives = ((state_in w).durable, omega arith, durable_within w, subst (λ (l : List LogRecord). GivesBehind front l c) (sym (stable_is w)) gives)
 
   -- the stable records and those of a staged frame
@@ -83,20 +83,20 @@ module _ {D : Type 0} {G : Ghosts D} where
     within_records : w.log.forced + length group ≤ length w.log.records.items
     within_records = omega (arith, ap length staged.first, length-take (length group) (waiting w.log), length-drop w.log.forced w.log.records.items, w.log.forced_inside)
 
-    more_is : take (w.log.forced + length group) (state_in w).list ≡ stable w.log ++ group
+    more_is : take (w.log.forced + length group) (state_in w).log ≡ stable w.log ++ group
     more_is =
         take-append-le (w.log.forced + length group) w.log.records.items rest within_records
         ∙ take-more_group w.log.records.items w.log.forced group w.log.forced_inside staged.first
 
-    pub more_gives : (c : List ℕ) → GivesBehind front (stable w.log ++ group) c → GivesBeginning front (state_in w).durable (state_in w).list c
+    pub more_gives : (c : List ℕ) → GivesBehind front (stable w.log ++ group) c → GivesBeginning front (state_in w).durable (state_in w).log c
     more_gives c gives = (
       w.log.forced + length group,
-      omega (arith, w.told, length-stable w.log),
+      omega (arith, w.durable_agrees, length-stable w.log),
       omega (arith, within_records, length-append w.log.records.items (waiting_in (tail_of w.core))),
       subst (λ (l : List LogRecord). GivesBehind front l c) (sym more_is) gives,
     )
 
-    pub either_gives : (c : List ℕ) → GivesWithOrWithout front (stable w.log) group c → GivesBeginning front (state_in w).durable (state_in w).list c
+    pub either_gives : (c : List ℕ) → GivesWithOrWithout front (stable w.log) group c → GivesBeginning front (state_in w).durable (state_in w).log c
     either_gives c (inl without) = stable_gives w front c without
     either_gives c (inr with) = more_gives c with
 
@@ -106,17 +106,17 @@ module _ {D : Type 0} {G : Ghosts D} where
       → new.log.device ≡ old.log.device → Grows (state_in old) (state_in new) → ((front : List ℕ) → IsReady old front → IsReady new front) → Moves old e step new
   unmoved old new e step geometry state device grows ready =
       let same : history_in new ≡ history_in old = ap G.history device in
-      let gives : (front c : List ℕ) → GivesBeginning front (state_in old).durable (state_in old).list c → GivesBeginning front (state_in old).durable (state_in new).list c =
-      λ front c g. subst (λ (l : List LogRecord). GivesBeginning front (state_in old).durable l c) (sym grows.list) (longer front (state_in old).durable (state_in old).list grows.more c g) in
+      let gives : (front c : List ℕ) → GivesBeginning front (state_in old).durable (state_in old).log c → GivesBeginning front (state_in old).durable (state_in new).log c =
+      λ front c g. subst (λ (l : List LogRecord). GivesBeginning front (state_in old).durable l c) (sym grows.log) (longer front (state_in old).durable (state_in old).log grows.more c g) in
       record {
         geometry = geometry;
         state = state;
         kept = λ front k. record {
-          images = λ c left. subst (λ n. GivesBeginning front n (state_in new).list c) (sym grows.durable) (gives front c (k.images c (subst (λ (h : History). may_leave h c) same left)));
+          images = λ c left. subst (λ n. GivesBeginning front n (state_in new).log c) (sym grows.durable) (gives front c (k.images c (subst (λ (h : History). may_leave h c) same left)));
           ready = λ running. ready front (k.ready (grows.running running));
         };
-        any_moment = λ front k. subst (λ (h : History). LeavesOnly (history_in old) h (GivesBeginning front (state_in old).durable (state_in old).list)) (sym same)
-            (started (history_in old) (GivesBeginning front (state_in old).durable (state_in old).list) k.images);
+        any_moment = λ front k. subst (λ (h : History). LeavesOnly (history_in old) h (GivesBeginning front (state_in old).durable (state_in old).log)) (sym same)
+            (started (history_in old) (GivesBeginning front (state_in old).durable (state_in old).log) k.images);
       }
 
   pub none_staged : (log : LogDev D G) (is : Bool) → (IsTrue is ↔ IsSome log.staged) → is ≡ false → log.staged ≡ None
@@ -143,31 +143,31 @@ module _ {D : Type 0} {G : Ghosts D} where
 
   -- ---- a frame is staged, or it fails as it is
 
-  as_before : (old new : World D G) (front c : List ℕ) → (state_in new).list ≡ (state_in old).list → (state_in new).durable ≡ (state_in old).durable
-      → GivesBeginning front (state_in old).durable (state_in old).list c → GivesBeginning front (state_in new).durable (state_in new).list c
+  as_before : (old new : World D G) (front c : List ℕ) → (state_in new).log ≡ (state_in old).log → (state_in new).durable ≡ (state_in old).durable
+      → GivesBeginning front (state_in old).durable (state_in old).log c → GivesBeginning front (state_in new).durable (state_in new).log c
   as_before old new front c list durable gives =
-      subst (λ (l : List LogRecord). GivesBeginning front (state_in new).durable l c) (sym list) (subst (λ n. GivesBeginning front n (state_in old).list c) (sym durable) gives)
+      subst (λ (l : List LogRecord). GivesBeginning front (state_in new).durable l c) (sym list) (subst (λ n. GivesBeginning front n (state_in old).log c) (sym durable) gives)
 
   pub staging : (old new : World D G) (mid : LogDev D G) (e : Event) (step : Step) → geometry_in new ≡ geometry_in old → EventStep (geometry_in old) (state_in old) e step (state_in new)
       → (state_in old).failed ≡ false → old.log.staged ≡ None → mid.device ≡ old.log.device → mid.staged ≡ old.log.staged → stable mid ≡ stable old.log
-      → (state_in new).list ≡ (state_in old).list → (state_in new).durable ≡ (state_in old).durable
+      → (state_in new).log ≡ (state_in old).log → (state_in new).durable ≡ (state_in old).durable
       → ((front : List ℕ) → IsSettled old.log front → IsSettled mid front)
       → ((front : List ℕ) → IsSettled mid front → mid.staged ≡ None → LeavesOnly (G.history mid.device) (history_in new) (GivesBehind front (stable mid)))
       → ((front : List ℕ) → IsSettled mid front → (state_in new).failed ≡ false → IsReady new front) → Moves old e step new
   staging old new mid e step geometry state running none device waits same list durable settled moments ready =
-      let settled_now : (front : List ℕ) → IsKept old front → IsSettled old.log front = λ front k. elim (k.ready running) [
+      let settled_now : (front : List ℕ) → SurvivesCrashes old front → IsSettled old.log front = λ front k. elim (k.ready running) [
         | inl s ↦ s.0
         | inr s ↦ absurd (let clash = s.1.waits in cc)
       ] in
-      let leaves : (front : List ℕ) → IsKept old front → LeavesOnly (history_in old) (history_in new) (GivesBeginning front (state_in old).durable (state_in old).list) =
-      λ front k. subst (λ (d : D). LeavesOnly (G.history d) (history_in new) (GivesBeginning front (state_in old).durable (state_in old).list)) device
-      (widened (G.history mid.device) (history_in new) (GivesBehind front (stable mid)) (GivesBeginning front (state_in old).durable (state_in old).list) (moments front (settled front (settled_now front k)) (waits ∙ none))
+      let leaves : (front : List ℕ) → SurvivesCrashes old front → LeavesOnly (history_in old) (history_in new) (GivesBeginning front (state_in old).durable (state_in old).log) =
+      λ front k. subst (λ (d : D). LeavesOnly (G.history d) (history_in new) (GivesBeginning front (state_in old).durable (state_in old).log)) device
+      (widened (G.history mid.device) (history_in new) (GivesBehind front (stable mid)) (GivesBeginning front (state_in old).durable (state_in old).log) (moments front (settled front (settled_now front k)) (waits ∙ none))
       (λ c gives. stable_gives old front c (subst (λ (l : List LogRecord). GivesBehind front l c) same gives))) in
       record {
         geometry = geometry;
         state = state;
         kept = λ front k. record {
-          images = λ c left. as_before old new front c list durable (at_end (history_in old) (history_in new) (GivesBeginning front (state_in old).durable (state_in old).list) (leaves front k) c left);
+          images = λ c left. as_before old new front c list durable (at_end (history_in old) (history_in new) (GivesBeginning front (state_in old).durable (state_in old).log) (leaves front k) c left);
           ready = λ run. ready front (settled front (settled_now front k)) run;
         };
         any_moment = leaves;
@@ -176,25 +176,25 @@ module _ {D : Type 0} {G : Ghosts D} where
   -- ---- its gate is opened, or it fails
 
   pub opening_gate : (old new : World D G) (e : Event) (step : Step) → geometry_in new ≡ geometry_in old → EventStep (geometry_in old) (state_in old) e step (state_in new)
-      → (state_in old).failed ≡ false → old.log.staged ≢ None → (state_in new).list ≡ (state_in old).list
+      → (state_in old).failed ≡ false → old.log.staged ≢ None → (state_in new).log ≡ (state_in old).log
       → ((front : List ℕ) (group : List LogRecord) → IsStaged old.log front group → LeavesOnly (history_in old) (history_in new) (GivesWithOrWithout front (stable old.log) group))
       → ((front : List ℕ) (group : List LogRecord) → IsStaged old.log front group → ((state_in new).durable ≡ (state_in old).durable × ((state_in new).failed ≡ false → ⊥)) ⊎ (IsSettled new.log front × (new.log.staged ≡ None)))
       → Moves old e step new
   opening_gate old new e step geometry state running some list moments after =
-      let staged_now : (front : List ℕ) → IsKept old front → (group : List LogRecord) × IsStaged old.log front group = λ front k. elim (k.ready running) [
+      let staged_now : (front : List ℕ) → SurvivesCrashes old front → (group : List LogRecord) × IsStaged old.log front group = λ front k. elim (k.ready running) [
         | inl s ↦ absurd (some s.1)
         | inr s ↦ s
       ] in
-      let leaves : (front : List ℕ) → IsKept old front → LeavesOnly (history_in old) (history_in new) (GivesBeginning front (state_in old).durable (state_in old).list) =
+      let leaves : (front : List ℕ) → SurvivesCrashes old front → LeavesOnly (history_in old) (history_in new) (GivesBeginning front (state_in old).durable (state_in old).log) =
       λ front k. let s = staged_now front k in
-      widened (history_in old) (history_in new) (GivesWithOrWithout front (stable old.log) s.0) (GivesBeginning front (state_in old).durable (state_in old).list) (moments front s.0 s.1)
+      widened (history_in old) (history_in new) (GivesWithOrWithout front (stable old.log) s.0) (GivesBeginning front (state_in old).durable (state_in old).log) (moments front s.0 s.1)
       (either_gives old front s.0 s.1) in
       record {
         geometry = geometry;
         state = state;
         kept = λ front k. let s = staged_now front k in elim (after front s.0 s.1) [
           | inl failed ↦ record {
-            images = λ c left. as_before old new front c list failed.0 (at_end (history_in old) (history_in new) (GivesBeginning front (state_in old).durable (state_in old).list) (leaves front k) c left);
+            images = λ c left. as_before old new front c list failed.0 (at_end (history_in old) (history_in new) (GivesBeginning front (state_in old).durable (state_in old).log) (leaves front k) c left);
             ready = λ run. absurd (failed.1 run);
           }
           | inr settled ↦ record {
@@ -206,16 +206,16 @@ module _ {D : Type 0} {G : Ghosts D} where
       }
 
   -- what is staged is the longest list of what is not durable
-  pub has_staged : (old new : World D G) (mid : LogDev D G) (n number : ℕ) → number ≡ n → (state_in old).durable ≡ mid.forced → mid.records.items ≡ (state_in old).list
+  pub has_staged : (old new : World D G) (mid : LogDev D G) (n number : ℕ) → number ≡ n → (state_in old).durable ≡ mid.forced → mid.records.items ≡ (state_in old).log
       → IsLongest (waiting mid) (number - mid.forced) → IsSomeAnd new.log.staged (λ frame. frame.count ≡ number - mid.forced)
-      → ((front : List ℕ) → IsKept old front → IsStaged new.log front (take (number - mid.forced) (waiting mid))) → HasStaged old new n
+      → ((front : List ℕ) → SurvivesCrashes old front → IsStaged new.log front (take (number - mid.forced) (waiting mid))) → HasStaged old new n
   has_staged old new mid n number same forced list longest under_way staged =
-      let rest : waiting mid ≡ drop (state_in old).durable (state_in old).list = ap (λ k. drop k mid.records.items) (sym forced) ∙ ap (drop (state_in old).durable) list in
+      let rest : waiting mid ≡ drop (state_in old).durable (state_in old).log = ap (λ k. drop k mid.records.items) (sym forced) ∙ ap (drop (state_in old).durable) list in
       let count : number - mid.forced ≡ n - (state_in old).durable = ap (λ k. k - mid.forced) same ∙ ap (λ k. n - k) (sym forced) in
       record {
-        longest = subst (λ k. IsLongest (drop (state_in old).durable (state_in old).list) k) count (subst (λ (l : List LogRecord). IsLongest l (number - mid.forced)) rest longest);
+        longest = subst (λ k. IsLongest (drop (state_in old).durable (state_in old).log) k) count (subst (λ (l : List LogRecord). IsLongest l (number - mid.forced)) rest longest);
         under_way = subst (λ k. IsSomeAnd new.log.staged (λ frame. frame.count ≡ k)) count under_way;
-        on_device = λ front k. subst (λ j. IsStaged new.log front (take j (drop (state_in old).durable (state_in old).list))) count
+        on_device = λ front k. subst (λ j. IsStaged new.log front (take j (drop (state_in old).durable (state_in old).log))) count
             (subst (λ (l : List LogRecord). IsStaged new.log front (take (number - mid.forced) l)) rest (staged front k));
       }
 
@@ -297,17 +297,17 @@ pub synced_stands : (old new : History) → new ≡ noted old synced → Stands 
 synced_stands old new is = subst (λ (h : History). Stands h (seen old)) (sym is) (record { read = refl; only = λ c left. left })
 
 -- a world on a settled log
-pub settled_kept : {D : Type 0} {G : Ghosts D} (w : World D G) (front : List ℕ) → IsSettled w.log front → w.log.staged ≡ None → IsKept w front
+pub settled_kept : {D : Type 0} {G : Ghosts D} (w : World D G) (front : List ℕ) → IsSettled w.log front → w.log.staged ≡ None → SurvivesCrashes w front
 settled_kept w front settled none = record { images = λ c left. stable_gives w front c (settled_gives w.log front settled c left); ready = λ running. inl (settled, none) }
 
 -- bounds, as the opened log tells its length and its list
-pub bounds_at : (g h : Geometry) (bytes limit : ℕ) (rs list : List LogRecord) → h ≡ g → limit ≡ bytes → list ≡ rs → AreInBounds g (bytes - 4096) rs → AreInBounds h (limit - 4096) list
-bounds_at g h bytes limit rs list at long same each =
+pub bounds_at : (g h : Geometry) (device_bytes limit : ℕ) (rs list : List LogRecord) → h ≡ g → limit ≡ device_bytes → list ≡ rs → AreInBounds g (device_bytes - 4096) rs → AreInBounds h (limit - 4096) list
+bounds_at g h device_bytes limit rs list at long same each =
     subst (λ (l : List LogRecord). AreInBounds h (limit - 4096) l) (sym same)
-    (subst (λ n. AreInBounds h (n - 4096) rs) (sym long) (subst (λ (x : Geometry). AreInBounds x (bytes - 4096) rs) (sym at) each))
+    (subst (λ n. AreInBounds h (n - 4096) rs) (sym long) (subst (λ (x : Geometry). AreInBounds x (device_bytes - 4096) rs) (sym at) each))
 
-pub all_bounds : (g : Geometry) (stream : ℕ) (rs : List LogRecord) → AreInBounds g stream rs → InBounds g stream rs
-all_bounds g stream rs each = subst (InBounds g stream) (take_all (length rs) rs (omega arith)) (each (length rs) (omega arith))
+pub all_bounds : (g : Geometry) (stream_bytes : ℕ) (rs : List LogRecord) → AreInBounds g stream_bytes rs → InBounds g stream_bytes rs
+all_bounds g stream_bytes rs each = subst (InBounds g stream_bytes) (take_all (length rs) rs (omega arith)) (each (length rs) (omega arith))
 
-pub moved : (g h : Geometry) (bytes limit : ℕ) (s : State) → h ≡ g → limit ≡ bytes → IsBounded h (limit - 4096) s → IsBounded g (bytes - 4096) s
-moved g h bytes limit s at long b = subst (λ n. IsBounded g (n - 4096) s) long (subst (λ (x : Geometry). IsBounded x (limit - 4096) s) at b)
+pub moved : (g h : Geometry) (device_bytes limit : ℕ) (s : State) → h ≡ g → limit ≡ device_bytes → IsBounded h (limit - 4096) s → IsBounded g (device_bytes - 4096) s
+moved g h device_bytes limit s at long b = subst (λ n. IsBounded g (n - 4096) s) long (subst (λ (x : Geometry). IsBounded x (limit - 4096) s) at b)

@@ -12,38 +12,38 @@ use Rattle.shore_gate.specs.declared.anchors.Slot.{Slot}
 use Rattle.shore_gate.specs.declared.labels.Label.{Label}
 use Rattle.shore_gate.specs.Label.{HoldsLabel, verdict_of}
 use Rattle.shore_gate.specs.Anchor as anchors
-use Rattle.shore_gate.specs.Anchor.{Counts, anchor_bytes, place_of, damaged}
+use Rattle.shore_gate.specs.Anchor.{Counts, anchor_bytes, offset_of, damaged}
 use Rattle.shore_model.specs.declared.log_records.LogRecord.{LogRecord}
 use Rattle.shore_log.specs.Frames.{Gives}
 use Rattle.shore_core.specs.Bounds.{AreInBounds, InBounds}
 use Rattle.shore_core.specs.Opened.{HasTxns, IsBadRecord}
 use Rattle.shore_machine.specs.Pages.{FitPages}
-use Rattle.shore_model.specs.Logs.{told}
+use Rattle.shore_model.specs.Logs.{records_told}
 use Rattle.shore_types.specs.declared.faults.Fault.TheVariants.{Damaged}
-use Rattle.shore_log.specs.Places.{IsBadAt, IsFrameOf}
+use Rattle.shore_log.specs.Offsets.{IsBadAt, IsFrameOf}
 use Rattle.shore_world.specs.declared.front.Front.{Front}
 
 -- a log device may be so long
 abbrev pub IsLogLength : ℕ → Type 0
-IsLogLength bytes = (MIN_LOG_BYTES ≤ bytes) × (bytes ≤ MAX_LOG_BYTES)
+IsLogLength device_bytes = (MIN_LOG_BYTES ≤ device_bytes) × (device_bytes ≤ MAX_LOG_BYTES)
 
 -- the label of a log device of this length
 abbrev pub log_label : Geometry → ℕ → Label
-log_label g bytes = record { pair = g.pair; length = bytes; max_locks = g.max_locks; stores = g.stores }
+log_label g device_bytes = record { pair = g.pair; length = device_bytes; max_locks = g.max_locks; stores = g.stores }
 
 -- the anchor of a log that is read from its first record on, and has no checkpoint
 abbrev pub first_anchor : Anchor
 first_anchor = record { sequence = 1; checkpoint = 0; tail = 1; tail_place = 0 }
 
 -- the label stands at the front, and the first anchor counts
-pub record HasFront (g : Geometry) (bytes : ℕ) (image : List ℕ) : Type 0 where
-  pub label : HoldsLabel Log bytes (take 512 image) (log_label g bytes)
+pub record HasFront (g : Geometry) (device_bytes : ℕ) (image : List ℕ) : Type 0 where
+  pub label : HoldsLabel Log device_bytes (take 512 image) (log_label g device_bytes)
   pub slot : Slot
   pub anchor : Counts image slot first_anchor
 
 -- what the front of a device of this length says
 abbrev pub IsFront : ℕ → List ℕ → Front → Type 0
-IsFront bytes image front = (has : HasFront front.geometry bytes image) × (front.anchor_place ≡ place_of has.slot)
+IsFront device_bytes image front = (has : HasFront front.geometry device_bytes image) × (front.anchor_offset ≡ offset_of has.slot)
 
 -- an anchor of a log that is read from its first record on, without a checkpoint
 abbrev pub is_first : Anchor → Bool
@@ -65,28 +65,28 @@ front_verdict history = and_then (verdict_of Log history) (first_checked (anchor
 
 -- Stands for, as long as there is one device and no page: the front is in order, the frames give just these records, and they
 -- are in bounds with each prefix of them.
-pub record StandsFor (g : Geometry) (bytes : ℕ) (rs : List LogRecord) (image : List ℕ) : Type 0 where
-  pub front : HasFront g bytes image
+pub record StandsFor (g : Geometry) (device_bytes : ℕ) (rs : List LogRecord) (image : List ℕ) : Type 0 where
+  pub front : HasFront g device_bytes image
   pub log : Gives rs image
-  pub bounds : AreInBounds g (bytes - 4096) rs
+  pub bounds : AreInBounds g (device_bytes - 4096) rs
 
 -- ---- what an open is refused with
 
 -- the frame of a record that the list is refused for
-pub record IsBadRecordAt (g : Geometry) (rs : List LogRecord) (image : List ℕ) (place : ℕ) : Type 0 where
+pub record IsBadRecordAt (g : Geometry) (rs : List LogRecord) (image : List ℕ) (offset : ℕ) : Type 0 where
   pub number : ℕ
   pub bad : IsBadRecord g rs number
-  pub frame : IsFrameOf 4096 image number place
+  pub frame : IsFrameOf 4096 image number offset
 
 -- The frames give a list that is out of bounds: damaged at the frame of a bad record if there is one, and else at the anchor that
 -- counts.
-pub record IsOutOfBounds (bytes : ℕ) (image : List ℕ) (place : ℕ) : Type 0 where
+pub record IsOutOfBounds (device_bytes : ℕ) (image : List ℕ) (offset : ℕ) : Type 0 where
   pub geometry : Geometry
-  pub list : List LogRecord
-  pub front : HasFront geometry bytes image
-  pub log : Gives list image
-  pub outside : ¬ InBounds geometry (bytes - 4096) list
-  pub named : (HasTxns list × FitPages geometry (told list) × (place ≡ place_of front.slot)) ⊎ IsBadRecordAt geometry list image place
+  pub records : List LogRecord
+  pub front : HasFront geometry device_bytes image
+  pub log : Gives records image
+  pub outside : ¬ InBounds geometry (device_bytes - 4096) records
+  pub named : (HasTxns list × FitPages geometry (records_told records) × (offset ≡ offset_of front.slot)) ⊎ IsBadRecordAt geometry list image offset
 
 -- Beside a failure of the device or of an allocation, an open is refused by the first check of the front that is not passed;
 -- where all are, by the first byte where neither a closed gate nor a frame stands; and where there is none, by a list that is
@@ -94,7 +94,7 @@ pub record IsOutOfBounds (bytes : ℕ) (image : List ℕ) (place : ℕ) : Type 0
 abbrev pub RefusesOpen : History → Fault → Type 0
 RefusesOpen h fault =
     (front_verdict h ≡ Err fault)
-    ⊎ ((front_verdict h ≡ Ok tt) × (place : ℕ) × (fault ≡ Damaged Log place) × (IsBadAt 4096 (seen h) place ⊎ IsOutOfBounds (size h) (seen h) place))
+    ⊎ ((front_verdict h ≡ Ok tt) × (offset : ℕ) × (fault ≡ Damaged Log offset) × (IsBadAt 4096 (seen h) offset ⊎ IsOutOfBounds (size h) (seen h) offset))
 
 -- ---- what a format writes and leaves
 

@@ -22,7 +22,7 @@ use Rattle.shore_world.specs.declared.event.Event.TheVariants as event
 use Rattle.shore_world.specs.declared.world.World.{World}
 use Rattle.shore_world.specs.Events.{IsServedEvent}
 use Rattle.shore_world.specs.Fronts.{HasFront, StandsFor}
-use Rattle.shore_world.specs.Worlds.{state_in, geometry_in, history_in, IsKept, Steps, Runs}
+use Rattle.shore_world.specs.Worlds.{state_in, geometry_in, history_in, SurvivesCrashes, Steps, Runs}
 
 -- ---- an event of the world, as the machine has it
 
@@ -35,7 +35,7 @@ failure_by _ = []
 abbrev pub forced_by : Answer → List machine.Event
 forced_by (Forced n) = machine.Forced n ∷ []
 forced_by (Began t) = []
-forced_by (Got bytes) = []
+forced_by (Got device_bytes) = []
 forced_by (Inserted id) = []
 forced_by Updated = []
 forced_by Deleted = []
@@ -99,14 +99,14 @@ IsLeft {D = D} {G = G} w image =
     ⊎ ((e : Event) × (step : Step) × (later : World D G) × Steps w e step later × left_since (history_in later) (moment (history_in w)) image)
 
 -- The device has this length and read as this image when the manager was opened.
-pub record IsManager {D : Type 0} {G : Ghosts D} (bytes : ℕ) (image : List ℕ) (m : Manager D G) : Type 0 where
+pub record IsManager {D : Type 0} {G : Ghosts D} (device_bytes : ℕ) (image : List ℕ) (m : Manager D G) : Type 0 where
   -- what an open says
-  pub long : size (history_in m.opened) ≡ bytes
-  pub geometry : (g : Geometry) → HasFront g bytes image → geometry_in m.opened ≡ g
-  pub list : (rs : List LogRecord) → Gives rs image → (state_in m.opened).list ≡ rs
-  pub opened : IsOpened (state_in m.opened).list (state_in m.opened)
-  pub bounded : (g : Geometry) (rs : List LogRecord) → StandsFor g bytes rs image → IsBounded g (bytes - 4096) (state_in m.opened)
-  pub kept : IsKept m.opened (take 4096 image)
+  pub long : size (history_in m.opened) ≡ device_bytes
+  pub geometry : (g : Geometry) → HasFront g device_bytes image → geometry_in m.opened ≡ g
+  pub log : (rs : List LogRecord) → Gives rs image → (state_in m.opened).log ≡ rs
+  pub opened : IsOpened (state_in m.opened).log (state_in m.opened)
+  pub bounded : (g : Geometry) (rs : List LogRecord) → StandsFor g device_bytes rs image → IsBounded g (device_bytes - 4096) (state_in m.opened)
+  pub kept : SurvivesCrashes m.opened (take 4096 image)
   -- what a run says
   pub served : All IsServedEvent m.events
   pub runs : Runs m.opened m.events m.steps m.ended
@@ -119,5 +119,5 @@ entries_of m = made_by (all_moves m.events m.steps)
 
 -- each opens what the crash before it left
 abbrev pub AreManagers : {D : Type 0} {G : Ghosts D} → ℕ → List ℕ → List (Manager D G) → List ℕ → Type 0
-AreManagers bytes image [] last = last ≡ image
-AreManagers bytes image (m ∷ ms) last = IsManager bytes image m × AreManagers bytes m.left ms last
+AreManagers device_bytes image [] last = last ≡ image
+AreManagers device_bytes image (m ∷ ms) last = IsManager device_bytes image m × AreManagers device_bytes m.left ms last

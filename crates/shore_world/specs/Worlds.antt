@@ -11,9 +11,9 @@ use Rattle.shore_model.specs.declared.log_records.LogRecord.{LogRecord}
 use Rattle.shore_machine.specs.declared.step.Step.{Step}
 use Rattle.shore_machine.specs.declared.step.Step.TheVariants.{Done, Waits, Refused, Nothing}
 use Rattle.shore_machine.specs.States.{State}
-use Rattle.shore_machine.specs.Steps.{CallStep, ResumeStep, told_durable, with_failure}
+use Rattle.shore_machine.specs.Steps.{CallStep, ResumeStep, with_durable, with_failure}
 use Rattle.shore_log.specs.Frames.{GivesBehind, IsLongest}
-use Rattle.shore_log.specs.Settled.{list_of, IsSettled, IsStaged}
+use Rattle.shore_log.specs.Settled.{records_of_log, IsSettled, IsStaged}
 use Rattle.shore_core.specs.Bounds.{IsBounded}
 use Rattle.shore_core.specs.Cores.{state_of, geometry_of}
 use Rattle.shore_world.specs.declared.event.Event.{Event}
@@ -22,9 +22,9 @@ use Rattle.shore_world.specs.declared.world.World.{World}
 
 -- ---- as the machine that it is
 
--- the log device has the records before those that wait in the core's tail
+-- the log device has the records before those that wait in the core's log buffer
 abbrev pub state_in : {D : Type 0} {G : Ghosts D} → World D G → State
-state_in w = state_of (list_of w.log) w.core
+state_in w = state_of (records_of_log w.log) w.core
 
 abbrev pub geometry_in : {D : Type 0} {G : Ghosts D} → World D G → Geometry
 geometry_in w = geometry_of w.core
@@ -50,10 +50,10 @@ OpenRefused s fault new =
 abbrev pub EventStep : Geometry → State → Event → Step → State → Type 0
 EventStep g s (event.Call session call) step new = CallStep g s call step new
 EventStep g s (event.Resume session) step new = ResumeStep s step new
-EventStep g s event.ForceStage (Done (Staged n)) new = (s.failed ≡ false) × (s.durable < n) × (n ≤ length s.list) × (new ≡ s)
+EventStep g s event.ForceStage (Done (Staged n)) new = (s.failed ≡ false) × (s.durable < n) × (n ≤ length s.log) × (new ≡ s)
 EventStep g s event.ForceStage Nothing new = (s.failed ≡ false) × (new ≡ s)
 EventStep g s event.ForceStage (Refused fault) new = ForceRefused s fault new
-EventStep g s event.ForceOpen (Done (Forced n)) new = (s.failed ≡ false) × (s.durable < n) × (n ≤ length s.list) × (new ≡ told_durable n s)
+EventStep g s event.ForceOpen (Done (Forced n)) new = (s.failed ≡ false) × (s.durable < n) × (n ≤ length s.log) × (new ≡ with_durable n s)
 EventStep g s event.ForceOpen Nothing new = (s.failed ≡ false) × (new ≡ s)
 EventStep g s event.ForceOpen (Refused fault) new = OpenRefused s fault new
 EventStep g s event step new = ⊥
@@ -70,13 +70,13 @@ IsReady w front = (IsSettled w.log front × (w.log.staged ≡ None)) ⊎ ((group
 
 -- Behind this front a crash now leaves a prefix of the list with all that is durable; and as long as no device has failed
 -- the next force can be made.
-pub record IsKept {D : Type 0} {G : Ghosts D} (w : World D G) (front : List ℕ) : Type 0 where
-  pub images : (c : List ℕ) → may_leave (history_in w) c → GivesBeginning front (state_in w).durable (state_in w).list c
+pub record SurvivesCrashes {D : Type 0} {G : Ghosts D} (w : World D G) (front : List ℕ) : Type 0 where
+  pub images : (c : List ℕ) → may_leave (history_in w) c → GivesBeginning front (state_in w).durable (state_in w).log c
   pub ready : (state_in w).failed ≡ false → IsReady w front
 
 -- there is no frame to stage: one is under way, or every record is durable
 abbrev pub IsIdle : {D : Type 0} {G : Ghosts D} → World D G → Type 0
-IsIdle w = IsSome w.log.staged ⊎ ((state_in w).durable ≡ length (state_in w).list)
+IsIdle w = IsSome w.log.staged ⊎ ((state_in w).durable ≡ length (state_in w).log)
 
 -- the fault that a step tells of, if any
 abbrev pub fault_at : Step → Result (Unit {0}) Fault
@@ -90,18 +90,18 @@ fault_at Nothing = Ok tt
 pub record Moves {D : Type 0} {G : Ghosts D} (old : World D G) (e : Event) (step : Step) (new : World D G) : Type 0 where
   pub geometry : geometry_in new ≡ geometry_in old
   pub state : EventStep (geometry_in old) (state_in old) e step (state_in new)
-  pub kept : (front : List ℕ) → IsKept old front → IsKept new front
-  pub any_moment : (front : List ℕ) → IsKept old front → LeavesOnly (history_in old) (history_in new) (GivesBeginning front (state_in old).durable (state_in old).list)
+  pub kept : (front : List ℕ) → SurvivesCrashes old front → SurvivesCrashes new front
+  pub any_moment : (front : List ℕ) → SurvivesCrashes old front → LeavesOnly (history_in old) (history_in new) (GivesBeginning front (state_in old).durable (state_in old).log)
 
 -- the world is kept behind some front and its state is in bounds: then the next frame has its room
 abbrev pub HasForceRoom : {D : Type 0} {G : Ghosts D} → World D G → Type 0
-HasForceRoom w = (front : List ℕ) × IsKept w front × IsBounded (geometry_in w) (size (history_in w) - 4096) (state_in w)
+HasForceRoom w = (front : List ℕ) × SurvivesCrashes w front × IsBounded (geometry_in w) (size (history_in w) - 4096) (state_in w)
 
 -- A frame is under way now: it has the longest list of the records not yet durable that one frame holds, the last of this number.
 pub record HasStaged {D : Type 0} {G : Ghosts D} (old new : World D G) (n : ℕ) : Type 0 where
-  pub longest : IsLongest (drop (state_in old).durable (state_in old).list) (n - (state_in old).durable)
+  pub longest : IsLongest (drop (state_in old).durable (state_in old).log) (n - (state_in old).durable)
   pub under_way : IsSomeAnd new.log.staged (λ frame. frame.count ≡ n - (state_in old).durable)
-  pub on_device : (front : List ℕ) → IsKept old front → IsStaged new.log front (take (n - (state_in old).durable) (drop (state_in old).durable (state_in old).list))
+  pub on_device : (front : List ℕ) → SurvivesCrashes old front → IsStaged new.log front (take (n - (state_in old).durable) (drop (state_in old).durable (state_in old).log))
 
 -- The frame that was under way is durable now, and no other: its last record has this number.
 pub record HasForced {D : Type 0} {G : Ghosts D} (old new : World D G) (n : ℕ) : Type 0 where
@@ -124,7 +124,7 @@ pub record IsLike {D : Type 0} {G : Ghosts D} (old new : World D G) : Type 0 whe
   pub geometry : geometry_in new ≡ geometry_in old
   pub state : state_in new ≡ state_in old
   pub history : history_in new ≡ history_in old
-  pub kept : (front : List ℕ) → IsKept old front → IsKept new front
+  pub kept : (front : List ℕ) → SurvivesCrashes old front → SurvivesCrashes new front
 
 -- The events, one step each, from a world to another. Between two of them a fuse may be set.
 abbrev pub Runs : {D : Type 0} {G : Ghosts D} → World D G → List Event → List Step → World D G → Type 0

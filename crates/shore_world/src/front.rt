@@ -135,7 +135,7 @@ fn bytes_behind_label(alloc: Global) -> Result<Vec<u8>, AllocError>
 pub struct Front {
     pub geometry: Geometry,
     /// The byte of the anchor that counts.
-    pub anchor_place: u64,
+    pub anchor_offset: u64,
 }
 
 /// Reads the front of a log device: a barrier, the label, and the anchor that counts. No checkpoint is made as yet, and the log
@@ -163,9 +163,9 @@ pub fn read_front<D: Disk>(alloc: Global, log: &mut D) -> Result<Front, Fault>
     log.sync()?;
     let label = read_label(alloc, log, Device::Log)?;
     let counting = Anchors::read(log)?;
-    let anchor_place = counting.slot.place();
+    let anchor_offset = counting.slot.offset();
     if !is_first(&counting.anchor) {
-        return Err(damaged(anchor_place));
+        return Err(damaged(anchor_offset));
     }
     Ok(Front {
         geometry: Geometry {
@@ -173,7 +173,7 @@ pub fn read_front<D: Disk>(alloc: Global, log: &mut D) -> Result<Front, Fault>
             max_locks: label.max_locks,
             stores: label.stores,
         },
-        anchor_place,
+        anchor_offset,
     })
 }
 

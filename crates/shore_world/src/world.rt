@@ -9,9 +9,9 @@ ghost use Rattle.shore_log.specs.Frames.{Gives};
 ghost use Rattle.shore_types.specs.declared.faults.Device.TheVariants as Device;
 ghost use Rattle.shore_core.specs.Opened.{HasTxns, IsBadRecord, cost_of_log};
 ghost use Rattle.shore_machine.specs.Pages.{FitPages};
-ghost use Rattle.shore_model.specs.Logs.{told};
-ghost use Rattle.shore_log.specs.Places.{IsFrameOf};
-ghost use Rattle.shore_log.specs.Settled.{list_of, stable, IsSettled};
+ghost use Rattle.shore_model.specs.Logs.{records_told};
+ghost use Rattle.shore_log.specs.Offsets.{IsFrameOf};
+ghost use Rattle.shore_log.specs.Settled.{records_of_log, stable, IsSettled};
 ghost use Rattle.shore_log.specs.PlainTails.{first_of, waiting_in};
 ghost use Rattle.shore_machine.specs.Trails.{IsOpened};
 ghost use Rattle.shore_machine.specs.Steps.{with_failure};
@@ -35,27 +35,27 @@ use std::alloc::Global;
 pub struct World<D: Disk> {
     core: Core<PlainTail>,
     log: LogDev<D>,
-    ghost numbers: { first_of (tail_of core) ≡ 1 + length (list_of log) },
-    ghost told: { durable_of core ≡ length (stable log) },
+    ghost numbers: { first_of (tail_of core) ≡ 1 + length (records_of_log log) },
+    ghost durable_agrees: { durable_of core ≡ length (stable log) },
 }
 
 impl<D: Disk> World<D> {
     ghost use Rattle.shore_world.specs.Fronts.{HasFront, RefusesOpen, StandsFor};
-    ghost use Rattle.shore_world.specs.Worlds.{Moves, HasForced, HasStaged, Steps, Runs, HasForceRoom, IsIdle, IsKept, state_in, geometry_in, device_in, fault_at, fault_in};
+    ghost use Rattle.shore_world.specs.Worlds.{Moves, HasForced, HasStaged, Steps, Runs, HasForceRoom, IsIdle, SurvivesCrashes, state_in, geometry_in, device_in, fault_at, fault_in};
 
     /// Opens the manager of a formatted log device: a barrier, the label, the anchors, the frames, and then the records in place
     /// as the log tells them. Refused by `NotFormatted`, `WrongVersion` or `Damaged` with the offset if the device is not in order, by
     /// `Device` if it failed, by `Memory` if an allocation failed; the device is handed back, and may be opened again.
     pub fn open(alloc: Global, mut log: D) -> Result<World<D>, (Fault, D)>
         // Its list is the one that stood there, and its geometry the label's.
-        ensures list { IsTrue (D.is_honest log) → IfOk result (λ w. Gives (state_in w).list (seen (D.history log))) }
-        ensures only { IsTrue (D.is_honest log) → (rs : List LogRecord) → Gives rs (seen (D.history log)) → IfOk result (λ w. (state_in w).list ≡ rs) }
+        ensures log { IsTrue (D.is_honest log) → IfOk result (λ w. Gives (state_in w).log (seen (D.history log))) }
+        ensures only { IsTrue (D.is_honest log) → (rs : List LogRecord) → Gives rs (seen (D.history log)) → IfOk result (λ w. (state_in w).log ≡ rs) }
         ensures front { IsTrue (D.is_honest log) → IfOk result (λ w. HasFront (geometry_in w) (size (D.history log)) (seen (D.history log))) }
         ensures geometry { IsTrue (D.is_honest log) → (g : Geometry) → HasFront g (size (D.history log)) (seen (D.history log)) → IfOk result (λ w. geometry_in w ≡ g) }
-        ensures opened { IfOk result (λ w. IsOpened (state_in w).list (state_in w)) }
+        ensures opened { IfOk result (λ w. IsOpened (state_in w).log (state_in w)) }
         ensures room { IsTrue (D.is_honest log) → IfOk result (λ w. (state_in w).room
-            ≡ record { kept = cost_of_log (state_in w).list; reserved = 0; stream = size (D.history log) - 4096 }) }
-        ensures kept { IsTrue (D.is_honest log) → IfOk result (λ w. IsKept w (take 4096 (seen (D.history log)))) }
+            ≡ record { kept = cost_of_log (state_in w).log; reserved = 0; stream_bytes = size (D.history log) - 4096 }) }
+        ensures kept { IsTrue (D.is_honest log) → IfOk result (λ w. SurvivesCrashes w (take 4096 (seen (D.history log)))) }
 
         // What is refused goes by the checks in their order.
         ensures refused { IsTrue (D.is_honest log) → IfErr result (λ e. IsFromOutside e.0 ⊎ RefusesOpen (D.history log) e.0) }
@@ -76,7 +76,7 @@ impl<D: Disk> World<D> {
     {
         let Front {
             geometry,
-            anchor_place,
+            anchor_offset,
         } = match read_front(alloc, &mut log) {
             Ok(front) => front,
             Err(fault) => return Err((fault, log)),
@@ -88,7 +88,7 @@ impl<D: Disk> World<D> {
         match open_core(alloc, geometry, &log) {
             Ok(core) => Ok(World { core, log }),
             Err(error) => {
-                let fault = fault_of(error, anchor_place, &mut log);
+                let fault = fault_of(error, anchor_offset, &mut log);
                 Err((fault, log.into_device()))
             }
         }
@@ -108,10 +108,10 @@ impl<D: Disk> World<D> {
         self.core.records()
     }
 
-    /// Every record of the log from the tail number on, in two parts: those that the log device has, and those that have not
+    /// Every record of the log from the oldest kept number on, in two parts: those that the log device has, and those that have not
     /// been handed to it yet.
     pub fn records(&self) -> (&[LogRecord], &[LogRecord])
-        ensures { result.0.now ++ result.1.now ≡ (state_in self.now).list }
+        ensures { result.0.now ++ result.1.now ≡ (state_in self.now).log }
     {
         (self.log.records(), self.core.waiting())
     }
@@ -264,28 +264,34 @@ fn open_core<D: Disk>(
     geometry: Geometry,
     log: &LogDev<D>,
 ) -> Result<Core<PlainTail>, OpenError>
-    requires { stable log.now ≡ list_of log.now }
-    ensures opened { IfOk result (λ core. IsOpened (list_of log.now) (state_of (list_of log.now) core)) }
-    ensures bad { (n : ℕ) → result ≡ Err (OpenError.BadRecord n) → IsBadRecord geometry (list_of log.now) n }
-    ensures no_room { result ≡ Err OpenError.NoRoom → HasTxns (list_of log.now) × FitPages geometry (told (list_of log.now)) }
-    ensures room { log.now.limit ≤ MAX_LOG_BYTES → IfOk result (λ core. (state_of (list_of log.now) core).room
-        ≡ record { kept = cost_of_log (list_of log.now); reserved = 0; stream = log.now.limit - 4096 }) }
-    ensures in_bounds { log.now.limit ≤ MAX_LOG_BYTES → InBounds geometry (log.now.limit - 4096) (list_of log.now) → IfErr result (λ error. error ≡ OpenError.Memory) }
-    ensures bounded { log.now.limit ≤ MAX_LOG_BYTES → AreInBounds geometry (log.now.limit - 4096) (list_of log.now)
-        → IfOk result (λ core. IsBounded geometry (log.now.limit - 4096) (state_of (list_of log.now) core)) }
+    requires { stable log.now ≡ records_of_log log.now }
+    ensures opened { IfOk result (λ core. IsOpened (records_of_log log.now) (state_of (records_of_log log.now) core)) }
+    ensures bad { (n : ℕ) → result ≡ Err (OpenError.BadRecord n) → IsBadRecord geometry (records_of_log log.now) n }
+    ensures no_room { result ≡ Err OpenError.NoRoom → HasTxns (records_of_log log.now) × FitPages geometry (records_told (records_of_log log.now)) }
+    ensures room { log.now.device_bytes ≤ MAX_LOG_BYTES → IfOk result (λ core. (state_of (records_of_log log.now) core).room
+        ≡ record { kept = cost_of_log (records_of_log log.now); reserved = 0; stream_bytes = log.now.device_bytes - 4096 }) }
+    ensures in_bounds { log.now.device_bytes ≤ MAX_LOG_BYTES → InBounds geometry (log.now.device_bytes - 4096) (records_of_log log.now) → IfErr result (λ error. error ≡ OpenError.Memory) }
+    ensures bounded { log.now.device_bytes ≤ MAX_LOG_BYTES → AreInBounds geometry (log.now.device_bytes - 4096) (records_of_log log.now)
+        → IfOk result (λ core. IsBounded geometry (log.now.device_bytes - 4096) (state_of (records_of_log log.now) core)) }
     ensures geometry { IfOk result (λ core. geometry_of core ≡ geometry) }
-    ensures numbers { IfOk result (λ core. first_of (tail_of core) ≡ 1 + length (list_of log.now)) }
+    ensures numbers { IfOk result (λ core. first_of (tail_of core) ≡ 1 + length (records_of_log log.now)) }
     ensures told { IfOk result (λ core. durable_of core ≡ length (stable log.now)) }
 {
-    Core::open(alloc, geometry, log.records(), log.size(), log.durable())
+    Core::open(
+        alloc,
+        geometry,
+        log.records(),
+        log.stream_bytes(),
+        log.durable(),
+    )
 }
 
 // What an open is refused with, by the place that the error speaks of.
-fn fault_of<D: Disk>(error: OpenError, anchor_place: u64, log: &mut LogDev<D>) -> Fault
+fn fault_of<D: Disk>(error: OpenError, anchor_offset: u64, log: &mut LogDev<D>) -> Fault
     ensures memory { error ≡ OpenError.Memory → result ≡ Fault.Memory }
-    ensures room { error ≡ OpenError.NoRoom → result ≡ Fault.Damaged Device.Log anchor_place }
+    ensures room { error ≡ OpenError.NoRoom → result ≡ Fault.Damaged Device.Log anchor_offset }
     ensures record_of { (n : ℕ) (front : List ℕ) → error ≡ OpenError.BadRecord n → IsSettled log.old front → 1 ≤ n → n ≤ length (stable log.old)
-        → (result ≡ Fault.Device) ⊎ ((place : ℕ) × (result ≡ Fault.Damaged Device.Log place) × IsFrameOf 4096 (seen (D.history log.old.device)) n place) }
+        → (result ≡ Fault.Device) ⊎ ((offset : ℕ) × (result ≡ Fault.Damaged Device.Log offset) × IsFrameOf 4096 (seen (D.history log.old.device)) n offset) }
     ensures still { IsTrue (D.is_honest log.old.device) → D.history log.new.device ≡ D.history log.old.device }
     ensures honest { D.is_honest log.new.device ≡ D.is_honest log.old.device }
     ensures size { size (D.history log.new.device) ≡ size (D.history log.old.device) }
@@ -293,9 +299,9 @@ fn fault_of<D: Disk>(error: OpenError, anchor_place: u64, log: &mut LogDev<D>) -
 {
     match error {
         OpenError::Memory => Fault::Memory,
-        OpenError::NoRoom => damaged(anchor_place),
+        OpenError::NoRoom => damaged(anchor_offset),
         OpenError::BadRecord(number) => match log.frame_of(number) {
-            Ok(place) => damaged(place),
+            Ok(offset) => damaged(offset),
             Err(fault) => fault,
         },
     }

@@ -5,9 +5,9 @@ use Rattle.shore_model.specs.Logs.{id_in}
 use Rattle.shore_core.specs.Opened.{ChangesAt}
 use Rattle.shore_core.proofs.replay.last_change.Given as goal
 
-abbrev pub invariant-loop-place : goal.invariant-loop-place
-invariant-loop-place l = record {
-  so_far : l.last ≤ l.place;
+abbrev pub invariant-loop-index : goal.invariant-loop-index
+invariant-loop-index l = record {
+  so_far : l.last ≤ l.index;
   change : 0 < l.last → ChangesAt l.log l.id l.last;
-  later : AllWithin (λ (r : LogRecord). id_in r.payload ≢ Some l.id) l.log l.last l.place;
+  later : AllWithin (λ (r : LogRecord). id_in r.payload ≢ Some l.id) l.log l.last l.index;
 }

@@ -1,13 +1,13 @@
 use Rattle.std.proofs.Common.{◌+◌, ◌-◌, length}
 use Rattle.shore_deadlock.proofs.Searches.{Explored}
-use Rattle.shore_deadlock.proofs.TrailLemmas.{IsTrail, unreached}
+use Rattle.shore_deadlock.proofs.ReachedLemmas.{IsTrail, unreached}
 use Rattle.shore_deadlock.proofs.search.cycle_without.Given as goal
 
-abbrev pub invariant-loop-place : goal.invariant-loop-place
-invariant-loop-place l = record {
-  trail : IsTrail l.table.requests l.victims l.txn l.trail.items;
-  explored : Explored l.table.requests l.victims l.txn l.trail.items l.place;
+abbrev pub invariant-loop-index : goal.invariant-loop-index
+invariant-loop-index l = record {
+  reached : IsTrail l.table.requests l.victims l.txn l.reached.items;
+  explored : Explored l.table.requests l.victims l.txn l.reached.items l.index;
 }
 
-abbrev pub decreases-loop-place : goal.decreases-loop-place
-decreases-loop-place l = unreached l.table.requests l.trail.items + length l.trail.items - l.place
+abbrev pub decreases-loop-index : goal.decreases-loop-index
+decreases-loop-index l = unreached l.table.requests l.reached.items + length l.reached.items - l.index

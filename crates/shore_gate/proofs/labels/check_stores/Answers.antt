@@ -10,8 +10,8 @@ loop-pages-preserved c =
     let stores = c.args.stores.now in
     let split = drop_more stores i 0 c.loop-pages-test.true in
     record {
-      place = omega arith;
+      offset = omega arith;
       few = omega arith;
       left = omega (arith, ap sum split ∙ sum-cons _ (drop (i + 1) stores));
-      same = sym (store_passes c.args.device c.loop-pages.place c.loop-pages.total stores i c.from-total.result c.loop-pages-test.true c.from-total.ensures (omega arith) (omega arith)) ∙ c.loop-pages.invariant.same;
+      same = sym (store_passes c.args.device c.loop-pages.offset c.loop-pages.total stores i c.from-total.result c.loop-pages-test.true c.from-total.ensures (omega arith) (omega arith)) ∙ c.loop-pages.invariant.same;
     }

@@ -4,7 +4,7 @@ use Rattle.shore_locks.specs.Tables.{waiters_at}
 use Rattle.shore_locks.specs.Grants.{can_be_granted, granted, granted_in_turn, passed, replaced}
 use Rattle.shore_locks.proofs.Keys.{AreRequests-replaced}
 use Rattle.shore_locks.proofs.Passes.{pass_on, pass_stops, pass_ends, fewer_wait}
-use Rattle.shore_locks.proofs.Sweeping.{waiters_are_new}
+use Rattle.shore_locks.proofs.GrantWalks.{waiters_are_new}
 use Rattle.shore_locks.proofs.changes.pass.Goals as goal
 
 pub returns-then-not-can_be_granted : goal.returns-then-not-can_be_granted

@@ -4,8 +4,8 @@ use Rattle.shore_model.specs.declared.requests.Request.{Request}
 use Rattle.shore_model.specs.Requests.{are_alike}
 use Rattle.shore_locks.proofs.nodes.find_node.Given as goal
 
-abbrev pub invariant-loop-place : goal.invariant-loop-place
-invariant-loop-place l = find (λ (p : ℕ × Request). are_alike p.1 l.request) l.walk ≡ find (λ (p : ℕ × Request). are_alike p.1 l.request) l.fn.walk
+abbrev pub invariant-loop-node : goal.invariant-loop-node
+invariant-loop-node l = find (λ (p : ℕ × Request). are_alike p.1 l.request) l.walk ≡ find (λ (p : ℕ × Request). are_alike p.1 l.request) l.fn.walk
 
-abbrev pub decreases-loop-place : goal.decreases-loop-place
-decreases-loop-place l = length l.walk
+abbrev pub decreases-loop-node : goal.decreases-loop-node
+decreases-loop-node l = length l.walk

@@ -1,6 +1,6 @@
 use Rattle.std.proofs.Common.{Bool, IsTrue, sym, subst, ◌∙◌, arith}
 use Rattle.shore_disk.specs.Device.{History, seen}
-use Rattle.shore_log.specs.Places.{HeadAt}
+use Rattle.shore_log.specs.Offsets.{HeadAt}
 use Rattle.shore_log.proofs.StreamLemmas.{kept}
 use Rattle.shore_log.proofs.WalkLemmas.{head_inside, one_on, too_far, at_end}
 use Rattle.shore_log.proofs.reading.find_frame.Goals as goal

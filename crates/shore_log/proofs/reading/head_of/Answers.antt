@@ -1,7 +1,7 @@
 use Rattle.std.proofs.Common.{ℕ, ap, ◌∙◌, arith}
 use Rattle.byteorder.specs.Endian.{little_number}
 use Rattle.shore_log.specs.Frames.{frame_head}
-use Rattle.shore_log.proofs.PlaceLemmas.{head_takes}
+use Rattle.shore_log.proofs.OffsetLemmas.{head_takes}
 use Rattle.shore_log.proofs.reading.head_of.Goals as goal
 
 pub returns : goal.returns

@@ -1,18 +1,18 @@
 use Rattle.std.proofs.Common.{◌≡◌, ◌+◌, ◌++◌, Bool, IsTrue, length, drop, sym, subst, arith}
 use Rattle.shore_disk.specs.Device.{History, seen}
-use Rattle.shore_log.proofs.PlaceLemmas.{piece, head_fits, none_short, body_is}
+use Rattle.shore_log.proofs.OffsetLemmas.{piece, head_fits, none_short, body_is}
 use Rattle.shore_log.proofs.ReadLemmas.{not_both}
 use Rattle.shore_log.proofs.reading.read_body.Goals as goal
 
 pub returns-in_default-clause-none : goal.returns-in_default-clause-none
 returns-in_default-clause-none g c honest short none group rest is some stands =
-    none_short (seen (g.D.Disk.history c.args.device.now)) c.args.at c.args.limit c.args.number group rest short (c.in_ok-head.ensures.none (cc c.in_default.is)) stands
+    none_short (seen (g.D.Disk.history c.args.device.now)) c.args.at c.args.device_bytes c.args.number group rest short (c.in_ok-head.ensures.none (cc c.in_default.is)) stands
 
 pub returns-then-not-fits-clause-none : goal.returns-then-not-fits-clause-none
 returns-then-not-fits-clause-none g c honest short none group rest is some stands =
     let h = c.in-Some.head in
     let head = rw c.in-Some.is at (c.in_ok-head.ensures.head honest) in
-    let facts = head_fits (seen (g.D.Disk.history c.args.device.now)) c.args.at c.args.limit h.len h.first c.args.number group rest short (omega arith) (omega arith) (omega arith) head is some stands in
+    let facts = head_fits (seen (g.D.Disk.history c.args.device.now)) c.args.at c.args.device_bytes h.len h.first c.args.number group rest short (omega arith) (omega arith) (omega arith) head is some stands in
     not_both c.fits.result (c.fits.ensures.1 (facts.0, facts.1, facts.2, omega (arith, facts.3))) c.if-not-fits.true
 
 pub returns-clause-body : goal.returns-clause-body

@@ -1,8 +1,8 @@
 use Rattle.std.proofs.Common.{◌≡◌, ◌+◌, length, drop, sym, subst, ◌∙◌, arith}
 use Rattle.shore_disk.specs.Device.{seen}
 use Rattle.shore_logrec.specs.Text.{texts}
-use Rattle.shore_log.specs.Places.{BodyAt}
-use Rattle.shore_log.proofs.PlaceLemmas.{same_frame}
+use Rattle.shore_log.specs.Offsets.{BodyAt}
+use Rattle.shore_log.proofs.OffsetLemmas.{same_frame}
 use Rattle.shore_log.proofs.reading.read_frame.Goals as goal
 
 pub returns-in-Ok-clause-frame : goal.returns-in-Ok-clause-frame

@@ -7,7 +7,7 @@ use Rattle.shore_logrec.proofs.TextLengths.{length-text}
 use Rattle.shore_log.specs.declared.reading.ReadError.{ReadError}
 use Rattle.shore_log.specs.Frames.{AreNumbered}
 use Rattle.shore_log.specs.Reading.{Reads}
-use Rattle.shore_log.proofs.ListLemmas.{texts-push}
+use Rattle.shore_log.proofs.LoggedLemmas.{texts-push}
 use Rattle.shore_log.proofs.ReadLemmas.{AreNumbered-push, Left, goes_on, fails, ends, not_both}
 use Rattle.shore_log.proofs.reading.read_group.Goals as goal
 

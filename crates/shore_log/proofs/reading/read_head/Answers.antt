@@ -1,6 +1,6 @@
 use Rattle.std.proofs.Common.{ℕ, ◌+◌, ◌++◌, List, drop, sym, ap, ◌∙◌, arith}
 use Rattle.shore_disk.specs.Device.{seen}
-use Rattle.shore_log.proofs.PlaceLemmas.{piece}
+use Rattle.shore_log.proofs.OffsetLemmas.{piece}
 use Rattle.shore_log.proofs.reading.read_head.Goals as goal
 
 pub returns-clause-head : goal.returns-clause-head

@@ -2,7 +2,7 @@ use Rattle.std.proofs.Common.{◌≡◌, ◌≤◌, ◌+◌, ◌++◌, ◌∷◌
 use Rattle.shore_disk.specs.Device.{History, seen}
 use Rattle.shore_model.specs.declared.log_records.LogRecord.{LogRecord}
 use Rattle.shore_log.specs.Frames.{AreNumbered, IsGroup, joined}
-use Rattle.shore_log.specs.Places.{GateAt, IsFrameAt, HasNoFrame, IsBadAt}
+use Rattle.shore_log.specs.Offsets.{GateAt, IsFrameAt, HasNoFrame, IsBadAt}
 use Rattle.shore_log.proofs.FrameLemmas.{joined-push}
 use Rattle.shore_log.proofs.ReadLemmas.{AreNumbered-append, length-texts}
 use Rattle.shore_log.proofs.StreamLemmas.{IsRead, begun, ended, ended_only, frame_on, stuck, stuck_only, damaged_at, kept}
@@ -54,11 +54,11 @@ returns-in_default-clause-undamaged g c honest short gs frames =
     let gate = subst (λ (k : History). GateAt (seen k) at c.in_ok-is_gate_open.field-0) (inv.same honest) (c.in_ok-is_gate_open.ensures.gate honest_there) in
     let number : c.len.result + 1 ≡ length c.loop-records.records.items + 1 = omega arith in
     let same = c.is_gate_open.ensures.same honest_there ∙ inv.same honest in
-    let none = subst (λ (k : History). length (seen k) ≤ c.args.limit → HasNoFrame (seen k) at (c.len.result + 1)) same (λ s. c.in_ok-group.ensures.none honest_then s (cc c.in_default.is)) short in
+    let none = subst (λ (k : History). length (seen k) ≤ c.args.device_bytes → HasNoFrame (seen k) at (c.len.result + 1)) same (λ s. c.in_ok-group.ensures.none honest_then s (cc c.in_default.is)) short in
     absurd (stuck_only c.args.from image r.0 (length c.loop-records.records.items + 1) at r.1 c.in_ok-is_gate_open.field-0 gate c.if-branch.true (subst (HasNoFrame image at) number none) gs frames)
 
 pub returns-in_default-clause-damaged : goal.returns-in_default-clause-damaged
-returns-in_default-clause-damaged g c honest short place is =
+returns-in_default-clause-damaged g c honest short offset is =
     let inv = c.loop-records.invariant in
     let image = seen (g.D.Disk.history c.args.device.now) in
     let at = c.loop-records.at in
@@ -68,8 +68,8 @@ returns-in_default-clause-damaged g c honest short place is =
     let gate = subst (λ (k : History). GateAt (seen k) at c.in_ok-is_gate_open.field-0) (inv.same honest) (c.in_ok-is_gate_open.ensures.gate honest_there) in
     let number : c.len.result + 1 ≡ length c.loop-records.records.items + 1 = omega arith in
     let same = c.is_gate_open.ensures.same honest_there ∙ inv.same honest in
-    let none = subst (λ (k : History). length (seen k) ≤ c.args.limit → HasNoFrame (seen k) at (c.len.result + 1)) same (λ s. c.in_ok-group.ensures.none honest_then s (cc c.in_default.is)) short in
-    subst (IsBadAt c.args.from image) (damaged_at c.damaged.result at place c.damaged.ensures is)
+    let none = subst (λ (k : History). length (seen k) ≤ c.args.device_bytes → HasNoFrame (seen k) at (c.len.result + 1)) same (λ s. c.in_ok-group.ensures.none honest_then s (cc c.in_default.is)) short in
+    subst (IsBadAt c.args.from image) (damaged_at c.damaged.result at offset c.damaged.ensures is)
     (stuck c.args.from image r.0 (length c.loop-records.records.items + 1) at r.1 c.in_ok-is_gate_open.field-0 gate c.if-branch.true (subst (HasNoFrame image at) number none))
 
 pub returns-clause-found : goal.returns-clause-found
@@ -78,7 +78,7 @@ returns-clause-found g c honest =
     let at = c.loop-records.at in
     let r = inv.read honest in
     let gate = subst (λ (k : History). GateAt (seen k) at c.in_ok-is_gate_open.field-0) (inv.same honest) (c.in_ok-is_gate_open.ensures.gate (subst (λ (b : Bool). IsTrue b) (sym inv.honest) honest)) in
-    (r.0, ended c.args.from (seen (g.D.Disk.history c.args.device.now)) r.0 (length c.loop-records.records.items + 1) at r.1 c.in_ok-is_gate_open.field-0 gate c.if-branch.false, r.2, r.1.place_is)
+    (r.0, ended c.args.from (seen (g.D.Disk.history c.args.device.now)) r.0 (length c.loop-records.records.items + 1) at r.1 c.in_ok-is_gate_open.field-0 gate c.if-branch.false, r.2, r.1.offset_is)
 
 pub returns-clause-only : goal.returns-clause-only
 returns-clause-only g c honest gs frames =

@@ -9,7 +9,7 @@ abbrev pub invariant-loop-records : goal.invariant-loop-records
 invariant-loop-records g l = record {
   numbered : AreNumbered 1 l.records.items;
   least : l.fn.from ≤ l.at;
-  most : l.at < l.limit;
+  most : l.at < l.device_bytes;
   same : IsTrue (g.D.Disk.is_honest l.initial.device) → g.D.Disk.history l.device ≡ g.D.Disk.history l.initial.device;
   honest : g.D.Disk.is_honest l.device ≡ g.D.Disk.is_honest l.initial.device;
   size : size (g.D.Disk.history l.device) ≡ size (g.D.Disk.history l.initial.device);
@@ -19,4 +19,4 @@ invariant-loop-records g l = record {
 }
 
 abbrev pub decreases-loop-records : goal.decreases-loop-records
-decreases-loop-records g l = l.limit - l.at
+decreases-loop-records g l = l.device_bytes - l.at

@@ -4,4 +4,4 @@ use Rattle.shore_page.proofs.writing.put.Goals as goal
 
 pub returns : goal.returns
 returns c =
-    write_is c.args.place (c.args.place + length c.args.bytes.now - c.args.place) c.args.out.now c.copy_from_slice.new.self c.args.bytes.now (omega arith) c.copy_from_slice.ensures.after (omega arith)
+    write_is c.args.position (c.args.position + length c.args.bytes.now - c.args.position) c.args.out.now c.copy_from_slice.new.self c.args.bytes.now (omega arith) c.copy_from_slice.ensures.after (omega arith)

@@ -1,7 +1,8 @@
 use Rattle.std.proofs.Common.{◌+◌, ◌<◌, length, refl, ap, ◌∙◌, subst, arith}
 use Rattle.std.proofs.lemmas.List.{length-map}
 use Rattle.std.proofs.lemmas.Option.{slice_get_within}
-use Rattle.shore_page.specs.Slots.{Image, Slot, image_len}
+use Rattle.shore_page.specs.Slots.{Slot, image_len}
+use Rattle.shore_types.specs.Images.{Image}
 use Rattle.shore_page.specs.Text.{table_of, images_of, HasSlot}
 use Rattle.shore_page.proofs.SlotsWritten.{written_none, written_more}
 use Rattle.shore_page.proofs.WritingLemmas.{KeepsBeside-then}
@@ -33,5 +34,5 @@ returns-clause-slots c slot image got =
     c.loop-slot.invariant.written.each slot image (omega (arith, length-map c.args.slots.now (λ (s : Slot). s.image))) got
 
 pub returns-clause-apart : goal.returns-clause-apart
-returns-clause-apart c a b place before_a before_b covers_a covers_b =
-    c.loop-slot.invariant.written.apart a b place (omega arith) (omega arith) covers_a covers_b
+returns-clause-apart c a b position before_a before_b covers_a covers_b =
+    c.loop-slot.invariant.written.apart a b position (omega arith) (omega arith) covers_a covers_b

@@ -4,7 +4,7 @@ use Rattle.shore_page.proofs.WritingLemmas.{number_written, number_beside}
 use Rattle.shore_page.proofs.writing.put_u16.Goals as goal
 
 pub returns-clause-here : goal.returns-clause-here
-returns-clause-here c = number_written c.args.out.now c.put.new.out c.args.place 2 c.args.number (subst (λ (w : List ℕ). Writes c.args.out.now c.put.new.out c.args.place w) c.write_u16.ensures c.put.ensures) (omega arith)
+returns-clause-here c = number_written c.args.out.now c.put.new.out c.args.position 2 c.args.number (subst (λ (w : List ℕ). Writes c.args.out.now c.put.new.out c.args.position w) c.write_u16.ensures c.put.ensures) (omega arith)
 
 pub returns-clause-beside : goal.returns-clause-beside
-returns-clause-beside c = number_beside c.args.out.now c.put.new.out c.args.place 2 c.args.number (subst (λ (w : List ℕ). Writes c.args.out.now c.put.new.out c.args.place w) c.write_u16.ensures c.put.ensures)
+returns-clause-beside c = number_beside c.args.out.now c.put.new.out c.args.position 2 c.args.number (subst (λ (w : List ℕ). Writes c.args.out.now c.put.new.out c.args.position w) c.write_u16.ensures c.put.ensures)

@@ -31,7 +31,7 @@ returns-clause-found g c honest =
     let later = subst IsTrue (sym c.read_label.ensures.honest) on in
     let moved = c.in_ok-sync.ensures.synced honest in
     let same : seen (g.D.Disk.history c.read_label.new.disk) ≡ seen (g.D.Disk.history c.args.log.now) = ap (λ (h : History). seen h) (c.read_label.ensures.same on ∙ moved) in
-    found_front _ _ c.in_ok-label.label c.in_ok-counting.counting.slot c.in_ok-counting.counting.anchor c.place-anchor_place.result
+    found_front _ _ c.in_ok-label.label c.in_ok-counting.counting.slot c.in_ok-counting.counting.anchor c.offset-anchor_offset.result
     (subst (λ (h : History). HoldsLabel Log (size h) (take 512 (seen h)) c.in_ok-label.label) moved (c.in_ok-label.ensures.found on))
     (subst (λ (i : List ℕ). Counts i c.in_ok-counting.counting.slot c.in_ok-counting.counting.anchor) same (c.in_ok-counting.ensures.found later))
-    (sym c.is_first.ensures ∙ c.if-not-is_first.false) c.place-anchor_place.ensures
+    (sym c.is_first.ensures ∙ c.if-not-is_first.false) c.offset-anchor_offset.ensures

@@ -5,58 +5,58 @@ use Rattle.slab.specs.Slab.{HasRoomFor, Updates, slab_len}
 use Rattle.shore_model.specs.Requests.{AreRequests, are_alike}
 use Rattle.shore_locks.specs.Grants.{removed}
 use Rattle.shore_locks.specs.Nodes.{alive, requests_in}
-use Rattle.shore_locks.proofs.NodeSteps.{found_there, found_within, less_requests, less_threaded, more_requests, more_threaded, node_any, none_of_any, on_some, place_is, search_found, search_none}
+use Rattle.shore_locks.proofs.NodeSteps.{found_there, found_within, less_requests, less_linked, more_requests, more_linked, node_any, none_of_any, on_some, place_is, search_found, search_none}
 use Rattle.shore_locks.proofs.nodes.Nodes.move_last.Goals as goal
 
-pub unthread-requires-clause-queue_place : goal.unthread-requires-clause-queue_place
-unthread-requires-clause-queue_place c = (found_within c.self.inside.heads c.self.inside.slots c.self.inside.queues c.self.inside.lists (alive c.self.inside.history.items) c.args.request.now c.in-Some.place c.self.invariant (search_found c.self.inside.heads c.self.inside.slots c.self.inside.queues c.self.inside.lists (alive c.self.inside.history.items) c.args.request.now c.queue_head-head.result c.in-Some.place c.new-walk.result c.self.invariant c.queue_head-head.ensures.is c.new-walk.ensures c.in-Some.ensures)).0
+pub unlink_node-requires-clause-queue_node : goal.unlink_node-requires-clause-queue_node
+unlink_node-requires-clause-queue_node c = (found_within c.self.inside.heads c.self.inside.slots c.self.inside.queues c.self.inside.lists (alive c.self.inside.history.items) c.args.request.now c.in-Some.node c.self.invariant (search_found c.self.inside.heads c.self.inside.slots c.self.inside.queues c.self.inside.lists (alive c.self.inside.history.items) c.args.request.now c.queue_head-head.result c.in-Some.node c.new-walk.result c.self.invariant c.queue_head-head.ensures.is c.new-walk.ensures c.in-Some.ensures)).0
 
-pub unthread-requires-clause-list_place : goal.unthread-requires-clause-list_place
-unthread-requires-clause-list_place c = (found_within c.self.inside.heads c.self.inside.slots c.self.inside.queues c.self.inside.lists (alive c.self.inside.history.items) c.args.request.now c.in-Some.place c.self.invariant (search_found c.self.inside.heads c.self.inside.slots c.self.inside.queues c.self.inside.lists (alive c.self.inside.history.items) c.args.request.now c.queue_head-head.result c.in-Some.place c.new-walk.result c.self.invariant c.queue_head-head.ensures.is c.new-walk.ensures c.in-Some.ensures)).1
+pub unlink_node-requires-clause-list_node : goal.unlink_node-requires-clause-list_node
+unlink_node-requires-clause-list_node c = (found_within c.self.inside.heads c.self.inside.slots c.self.inside.queues c.self.inside.lists (alive c.self.inside.history.items) c.args.request.now c.in-Some.node c.self.invariant (search_found c.self.inside.heads c.self.inside.slots c.self.inside.queues c.self.inside.lists (alive c.self.inside.history.items) c.args.request.now c.queue_head-head.result c.in-Some.node c.new-walk.result c.self.invariant c.queue_head-head.ensures.is c.new-walk.ensures c.in-Some.ensures)).1
 
-pub thread-requires-clause-queue_place : goal.thread-requires-clause-queue_place
-thread-requires-clause-queue_place c =
-    subst (λ n. c.in-Some.place < n) (sym c.unthread.ensures.queue_places) (found_within c.self.inside.heads c.self.inside.slots c.self.inside.queues c.self.inside.lists (alive c.self.inside.history.items) c.args.request.now c.in-Some.place c.self.invariant (search_found c.self.inside.heads c.self.inside.slots c.self.inside.queues c.self.inside.lists (alive c.self.inside.history.items) c.args.request.now c.queue_head-head.result c.in-Some.place c.new-walk.result c.self.invariant c.queue_head-head.ensures.is c.new-walk.ensures c.in-Some.ensures)).0
+pub link_node-requires-clause-queue_node : goal.link_node-requires-clause-queue_node
+link_node-requires-clause-queue_node c =
+    subst (λ n. c.in-Some.node < n) (sym c.unlink_node.ensures.queue_nodes) (found_within c.self.inside.heads c.self.inside.slots c.self.inside.queues c.self.inside.lists (alive c.self.inside.history.items) c.args.request.now c.in-Some.node c.self.invariant (search_found c.self.inside.heads c.self.inside.slots c.self.inside.queues c.self.inside.lists (alive c.self.inside.history.items) c.args.request.now c.queue_head-head.result c.in-Some.node c.new-walk.result c.self.invariant c.queue_head-head.ensures.is c.new-walk.ensures c.in-Some.ensures)).0
 
-pub thread-requires-clause-list_place : goal.thread-requires-clause-list_place
-thread-requires-clause-list_place c =
-    subst (λ n. c.in-Some.place < n) (sym c.unthread.ensures.list_places) (found_within c.self.inside.heads c.self.inside.slots c.self.inside.queues c.self.inside.lists (alive c.self.inside.history.items) c.args.request.now c.in-Some.place c.self.invariant (search_found c.self.inside.heads c.self.inside.slots c.self.inside.queues c.self.inside.lists (alive c.self.inside.history.items) c.args.request.now c.queue_head-head.result c.in-Some.place c.new-walk.result c.self.invariant c.queue_head-head.ensures.is c.new-walk.ensures c.in-Some.ensures)).1
+pub link_node-requires-clause-list_node : goal.link_node-requires-clause-list_node
+link_node-requires-clause-list_node c =
+    subst (λ n. c.in-Some.node < n) (sym c.unlink_node.ensures.list_nodes) (found_within c.self.inside.heads c.self.inside.slots c.self.inside.queues c.self.inside.lists (alive c.self.inside.history.items) c.args.request.now c.in-Some.node c.self.invariant (search_found c.self.inside.heads c.self.inside.slots c.self.inside.queues c.self.inside.lists (alive c.self.inside.history.items) c.args.request.now c.queue_head-head.result c.in-Some.node c.new-walk.result c.self.invariant c.queue_head-head.ensures.is c.new-walk.ensures c.in-Some.ensures)).1
 
 pub insert-requires : goal.insert-requires
 insert-requires c =
-    let node = search_found c.self.inside.heads c.self.inside.slots c.self.inside.queues c.self.inside.lists (alive c.self.inside.history.items) c.args.request.now c.queue_head-head.result c.in-Some.place c.new-walk.result c.self.invariant c.queue_head-head.ensures.is c.new-walk.ensures c.in-Some.ensures in
-    let there : is_some c.try_remove.result ≡ true = ap is_some c.try_remove.ensures.value ∙ found_there c.self.inside.heads c.self.inside.slots c.self.inside.queues c.self.inside.lists c.self.inside.history.items c.args.request.now c.in-Some.place c.saturating_sub-key.result c.self.invariant node c.saturating_sub-key.ensures in
+    let alike_node = search_found c.self.inside.heads c.self.inside.slots c.self.inside.queues c.self.inside.lists (alive c.self.inside.history.items) c.args.request.now c.queue_head-head.result c.in-Some.node c.new-walk.result c.self.invariant c.queue_head-head.ensures.is c.new-walk.ensures c.in-Some.ensures in
+    let there : is_some c.try_remove.result ≡ true = ap is_some c.try_remove.ensures.value ∙ found_there c.self.inside.heads c.self.inside.slots c.self.inside.queues c.self.inside.lists c.self.inside.history.items c.args.request.now c.in-Some.node c.saturating_sub-key.result c.self.invariant alike_node c.saturating_sub-key.ensures in
     on_some (HasRoomFor c.try_remove.new.self 1) c.try_remove.result there c.try_remove.ensures.room
 
 pub invariant_of-self : goal.invariant_of-self
 invariant_of-self c =
-    let node = search_found c.self.inside.heads c.self.inside.slots c.self.inside.queues c.self.inside.lists (alive c.self.inside.history.items) c.args.request.now c.queue_head-head.result c.in-Some.place c.new-walk.result c.self.invariant c.queue_head-head.ensures.is c.new-walk.ensures c.in-Some.ensures in
-    let there : is_some c.try_remove.result ≡ true = ap is_some c.try_remove.ensures.value ∙ found_there c.self.inside.heads c.self.inside.slots c.self.inside.queues c.self.inside.lists c.self.inside.history.items c.args.request.now c.in-Some.place c.saturating_sub-key.result c.self.invariant node c.saturating_sub-key.ensures in
-    let gone = less_threaded c.self.inside.heads c.self.inside.slots c.self.inside.queues c.self.inside.lists c.self.inside.history.items c.args.request.now c.in-Some.place c.saturating_sub-key.result
-    c.try_remove.new.self c.unthread.new.queues c.unthread.new.lists c.and-gone.result.items c.self.invariant node c.saturating_sub-key.ensures c.try_remove.ensures.updates
+    let alike_node = search_found c.self.inside.heads c.self.inside.slots c.self.inside.queues c.self.inside.lists (alive c.self.inside.history.items) c.args.request.now c.queue_head-head.result c.in-Some.node c.new-walk.result c.self.invariant c.queue_head-head.ensures.is c.new-walk.ensures c.in-Some.ensures in
+    let there : is_some c.try_remove.result ≡ true = ap is_some c.try_remove.ensures.value ∙ found_there c.self.inside.heads c.self.inside.slots c.self.inside.queues c.self.inside.lists c.self.inside.history.items c.args.request.now c.in-Some.node c.saturating_sub-key.result c.self.invariant alike_node c.saturating_sub-key.ensures in
+    let gone = less_linked c.self.inside.heads c.self.inside.slots c.self.inside.queues c.self.inside.lists c.self.inside.history.items c.args.request.now c.in-Some.node c.saturating_sub-key.result
+    c.try_remove.new.self c.unlink_node.new.queues c.unlink_node.new.lists c.and-gone.result.items c.self.invariant alike_node c.saturating_sub-key.ensures c.try_remove.ensures.updates
     (on_some (slab_len c.try_remove.new.self + 1 ≡ slab_len c.self.inside.slots) c.try_remove.result there c.try_remove.ensures.len)
-    c.unthread.ensures.queues c.unthread.ensures.lists c.unthread.ensures.queue_places c.unthread.ensures.list_places c.and-gone.ensures in
+    c.unlink_node.ensures.queues c.unlink_node.ensures.lists c.unlink_node.ensures.queue_nodes c.unlink_node.ensures.list_nodes c.and-gone.ensures in
     let next = on_some (c.try_remove.new.self.vacant_key ≡ c.saturating_sub-key.result) c.try_remove.result there c.try_remove.ensures.key_is_next in
-    more_threaded c.self.inside.heads c.try_remove.new.self c.insert.new.slots c.unthread.new.queues c.unthread.new.lists c.thread.new.queues c.thread.new.lists c.and-gone.result.items c.and-self-inside.result.items
-    c.args.request.now c.saturating_sub-key.result c.in-Some.place gone c.try_remove.ensures.updates.changed (place_is c.self.inside.heads node.key c.in-Some.place node.at ∙ ap (λ k. c.self.inside.heads + k) (sym c.saturating_sub-key.ensures))
+    more_linked c.self.inside.heads c.try_remove.new.self c.insert.new.slots c.unlink_node.new.queues c.unlink_node.new.lists c.link_node.new.queues c.link_node.new.lists c.and-gone.result.items c.and-self-inside.result.items
+    c.args.request.now c.saturating_sub-key.result c.in-Some.node gone c.try_remove.ensures.updates.changed (place_is c.self.inside.heads alike_node.key c.in-Some.node alike_node.at ∙ ap (λ k. c.self.inside.heads + k) (sym c.saturating_sub-key.ensures))
     (subst (λ k. Updates c.try_remove.new.self c.insert.new.slots k (Some c.args.request.now)) next c.insert.ensures.updates) c.insert.ensures.len
-    c.thread.ensures.queues c.thread.ensures.lists c.thread.ensures.queue_places c.thread.ensures.list_places c.and-self-inside.ensures
+    c.link_node.ensures.queues c.link_node.ensures.lists c.link_node.ensures.queue_nodes c.link_node.ensures.list_nodes c.and-self-inside.ensures
 
 pub returns-in-Some : goal.returns-in-Some
 returns-in-Some c =
-    let node = search_found c.self.inside.heads c.self.inside.slots c.self.inside.queues c.self.inside.lists (alive c.self.inside.history.items) c.args.request.now c.queue_head-head.result c.in-Some.place c.new-walk.result c.self.invariant c.queue_head-head.ensures.is c.new-walk.ensures c.in-Some.ensures in
-    let there : is_some c.try_remove.result ≡ true = ap is_some c.try_remove.ensures.value ∙ found_there c.self.inside.heads c.self.inside.slots c.self.inside.queues c.self.inside.lists c.self.inside.history.items c.args.request.now c.in-Some.place c.saturating_sub-key.result c.self.invariant node c.saturating_sub-key.ensures in
-    let gone = less_threaded c.self.inside.heads c.self.inside.slots c.self.inside.queues c.self.inside.lists c.self.inside.history.items c.args.request.now c.in-Some.place c.saturating_sub-key.result
-    c.try_remove.new.self c.unthread.new.queues c.unthread.new.lists c.and-gone.result.items c.self.invariant node c.saturating_sub-key.ensures c.try_remove.ensures.updates
+    let alike_node = search_found c.self.inside.heads c.self.inside.slots c.self.inside.queues c.self.inside.lists (alive c.self.inside.history.items) c.args.request.now c.queue_head-head.result c.in-Some.node c.new-walk.result c.self.invariant c.queue_head-head.ensures.is c.new-walk.ensures c.in-Some.ensures in
+    let there : is_some c.try_remove.result ≡ true = ap is_some c.try_remove.ensures.value ∙ found_there c.self.inside.heads c.self.inside.slots c.self.inside.queues c.self.inside.lists c.self.inside.history.items c.args.request.now c.in-Some.node c.saturating_sub-key.result c.self.invariant alike_node c.saturating_sub-key.ensures in
+    let gone = less_linked c.self.inside.heads c.self.inside.slots c.self.inside.queues c.self.inside.lists c.self.inside.history.items c.args.request.now c.in-Some.node c.saturating_sub-key.result
+    c.try_remove.new.self c.unlink_node.new.queues c.unlink_node.new.lists c.and-gone.result.items c.self.invariant alike_node c.saturating_sub-key.ensures c.try_remove.ensures.updates
     (on_some (slab_len c.try_remove.new.self + 1 ≡ slab_len c.self.inside.slots) c.try_remove.result there c.try_remove.ensures.len)
-    c.unthread.ensures.queues c.unthread.ensures.lists c.unthread.ensures.queue_places c.unthread.ensures.list_places c.and-gone.ensures in
+    c.unlink_node.ensures.queues c.unlink_node.ensures.lists c.unlink_node.ensures.queue_nodes c.unlink_node.ensures.list_nodes c.and-gone.ensures in
     let next = on_some (c.try_remove.new.self.vacant_key ≡ c.saturating_sub-key.result) c.try_remove.result there c.try_remove.ensures.key_is_next in (
-      ap (λ rs. list_any (λ q. are_alike q c.args.request.now) rs) (sym c.self.view_is) ∙ node_any c.self.inside.heads c.self.inside.slots (alive c.self.inside.history.items) c.args.request.now c.in-Some.place node,
-      more_requests c.self.inside.heads c.try_remove.new.self c.insert.new.slots c.unthread.new.queues c.unthread.new.lists c.and-gone.result.items c.and-self-inside.result.items c.args.request.now c.saturating_sub-key.result gone
+      ap (λ rs. list_any (λ q. are_alike q c.args.request.now) rs) (sym c.self.view_is) ∙ node_any c.self.inside.heads c.self.inside.slots (alive c.self.inside.history.items) c.args.request.now c.in-Some.node alike_node,
+      more_requests c.self.inside.heads c.try_remove.new.self c.insert.new.slots c.unlink_node.new.queues c.unlink_node.new.lists c.and-gone.result.items c.and-self-inside.result.items c.args.request.now c.saturating_sub-key.result gone
           c.try_remove.ensures.updates.changed (subst (λ k. Updates c.try_remove.new.self c.insert.new.slots k (Some c.args.request.now)) next c.insert.ensures.updates) c.and-self-inside.ensures
           ∙ ap (λ xs. xs ++ c.args.request.now ∷ [])
-          (less_requests c.self.inside.heads c.self.inside.slots c.self.inside.queues c.self.inside.lists c.self.inside.history.items c.args.request.now c.in-Some.place c.saturating_sub-key.result
-          c.try_remove.new.self c.and-gone.result.items (subst AreRequests (sym c.self.view_is) c.requires) node c.saturating_sub-key.ensures c.try_remove.ensures.updates c.and-gone.ensures
+          (less_requests c.self.inside.heads c.self.inside.slots c.self.inside.queues c.self.inside.lists c.self.inside.history.items c.args.request.now c.in-Some.node c.saturating_sub-key.result
+          c.try_remove.new.self c.and-gone.result.items (subst AreRequests (sym c.self.view_is) c.requires) alike_node c.saturating_sub-key.ensures c.try_remove.ensures.updates c.and-gone.ensures
           ∙ ap (removed c.args.request.now) c.self.view_is),
     )
 

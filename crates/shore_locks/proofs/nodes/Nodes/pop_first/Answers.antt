@@ -4,31 +4,31 @@ use Rattle.slab.specs.Slab.{slab_len}
 use Rattle.shore_model.specs.Requests.{AreRequests, requests_by}
 use Rattle.shore_locks.specs.Grants.{removed}
 use Rattle.shore_locks.specs.Nodes.{alive}
-use Rattle.shore_locks.proofs.NodeSteps.{first_node, first_request, found_there, found_within, less_requests, less_threaded, no_request, on_some}
+use Rattle.shore_locks.proofs.NodeSteps.{first_node, first_request, found_there, found_within, less_requests, less_linked, no_request, on_some}
 use Rattle.shore_locks.proofs.nodes.Nodes.pop_first.Goals as goal
 
-pub unthread-requires-clause-queue_place : goal.unthread-requires-clause-queue_place
-unthread-requires-clause-queue_place c = (found_within c.self.inside.heads c.self.inside.slots c.self.inside.queues c.self.inside.lists (alive c.self.inside.history.items) c.in-Some.request c.in-Some.place c.self.invariant (first_node c.self.inside.heads c.self.inside.slots c.self.inside.queues c.self.inside.lists (alive c.self.inside.history.items) c.args.txn c.list_head-head.result c.new-walk.result (c.in-Some.place, c.in-Some.request) c.self.invariant c.list_head-head.ensures.is c.new-walk.ensures c.in-Some.ensures)).0
+pub unlink_node-requires-clause-queue_node : goal.unlink_node-requires-clause-queue_node
+unlink_node-requires-clause-queue_node c = (found_within c.self.inside.heads c.self.inside.slots c.self.inside.queues c.self.inside.lists (alive c.self.inside.history.items) c.in-Some.request c.in-Some.node c.self.invariant (first_node c.self.inside.heads c.self.inside.slots c.self.inside.queues c.self.inside.lists (alive c.self.inside.history.items) c.args.txn c.list_head-head.result c.new-walk.result (c.in-Some.node, c.in-Some.request) c.self.invariant c.list_head-head.ensures.is c.new-walk.ensures c.in-Some.ensures)).0
 
-pub unthread-requires-clause-list_place : goal.unthread-requires-clause-list_place
-unthread-requires-clause-list_place c = (found_within c.self.inside.heads c.self.inside.slots c.self.inside.queues c.self.inside.lists (alive c.self.inside.history.items) c.in-Some.request c.in-Some.place c.self.invariant (first_node c.self.inside.heads c.self.inside.slots c.self.inside.queues c.self.inside.lists (alive c.self.inside.history.items) c.args.txn c.list_head-head.result c.new-walk.result (c.in-Some.place, c.in-Some.request) c.self.invariant c.list_head-head.ensures.is c.new-walk.ensures c.in-Some.ensures)).1
+pub unlink_node-requires-clause-list_node : goal.unlink_node-requires-clause-list_node
+unlink_node-requires-clause-list_node c = (found_within c.self.inside.heads c.self.inside.slots c.self.inside.queues c.self.inside.lists (alive c.self.inside.history.items) c.in-Some.request c.in-Some.node c.self.invariant (first_node c.self.inside.heads c.self.inside.slots c.self.inside.queues c.self.inside.lists (alive c.self.inside.history.items) c.args.txn c.list_head-head.result c.new-walk.result (c.in-Some.node, c.in-Some.request) c.self.invariant c.list_head-head.ensures.is c.new-walk.ensures c.in-Some.ensures)).1
 
 pub invariant_of-self : goal.invariant_of-self
 invariant_of-self c =
-    let node = first_node c.self.inside.heads c.self.inside.slots c.self.inside.queues c.self.inside.lists (alive c.self.inside.history.items) c.args.txn c.list_head-head.result c.new-walk.result (c.in-Some.place, c.in-Some.request) c.self.invariant c.list_head-head.ensures.is c.new-walk.ensures c.in-Some.ensures in
-    let there : is_some c.try_remove.result ≡ true = ap is_some c.try_remove.ensures.value ∙ found_there c.self.inside.heads c.self.inside.slots c.self.inside.queues c.self.inside.lists c.self.inside.history.items c.in-Some.request c.in-Some.place c.saturating_sub-key.result c.self.invariant node c.saturating_sub-key.ensures in
-    less_threaded c.self.inside.heads c.self.inside.slots c.self.inside.queues c.self.inside.lists c.self.inside.history.items c.in-Some.request c.in-Some.place c.saturating_sub-key.result
-    c.try_remove.new.self c.unthread.new.queues c.unthread.new.lists c.and-self-inside.result.items c.self.invariant node c.saturating_sub-key.ensures c.try_remove.ensures.updates
+    let alike_node = first_node c.self.inside.heads c.self.inside.slots c.self.inside.queues c.self.inside.lists (alive c.self.inside.history.items) c.args.txn c.list_head-head.result c.new-walk.result (c.in-Some.node, c.in-Some.request) c.self.invariant c.list_head-head.ensures.is c.new-walk.ensures c.in-Some.ensures in
+    let there : is_some c.try_remove.result ≡ true = ap is_some c.try_remove.ensures.value ∙ found_there c.self.inside.heads c.self.inside.slots c.self.inside.queues c.self.inside.lists c.self.inside.history.items c.in-Some.request c.in-Some.node c.saturating_sub-key.result c.self.invariant alike_node c.saturating_sub-key.ensures in
+    less_linked c.self.inside.heads c.self.inside.slots c.self.inside.queues c.self.inside.lists c.self.inside.history.items c.in-Some.request c.in-Some.node c.saturating_sub-key.result
+    c.try_remove.new.self c.unlink_node.new.queues c.unlink_node.new.lists c.and-self-inside.result.items c.self.invariant alike_node c.saturating_sub-key.ensures c.try_remove.ensures.updates
     (on_some (slab_len c.try_remove.new.self + 1 ≡ slab_len c.self.inside.slots) c.try_remove.result there c.try_remove.ensures.len)
-    c.unthread.ensures.queues c.unthread.ensures.lists c.unthread.ensures.queue_places c.unthread.ensures.list_places c.and-self-inside.ensures
+    c.unlink_node.ensures.queues c.unlink_node.ensures.lists c.unlink_node.ensures.queue_nodes c.unlink_node.ensures.list_nodes c.and-self-inside.ensures
 
 pub returns-in-Some : goal.returns-in-Some
 returns-in-Some c =
-    let node = first_node c.self.inside.heads c.self.inside.slots c.self.inside.queues c.self.inside.lists (alive c.self.inside.history.items) c.args.txn c.list_head-head.result c.new-walk.result (c.in-Some.place, c.in-Some.request) c.self.invariant c.list_head-head.ensures.is c.new-walk.ensures c.in-Some.ensures in (
-      first_request c.self.inside.heads c.self.inside.slots c.self.inside.queues c.self.inside.lists (alive c.self.inside.history.items) c.args.txn c.list_head-head.result c.new-walk.result (c.in-Some.place, c.in-Some.request) c.self.invariant c.list_head-head.ensures.is c.new-walk.ensures c.in-Some.ensures
+    let alike_node = first_node c.self.inside.heads c.self.inside.slots c.self.inside.queues c.self.inside.lists (alive c.self.inside.history.items) c.args.txn c.list_head-head.result c.new-walk.result (c.in-Some.node, c.in-Some.request) c.self.invariant c.list_head-head.ensures.is c.new-walk.ensures c.in-Some.ensures in (
+      first_request c.self.inside.heads c.self.inside.slots c.self.inside.queues c.self.inside.lists (alive c.self.inside.history.items) c.args.txn c.list_head-head.result c.new-walk.result (c.in-Some.node, c.in-Some.request) c.self.invariant c.list_head-head.ensures.is c.new-walk.ensures c.in-Some.ensures
           ∙ ap (λ rs. slice_get (requests_by c.args.txn rs) 0) c.self.view_is,
-      less_requests c.self.inside.heads c.self.inside.slots c.self.inside.queues c.self.inside.lists c.self.inside.history.items c.in-Some.request c.in-Some.place c.saturating_sub-key.result
-          c.try_remove.new.self c.and-self-inside.result.items (subst AreRequests (sym c.self.view_is) c.requires) node c.saturating_sub-key.ensures c.try_remove.ensures.updates c.and-self-inside.ensures
+      less_requests c.self.inside.heads c.self.inside.slots c.self.inside.queues c.self.inside.lists c.self.inside.history.items c.in-Some.request c.in-Some.node c.saturating_sub-key.result
+          c.try_remove.new.self c.and-self-inside.result.items (subst AreRequests (sym c.self.view_is) c.requires) alike_node c.saturating_sub-key.ensures c.try_remove.ensures.updates c.and-self-inside.ensures
           ∙ ap (removed c.in-Some.request) c.self.view_is,
     )
 

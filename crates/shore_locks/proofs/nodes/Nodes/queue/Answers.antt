@@ -1,7 +1,7 @@
 use Rattle.std.proofs.Common.{ℕ, map, ap, ◌∙◌}
 use Rattle.shore_model.specs.declared.requests.Request.{Request}
 use Rattle.shore_model.specs.Requests.{requests_at}
-use Rattle.shore_links.specs.Rings.{after_at}
+use Rattle.shore_rings.specs.Rings.{after_at}
 use Rattle.slab.specs.Slab.{slab_len}
 use Rattle.shore_locks.specs.Nodes.{alive, granule_number, pairs_from}
 use Rattle.shore_locks.proofs.NodeLemmas.{queue_requests}

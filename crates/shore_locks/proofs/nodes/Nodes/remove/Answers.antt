@@ -3,35 +3,35 @@ use Rattle.slab.specs.Slab.{slab_len}
 use Rattle.shore_model.specs.Requests.{AreRequests}
 use Rattle.shore_locks.specs.Grants.{removed}
 use Rattle.shore_locks.specs.Nodes.{alive, requests_in}
-use Rattle.shore_locks.proofs.NodeSteps.{found_there, found_within, less_requests, less_threaded, on_some, search_found, search_none}
+use Rattle.shore_locks.proofs.NodeSteps.{found_there, found_within, less_requests, less_linked, on_some, search_found, search_none}
 use Rattle.shore_locks.proofs.Others.{removed_none}
 use Rattle.std.specs.Prelude.{is_some}
 use Rattle.shore_locks.proofs.nodes.Nodes.remove.Goals as goal
 
-pub unthread-requires-clause-queue_place : goal.unthread-requires-clause-queue_place
-unthread-requires-clause-queue_place c =
-    (found_within c.self.inside.heads c.self.inside.slots c.self.inside.queues c.self.inside.lists (alive c.self.inside.history.items) c.args.request.now c.in-Some.place c.self.invariant
-    (search_found c.self.inside.heads c.self.inside.slots c.self.inside.queues c.self.inside.lists (alive c.self.inside.history.items) c.args.request.now c.queue_head-head.result c.in-Some.place c.new-walk.result c.self.invariant c.queue_head-head.ensures.is c.new-walk.ensures c.in-Some.ensures)).0
+pub unlink_node-requires-clause-queue_node : goal.unlink_node-requires-clause-queue_node
+unlink_node-requires-clause-queue_node c =
+    (found_within c.self.inside.heads c.self.inside.slots c.self.inside.queues c.self.inside.lists (alive c.self.inside.history.items) c.args.request.now c.in-Some.node c.self.invariant
+    (search_found c.self.inside.heads c.self.inside.slots c.self.inside.queues c.self.inside.lists (alive c.self.inside.history.items) c.args.request.now c.queue_head-head.result c.in-Some.node c.new-walk.result c.self.invariant c.queue_head-head.ensures.is c.new-walk.ensures c.in-Some.ensures)).0
 
-pub unthread-requires-clause-list_place : goal.unthread-requires-clause-list_place
-unthread-requires-clause-list_place c =
-    (found_within c.self.inside.heads c.self.inside.slots c.self.inside.queues c.self.inside.lists (alive c.self.inside.history.items) c.args.request.now c.in-Some.place c.self.invariant
-    (search_found c.self.inside.heads c.self.inside.slots c.self.inside.queues c.self.inside.lists (alive c.self.inside.history.items) c.args.request.now c.queue_head-head.result c.in-Some.place c.new-walk.result c.self.invariant c.queue_head-head.ensures.is c.new-walk.ensures c.in-Some.ensures)).1
+pub unlink_node-requires-clause-list_node : goal.unlink_node-requires-clause-list_node
+unlink_node-requires-clause-list_node c =
+    (found_within c.self.inside.heads c.self.inside.slots c.self.inside.queues c.self.inside.lists (alive c.self.inside.history.items) c.args.request.now c.in-Some.node c.self.invariant
+    (search_found c.self.inside.heads c.self.inside.slots c.self.inside.queues c.self.inside.lists (alive c.self.inside.history.items) c.args.request.now c.queue_head-head.result c.in-Some.node c.new-walk.result c.self.invariant c.queue_head-head.ensures.is c.new-walk.ensures c.in-Some.ensures)).1
 
 pub invariant_of-self : goal.invariant_of-self
 invariant_of-self c =
-    let node = search_found c.self.inside.heads c.self.inside.slots c.self.inside.queues c.self.inside.lists (alive c.self.inside.history.items) c.args.request.now c.queue_head-head.result c.in-Some.place c.new-walk.result c.self.invariant c.queue_head-head.ensures.is c.new-walk.ensures c.in-Some.ensures in
-    let there : is_some c.try_remove.result ≡ true = ap is_some c.try_remove.ensures.value ∙ found_there c.self.inside.heads c.self.inside.slots c.self.inside.queues c.self.inside.lists c.self.inside.history.items c.args.request.now c.in-Some.place c.saturating_sub-key.result c.self.invariant node c.saturating_sub-key.ensures in
-    less_threaded c.self.inside.heads c.self.inside.slots c.self.inside.queues c.self.inside.lists c.self.inside.history.items c.args.request.now c.in-Some.place c.saturating_sub-key.result
-    c.try_remove.new.self c.unthread.new.queues c.unthread.new.lists c.and-self-inside.result.items c.self.invariant node c.saturating_sub-key.ensures c.try_remove.ensures.updates
+    let alike_node = search_found c.self.inside.heads c.self.inside.slots c.self.inside.queues c.self.inside.lists (alive c.self.inside.history.items) c.args.request.now c.queue_head-head.result c.in-Some.node c.new-walk.result c.self.invariant c.queue_head-head.ensures.is c.new-walk.ensures c.in-Some.ensures in
+    let there : is_some c.try_remove.result ≡ true = ap is_some c.try_remove.ensures.value ∙ found_there c.self.inside.heads c.self.inside.slots c.self.inside.queues c.self.inside.lists c.self.inside.history.items c.args.request.now c.in-Some.node c.saturating_sub-key.result c.self.invariant alike_node c.saturating_sub-key.ensures in
+    less_linked c.self.inside.heads c.self.inside.slots c.self.inside.queues c.self.inside.lists c.self.inside.history.items c.args.request.now c.in-Some.node c.saturating_sub-key.result
+    c.try_remove.new.self c.unlink_node.new.queues c.unlink_node.new.lists c.and-self-inside.result.items c.self.invariant alike_node c.saturating_sub-key.ensures c.try_remove.ensures.updates
     (on_some (slab_len c.try_remove.new.self + 1 ≡ slab_len c.self.inside.slots) c.try_remove.result there c.try_remove.ensures.len)
-    c.unthread.ensures.queues c.unthread.ensures.lists c.unthread.ensures.queue_places c.unthread.ensures.list_places c.and-self-inside.ensures
+    c.unlink_node.ensures.queues c.unlink_node.ensures.lists c.unlink_node.ensures.queue_nodes c.unlink_node.ensures.list_nodes c.and-self-inside.ensures
 
 pub returns-in-Some : goal.returns-in-Some
 returns-in-Some c =
-    let node = search_found c.self.inside.heads c.self.inside.slots c.self.inside.queues c.self.inside.lists (alive c.self.inside.history.items) c.args.request.now c.queue_head-head.result c.in-Some.place c.new-walk.result c.self.invariant c.queue_head-head.ensures.is c.new-walk.ensures c.in-Some.ensures in
-    less_requests c.self.inside.heads c.self.inside.slots c.self.inside.queues c.self.inside.lists c.self.inside.history.items c.args.request.now c.in-Some.place c.saturating_sub-key.result
-    c.try_remove.new.self c.and-self-inside.result.items (subst AreRequests (sym c.self.view_is) c.requires) node c.saturating_sub-key.ensures c.try_remove.ensures.updates c.and-self-inside.ensures
+    let alike_node = search_found c.self.inside.heads c.self.inside.slots c.self.inside.queues c.self.inside.lists (alive c.self.inside.history.items) c.args.request.now c.queue_head-head.result c.in-Some.node c.new-walk.result c.self.invariant c.queue_head-head.ensures.is c.new-walk.ensures c.in-Some.ensures in
+    less_requests c.self.inside.heads c.self.inside.slots c.self.inside.queues c.self.inside.lists c.self.inside.history.items c.args.request.now c.in-Some.node c.saturating_sub-key.result
+    c.try_remove.new.self c.and-self-inside.result.items (subst AreRequests (sym c.self.view_is) c.requires) alike_node c.saturating_sub-key.ensures c.try_remove.ensures.updates c.and-self-inside.ensures
     ∙ ap (removed c.args.request.now) c.self.view_is
 
 pub returns-in_default : goal.returns-in_default

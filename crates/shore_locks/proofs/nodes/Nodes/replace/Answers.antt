@@ -2,26 +2,26 @@ use Rattle.std.proofs.Common.{sym, ap, subst, ◌∙◌}
 use Rattle.shore_model.specs.Requests.{AreRequests}
 use Rattle.shore_locks.specs.Grants.{replaced}
 use Rattle.shore_locks.specs.Nodes.{alive, requests_in}
-use Rattle.shore_locks.proofs.NodeSteps.{found_there, search_found, search_none, set_requests, set_threaded}
+use Rattle.shore_locks.proofs.NodeSteps.{found_there, search_found, search_none, set_requests, set_linked}
 use Rattle.shore_locks.proofs.Others.{replaced_none}
 use Rattle.shore_locks.proofs.nodes.Nodes.replace.Goals as goal
 
 pub set_slot-requires : goal.set_slot-requires
 set_slot-requires c =
-    let node = search_found c.self.inside.heads c.self.inside.slots c.self.inside.queues c.self.inside.lists (alive c.self.inside.history.items) c.args.request.now c.queue_head-head.result c.in-Some.place c.new-walk.result c.self.invariant c.queue_head-head.ensures.is c.new-walk.ensures c.in-Some.ensures in
-    found_there c.self.inside.heads c.self.inside.slots c.self.inside.queues c.self.inside.lists c.self.inside.history.items c.args.request.now c.in-Some.place c.saturating_sub-key.result c.self.invariant node c.saturating_sub-key.ensures
+    let alike_node = search_found c.self.inside.heads c.self.inside.slots c.self.inside.queues c.self.inside.lists (alive c.self.inside.history.items) c.args.request.now c.queue_head-head.result c.in-Some.node c.new-walk.result c.self.invariant c.queue_head-head.ensures.is c.new-walk.ensures c.in-Some.ensures in
+    found_there c.self.inside.heads c.self.inside.slots c.self.inside.queues c.self.inside.lists c.self.inside.history.items c.args.request.now c.in-Some.node c.saturating_sub-key.result c.self.invariant alike_node c.saturating_sub-key.ensures
 
 pub invariant_of-self : goal.invariant_of-self
 invariant_of-self c =
-    let node = search_found c.self.inside.heads c.self.inside.slots c.self.inside.queues c.self.inside.lists (alive c.self.inside.history.items) c.args.request.now c.queue_head-head.result c.in-Some.place c.new-walk.result c.self.invariant c.queue_head-head.ensures.is c.new-walk.ensures c.in-Some.ensures in
-    set_threaded c.self.inside.heads c.self.inside.slots c.self.inside.queues c.self.inside.lists c.self.inside.history.items c.args.request.now c.in-Some.place c.saturating_sub-key.result
-    c.set_slot.new.slots c.self.invariant node c.saturating_sub-key.ensures c.set_slot.ensures.updates c.set_slot.ensures.len
+    let alike_node = search_found c.self.inside.heads c.self.inside.slots c.self.inside.queues c.self.inside.lists (alive c.self.inside.history.items) c.args.request.now c.queue_head-head.result c.in-Some.node c.new-walk.result c.self.invariant c.queue_head-head.ensures.is c.new-walk.ensures c.in-Some.ensures in
+    set_linked c.self.inside.heads c.self.inside.slots c.self.inside.queues c.self.inside.lists c.self.inside.history.items c.args.request.now c.in-Some.node c.saturating_sub-key.result
+    c.set_slot.new.slots c.self.invariant alike_node c.saturating_sub-key.ensures c.set_slot.ensures.updates c.set_slot.ensures.len
 
 pub returns-in-Some : goal.returns-in-Some
 returns-in-Some c =
-    let node = search_found c.self.inside.heads c.self.inside.slots c.self.inside.queues c.self.inside.lists (alive c.self.inside.history.items) c.args.request.now c.queue_head-head.result c.in-Some.place c.new-walk.result c.self.invariant c.queue_head-head.ensures.is c.new-walk.ensures c.in-Some.ensures in
-    set_requests c.self.inside.heads c.self.inside.slots c.self.inside.queues c.self.inside.lists c.self.inside.history.items c.args.request.now c.in-Some.place c.saturating_sub-key.result
-    c.set_slot.new.slots (subst AreRequests (sym c.self.view_is) c.requires) node c.saturating_sub-key.ensures c.set_slot.ensures.updates
+    let alike_node = search_found c.self.inside.heads c.self.inside.slots c.self.inside.queues c.self.inside.lists (alive c.self.inside.history.items) c.args.request.now c.queue_head-head.result c.in-Some.node c.new-walk.result c.self.invariant c.queue_head-head.ensures.is c.new-walk.ensures c.in-Some.ensures in
+    set_requests c.self.inside.heads c.self.inside.slots c.self.inside.queues c.self.inside.lists c.self.inside.history.items c.args.request.now c.in-Some.node c.saturating_sub-key.result
+    c.set_slot.new.slots (subst AreRequests (sym c.self.view_is) c.requires) alike_node c.saturating_sub-key.ensures c.set_slot.ensures.updates
     ∙ ap (replaced c.args.request.now) c.self.view_is
 
 pub returns-in_default : goal.returns-in_default

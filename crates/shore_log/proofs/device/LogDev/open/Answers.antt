@@ -5,7 +5,7 @@ use Rattle.shore_log.specs.Frames.{Frames}
 use Rattle.shore_log.proofs.ForceLemmas.{settled_from}
 use Rattle.shore_log.proofs.StreamLemmas.{frames_some}
 use Rattle.shore_log.proofs.ReadLemmas.{not_both}
-use Rattle.shore_log.proofs.ListLemmas.{test-AreNumbered}
+use Rattle.shore_log.proofs.LoggedLemmas.{test-AreNumbered}
 use Rattle.shore_log.proofs.device.LogDev.open.Goals as goal
 
 pub invariant_of-result : goal.invariant_of-result
@@ -44,12 +44,12 @@ pub returns-then-not-has_stream-clause-undamaged : goal.returns-then-not-has_str
 returns-then-not-has_stream-clause-undamaged g c honest short rs gives =
     let within = g.met.D.Disk.keeps_length c.args.device honest in
     let some = frames_some 4096 (seen (g.D.Disk.history c.args.device)) gives.0 gives.1 in
-    not_both c.has_stream.result (c.has_stream.ensures.1 (omega (arith, some, within, c.len-limit.ensures), omega (arith, short, c.len-limit.ensures))) c.if-not-has_stream.true
+    not_both c.has_stream.result (c.has_stream.ensures.1 (omega (arith, some, within, c.len-device_bytes.ensures), omega (arith, short, c.len-device_bytes.ensures))) c.if-not-has_stream.true
 
 pub returns-in-Err-clause-undamaged : goal.returns-in-Err-clause-undamaged
 returns-in-Err-clause-undamaged g c honest short rs gives =
-    c.in-Err.ensures.undamaged honest (omega (arith, g.met.D.Disk.keeps_length c.args.device honest, c.len-limit.ensures)) gives.0 gives.1
+    c.in-Err.ensures.undamaged honest (omega (arith, g.met.D.Disk.keeps_length c.args.device honest, c.len-device_bytes.ensures)) gives.0 gives.1
 
 pub returns-in-Err-clause-damaged : goal.returns-in-Err-clause-damaged
-returns-in-Err-clause-damaged g c honest some short place is =
-    c.in-Err.ensures.damaged honest (omega (arith, g.met.D.Disk.keeps_length c.args.device honest, c.len-limit.ensures)) place (cc is)
+returns-in-Err-clause-damaged g c honest some short offset is =
+    c.in-Err.ensures.damaged honest (omega (arith, g.met.D.Disk.keeps_length c.args.device honest, c.len-device_bytes.ensures)) offset (cc is)

@@ -8,32 +8,32 @@ use Rattle.shore_log.specs.Frames.{behind_gate, text, GivesWithOrWithout}
 use Rattle.shore_log.specs.Settled.{stable}
 use Rattle.shore_log.proofs.FrameLemmas.{AreGroups-front, text-push, joined-push, length-text-push}
 use Rattle.shore_log.proofs.ForceLemmas.{image, torn_gate, over_gate, number_of_staged}
-use Rattle.shore_log.proofs.ListLemmas.{take-more_group}
+use Rattle.shore_log.proofs.LoggedLemmas.{take-more_group}
 use Rattle.shore_log.proofs.device.LogDev.open_staged.Goals as goal
 
 pub returns-in_err-open_gate-clause-any_moment : goal.returns-in_err-open_gate-clause-any_moment
 returns-in_err-open_gate-clause-any_moment g c front group s =
     let old = c.args.self.now in
-    widened _ _ (TornFrom (4096 + old.place) 1 (g.D.Disk.history old.device)) (GivesWithOrWithout front (stable old) group) (c.open_gate.ensures.any_moment s.honest)
+    widened _ _ (TornFrom (4096 + old.offset) 1 (g.D.Disk.history old.device)) (GivesWithOrWithout front (stable old) group) (c.open_gate.ensures.any_moment s.honest)
     (λ i torn. subst (λ rs. GivesWithOrWithout front rs group i) (sym s.forced)
-    (torn_gate front s.front_long s.groups old.place s.place group s.gate s.rest (old.forced + 1) (number_of_staged old front group s) i (AreGroups-front 1 s.groups group s.are) s.are
-    (subst (λ d. Torn (4096 + old.place) 1 d i) (s.stands.only torn.0 torn.1) torn.2)))
+    (torn_gate front s.front_long s.groups old.offset s.offset group s.gate s.rest (old.forced + 1) (number_of_staged old front group s) i (AreGroups-front 1 s.groups group s.are) s.are
+    (subst (λ d. Torn (4096 + old.offset) 1 d i) (s.stands.only torn.0 torn.1) torn.2)))
 
 pub returns-clause-any_moment : goal.returns-clause-any_moment
 returns-clause-any_moment g c front group s =
     let old = c.args.self.now in
-    widened _ _ (TornFrom (4096 + old.place) 1 (g.D.Disk.history old.device)) (GivesWithOrWithout front (stable old) group) (c.open_gate.ensures.any_moment s.honest)
+    widened _ _ (TornFrom (4096 + old.offset) 1 (g.D.Disk.history old.device)) (GivesWithOrWithout front (stable old) group) (c.open_gate.ensures.any_moment s.honest)
     (λ i torn. subst (λ rs. GivesWithOrWithout front rs group i) (sym s.forced)
-    (torn_gate front s.front_long s.groups old.place s.place group s.gate s.rest (old.forced + 1) (number_of_staged old front group s) i (AreGroups-front 1 s.groups group s.are) s.are
-    (subst (λ d. Torn (4096 + old.place) 1 d i) (s.stands.only torn.0 torn.1) torn.2)))
+    (torn_gate front s.front_long s.groups old.offset s.offset group s.gate s.rest (old.forced + 1) (number_of_staged old front group s) i (AreGroups-front 1 s.groups group s.are) s.are
+    (subst (λ d. Torn (4096 + old.offset) 1 d i) (s.stands.only torn.0 torn.1) torn.2)))
 
 pub returns-clause-settled : goal.returns-clause-settled
 returns-clause-settled g c front group s =
     let old = c.args.self.now in
-    let place = old.place in
+    let offset = old.offset in
     let behind = behind_gate (old.forced + 1) (texts group) in
-    let opened : overwritten (image front s.front_long s.groups place s.place (s.gate ∷ (behind ++ 0 ∷ s.rest))) (4096 + place) (OPEN ∷ []) ≡ front ++ (text 1 (s.groups ++ group ∷ []) ++ 0 ∷ s.rest) =
-    over_gate front s.front_long s.groups place s.place s.gate OPEN (behind ++ 0 ∷ s.rest)
+    let opened : overwritten (image front s.front_long s.groups offset s.offset (s.gate ∷ (behind ++ 0 ∷ s.rest))) (4096 + offset) (OPEN ∷ []) ≡ front ++ (text 1 (s.groups ++ group ∷ []) ++ 0 ∷ s.rest) =
+    over_gate front s.front_long s.groups offset s.offset s.gate OPEN (behind ++ 0 ∷ s.rest)
     ∙ ap (λ (n : ℕ). front ++ (text 1 s.groups ++ OPEN ∷ (behind_gate n (texts group) ++ 0 ∷ s.rest))) (number_of_staged old front group s)
     ∙ ap (λ (l : List ℕ). front ++ l) (sym (text-push 1 s.groups group (0 ∷ s.rest))) in
     let len : c.in-Some.staged.len ≡ length (texts group) = cc (c.in-Some.is, s.waits) in
@@ -49,8 +49,8 @@ returns-clause-settled g c front group s =
         shut = omega arith;
         are = s.are;
         forced = longer ∙ ap (λ (l : List LogRecord). l ++ group) s.forced ∙ sym (joined-push s.groups group);
-        stands = subst (Stands (g.D.Disk.history c.open_gate.new.disk)) (ap (λ (i : List ℕ). overwritten i (4096 + place) (OPEN ∷ [])) s.stands.read ∙ opened) (c.in_ok-open_gate.ensures.open s.honest);
-        place = omega (arith, len, s.place, length-text-push 1 s.groups group);
+        stands = subst (Stands (g.D.Disk.history c.open_gate.new.disk)) (ap (λ (i : List ℕ). overwritten i (4096 + offset) (OPEN ∷ [])) s.stands.read ∙ opened) (c.in_ok-open_gate.ensures.open s.honest);
+        offset = omega (arith, len, s.offset, length-text-push 1 s.groups group);
       },
       longer,
     )

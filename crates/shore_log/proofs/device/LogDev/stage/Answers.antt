@@ -8,7 +8,7 @@ use Rattle.shore_log.specs.Frames.{behind_gate, text, GivesBehind, IsLongest}
 use Rattle.shore_log.specs.Settled.{stable, waiting}
 use Rattle.shore_log.proofs.FrameLemmas.{length-behind_gate}
 use Rattle.shore_log.proofs.ForceLemmas.{staged_from, settled_gives, torn_rest, over_rest}
-use Rattle.shore_log.proofs.ListLemmas.{none_longest}
+use Rattle.shore_log.proofs.LoggedLemmas.{none_longest}
 use Rattle.shore_log.proofs.device.LogDev.stage.Goals as goal
 
 pub returns-then-count-eq0-clause-none_waits : goal.returns-then-count-eq0-clause-none_waits
@@ -38,15 +38,15 @@ pub returns-in_err-write_synced-clause-any_moment : goal.returns-in_err-write_sy
 returns-in_err-write_synced-clause-any_moment g c front s none =
     let old = c.args.self.now in
     let n = length c.deref.result.now in
-    widened _ _ (TornFrom (4096 + old.place + 1) n (g.D.Disk.history old.device)) (GivesBehind front (stable old)) (c.write_synced.ensures.any_moment s.honest)
-    (λ i torn. subst (λ rs. GivesBehind front rs i) (sym s.forced) (torn_rest front s.front_long s.groups old.place s.place s.gate s.rest n i s.are s.shut (subst (λ d. Torn (4096 + old.place + 1) n d i) (s.stands.only torn.0 torn.1) torn.2)))
+    widened _ _ (TornFrom (4096 + old.offset + 1) n (g.D.Disk.history old.device)) (GivesBehind front (stable old)) (c.write_synced.ensures.any_moment s.honest)
+    (λ i torn. subst (λ rs. GivesBehind front rs i) (sym s.forced) (torn_rest front s.front_long s.groups old.offset s.offset s.gate s.rest n i s.are s.shut (subst (λ d. Torn (4096 + old.offset + 1) n d i) (s.stands.only torn.0 torn.1) torn.2)))
 
 pub returns-clause-any_moment : goal.returns-clause-any_moment
 returns-clause-any_moment g c front s none =
     let old = c.args.self.now in
     let n = length c.deref.result.now in
-    widened _ _ (TornFrom (4096 + old.place + 1) n (g.D.Disk.history old.device)) (GivesBehind front (stable old)) (c.write_synced.ensures.any_moment s.honest)
-    (λ i torn. subst (λ rs. GivesBehind front rs i) (sym s.forced) (torn_rest front s.front_long s.groups old.place s.place s.gate s.rest n i s.are s.shut (subst (λ d. Torn (4096 + old.place + 1) n d i) (s.stands.only torn.0 torn.1) torn.2)))
+    widened _ _ (TornFrom (4096 + old.offset + 1) n (g.D.Disk.history old.device)) (GivesBehind front (stable old)) (c.write_synced.ensures.any_moment s.honest)
+    (λ i torn. subst (λ rs. GivesBehind front rs i) (sym s.forced) (torn_rest front s.front_long s.groups old.offset s.offset s.gate s.rest n i s.are s.shut (subst (λ d. Torn (4096 + old.offset + 1) n d i) (s.stands.only torn.0 torn.1) torn.2)))
 
 pub returns-clause-staged : goal.returns-clause-staged
 returns-clause-staged g c front s none =
@@ -61,11 +61,11 @@ returns-clause-staged g c front s none =
     let spelled : bytes ≡ behind_gate number (texts group) ++ 0 ∷ [] =
     c.deref.ensures.value ∙ c.in_ok-bytes.ensures ∙ ap (λ (l : List LogRecord). behind_gate number (texts (take count l)) ++ 0 ∷ []) waits in
     let left = drop (length bytes) s.rest in
-    let written : overwritten (front ++ (text 1 s.groups ++ s.gate ∷ s.rest)) (4096 + old.place + 1) bytes ≡ front ++ (text 1 s.groups ++ s.gate ∷ (behind_gate number (texts group) ++ 0 ∷ left)) =
-    over_rest front s.front_long s.groups old.place s.place s.gate s.rest bytes
+    let written : overwritten (front ++ (text 1 s.groups ++ s.gate ∷ s.rest)) (4096 + old.offset + 1) bytes ≡ front ++ (text 1 s.groups ++ s.gate ∷ (behind_gate number (texts group) ++ 0 ∷ left)) =
+    over_rest front s.front_long s.groups old.offset s.offset s.gate s.rest bytes
     ∙ ap (λ (l : List ℕ). front ++ (text 1 s.groups ++ s.gate ∷ l)) (ap (λ (b : List ℕ). b ++ left) spelled ∙ append_assoc (behind_gate number (texts group)) (0 ∷ []) left) in
     let len_is : c.longest_group-count.result.1 ≡ length (texts group) = c.longest_group-count.ensures.len ∙ ap (λ (l : List LogRecord). length (texts (take count l))) waits in
     staged_from old _ front s count ((old.forced + count) - old.forced) c.longest_group-count.result.1 left (omega arith) (omega arith) longest
     (subst IsTrue (sym c.write_synced.ensures.honest) s.honest) refl refl refl
-    (subst (Stands (g.D.Disk.history c.write_synced.new.disk)) (ap (λ (i : List ℕ). overwritten i (4096 + old.place + 1) bytes) s.stands.read ∙ written) (c.in_ok-write_synced.ensures.stable s.honest))
+    (subst (Stands (g.D.Disk.history c.write_synced.new.disk)) (ap (λ (i : List ℕ). overwritten i (4096 + old.offset + 1) bytes) s.stands.read ∙ written) (c.in_ok-write_synced.ensures.stable s.honest))
     len_is refl

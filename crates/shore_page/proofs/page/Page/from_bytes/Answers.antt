@@ -1,7 +1,8 @@
 use Rattle.std.proofs.Common.{◌≡◌, ℕ, List, length, map, Some, sym, ap, subst, ◌∙◌, arith}
 use Rattle.shore_types.specs.declared.ids.PageId.{PageId}
 use Rattle.shore_page.specs.declared.reading.Header.{Header}
-use Rattle.shore_page.specs.Slots.{settled, Image, Slot, PageState}
+use Rattle.shore_page.specs.Slots.{settled, Slot, PageState}
+use Rattle.shore_types.specs.Images.{Image}
 use Rattle.shore_page.specs.Text.{IsPageText, images_of}
 use Rattle.shore_page.specs.Reading.{IsTable, images_in}
 use Rattle.shore_page.proofs.SlotsRead.{table_of_text, text_of_table, images_are, images_of-settled, table_kept, some_is}

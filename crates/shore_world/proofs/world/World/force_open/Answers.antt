@@ -2,10 +2,10 @@ use Rattle.std.proofs.Common.{◌≡◌, inl, inr, ◌≤◌, List, length, Ok, 
 use Rattle.shore_disk.specs.Device.{LeavesOnly}
 use Rattle.shore_model.specs.declared.log_records.LogRecord.{LogRecord}
 use Rattle.shore_machine.specs.States.{State}
-use Rattle.shore_machine.specs.Steps.{with_failure, told_durable}
+use Rattle.shore_machine.specs.Steps.{with_failure, with_durable}
 use Rattle.shore_machine.proofs.Growth.{same_grows}
 use Rattle.shore_log.specs.Frames.{GivesWithOrWithout}
-use Rattle.shore_log.specs.Settled.{list_of, stable}
+use Rattle.shore_log.specs.Settled.{records_of_log, stable}
 use Rattle.shore_log.specs.declared.device.LogDev.{LogDev}
 use Rattle.shore_core.specs.Cores.{state_of, tail_of}
 use Rattle.shore_log.specs.PlainTails.{waiting_in}
@@ -24,7 +24,7 @@ returns-in_default-clause-moves g c =
     let old = c.args.self.now in
     let running = sym c.has_failed.ensures ∙ c.if-has_failed.false in
     let unchanged = c.open_staged.ensures.nothing (c.in-Ok.is ∙ ap (λ n. Ok n) c.in_default.is) in
-    let same = ap (λ (l : LogDev g.row.D.Denot g.D.Disk). state_of (list_of l) old.core) unchanged in
+    let same = ap (λ (l : LogDev g.row.D.Denot g.D.Disk). state_of (records_of_log l) old.core) unchanged in
     nothing_done old _ ForceOpen _ refl (running, same) unchanged same
 
 pub returns-in-Err-clause-moves : goal.returns-in-Err-clause-moves
@@ -36,7 +36,7 @@ returns-in-Err-clause-moves g c =
     rw c.refuse.ensures.refused (elim c.refuse.ensures.state [
       | inl failed ↦
           let last = failed.1 ∙ ap with_failure same in
-          opening_gate old new ForceOpen _ c.refuse.ensures.geometry (inr (running, failed.0, last)) running (some_stands old.log.staged c.in-Err.ensures.waited) (ap (λ (s : State). s.list) last)
+          opening_gate old new ForceOpen _ c.refuse.ensures.geometry (inr (running, failed.0, last)) running (some_stands old.log.staged c.in-Err.ensures.waited) (ap (λ (s : State). s.log) last)
           (λ front group s. subst (λ (l : LogDev g.row.D.Denot g.D.Disk). LeavesOnly (g.D.Disk.history old.log.device) (g.D.Disk.history l.device) (GivesWithOrWithout front (stable old.log) group)) (sym c.refuse.ensures.log) (c.open_staged.ensures.any_moment front group s))
           (λ front group s. inl (ap (λ (s : State). s.durable) last, still_running (state_in old) (state_in new) last))
       | inr other ↦ absurd (other.0 c.in-Err.ensures.only_device)
@@ -49,10 +49,10 @@ returns-clause-moves g c =
     let told = rw c.in-Some.is at c.in-Ok.ensures.durable in
     let grown = rw c.in-Some.is at c.in-Ok.ensures.grown in
     let number : c.in-Some.durable.lsn ≡ c.number.result = told ∙ sym (c.number.ensures ∙ c.durable.ensures) in
-    let state = c.told.ensures.told (list_of c.open_staged.new.self) ∙ ap (λ (l : List LogRecord). told_durable c.in-Some.durable.lsn (state_of l old.core)) c.open_staged.ensures.same ∙ ap (λ n. told_durable n (state_in old)) number in
-    let before : (state_in old).durable ≡ length (stable old.log) = old.told in
-    let all : length (list_of c.open_staged.new.self) ≤ length (state_in old).list = omega (arith, ap length c.open_staged.ensures.same, length-append (list_of old.log) (waiting_in (tail_of old.core))) in
+    let state = c.told.ensures.told (records_of_log c.open_staged.new.self) ∙ ap (λ (l : List LogRecord). with_durable c.in-Some.durable.lsn (state_of l old.core)) c.open_staged.ensures.same ∙ ap (λ n. with_durable n (state_in old)) number in
+    let before : (state_in old).durable ≡ length (stable old.log) = old.durable_agrees in
+    let all : length (records_of_log c.open_staged.new.self) ≤ length (state_in old).log = omega (arith, ap length c.open_staged.ensures.same, length-append (records_of_log old.log) (waiting_in (tail_of old.core))) in
     opening_gate old _ ForceOpen _ c.told.ensures.geometry
     (running, omega (arith, before, number, grown.0), omega (arith, all, number, grown.1), state)
-    running (some_stands old.log.staged (c.in-Ok.ensures.opened.0 (rw c.in-Some.is refl))) (ap (λ (s : State). s.list) state) c.open_staged.ensures.any_moment
+    running (some_stands old.log.staged (c.in-Ok.ensures.opened.0 (rw c.in-Some.is refl))) (ap (λ (s : State). s.log) state) c.open_staged.ensures.any_moment
     (λ front group s. inr ((c.in-Ok.ensures.settled front group s).0, c.in-Ok.ensures.none_staged))

@@ -5,7 +5,7 @@ use Rattle.shore_machine.specs.States.{State}
 use Rattle.shore_machine.specs.Steps.{with_failure}
 use Rattle.shore_machine.proofs.Growth.{same_grows}
 use Rattle.shore_log.specs.Frames.{GivesBehind}
-use Rattle.shore_log.specs.Settled.{list_of, waiting, stable, IsSettled}
+use Rattle.shore_log.specs.Settled.{records_of_log, waiting, stable, IsSettled}
 use Rattle.shore_log.specs.PlainTails.{waiting_in}
 use Rattle.shore_log.specs.declared.device.LogDev.{LogDev}
 use Rattle.shore_core.specs.Cores.{state_of, tail_of}
@@ -42,7 +42,7 @@ returns-in-Ok-None-clause-moves g c =
     let running = sym c.has_failed.ensures ∙ c.if-has_failed.false in
     let still = c.hand_over.ensures.still in
     let unchanged = c.stage.ensures.nothing (c.in-Ok-None.is ∙ ap (λ n. Ok n) c.in-Ok-None.field-0-is) in
-    let same = ap (λ (l : LogDev g.row.D.Denot g.D.Disk). state_of (list_of l) c.hand_over.new.self) unchanged ∙ c.hand_over.ensures.state in
+    let same = ap (λ (l : LogDev g.row.D.Denot g.D.Disk). state_of (records_of_log l) c.hand_over.new.self) unchanged ∙ c.hand_over.ensures.state in
     handed old _ ForceStage _ c.hand_over.ensures.geometry (running, same) (ap (λ (l : LogDev g.row.D.Denot g.D.Disk). l.device) unchanged ∙ still.0) same none
     (ap (λ (l : LogDev g.row.D.Denot g.D.Disk). l.staged) unchanged ∙ still.1)
     (λ front s. subst (λ (l : LogDev g.row.D.Denot g.D.Disk). IsSettled l front) (sym unchanged) (c.hand_over.ensures.settled front s))
@@ -56,11 +56,11 @@ returns-in-Ok-Some-clause-moves g c =
     let still = c.hand_over.ensures.still in
     let same = ap (λ (l : List LogRecord). state_of l c.hand_over.new.self) c.stage.ensures.same.0 ∙ c.hand_over.ensures.state in
     let longest = rw c.in-Ok-Some.field-0-is at (c.in-Ok-Some.ensures.longest (still.1 ∙ none)) in
-    let forced : (state_in old).durable ≡ mid.forced = old.told ∙ sym (ap length still.2) ∙ length-stable mid in
-    let all : length (mid.records.items) ≤ length (state_in old).list = omega (arith, ap (λ (s : State). length s.list) c.hand_over.ensures.state, length-append mid.records.items (waiting_in (tail_of c.hand_over.new.self))) in
+    let forced : (state_in old).durable ≡ mid.forced = old.durable_agrees ∙ sym (ap length still.2) ∙ length-stable mid in
+    let all : length (mid.records.items) ≤ length (state_in old).log = omega (arith, ap (λ (s : State). length s.log) c.hand_over.ensures.state, length-append mid.records.items (waiting_in (tail_of c.hand_over.new.self))) in
     staging old _ mid ForceStage _ c.hand_over.ensures.geometry
     (running, omega (arith, forced, longest.0), omega (arith, all, longest.0, longest.1.within, length-drop mid.forced mid.records.items), same)
-    running none still.0 still.1 still.2 (ap (λ (s : State). s.list) same) (ap (λ (s : State). s.durable) same) c.hand_over.ensures.settled c.stage.ensures.any_moment
+    running none still.0 still.1 still.2 (ap (λ (s : State). s.log) same) (ap (λ (s : State). s.durable) same) c.hand_over.ensures.settled c.stage.ensures.any_moment
     (λ front s run. inr (take (c.in-Ok-Some.number - mid.forced) (waiting mid), rw c.in-Ok-Some.field-0-is at (c.in-Ok-Some.ensures.staged front s (still.1 ∙ none))))
 
 pub returns-in-Err-stage-clause-moves : goal.returns-in-Err-stage-clause-moves
@@ -78,7 +78,7 @@ returns-in-Err-stage-clause-moves g c =
       | inl failed ↦
           let last = failed.1 ∙ ap with_failure same in
           staging old new mid ForceStage _ geometry (inr (inl (running, failed.0, last))) running none still.0 still.1 still.2
-          (ap (λ (s : State). s.list) last) (ap (λ (s : State). s.durable) last) c.hand_over.ensures.settled
+          (ap (λ (s : State). s.log) last) (ap (λ (s : State). s.durable) last) c.hand_over.ensures.settled
           (λ front s waits. subst (λ (l : LogDev g.row.D.Denot g.D.Disk). LeavesOnly (g.D.Disk.history mid.device) (g.D.Disk.history l.device) (GivesBehind front (stable mid))) (sym c.refuse.ensures.log) (c.stage.ensures.any_moment front s waits))
           (λ front s run. absurd (still_running (state_in old) (state_in new) last run))
       | inr other ↦
@@ -101,9 +101,9 @@ returns-in-Err-stage-clause-full g c refused has_room =
     let fault : c.in-Err-stage.fault ≡ LogFull = refused_is _ _ _ c.refuse.ensures.refused refused in
     let full = c.in-Err-stage.ensures.full (ap (λ f. Err f) fault) in
     let room = frame_has_room mid front settled full.count full.some full.longest.within in
-    let list = ap (λ (s : State). s.list) c.hand_over.ensures.state in
+    let list = ap (λ (s : State). s.log) c.hand_over.ensures.state in
     let costs = ap cost_of_log list in
-    let longer = cost_append (list_of mid) (waiting_in (tail_of c.hand_over.new.self)) in
+    let longer = cost_append (records_of_log mid) (waiting_in (tail_of c.hand_over.new.self)) in
     let long = mid.as_long in
     omega (arith, room, costs, longer, long, ap (λ d. size (g.D.Disk.history d)) c.hand_over.ensures.still.0, bounded.kept, bounded.fits, bounded.as_long)
 
@@ -119,9 +119,9 @@ returns-in-Ok-Some-clause-staged g c n is =
     let same : number ≡ n = cc is in
     let longest = rw c.in-Ok-Some.field-0-is at (c.in-Ok-Some.ensures.longest waits) in
     let frame = rw c.in-Ok-Some.field-0-is at (c.in-Ok-Some.ensures.frame waits) in
-    let forced : (state_in old).durable ≡ mid.forced = old.told ∙ sym (ap length still.2) ∙ length-stable mid in
+    let forced : (state_in old).durable ≡ mid.forced = old.durable_agrees ∙ sym (ap length still.2) ∙ length-stable mid in
     let emptied : waiting_in (tail_of c.hand_over.new.self) ≡ [] = c.in_default.ensures.emptied in
-    let list : mid.records.items ≡ (state_in old).list =
-    sym (append-nil mid.records.items) ∙ sym (ap (λ (l : List LogRecord). mid.records.items ++ l) emptied) ∙ ap (λ (s : State). s.list) c.hand_over.ensures.state in
+    let list : mid.records.items ≡ (state_in old).log =
+    sym (append-nil mid.records.items) ∙ sym (ap (λ (l : List LogRecord). mid.records.items ++ l) emptied) ∙ ap (λ (s : State). s.log) c.hand_over.ensures.state in
     has_staged old _ mid n number same forced list longest.1 (is_some_and _ _ _ frame refl)
     (λ front k. rw c.in-Ok-Some.field-0-is at (c.in-Ok-Some.ensures.staged front (c.hand_over.ensures.settled front (ready_settled old front none (k.ready running))) waits))

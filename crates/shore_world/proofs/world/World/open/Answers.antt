@@ -2,8 +2,8 @@ use Rattle.std.proofs.Common.{◌≡◌, ◌≢◌, ◌-◌, inl, inr, ℕ, List
 use Rattle.shore_disk.specs.Device.{History, size, seen}
 use Rattle.shore_disk.specs.Cause.{HasCause}
 use Rattle.shore_log.specs.Frames.{Gives}
-use Rattle.shore_log.specs.Settled.{list_of, fault_of, device_of}
-use Rattle.shore_log.specs.Places.{IsBadAt, IsFrameOf}
+use Rattle.shore_log.specs.Settled.{records_of_log, fault_of, device_of}
+use Rattle.shore_log.specs.Offsets.{IsBadAt, IsFrameOf}
 use Rattle.shore_model.specs.declared.log_records.LogRecord.{LogRecord}
 use Rattle.shore_core.specs.Bounds.{InBounds}
 use Rattle.shore_core.specs.declared.replay.OpenError.TheVariants.{Memory}
@@ -40,7 +40,7 @@ pub returns-in-Ok-open_core-clause-only : goal.returns-in-Ok-open_core-clause-on
 returns-in-Ok-open_core-clause-only g c honest rs gives =
     let later = subst IsTrue (sym c.read_front.ensures.honest) honest in
     let same : seen (g.D.Disk.history c.read_front.new.log) ≡ seen (g.D.Disk.history c.args.log) = ap (λ (h : History). seen h) (c.in-Ok.ensures.synced honest) in
-    let h = c.in-Ok-open_core.ensures.opened.list in
+    let h = c.in-Ok-open_core.ensures.opened.log in
     h ∙ c.in-Ok-open.ensures.only later rs (subst (Gives rs) (sym same) gives)
 
 pub returns-in-Ok-open_core-clause-geometry : goal.returns-in-Ok-open_core-clause-geometry
@@ -61,29 +61,29 @@ returns-in-Ok-open_core-clause-bounded g c honest geometry rs stands =
     let later = subst IsTrue (sym c.read_front.ensures.honest) honest in
     let same : seen (g.D.Disk.history c.read_front.new.log) ≡ seen (g.D.Disk.history c.args.log) = ap (λ (h : History). seen h) (c.in-Ok.ensures.synced honest) in
     let log = c.in-Ok-open.log in
-    let long : log.limit ≡ size (g.D.Disk.history c.args.log) = log.as_long ∙ c.in-Ok-open.ensures.size ∙ c.read_front.ensures.size in
-    let list : list_of log ≡ rs = c.in-Ok-open.ensures.only later rs (subst (Gives rs) (sym same) stands.log) in
+    let long : log.device_bytes ≡ size (g.D.Disk.history c.args.log) = log.as_long ∙ c.in-Ok-open.ensures.size ∙ c.read_front.ensures.size in
+    let list : records_of_log log ≡ rs = c.in-Ok-open.ensures.only later rs (subst (Gives rs) (sym same) stands.log) in
     let at : c.in-Ok.front.geometry ≡ geometry = c.in-Ok.ensures.only honest geometry stands.front in
-    moved geometry _ (size (g.D.Disk.history c.args.log)) log.limit (state_of (list_of log) c.in-Ok-open_core.core) at long
-    (c.in-Ok-open_core.ensures.bounded (omega (arith, c.in-Ok.ensures.long.0.1, long)) (bounds_at geometry _ (size (g.D.Disk.history c.args.log)) log.limit rs (list_of log) at long list stands.bounds))
+    moved geometry _ (size (g.D.Disk.history c.args.log)) log.device_bytes (state_of (records_of_log log) c.in-Ok-open_core.core) at long
+    (c.in-Ok-open_core.ensures.bounded (omega (arith, c.in-Ok.ensures.long.0.1, long)) (bounds_at geometry _ (size (g.D.Disk.history c.args.log)) log.device_bytes rs (records_of_log log) at long list stands.bounds))
 
 pub returns-in-Err-open_core-clause-stands : goal.returns-in-Err-open_core-clause-stands
 returns-in-Err-open_core-clause-stands g c honest geometry rs stands =
     let later = subst IsTrue (sym c.read_front.ensures.honest) honest in
     let same : seen (g.D.Disk.history c.read_front.new.log) ≡ seen (g.D.Disk.history c.args.log) = ap (λ (h : History). seen h) (c.in-Ok.ensures.synced honest) in
     let log = c.in-Ok-open.log in
-    let long : log.limit ≡ size (g.D.Disk.history c.args.log) = log.as_long ∙ c.in-Ok-open.ensures.size ∙ c.read_front.ensures.size in
-    let list : list_of log ≡ rs = c.in-Ok-open.ensures.only later rs (subst (Gives rs) (sym same) stands.log) in
+    let long : log.device_bytes ≡ size (g.D.Disk.history c.args.log) = log.as_long ∙ c.in-Ok-open.ensures.size ∙ c.read_front.ensures.size in
+    let list : records_of_log log ≡ rs = c.in-Ok-open.ensures.only later rs (subst (Gives rs) (sym same) stands.log) in
     let at : c.in-Ok.front.geometry ≡ geometry = c.in-Ok.ensures.only honest geometry stands.front in
-    let each = bounds_at geometry c.in-Ok.front.geometry (size (g.D.Disk.history c.args.log)) log.limit rs (list_of log) at long list stands.bounds in
-    inr (c.fault_of-fault.ensures.memory (c.in-Err-open_core.ensures.in_bounds (omega (arith, c.in-Ok.ensures.long.0.1, long)) (all_bounds c.in-Ok.front.geometry (log.limit - 4096) (list_of log) each)))
+    let each = bounds_at geometry c.in-Ok.front.geometry (size (g.D.Disk.history c.args.log)) log.device_bytes rs (records_of_log log) at long list stands.bounds in
+    inr (c.fault_of-fault.ensures.memory (c.in-Err-open_core.ensures.in_bounds (omega (arith, c.in-Ok.ensures.long.0.1, long)) (all_bounds c.in-Ok.front.geometry (log.device_bytes - 4096) (records_of_log log) each)))
 
-pub returns-in-Ok-open_core-clause-list : goal.returns-in-Ok-open_core-clause-list
-returns-in-Ok-open_core-clause-list g c honest =
+pub returns-in-Ok-open_core-clause-log : goal.returns-in-Ok-open_core-clause-log
+returns-in-Ok-open_core-clause-log g c honest =
     let later = subst IsTrue (sym c.read_front.ensures.honest) honest in
     let same : seen (g.D.Disk.history c.read_front.new.log) ≡ seen (g.D.Disk.history c.args.log) = ap (λ (h : History). seen h) (c.in-Ok.ensures.synced honest) in
-    let found = subst (Gives (list_of c.in-Ok-open.log)) same (c.in-Ok-open.ensures.found later) in
-    subst (λ (l : List LogRecord). Gives l (seen (g.D.Disk.history c.args.log))) (sym c.in-Ok-open_core.ensures.opened.list) found
+    let found = subst (Gives (records_of_log c.in-Ok-open.log)) same (c.in-Ok-open.ensures.found later) in
+    subst (λ (l : List LogRecord). Gives l (seen (g.D.Disk.history c.args.log))) (sym c.in-Ok-open_core.ensures.opened.log) found
 
 pub returns-in-Err-open-clause-refused : goal.returns-in-Err-open-clause-refused
 returns-in-Err-open-clause-refused g c honest =
@@ -115,23 +115,23 @@ returns-in-Err-open_core-clause-refused g c honest =
     let same : seen (g.D.Disk.history c.read_front.new.log) ≡ seen (g.D.Disk.history c.args.log) = ap (λ (h : History). seen h) (c.in-Ok.ensures.synced honest) in
     let log = c.in-Ok-open.log in
     let error = c.in-Err-open_core.error in
-    let place = c.in-Ok.front.anchor_place in
-    let long : log.limit ≡ size (g.D.Disk.history c.args.log) = log.as_long ∙ c.in-Ok-open.ensures.size ∙ c.read_front.ensures.size in
+    let offset = c.in-Ok.front.anchor_offset in
+    let long : log.device_bytes ≡ size (g.D.Disk.history c.args.log) = log.as_long ∙ c.in-Ok-open.ensures.size ∙ c.read_front.ensures.size in
     let front = c.in-Ok.ensures.found honest in
-    let gives = subst (Gives (list_of log)) same (c.in-Ok-open.ensures.found later) in
+    let gives = subst (Gives (records_of_log log)) same (c.in-Ok-open.ensures.found later) in
     let passed = c.in-Ok.ensures.passed honest in
     let device_same : seen (g.D.Disk.history log.device) ≡ seen (g.D.Disk.history c.args.log) = ap (λ (h : History). seen h) (c.in-Ok-open.ensures.same later) ∙ same in
-    let outside : (error ≢ Memory) → InBounds c.in-Ok.front.geometry (size (g.D.Disk.history c.args.log) - 4096) (list_of log) → ⊥ =
-    λ other bounds. other (c.in-Err-open_core.ensures.in_bounds (omega (arith, c.in-Ok.ensures.long.0.1, long)) (subst (λ n. InBounds c.in-Ok.front.geometry (n - 4096) (list_of log)) (sym long) bounds)) in
+    let outside : (error ≢ Memory) → InBounds c.in-Ok.front.geometry (size (g.D.Disk.history c.args.log) - 4096) (records_of_log log) → ⊥ =
+    λ other bounds. other (c.in-Err-open_core.ensures.in_bounds (omega (arith, c.in-Ok.ensures.long.0.1, long)) (subst (λ n. InBounds c.in-Ok.front.geometry (n - 4096) (records_of_log log)) (sym long) bounds)) in
     elim (each_error error) [
       | inl memory ↦ inl (inr (c.fault_of-fault.ensures.memory memory))
       | inr (inl room) ↦ let fits = c.in-Err-open_core.ensures.no_room (ap (λ e. Err e) room) in inr (inr (
         passed,
-        place,
+        offset,
         c.fault_of-fault.ensures.room room,
         inr (record {
           geometry = c.in-Ok.front.geometry;
-          list = list_of log;
+          records = records_of_log log;
           front = front.0;
           log = gives;
           outside = outside (λ is. no_room_is_no_memory (sym room ∙ is));
@@ -140,7 +140,7 @@ returns-in-Err-open_core-clause-refused g c honest =
       ))
       | inr (inr bad) ↦
           let refused = c.in-Err-open_core.ensures.bad bad.0 (ap (λ e. Err e) bad.1) in
-          let within = bad_within c.in-Ok.front.geometry (list_of log) bad.0 refused in
+          let within = bad_within c.in-Ok.front.geometry (records_of_log log) bad.0 refused in
           let settled = c.in-Ok-open.ensures.settled later _ (synced_stands _ _ (c.in-Ok.ensures.synced honest)) in
           elim (c.fault_of-fault.ensures.record_of bad.0 _ bad.1 settled within.0 (omega (arith, within.1, ap length c.in-Ok-open.ensures.none_waits.1))) [
             | inl device ↦ inl (inl device)
@@ -150,7 +150,7 @@ returns-in-Err-open_core-clause-refused g c honest =
               found.1,
               inr (record {
                 geometry = c.in-Ok.front.geometry;
-                list = list_of log;
+                records = records_of_log log;
                 front = front.0;
                 log = gives;
                 outside = outside (λ is. record_is_no_memory bad.0 (sym bad.1 ∙ is));

@@ -1,0 +1,111 @@
+//! How long a page takes to be filled, read, written and read again. `bench_pages WORK ROUNDS` does one kind of work so often and
+//! prints the nanoseconds of a round; with no words it prints how many records a page takes.
+#![tactic(auto)]
+
+ghost use Rattle.std.specs.Prelude.{◌≡◌, length};
+ghost use Rattle.shore_types.specs.declared.layout.TheConstants.{PAGE_BYTES};
+
+use shore_page::Page;
+use shore_types::layout::{MAX_SLOTS, PAGE_BYTES};
+use shore_types::{PageId, StoreId};
+use std::alloc::{AllocError, Global};
+use std::time::Instant;
+use std::{env, io};
+
+const ID: PageId = PageId {
+    store: StoreId(0),
+    page: 0,
+};
+
+const RECORD: [u8; 100] = [0xaa; 100];
+
+/// What a round does with one page.
+#[derive(Clone, Copy)]
+enum Work {
+    /// Puts as many records as fit into a page that is empty.
+    Fill,
+    /// Gets each record.
+    Get,
+    /// Writes the page's text.
+    Write,
+    /// Reads the page from its text.
+    Read,
+}
+
+impl Work {
+    fn of(name: &str) -> Option<Work> {
+        match name {
+            "fill" => Some(Work::Fill),
+            "get" => Some(Work::Get),
+            "write" => Some(Work::Write),
+            "read" => Some(Work::Read),
+            _ => None,
+        }
+    }
+}
+
+fn filled(alloc: Global) -> Result<Page, AllocError> {
+    let mut page = Page::new(alloc, ID);
+    for slot in 0..MAX_SLOTS {
+        if !page.fits(slot, RECORD.len()) {
+            break;
+        }
+        page.put(slot, &RECORD)?;
+    }
+    Ok(page)
+}
+
+/// The bytes of all records of a page.
+fn bytes_of(page: &Page) -> u64 {
+    let mut bytes = 0u64;
+    for slot in 0..page.slot_count() {
+        if let Some(image) = page.get(slot) {
+            bytes = bytes.wrapping_add(image.len() as u64);
+        }
+    }
+    bytes
+}
+
+/// One round, on a page that is full and on its text. It answers a number that hangs on what was done.
+fn round(alloc: Global, work: Work, page: &Page, text: &mut [u8]) -> Result<u64, AllocError>
+    requires { length text.old ≡ PAGE_BYTES }
+    ensures { length text.new ≡ PAGE_BYTES }
+{
+    match work {
+        Work::Fill => Ok(filled(alloc)?.free_bytes() as u64),
+        Work::Get => Ok(bytes_of(page)),
+        Work::Write => {
+            page.to_bytes(text);
+            Ok(u64::from(text[24]))
+        }
+        Work::Read => Ok(Page::from_bytes(alloc, ID, text)?.map_or(
+            0,
+            |page| page.free_bytes() as u64,
+        )),
+    }
+}
+
+fn main(rt: HostRuntime) -> io::Result<()> {
+    let alloc = rt.alloc();
+    let page = filled(alloc)?;
+    let mut text = [0u8; PAGE_BYTES];
+    page.to_bytes(&mut text);
+    let words: Vec<String> = env::args(&rt)?.collect(alloc)?;
+    let [_, name, rounds] = words.as_slice() else {
+        let count = page.slot_count();
+        println!(rt; "{count} records")?;
+        return Ok(());
+    };
+    let (Some(work), Ok(rounds)) = (Work::of(name.as_str()), rounds.as_str().parse::<u64>()) else {
+        println!(rt; "bench_pages fill|get|write|read ROUNDS")?;
+        return Ok(());
+    };
+    let mut sum = 0u64;
+    let start = Instant::now(&rt)?;
+    for _ in 0..rounds {
+        sum = sum.wrapping_add(round(alloc, work, &page, &mut text)?);
+    }
+    let nanos = start.elapsed(&rt)?.as_nanos() / u128::from(rounds.max(1));
+    println!(rt; "{name} {nanos} ns a round ({sum})")?;
+    Ok(())
+}

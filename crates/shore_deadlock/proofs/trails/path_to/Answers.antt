@@ -1,9 +1,0 @@
-use Rattle.shore_deadlock.proofs.TrailSteps.{earlier_within, path_on}
-use Rattle.shore_deadlock.proofs.trails.path_to.Goals as goal
-
-pub loop-at-preserved : goal.loop-at-preserved
-loop-at-preserved c = record {
-  within = earlier_within c.args.trail.now c.loop-at.at c.index-trail-at-in-loop-at.result c.requires.leads c.loop-at-test.true c.loop-at.invariant.within;
-  so_far = path_on c.args.trail.now c.loop-at.at c.args.place c.index-trail-at.result c.index-trail-at-in-loop-at.result c.loop-at.path.items c.push.new.self.items
-      c.requires.leads c.loop-at-test.true c.loop-at.invariant.within c.loop-at.invariant.so_far c.in_ok-push.ensures.items;
-}

@@ -1,5 +1,0 @@
-use Rattle.shore_locks.proofs.Answered.{stays_quiet}
-use Rattle.shore_locks.proofs.laws.waits_only_where_told.Goals as goal
-
-pub returns : goal.returns
-returns c = stays_quiet

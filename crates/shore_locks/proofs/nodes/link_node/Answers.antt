@@ -1,0 +1,11 @@
+use Rattle.std.proofs.Common.{subst}
+use Rattle.shore_locks.specs.Nodes.{LinksIn}
+use Rattle.shore_locks.proofs.nodes.link_node.Goals as goal
+
+pub returns-clause-queues : goal.returns-clause-queues
+returns-clause-queues c =
+    subst (λ b. LinksIn c.args.queues.now c.link.new.self b c.args.node) c.queue_head-queue.ensures.is (c.link.ensures.ring, c.link.ensures.others)
+
+pub returns-clause-lists : goal.returns-clause-lists
+returns-clause-lists c =
+    subst (λ b. LinksIn c.args.lists.now c.link-2.new.self b c.args.node) c.list_head-list.ensures.is (c.link-2.ensures.ring, c.link-2.ensures.others)

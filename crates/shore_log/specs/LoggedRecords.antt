@@ -1,0 +1,36 @@
+-- What holds of each record of a list that is logged.
+use Rattle.std.specs.Prelude.{◌+◌, ◌^◌, ◌&&◌, ◌||◌, ℕ, List, [], ◌∷◌, Bool, true, false, None, Some, length, is_some, nat_lt, nat_le}
+use Rattle.shore_types.specs.declared.ids.Rid.{Rid}
+use Rattle.shore_types.specs.declared.layout.TheConstants.{MAX_RECORD_BYTES}
+use Rattle.shore_types.specs.Images.{Image}
+use Rattle.shore_model.specs.declared.log_records.LogRecord.{LogRecord}
+use Rattle.shore_model.specs.declared.log_records.Payload.{Payload}
+use Rattle.shore_model.specs.declared.log_records.Payload.TheVariants.{Change, Compensation, Commit, End, Prepare, RollbackDecided, CheckpointBegin, CheckpointEnd, Anchor}
+
+abbrev pub image_is_short : Image → Bool
+image_is_short None = true
+image_is_short (Some bytes) = nat_le (length bytes) MAX_RECORD_BYTES
+
+abbrev pub id_is_short : Rid → Bool
+id_is_short id = nat_lt id.page.store (2 ^ 32) && nat_lt id.page.page (2 ^ 32) && nat_lt id.slot (2 ^ 16)
+
+abbrev pub payload_has_text : Payload → Bool
+payload_has_text (Change id before image) =
+    id_is_short id && image_is_short before && image_is_short image && (is_some before || is_some image)
+payload_has_text Commit = true
+payload_has_text (Compensation id image undo_next) = false
+payload_has_text End = false
+payload_has_text (Prepare global granules) = false
+payload_has_text RollbackDecided = false
+payload_has_text CheckpointBegin = false
+payload_has_text (CheckpointEnd begin next txns dirty) = false
+payload_has_text (Anchor checkpoint tail) = false
+
+-- whether the record has a text, as a test
+abbrev pub has_text : LogRecord → Bool
+has_text r = nat_le 1 r.txn && nat_lt r.txn (2 ^ 64) && nat_lt r.previous (2 ^ 64) && payload_has_text r.payload
+
+-- whether each has a text, and names a record below its own number as the one before; the first has the number n
+abbrev pub are_numbered : ℕ → List LogRecord → Bool
+are_numbered n [] = true
+are_numbered n (r ∷ rs) = has_text r && nat_lt r.previous n && are_numbered (n + 1) rs

@@ -1,6 +1,0 @@
-use Rattle.std.proofs.Common.{take}
-use Rattle.std.specs.Prelude.{All, Contains}
-use Rattle.shore_slow_histories.proofs.decisions.holds_each.Given as goal
-
-abbrev pub invariant-loop-decision : goal.invariant-loop-decision
-invariant-loop-decision l = All (Contains l.kept) (take l.decision-index l.told)

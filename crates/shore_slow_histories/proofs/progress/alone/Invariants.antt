@@ -1,7 +1,0 @@
-use Rattle.std.proofs.Common.{drop}
-use Rattle.shore_model.specs.Histories.{calls_of}
-use Rattle.shore_slow_histories.proofs.Runs.{ComesTo}
-use Rattle.shore_slow_histories.proofs.progress.alone.Given as goal
-
-abbrev pub invariant-loop-entry : goal.invariant-loop-entry
-invariant-loop-entry l = ComesTo l.records (calls_of l.txn l.entries) (calls_of l.txn (drop l.entry-index l.entries)) l.progress

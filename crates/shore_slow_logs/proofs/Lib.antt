@@ -1,4 +1,0 @@
-pub mod LawfulScans
-pub mod Told
-pub mod ToldPrepare
-pub mod ToldSame

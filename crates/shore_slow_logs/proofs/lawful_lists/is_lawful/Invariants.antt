@@ -1,5 +1,0 @@
-use Rattle.shore_slow_logs.proofs.LawfulScans.{LawfulBelow}
-use Rattle.shore_slow_logs.proofs.lawful_lists.is_lawful.Given as goal
-
-abbrev pub invariant-loop-index : goal.invariant-loop-index
-invariant-loop-index l = LawfulBelow l.records l.index

@@ -1,6 +1,0 @@
-use Rattle.std.proofs.Common.{◌≡◌, take}
-use Rattle.shore_model.specs.Logs.{last_of}
-use Rattle.shore_slow_logs.proofs.log_lists.last_of.Given as goal
-
-abbrev pub invariant-loop-index : goal.invariant-loop-index
-invariant-loop-index l = l.last ≡ last_of l.txn (take l.index l.records)

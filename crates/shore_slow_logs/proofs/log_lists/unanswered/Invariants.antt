@@ -1,6 +1,0 @@
-use Rattle.std.proofs.Common.{◌≡◌, reverse, take}
-use Rattle.shore_model.specs.Logs.{unanswered}
-use Rattle.shore_slow_logs.proofs.log_lists.unanswered.Given as goal
-
-abbrev pub invariant-loop-index : goal.invariant-loop-index
-invariant-loop-index l = reverse l.changes.items ≡ unanswered l.txn (take l.index l.records)

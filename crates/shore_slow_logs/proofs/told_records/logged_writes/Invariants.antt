@@ -1,6 +1,0 @@
-use Rattle.std.proofs.Common.{◌≡◌, take}
-use Rattle.shore_model.specs.Logs.{logged_writes}
-use Rattle.shore_slow_logs.proofs.told_records.logged_writes.Given as goal
-
-abbrev pub invariant-loop-record : goal.invariant-loop-record
-invariant-loop-record l = l.writes ≡ logged_writes (take l.record-index l.records) l.txn

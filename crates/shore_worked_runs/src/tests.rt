@@ -1,6 +1,0 @@
-//! Worked runs, with answers, records and waits written out by hand.
-mod histories;
-mod locks;
-mod logs;
-mod records;
-mod trail;

@@ -1,0 +1,4 @@
+pub mod LawfulScans
+pub mod AfterCommit
+pub mod AfterPrepare
+pub mod AfterOthers

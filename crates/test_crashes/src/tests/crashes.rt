@@ -1,0 +1,113 @@
+//! What a crash leaves of a manager, judged by the slow functions alone.
+use super::doings::ONE_COMMIT;
+use super::lives::{Ground, Life, Start, live};
+use super::trouble::{Trouble, require};
+use shore_disk::{MemDisk, Pick};
+use shore_model::{Decision, Entry, LogRecord, Opening, RidMap};
+use shore_types::{Bytes, Sequence};
+use shore_world::World;
+use slow_histories::decisions::{acknowledged, is_kept};
+use slow_histories::replays::{serial_records, shown_records};
+use slow_histories::sessions::is_history;
+use slow_histories::turns::is_sound;
+use slow_logs::recovered_records::records_told;
+use std::alloc::{AllocError, Global};
+
+/// The history is one, and is sound.
+pub(super) fn check_history(alloc: Global, ground: &Ground, life: &Life) -> Result<(), Trouble> {
+    let (opening, entries) = (&ground.opening, &life.entries);
+    require(is_history(alloc, opening, entries)?, "no history")?;
+    require(is_sound(alloc, opening, entries)?, "not sound")
+}
+
+/// Loses the power, opens again and checks what is there. Answers what the next manager may be opened on.
+pub(super) fn check_crash(
+    alloc: Global,
+    ground: &Ground,
+    life: Life,
+    pick: Pick,
+) -> Result<Ground, Trouble> {
+    let Life {
+        entries,
+        list,
+        durable,
+        mut device,
+    } = life;
+    device.crash(pick);
+    let image = device.bytes().to_vec(alloc)?;
+    let world = reopened(alloc, device)?;
+    let (found, waiting) = world.records();
+    require(waiting.is_empty(), "something waits after an open")?;
+    require(list.starts_with(found), "no beginning of the list")?;
+    require(durable <= found.len(), "a durable record is gone")?;
+
+    let opened = found.len();
+    Ok(Ground {
+        image,
+        opening: Opening {
+            records: check_shown(alloc, ground, &entries, &world)?,
+            in_doubt: Sequence::new(alloc),
+        },
+        opened,
+    })
+}
+
+// The records in place are those that the list tells, and those that the decisions kept come to: these are the Commits that the
+// list has gained. Answers these records.
+fn check_shown(
+    alloc: Global,
+    ground: &Ground,
+    entries: &[Entry],
+    world: &World<MemDisk>,
+) -> Result<RidMap<Bytes>, Trouble> {
+    let (found, _) = world.records();
+    let in_place = world.dump();
+    let shown = records_told(alloc, found)?;
+    require(are_same(in_place, &shown), "not what the list tells")?;
+    let Some(gained) = found.get(ground.opened..) else {
+        return Err(Trouble::Wrong("a record of before is gone"));
+    };
+    let kept = commits_in(alloc, gained)?;
+    require(is_kept(alloc, entries, &kept)?, "not kept")?;
+    let serial = serial_records(alloc, &ground.opening, entries, &kept)?;
+    require(are_same(in_place, &serial), "not the serial records")?;
+    let all = shown_records(alloc, &ground.opening, entries, &kept)?;
+    require(are_same(in_place, &all), "not what is shown")?;
+    Ok(shown)
+}
+
+/// On what a crash left a record more is committed, is acknowledged, and survives another crash.
+pub(super) fn check_next_life(alloc: Global, ground: Ground, pick: Pick) -> Result<(), Trouble> {
+    let start = Start {
+        ground,
+        before: &[],
+    };
+    let life = live(alloc, &start, &ONE_COMMIT, None)?;
+    check_history(alloc, &start.ground, &life)?;
+    let answered = acknowledged(alloc, &life.entries)?;
+    require(answered.as_slice().len() == 1, "no commit is answered")?;
+    check_crash(alloc, &start.ground, life, pick)?;
+    Ok(())
+}
+
+fn reopened(alloc: Global, device: MemDisk) -> Result<World<MemDisk>, Trouble> {
+    match World::open(alloc, device) {
+        Ok(world) => Ok(world),
+        Err(_) => Err(Trouble::Wrong("the open was refused")),
+    }
+}
+
+// The decisions that records have.
+fn commits_in(alloc: Global, records: &[LogRecord]) -> Result<Vec<Decision>, AllocError> {
+    let mut found = Vec::new(alloc);
+    for logged in records {
+        if logged.payload.is_commit() {
+            found.push(Decision::Commit(logged.txn))?;
+        }
+    }
+    Ok(found)
+}
+
+fn are_same(records: &RidMap<Bytes>, others: &RidMap<Bytes>) -> bool {
+    records.iter().eq(others.iter())
+}

@@ -1,0 +1,127 @@
+//! A manager from its open to the loss of power.
+use super::doings::Doing;
+use super::short_histories::Trail;
+use super::trouble::Trouble;
+use shore_disk::{FuseDisk, MemDisk};
+use shore_model::rid_map::copy_image;
+use shore_model::{Entry, LogRecord, Opening, Payload, RidMap};
+use shore_types::{Geometry, Sequence};
+use shore_world::{World, format};
+use std::alloc::Global;
+
+/// What a manager was opened on: a device's bytes, what they show, and how many records of the log stand there.
+#[derive(Drop)]
+pub(super) struct Ground {
+    pub(super) image: Vec<u8>,
+    pub(super) opening: Opening,
+    pub(super) opened: usize,
+}
+
+/// Where lists of events begin: a ground, and what is done on it first.
+#[derive(Drop)]
+pub(super) struct Start {
+    pub(super) ground: Ground,
+    pub(super) before: &'static [Doing],
+}
+
+/// A log device of the least length, formatted.
+pub(super) fn formatted(alloc: Global) -> Result<Ground, Trouble> {
+    let mut disk = MemDisk::new(alloc, Vec::from_elem(alloc, 0u8, 135168)?)?;
+    let geometry = Geometry {
+        pair: 1,
+        max_locks: 1024,
+        stores: Sequence::from_vec(Vec::from_slice(alloc, &[2u32])?),
+    };
+    if format(alloc, &mut disk, &geometry).is_err() {
+        return Err(Trouble::Wrong("the format was refused"));
+    }
+    Ok(Ground {
+        image: disk.bytes().to_vec(alloc)?,
+        opening: Opening {
+            records: RidMap::new(alloc),
+            in_doubt: Sequence::new(alloc),
+        },
+        opened: 0,
+    })
+}
+
+/// What a manager leaves when it is cut off.
+#[derive(Drop)]
+pub(super) struct Life {
+    pub(super) entries: Vec<Entry>,
+    /// The records of the log, forced or not.
+    pub(super) list: Vec<LogRecord>,
+    pub(super) durable: usize,
+    pub(super) device: MemDisk,
+}
+
+/// Opens a manager on a copy of the ground's image, and makes the events of the start and then these. A fuse lets so many
+/// writes and syncs of these pass.
+pub(super) fn live(
+    alloc: Global,
+    start: &Start,
+    doings: &[Doing],
+    fuse: Option<u64>,
+) -> Result<Life, Trouble> {
+    let disk = MemDisk::new(alloc, start.ground.image.to_vec(alloc)?)?;
+    let opened = World::open(alloc, FuseDisk::new(disk, u64::MAX));
+    let mut world = opened.ok().ok_or(Trouble::Wrong("no open"))?;
+    let mut short_histories = Trail::new(alloc);
+    make(alloc, &mut world, &mut short_histories, start.before)?;
+    if let Some(calls) = fuse {
+        world.set_fuse(calls);
+    }
+    make(alloc, &mut world, &mut short_histories, doings)?;
+    let mut list = Vec::new(alloc);
+    let (handed_over, waiting) = world.records();
+    push_copies(alloc, &mut list, handed_over)?;
+    push_copies(alloc, &mut list, waiting)?;
+    Ok(Life {
+        entries: short_histories.into_entries(),
+        list,
+        durable: world.durable().0 as usize,
+        device: world.into_devices().into_inner(),
+    })
+}
+
+// Makes events and notes what each comes to.
+fn make(
+    alloc: Global,
+    world: &mut World<FuseDisk<MemDisk>>,
+    short_histories: &mut Trail,
+    doings: &[Doing],
+) -> Result<(), Trouble> {
+    for doing in doings {
+        let step = world.step(alloc, doing.event(alloc)?);
+        short_histories.note(alloc, *doing, step)?;
+    }
+    Ok(())
+}
+
+fn push_copies(
+    alloc: Global,
+    list: &mut Vec<LogRecord>,
+    records: &[LogRecord],
+) -> Result<(), Trouble> {
+    for logged in records {
+        list.push(copy_of(alloc, logged)?)?;
+    }
+    Ok(())
+}
+
+fn copy_of(alloc: Global, logged: &LogRecord) -> Result<LogRecord, Trouble> {
+    let payload = match &logged.payload {
+        Payload::Change { id, before, after } => Payload::Change {
+            id: *id,
+            before: copy_image(alloc, before)?,
+            after: copy_image(alloc, after)?,
+        },
+        Payload::Commit => Payload::Commit,
+        _ => return Err(Trouble::Wrong("a record that is not written as yet")),
+    };
+    Ok(LogRecord {
+        txn: logged.txn,
+        previous: logged.previous,
+        payload,
+    })
+}

@@ -1,0 +1,123 @@
+//! A log device by its bytes: what a force leaves, and what an open is refused with where they are changed.
+ghost use Rattle.std.specs.Prelude.{All, IfOk};
+ghost use Rattle.shore_world.specs.Events.{IsServedEvent};
+
+use super::gates::zeros;
+use shore_disk::MemDisk;
+use shore_model::Call;
+use shore_types::{Fault, Geometry, Sequence, SessionId, StoreId};
+use shore_world::{Event, World, format};
+use std::alloc::{AllocError, Global};
+
+// The frame of the setup's two records, and the closed gate behind it.
+const FRAME: [u8; 71] = [
+    0xa5, 0x39, 0, 0, 0, 1, 0, 0, 0, 0, 0, 0, 0, 1, 1, 0, 0, 0, 0, 0, 0, 0, 0, 0, 0, 0, 0, 0, 0, 0,
+    0x0f, 0, 0, 0, 0, 0, 0, 0, 0, 0, 0, 0, 0, 0, 0, 1, 1, 0, 0xaa, 3, 1, 0, 0, 0, 0, 0, 0, 0, 1, 0,
+    0, 0, 0, 0, 0, 0, 0, 0, 0, 0, 0,
+];
+
+// The events of the setup, with its force.
+fn setup_events(alloc: Global) -> Result<[Event; 6], AllocError>
+    ensures { IfOk result (λ events. All IsServedEvent events) }
+{
+    let session = SessionId(1);
+    let bytes = Sequence::from_vec(vec![in alloc; 0xaau8]?);
+    Ok([
+        Event::Call(session, Call::Begin),
+        Event::Call(session, Call::Insert(StoreId(0), bytes)),
+        Event::Call(session, Call::Commit),
+        Event::ForceStage,
+        Event::ForceOpen,
+        Event::Resume(session),
+    ])
+}
+
+// A log device of the least length, formatted.
+fn formatted(alloc: Global) -> Result<MemDisk, Fault> {
+    let geometry = Geometry {
+        pair: 1,
+        max_locks: 1024,
+        stores: Sequence::from_vec(vec![in alloc; 2u32]?),
+    };
+    let mut disk = zeros(alloc, 135168)?;
+    format(alloc, &mut disk, &geometry)?;
+    Ok(disk)
+}
+
+fn opened(alloc: Global, disk: MemDisk) -> Result<World<MemDisk>, Fault> {
+    match World::open(alloc, disk) {
+        Ok(world) => Ok(world),
+        Err((fault, _)) => Err(fault),
+    }
+}
+
+// The device that the setup leaves.
+fn device_after_setup(alloc: Global) -> Result<MemDisk, Fault> {
+    let mut world = opened(alloc, formatted(alloc)?)?;
+    let mut steps = Vec::new(alloc);
+    world.run(alloc, &setup_events(alloc)?, &mut steps)?;
+    Ok(world.into_devices())
+}
+
+#[test]
+fn the_bytes_of_a_force(rt: HostRuntime) -> Result<(), Fault> {
+    let disk = device_after_setup(rt.alloc())?;
+    assert!(rt; disk.bytes().get(4096..4167) == Some(FRAME.as_slice()));
+    Ok(())
+}
+
+// Whether this is told of an open of these bytes: what refuses it, or that nothing does.
+fn is_told(alloc: Global, bytes: Vec<u8>, wanted: &str) -> Result<bool, AllocError> {
+    match opened(alloc, MemDisk::new(alloc, bytes)?) {
+        Ok(_) => Ok(wanted == "opened"),
+        Err(fault) => Ok(format!(in alloc; "{fault}")?.as_str() == wanted),
+    }
+}
+
+// These bytes, one of them with another value.
+fn changed(alloc: Global, bytes: &[u8], offset: usize, value: u8) -> Result<Vec<u8>, AllocError> {
+    let mut bytes = bytes.to_vec(alloc)?;
+    if let Some(byte) = bytes.get_mut(offset) {
+        *byte = value;
+    }
+    Ok(bytes)
+}
+
+// The first of these bytes.
+fn cut(alloc: Global, bytes: &[u8], length: usize) -> Result<Vec<u8>, AllocError> {
+    let mut bytes = bytes.to_vec(alloc)?;
+    bytes.truncate(length);
+    Ok(bytes)
+}
+
+// Bytes of the setup's device, another value of each, and what an open is then refused with.
+const CHANGED_BYTES: [(usize, u8, &str); 10] = [
+    (0, 0x00, "29 NotFormatted"),
+    (1, 0x56, "29 NotFormatted"),
+    (2, 0x03, "26 WrongVersion"),
+    (25, 0x00, "25 Damaged log 24"),
+    (1024, 0x00, "25 Damaged log 1024"),
+    (4096, 0x00, "opened"),
+    (4097, 0x38, "25 Damaged log 4096"),
+    (4101, 0x02, "25 Damaged log 4096"),
+    (4109, 0x0a, "25 Damaged log 4096"),
+    (4166, 0xa5, "25 Damaged log 4166"),
+];
+
+// Lengths to which the device is cut, and what an open is then refused with.
+const LENGTHS: [(usize, &str); 2] = [(135167, "25 Damaged log 16"), (4095, "29 NotFormatted")];
+
+#[test]
+fn changed_bytes_are_refused(rt: HostRuntime) -> Result<(), Fault> {
+    let alloc = rt.alloc();
+    let disk = device_after_setup(alloc)?;
+    for (offset, value, wanted) in CHANGED_BYTES {
+        let bytes = changed(alloc, disk.bytes(), offset, value)?;
+        assert!(rt; is_told(alloc, bytes, wanted)?, "at {offset}: {wanted}");
+    }
+    for (length, wanted) in LENGTHS {
+        let bytes = cut(alloc, disk.bytes(), length)?;
+        assert!(rt; is_told(alloc, bytes, wanted)?, "at {length}: {wanted}");
+    }
+    Ok(())
+}
