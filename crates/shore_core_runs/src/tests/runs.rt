@@ -8,10 +8,10 @@ use shore_world::{World, format};
 use std::alloc::{AllocError, Global};
 use std::test::Fail;
 
-// Each line is an event with what it comes to. `run:` opens a new manager on a formatted log device of the least length, of a store
-// of one page and a store of eight; `fuse:` lets so many more writes and syncs of the device pass; `records:` and `log:` say what is
-// shown. A page has room for 8,168 bytes, records and 4 for each slot. The log has room for 38,505 bytes: a record's Change
-// costs 48 with its bytes, its undo, which is reserved, 53; a Commit costs 34, which a begin reserves.
+// Each line is an event with what it comes to. `run:` opens a new manager on a formatted log device of the least length, with a
+// store of one page and a store of eight; `fuse:` lets so many more writes and syncs of the device pass; `records:` and `log:`
+// say what is shown. A page has room for 8,168 bytes: records, and 4 for each slot. The log has room for 38,505 bytes: a Change
+// costs 48 and its record's bytes, its undo, which is reserved, 53; a Commit costs 34, which a begin reserves.
 const RUNS: &str = "
 run: each call outside of a transaction
 records:

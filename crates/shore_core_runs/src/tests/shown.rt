@@ -50,8 +50,8 @@ pub(super) fn write_records(out: &mut String, world: &Manager) -> Result<(), All
     Ok(())
 }
 
-/// Each record of the log by its transaction and the number of that transaction's record before it, with the id that it changes; a
-/// bar stands before the first that has not been handed to the log device, and the durable number at the end.
+/// Each record of the log by its transaction and the number of that transaction's record before it, with the id that it changes. A
+/// bar parts those that the log device has from those that wait; the durable number comes last.
 pub(super) fn write_log(out: &mut String, world: &Manager) -> Result<(), AllocError> {
     let (handed_over, waiting) = world.records();
     write_list(out, handed_over)?;

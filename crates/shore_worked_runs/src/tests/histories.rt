@@ -12,7 +12,7 @@ use std::alloc::{AllocError, Global};
 use std::test::Fail;
 
 // A line without a colon adds entries, parted by `;`. `run:` begins anew, `record:` and `doubt:` say what the open found.
-// `sound:` and `unsound:` say that what stands is a history, with these entries, and whether its answers are right; `no
+// `sound:` and `unsound:` say that all so far is a history, with these entries too, and whether its answers are right; `no
 // history:` that it is none with the last of these entries, and is one without it. `kept:` and `lost:` say whether a crash may keep
 // just these decisions, `shown:` which records they come to, and `in doubt:` whom they leave in doubt.
 const HISTORIES: &str = "
@@ -294,19 +294,19 @@ fn require_soundness(
     rest: &str,
     wanted: bool,
 ) -> Result<(), Trouble> {
-    let standing = run.entries.len();
+    let length = run.entries.len();
     add(alloc, &mut run.entries, rest)?;
     let judged = is_history(alloc, &run.opening, &run.entries)?
         && is_sound(alloc, &run.opening, &run.entries)? == wanted;
-    run.entries.truncate(standing);
+    run.entries.truncate(length);
     require(judged)
 }
 
 fn require_no_history(alloc: Global, run: &mut Run, rest: &str) -> Result<(), Trouble> {
-    let standing = run.entries.len();
+    let length = run.entries.len();
     add(alloc, &mut run.entries, rest)?;
     let spoiled = is_spoiled_by_last(alloc, &run.opening, &run.entries)?;
-    run.entries.truncate(standing);
+    run.entries.truncate(length);
     require(spoiled)
 }
 

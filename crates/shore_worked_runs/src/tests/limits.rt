@@ -1,4 +1,4 @@
-//! Which records may stand in a volume.
+//! Which records a volume may hold.
 use shore_model::RidMap;
 use shore_types::{Geometry, PageId, Rid, Sequence, StoreId};
 use std::alloc::{AllocError, Global};
@@ -6,15 +6,15 @@ use std::alloc::{AllocError, Global};
 #[test]
 fn record_limits(rt: HostRuntime) -> Result<(), AllocError> {
     let alloc = rt.alloc();
-    assert!(rt; may_stand(alloc, 1, 2041, 4000)?);
-    assert!(rt; !may_stand(alloc, 1, 2041, 4001)?);
-    assert!(rt; !may_stand(alloc, 1, 2042, 4000)?);
-    assert!(rt; !may_stand(alloc, 2, 0, 0)?);
+    assert!(rt; may_hold(alloc, 1, 2041, 4000)?);
+    assert!(rt; !may_hold(alloc, 1, 2041, 4001)?);
+    assert!(rt; !may_hold(alloc, 1, 2042, 4000)?);
+    assert!(rt; !may_hold(alloc, 2, 0, 0)?);
     Ok(())
 }
 
-// Whether a record of so many bytes may stand at a slot of a page, in a volume of one store of two pages.
-fn may_stand(alloc: Global, page: u32, slot: u16, length: usize) -> Result<bool, AllocError> {
+// Whether a volume of one store of two pages may hold a record of so many bytes at this slot.
+fn may_hold(alloc: Global, page: u32, slot: u16, length: usize) -> Result<bool, AllocError> {
     let stores = Vec::from_slice(alloc, &[2u32])?;
     let geometry = Geometry {
         pair: 1,

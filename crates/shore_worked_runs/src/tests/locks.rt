@@ -11,9 +11,9 @@ use shore_types::{Mode, Sequence, TxnId};
 use std::alloc::Global;
 use std::test::Fail;
 
-// Requests stand as `1 IX - 0`: a transaction, what it holds, what it wants, and the granule. A line without a colon adds some,
-// parted by `;`. `run:` begins anew, and `placed:` places a request as one that has begun to wait. `harmony:` and `discord:`,
-// `together:` and `apart:`, `rooted:` and `unrooted:`, `requests:` and `doubled:` judge what stands with these requests more.
+// A request reads `1 IX - 0`: a transaction, what it holds, what it wants, and the granule. A line without a colon adds some,
+// parted by `;`. `run:` begins anew, and `placed:` adds a request as one that has begun to wait. `harmony:` and `discord:`,
+// `together:` and `apart:`, `rooted:` and `unrooted:`, `requests:` and `doubled:` judge the list with these requests too.
 const LOCKS: &str = "
 run: conversion_to_six
 # 1 holds SIX and 2 IS on the store, below IX and IS on the volume; 3 wants IX on the store.
@@ -210,11 +210,11 @@ fn judge_held(
     verb: &str,
     rest: &str,
 ) -> Result<(), Trouble> {
-    let standing = requests.as_slice().len();
+    let length = requests.as_slice().len();
     add(requests, rest)?;
     let held = held_by_all(alloc, requests.as_slice())?;
     let judged = require_held(requests.as_slice(), held.as_slice(), verb);
-    requests.truncate(standing);
+    requests.truncate(length);
     judged
 }
 

@@ -8,9 +8,9 @@ use shore_slow_logs::told_records::told;
 use std::alloc::{AllocError, Global};
 use std::test::Fail;
 
-// A line without a colon adds records, parted by `;`. `run:` begins anew. `tells:` says that what stands is lawful and tells
-// just these records. `lawful:` says that what stands is lawful with these records more; `unlawful:` that it is lawful with all
-// of these but the last, and is no more with the last.
+// A line without a colon adds records, parted by `;`. `run:` begins anew. `tells:` says that the list so far is lawful and tells
+// just these records. `lawful:` says that it is lawful with these records too; `unlawful:` that it is lawful with all of these
+// but the last, and no more with the last.
 const LOGS: &str = "
 run: commit_survives_crash
 1 0 change 0.0.0 - aa; 1 1 commit
@@ -224,18 +224,18 @@ fn require_told(alloc: Global, list: &[LogRecord], records: &str) -> Result<(), 
 }
 
 fn require_lawful(alloc: Global, list: &mut Vec<LogRecord>, rest: &str) -> Result<(), Trouble> {
-    let standing = list.len();
+    let length = list.len();
     add(alloc, list, rest)?;
     let lawful = is_lawful(alloc, list)?;
-    list.truncate(standing);
+    list.truncate(length);
     require(lawful)
 }
 
 fn require_spoiled(alloc: Global, list: &mut Vec<LogRecord>, rest: &str) -> Result<(), Trouble> {
-    let standing = list.len();
+    let length = list.len();
     add(alloc, list, rest)?;
     let spoiled = is_spoiled_by_last(alloc, list)?;
-    list.truncate(standing);
+    list.truncate(length);
     require(spoiled)
 }
 

@@ -7,9 +7,9 @@ use std::test::Fail;
 
 const MODES: &str = "IS IX SH SIX EX UD";
 
-// Of each mode what it comes to with each of the six, in the order above: whether both stand together, whether the first grants
-// the second when another asks, whether it covers the second below it, and the least mode above both. Then what the parents of a
-// lock in each of the six are held in, and which of them may be asked at each level.
+// Of each mode what it comes to with each of the six, in the order above: whether both may be held together, whether the first
+// grants the second when another asks, whether it covers the second below it, and the least mode above both. Then what the parents
+// of a lock in each of the six are held in, and which of them may be asked at each level.
 const TABLES: &str = "
 coexist IS yes yes yes yes no no
 coexist IX yes yes no no no no

@@ -109,7 +109,7 @@ pub(super) fn image(alloc: Global, words: &mut Words) -> Result<Option<Bytes>, T
     Ok(Some(bytes_of(alloc, word)?))
 }
 
-/// The words are ids and bytes, as `0.0.0 aa 0.0.1 bb`, and just these records stand there.
+/// The words are ids and bytes, as `0.0.0 aa 0.0.1 bb`: these records, and no others.
 pub(super) fn require_records(records: &RidMap<Bytes>, words: &mut Words) -> Result<(), Trouble> {
     for (id, bytes) in records.iter() {
         require_record(*id, bytes, words)?;
