@@ -1,6 +1,10 @@
 //! Worked runs, with answers, records and waits written out by hand.
 mod histories;
+mod history_lines;
+mod limits;
 mod locks;
+mod log_lines;
 mod logs;
-mod records;
-mod short_histories;
+mod modes;
+mod trouble;
+mod words;

@@ -1,451 +1,395 @@
 //! Histories: which are sound, what they show, and what of them is kept.
-use super::records::{STORE, Short, bytes, pairs, rid};
-use super::short_histories::Did::*;
-use super::short_histories::Refusal::*;
-use super::short_histories::{Found, Line, Name, Settled, decisions, entries, opening};
-use shore_model::{Entry, Opening, RidMap};
-use shore_types::{Geometry, GlobalId, PageId, Rid, Sequence, TxnId};
+use super::history_lines::{decision, doubt, entry};
+use super::trouble::{Trouble, require};
+use super::words::{Words, bytes, end, is_blank, is_remark, require_records, rid, txn, word};
+use shore_model::{Decision, Entry, Opening, RidMap};
+use shore_types::{GlobalId, Sequence, TxnId};
 use slow_histories::decisions::{in_doubt, is_kept};
-use slow_histories::progress::alone;
 use slow_histories::replays::shown_records;
 use slow_histories::sessions::is_history;
 use slow_histories::turns::is_sound;
 use std::alloc::{AllocError, Global};
-use std::process::Abort;
+use std::test::Fail;
 
-const G1: Name = [0x67, 0x31];
+// A line without a colon adds entries, parted by `;`. `run:` begins anew, `record:` and `doubt:` say what the open found.
+// `sound:` and `unsound:` say that all so far is a history, with these entries too, and whether its answers are right; `no
+// history:` that it is none with the last of these entries, and is one without it. `kept:` and `lost:` say whether a crash may keep
+// just these decisions, `shown:` which records they come to, and `in doubt:` whom they leave in doubt.
+const HISTORIES: &str = "
+run: commit_survives_crash
+1 1 begin -> began 1; 1 1 insert 0 aa -> at 0.0.0; decided commit 1; 1 1 commit -> committed
+sound:
+kept: commit 1
+shown: commit 1 = 0.0.0 aa
+lost:
+shown:
 
-const G3: Name = [0x67, 0x33];
+run: failed_force
+# The force of the second commit failed: after the crash its record is there or not. What was acknowledged is kept.
+1 1 begin -> began 1; 1 1 insert 0 aa -> at 0.0.0; decided commit 1; 1 1 commit -> committed
+1 2 begin -> began 2; 1 2 insert 0 bb -> at 0.0.1; decided commit 2; 1 2 commit -> refused Device; 1 2 begin -> refused Failed
+sound:
+kept: commit 1; commit 2
+shown: commit 1; commit 2 = 0.0.0 aa 0.0.1 bb
+kept: commit 1
+shown: commit 1 = 0.0.0 aa
+lost:
+lost: commit 2
+shown: commit 2 = 0.0.1 bb
 
-const NOTHING: Found = Found {
-    records: &[],
-    in_doubt: &[],
-};
+run: nothing_is_kept_without_what_was_decided_before_it
+1 1 begin -> began 1; 2 2 begin -> began 2; decided commit 1; decided commit 2
+kept: commit 1; commit 2
+kept: commit 1
+kept:
+lost: commit 2
+lost: commit 2; commit 1
+lost: commit 1; commit 2; commit 2
 
-const ONE_RECORD: Found = Found {
-    records: &[(0, 0xaa)],
-    in_doubt: &[],
-};
+run: waiter_gets_the_old_bytes
+1 1 begin -> began 1; 1 1 insert 0 aa -> at 0.0.0; decided commit 1; 1 1 commit -> committed
+1 2 begin -> began 2; 1 2 update 0.0.0 bb -> updated; 2 3 begin -> began 3; 1 2 abort -> aborted
+sound: 2 3 get 0.0.0 -> got aa; decided commit 3
+unsound: 2 3 get 0.0.0 -> got bb; decided commit 3
 
-const ONE_IN_DOUBT: Found = Found {
-    records: &[],
-    in_doubt: &[(1, G1, (0, 0xaa))],
-};
+run: rollback_to_a_savepoint
+1 1 begin -> began 1; 1 1 insert 0 aa -> at 0.0.0; 1 1 savepoint -> saved 0; 1 1 update 0.0.0 bb -> updated
+1 1 delete 0.0.0 -> deleted; 1 1 get 0.0.0 -> refused NoRecord; 1 1 back 1 -> refused NoSavepoint; 1 1 back 0 -> went_back
+1 1 get 0.0.0 -> got aa; decided commit 1; 1 1 commit -> committed
+sound:
+shown: commit 1 = 0.0.0 aa
 
-#[derive(Clone, Copy, PartialEq, Eq)]
-enum Verdict {
-    /// A history whose answers are right.
-    Sound,
-    /// A history with a wrong answer.
-    Unsound,
-    NoHistory,
+run: answer_at_the_prepare
+# Transaction 2 gets a record and prepares; then 3 updates it and commits. The answer is right at the prepare, no longer at the commit.
+1 1 begin -> began 1; 1 1 insert 0 aa -> at 0.0.0; decided commit 1; 1 1 commit -> committed; 1 2 begin -> began 2
+unsound: 1 2 get 0.0.0 -> got dd; decided prepare 2 g3; \
+    2 3 begin -> began 3; 2 3 update 0.0.0 dd -> updated; decided commit 3; decided commit 2
+1 2 get 0.0.0 -> got aa; 1 2 insert 0 cc -> at 0.0.1; decided prepare 2 g3; 1 2 prepare g3 -> prepared
+2 3 begin -> began 3; 2 3 update 0.0.0 dd -> updated; decided commit 3; 2 3 commit -> committed
+decided commit 2; 3 2 resolve commit g3 -> resolved
+sound:
+kept: commit 1; prepare 2 g3; commit 3; commit 2
+shown: commit 1; prepare 2 g3; commit 3; commit 2 = 0.0.0 dd 0.0.1 cc
+in doubt: commit 1; prepare 2 g3; commit 3; commit 2 =
+lost: commit 1; prepare 2 g3; commit 3
+shown: commit 1; prepare 2 g3; commit 3 = 0.0.0 dd 0.0.1 cc
+in doubt: commit 1; prepare 2 g3; commit 3 = 2 g3
+
+run: prepared_survives_crash
+1 1 begin -> began 1; 1 1 insert 0 aa -> at 0.0.0; decided prepare 1 g1; 1 1 prepare g1 -> prepared; 1 1 commit -> refused IsPrepared
+sound:
+kept: prepare 1 g1
+shown: prepare 1 g1 = 0.0.0 aa
+in doubt: prepare 1 g1 = 1 g1
+lost:
+shown:
+in doubt:
+
+run: prepared_is_resolved
+# After the crash another session resolves it while transaction 2 waits, which then gets what it wrote.
+doubt: 1 0.0.0 g1 aa
+2 2 begin -> began 2
+unsound: 2 2 get 0.0.0 -> got aa; decided commit 2; 2 2 commit -> committed; decided roll_back 1
+decided commit 1; 3 1 resolve commit g1 -> resolved; 2 2 get 0.0.0 -> got aa; decided commit 2; 2 2 commit -> committed
+sound:
+lost:
+shown: = 0.0.0 aa
+in doubt: = 1 g1
+lost: roll_back 1
+shown: roll_back 1 =
+in doubt: roll_back 1 =
+
+run: a_resolve_to_abort_is_acknowledged
+doubt: 1 0.0.0 g1 aa
+decided roll_back 1; 2 1 resolve abort g1 -> resolved
+kept: roll_back 1
+lost:
+
+run: scan_misses_an_insert
+record: 0.0.0 aa
+1 2 begin -> began 2; 2 3 begin -> began 3
+unsound: 1 2 scan 0 -> scanned 1 0.0.0 aa; 2 3 insert 0 aa -> at 0.0.1; decided commit 3; decided commit 2
+sound: 1 2 scan 0 -> scanned 2 0.0.0 aa 0.0.1 aa; 2 3 insert 0 aa -> at 0.0.1; decided commit 3; decided commit 2
+unsound: 1 2 scan 0 -> scanned 2 0.0.1 aa 0.0.0 aa; 2 3 insert 0 aa -> at 0.0.1; decided commit 3; decided commit 2
+
+run: slot_read_as_absent
+record: 0.0.0 aa
+1 2 begin -> began 2; 2 3 begin -> began 3; 1 2 get 0.0.1 -> refused NoRecord
+sound: decided commit 2; 2 3 insert 0 bb -> at 0.0.1; decided commit 3
+unsound: 2 3 insert 0 bb -> at 0.0.1; decided commit 3; decided commit 2
+
+run: a_record_that_is_there_is_read_as_absent
+# Without its commit the transaction has no turn.
+record: 0.0.0 aa
+1 2 begin -> began 2
+sound: 1 2 get 0.0.2042 -> refused NoRecord; decided commit 2
+sound: 1 2 get 0.0.0 -> refused NoRecord
+unsound: 1 2 get 0.0.0 -> refused NoRecord; decided commit 2
+
+run: what_is_there_and_what_is_absent
+record: 0.0.0 aa
+1 1 begin -> began 1
+sound: 1 1 insert 0 bb -> at 0.0.1; decided commit 1
+unsound: 1 1 insert 0 bb -> at 0.0.0; decided commit 1
+unsound: 1 1 insert 0 bb -> at 1.0.1; decided commit 1
+sound: 1 1 update 0.0.0 bb -> updated; decided commit 1
+unsound: 1 1 update 0.0.1 bb -> updated; decided commit 1
+sound: 1 1 delete 0.0.0 -> deleted; decided commit 1
+unsound: 1 1 delete 0.0.1 -> deleted; decided commit 1
+sound: 1 1 get 0.0.0 -> got aa; decided commit 1
+unsound: 1 1 get 0.0.0 -> got bb; decided commit 1
+sound: 1 1 getu 0.0.0 -> got aa; decided commit 1
+unsound: 1 1 getu 0.0.0 -> got bb; decided commit 1
+unsound: 1 1 getu 0.0.1 -> got aa; decided commit 1
+
+run: savepoints_count_from_0
+1 1 begin -> began 1
+unsound: 1 1 savepoint -> saved 1; decided commit 1
+1 1 savepoint -> saved 0
+sound: decided commit 1
+sound: 1 1 back 0 -> went_back; decided commit 1
+unsound: 1 1 back 1 -> went_back; decided commit 1
+
+run: back_keeps_its_own_savepoint_and_drops_later_ones
+1 1 begin -> began 1; 1 1 savepoint -> saved 0; 1 1 savepoint -> saved 1; 1 1 back 0 -> went_back
+sound: 1 1 back 0 -> went_back; decided commit 1
+sound: 1 1 savepoint -> saved 1; decided commit 1
+unsound: 1 1 savepoint -> saved 0; decided commit 1
+unsound: 1 1 savepoint -> saved 2; decided commit 1
+unsound: 1 1 back 1 -> went_back; decided commit 1
+
+run: commits_count_in_their_order
+1 1 begin -> began 1; 1 1 insert 0 aa -> at 0.0.0; 1 1 update 0.0.0 bb -> updated; decided commit 1; 1 1 commit -> committed
+1 2 begin -> began 2; 1 2 update 0.0.0 cc -> updated; decided commit 2; 1 2 commit -> committed
+sound:
+shown: commit 1; commit 2 = 0.0.0 cc
+shown: commit 2; commit 1 = 0.0.0 bb
+
+run: a_prepare_lays_nothing
+1 1 begin -> began 1; 1 1 insert 0 aa -> at 0.0.0; decided prepare 1 g1; 1 1 prepare g1 -> prepared
+2 2 begin -> began 2
+sound: 2 2 get 0.0.0 -> refused NoRecord; decided commit 2
+unsound: 2 2 get 0.0.0 -> got aa; decided commit 2
+2 2 insert 0 bb -> at 0.0.0; decided commit 2; 2 2 commit -> committed
+shown: prepare 1 g1; roll_back 1 =
+shown: prepare 1 g1; commit 2; commit 1 = 0.0.0 aa
+
+run: calls_belong_to_their_sessions
+doubt: 1 0.0.0 g1 aa
+no history: 1 1 begin -> began 1
+1 2 begin -> began 2; decided commit 2; 1 2 commit -> committed; 1 0 savepoint -> refused NoTransaction
+sound:
+no history: 1 2 get 0.0.0 -> got bb
+
+run: numbers_of_transactions_rise
+no history: 1 0 begin -> began 0
+1 2 begin -> began 2; 1 2 abort -> aborted
+sound: 1 3 begin -> began 3
+no history: 1 2 begin -> began 2
+no history: 1 1 begin -> began 1
+no history: 2 3 begin -> began 4
+
+run: an_aborted_transaction_is_left
+1 1 begin -> began 1; 1 1 abort -> aborted
+sound: 1 0 get 0.0.0 -> refused NoTransaction
+no history: 1 1 get 0.0.0 -> got aa
+
+run: a_prepared_transaction_is_left_at_its_decision
+1 1 begin -> began 1
+no history: decided roll_back 1
+decided prepare 1 g1; 1 1 prepare g1 -> prepared
+no history: 1 0 commit -> refused NoTransaction
+sound: decided roll_back 1
+decided commit 1
+sound: 1 0 commit -> refused NoTransaction
+no history: 1 1 commit -> refused IsPrepared
+
+run: global_id_is_used_again
+# It names the transaction that was prepared last.
+doubt: 1 0.0.0 g1 aa
+decided roll_back 1; 1 2 begin -> began 2; decided prepare 2 g1; 1 2 prepare g1 -> prepared; decided commit 2
+sound: 1 2 resolve commit g1 -> resolved
+no history: 1 1 resolve commit g1 -> resolved
+";
+
+/// What an open found, and what happened since.
+#[derive(Drop)]
+struct Run {
+    opening: Opening,
+    entries: Vec<Entry>,
 }
 
-fn judge(alloc: Global, found: &Found, lines: &[Line]) -> Result<Verdict, AllocError> {
-    let opening = opening(alloc, found)?;
-    let entries = entries(alloc, lines)?;
-    if !is_history(alloc, &opening, &entries)? {
-        return Ok(Verdict::NoHistory);
-    }
-    if is_sound(alloc, &opening, &entries)? {
-        Ok(Verdict::Sound)
-    } else {
-        Ok(Verdict::Unsound)
+fn new_run(alloc: Global) -> Run {
+    Run {
+        opening: Opening {
+            records: RidMap::new(alloc),
+            in_doubt: Sequence::new(alloc),
+        },
+        entries: Vec::new(alloc),
     }
 }
 
-fn check(
-    rt: &(impl Abort + AllocGlobal),
-    found: &Found,
-    lines: &[Line],
-    verdict: Verdict,
-) -> Result<(), AllocError> {
-    assert!(rt; judge(rt.alloc(), found, lines)? == verdict);
+#[test]
+fn histories(rt: HostRuntime) -> Result<(), Fail> {
+    let alloc = rt.alloc();
+    let mut run = new_run(alloc);
+    for line in HISTORIES.lines() {
+        if let Err(trouble) = play(alloc, &mut run, line) {
+            return Err(Fail::new(format_args!("{trouble:?}: {line}")));
+        }
+    }
     Ok(())
 }
 
-/// A crash that keeps these decisions: whether it may, and what is found then.
-#[derive(Clone, Copy)]
-struct Crash<'a> {
-    kept: &'a [(u64, Settled)],
-    may_be: bool,
-    shown: &'a [Short],
-    in_doubt: &'a [(u64, Name)],
+fn play(alloc: Global, run: &mut Run, line: &str) -> Result<(), Trouble> {
+    if is_remark(line) {
+        return Ok(());
+    }
+    match line.split_once(':') {
+        Some(("run", _)) => {
+            *run = new_run(alloc);
+            Ok(())
+        }
+        Some((verb, rest)) => judge(alloc, run, verb, rest),
+        None => add(alloc, &mut run.entries, line),
+    }
 }
 
-fn check_crashes(
-    rt: &(impl Abort + AllocGlobal),
-    found: &Found,
-    lines: &[Line],
-    crashes: &[Crash],
-) -> Result<(), AllocError> {
-    let opening = opening(rt.alloc(), found)?;
-    let entries = entries(rt.alloc(), lines)?;
-    for crash in crashes {
-        check_crash(rt, &opening, &entries, crash)?;
+fn judge(alloc: Global, run: &mut Run, verb: &str, rest: &str) -> Result<(), Trouble> {
+    match verb {
+        "record" => find_record(alloc, run, &mut rest.split_whitespace()),
+        "doubt" => find_doubt(alloc, run, &mut rest.split_whitespace()),
+        "sound" | "unsound" => require_soundness(alloc, run, rest, verb == "sound"),
+        "no history" => require_no_history(alloc, run, rest),
+        _ => judge_decisions(alloc, run, verb, rest),
+    }
+}
+
+fn add(alloc: Global, entries: &mut Vec<Entry>, line: &str) -> Result<(), Trouble> {
+    if is_blank(line) {
+        return Ok(());
+    }
+    for step in line.split(';') {
+        let mut words = step.split_whitespace();
+        entries.push(entry(alloc, &mut words)?)?;
+        end(&mut words)?;
     }
     Ok(())
 }
 
-fn check_crash(
-    rt: &(impl Abort + AllocGlobal),
+fn find_record(alloc: Global, run: &mut Run, words: &mut Words) -> Result<(), Trouble> {
+    let id = rid(words)?;
+    run.opening.records.insert(id, bytes(alloc, words)?)?;
+    end(words)
+}
+
+fn find_doubt(alloc: Global, run: &mut Run, words: &mut Words) -> Result<(), Trouble> {
+    run.opening.in_doubt.push(doubt(alloc, words)?)?;
+    end(words)
+}
+
+fn require_soundness(
+    alloc: Global,
+    run: &mut Run,
+    rest: &str,
+    wanted: bool,
+) -> Result<(), Trouble> {
+    let length = run.entries.len();
+    add(alloc, &mut run.entries, rest)?;
+    let judged = is_history(alloc, &run.opening, &run.entries)?
+        && is_sound(alloc, &run.opening, &run.entries)? == wanted;
+    run.entries.truncate(length);
+    require(judged)
+}
+
+fn require_no_history(alloc: Global, run: &mut Run, rest: &str) -> Result<(), Trouble> {
+    let length = run.entries.len();
+    add(alloc, &mut run.entries, rest)?;
+    let spoiled = is_spoiled_by_last(alloc, &run.opening, &run.entries)?;
+    run.entries.truncate(length);
+    require(spoiled)
+}
+
+fn is_spoiled_by_last(
+    alloc: Global,
     opening: &Opening,
     entries: &[Entry],
-    crash: &Crash,
-) -> Result<(), AllocError> {
-    let alloc = rt.alloc();
-    let kept = decisions(alloc, crash.kept)?;
-    assert!(rt; is_kept(alloc, entries, &kept)? == crash.may_be);
-    let shown = shown_records(alloc, opening, entries, &kept)?.scan(alloc, STORE)?;
-    assert!(rt; shown == pairs(alloc, crash.shown)?);
-    assert!(rt; in_doubt(alloc, opening, &kept)? == doubts(alloc, crash.in_doubt)?);
-    Ok(())
-}
-
-fn doubts(alloc: Global, named: &[(u64, Name)]) -> Result<Sequence<(TxnId, GlobalId)>, AllocError> {
-    let mut doubts = Sequence::new(alloc);
-    for (txn, name) in named {
-        doubts.push((TxnId(*txn), bytes(alloc, name)?))?;
-    }
-    Ok(doubts)
-}
-
-#[test]
-fn commit_survives_crash(rt: HostRuntime) -> Result<(), AllocError> {
-    let lines = [(1, 1, Begin), (1, 1, Insert(0, 0xaa)), (1, 1, Commit)];
-    check(&rt, &NOTHING, &lines, Verdict::Sound)?;
-    let crashes = [
-        Crash {
-            kept: &[(1, Settled::Commit)],
-            may_be: true,
-            shown: &[(0, 0xaa)],
-            in_doubt: &[],
-        },
-        Crash {
-            kept: &[],
-            may_be: false,
-            shown: &[],
-            in_doubt: &[],
-        },
-    ];
-    check_crashes(&rt, &NOTHING, &lines, &crashes)
-}
-
-// The force of the commit failed: after the crash the record is there or not. What was acknowledged earlier is kept,
-// and nothing is kept without what was decided before it.
-#[test]
-fn failed_force(rt: HostRuntime) -> Result<(), AllocError> {
-    let lines = [
-        (1, 1, Begin),
-        (1, 1, Insert(0, 0xaa)),
-        (1, 1, Commit),
-        (1, 2, Begin),
-        (1, 2, Insert(1, 0xbb)),
-        (0, 2, Decided(Settled::Commit)),
-        (1, 2, Refused(CommitUnforced)),
-        (1, 2, Refused(BeginAfterFailure)),
-    ];
-    check(&rt, &NOTHING, &lines, Verdict::Sound)?;
-    let crashes = [
-        Crash {
-            kept: &[(1, Settled::Commit), (2, Settled::Commit)],
-            may_be: true,
-            shown: &[(0, 0xaa), (1, 0xbb)],
-            in_doubt: &[],
-        },
-        Crash {
-            kept: &[(1, Settled::Commit)],
-            may_be: true,
-            shown: &[(0, 0xaa)],
-            in_doubt: &[],
-        },
-        Crash {
-            kept: &[],
-            may_be: false,
-            shown: &[],
-            in_doubt: &[],
-        },
-        Crash {
-            kept: &[(2, Settled::Commit)],
-            may_be: false,
-            shown: &[(1, 0xbb)],
-            in_doubt: &[],
-        },
-    ];
-    check_crashes(&rt, &NOTHING, &lines, &crashes)
-}
-
-// Transaction 2 updates and aborts; 3 waited for it, and gets what it finds.
-fn after_the_wait(found: u8) -> [Line; 9] {
-    [
-        (1, 1, Begin),
-        (1, 1, Insert(0, 0xaa)),
-        (1, 1, Commit),
-        (1, 2, Begin),
-        (1, 2, Update(0, 0xbb)),
-        (2, 3, Begin),
-        (1, 2, Abort),
-        (2, 3, Get(0, found)),
-        (2, 3, Commit),
-    ]
-}
-
-#[test]
-fn waiter_gets_the_old_bytes(rt: HostRuntime) -> Result<(), AllocError> {
-    check(&rt, &NOTHING, &after_the_wait(0xaa), Verdict::Sound)?;
-    check(&rt, &NOTHING, &after_the_wait(0xbb), Verdict::Unsound)
-}
-
-#[test]
-fn rollback_to_a_savepoint(rt: HostRuntime) -> Result<(), AllocError> {
-    let lines = [
-        (1, 1, Begin),
-        (1, 1, Insert(0, 0xaa)),
-        (1, 1, Savepoint(0)),
-        (1, 1, Update(0, 0xbb)),
-        (1, 1, Delete(0)),
-        (1, 1, Refused(GetOfNoRecord(0))),
-        (1, 1, Refused(BackToNoSavepoint(1))),
-        (1, 1, BackTo(0)),
-        (1, 1, Get(0, 0xaa)),
-        (1, 1, Commit),
-    ];
-    check(&rt, &NOTHING, &lines, Verdict::Sound)?;
-    assert!(rt; writes_alone(rt.alloc(), &lines, TxnId(1), (0, 0xaa))?);
-    Ok(())
-}
-
-// A transaction may run alone where there is no record, and then it writes this record.
-fn writes_alone(
-    alloc: Global,
-    lines: &[Line],
-    txn: TxnId,
-    written: Short,
 ) -> Result<bool, AllocError> {
-    let (slot, byte) = written;
-    let entries = entries(alloc, lines)?;
-    let Some(writes) = alone(alloc, &RidMap::new(alloc), &entries, txn)? else {
-        return Ok(false);
-    };
-    match writes.get(rid(slot)) {
-        Some(Some(image)) => Ok(image.as_slice() == [byte].as_slice()),
-        _ => Ok(false),
+    match entries.split_last() {
+        Some((_, before)) => {
+            Ok(is_history(alloc, opening, before)? && !is_history(alloc, opening, entries)?)
+        }
+        None => Ok(false),
     }
 }
 
-// Transaction 2 gets slot 0, inserts at slot 1 and prepares; then 3 updates slot 0 and commits, and 2 is committed.
-fn prepared_before(got: u8) -> [Line; 12] {
-    [
-        (1, 1, Begin),
-        (1, 1, Insert(0, 0xaa)),
-        (1, 1, Commit),
-        (1, 2, Begin),
-        (1, 2, Get(0, got)),
-        (1, 2, Insert(1, 0xcc)),
-        (1, 2, Prepare(G3)),
-        (2, 3, Begin),
-        (2, 3, Update(0, 0xdd)),
-        (2, 3, Commit),
-        (0, 2, Decided(Settled::Commit)),
-        (3, 2, Resolve(G3)),
-    ]
-}
-
-// The answer is right at the turn, the prepare, and no longer at the commit.
-#[test]
-fn answer_at_the_prepare(rt: HostRuntime) -> Result<(), AllocError> {
-    let lines = prepared_before(0xaa);
-    check(&rt, &NOTHING, &lines, Verdict::Sound)?;
-    check(&rt, &NOTHING, &prepared_before(0xdd), Verdict::Unsound)?;
-    let kept = [
-        (1, Settled::Commit),
-        (2, Settled::Prepare(G3)),
-        (3, Settled::Commit),
-        (2, Settled::Commit),
-    ];
-    let crashes = [
-        Crash {
-            kept: &kept,
-            may_be: true,
-            shown: &[(0, 0xdd), (1, 0xcc)],
-            in_doubt: &[],
-        },
-        Crash {
-            kept: &kept[..3],
-            may_be: false,
-            shown: &[(0, 0xdd), (1, 0xcc)],
-            in_doubt: &[(2, G3)],
-        },
-    ];
-    check_crashes(&rt, &NOTHING, &lines, &crashes)
-}
-
-#[test]
-fn prepared_survives_crash(rt: HostRuntime) -> Result<(), AllocError> {
-    let lines = [
-        (1, 1, Begin),
-        (1, 1, Insert(0, 0xaa)),
-        (1, 1, Prepare(G1)),
-        (1, 1, Refused(CommitOfPrepared)),
-    ];
-    check(&rt, &NOTHING, &lines, Verdict::Sound)?;
-    let crashes = [
-        Crash {
-            kept: &[(1, Settled::Prepare(G1))],
-            may_be: true,
-            shown: &[(0, 0xaa)],
-            in_doubt: &[(1, G1)],
-        },
-        Crash {
-            kept: &[],
-            may_be: false,
-            shown: &[],
-            in_doubt: &[],
-        },
-    ];
-    check_crashes(&rt, &NOTHING, &lines, &crashes)
-}
-
-// After the crash another session resolves it while transaction 2 waits, which then gets what it wrote.
-#[test]
-fn prepared_is_resolved(rt: HostRuntime) -> Result<(), AllocError> {
-    let lines = [
-        (2, 2, Begin),
-        (0, 1, Decided(Settled::Commit)),
-        (3, 1, Resolve(G1)),
-        (2, 2, Get(0, 0xaa)),
-        (2, 2, Commit),
-    ];
-    check(&rt, &ONE_IN_DOUBT, &lines, Verdict::Sound)?;
-    let lost = Crash {
-        kept: &[],
-        may_be: false,
-        shown: &[(0, 0xaa)],
-        in_doubt: &[(1, G1)],
+fn judge_decisions(alloc: Global, run: &Run, verb: &str, rest: &str) -> Result<(), Trouble> {
+    let (made, left) = match rest.split_once('=') {
+        Some(parts) => parts,
+        None => (rest, ""),
     };
-    check_crashes(&rt, &ONE_IN_DOUBT, &lines, &[lost])?;
-    let early = [
-        (2, 2, Begin),
-        (2, 2, Get(0, 0xaa)),
-        (2, 2, Commit),
-        (0, 1, Decided(Settled::RollBack)),
-    ];
-    check(&rt, &ONE_IN_DOUBT, &early, Verdict::Unsound)?;
-    let rolled_back = Crash {
-        kept: &[(1, Settled::RollBack)],
-        may_be: false,
-        shown: &[],
-        in_doubt: &[],
-    };
-    check_crashes(&rt, &ONE_IN_DOUBT, &early, &[rolled_back])
+    let made = decisions(alloc, made)?;
+    judge_made(alloc, run, verb, &made, &mut left.split_whitespace())
 }
 
-// Transaction 2 scans, and 3 inserts at slot 1 and commits before 2 does.
-fn scan_beside_an_insert(seen: &'static [Short]) -> [Line; 6] {
-    [
-        (1, 2, Begin),
-        (2, 3, Begin),
-        (1, 2, Scan(seen)),
-        (2, 3, Insert(1, 0xaa)),
-        (2, 3, Commit),
-        (1, 2, Commit),
-    ]
+fn decisions(alloc: Global, text: &str) -> Result<Vec<Decision>, Trouble> {
+    let mut made = Vec::new(alloc);
+    add_decisions(alloc, &mut made, text)?;
+    Ok(made)
 }
 
-#[test]
-fn scan_misses_an_insert(rt: HostRuntime) -> Result<(), AllocError> {
-    let missed = scan_beside_an_insert(&[(0, 0xaa)]);
-    check(&rt, &ONE_RECORD, &missed, Verdict::Unsound)?;
-    let seen = scan_beside_an_insert(&[(0, 0xaa), (1, 0xaa)]);
-    check(&rt, &ONE_RECORD, &seen, Verdict::Sound)?;
-    let out_of_order = scan_beside_an_insert(&[(1, 0xaa), (0, 0xaa)]);
-    check(&rt, &ONE_RECORD, &out_of_order, Verdict::Unsound)
-}
-
-// Transaction 2 reads slot 1 as absent, and 3 inserts there: right only where 2 commits first.
-#[test]
-fn slot_read_as_absent(rt: HostRuntime) -> Result<(), AllocError> {
-    let before_the_insert = [
-        (1, 2, Begin),
-        (2, 3, Begin),
-        (1, 2, Refused(GetOfNoRecord(1))),
-        (1, 2, Commit),
-        (2, 3, Insert(1, 0xbb)),
-        (2, 3, Commit),
-    ];
-    check(&rt, &ONE_RECORD, &before_the_insert, Verdict::Sound)?;
-    let after_the_insert = [
-        (1, 2, Begin),
-        (2, 3, Begin),
-        (1, 2, Refused(GetOfNoRecord(1))),
-        (2, 3, Insert(1, 0xbb)),
-        (2, 3, Commit),
-        (1, 2, Commit),
-    ];
-    check(&rt, &ONE_RECORD, &after_the_insert, Verdict::Unsound)?;
-    let full = [
-        (1, 2, Begin),
-        (1, 2, Refused(GetOfNoRecord(2042))),
-        (1, 2, Refused(GetOfNoRecord(0))),
-        (1, 2, Commit),
-    ];
-    // Without its commit it has no turn.
-    check(&rt, &ONE_RECORD, &full[..3], Verdict::Sound)?;
-    check(&rt, &ONE_RECORD, &full, Verdict::Unsound)
-}
-
-// Whose call it is follows from the session's earlier entries, and numbers rise.
-#[test]
-fn calls_belong_to_their_sessions(rt: HostRuntime) -> Result<(), AllocError> {
-    check(&rt, &ONE_IN_DOUBT, &[(1, 1, Begin)], Verdict::NoHistory)?;
-    let lines = [
-        (1, 2, Begin),
-        (1, 2, Commit),
-        (1, 0, Refused(SavepointOutside)),
-        (1, 2, Get(0, 0xbb)),
-    ];
-    check(&rt, &ONE_IN_DOUBT, &lines[..3], Verdict::Sound)?;
-    check(&rt, &ONE_IN_DOUBT, &lines, Verdict::NoHistory)
-}
-
-// A global id that is used again names the transaction that was prepared last.
-#[test]
-fn global_id_is_used_again(rt: HostRuntime) -> Result<(), AllocError> {
-    for (txn, verdict) in [(1, Verdict::NoHistory), (2, Verdict::Sound)] {
-        let lines = [
-            (0, 1, Decided(Settled::RollBack)),
-            (1, 2, Begin),
-            (1, 2, Prepare(G1)),
-            (0, 2, Decided(Settled::Commit)),
-            (1, txn, Resolve(G1)),
-        ];
-        check(&rt, &ONE_IN_DOUBT, &lines, verdict)?;
+fn add_decisions(alloc: Global, made: &mut Vec<Decision>, text: &str) -> Result<(), Trouble> {
+    if is_blank(text) {
+        return Ok(());
+    }
+    for step in text.split(';') {
+        let mut words = step.split_whitespace();
+        made.push(decision(alloc, &mut words)?)?;
+        end(&mut words)?;
     }
     Ok(())
 }
 
-#[test]
-fn record_limits(rt: HostRuntime) -> Result<(), AllocError> {
-    let alloc = rt.alloc();
-    let geometry = Geometry {
-        pair: 1,
-        max_locks: 16,
-        stores: Sequence::from_vec(vec![in alloc; 2u32]?),
-    };
-    for (page, slot, length, right) in [
-        (1, 2041, 4000, true),
-        (1, 2041, 4001, false),
-        (1, 2042, 4000, false),
-        (2, 0, 0, false),
-    ] {
-        let mut records = RidMap::new(alloc);
-        let id = Rid {
-            page: PageId { store: STORE, page },
-            slot,
-        };
-        let bytes = Sequence::from_vec(Vec::from_elem(alloc, 0xaau8, length)?);
-        records.insert(id, bytes)?;
-        assert!(rt; records.are_records(&geometry) == right);
+fn judge_made(
+    alloc: Global,
+    run: &Run,
+    verb: &str,
+    made: &[Decision],
+    words: &mut Words,
+) -> Result<(), Trouble> {
+    match verb {
+        "kept" => require(is_kept(alloc, &run.entries, made)?),
+        "lost" => require(!is_kept(alloc, &run.entries, made)?),
+        "shown" => require_shown(alloc, run, made, words),
+        "in doubt" => require_doubts(alloc, run, made, words),
+        _ => Err(Trouble::NoLine),
     }
-    Ok(())
+}
+
+fn require_shown(
+    alloc: Global,
+    run: &Run,
+    made: &[Decision],
+    words: &mut Words,
+) -> Result<(), Trouble> {
+    let shown = shown_records(alloc, &run.opening, &run.entries, made)?;
+    require_records(&shown, words)
+}
+
+fn require_doubts(
+    alloc: Global,
+    run: &Run,
+    made: &[Decision],
+    words: &mut Words,
+) -> Result<(), Trouble> {
+    let found = in_doubt(alloc, &run.opening, made)?;
+    require_pairs(found.as_slice(), words)
+}
+
+fn require_pairs(found: &[(TxnId, GlobalId)], words: &mut Words) -> Result<(), Trouble> {
+    for (of, global) in found {
+        require(txn(words)? == *of)?;
+        require(word(words)?.as_bytes() == global.as_slice())?;
+    }
+    end(words)
 }

@@ -1,217 +1,231 @@
 //! Locks: the tables of modes, harmony along paths, and who waits for whom.
+use super::modes::mode_of;
+use super::trouble::{Trouble, require};
+use super::words::{Words, end, granule_of, is_blank, is_remark, number_of, txn, word};
 use shore_model::{Hold, Request};
-use shore_modes::{allowed, coexist, covers, grants, parent_mode, sup};
-use shore_types::{Granule, Level, Mode, PageId, Rid, StoreId, TxnId};
+use shore_types::{Mode, Sequence, TxnId};
 use slow_locks::holds::{harmony, stand_together, well_rooted};
 use slow_locks::requests::{are_requests, held_by_all, is_cycle, placed_last, queue_at, waits_for};
-use std::alloc::AllocError;
-use std::process::Abort;
+use std::alloc::Global;
+use std::test::Fail;
 
-const STORE: Granule = Granule::Store(StoreId(0));
+// A request reads `1 IX - 0`: a transaction, what it holds, what it wants, and the granule. A line without a colon adds some,
+// parted by `;`. `run:` begins anew, and `placed:` adds a request as one that has begun to wait. `harmony:` and `discord:`,
+// `together:` and `apart:`, `rooted:` and `unrooted:`, `requests:` and `doubled:` judge the list with these requests too.
+const LOCKS: &str = "
+run: conversion_to_six
+# 1 holds SIX and 2 IS on the store, below IX and IS on the volume; 3 wants IX on the store.
+1 IX - v; 2 IS - v; 3 IX - v; 3 - IX 0; 1 SIX - 0; 2 IS - 0
+rooted:
+harmony:
+apart: 4 IX - 0
+unrooted: 4 IX - 0
+queue: 0 1 2 3
+waits: 3 1
+free: 3 2
 
-fn page(number: u32) -> Granule {
-    Granule::Page(PageId {
-        store: StoreId(0),
-        page: number,
-    })
+run: a_reader_below_a_writer
+# The modes meet on no granule, and yet are not in harmony.
+1 EX - 0
+together: 2 SH - 0.0.0
+discord: 2 SH - 0.0.0
+discord: 2 UD - 0.0.0
+discord: 2 SH - v
+harmony: 2 SH - 1.0.0
+harmony: 1 SH - 0.0.0
+
+run: a_six_reads
+discord: 1 SIX - 0; 2 EX - 0.0.0
+harmony: 1 IX - 0; 2 EX - 0.0.0
+
+run: update_mode_refuses_new_readers
+2 SH - 0.0.0; 3 UD - 0.0.0; 4 - SH 0.0.0
+waits: 4 3
+free: 4 2
+free: 3 2
+
+run: conversion_deadlock
+2 SH EX 0.0.0; 3 SH EX 0.0.0
+cycle: 3 2
+no cycle: 3
+no cycle:
+
+run: one_got_the_record
+2 SH EX 0.0.0; 3 SH - 0.0.0
+no cycle: 3 2
+
+run: cycle_through_a_queue
+# 2 waits behind 3, whom it is not refused by.
+1 SH - 0.0; 2 EX - 0.1; 3 - EX 0.0; 2 - SH 0.0; 1 - SH 0.1
+cycle: 3 1 2
+no cycle: 3 2 1
+free: 2 1
+free: 3 2
+
+run: conversion_stands_before_new_waiters
+1 SH - 0.0; 2 SH - 0.0; 3 - EX 0.0
+doubled: 1 SH SIX 0.0
+placed: 1 SH SIX 0.0
+requests:
+order: 2 3 1
+queue: 0.0 2 1 3
+waits: 3 1
+free: 1 3
+";
+
+#[test]
+fn locks(rt: HostRuntime) -> Result<(), Fail> {
+    let alloc = rt.alloc();
+    let mut requests = Sequence::new(alloc);
+    for line in LOCKS.lines() {
+        if let Err(trouble) = play(alloc, &mut requests, line) {
+            return Err(Fail::new(format_args!("{trouble:?}: {line}")));
+        }
+    }
+    Ok(())
 }
 
-fn record(store: u32) -> Granule {
-    Granule::Record(Rid {
-        page: PageId {
-            store: StoreId(store),
-            page: 0,
-        },
-        slot: 0,
-    })
-}
-
-fn hold(txn: u64, granule: Granule, mode: Mode) -> Hold {
-    Hold {
-        txn: TxnId(txn),
-        granule,
-        mode,
+fn play(alloc: Global, requests: &mut Sequence<Request>, line: &str) -> Result<(), Trouble> {
+    if is_remark(line) {
+        return Ok(());
+    }
+    match line.split_once(':') {
+        Some(("run", _)) => {
+            requests.truncate(0);
+            Ok(())
+        }
+        Some(("placed", rest)) => index(alloc, requests, rest),
+        Some((verb, rest)) => judge(alloc, requests, verb, rest),
+        None => add(requests, line),
     }
 }
 
-fn request(txn: u64, granule: Granule, held: Option<Mode>, wanted: Option<Mode>) -> Request {
-    Request {
-        txn: TxnId(txn),
+fn add(requests: &mut Sequence<Request>, line: &str) -> Result<(), Trouble> {
+    if is_blank(line) {
+        return Ok(());
+    }
+    for step in line.split(';') {
+        add_one(requests, &mut step.split_whitespace())?;
+    }
+    Ok(())
+}
+
+fn add_one(requests: &mut Sequence<Request>, words: &mut Words) -> Result<(), Trouble> {
+    let txn = txn(words)?;
+    let held = mode_or_none(words)?;
+    let wanted = mode_or_none(words)?;
+    let granule = granule_of(word(words)?)?;
+    end(words)?;
+    requests.push(Request {
+        txn,
         granule,
         held,
         wanted,
-    }
-}
-
-// Of each pair it is said whether the first waits for the second.
-fn check_waits(
-    rt: &(impl Abort + AllocGlobal),
-    requests: &[Request],
-    pairs: &[(u64, u64, bool)],
-) -> Result<(), AllocError> {
-    for (txn, other, waits) in pairs {
-        assert!(rt; waits_for(rt.alloc(), requests, TxnId(*txn), TxnId(*other))? == *waits);
-    }
+    })?;
     Ok(())
 }
 
-// Of each list it is said whether each waits for the next, and the last for the first.
-fn check_cycles(
-    rt: &(impl Abort + AllocGlobal),
-    requests: &[Request],
-    lists: &[(&[TxnId], bool)],
-) -> Result<(), AllocError> {
-    for (list, closes) in lists {
-        assert!(rt; is_cycle(rt.alloc(), requests, list)? == *closes);
+fn mode_or_none(words: &mut Words) -> Result<Option<Mode>, Trouble> {
+    match word(words)? {
+        "-" => Ok(None),
+        name => Ok(Some(mode_of(name)?)),
     }
+}
+
+fn index(alloc: Global, requests: &mut Sequence<Request>, line: &str) -> Result<(), Trouble> {
+    add(requests, line)?;
+    let Some((placed, before)) = requests.as_slice().split_last() else {
+        return Err(Trouble::NoLine);
+    };
+    *requests = placed_last(alloc, before, *placed)?;
     Ok(())
 }
 
-fn check_queue(
-    rt: &(impl Abort + AllocGlobal),
-    requests: &[Request],
-    granule: Granule,
-    queue: &[Request],
-) -> Result<(), AllocError> {
-    let found = queue_at(rt.alloc(), requests, granule)?;
-    assert!(rt; found.as_slice() == queue);
-    Ok(())
-}
-
-#[test]
-fn mode_tables(rt: HostRuntime) {
-    let modes = [Mode::IS, Mode::IX, Mode::SH, Mode::SIX, Mode::EX];
-    let rows = [
-        [true, true, true, true, false],
-        [true, true, false, false, false],
-        [true, false, true, false, false],
-        [true, false, false, false, false],
-        [false, false, false, false, false],
-    ];
-    for i in 0..5 {
-        for j in 0..5 {
-            assert!(rt; coexist(modes[i], modes[j]) == rows[i][j]);
-            assert!(rt; grants(modes[i], modes[j]) == rows[i][j]);
-        }
+fn judge(
+    alloc: Global,
+    requests: &mut Sequence<Request>,
+    verb: &str,
+    rest: &str,
+) -> Result<(), Trouble> {
+    let mut words = rest.split_whitespace();
+    match verb {
+        "waits" => require_wait(alloc, requests.as_slice(), &mut words, true),
+        "free" => require_wait(alloc, requests.as_slice(), &mut words, false),
+        "cycle" => require_cycle(alloc, requests.as_slice(), &mut words, true),
+        "no cycle" => require_cycle(alloc, requests.as_slice(), &mut words, false),
+        "order" => require_order(requests.as_slice(), &mut words),
+        "queue" => require_queue(alloc, requests.as_slice(), &mut words),
+        _ => judge_held(alloc, requests, verb, rest),
     }
-    assert!(rt; coexist(Mode::SH, Mode::UD) && coexist(Mode::UD, Mode::SH));
-    assert!(rt; !coexist(Mode::UD, Mode::UD) && !coexist(Mode::UD, Mode::EX));
-    assert!(rt; grants(Mode::SH, Mode::UD) && !grants(Mode::UD, Mode::SH));
-    assert!(rt; sup(Mode::IX, Mode::SH) == Mode::SIX && sup(Mode::UD, Mode::SH) == Mode::UD);
-    assert!(rt; sup(Mode::SIX, Mode::IS) == Mode::SIX && sup(Mode::UD, Mode::EX) == Mode::EX);
-    assert!(rt;
-        covers(Mode::SIX, Mode::SH) && !covers(Mode::SIX, Mode::IX) && !covers(Mode::SH, Mode::UD)
-    );
-    assert!(rt; parent_mode(Mode::SH) == Mode::IS && parent_mode(Mode::UD) == Mode::IX);
-    assert!(rt; allowed(Level::Record, Mode::UD) && !allowed(Level::Store, Mode::UD));
-    assert!(rt; allowed(Level::Page, Mode::SIX) && !allowed(Level::Record, Mode::IX));
 }
 
-// 1 holds SIX and 2 IS on the store, below IX and IS on the volume; 3 wants IX on the store.
-#[test]
-fn conversion_to_six(rt: HostRuntime) -> Result<(), AllocError> {
-    let held = [
-        hold(1, Granule::Volume, Mode::IX),
-        hold(2, Granule::Volume, Mode::IS),
-        hold(3, Granule::Volume, Mode::IX),
-        hold(1, STORE, Mode::SIX),
-        hold(2, STORE, Mode::IS),
-    ];
-    assert!(rt; well_rooted(&held) && harmony(&held));
-    let both = [hold(1, STORE, Mode::SIX), hold(3, STORE, Mode::IX)];
-    assert!(rt; !stand_together(&both) && !well_rooted(&both));
-    let requests = [
-        request(3, STORE, None, Some(Mode::IX)),
-        request(1, STORE, Some(Mode::SIX), None),
-        request(2, STORE, Some(Mode::IS), None),
-    ];
-    let queue = [requests[1], requests[2], requests[0]];
-    check_queue(&rt, &requests, STORE, &queue)?;
-    check_waits(&rt, &requests, &[(3, 1, true), (3, 2, false)])
+fn require_wait(
+    alloc: Global,
+    requests: &[Request],
+    words: &mut Words,
+    wanted: bool,
+) -> Result<(), Trouble> {
+    let waiter = txn(words)?;
+    let other = txn(words)?;
+    end(words)?;
+    require(waits_for(alloc, requests, waiter, other)? == wanted)
 }
 
-// A writer of the store and a reader of a record in it: the modes meet on no granule, and yet are not in harmony.
-#[test]
-fn reader_below_a_writer(rt: HostRuntime) {
-    let bare = [hold(1, STORE, Mode::EX), hold(2, record(0), Mode::SH)];
-    assert!(rt; stand_together(&bare) && !harmony(&bare));
-    let swapped = [
-        hold(2, record(0), Mode::UD),
-        hold(1, Granule::Volume, Mode::EX),
-    ];
-    assert!(rt; !harmony(&swapped));
-    let apart = [hold(1, STORE, Mode::EX), hold(2, record(1), Mode::SH)];
-    assert!(rt; harmony(&apart));
-    let own = [hold(1, STORE, Mode::EX), hold(1, record(0), Mode::SH)];
-    assert!(rt; harmony(&own));
+fn require_cycle(
+    alloc: Global,
+    requests: &[Request],
+    words: &mut Words,
+    wanted: bool,
+) -> Result<(), Trouble> {
+    let members = members(alloc, words)?;
+    require(is_cycle(alloc, requests, members.as_slice())? == wanted)
 }
 
-// 3 got the record for update, and 4 comes to read it: a held UD lets no new reader in.
-#[test]
-fn update_mode_refuses_new_readers(rt: HostRuntime) -> Result<(), AllocError> {
-    let requests = [
-        request(2, record(0), Some(Mode::SH), None),
-        request(3, record(0), Some(Mode::UD), None),
-        request(4, record(0), None, Some(Mode::SH)),
-    ];
-    check_waits(
-        &rt,
-        &requests,
-        &[(4, 3, true), (4, 2, false), (3, 2, false)],
-    )
+fn members(alloc: Global, words: &mut Words) -> Result<Sequence<TxnId>, Trouble> {
+    let mut members = Sequence::new(alloc);
+    for word in words {
+        members.push(TxnId(number_of(word)?))?;
+    }
+    Ok(members)
 }
 
-// Both got the record and then want to update it.
-#[test]
-fn conversion_deadlock(rt: HostRuntime) -> Result<(), AllocError> {
-    let requests = [
-        request(2, record(0), Some(Mode::SH), Some(Mode::EX)),
-        request(3, record(0), Some(Mode::SH), Some(Mode::EX)),
-    ];
-    let both = [TxnId(3), TxnId(2)];
-    check_cycles(
-        &rt,
-        &requests,
-        &[(&both, true), (&both[..1], false), (&[], false)],
-    )?;
-    let granted = [requests[0], request(3, record(0), Some(Mode::SH), None)];
-    check_cycles(&rt, &granted, &[(&both, false)])
+fn require_order(requests: &[Request], words: &mut Words) -> Result<(), Trouble> {
+    for request in requests {
+        require(txn(words)? == request.txn)?;
+    }
+    end(words)
 }
 
-// 2 waits behind 3, whom it is not refused by.
-#[test]
-fn cycle_through_a_queue(rt: HostRuntime) -> Result<(), AllocError> {
-    let requests = [
-        request(1, page(0), Some(Mode::SH), None),
-        request(2, page(1), Some(Mode::EX), None),
-        request(3, page(0), None, Some(Mode::EX)),
-        request(2, page(0), None, Some(Mode::SH)),
-        request(1, page(1), None, Some(Mode::SH)),
-    ];
-    let lists: [(&[TxnId], bool); 2] = [
-        (&[TxnId(3), TxnId(1), TxnId(2)], true),
-        (&[TxnId(3), TxnId(2), TxnId(1)], false),
-    ];
-    check_cycles(&rt, &requests, &lists)?;
-    check_waits(&rt, &requests, &[(2, 1, false), (3, 2, false)])
+fn require_queue(alloc: Global, requests: &[Request], words: &mut Words) -> Result<(), Trouble> {
+    let granule = granule_of(word(words)?)?;
+    let queue = queue_at(alloc, requests, granule)?;
+    require_order(queue.as_slice(), words)
 }
 
-// 1 and 2 hold the page; 3 comes, and then 1 wants more: it stands last in the list, and before 3 in the queue.
-#[test]
-fn conversion_stands_before_new_waiters(rt: HostRuntime) -> Result<(), AllocError> {
-    let alloc = rt.alloc();
-    let before = [
-        request(1, page(0), Some(Mode::SH), None),
-        request(2, page(0), Some(Mode::SH), None),
-        request(3, page(0), None, Some(Mode::EX)),
-    ];
-    let converting = request(1, page(0), Some(Mode::SH), Some(Mode::SIX));
-    assert!(rt; !are_requests(&[before[0], converting]));
-    let after = [before[1], before[2], converting];
-    assert!(rt; are_requests(&after));
-    assert!(rt; placed_last(alloc, &before, converting)?.as_slice() == after.as_slice());
-    let held = [hold(2, page(0), Mode::SH), hold(1, page(0), Mode::SH)];
-    assert!(rt; held_by_all(alloc, &after)?.as_slice() == held.as_slice());
-    check_queue(&rt, &after, page(0), &[before[1], converting, before[2]])?;
-    check_waits(&rt, &after, &[(3, 1, true), (1, 3, false)])
+fn judge_held(
+    alloc: Global,
+    requests: &mut Sequence<Request>,
+    verb: &str,
+    rest: &str,
+) -> Result<(), Trouble> {
+    let length = requests.as_slice().len();
+    add(requests, rest)?;
+    let held = held_by_all(alloc, requests.as_slice())?;
+    let judged = require_held(requests.as_slice(), held.as_slice(), verb);
+    requests.truncate(length);
+    judged
+}
+
+fn require_held(requests: &[Request], held: &[Hold], verb: &str) -> Result<(), Trouble> {
+    match verb {
+        "harmony" => require(harmony(held)),
+        "discord" => require(!harmony(held)),
+        "together" => require(stand_together(held)),
+        "apart" => require(!stand_together(held)),
+        "rooted" => require(well_rooted(held)),
+        "unrooted" => require(!well_rooted(held)),
+        "requests" => require(are_requests(requests)),
+        "doubled" => require(!are_requests(requests)),
+        _ => Err(Trouble::NoLine),
+    }
 }

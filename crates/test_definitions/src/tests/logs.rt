@@ -1,254 +1,247 @@
 //! Logs of worked runs, written out by hand, with what they tell, and lists that no run leaves.
-use super::records::{PAGE, STORE, Short, bytes, pairs, rid};
-use shore_model::{DirtyPage, LogRecord, LogTxn, Payload, TxnState};
-use shore_types::{Bytes, Granule, Lsn, Sequence, TxnId};
+use super::log_lines::record;
+use super::trouble::{Trouble, require};
+use super::words::{end, is_blank, is_remark, require_records};
+use shore_model::LogRecord;
 use slow_logs::lawful_logs::is_lawful;
 use slow_logs::recovered_records::records_told;
 use std::alloc::{AllocError, Global};
-use std::process::Abort;
+use std::test::Fail;
 
-/// What a record of the log says, in short.
-#[derive(Clone, Copy)]
-enum Says {
-    /// A slot, and its byte before and after.
-    Change(u16, Option<u8>, Option<u8>),
-    /// A compensation of slot 0: its byte after, and the record that is undone next.
-    Undo(Option<u8>, u64),
-    Commit,
-    End,
-    /// It lists the record of a slot.
-    Prepare(u16),
-    RollbackDecided,
-    CheckpointBegin,
-    /// The checkpoint began with record 2, and lists a transaction that is active by record 1 alone, or none.
-    CheckpointEnd(Option<u64>),
-    /// Of the same checkpoint.
-    Anchor,
-}
+// A line without a colon adds records, parted by `;`. `run:` begins anew. `tells:` says that the list so far is lawful and tells
+// just these records. `lawful:` says that it is lawful with these records too; `unlawful:` that it is lawful with all of these
+// but the last, and no more with the last.
+const LOGS: &str = "
+run: commit_survives_crash
+1 0 change 0.0.0 - aa; 1 1 commit
+tells: 0.0.0 aa
+unlawful: 1 2 change 0.0.0 aa bb
 
-/// A record's transaction, the number of that transaction's record before it, and what it says.
-type Line = (u64, u64, Says);
+run: flushed_loser_is_undone
+1 0 change 0.0.0 - aa; 1 1 compensation 0.0.0 0 -
+unlawful: 1 1 end
+1 2 end
+tells:
+unlawful: 1 3 change 0.0.0 - aa
+unlawful: 1 3 commit
 
-fn log_of(alloc: Global, lines: &[Line]) -> Result<Vec<LogRecord>, AllocError> {
+run: rollback_to_a_savepoint
+1 0 change 0.0.0 - aa; 1 1 change 0.0.0 aa bb; 1 2 change 0.0.0 bb -
+1 3 compensation 0.0.0 2 bb; 1 4 compensation 0.0.0 1 aa; 1 5 commit
+tells: 0.0.0 aa
+
+run: crashes_in_restart
+1 0 change 0.0.0 - aa; 1 1 commit; 2 0 change 0.0.0 aa bb; 2 3 change 0.0.0 bb cc; 2 4 compensation 0.0.0 3 bb
+unlawful: 2 5 compensation 0.0.0 3 bb
+unlawful: 2 5 end
+2 5 compensation 0.0.0 0 aa; 2 6 end
+tells: 0.0.0 aa
+
+run: a_change_has_what_stands_there_as_its_before_image
+unlawful: 1 0 change 0.0.0 aa bb
+1 0 change 0.0.0 - aa
+lawful: 1 1 change 0.0.0 aa cc
+unlawful: 1 1 change 0.0.0 bb cc
+unlawful: 1 1 change 0.0.0 - cc
+lawful: 1 1 change 0.0.1 - cc
+
+run: two_change_one_record
+1 0 change 0.0.0 - aa
+unlawful: 2 0 change 0.0.0 aa bb
+lawful: 2 0 change 0.0.1 - bb
+lawful: 1 1 commit; 2 0 change 0.0.0 aa bb
+1 1 compensation 0.0.0 0 -
+unlawful: 2 0 change 0.0.0 - bb
+lawful: 1 2 end; 2 0 change 0.0.0 - bb
+
+run: each_record_is_of_a_transaction_or_of_a_checkpoint
+unlawful: 0 0 change 0.0.0 - aa
+unlawful: 0 0 commit
+unlawful: 1 0 checkpoint_begin
+lawful: 0 0 checkpoint_begin
+unlawful: 0 1 checkpoint_begin
+
+run: each_record_names_the_one_before_it
+1 0 change 0.0.0 - aa; 2 0 change 0.0.1 - bb
+lawful: 1 1 commit
+unlawful: 1 0 commit
+unlawful: 1 2 commit
+unlawful: 3 2 commit
+
+run: a_compensation_answers_the_newest_change
+1 0 change 0.0.0 - aa; 1 1 change 0.0.0 aa bb
+lawful: 1 2 compensation 0.0.0 1 aa
+unlawful: 1 2 compensation 0.0.1 1 aa
+unlawful: 1 2 compensation 0.0.0 0 aa
+unlawful: 1 2 compensation 0.0.0 2 aa
+unlawful: 1 2 compensation 0.0.0 1 bb
+unlawful: 1 2 compensation 0.0.0 1 -
+unlawful: 2 0 compensation 0.0.0 0 -
+
+run: prepared_survives_crash
+1 0 change 0.0.0 - aa; 1 1 prepare g1 0.0.0
+tells: 0.0.0 aa
+1 2 commit
+tells: 0.0.0 aa
+
+run: prepared_change_is_aborted
+1 0 change 0.0.0 - aa; 1 1 commit; 2 0 change 0.0.0 aa bb; 2 3 prepare g1 0.0.0
+tells: 0.0.0 bb
+2 4 rollback_decided
+tells: 0.0.0 aa
+2 5 compensation 0.0.0 0 aa; 2 6 end
+tells: 0.0.0 aa
+
+run: after_a_prepare_comes_its_decision
+1 0 change 0.0.0 - aa
+unlawful: 1 1 rollback_decided
+1 1 prepare g1 0.0.0
+lawful: 1 2 commit
+lawful: 1 2 rollback_decided
+unlawful: 1 2 change 0.0.0 aa bb
+unlawful: 1 2 prepare g1 0.0.0
+unlawful: 1 2 compensation 0.0.0 0 -
+1 2 rollback_decided
+lawful: 1 3 compensation 0.0.0 0 -
+unlawful: 1 3 commit
+unlawful: 1 3 rollback_decided
+unlawful: 1 3 change 0.0.0 aa bb
+unlawful: 1 3 prepare g1 0.0.0
+
+run: a_reader_is_prepared
+1 0 prepare g1
+unlawful: 1 1 end
+lawful: 1 1 rollback_decided; 1 2 end
+
+run: a_prepare_lists_what_its_changes_lie_under
+1 0 change 0.0.0 - aa
+lawful: 1 1 prepare g1 0.0.0
+lawful: 1 1 prepare g1 0.1 0.0
+lawful: 1 1 prepare g1 0
+lawful: 1 1 prepare g1 v
+unlawful: 1 1 prepare g1
+unlawful: 1 1 prepare g1 0.0.1
+unlawful: 1 1 prepare g1 0.1
+unlawful: 1 1 prepare g1 1
+2 0 change 0.0.1 - bb
+lawful: 1 1 prepare g1 0.0.0
+
+run: checkpoint_in_two_halves
+1 0 change 0.0.0 - aa; 0 0 checkpoint_begin; 1 1 commit
+unlawful: 0 0 checkpoint_end 2 2 0
+0 0 checkpoint_end 2 2 1 1 active 1 1 1 0; 0 0 anchor 2 1
+tells: 0.0.0 aa
+
+run: a_checkpoint_lists_those_not_ended_at_its_begin
+# Transaction 1 has undone its second Change, 2 is prepared, 3 has committed; after the begin 1 undoes its first Change.
+1 0 change 0.0.0 - aa; 2 0 change 0.0.1 - bb; 1 1 change 0.0.0 aa cc; 3 0 change 0.0.2 - dd; 3 4 commit
+2 2 prepare g2 0.0.1; 1 3 compensation 0.0.0 1 aa; 0 0 checkpoint_begin; 1 7 compensation 0.0.0 0 -
+lawful: 0 0 checkpoint_end 8 4 2 1 active 1 7 1 0 2 prepared 2 6 2 6
+lawful: 0 0 checkpoint_end 8 9 2 1 rolling_back 1 7 1 0 2 prepared 2 6 2 6
+unlawful: 0 0 checkpoint_end 0 4 2 1 active 1 7 1 0 2 prepared 2 6 2 6
+unlawful: 0 0 checkpoint_end 7 4 2 1 active 1 7 1 0 2 prepared 2 6 2 6
+unlawful: 0 0 checkpoint_end 9 4 2 1 active 1 7 1 0 2 prepared 2 6 2 6
+unlawful: 0 0 checkpoint_end 11 4 2 1 active 1 7 1 0 2 prepared 2 6 2 6
+unlawful: 0 0 checkpoint_end 8 3 2 1 active 1 7 1 0 2 prepared 2 6 2 6
+unlawful: 0 0 checkpoint_end 8 4 2 1 prepared 1 7 1 0 2 prepared 2 6 2 6
+unlawful: 0 0 checkpoint_end 8 4 2 1 active 2 7 1 0 2 prepared 2 6 2 6
+unlawful: 0 0 checkpoint_end 8 4 2 1 active 1 3 1 0 2 prepared 2 6 2 6
+unlawful: 0 0 checkpoint_end 8 4 2 1 active 1 9 1 0 2 prepared 2 6 2 6
+unlawful: 0 0 checkpoint_end 8 4 2 1 active 1 7 3 0 2 prepared 2 6 2 6
+unlawful: 0 0 checkpoint_end 8 4 2 1 active 1 7 0 0 2 prepared 2 6 2 6
+unlawful: 0 0 checkpoint_end 8 4 2 1 active 1 7 1 6 2 prepared 2 6 2 6
+unlawful: 0 0 checkpoint_end 8 4 2 1 active 1 7 1 0 2 active 2 6 2 6
+unlawful: 0 0 checkpoint_end 8 4 2 1 active 1 7 1 0 2 prepared 2 6 2 0
+unlawful: 0 0 checkpoint_end 8 4 2 2 prepared 2 6 2 6 1 active 1 7 1 0
+unlawful: 0 0 checkpoint_end 8 4 3 1 active 1 7 1 0 1 active 1 7 1 0 2 prepared 2 6 2 6
+unlawful: 0 0 checkpoint_end 8 4 3 1 active 1 7 1 0 2 prepared 2 6 2 6 3 active 4 5 4 0
+unlawful: 0 0 checkpoint_end 8 4 3 1 active 1 7 1 0 2 prepared 2 6 2 6 4 active 0 0 0 0
+unlawful: 0 0 checkpoint_end 8 4 1 1 active 1 7 1 0
+unlawful: 0 0 checkpoint_end 8 4 1 2 prepared 2 6 2 6
+
+run: later_commit_kept_earlier_lost
+1 0 change 0.0.0 - aa; 2 0 change 0.0.1 - bb
+lawful: 2 2 commit
+1 1 commit
+tells: 0.0.0 aa
+2 2 commit
+tells: 0.0.0 aa 0.0.1 bb
+
+run: commits_count_in_their_order
+1 0 change 0.0.0 - aa; 1 1 change 0.0.0 aa bb; 1 2 commit; 2 0 change 0.0.0 bb cc; 2 4 commit
+tells: 0.0.0 cc
+
+run: a_later_number_commits_first
+2 0 change 0.0.0 - aa; 2 1 commit; 1 0 change 0.0.0 aa bb; 1 3 commit
+tells: 0.0.0 bb
+";
+
+#[test]
+fn logs(rt: HostRuntime) -> Result<(), Fail> {
+    let alloc = rt.alloc();
     let mut list = Vec::new(alloc);
-    for line in lines {
-        list.push(record(alloc, line)?)?;
+    for line in LOGS.lines() {
+        if let Err(trouble) = play(alloc, &mut list, line) {
+            return Err(Fail::new(format_args!("{trouble:?}: {line}")));
+        }
     }
-    Ok(list)
-}
-
-fn record(alloc: Global, line: &Line) -> Result<LogRecord, AllocError> {
-    let (txn, previous, says) = line;
-    Ok(LogRecord {
-        txn: TxnId(*txn),
-        previous: Lsn(*previous),
-        payload: payload(alloc, says)?,
-    })
-}
-
-fn payload(alloc: Global, says: &Says) -> Result<Payload, AllocError> {
-    Ok(match says {
-        Says::Change(slot, before, after) => Payload::Change {
-            id: rid(*slot),
-            before: image(alloc, *before)?,
-            after: image(alloc, *after)?,
-        },
-        Says::Undo(after, undo_next) => Payload::Compensation {
-            id: rid(0),
-            after: image(alloc, *after)?,
-            undo_next: Lsn(*undo_next),
-        },
-        Says::Commit => Payload::Commit,
-        Says::End => Payload::End,
-        Says::Prepare(slot) => prepare(alloc, *slot)?,
-        Says::RollbackDecided => Payload::RollbackDecided,
-        Says::CheckpointBegin => Payload::CheckpointBegin,
-        Says::CheckpointEnd(listed) => checkpoint_end(alloc, *listed)?,
-        Says::Anchor => Payload::Anchor {
-            checkpoint: Lsn(2),
-            tail: Lsn(1),
-        },
-    })
-}
-
-fn image(alloc: Global, byte: Option<u8>) -> Result<Option<Bytes>, AllocError> {
-    match byte {
-        Some(byte) => Ok(Some(bytes(alloc, &[byte])?)),
-        None => Ok(None),
-    }
-}
-
-fn prepare(alloc: Global, slot: u16) -> Result<Payload, AllocError> {
-    let granules = Vec::from_slice(alloc, &[Granule::Record(rid(slot))])?;
-    Ok(Payload::Prepare {
-        global: bytes(alloc, &[0x67, 0x31])?,
-        granules: Sequence::from_vec(granules),
-    })
-}
-
-fn checkpoint_end(alloc: Global, listed: Option<u64>) -> Result<Payload, AllocError> {
-    let mut txns = Sequence::new(alloc);
-    if let Some(txn) = listed {
-        txns.push(LogTxn {
-            txn: TxnId(txn),
-            state: TxnState::Active,
-            first: Lsn(1),
-            last: Lsn(1),
-            undo_next: Lsn(1),
-            prepare: Lsn(0),
-        })?;
-    }
-    let dirty = DirtyPage {
-        page: PAGE,
-        recovery: Lsn(1),
-    };
-    Ok(Payload::CheckpointEnd {
-        begin: Lsn(2),
-        next: TxnId(2),
-        txns,
-        dirty: Sequence::from_vec(vec![in alloc; dirty]?),
-    })
-}
-
-// The list is lawful, and tells just these records.
-fn check_told(
-    rt: &(impl Abort + AllocGlobal),
-    lines: &[Line],
-    records: &[Short],
-) -> Result<(), AllocError> {
-    let alloc = rt.alloc();
-    let list = log_of(alloc, lines)?;
-    assert!(rt; is_lawful(alloc, &list)?);
-    let found = records_told(alloc, &list)?.scan(alloc, STORE)?;
-    assert!(rt; found == pairs(alloc, records)?);
     Ok(())
 }
 
-// The list is lawful, and with this record no more.
-fn check_spoiled(
-    rt: &(impl Abort + AllocGlobal),
-    lines: &[Line],
-    last: Line,
-) -> Result<(), AllocError> {
-    let alloc = rt.alloc();
-    let mut list = log_of(alloc, lines)?;
-    assert!(rt; is_lawful(alloc, &list)?);
-    list.push(record(alloc, &last)?)?;
-    assert!(rt; !is_lawful(alloc, &list)?);
+fn play(alloc: Global, list: &mut Vec<LogRecord>, line: &str) -> Result<(), Trouble> {
+    if is_remark(line) {
+        return Ok(());
+    }
+    match line.split_once(':') {
+        Some(("run", _)) => {
+            list.clear();
+            Ok(())
+        }
+        Some(("tells", records)) => require_told(alloc, list, records),
+        Some(("lawful", rest)) => require_lawful(alloc, list, rest),
+        Some(("unlawful", rest)) => require_spoiled(alloc, list, rest),
+        Some(_) => Err(Trouble::NoLine),
+        None => add(alloc, list, line),
+    }
+}
+
+fn add(alloc: Global, list: &mut Vec<LogRecord>, line: &str) -> Result<(), Trouble> {
+    if is_blank(line) {
+        return Ok(());
+    }
+    for step in line.split(';') {
+        let mut words = step.split_whitespace();
+        list.push(record(alloc, &mut words)?)?;
+        end(&mut words)?;
+    }
     Ok(())
 }
 
-// Transaction 1 inserts aa.
-const INSERT: Line = (1, 0, Says::Change(0, None, Some(0xaa)));
-
-#[test]
-fn commit_survives_crash(rt: HostRuntime) -> Result<(), AllocError> {
-    let list = [INSERT, (1, 1, Says::Commit)];
-    check_told(&rt, &list, &[(0, 0xaa)])?;
-    let after_its_commit = (1, 2, Says::Change(0, Some(0xaa), Some(0xbb)));
-    check_spoiled(&rt, &list, after_its_commit)
+fn require_told(alloc: Global, list: &[LogRecord], records: &str) -> Result<(), Trouble> {
+    require(is_lawful(alloc, list)?)?;
+    let found = records_told(alloc, list)?;
+    require_records(&found, &mut records.split_whitespace())
 }
 
-#[test]
-fn flushed_loser_is_undone(rt: HostRuntime) -> Result<(), AllocError> {
-    let list = [INSERT, (1, 1, Says::Undo(None, 0)), (1, 2, Says::End)];
-    check_told(&rt, &list, &[])?;
-    check_spoiled(&rt, &list[..2], (1, 1, Says::End))
+fn require_lawful(alloc: Global, list: &mut Vec<LogRecord>, rest: &str) -> Result<(), Trouble> {
+    let length = list.len();
+    add(alloc, list, rest)?;
+    let lawful = is_lawful(alloc, list)?;
+    list.truncate(length);
+    require(lawful)
 }
 
-#[test]
-fn rollback_to_a_savepoint(rt: HostRuntime) -> Result<(), AllocError> {
-    let list = [
-        INSERT,
-        (1, 1, Says::Change(0, Some(0xaa), Some(0xbb))),
-        (1, 2, Says::Change(0, Some(0xbb), None)),
-        (1, 3, Says::Undo(Some(0xbb), 2)),
-        (1, 4, Says::Undo(Some(0xaa), 1)),
-        (1, 5, Says::Commit),
-    ];
-    check_told(&rt, &list, &[(0, 0xaa)])
+fn require_spoiled(alloc: Global, list: &mut Vec<LogRecord>, rest: &str) -> Result<(), Trouble> {
+    let length = list.len();
+    add(alloc, list, rest)?;
+    let spoiled = is_spoiled_by_last(alloc, list)?;
+    list.truncate(length);
+    require(spoiled)
 }
 
-// Transaction 2 changes aa to bb and to cc, and both changes are undone.
-const UNDONE: [Line; 7] = [
-    INSERT,
-    (1, 1, Says::Commit),
-    (2, 0, Says::Change(0, Some(0xaa), Some(0xbb))),
-    (2, 3, Says::Change(0, Some(0xbb), Some(0xcc))),
-    (2, 4, Says::Undo(Some(0xbb), 3)),
-    (2, 5, Says::Undo(Some(0xaa), 0)),
-    (2, 6, Says::End),
-];
-
-// Its records until the last change is undone.
-const HALF: usize = 5;
-
-#[test]
-fn crashes_in_restart(rt: HostRuntime) -> Result<(), AllocError> {
-    check_told(&rt, &UNDONE, &[(0, 0xaa)])
-}
-
-#[test]
-fn undo_begins_anew(rt: HostRuntime) -> Result<(), AllocError> {
-    check_spoiled(&rt, &UNDONE[..HALF], (2, 5, Says::Undo(Some(0xbb), 3)))
-}
-
-#[test]
-fn end_before_last_compensation(rt: HostRuntime) -> Result<(), AllocError> {
-    check_spoiled(&rt, &UNDONE[..HALF], (2, 5, Says::End))
-}
-
-#[test]
-fn two_change_one_record(rt: HostRuntime) -> Result<(), AllocError> {
-    let another = (2, 0, Says::Change(0, Some(0xaa), Some(0xbb)));
-    check_spoiled(&rt, &[INSERT], another)
-}
-
-#[test]
-fn prepared_survives_crash(rt: HostRuntime) -> Result<(), AllocError> {
-    let list = [INSERT, (1, 1, Says::Prepare(0)), (1, 2, Says::Commit)];
-    check_told(&rt, &list[..2], &[(0, 0xaa)])?;
-    check_told(&rt, &list, &[(0, 0xaa)])
-}
-
-#[test]
-fn prepared_change_is_aborted(rt: HostRuntime) -> Result<(), AllocError> {
-    let list = [
-        INSERT,
-        (1, 1, Says::Commit),
-        (2, 0, Says::Change(0, Some(0xaa), Some(0xbb))),
-        (2, 3, Says::Prepare(0)),
-        (2, 4, Says::RollbackDecided),
-        (2, 5, Says::Undo(Some(0xaa), 0)),
-        (2, 6, Says::End),
-    ];
-    check_told(&rt, &list[..4], &[(0, 0xbb)])?;
-    check_told(&rt, &list[..5], &[(0, 0xaa)])?;
-    check_told(&rt, &list, &[(0, 0xaa)])
-}
-
-#[test]
-fn prepare_lists_another_record(rt: HostRuntime) -> Result<(), AllocError> {
-    check_spoiled(&rt, &[INSERT], (1, 1, Says::Prepare(1)))
-}
-
-// Transaction 1 commits after the checkpoint's begin, and so its end lists it.
-#[test]
-fn checkpoint_in_two_halves(rt: HostRuntime) -> Result<(), AllocError> {
-    let list = [
-        INSERT,
-        (0, 0, Says::CheckpointBegin),
-        (1, 1, Says::Commit),
-        (0, 0, Says::CheckpointEnd(Some(1))),
-        (0, 0, Says::Anchor),
-    ];
-    check_told(&rt, &list, &[(0, 0xaa)])?;
-    check_spoiled(&rt, &list[..3], (0, 0, Says::CheckpointEnd(None)))
-}
-
-#[test]
-fn later_commit_kept_earlier_lost(rt: HostRuntime) -> Result<(), AllocError> {
-    let later = (2, 0, Says::Change(1, None, Some(0xbb)));
-    check_told(&rt, &[INSERT, later, (1, 1, Says::Commit)], &[(0, 0xaa)])?;
-    check_told(&rt, &[INSERT, later, (2, 2, Says::Commit)], &[(1, 0xbb)])
+fn is_spoiled_by_last(alloc: Global, list: &[LogRecord]) -> Result<bool, AllocError> {
+    match list.split_last() {
+        Some((_, before)) => Ok(is_lawful(alloc, before)? && !is_lawful(alloc, list)?),
+        None => Ok(false),
+    }
 }

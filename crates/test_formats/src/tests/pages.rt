@@ -54,6 +54,42 @@ fn worked_bytes(rt: HostRuntime) {
     assert!(&rt; text.ends_with(&[0x18, 0, 1, 0]));
 }
 
+// Page 2 of store 3 with the number 7, and one byte at 24 and two behind it.
+const OTHER_HEAD: [u8; 27] = [
+    3, 0, 0, 0, 2, 0, 0, 0, 7, 0, 0, 0, 0, 0, 0, 0, 2, 0, 0xf8, 0x1f, 0, 0, 0, 0, 0xaa, 0xbb, 0xcc,
+];
+
+// Slot 1 has the two bytes, and slot 0 the one.
+const OTHER_SLOTS: [u8; 8] = [0x19, 0, 2, 0, 0x18, 0, 1, 0];
+
+fn other_text() -> [u8; PAGE_BYTES] {
+    let mut text = [0u8; PAGE_BYTES];
+    text[..27].copy_from_slice(&OTHER_HEAD);
+    text[PAGE_BYTES - 8..].copy_from_slice(&OTHER_SLOTS);
+    text
+}
+
+fn page_of(store: u32, page: u32) -> PageId {
+    PageId {
+        store: StoreId(store),
+        page,
+    }
+}
+
+#[test]
+fn worked_bytes_of_another_page(rt: HostRuntime) -> Result<(), AllocError> {
+    let alloc = rt.alloc();
+    let mut page = Page::new(alloc, page_of(3, 2));
+    assert!(&rt; put(&mut page, 0, &[0xaa]) && apply(&mut page, 7, 1, &[0xbb, 0xcc]));
+    let read = Page::from_bytes(alloc, page_of(3, 2), &other_text())?;
+    assert!(&rt; read.is_some_and(|read| are_alike(&page, &read)));
+    assert!(&rt; is_refused(alloc, page_of(2, 3), &other_text())?);
+    let mut text = [0u8; PAGE_BYTES];
+    page.to_bytes(&mut text);
+    assert!(&rt; text.starts_with(&OTHER_HEAD[..24]));
+    Ok(())
+}
+
 // The room of an undecided delete is kept until it is decided.
 #[test]
 fn room_of_an_undecided_delete(rt: HostRuntime) {

@@ -70,3 +70,40 @@ fn worked_bytes(rt: HostRuntime) -> Result<(), AllocError> {
     assert_eq!(rt; texts.as_slice(), TEXTS.as_slice());
     Ok(())
 }
+
+// A Change of 3.2.1 by transaction 258, whose record before it is 3: its one byte becomes two.
+const OTHER_CHANGE: [u8; 40] = [
+    0x01, 0x02, 0x01, 0, 0, 0, 0, 0, 0, 0x03, 0, 0, 0, 0, 0, 0, 0, 0x13, 0, 0, 0, 0x03, 0, 0, 0,
+    0x02, 0, 0, 0, 0x01, 0, 0x01, 0x01, 0, 0xbb, 0x01, 0x02, 0, 0xcc, 0xdd,
+];
+
+fn other_change(alloc: Global) -> Result<LogRecord, AllocError>
+    ensures { IfOk result Fits }
+{
+    let page = PageId {
+        store: StoreId(3),
+        page: 2,
+    };
+    let before = vec![in alloc; 0xbbu8]?;
+    let after = vec![in alloc; 0xccu8, 0xdd]?;
+    Ok(LogRecord {
+        txn: TxnId(258),
+        previous: Lsn(3),
+        payload: Payload::Change {
+            id: Rid { page, slot: 1 },
+            before: Some(Sequence::from_vec(before)),
+            after: Some(Sequence::from_vec(after)),
+        },
+    })
+}
+
+#[test]
+fn worked_bytes_of_another_page(rt: HostRuntime) -> Result<(), AllocError> {
+    let alloc = rt.alloc();
+    let record = other_change(alloc)?;
+    let mut text = Vec::new(alloc);
+    encode(&record, &mut text)?;
+    assert_eq!(rt; text.as_slice(), OTHER_CHANGE.as_slice());
+    assert!(rt; is_read(alloc, &OTHER_CHANGE, &record, 40)?);
+    Ok(())
+}

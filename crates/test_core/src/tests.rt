@@ -1,0 +1,5 @@
+//! The definitions of the machine relate states, calls and steps. These runs pin what they come to on a real manager.
+mod events;
+mod runs;
+mod shown;
+mod trouble;

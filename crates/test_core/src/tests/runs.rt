@@ -1,0 +1,248 @@
+//! The runs, and what plays them.
+use super::events::{Words, end, event, number, word};
+use super::shown::{Manager, write_log, write_records, write_step};
+use super::trouble::{Trouble, require};
+use shore_disk::{FuseDisk, MemDisk};
+use shore_types::{Geometry, Sequence};
+use shore_world::{World, format};
+use std::alloc::{AllocError, Global};
+use std::test::Fail;
+
+// Each line is an event with what it comes to. `run:` opens a new manager on a formatted log device of the least length, with a
+// store of one page and a store of eight; `fuse:` lets so many more writes and syncs of the device pass; `records:` and `log:`
+// say what is shown. A page has room for 8,168 bytes: records, and 4 for each slot. The log has room for 38,505 bytes: a Change
+// costs 48 and its record's bytes, its undo, which is reserved, 53; a Commit costs 34, which a begin reserves.
+const RUNS: &str = "
+run: each call outside of a transaction
+records:
+log: | durable 0
+get 9 0 0 -> refused 1 NoTransaction
+fill 9 4001 -> refused 1 NoTransaction
+commit -> refused 1 NoTransaction
+resume -> nothing
+stage -> nothing
+open -> nothing
+records:
+log: | durable 0
+
+run: each call in a transaction
+begin -> began 1
+begin -> refused 2 AlreadyActive
+get 2 9 0 -> refused 4 NoStore
+get 0 1 0 -> refused 5 NoPage
+get 1 8 0 -> refused 5 NoPage
+get 0 0 0 -> refused 6 NoRecord
+get 0 0 2042 -> refused 6 NoRecord
+fill 2 4001 -> refused 7 TooLong
+insert 2 aa -> refused 4 NoStore
+log: | durable 0
+insert 0 aa -> at 0.0.0
+insert 1 bb -> at 1.0.0
+insert 0 cc -> at 0.0.1
+get 0 0 0 -> got aa
+get 1 0 0 -> got bb
+get 0 0 1 -> got cc
+get 0 0 2 -> refused 6 NoRecord
+resume -> nothing
+records: 0.0.0 aa 0.0.1 cc 1.0.0 bb
+log: | 1 0 at 0.0.0; 1 1 at 1.0.0; 1 2 at 0.0.1; durable 0
+
+run: a commit waits for the force of its record
+begin -> began 1
+insert 0 aa -> at 0.0.0
+commit -> waits 2
+log: | 1 0 at 0.0.0; 1 1 commit; durable 0
+begin -> refused 14 Busy
+get 9 0 0 -> refused 14 Busy
+fill 9 4001 -> refused 14 Busy
+commit -> refused 14 Busy
+resume -> waits 2
+stage -> staged 2
+log: 1 0 at 0.0.0; 1 1 commit; | durable 0
+stage -> nothing
+resume -> waits 2
+open -> forced 2
+open -> nothing
+log: 1 0 at 0.0.0; 1 1 commit; | durable 2
+resume -> committed
+resume -> nothing
+get 0 0 0 -> refused 1 NoTransaction
+begin -> began 2
+get 0 0 0 -> got aa
+commit -> waits 3
+records: 0.0.0 aa
+log: 1 0 at 0.0.0; 1 1 commit; | 2 0 commit; durable 2
+
+run: a commit is answered once the frame that has its record is open
+begin -> began 1
+stage -> nothing
+insert 0 aa -> at 0.0.0
+stage -> staged 1
+commit -> waits 2
+open -> forced 1
+resume -> waits 2
+stage -> staged 2
+open -> forced 2
+resume -> committed
+
+run: after a failure all is refused
+begin -> began 1
+insert 0 aa -> at 0.0.0
+fuse: 0
+stage -> refused 23 Device
+begin -> refused 24 Failed
+get 9 0 0 -> refused 24 Failed
+fill 9 4001 -> refused 24 Failed
+commit -> refused 24 Failed
+stage -> refused 24 Failed
+open -> refused 24 Failed
+records: 0.0.0 aa
+
+run: a commit that waits is refused after a failure
+begin -> began 1
+commit -> waits 1
+stage -> staged 1
+fuse: 0
+open -> refused 23 Device
+resume -> refused 24 Failed
+log: 1 0 commit; | durable 0
+
+run: a store is full
+begin -> began 1
+fill 0 4000 -> at 0.0.0
+fill 0 4000 -> at 0.0.1
+fill 0 157 -> refused 8 StoreFull
+fill 0 156 -> at 0.0.2
+fill 0 0 -> refused 8 StoreFull
+fill 1 157 -> at 1.0.0
+fill 0 4001 -> refused 7 TooLong
+
+run: a place is the first that takes it
+begin -> began 1
+fill 1 4000 -> at 1.0.0
+fill 1 4000 -> at 1.0.1
+fill 1 4000 -> at 1.1.0
+fill 1 156 -> at 1.0.2
+fill 1 1 -> at 1.1.1
+
+run: the log is full
+begin -> began 1
+fill 1 4000 -> at 1.0.0
+fill 1 4000 -> at 1.0.1
+fill 1 4000 -> at 1.1.0
+fill 1 4000 -> at 1.1.1
+fill 1 4000 -> at 1.2.0
+fill 1 4000 -> at 1.2.1
+fill 1 4000 -> at 1.3.0
+fill 1 4000 -> at 1.3.1
+fill 1 4000 -> at 1.4.0
+fill 1 4000 -> refused 9 LogFull
+fill 1 1462 -> refused 9 LogFull
+fill 1 1461 -> at 1.4.1
+fill 1 0 -> refused 9 LogFull
+commit -> waits 11
+stage -> staged 11
+open -> forced 11
+resume -> committed
+begin -> began 2
+fill 1 396 -> refused 9 LogFull
+fill 1 395 -> at 1.4.2
+commit -> waits 13
+stage -> staged 13
+open -> forced 13
+resume -> committed
+begin -> began 3
+fill 1 0 -> refused 9 LogFull
+commit -> waits 14
+stage -> staged 14
+open -> forced 14
+resume -> committed
+begin -> refused 9 LogFull
+";
+
+#[test]
+fn runs(rt: HostRuntime) -> Result<(), Fail> {
+    let alloc = rt.alloc();
+    let mut world = None;
+    for line in RUNS.lines() {
+        if let Err(trouble) = play(alloc, &mut world, line) {
+            return Err(Fail::new(format_args!("{trouble:?}: {line}")));
+        }
+    }
+    Ok(())
+}
+
+fn play(alloc: Global, world: &mut Option<Manager>, line: &str) -> Result<(), Trouble> {
+    if line.is_empty() {
+        return Ok(());
+    }
+    if line.starts_with("run:") {
+        *world = Some(new_manager(alloc)?);
+        return Ok(());
+    }
+    match world {
+        Some(world) => play_on(alloc, world, line),
+        None => Err(Trouble::NoLine),
+    }
+}
+
+fn play_on(alloc: Global, world: &mut Manager, line: &str) -> Result<(), Trouble> {
+    if let Some((asked, wanted)) = line.split_once(" -> ") {
+        return require_step(alloc, world, &mut asked.split_whitespace(), wanted);
+    }
+    match line.split_once(':') {
+        Some(("fuse", calls)) => set_fuse(world, &mut calls.split_whitespace()),
+        Some(("records", wanted)) => require_records(alloc, world, wanted),
+        Some(("log", wanted)) => require_log(alloc, world, wanted),
+        _ => Err(Trouble::NoLine),
+    }
+}
+
+fn require_step(
+    alloc: Global,
+    world: &mut Manager,
+    words: &mut Words,
+    wanted: &str,
+) -> Result<(), Trouble> {
+    let event = event(alloc, words)?;
+    end(words)?;
+    let step = world.step(alloc, event);
+    let mut as_log_entry = String::new(alloc);
+    write_step(&mut as_log_entry, &step)?;
+    require(as_log_entry.as_str() == wanted)
+}
+
+fn set_fuse(world: &mut Manager, words: &mut Words) -> Result<(), Trouble> {
+    world.set_fuse(u64::from(number(words)?));
+    end(words)
+}
+
+fn require_records(alloc: Global, world: &Manager, wanted: &str) -> Result<(), Trouble> {
+    let mut as_log_entry = String::new(alloc);
+    write_records(&mut as_log_entry, world)?;
+    require(as_log_entry.as_str() == wanted)
+}
+
+fn require_log(alloc: Global, world: &Manager, wanted: &str) -> Result<(), Trouble> {
+    let mut as_log_entry = String::new(alloc);
+    write_log(&mut as_log_entry, world)?;
+    require(as_log_entry.as_str() == wanted)
+}
+
+fn new_manager(alloc: Global) -> Result<Manager, Trouble> {
+    let mut disk = MemDisk::new(alloc, Vec::from_elem(alloc, 0u8, 135_168)?)?;
+    require(format(alloc, &mut disk, &geometry(alloc)?).is_ok())?;
+    match World::open(alloc, FuseDisk::new(disk, u64::MAX)) {
+        Ok(world) => Ok(world),
+        Err(_) => Err(Trouble::Untrue),
+    }
+}
+
+fn geometry(alloc: Global) -> Result<Geometry, AllocError> {
+    let stores = Vec::from_slice(alloc, &[1u32, 8])?;
+    Ok(Geometry {
+        pair: 1,
+        max_locks: 1024,
+        stores: Sequence::from_vec(stores),
+    })
+}
