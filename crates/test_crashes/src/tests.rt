@@ -4,15 +4,15 @@
 //! event makes.
 mod crashes;
 mod doings;
+mod lists;
 mod lives;
-mod logs;
 mod short_histories;
 mod trouble;
 
 use crashes::check_crash;
 use doings::{Doing, ONE_COMMIT};
+use lists::{Counts, check_lists};
 use lives::{Start, formatted, live};
-use logs::{Counts, check_lists};
 use shore_disk::Pick;
 use std::test::Fail;
 

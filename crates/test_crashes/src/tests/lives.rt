@@ -1,6 +1,6 @@
 //! A manager from its open to the loss of power.
 use super::doings::Doing;
-use super::short_histories::Trail;
+use super::short_histories::ShortHistory;
 use super::trouble::Trouble;
 use shore_disk::{FuseDisk, MemDisk};
 use shore_model::rid_map::copy_image;
@@ -66,18 +66,18 @@ pub(super) fn live(
     let disk = MemDisk::new(alloc, start.ground.image.to_vec(alloc)?)?;
     let opened = World::open(alloc, FuseDisk::new(disk, u64::MAX));
     let mut world = opened.ok().ok_or(Trouble::Wrong("no open"))?;
-    let mut short_histories = Trail::new(alloc);
-    make(alloc, &mut world, &mut short_histories, start.before)?;
+    let mut history = ShortHistory::new(alloc);
+    make(alloc, &mut world, &mut history, start.before)?;
     if let Some(calls) = fuse {
         world.set_fuse(calls);
     }
-    make(alloc, &mut world, &mut short_histories, doings)?;
+    make(alloc, &mut world, &mut history, doings)?;
     let mut list = Vec::new(alloc);
     let (handed_over, waiting) = world.records();
     push_copies(alloc, &mut list, handed_over)?;
     push_copies(alloc, &mut list, waiting)?;
     Ok(Life {
-        entries: short_histories.into_entries(),
+        entries: history.into_entries(),
         list,
         durable: world.durable().0 as usize,
         device: world.into_devices().into_inner(),
@@ -88,12 +88,12 @@ pub(super) fn live(
 fn make(
     alloc: Global,
     world: &mut World<FuseDisk<MemDisk>>,
-    short_histories: &mut Trail,
+    history: &mut ShortHistory,
     doings: &[Doing],
 ) -> Result<(), Trouble> {
     for doing in doings {
         let step = world.step(alloc, doing.event(alloc)?);
-        short_histories.note(alloc, *doing, step)?;
+        history.note(alloc, *doing, step)?;
     }
     Ok(())
 }

@@ -10,13 +10,13 @@ use std::alloc::Global;
 
 /// The entries so far.
 #[derive(Drop)]
-pub(super) struct Trail {
+pub(super) struct ShortHistory {
     entries: Vec<Entry>,
 }
 
-impl Trail {
-    pub(super) fn new(alloc: Global) -> Trail {
-        Trail {
+impl ShortHistory {
+    pub(super) fn new(alloc: Global) -> ShortHistory {
+        ShortHistory {
             entries: Vec::new(alloc),
         }
     }
