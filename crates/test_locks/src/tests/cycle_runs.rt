@@ -5,7 +5,7 @@ use super::waits::{is_free, is_on_a_cycle};
 use shore_deadlock::{Victim, break_cycles, find_cycle};
 use shore_locks::{LockTable, Requested};
 use shore_model::Request;
-use shore_types::{Fault, TxnId};
+use shore_types::TxnId;
 use slow_locks::requests::is_cycle;
 use std::alloc::{AllocError, Global};
 use std::test::Fail;
@@ -60,7 +60,7 @@ fn step(
     choices: &mut Choices,
     table: &mut LockTable,
     closed: &mut Closed,
-) -> Result<bool, Fault> {
+) -> Result<bool, AllocError> {
     let txn = choices.transaction();
     if choices.percent() < 6 {
         table.release_all(txn);
@@ -68,12 +68,14 @@ fn step(
     if table.is_waiting(txn) {
         return Ok(true);
     }
-    let answer = table.request(txn, choices.granule(), choices.mode())?;
+    let Ok(answer) = table.request(txn, choices.granule(), choices.mode()) else {
+        return Ok(false);
+    };
     if answer == Requested::Waiting {
         closed.waits = closed.waits.saturating_add(1);
         return check_break(alloc, table, txn, closed);
     }
-    Ok(is_free(alloc, table)?)
+    is_free(alloc, table)
 }
 
 // The search finds a cycle just where there is one, each victim is the greatest of one, and in the end there is none.
@@ -82,7 +84,7 @@ fn check_break(
     table: &mut LockTable,
     txn: TxnId,
     closed: &mut Closed,
-) -> Result<bool, Fault> {
+) -> Result<bool, AllocError> {
     let requests = requests_of(alloc, table)?;
     let closes = is_on_a_cycle(alloc, &requests, txn)?;
     Ok(
@@ -98,14 +100,15 @@ fn finds_it(
     requests: &[Request],
     txn: TxnId,
     closes: bool,
-) -> Result<bool, Fault> {
-    match find_cycle(alloc, table, txn)? {
-        Some(cycle) => Ok(
+) -> Result<bool, AllocError> {
+    match find_cycle(alloc, table, txn) {
+        Ok(Some(cycle)) => Ok(
             closes
                 && starts_with(cycle.as_slice(), txn)
                 && is_cycle(alloc, requests, cycle.as_slice())?,
         ),
-        None => Ok(!closes),
+        Ok(None) => Ok(!closes),
+        Err(_) => Ok(false),
     }
 }
 
@@ -116,8 +119,10 @@ fn breaks_it(
     txn: TxnId,
     closes: bool,
     closed: &mut Closed,
-) -> Result<bool, Fault> {
-    let victims = break_cycles(alloc, table, txn)?;
+) -> Result<bool, AllocError> {
+    let Ok(victims) = break_cycles(alloc, table, txn) else {
+        return Ok(false);
+    };
     closed.count(closes, victims.len());
     Ok(victims.is_empty() != closes && are_victims(alloc, table, requests, txn, &victims)?)
 }

@@ -62,7 +62,7 @@ fn is_right(
     choices: &mut Choices,
     table: &mut LockTable,
     ended: &mut Ended,
-) -> Result<bool, Fault> {
+) -> Result<bool, AllocError> {
     Ok(step(alloc, choices, table, ended)? && is_sound(alloc, table)?)
 }
 
@@ -72,7 +72,7 @@ fn step(
     choices: &mut Choices,
     table: &mut LockTable,
     ended: &mut Ended,
-) -> Result<bool, Fault> {
+) -> Result<bool, AllocError> {
     let txn = choices.transaction();
     let percent = choices.percent();
     if percent < 10 {
@@ -91,8 +91,8 @@ fn step(
         Ok(Acquired::Done) => Ok(count_done(alloc, table, txn, &target, mode, ended)),
         Ok(Acquired::Waiting(granule)) => {
             let waits_there = waits_for(table, txn, &granule);
-            count_waiting(alloc, table, txn, ended)?;
-            Ok(waits_there && on_conflict == OnConflict::Wait)
+            let is_broken = count_waiting(alloc, table, txn, ended);
+            Ok(is_broken && waits_there && on_conflict == OnConflict::Wait)
         }
         Err(fault) => Ok(count_fault(&fault, ended)),
     }
@@ -105,19 +105,16 @@ fn waits_for(table: &LockTable, txn: TxnId, granule: &Granule) -> bool {
     }
 }
 
-// Waiting: the cycles that it closes are broken.
-fn count_waiting(
-    alloc: Global,
-    table: &mut LockTable,
-    txn: TxnId,
-    ended: &mut Ended,
-) -> Result<(), Fault> {
+// Waiting: the cycles that it closes are broken. It answers whether memory was there for that.
+fn count_waiting(alloc: Global, table: &mut LockTable, txn: TxnId, ended: &mut Ended) -> bool {
     ended.waiting = ended.waiting.saturating_add(1);
-    let victims = break_cycles(alloc, table, txn)?;
+    let Ok(victims) = break_cycles(alloc, table, txn) else {
+        return false;
+    };
     if !victims.is_empty() {
         ended.victims = ended.victims.saturating_add(1);
     }
-    Ok(())
+    true
 }
 
 // Done: the granule is held in the mode, or one above it in a mode that covers it.

@@ -5,11 +5,12 @@ use super::steps::Step::{
     self, Attempts, Breaks, Cancels, HoldsAlong, Nodes, Releases, Takes, Wants, WhoWaits,
 };
 use super::steps::Taken::{At, Done};
-use super::steps::play;
+use super::steps::{Run, play};
 use shore_types::Mode::{EX, IS, IX, SH, SIX, UD};
 use std::test::Fail;
 
-const CONVERSION_TO_SIX: [Step; 9] = [
+// 1 asks for IX and SH on the store and holds SIX; 2's IS stands beside it, and 3's IX has to wait.
+const CONVERSION_TO_SIX: &[Step] = &[
     Takes(1, Store, IX, Done),
     Takes(1, Store, SH, Done),
     Takes(2, Store, IS, Done),
@@ -21,13 +22,8 @@ const CONVERSION_TO_SIX: [Step; 9] = [
     Nodes(6),
 ];
 
-// 1 asks for IX and SH on the store and holds SIX; 2's IS stands beside it, and 3's IX has to wait.
-#[test]
-fn conversion_to_six(rt: HostRuntime) -> Result<(), Fail> {
-    play(rt.alloc(), 16, &CONVERSION_TO_SIX)
-}
-
-const UPDATE_MODE_REFUSES_NEW_READERS: [Step; 9] = [
+// 2 reads a record and 3 gets it for update; 4, a new reader, waits until 3 has ended, and asks again.
+const UPDATE_MODE_REFUSES_NEW_READERS: &[Step] = &[
     Takes(2, Record0, SH, Done),
     Takes(3, Record0, UD, Done),
     Takes(4, Record0, SH, At(Record0)),
@@ -39,13 +35,9 @@ const UPDATE_MODE_REFUSES_NEW_READERS: [Step; 9] = [
     Nodes(8),
 ];
 
-// 2 reads a record and 3 gets it for update; 4, a new reader, waits until 3 has ended, and asks again.
-#[test]
-fn update_mode_refuses_new_readers(rt: HostRuntime) -> Result<(), Fail> {
-    play(rt.alloc(), 16, &UPDATE_MODE_REFUSES_NEW_READERS)
-}
-
-const CONVERSION_DEADLOCK: [Step; 20] = [
+// 2 and 3 read a record and then want to update it: both wait there, and hold IX above. 3 is the victim; it asks once more, and
+// gives that up by itself. Once it has ended 2 goes on.
+const CONVERSION_DEADLOCK: &[Step] = &[
     Takes(2, Record0, SH, Done),
     Takes(3, Record0, SH, Done),
     Takes(2, Record0, EX, At(Record0)),
@@ -68,14 +60,8 @@ const CONVERSION_DEADLOCK: [Step; 20] = [
     Nodes(4),
 ];
 
-// 2 and 3 read a record and then want to update it: both wait there, and hold IX above. 3 is the victim; it asks once more, and
-// gives that up by itself. Once it has ended 2 goes on.
-#[test]
-fn conversion_deadlock(rt: HostRuntime) -> Result<(), Fail> {
-    play(rt.alloc(), 16, &CONVERSION_DEADLOCK)
-}
-
-const CYCLE_THROUGH_A_QUEUE: [Step; 10] = [
+// 2 waits behind 3, which waits for 1. As 1 begins to wait for 2 the cycle is closed; without 3's request 2 goes on.
+const CYCLE_THROUGH_A_QUEUE: &[Step] = &[
     Takes(1, Page0, SH, Done),
     Takes(2, Page1, EX, Done),
     Takes(3, Page0, EX, At(Page0)),
@@ -88,13 +74,8 @@ const CYCLE_THROUGH_A_QUEUE: [Step; 10] = [
     WhoWaits(&[1]),
 ];
 
-// 2 waits behind 3, which waits for 1. As 1 begins to wait for 2 the cycle is closed; without 3's request 2 goes on.
-#[test]
-fn cycle_through_a_queue(rt: HostRuntime) -> Result<(), Fail> {
-    play(rt.alloc(), 16, &CYCLE_THROUGH_A_QUEUE)
-}
-
-const REFUSALS_OF_GRANULES: [Step; 8] = [
+// UD is for records alone. Where 1 has the page, 2's try for a record of it is refused, and what it took above stays.
+const REFUSALS_OF_GRANULES: &[Step] = &[
     Attempts(1, Store, UD, BadMode),
     Nodes(0),
     Takes(1, Page0, EX, Done),
@@ -105,13 +86,8 @@ const REFUSALS_OF_GRANULES: [Step; 8] = [
     Nodes(5),
 ];
 
-// UD is for records alone. Where 1 has the page, 2's try for a record of it is refused, and what it took above stays.
-#[test]
-fn refusals_of_granules(rt: HostRuntime) -> Result<(), Fail> {
-    play(rt.alloc(), 16, &REFUSALS_OF_GRANULES)
-}
-
-const COVERED_LOCKS_ARE_NOT_TAKEN: [Step; 9] = [
+// SH on the store covers reading below it, and not writing; EX on the volume covers all.
+const COVERED_LOCKS_ARE_NOT_TAKEN: &[Step] = &[
     Takes(1, Store, SH, Done),
     Takes(1, Record0, SH, Done),
     Takes(1, Page0, IS, Done),
@@ -123,13 +99,8 @@ const COVERED_LOCKS_ARE_NOT_TAKEN: [Step; 9] = [
     Nodes(4),
 ];
 
-// SH on the store covers reading below it, and not writing; EX on the volume covers all.
-#[test]
-fn covered_locks_are_not_taken(rt: HostRuntime) -> Result<(), Fail> {
-    play(rt.alloc(), 16, &COVERED_LOCKS_ARE_NOT_TAKEN)
-}
-
-const FULL_ON_THE_WAY: [Step; 5] = [
+// Nodes for two: the page needs a third, and what was taken above it stays.
+const FULL_ON_THE_WAY: &[Step] = &[
     Attempts(1, Record0, SH, Full),
     HoldsAlong(1, &[IS, IS]),
     Takes(1, Store, SH, Done),
@@ -137,13 +108,8 @@ const FULL_ON_THE_WAY: [Step; 5] = [
     Nodes(2),
 ];
 
-// Nodes for two: the page needs a third, and what was taken above it stays.
-#[test]
-fn full_on_the_way(rt: HostRuntime) -> Result<(), Fail> {
-    play(rt.alloc(), 2, &FULL_ON_THE_WAY)
-}
-
-const RESUMED_WHERE_IT_WAITED: [Step; 8] = [
+// 2 waits for the store on its way to a record. Once 1 has ended it asks again, and goes on where it waited.
+const RESUMED_WHERE_IT_WAITED: &[Step] = &[
     Takes(1, Store, EX, Done),
     Takes(2, Record0, EX, At(Store)),
     HoldsAlong(2, &[IX]),
@@ -154,8 +120,26 @@ const RESUMED_WHERE_IT_WAITED: [Step; 8] = [
     HoldsAlong(2, &[IX, IX, IX, EX]),
 ];
 
-// 2 waits for the store on its way to a record. Once 1 has ended it asks again, and goes on where it waited.
+static RUNS: [Run; 8] = [
+    Run("conversion_to_six", 16, CONVERSION_TO_SIX),
+    Run(
+        "update_mode_refuses_new_readers",
+        16,
+        UPDATE_MODE_REFUSES_NEW_READERS,
+    ),
+    Run("conversion_deadlock", 16, CONVERSION_DEADLOCK),
+    Run("cycle_through_a_queue", 16, CYCLE_THROUGH_A_QUEUE),
+    Run("refusals_of_granules", 16, REFUSALS_OF_GRANULES),
+    Run(
+        "covered_locks_are_not_taken",
+        16,
+        COVERED_LOCKS_ARE_NOT_TAKEN,
+    ),
+    Run("full_on_the_way", 2, FULL_ON_THE_WAY),
+    Run("resumed_where_it_waited", 16, RESUMED_WHERE_IT_WAITED),
+];
+
 #[test]
-fn resumed_where_it_waited(rt: HostRuntime) -> Result<(), Fail> {
-    play(rt.alloc(), 16, &RESUMED_WHERE_IT_WAITED)
+fn paths_go_as_written(rt: HostRuntime) -> Result<(), Fail> {
+    play(rt.alloc(), &RUNS)
 }

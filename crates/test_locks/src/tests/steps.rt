@@ -58,83 +58,82 @@ pub(super) enum Step {
     Nodes(usize),
 }
 
-/// Plays a run on a table for so many nodes. It fails at the first step that is not as it is written, and says which, from 0 on.
-pub(super) fn play(alloc: Global, limit: usize, steps: &[Step]) -> Result<(), Fail> {
-    let mut table = LockTable::new(alloc, limit)?;
-    play_on(alloc, &mut table, steps)
+/// A run: its name, how many nodes its table has, and its steps.
+#[derive(Clone, Copy)]
+pub(super) struct Run(pub &'static str, pub usize, pub &'static [Step]);
+
+/// Plays runs, each on a table of its own. It fails at the first step that is not as it is written, and says which, from 0 on.
+pub(super) fn play(alloc: Global, runs: &[Run]) -> Result<(), Fail> {
+    for run in runs {
+        let mut table = LockTable::new(alloc, run.1)?;
+        play_on(alloc, &mut table, run)?;
+    }
+    Ok(())
 }
 
-fn play_on(alloc: Global, table: &mut LockTable, steps: &[Step]) -> Result<(), Fail> {
+fn play_on(alloc: Global, table: &mut LockTable, run: &Run) -> Result<(), Fail> {
+    let Run(name, _, steps) = *run;
     for (index, step) in steps.iter().enumerate() {
-        if !is_right(alloc, table, step)? {
-            return Err(wrong_at(index));
+        if !is_right(alloc, table, step) {
+            return Err(wrong_at(name, index));
         }
     }
     Ok(())
 }
 
-fn wrong_at(index: usize) -> Fail {
-    Fail::new(format_args!("step {index}"))
+fn wrong_at(name: &str, index: usize) -> Fail {
+    Fail::new(format_args!("{name}, step {index}"))
 }
 
-fn is_right(alloc: Global, table: &mut LockTable, step: &Step) -> Result<bool, Fault> {
+// A refused growth is not right either.
+fn is_right(alloc: Global, table: &mut LockTable, step: &Step) -> bool {
     match *step {
         Step::Asks(txn, target, mode, answer) => asks(table, txn, target, mode, answer),
         Step::Tries(txn, target, mode, outcome) => tries(table, txn, target, mode, outcome),
         Step::Takes(txn, target, mode, taken) => takes(alloc, table, txn, target, mode, taken),
         Step::Attempts(txn, target, mode, outcome) => {
-            Ok(attempts(alloc, table, txn, target, mode, outcome))
+            attempts(alloc, table, txn, target, mode, outcome)
         }
         Step::Cancels(txn) => {
             table.cancel(TxnId(txn));
-            Ok(true)
+            true
         }
-        Step::Releases(txn, count) => Ok(table.release_all(TxnId(txn)) == count),
+        Step::Releases(txn, count) => table.release_all(TxnId(txn)) == count,
         Step::Breaks(txn, cycles) => breaks(alloc, table, txn, cycles),
         Step::Finds(txn, cycle) => finds(alloc, table, txn, cycle),
-        Step::Holds(txn, target, mode) => Ok(holds(table, txn, target, mode)),
-        Step::HoldsAlong(txn, modes) => Ok(holds_along(table, txn, modes)),
-        Step::Wants(txn, target, mode) => Ok(wants(table, txn, target, mode)),
-        Step::WhoWaits(txns) => Ok(is_who_waits(table, txns)),
-        Step::Holders(target, txns) => Ok(has_holders(table, target, txns)),
-        Step::Waiters(target, txns) => Ok(has_waiters(table, target, txns)),
-        Step::Nodes(count) => Ok(table.nodes() == count),
+        Step::Holds(txn, target, mode) => holds(table, txn, target, mode),
+        Step::HoldsAlong(txn, modes) => holds_along(table, txn, modes),
+        Step::Wants(txn, target, mode) => wants(table, txn, target, mode),
+        Step::WhoWaits(txns) => is_who_waits(table, txns),
+        Step::Holders(target, txns) => has_holders(table, target, txns),
+        Step::Waiters(target, txns) => has_waiters(table, target, txns),
+        Step::Nodes(count) => table.nodes() == count,
     }
 }
 
-fn asks(
-    table: &mut LockTable,
-    txn: u64,
-    target: Target,
-    mode: Mode,
-    answer: Requested,
-) -> Result<bool, Fault> {
+fn asks(table: &mut LockTable, txn: u64, target: Target, mode: Mode, answer: Requested) -> bool {
     if table.is_waiting(TxnId(txn)) {
-        return Ok(false);
+        return false;
     }
-    Ok(table.request(TxnId(txn), target.granule(), mode)? == answer)
+    let asked = table.request(TxnId(txn), target.granule(), mode);
+    asked == Ok(answer)
 }
 
-fn tries(
-    table: &mut LockTable,
-    txn: u64,
-    target: Target,
-    mode: Mode,
-    outcome: Outcome,
-) -> Result<bool, Fault> {
+fn tries(table: &mut LockTable, txn: u64, target: Target, mode: Mode, outcome: Outcome) -> bool {
     if table.is_waiting(TxnId(txn)) {
-        return Ok(false);
+        return false;
     }
-    let tried = table.try_request(TxnId(txn), target.granule(), mode)?;
-    Ok(tried_of(outcome) == Some(tried))
+    let tried = table.try_request(TxnId(txn), target.granule(), mode);
+    tried == tried_of(outcome)
 }
 
-fn tried_of(outcome: Outcome) -> Option<Tried> {
+// The table itself refuses no mode.
+fn tried_of(outcome: Outcome) -> Result<Tried, Fault> {
     match outcome {
-        Outcome::Granted => Some(Tried::Granted),
-        Outcome::Blocked(txn) => Some(Tried::Blocked(TxnId(txn))),
-        Outcome::Full => Some(Tried::Full),
-        Outcome::BadMode => None,
+        Outcome::Granted => Ok(Tried::Granted),
+        Outcome::Blocked(txn) => Ok(Tried::Blocked(TxnId(txn))),
+        Outcome::Full => Ok(Tried::Full),
+        Outcome::BadMode => Err(Fault::BadMode),
     }
 }
 
@@ -145,13 +144,13 @@ fn takes(
     target: Target,
     mode: Mode,
     taken: Taken,
-) -> Result<bool, Fault> {
+) -> bool {
     if table.is_waiting(TxnId(txn)) {
-        return Ok(false);
+        return false;
     }
     let granule = target.granule();
-    let acquired = acquire(alloc, table, TxnId(txn), granule, mode, OnConflict::Wait)?;
-    Ok(acquired == acquired_of(taken))
+    let acquired = acquire(alloc, table, TxnId(txn), granule, mode, OnConflict::Wait);
+    acquired == Ok(acquired_of(taken))
 }
 
 fn acquired_of(taken: Taken) -> Acquired {
@@ -186,14 +185,11 @@ fn attempted_of(outcome: Outcome) -> Result<Acquired, Fault> {
     }
 }
 
-fn breaks(
-    alloc: Global,
-    table: &mut LockTable,
-    txn: u64,
-    cycles: &[&[u64]],
-) -> Result<bool, Fault> {
-    let victims = break_cycles(alloc, table, TxnId(txn))?;
-    Ok(are_victims(&victims, cycles))
+fn breaks(alloc: Global, table: &mut LockTable, txn: u64, cycles: &[&[u64]]) -> bool {
+    match break_cycles(alloc, table, TxnId(txn)) {
+        Ok(victims) => are_victims(&victims, cycles),
+        Err(_) => false,
+    }
 }
 
 fn are_victims(victims: &[Victim], cycles: &[&[u64]]) -> bool {
@@ -224,10 +220,11 @@ fn is_cycle(members: &[TxnId], cycle: &[u64]) -> bool {
     members.len() == cycle.len()
 }
 
-fn finds(alloc: Global, table: &LockTable, txn: u64, cycle: &[u64]) -> Result<bool, Fault> {
-    match find_cycle(alloc, table, TxnId(txn))? {
-        Some(found) => Ok(is_cycle(found.as_slice(), cycle)),
-        None => Ok(cycle.is_empty()),
+fn finds(alloc: Global, table: &LockTable, txn: u64, cycle: &[u64]) -> bool {
+    match find_cycle(alloc, table, TxnId(txn)) {
+        Ok(Some(found)) => is_cycle(found.as_slice(), cycle),
+        Ok(None) => cycle.is_empty(),
+        Err(_) => false,
     }
 }
 

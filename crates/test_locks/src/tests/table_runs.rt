@@ -3,8 +3,8 @@ use super::choices::{Choices, fail_at};
 use super::comparison::is_same;
 use super::twin::Twin;
 use shore_locks::{LockTable, Requested, Tried};
-use shore_types::{Fault, TxnId};
-use std::alloc::Global;
+use shore_types::TxnId;
+use std::alloc::{AllocError, Global};
 use std::test::Fail;
 
 const STEPS: u32 = 150;
@@ -82,7 +82,7 @@ fn is_right(
     table: &mut LockTable,
     twin: &mut Twin,
     seen: &mut Seen,
-) -> Result<bool, Fault> {
+) -> Result<bool, AllocError> {
     Ok(step(alloc, choices, table, twin, seen)? && is_same(table, twin))
 }
 
@@ -93,7 +93,7 @@ fn step(
     table: &mut LockTable,
     twin: &mut Twin,
     seen: &mut Seen,
-) -> Result<bool, Fault> {
+) -> Result<bool, AllocError> {
     let txn = choices.transaction();
     let percent = choices.percent();
     if percent < 8 {
@@ -107,11 +107,15 @@ fn step(
     }
     let (granule, mode) = (choices.granule(), choices.mode());
     if percent < 70 {
-        let answer = table.request(txn, granule, mode)?;
+        let Ok(answer) = table.request(txn, granule, mode) else {
+            return Ok(false);
+        };
         seen.count_request(answer);
         return Ok(answer == twin.request(txn, &granule, mode)?);
     }
-    let answer = table.try_request(txn, granule, mode)?;
+    let Ok(answer) = table.try_request(txn, granule, mode) else {
+        return Ok(false);
+    };
     seen.count_try(answer);
     Ok(answer == twin.try_request(alloc, txn, &granule, mode)?)
 }

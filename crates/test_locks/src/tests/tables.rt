@@ -3,12 +3,13 @@ use super::granules::Target::{Record0, Store};
 use super::steps::Step::{
     self, Asks, Cancels, Holders, Holds, Nodes, Releases, Tries, Waiters, Wants, WhoWaits,
 };
-use super::steps::{Outcome, play};
+use super::steps::{Outcome, Run, play};
 use shore_locks::Requested::{Full, Granted, Waiting};
 use shore_types::Mode::{EX, IS, IX, SH, SIX, UD};
 use std::test::Fail;
 
-const CONVERSION_TO_SIX: [Step; 11] = [
+// 1 asks for IX and SH on the store and holds SIX; 2's IS stands beside it, and 3's IX has to wait.
+const CONVERSION_TO_SIX: &[Step] = &[
     Asks(1, Store, IX, Granted),
     Asks(1, Store, SH, Granted),
     Asks(2, Store, IS, Granted),
@@ -22,13 +23,8 @@ const CONVERSION_TO_SIX: [Step; 11] = [
     Wants(3, Store, IX),
 ];
 
-// 1 asks for IX and SH on the store and holds SIX; 2's IS stands beside it, and 3's IX has to wait.
-#[test]
-fn conversion_to_six(rt: HostRuntime) -> Result<(), Fail> {
-    play(rt.alloc(), 16, &CONVERSION_TO_SIX)
-}
-
-const UPDATE_MODE_REFUSES_NEW_READERS: [Step; 8] = [
+// 2 reads a record and 3 gets it for update; 4, a new reader, waits until 3 has ended.
+const UPDATE_MODE_REFUSES_NEW_READERS: &[Step] = &[
     Asks(2, Record0, SH, Granted),
     Asks(3, Record0, UD, Granted),
     Tries(4, Record0, SH, Outcome::Blocked(3)),
@@ -39,13 +35,8 @@ const UPDATE_MODE_REFUSES_NEW_READERS: [Step; 8] = [
     WhoWaits(&[]),
 ];
 
-// 2 reads a record and 3 gets it for update; 4, a new reader, waits until 3 has ended.
-#[test]
-fn update_mode_refuses_new_readers(rt: HostRuntime) -> Result<(), Fail> {
-    play(rt.alloc(), 16, &UPDATE_MODE_REFUSES_NEW_READERS)
-}
-
-const CONVERSION_DEADLOCK: [Step; 11] = [
+// 2 and 3 read a record and then want to update it: both wait. 3 is the victim, and once it has ended 2 goes on.
+const CONVERSION_DEADLOCK: &[Step] = &[
     Asks(2, Record0, SH, Granted),
     Asks(3, Record0, SH, Granted),
     Asks(2, Record0, EX, Waiting),
@@ -59,13 +50,9 @@ const CONVERSION_DEADLOCK: [Step; 11] = [
     Nodes(1),
 ];
 
-// 2 and 3 read a record and then want to update it: both wait. 3 is the victim, and once it has ended 2 goes on.
-#[test]
-fn conversion_deadlock(rt: HostRuntime) -> Result<(), Fail> {
-    play(rt.alloc(), 16, &CONVERSION_DEADLOCK)
-}
-
-const QUEUE_ORDER_AND_ROOM: [Step; 10] = [
+// A reader behind a waiting writer waits, although the holder would grant it; a conversion goes ahead of both. Nodes for
+// two: a third transaction finds the table full, and one that has a node does not.
+const QUEUE_ORDER_AND_ROOM: &[Step] = &[
     Asks(1, Store, IS, Granted),
     Asks(2, Store, EX, Waiting),
     Asks(3, Store, IS, Waiting),
@@ -78,9 +65,18 @@ const QUEUE_ORDER_AND_ROOM: [Step; 10] = [
     Tries(3, Store, IX, Outcome::Blocked(1)),
 ];
 
-// A reader behind a waiting writer waits, although the holder would grant it; a conversion goes ahead of both. Nodes for
-// two: a third transaction finds the table full, and one that has a node does not.
+static RUNS: [Run; 4] = [
+    Run("conversion_to_six", 16, CONVERSION_TO_SIX),
+    Run(
+        "update_mode_refuses_new_readers",
+        16,
+        UPDATE_MODE_REFUSES_NEW_READERS,
+    ),
+    Run("conversion_deadlock", 16, CONVERSION_DEADLOCK),
+    Run("queue_order_and_room", 3, QUEUE_ORDER_AND_ROOM),
+];
+
 #[test]
-fn queue_order_and_room(rt: HostRuntime) -> Result<(), Fail> {
-    play(rt.alloc(), 3, &QUEUE_ORDER_AND_ROOM)
+fn tables_go_as_written(rt: HostRuntime) -> Result<(), Fail> {
+    play(rt.alloc(), &RUNS)
 }
