@@ -60,8 +60,5 @@ pub fn check_request(
 fn mode_of(own: &Option<Request>) -> Option<Mode>
     ensures { result ≡ option_and_then (λ r. r.held) own.now }
 {
-    match own {
-        Some(request) => request.held,
-        None => None,
-    }
+    own.as_ref()?.held
 }

@@ -89,10 +89,9 @@ pub fn granted(waiter: &Request) -> Request
     ensures { result ≡ steps.granted waiter.now }
 {
     Request {
-        txn: waiter.txn,
-        granule: waiter.granule,
         held: waiter.wanted,
         wanted: None,
+        ..*waiter
     }
 }
 
