@@ -28,7 +28,6 @@ fn the_table_does_as_its_twin(rt: HostRuntime) -> Result<(), Fail> {
     for seed in 0..RUNS {
         table_runs::run(rt.alloc(), seed, &mut seen)?;
     }
-    println!(rt; "{seen:?}")?;
     assert!(rt; seen.is_often());
     Ok(())
 }
@@ -41,7 +40,6 @@ fn cycles_are_broken_as_they_are_closed(rt: HostRuntime) -> Result<(), Fail> {
     for seed in 0..RUNS {
         cycle_runs::run(rt.alloc(), seed, &mut closed)?;
     }
-    println!(rt; "{closed:?}")?;
     assert!(rt; closed.is_often());
     Ok(())
 }
@@ -53,7 +51,6 @@ fn acquires_keep_harmony(rt: HostRuntime) -> Result<(), Fail> {
     for seed in 0..RUNS {
         path_runs::run(rt.alloc(), seed, &mut ended)?;
     }
-    println!(rt; "{ended:?}")?;
     assert!(rt; ended.is_often());
     Ok(())
 }
