@@ -94,7 +94,7 @@ fn play(alloc: Global, requests: &mut Sequence<Request>, line: &str) -> Result<(
             requests.truncate(0);
             Ok(())
         }
-        Some(("placed", rest)) => index(alloc, requests, rest),
+        Some(("placed", rest)) => place(alloc, requests, &mut rest.split_whitespace()),
         Some((verb, rest)) => judge(alloc, requests, verb, rest),
         None => add(requests, line),
     }
@@ -132,8 +132,12 @@ fn mode_or_none(words: &mut Words) -> Result<Option<Mode>, Trouble> {
     }
 }
 
-fn index(alloc: Global, requests: &mut Sequence<Request>, line: &str) -> Result<(), Trouble> {
-    add(requests, line)?;
+fn place(
+    alloc: Global,
+    requests: &mut Sequence<Request>,
+    words: &mut Words,
+) -> Result<(), Trouble> {
+    add_one(requests, words)?;
     let Some((placed, before)) = requests.as_slice().split_last() else {
         return Err(Trouble::NoLine);
     };

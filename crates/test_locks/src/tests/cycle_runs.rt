@@ -15,7 +15,7 @@ const STEPS: u32 = 100;
 const LIMIT: usize = 16;
 
 /// How often a request began to wait, closed a cycle, and closed several that had to be broken apart.
-#[derive(Clone, Copy, Default)]
+#[derive(Default, Drop)]
 pub struct Closed {
     pub waits: u32,
     pub cycles: u32,

@@ -16,7 +16,7 @@ const STEPS: u32 = 60;
 const LIMIT: usize = 15;
 
 /// How often an acquire ended in each way.
-#[derive(Clone, Copy, Default)]
+#[derive(Default, Drop)]
 pub struct Ended {
     pub done: u32,
     pub covered: u32,

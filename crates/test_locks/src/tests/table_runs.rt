@@ -12,7 +12,7 @@ const STEPS: u32 = 150;
 const LIMIT: usize = 9;
 
 /// How often each kind of answer was met.
-#[derive(Clone, Copy, Default)]
+#[derive(Default, Drop)]
 pub struct Seen {
     pub granted: u32,
     pub waiting: u32,
