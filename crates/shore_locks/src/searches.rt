@@ -1,5 +1,5 @@
 //! Searches among the nodes of a granule's queue, and of a transaction.
-ghost use Rattle.std.specs.Prelude.{◌≡◌, None, Some, slice_get};
+ghost use Rattle.std.specs.Prelude.{◌≡◌, None, Some, cond, is_some, slice_get};
 ghost use Rattle.shore_model.specs.Requests.{requests_at};
 ghost use Rattle.shore_locks.specs.Tables as tables;
 ghost use Rattle.shore_locks.specs.Grants as steps;
@@ -37,7 +37,7 @@ pub fn waiting_request(nodes: &Nodes, txn: TxnId) -> Option<Request>
     ensures { result ≡ tables.waiting_request txn nodes.now }
 {
     if let Some(newest) = nodes.newest(txn) {
-        return Some(newest).filter(|request| request.wanted.is_some());
+        return if_waiting(newest);
     }
     let mut walk = nodes.list(txn);
     while let Some((_, request)) = walk.advance() {
@@ -46,6 +46,16 @@ pub fn waiting_request(nodes: &Nodes, txn: TxnId) -> Option<Request>
         }
     }
     None
+}
+
+fn if_waiting(request: Request) -> Option<Request>
+    ensures { result ≡ cond (is_some request.wanted) (Some request) None }
+{
+    if request.wanted.is_some() {
+        Some(request)
+    } else {
+        None
+    }
 }
 
 /// The first waiter of a granule's queue: a conversion, or else the first that is new.
