@@ -86,7 +86,7 @@ pub record IsOutOfBounds (device_bytes : ℕ) (image : List ℕ) (offset : ℕ) 
   pub front : HasFront geometry device_bytes image
   pub log : Gives records image
   pub outside : ¬ InBounds geometry (device_bytes - 4096) records
-  pub named : (HasTxns list × FitPages geometry (records_told records) × (offset ≡ offset_of front.slot)) ⊎ IsBadRecordAt geometry list image offset
+  pub named : (HasTxns records × FitPages geometry (records_told records) × (offset ≡ offset_of front.slot)) ⊎ IsBadRecordAt geometry records image offset
 
 -- Beside a failure of the device or of an allocation, an open is refused by the first check of the front that is not passed;
 -- where all are, by the first byte where neither a closed gate nor a frame stands; and where there is none, by a list that is
