@@ -13,7 +13,7 @@ const PICKS: [Pick; 3] = [Pick::Old, Pick::New, Pick::Noise];
 const LISTS_BY_LENGTH: [(u32, u32); 6] = [(0, 1), (1, 7), (2, 49), (3, 343), (4, 2401), (5, 16807)];
 
 /// How much was run: lists of events, and for each of them a case for each fuse and pick.
-#[derive(Clone, Copy, Debug, PartialEq, Eq)]
+#[derive(Drop)]
 pub(super) struct Counts {
     pub(super) lists: u64,
     pub(super) cases: u64,

@@ -91,7 +91,7 @@ fn cut(alloc: Global, bytes: &[u8], length: usize) -> Result<Vec<u8>, AllocError
 }
 
 // Bytes of the setup's device, another value of each, and what an open is then refused with.
-const CHANGED_BYTES: [(usize, u8, &str); 10] = [
+const CHANGED_BYTES: [(usize, u8, &str); 11] = [
     (0, 0x00, "29 NotFormatted"),
     (1, 0x56, "29 NotFormatted"),
     (2, 0x03, "26 WrongVersion"),
@@ -101,6 +101,7 @@ const CHANGED_BYTES: [(usize, u8, &str); 10] = [
     (4097, 0x38, "25 Damaged log 4096"),
     (4101, 0x02, "25 Damaged log 4096"),
     (4109, 0x0a, "25 Damaged log 4096"),
+    (4117, 0x40, "25 Damaged log 4096"),
     (4166, 0xa5, "25 Damaged log 4166"),
 ];
 
