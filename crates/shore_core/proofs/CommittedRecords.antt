@@ -181,9 +181,9 @@ overlays_none q W none R e [] = e
 overlays_none q W none R e (t ∷ ts) =
     overlays_none q W none (overlay R (W t)) (get-overlay R (W t) q ∙ ap (λ o. unwrap_or o (get R q)) (none t) ∙ e) ts
 
--- it is not told
-pub untold : (rs : List LogRecord) (q : Rid) → All Fits rs → All (λ r. id_in r.payload ≢ Some q) rs → get (records_told rs) q ≡ None
-untold rs q fit h =
+-- it is not among the records that are told
+pub unrecorded : (rs : List LogRecord) (q : Rid) → All Fits rs → All (λ r. id_in r.payload ≢ Some q) rs → get (records_told rs) q ≡ None
+unrecorded rs q fit h =
     ap (λ R. get R q) (records_of_commits rs fit)
     ∙ overlays_none q (logged_writes rs)
     (λ t. get-from_entries rids_total (reverse (images_of t rs)) q ∙ find_none-reverse q (images_of t rs) (images_none q t rs h))

@@ -17,6 +17,7 @@ use Rattle.shore_machine.specs.States.{State, next_number}
 use Rattle.shore_machine.specs.Steps.{Answers, IsRefusal, committed}
 use Rattle.shore_core.specs.declared.core_calls.Active.{Active}
 use Rattle.shore_core.specs.RecordMaps.{records_in}
+use Rattle.shore_core.specs.Room.{room_of}
 use Rattle.shore_core.specs.declared.core_calls.Core.{Core}
 
 -- the records in place
@@ -58,7 +59,7 @@ state_of {G = G} before core = record {
   next_txn = core.next_txn;
   log = before ++ G.records core.tail;
   durable = core.durable;
-  room = record { kept = core.room.kept; reserved = core.room.reserved; stream_bytes = core.room.stream_bytes };
+  room = room_of core.room;
   failed = core.failed;
 }
 

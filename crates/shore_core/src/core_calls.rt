@@ -12,7 +12,8 @@ ghost use Rattle.shore_machine.specs.Pages.{FitPages};
 ghost use Rattle.shore_core.specs.Bounds.{AreInBounds, InBounds, IsBounded};
 ghost use Rattle.shore_core.specs.Opened.{HasTxns, IsBadRecord, cost_of_log};
 ghost use Rattle.shore_core.specs.RecordMaps.{IsOn};
-ghost use Rattle.shore_core.specs.Room.{Admits};
+ghost use Rattle.shore_core.specs.Room.{room_of};
+ghost use Rattle.shore_machine.specs.States.{HasRoomFor};
 ghost use Rattle.shore_model.specs.declared.log_records.LogRecord.{LogRecord};
 ghost use Rattle.shore_model.specs.Logs.{records_told};
 ghost use Rattle.shore_machine.specs.Served.{IsServed};
@@ -113,7 +114,7 @@ impl<T: Tail> Core<T> {
 
     // Whether the log has room for so much more, and numbers.
     fn admits(&self, need: u64) -> bool
-        ensures { IsTrue result ↔ ((T.Tail.first self.now.tail + length (T.Tail.records self.now.tail) ≤ LAST_LSN) × Admits self.now.room need) }
+        ensures { IsTrue result ↔ ((T.Tail.first self.now.tail + length (T.Tail.records self.now.tail) ≤ LAST_LSN) × HasRoomFor (room_of self.now.room) need) }
     {
         self.tail.next().0 <= LAST_LSN && self.room.admits(need)
     }

@@ -1,5 +1,6 @@
 //! The room of the log: what its records cost, and what is reserved for records that must not be refused.
 ghost use Rattle.std.specs.Prelude.{◌≡◌, ◌+◌, ◌≤◌, ◌↔◌, IsTrue, IsSome, IfSome};
+ghost use Rattle.shore_types.specs.declared.layout.TheConstants.{MAX_LOG_BYTES};
 
 use shore_types::layout::{GREATEST_CHECKPOINT, LONGEST_FRAME, MAX_LOG_BYTES};
 
@@ -12,12 +13,13 @@ pub struct LogRoom {
     pub kept: u64,
     /// What the endings and rollbacks of the transactions in the table would cost.
     pub reserved: u64,
-    ghost short: { stream_bytes ≤ 1073741824 },
+    ghost short: { stream_bytes ≤ MAX_LOG_BYTES },
     ghost within: { kept + reserved ≤ stream_bytes },
 }
 
 impl LogRoom {
-    ghost use Rattle.shore_core.specs.Room.{Admits};
+    ghost use Rattle.shore_core.specs.Room.{room_of};
+    ghost use Rattle.shore_machine.specs.States.{HasRoomFor};
 
     /// The room of a log whose records have these costs. `None` if they leave no room for the longest frame.
     pub fn new(stream_bytes: u64, kept: u64) -> Option<LogRoom>
@@ -40,7 +42,7 @@ impl LogRoom {
     /// Whether a call that adds so much, in its record and in what it reserves, leaves room for the longest frame and the
     /// greatest checkpoint.
     pub fn admits(&self, need: u64) -> bool
-        ensures { IsTrue result ↔ Admits self.now need }
+        ensures { IsTrue result ↔ HasRoomFor (room_of self.now) need }
     {
         let taken = self.kept + self.reserved + LONGEST_FRAME + GREATEST_CHECKPOINT;
         taken <= self.stream_bytes && need <= self.stream_bytes - taken

@@ -4,6 +4,7 @@ use Rattle.byteorder.specs.Endian.{little_bytes}
 use Rattle.shore_types.specs.declared.faults.Device.TheVariants.{Log}
 use Rattle.shore_types.specs.declared.faults.Fault.{Fault}
 use Rattle.shore_types.specs.declared.faults.Fault.TheVariants.{Damaged}
+use Rattle.shore_types.specs.declared.layout.TheConstants.{LAST_OPENED, LONGEST_FRAME}
 use Rattle.shore_gate.specs.declared.gates.TheConstants.{OPEN}
 use Rattle.shore_gate.specs.declared.anchors.Anchor.{Anchor}
 use Rattle.shore_gate.specs.declared.anchors.Anchors.{Anchors}
@@ -39,8 +40,8 @@ pub record IsAnchor (anchor : Anchor) : Type 0 where
 -- what the anchor that counts has to be
 pub record MayCount (anchor : Anchor) : Type 0 where
   pub some_tail : 1 ≤ anchor.tail
-  pub most_tail : anchor.tail ≤ 2 ^ 46 + 2 ^ 32
-  pub offset : anchor.tail_place ≤ 65549 * (anchor.tail - 1)
+  pub most_tail : anchor.tail ≤ LAST_OPENED
+  pub offset : anchor.tail_place ≤ LONGEST_FRAME * (anchor.tail - 1)
   pub some_sequence : 1 ≤ anchor.sequence
   pub most_sequence : anchor.sequence ≤ anchor.checkpoint + 1
   pub checkpoint : (anchor.checkpoint ≡ 0) ⊎ (anchor.tail ≤ anchor.checkpoint)
@@ -75,7 +76,7 @@ open_anchor slot bytes = if slice_index bytes 0 == OPEN
 
 -- `MayCount` as a test
 abbrev pub may_count : Anchor → Bool
-may_count anchor = is_within 1 (2 ^ 46 + 2 ^ 32) anchor.tail && nat_le anchor.tail_place (65549 * (anchor.tail - 1))
+may_count anchor = is_within 1 LAST_OPENED anchor.tail && nat_le anchor.tail_place (LONGEST_FRAME * (anchor.tail - 1))
     && is_within 1 (anchor.checkpoint + 1) anchor.sequence && ((anchor.checkpoint == 0) || nat_le anchor.tail anchor.checkpoint)
 
 -- an anchor that counts, if it may

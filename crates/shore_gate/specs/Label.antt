@@ -7,6 +7,7 @@ use Rattle.shore_types.specs.declared.faults.Device.{Device}
 use Rattle.shore_types.specs.declared.faults.Device.TheVariants.{Log, Volume}
 use Rattle.shore_types.specs.declared.faults.Fault.{Fault}
 use Rattle.shore_types.specs.declared.faults.Fault.TheVariants.{NotFormatted, WrongVersion, Damaged}
+use Rattle.shore_types.specs.declared.layout.TheConstants.{LEAST_MAX_LOCKS, MAX_LOG_BYTES, MAX_PAGES, MAX_STORES, MIN_LOG_BYTES, MOST_MAX_LOCKS, PAGE_BYTES, VERSION}
 use Rattle.shore_gate.specs.declared.gates.TheConstants.{OPEN}
 use Rattle.shore_gate.specs.declared.labels.Label.{Label}
 use Rattle.shore_gate.specs.Numbers.{number_at, numbers_at, are_zero}
@@ -19,7 +20,7 @@ kind_of Volume = 0x56
 
 -- the fields before the pages of the stores
 unfoldable pub label_head : Device → Label → List ℕ
-label_head device label = (kind_of device ∷ []) ++ little_bytes 2 1 ++ little_bytes 4 8192 ++ little_bytes 8 label.pair ++ little_bytes 8 label.length
+label_head device label = (kind_of device ∷ []) ++ little_bytes 2 VERSION ++ little_bytes 4 PAGE_BYTES ++ little_bytes 8 label.pair ++ little_bytes 8 label.length
     ++ little_bytes 4 label.max_locks ++ little_bytes 4 (length label.stores)
 
 -- the 511 bytes behind the gate
@@ -28,20 +29,20 @@ label_bytes device label = label_head device label ++ flat_map (little_bytes 4) 
 
 -- the lengths that a device with so many pages may have
 abbrev pub HasLength : Device → ℕ → ℕ → Type 0
-HasLength Log pages bytes = (135168 ≤ bytes) × (bytes ≤ 1073741824)
-HasLength Volume pages bytes = bytes ≡ 270336 + 8192 * pages
+HasLength Log pages bytes = (MIN_LOG_BYTES ≤ bytes) × (bytes ≤ MAX_LOG_BYTES)
+HasLength Volume pages bytes = bytes ≡ 270336 + PAGE_BYTES * pages
 
 -- within the limits, on a device of this length
 pub record IsLabel (device : Device) (bytes : ℕ) (label : Label) : Type 0 where
   pub pair : label.pair < 2 ^ 64
   pub of_device : label.length ≡ bytes
   pub as_long : HasLength device (sum label.stores) bytes
-  pub least_locks : 16 ≤ label.max_locks
-  pub most_locks : label.max_locks ≤ 4096
+  pub least_locks : LEAST_MAX_LOCKS ≤ label.max_locks
+  pub most_locks : label.max_locks ≤ MOST_MAX_LOCKS
   pub some_store : 1 ≤ length label.stores
-  pub most_stores : length label.stores ≤ 64
+  pub most_stores : length label.stores ≤ MAX_STORES
   pub some_page : All (λ pages. 1 ≤ pages) label.stores
-  pub most_pages : sum label.stores ≤ 65536
+  pub most_pages : sum label.stores ≤ MAX_PAGES
 
 -- such a label is in these bytes, behind an open gate
 pub record HoldsLabel (device : Device) (size : ℕ) (bytes : List ℕ) (label : Label) : Type 0 where
@@ -50,13 +51,13 @@ pub record HoldsLabel (device : Device) (size : ℕ) (bytes : List ℕ) (label :
 
 -- whether a label may name this length, before its stores are known
 abbrev pub may_be_long : Device → ℕ → Bool
-may_be_long Log bytes = is_within 135168 1073741824 bytes
+may_be_long Log bytes = is_within MIN_LOG_BYTES MAX_LOG_BYTES bytes
 may_be_long Volume bytes = true
 
 -- whether a device of so many pages has this length
 abbrev pub is_filled : Device → ℕ → ℕ → Bool
 is_filled Log pages bytes = true
-is_filled Volume pages bytes = bytes == 270336 + 8192 * pages
+is_filled Volume pages bytes = bytes == 270336 + PAGE_BYTES * pages
 
 -- what tells that it is a label of this version, and of this device
 abbrev pub kind_checks : Device → ℕ → List ℕ → List Check
@@ -64,23 +65,23 @@ kind_checks device size bytes =
     check (nat_le 4096 size) NotFormatted
     ∷ check (slice_index bytes 0 == OPEN) NotFormatted
     ∷ check (slice_index bytes 1 == kind_of device) NotFormatted
-    ∷ check (number_at bytes 2 2 == 1) WrongVersion
+    ∷ check (number_at bytes 2 2 == VERSION) WrongVersion
     ∷ []
 
 -- the fields before the pages of the stores, by their offsets
 abbrev pub field_checks : Device → ℕ → List ℕ → List Check
 field_checks device size bytes =
-    check (number_at bytes 4 4 == 8192) (Damaged device 4)
+    check (number_at bytes 4 4 == PAGE_BYTES) (Damaged device 4)
     ∷ check (number_at bytes 16 8 == size && may_be_long device size) (Damaged device 16)
-    ∷ check (is_within 16 4096 (number_at bytes 24 4)) (Damaged device 24)
-    ∷ check (is_within 1 64 (number_at bytes 28 4)) (Damaged device 28)
+    ∷ check (is_within LEAST_MAX_LOCKS MOST_MAX_LOCKS (number_at bytes 24 4)) (Damaged device 24)
+    ∷ check (is_within 1 MAX_STORES (number_at bytes 28 4)) (Damaged device 28)
     ∷ []
 
 -- the pages of each store: at least one, and with those before it at most 65,536
 abbrev pub store_checks : Device → ℕ → ℕ → List ℕ → List Check
 store_checks device offset before [] = []
 store_checks device offset before (pages ∷ later) =
-    check (nat_le 1 pages && nat_le (before + pages) 65536) (Damaged device offset) ∷ store_checks device (offset + 4) (before + pages) later
+    check (nat_le 1 pages && nat_le (before + pages) MAX_PAGES) (Damaged device offset) ∷ store_checks device (offset + 4) (before + pages) later
 
 -- the pages of the stores, as many as the label names
 abbrev pub stores_of : List ℕ → List ℕ

@@ -1,6 +1,7 @@
 -- Frames: the records of a log in groups, each behind a gate of its own, and a closed gate behind the last.
 use Rattle.std.specs.Prelude.{◌≡◌, ◌≢◌, ◌⊎◌, ℕ, ◌+◌, ◌<◌, ◌≤◌, List, [], ◌∷◌, ◌++◌, length, take, drop}
 use Rattle.std.specs.List.{flat_map}
+use Rattle.shore_types.specs.declared.layout.TheConstants.{LOG_FRONT_BYTES, MAX_FRAME_BYTES}
 use Rattle.byteorder.specs.Endian.{little_bytes}
 use Rattle.shore_gate.specs.declared.gates.TheConstants.{OPEN}
 use Rattle.shore_model.specs.declared.log_records.LogRecord.{LogRecord}
@@ -15,7 +16,7 @@ AreNumbered n (r ∷ rs) = Fits r × (r.previous < n) × AreNumbered (n + 1) rs
 pub record IsGroup (n : ℕ) (rs : List LogRecord) : Type 0 where
   pub numbered : AreNumbered n rs
   pub some : 1 ≤ length (texts rs)
-  pub most : length (texts rs) ≤ 65536
+  pub most : length (texts rs) ≤ MAX_FRAME_BYTES
 
 -- the length of a frame's body, and the number of its first record
 unfoldable pub frame_head : ℕ → ℕ → List ℕ
@@ -39,11 +40,11 @@ joined gs = flat_map (λ g. g) gs
 
 -- the frames of this image of the device, from byte 4,096 on, give this list of records
 abbrev pub Gives : List LogRecord → List ℕ → Type 0
-Gives rs image = (gs : List (List LogRecord)) × Frames 1 (drop 4096 image) gs × (rs ≡ joined gs)
+Gives rs image = (gs : List (List LogRecord)) × Frames 1 (drop LOG_FRONT_BYTES image) gs × (rs ≡ joined gs)
 
 -- they give this list behind a front of 4,096 bytes, which no frame reaches
 abbrev pub GivesBehind : List ℕ → List LogRecord → List ℕ → Type 0
-GivesBehind front rs image = (take 4096 image ≡ front) × Gives rs image
+GivesBehind front rs image = (take LOG_FRONT_BYTES image ≡ front) × Gives rs image
 
 -- they give it with one group more, or without it
 abbrev pub GivesWithOrWithout : List ℕ → List LogRecord → List LogRecord → List ℕ → Type 0
@@ -52,8 +53,8 @@ GivesWithOrWithout front rs more image = GivesBehind front rs image ⊎ GivesBeh
 -- the first so many of these records fit one frame, and one more would not
 pub record IsLongest (rs : List LogRecord) (count : ℕ) : Type 0 where
   pub within : count ≤ length rs
-  pub fits : length (texts (take count rs)) ≤ 65536
-  pub longest : (count ≡ length rs) ⊎ (65536 < length (texts (take (count + 1) rs)))
+  pub fits : length (texts (take count rs)) ≤ MAX_FRAME_BYTES
+  pub longest : (count ≡ length rs) ⊎ (MAX_FRAME_BYTES < length (texts (take (count + 1) rs)))
 
 -- ---- the bytes of some frames, as one text
 

@@ -4,6 +4,7 @@ use Rattle.shore_disk.specs.Device.{Stands}
 use Rattle.shore_disk.specs.declared.device.Disk.{Ghosts}
 use Rattle.shore_gate.specs.declared.gates.TheConstants.{OPEN}
 use Rattle.shore_types.specs.declared.faults.Fault.{Fault}
+use Rattle.shore_types.specs.declared.layout.TheConstants.{LOG_FRONT_BYTES}
 use Rattle.shore_model.specs.declared.log_records.LogRecord.{LogRecord}
 use Rattle.shore_logrec.specs.Text.{texts}
 use Rattle.shore_log.specs.Frames.{behind_gate, text, AreGroups, IsLongest, joined}
@@ -28,7 +29,7 @@ pub record IsSettled {D : Type 0} {G : Ghosts D} (log : LogDev D G) (front : Lis
   pub groups : List (List LogRecord)
   pub gate : ℕ
   pub rest : List ℕ
-  pub front_long : length front ≡ 4096
+  pub front_long : length front ≡ LOG_FRONT_BYTES
   pub shut : gate ≢ OPEN
   pub are : AreGroups 1 groups
   pub forced : stable log ≡ joined groups
@@ -41,7 +42,7 @@ pub record IsStaged {D : Type 0} {G : Ghosts D} (log : LogDev D G) (front : List
   pub groups : List (List LogRecord)
   pub gate : ℕ
   pub rest : List ℕ
-  pub front_long : length front ≡ 4096
+  pub front_long : length front ≡ LOG_FRONT_BYTES
   pub shut : gate ≢ OPEN
   pub are : AreGroups 1 (groups ++ group ∷ [])
   pub forced : stable log ≡ joined groups
@@ -55,7 +56,7 @@ pub record HasNoFrameRoom {D : Type 0} {G : Ghosts D} (log : LogDev D G) : Type 
   pub count : ℕ
   pub some : 1 ≤ count
   pub longest : IsLongest (waiting log) count
-  pub full : log.device_bytes ≤ 4096 + log.offset + (13 + length (texts (take count (waiting log))))
+  pub full : log.device_bytes ≤ LOG_FRONT_BYTES + log.offset + (13 + length (texts (take count (waiting log))))
 
 -- The forced records and the frame under way are the same, and what was settled or staged is so still.
 pub record KeepsFrames {D : Type 0} {G : Ghosts D} (old new : LogDev D G) : Type 0 where

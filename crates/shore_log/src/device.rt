@@ -2,6 +2,7 @@
 ghost use Rattle.std.specs.Prelude.{ℕ, ◌≡◌, ◌⊎◌, ◌↔◌, ◌+◌, ◌-◌, ◌^◌, ◌<◌, ◌≤◌, [], ◌∷◌, ◌++◌, All, List, IsTrue, IsSome, IfSome, IfOk, IfErr, OnOk, OnErr, length, take, drop, None, Some, Ok, Err};
 ghost use Rattle.std.specs.Option.{ForSome};
 ghost use Rattle.shore_types.specs.declared.faults.Device.TheVariants as Device;
+ghost use Rattle.shore_types.specs.declared.layout.TheConstants.{LOG_FRONT_BYTES, MAX_FRAME_BYTES, MAX_LOG_BYTES};
 ghost use Rattle.shore_disk.specs.Device.{size, seen, LeavesOnly, Stands};
 ghost use Rattle.shore_disk.specs.Cause.{HasCause};
 ghost use Rattle.shore_model.specs.declared.log_records.LogRecord.{LogRecord};
@@ -16,12 +17,12 @@ use crate::{PlainTail, Tail};
 use shore_disk::{Disk, FuseDisk, write_synced};
 use shore_gate::open_gate;
 use shore_logrec::LogRecord;
-use shore_types::layout::MAX_LOG_BYTES;
+use shore_types::layout::{LOG_FRONT_BYTES, MAX_LOG_BYTES};
 use shore_types::{Fault, Lsn};
 use std::alloc::Global;
 
 /// The offset at which the stream of frames begins.
-pub const STREAM: u64 = 4096;
+pub const STREAM: u64 = LOG_FRONT_BYTES;
 
 // The offset of the length in a device's label.
 const LENGTH_OFFSET: u64 = 16;
@@ -61,19 +62,19 @@ pub struct LogDev<D: Disk> {
     offset: u64,
     staged: Option<Staged>,
     ghost numbered: { IsTrue (are_numbered 1 records.items) },
-    ghost is_short: { device_bytes ≤ 2 ^ 30 },
-    ghost gate_inside: { 4096 + offset < device_bytes },
+    ghost is_short: { device_bytes ≤ MAX_LOG_BYTES },
+    ghost gate_inside: { LOG_FRONT_BYTES + offset < device_bytes },
     ghost forced_inside: { forced ≤ length records.items },
-    ghost staged_inside: { ForSome staged (λ s. 4096 + offset + s.len + 13 < device_bytes) },
+    ghost staged_inside: { ForSome staged (λ s. LOG_FRONT_BYTES + offset + s.len + 13 < device_bytes) },
     ghost staged_waits: { ForSome staged (λ s. forced + s.count ≤ length records.items) },
-    ghost staged_short: { ForSome staged (λ s. s.len ≤ 65536) },
+    ghost staged_short: { ForSome staged (λ s. s.len ≤ MAX_FRAME_BYTES) },
     ghost staged_some: { ForSome staged (λ s. 1 ≤ s.count) },
     ghost as_long: { device_bytes ≡ size (D.Disk.history device) },
 }
 
 // Whether a device of this length has a stream of frames, and is no longer than a log may be.
 fn has_stream(device_bytes: u64) -> bool
-    ensures { IsTrue result ↔ ((4096 < device_bytes) × (device_bytes ≤ 2 ^ 30)) }
+    ensures { IsTrue result ↔ ((LOG_FRONT_BYTES < device_bytes) × (device_bytes ≤ MAX_LOG_BYTES)) }
 {
     device_bytes > STREAM && device_bytes <= MAX_LOG_BYTES
 }
@@ -234,7 +235,7 @@ impl<D: Disk> LogDev<D> {
     /// if the device failed, `Memory` if an allocation failed. The device is handed back then.
     pub fn open(alloc: Global, device: D) -> Result<LogDev<D>, (Fault, D)>
         // What is opened is settled, and all of its records are stable.
-        ensures settled { IsTrue (D.is_honest device) → (image : List ℕ) → Stands (D.history device) image → IfOk result (λ log. IsSettled log (take 4096 image)) }
+        ensures settled { IsTrue (D.is_honest device) → (image : List ℕ) → Stands (D.history device) image → IfOk result (λ log. IsSettled log (take LOG_FRONT_BYTES image)) }
         ensures none_waits { IfOk result (λ log. (log.staged ≡ None) × (stable log ≡ records_of_log log)) }
 
         // The records are those that the device's frames give, and no others.
@@ -243,12 +244,12 @@ impl<D: Disk> LogDev<D> {
             → IfOk result (λ log. records_of_log log ≡ rs) }
 
         // A device of a log's length with all of its frames within is opened.
-        ensures undamaged { IsTrue (D.is_honest device) → size (D.history device) ≤ 2 ^ 30
+        ensures undamaged { IsTrue (D.is_honest device) → size (D.history device) ≤ MAX_LOG_BYTES
             → (rs : List LogRecord) → Gives rs (seen (D.history device)) → IfErr result (λ e. (e.0 ≡ Fault.Device) ⊎ (e.0 ≡ Fault.Memory)) }
         ensures damaged { IsTrue (D.is_honest device)
-            → 4096 < size (D.history device) → size (D.history device) ≤ 2 ^ 30
-            → (offset : ℕ) → IfErr result (λ e. e.0 ≡ Fault.Damaged Device.Log offset → IsBadAt 4096 (seen (D.history device)) offset) }
-        ensures outside { (size (D.history device) ≤ 4096) ⊎ (2 ^ 30 < size (D.history device))
+            → LOG_FRONT_BYTES < size (D.history device) → size (D.history device) ≤ MAX_LOG_BYTES
+            → (offset : ℕ) → IfErr result (λ e. e.0 ≡ Fault.Damaged Device.Log offset → IsBadAt LOG_FRONT_BYTES (seen (D.history device)) offset) }
+        ensures outside { (size (D.history device) ≤ LOG_FRONT_BYTES) ⊎ (MAX_LOG_BYTES < size (D.history device))
             → result ≡ Err (Fault.Damaged Device.Log 16, device) }
         ensures refused { IfErr result (λ e. RefusesReading e.0) }
 
@@ -285,7 +286,7 @@ impl<D: Disk> LogDev<D> {
         ensures undamaged { IsTrue (D.is_honest self.old.device) → (rs : List LogRecord) → Gives rs (seen (D.history self.old.device))
             → IfErr result (λ fault. (fault ≡ Fault.Device) ⊎ (fault ≡ Fault.Memory)) }
         ensures damaged { IsTrue (D.is_honest self.old.device) → (offset : ℕ) → result ≡ Err (Fault.Damaged Device.Log offset)
-            → IsBadAt 4096 (seen (D.history self.old.device)) offset }
+            → IsBadAt LOG_FRONT_BYTES (seen (D.history self.old.device)) offset }
         ensures refused { IfErr result RefusesReading }
         ensures frames { KeepsFrames self.old self.new }
         ensures log { records_of_log self.new ≡ records_of_log self.old }
@@ -300,7 +301,7 @@ impl<D: Disk> LogDev<D> {
     /// The byte of the frame that holds the record of a stable number. `Device` if the device failed; nothing has changed.
     pub fn frame_of(&mut self, number: Lsn) -> Result<u64, Fault>
         ensures found { (front : List ℕ) → IsSettled self.old front → 1 ≤ number → number ≤ length (stable self.old)
-            → IfOk result (IsFrameOf 4096 (seen (D.history self.old.device)) number) }
+            → IfOk result (IsFrameOf LOG_FRONT_BYTES (seen (D.history self.old.device)) number) }
         ensures only_device { IfErr result (λ fault. fault ≡ Fault.Device) }
         ensures frames { KeepsFrames self.old self.new }
         ensures log { records_of_log self.new ≡ records_of_log self.old }
@@ -322,7 +323,7 @@ impl<D: Disk> LogDev<D> {
 
     /// The length of the stream.
     pub fn stream_bytes(&self) -> u64
-        ensures { result + 4096 ≡ self.now.device_bytes }
+        ensures { result + LOG_FRONT_BYTES ≡ self.now.device_bytes }
     {
         self.device_bytes - STREAM
     }

@@ -1,5 +1,6 @@
 //! The records of one frame, and its bytes.
 ghost use Rattle.std.specs.Prelude.{◌≡◌, ◌+◌, ◌≤◌, ◌<◌, ◌^◌, ◌⊎◌, [], ◌∷◌, ◌++◌, All, IsTrue, length, take, IfOk};
+ghost use Rattle.shore_types.specs.declared.layout.TheConstants.{MAX_FRAME_BYTES};
 ghost use Rattle.shore_logrec.specs.Text.{Fits, texts};
 ghost use Rattle.shore_log.specs.Frames.{frame_head, behind_gate, IsLongest};
 
@@ -37,7 +38,7 @@ pub fn frame_bytes(
 ) -> Result<Vec<u8>, AllocError>
     requires texts { All Fits records.now }
     requires len { len ≡ length (texts records.now) }
-    requires fits { len ≤ 65536 }
+    requires fits { len ≤ MAX_FRAME_BYTES }
     ensures { IfOk result (λ v. v.items ≡ behind_gate number (texts records.now) ++ 0 ∷ []) }
 {
     let mut bytes = Vec::with_capacity(alloc, HEAD_BYTES + len + 1)?;

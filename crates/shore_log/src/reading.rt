@@ -1,5 +1,6 @@
 //! Reading the frames of a log device, in one pass and a frame at a time.
 ghost use Rattle.std.specs.Prelude.{◌≡◌, ◌⊎◌, ◌↔◌, ◌+◌, ◌<◌, ◌≤◌, ◌^◌, IsTrue, ◌++◌, List, ℕ, length, take, drop, Ok, Err, None, IsSome, IfSome, IfOk, IfErr};
+ghost use Rattle.shore_types.specs.declared.layout.TheConstants.{MAX_FRAME_BYTES, MAX_LOG_BYTES};
 ghost use Rattle.shore_disk.specs.Device.{size, seen};
 ghost use Rattle.shore_disk.specs.Cause.{HasCause};
 ghost use Rattle.shore_model.specs.declared.log_records.LogRecord.{LogRecord};
@@ -78,7 +79,7 @@ pub fn read_stream<D: Disk>(
     from: u64,
 ) -> Result<Stream, Fault>
     requires inside { from < device_bytes }
-    requires short { device_bytes ≤ 2 ^ 30 }
+    requires short { device_bytes ≤ MAX_LOG_BYTES }
     requires size { device_bytes ≤ size (D.history device.old) }
     ensures numbered { IfOk result (λ s. AreNumbered 1 s.records.items) }
     ensures end { IfOk result (λ s. (from ≤ s.end) × (s.end < device_bytes)) }
@@ -133,7 +134,7 @@ fn is_gate_open<D: Disk>(device: &mut D, at: u64) -> Result<bool, Fault>
 
 /// Reads the head behind the gate at a byte; `None` if it lies past the end.
 pub fn read_head<D: Disk>(device: &mut D, device_bytes: u64, at: u64) -> Result<Option<Head>, Fault>
-    requires short { at < 2 ^ 30 }
+    requires short { at < MAX_LOG_BYTES }
     requires size { device_bytes ≤ size (D.history device.old) }
     ensures inside { IfOk result (λ head. IsSome head → at + 13 ≤ device_bytes) }
     ensures head { IsTrue (D.is_honest device.old) → IfOk result (λ found. IfSome found (HeadAt (seen (D.history device.old)) at)) }
@@ -156,7 +157,7 @@ pub fn read_head<D: Disk>(device: &mut D, device_bytes: u64, at: u64) -> Result<
 /// The byte of the frame that holds the record of a number, if frames stand from a byte up to an end. It walks their heads.
 /// `Device` if the device failed.
 pub fn find_frame<D: Disk>(device: &mut D, from: u64, end: u64, number: u64) -> Result<u64, Fault>
-    requires short { end < 2 ^ 30 }
+    requires short { end < MAX_LOG_BYTES }
     requires size { end ≤ size (D.history device.old) }
     ensures found { IsTrue (D.is_honest device.old) → (groups : List (List LogRecord)) (rest : List ℕ) → AreGroups 1 groups
         → drop from (seen (D.history device.old)) ≡ text 1 groups ++ rest → end ≡ from + length (text 1 groups)
@@ -195,7 +196,7 @@ fn head_of(bytes: &[u8]) -> Head
 
 // Whether a head is that of a frame whose first record has this number, where so many bytes are left behind the head.
 fn fits(head: Head, number: u64, left: u64) -> bool
-    ensures { IsTrue result ↔ ((head.first ≡ number) × (1 ≤ head.len) × (head.len ≤ 65536) × (head.len < left)) }
+    ensures { IsTrue result ↔ ((head.first ≡ number) × (1 ≤ head.len) × (head.len ≤ MAX_FRAME_BYTES) × (head.len < left)) }
 {
     head.first == number
         && head.len >= 1
@@ -212,10 +213,10 @@ fn read_body<D: Disk>(
     at: u64,
     number: u64,
 ) -> Result<Option<Vec<u8>>, Fault>
-    requires short { at < 2 ^ 30 }
+    requires short { at < MAX_LOG_BYTES }
     requires size { device_bytes ≤ size (D.history device.old) }
     ensures inside { IfOk result (λ found. IfSome found (λ body.
-        (1 ≤ length body.items) × (length body.items ≤ 65536) × (at + 13 + length body.items < device_bytes))) }
+        (1 ≤ length body.items) × (length body.items ≤ MAX_FRAME_BYTES) × (at + 13 + length body.items < device_bytes))) }
     ensures body { IsTrue (D.is_honest device.old) → IfOk result (λ found. IfSome found (λ body.
         BodyAt (seen (D.history device.old)) at number body.items)) }
     ensures none { IsTrue (D.is_honest device.old) → length (seen (D.history device.old)) ≤ device_bytes → result ≡ Ok None
@@ -262,7 +263,7 @@ fn read_frame<D: Disk>(
     at: u64,
     number: u64,
 ) -> Result<Option<(Vec<LogRecord>, usize)>, Fault>
-    requires short { at < 2 ^ 30 }
+    requires short { at < MAX_LOG_BYTES }
     requires few { number ≤ 2 ^ 30 }
     requires size { device_bytes ≤ size (D.history device.old) }
     ensures group { IfOk result (λ found. IfSome found (λ x. IsGroup number x.0.items × (x.1 ≡ length (texts x.0.items)))) }

@@ -36,9 +36,13 @@ pub record State : Type 0 where
 abbrev pub next_number : State → ℕ
 next_number s = 1 + length s.log
 
--- so much more leaves room for the longest frame and the greatest checkpoint, and there are numbers left
+-- so much more leaves room for the longest frame and the greatest checkpoint
+abbrev pub HasRoomFor : Room → ℕ → Type 0
+HasRoomFor room need = room.kept + room.reserved + need + LONGEST_FRAME + GREATEST_CHECKPOINT ≤ room.stream_bytes
+
+-- there is room for so much more, and there are numbers left
 abbrev pub Admits : State → ℕ → Type 0
-Admits s need = (next_number s ≤ LAST_LSN) × (s.room.kept + s.room.reserved + need + LONGEST_FRAME + GREATEST_CHECKPOINT ≤ s.room.stream_bytes)
+Admits s need = (next_number s ≤ LAST_LSN) × HasRoomFor s.room need
 
 -- a transaction may begin: there is room for its ending, and a number for it
 abbrev pub MayBegin : State → Type 0

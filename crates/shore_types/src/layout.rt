@@ -58,6 +58,8 @@ pub const LAST_LSN: u64 = 1 << 46;
 pub const LAST_OPENED: u64 = LAST_LSN + (1 << 32);
 /// The numbers of all transactions are below this one.
 pub const LAST_TXN: u64 = 1 << 62;
+/// The bytes of a log device before its stream of frames: the label and the anchors, and what is between them.
+pub const LOG_FRONT_BYTES: u64 = 4096;
 /// The fewest bytes of a log device.
 pub const MIN_LOG_BYTES: u64 = 135_168;
 /// The most bytes of a log device.
@@ -71,7 +73,7 @@ pub fn limits_are_those_of_version_1()
     ensures table { (LEAST_MAX_LOCKS ≡ 16) × (MOST_MAX_LOCKS ≡ 4096) × (MAX_TRANSACTIONS ≡ 256) × (MAX_SAVEPOINTS ≡ 64)
         × (MAX_GLOBAL_ID_BYTES ≡ 64) }
     ensures log { (MAX_FRAME_BYTES ≡ 65536) × (LONGEST_FRAME ≡ 65549) × (GREATEST_CHECKPOINT ≡ 27018) × (ENDING_COST ≡ 34)
-        × (MIN_LOG_BYTES ≡ 135168) × (MAX_LOG_BYTES ≡ 2 ^ 30) }
+        × (LOG_FRONT_BYTES ≡ 4096) × (MIN_LOG_BYTES ≡ 135168) × (MAX_LOG_BYTES ≡ 2 ^ 30) }
     ensures numbers { (VERSION ≡ 1) × (LAST_LSN ≡ 2 ^ 46) × (LAST_OPENED ≡ 2 ^ 46 + 2 ^ 32) × (LAST_TXN ≡ 2 ^ 62) }
 {}
 

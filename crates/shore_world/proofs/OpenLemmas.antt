@@ -52,11 +52,11 @@ bad_within g rs n (inr bad) = change_within rs bad.1 n bad.3.change
 -- a failure after a call that answered
 pub later_cause : {T U V : Type 0} (r : Result T Fault) (x : T) (f : Fault) (a b c : ℕ) → r ≡ Ok x → HasCause r a b → HasCause {T = U} (Err f) b c → HasCause {T = V} (Err f) a c
 later_cause {T} {U} {V} r x f a b c is one two =
-    let same : b ≡ a = one.untold (λ failed. ok_is_no_error x fault.Device (sym is ∙ failed)) in
+    let same : b ≡ a = one.unreported (λ failed. ok_is_no_error x fault.Device (sym is ∙ failed)) in
     record {
       no_lower = omega (arith, same, two.no_lower);
-      told = λ failed. subst (λ n. Rose n c) same (two.told (ap Err (same_error _ f fault.Device refl failed)));
-      untold = λ other. two.untold (λ failed. other (ap Err (same_error _ f fault.Device refl failed))) ∙ same;
+      reported = λ failed. subst (λ n. Rose n c) same (two.reported (ap Err (same_error _ f fault.Device refl failed)));
+      unreported = λ other. two.unreported (λ failed. other (ap Err (same_error _ f fault.Device refl failed))) ∙ same;
     }
   where
     ok_is_no_error : {A B : Type 0} (x : A) (e : B) → Ok x ≡ Err e → ⊥

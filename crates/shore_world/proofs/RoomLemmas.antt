@@ -88,17 +88,17 @@ module _ {D : Type 0} {G : Ghosts D} where
 pub refused_is : (step : Step) (f h : Fault) → step ≡ Refused f → step ≡ Refused h → f ≡ h
 refused_is step f h one two = cc
 
--- nothing is told, and nothing has failed
+-- nothing is reported, and nothing has failed
 pub no_failure : (step : Step) (old new : ℕ) → step ≢ Refused fault.Device → new ≡ old → HasCause (fault_at step) old new
 no_failure step old new other same = record {
   no_lower = omega (arith, same);
-  told = λ is. absurd (other (told_at step is));
-  untold = λ is. same;
+  reported = λ is. absurd (other (reported_at step is));
+  unreported = λ is. same;
 }
   where
-    told_at : (step : Step) → fault_at step ≡ Err fault.Device → step ≡ Refused fault.Device
-    told_at (Refused f) is = cc
-    told_at _ is = absurd cc
+    reported_at : (step : Step) → fault_at step ≡ Err fault.Device → step ≡ Refused fault.Device
+    reported_at (Refused f) is = cc
+    reported_at _ is = absurd cc
 
 pub memory_tells_none : Refused fault.Memory ≢ Refused fault.Device
 memory_tells_none is = absurd cc

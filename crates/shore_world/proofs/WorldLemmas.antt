@@ -270,14 +270,14 @@ call_is_no_force _ is = absurd is
 pub no_force : {D : Type 0} {G : Ghosts D} (old new : World D G) (e : Event) (step : Step) → IsNoForce e → geometry_in new ≡ geometry_in old
     → EventStep (geometry_in old) (state_in old) e step (state_in new) → step ≢ Refused Device → new.log.device ≡ old.log.device → Grows (state_in old) (state_in new)
     → ((front : List ℕ) → IsReady old front → IsReady new front) → Steps old e step new
-no_force {G = G} old new e step other geometry state untold device grows ready = record {
+no_force {G = G} old new e step other geometry state unreported device grows ready = record {
   moves = unmoved old new e step geometry state device grows ready;
   staged = λ n is done. absurd (subst IsNoForce is other);
   forced = λ n is done. absurd (subst IsNoForce is other);
   idle = λ is nothing. absurd (subst IsNoForce is other);
   shut = λ is nothing. absurd (subst IsNoForce is other);
   full = λ is refused room. subst IsNoForce is other;
-  cause = no_failure step (G.faults old.log.device) (G.faults new.log.device) untold (ap G.faults device);
+  cause = no_failure step (G.faults old.log.device) (G.faults new.log.device) unreported (ap G.faults device);
 }
 
 -- an event that could not be copied is refused, and nothing has changed

@@ -2,7 +2,7 @@
 use Rattle.std.specs.Prelude.{◌≡◌, ◌≢◌, ◌⊎◌, ◌≤◌, ◌-◌, ◌&&◌, ◌==◌, ℕ, List, [], ◌∷◌, ◌++◌, Bool, Result, Ok, Err, if◌then◌else◌, take, replicate}
 use Rattle.shore_types.specs.declared.faults.Device.TheVariants.{Log}
 use Rattle.shore_types.specs.declared.layout.Geometry.{Geometry}
-use Rattle.shore_types.specs.declared.layout.TheConstants.{MIN_LOG_BYTES, MAX_LOG_BYTES}
+use Rattle.shore_types.specs.declared.layout.TheConstants.{LOG_FRONT_BYTES, MAX_LOG_BYTES, MIN_LOG_BYTES}
 use Rattle.shore_types.specs.declared.faults.Fault.{Fault}
 use Rattle.shore_disk.specs.Device.{History, size, seen, TornFrom}
 use Rattle.shore_gate.specs.declared.gates.TheConstants.{OPEN, CLOSED}
@@ -68,7 +68,7 @@ front_verdict history = and_then (verdict_of Log history) (first_checked (anchor
 pub record StandsFor (g : Geometry) (device_bytes : ℕ) (rs : List LogRecord) (image : List ℕ) : Type 0 where
   pub front : HasFront g device_bytes image
   pub log : Gives rs image
-  pub bounds : AreInBounds g (device_bytes - 4096) rs
+  pub bounds : AreInBounds g (device_bytes - LOG_FRONT_BYTES) rs
 
 -- ---- what an open is refused with
 
@@ -76,7 +76,7 @@ pub record StandsFor (g : Geometry) (device_bytes : ℕ) (rs : List LogRecord) (
 pub record IsBadRecordAt (g : Geometry) (rs : List LogRecord) (image : List ℕ) (offset : ℕ) : Type 0 where
   pub number : ℕ
   pub bad : IsBadRecord g rs number
-  pub frame : IsFrameOf 4096 image number offset
+  pub frame : IsFrameOf LOG_FRONT_BYTES image number offset
 
 -- The frames give a list that is out of bounds: damaged at the frame of a bad record if there is one, and else at the anchor that
 -- counts.
@@ -85,7 +85,7 @@ pub record IsOutOfBounds (device_bytes : ℕ) (image : List ℕ) (offset : ℕ) 
   pub records : List LogRecord
   pub front : HasFront geometry device_bytes image
   pub log : Gives records image
-  pub outside : ¬ InBounds geometry (device_bytes - 4096) records
+  pub outside : ¬ InBounds geometry (device_bytes - LOG_FRONT_BYTES) records
   pub named : (HasTxns records × FitPages geometry (records_told records) × (offset ≡ offset_of front.slot)) ⊎ IsBadRecordAt geometry records image offset
 
 -- Beside a failure of the device or of an allocation, an open is refused by the first check of the front that is not passed;
@@ -94,7 +94,7 @@ pub record IsOutOfBounds (device_bytes : ℕ) (image : List ℕ) (offset : ℕ) 
 abbrev pub RefusesOpen : History → Fault → Type 0
 RefusesOpen h fault =
     (front_verdict h ≡ Err fault)
-    ⊎ ((front_verdict h ≡ Ok tt) × (offset : ℕ) × (fault ≡ Damaged Log offset) × (IsBadAt 4096 (seen h) offset ⊎ IsOutOfBounds (size h) (seen h) offset))
+    ⊎ ((front_verdict h ≡ Ok tt) × (offset : ℕ) × (fault ≡ Damaged Log offset) × (IsBadAt LOG_FRONT_BYTES (seen h) offset ⊎ IsOutOfBounds (size h) (seen h) offset))
 
 -- ---- what a format writes and leaves
 

@@ -4,6 +4,7 @@ use Rattle.std.specs.Prelude.{◌≡◌, ◌≢◌, ◌⊎◌, ℕ, ◌-◌, Lis
 use Rattle.shore_types.specs.declared.faults.Fault.{Fault}
 use Rattle.shore_types.specs.declared.faults.Fault.TheVariants.{Device, LogFull}
 use Rattle.shore_types.specs.declared.layout.Geometry.{Geometry}
+use Rattle.shore_types.specs.declared.layout.TheConstants.{LOG_FRONT_BYTES}
 use Rattle.shore_disk.specs.Device.{may_leave, moment, left_since, size}
 use Rattle.shore_disk.specs.declared.device.Disk.{Ghosts}
 use Rattle.shore_model.specs.declared.calls.Answer.{Answer}
@@ -105,8 +106,8 @@ pub record IsManager {D : Type 0} {G : Ghosts D} (device_bytes : ℕ) (image : L
   pub geometry : (g : Geometry) → HasFront g device_bytes image → geometry_in m.opened ≡ g
   pub log : (rs : List LogRecord) → Gives rs image → (state_in m.opened).log ≡ rs
   pub opened : IsOpened (state_in m.opened).log (state_in m.opened)
-  pub bounded : (g : Geometry) (rs : List LogRecord) → StandsFor g device_bytes rs image → IsBounded g (device_bytes - 4096) (state_in m.opened)
-  pub kept : SurvivesCrashes m.opened (take 4096 image)
+  pub bounded : (g : Geometry) (rs : List LogRecord) → StandsFor g device_bytes rs image → IsBounded g (device_bytes - LOG_FRONT_BYTES) (state_in m.opened)
+  pub kept : SurvivesCrashes m.opened (take LOG_FRONT_BYTES image)
   -- what a run says
   pub served : All IsServedEvent m.events
   pub runs : Runs m.opened m.events m.steps m.ended

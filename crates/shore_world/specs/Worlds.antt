@@ -3,6 +3,7 @@ use Rattle.std.specs.Prelude.{◌≡◌, ◌⊎◌, ℕ, ◌+◌, ◌-◌, ◌<�
 use Rattle.shore_types.specs.declared.faults.Fault.{Fault}
 use Rattle.shore_types.specs.declared.faults.Fault.TheVariants.{Device, Failed, Memory, LogFull}
 use Rattle.shore_types.specs.declared.layout.Geometry.{Geometry}
+use Rattle.shore_types.specs.declared.layout.TheConstants.{LOG_FRONT_BYTES}
 use Rattle.shore_disk.specs.Cause.{HasCause}
 use Rattle.shore_disk.specs.Device.{History, size, may_leave, LeavesOnly}
 use Rattle.shore_disk.specs.declared.device.Disk.{Ghosts}
@@ -95,7 +96,7 @@ pub record Moves {D : Type 0} {G : Ghosts D} (old : World D G) (e : Event) (step
 
 -- the world is kept behind some front and its state is in bounds: then the next frame has its room
 abbrev pub HasForceRoom : {D : Type 0} {G : Ghosts D} → World D G → Type 0
-HasForceRoom w = (front : List ℕ) × SurvivesCrashes w front × IsBounded (geometry_in w) (size (history_in w) - 4096) (state_in w)
+HasForceRoom w = (front : List ℕ) × SurvivesCrashes w front × IsBounded (geometry_in w) (size (history_in w) - LOG_FRONT_BYTES) (state_in w)
 
 -- A frame is under way now: it has the longest list of the records not yet durable that one frame holds, the last of this number.
 pub record HasStaged {D : Type 0} {G : Ghosts D} (old new : World D G) (n : ℕ) : Type 0 where

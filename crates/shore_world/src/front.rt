@@ -3,6 +3,7 @@ ghost use Rattle.std.specs.Prelude.{◌≡◌, ◌≢◌, ◌≤◌, ◌<◌, �
 ghost use Rattle.shore_disk.specs.Device.{size, seen, may_leave, noted, synced, Stands, LeavesOnly};
 ghost use Rattle.shore_disk.specs.Cause.{HasCause};
 ghost use Rattle.shore_types.specs.Layout.{IsInLimits, StoresInLimits, LocksInLimits};
+ghost use Rattle.shore_types.specs.declared.layout.TheConstants.{LOG_FRONT_BYTES};
 ghost use Rattle.shore_gate.specs.Checks.{IsFromOutside};
 ghost use Rattle.shore_gate.specs.Label.{label_bytes};
 ghost use Rattle.shore_world.specs.Faults.{bad_setting};
@@ -93,7 +94,7 @@ fn write_front<D: Disk>(alloc: Global, log: &mut D, label: &Label) -> Result<(),
     requires size { 4097 ≤ size (D.history log.old) }
     requires stores { length label.now.stores ≤ 64 }
     ensures stands { IsTrue (D.is_honest log.old) → (rest : List ℕ) → Stands (D.history log.old) (CLOSED ∷ rest)
-        → OnOk result (Stands (D.history log.new) (CLOSED ∷ (label_bytes Device.Log label.now ++ (behind_label ++ drop 4096 rest)))) }
+        → OnOk result (Stands (D.history log.new) (CLOSED ∷ (label_bytes Device.Log label.now ++ (behind_label ++ drop LOG_FRONT_BYTES rest)))) }
     ensures any_moment { IsTrue (D.is_honest log.old) → (rest : List ℕ) → Stands (D.history log.old) (CLOSED ∷ rest)
         → LeavesOnly (D.history log.old) (D.history log.new) IsShut }
     ensures outside { IfErr result IsFromOutside }

@@ -1,6 +1,7 @@
 //! What the contracts of the calls come to over whole lives of a device. Each law is stated as the contract of an empty function.
 ghost use Rattle.std.specs.Prelude.{◌≡◌, ◌-◌, ◌++◌, ℕ, List, [], All, map};
 ghost use Rattle.shore_types.specs.declared.layout.Geometry.{Geometry};
+ghost use Rattle.shore_types.specs.declared.layout.TheConstants.{LOG_FRONT_BYTES};
 ghost use Rattle.shore_model.specs.declared.log_records.LogRecord.{LogRecord};
 ghost use Rattle.shore_model.specs.Lives.{IsLife, Span};
 ghost use Rattle.shore_machine.specs.Runs.{AreFixed, EventsMove};
@@ -44,7 +45,7 @@ pub fn committed_work_survives_every_crash<D: Disk>()
 pub fn runs_stay_in_bounds<D: Disk>()
     ensures { (g : Geometry) (device_bytes : ℕ) (rs : List LogRecord) (image : List ℕ) (manager : Manager D D.Disk) →
         StandsFor g device_bytes rs image → IsManager device_bytes image manager →
-        IsBounded g (device_bytes - 4096) (state_in manager.ended) × NoForceIsFull manager.events manager.steps }
+        IsBounded g (device_bytes - LOG_FRONT_BYTES) (state_in manager.ended) × NoForceIsFull manager.events manager.steps }
 {}
 
 /// Runs one after another are one run.

@@ -15,7 +15,7 @@ ghost use Rattle.shore_log.specs.Settled.{records_of_log, stable, IsSettled};
 ghost use Rattle.shore_log.specs.PlainTails.{first_of, waiting_in};
 ghost use Rattle.shore_machine.specs.Trails.{IsOpened};
 ghost use Rattle.shore_machine.specs.Steps.{with_failure};
-ghost use Rattle.shore_types.specs.declared.layout.TheConstants.{MAX_LOG_BYTES};
+ghost use Rattle.shore_types.specs.declared.layout.TheConstants.{LOG_FRONT_BYTES, MAX_LOG_BYTES};
 ghost use Rattle.shore_gate.specs.Checks.{IsFromOutside};
 ghost use Rattle.shore_core.specs.Bounds.{AreInBounds, InBounds, IsBounded};
 ghost use Rattle.shore_core.specs.Cores.{tail_of, durable_of, geometry_of, state_of};
@@ -54,8 +54,8 @@ impl<D: Disk> World<D> {
         ensures geometry { IsTrue (D.is_honest log) → (g : Geometry) → HasFront g (size (D.history log)) (seen (D.history log)) → IfOk result (λ w. geometry_in w ≡ g) }
         ensures opened { IfOk result (λ w. IsOpened (state_in w).log (state_in w)) }
         ensures room { IsTrue (D.is_honest log) → IfOk result (λ w. (state_in w).room
-            ≡ record { kept = cost_of_log (state_in w).log; reserved = 0; stream_bytes = size (D.history log) - 4096 }) }
-        ensures kept { IsTrue (D.is_honest log) → IfOk result (λ w. SurvivesCrashes w (take 4096 (seen (D.history log)))) }
+            ≡ record { kept = cost_of_log (state_in w).log; reserved = 0; stream_bytes = size (D.history log) - LOG_FRONT_BYTES }) }
+        ensures kept { IsTrue (D.is_honest log) → IfOk result (λ w. SurvivesCrashes w (take LOG_FRONT_BYTES (seen (D.history log)))) }
 
         // What is refused goes by the checks in their order.
         ensures refused { IsTrue (D.is_honest log) → IfErr result (λ e. IsFromOutside e.0 ⊎ RefusesOpen (D.history log) e.0) }
@@ -64,7 +64,7 @@ impl<D: Disk> World<D> {
         ensures stands { IsTrue (D.is_honest log) → (g : Geometry) (rs : List LogRecord) → StandsFor g (size (D.history log)) rs (seen (D.history log))
             → IfErr result (λ e. IsFromOutside e.0) }
         ensures bounded { IsTrue (D.is_honest log) → (g : Geometry) (rs : List LogRecord) → StandsFor g (size (D.history log)) rs (seen (D.history log))
-            → IfOk result (λ w. IsBounded g (size (D.history log) - 4096) (state_in w)) }
+            → IfOk result (λ w. IsBounded g (size (D.history log) - LOG_FRONT_BYTES) (state_in w)) }
 
         // A crash at any moment of the call leaves what it could have left before.
         ensures any_moment { IsTrue (D.is_honest log) → LeavesOnly (D.history log) (D.history (device_in result)) (may_leave (D.history log)) }
@@ -269,10 +269,10 @@ fn open_core<D: Disk>(
     ensures bad { (n : ℕ) → result ≡ Err (OpenError.BadRecord n) → IsBadRecord geometry (records_of_log log.now) n }
     ensures no_room { result ≡ Err OpenError.NoRoom → HasTxns (records_of_log log.now) × FitPages geometry (records_told (records_of_log log.now)) }
     ensures room { log.now.device_bytes ≤ MAX_LOG_BYTES → IfOk result (λ core. (state_of (records_of_log log.now) core).room
-        ≡ record { kept = cost_of_log (records_of_log log.now); reserved = 0; stream_bytes = log.now.device_bytes - 4096 }) }
-    ensures in_bounds { log.now.device_bytes ≤ MAX_LOG_BYTES → InBounds geometry (log.now.device_bytes - 4096) (records_of_log log.now) → IfErr result (λ error. error ≡ OpenError.Memory) }
-    ensures bounded { log.now.device_bytes ≤ MAX_LOG_BYTES → AreInBounds geometry (log.now.device_bytes - 4096) (records_of_log log.now)
-        → IfOk result (λ core. IsBounded geometry (log.now.device_bytes - 4096) (state_of (records_of_log log.now) core)) }
+        ≡ record { kept = cost_of_log (records_of_log log.now); reserved = 0; stream_bytes = log.now.device_bytes - LOG_FRONT_BYTES }) }
+    ensures in_bounds { log.now.device_bytes ≤ MAX_LOG_BYTES → InBounds geometry (log.now.device_bytes - LOG_FRONT_BYTES) (records_of_log log.now) → IfErr result (λ error. error ≡ OpenError.Memory) }
+    ensures bounded { log.now.device_bytes ≤ MAX_LOG_BYTES → AreInBounds geometry (log.now.device_bytes - LOG_FRONT_BYTES) (records_of_log log.now)
+        → IfOk result (λ core. IsBounded geometry (log.now.device_bytes - LOG_FRONT_BYTES) (state_of (records_of_log log.now) core)) }
     ensures geometry { IfOk result (λ core. geometry_of core ≡ geometry) }
     ensures numbers { IfOk result (λ core. first_of (tail_of core) ≡ 1 + length (records_of_log log.now)) }
     ensures told { IfOk result (λ core. durable_of core ≡ length (stable log.now)) }
@@ -291,7 +291,7 @@ fn fault_of<D: Disk>(error: OpenError, anchor_offset: u64, log: &mut LogDev<D>) 
     ensures memory { error ≡ OpenError.Memory → result ≡ Fault.Memory }
     ensures room { error ≡ OpenError.NoRoom → result ≡ Fault.Damaged Device.Log anchor_offset }
     ensures record_of { (n : ℕ) (front : List ℕ) → error ≡ OpenError.BadRecord n → IsSettled log.old front → 1 ≤ n → n ≤ length (stable log.old)
-        → (result ≡ Fault.Device) ⊎ ((offset : ℕ) × (result ≡ Fault.Damaged Device.Log offset) × IsFrameOf 4096 (seen (D.history log.old.device)) n offset) }
+        → (result ≡ Fault.Device) ⊎ ((offset : ℕ) × (result ≡ Fault.Damaged Device.Log offset) × IsFrameOf LOG_FRONT_BYTES (seen (D.history log.old.device)) n offset) }
     ensures still { IsTrue (D.is_honest log.old.device) → D.history log.new.device ≡ D.history log.old.device }
     ensures honest { D.is_honest log.new.device ≡ D.is_honest log.old.device }
     ensures size { size (D.history log.new.device) ≡ size (D.history log.old.device) }

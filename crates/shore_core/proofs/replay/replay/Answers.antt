@@ -13,7 +13,7 @@ use Rattle.shore_core.proofs.BuildLemmas.{unplaceable_there, unplaceable_unfit}
 use Rattle.shore_machine.specs.Pages.{FitPages}
 use Rattle.shore_core.proofs.FitLemmas.{fits_pages}
 use Rattle.shore_core.proofs.KeepLemmas.{by_test}
-use Rattle.shore_core.proofs.CommittedRecords.{untold}
+use Rattle.shore_core.proofs.CommittedRecords.{unrecorded}
 use Rattle.shore_core.proofs.replay.replay.Goals as goal
 
 pub returns-in-Err-At-clause-earned : goal.returns-in-Err-At-clause-earned
@@ -33,7 +33,7 @@ returns-in-Err-At-clause-bad c n is =
     let some : 0 < last = by_test (nat_lt 0 last) (λ t. ltb-true 0 last t) (λ t.
     let zero_is : last ≡ 0 = omega (arith, ltb-false 0 last t) in
     let all = All-from_all_within (λ (r : LogRecord). id_in r.payload ≢ Some id) log (subst (λ k. AllWithin (λ (r : LogRecord). id_in r.payload ≢ Some id) log k (length log)) zero_is none_behind) in
-    let none : get c.in_ok-committed.committed id ≡ None = ap (λ (R : Records). get R id) c.in_ok-committed.ensures ∙ untold log id c.requires all in
+    let none : get c.in_ok-committed.committed id ≡ None = ap (λ (R : Records). get R id) c.in_ok-committed.ensures ∙ unrecorded log id c.requires all in
     let no : is_some (get c.in_ok-committed.committed id) ≡ false = ap is_some none in
     absurd cc) in (
       id,
