@@ -42,7 +42,7 @@ fn failed_force(rt: HostRuntime) -> Result<(), Fail> {
             "1 begin\n1 insert 0 aa\nfuse log 3\n1 commit\n1 begin\ncrash {pick}\ndump\n"
         )?;
         let wanted = format!(in alloc;
-            "1: began 1\n1: at 0.0.0\n1: fault 23 ScriptDisk\n1: fault 24 Failed\nopened\n{end}\n"
+            "1: began 1\n1: at 0.0.0\n1: fault 23 Device\n1: fault 24 Failed\nopened\n{end}\n"
         )?;
         prints(&rt, "", script.as_str(), wanted.as_str(), 0)?;
     }

@@ -31,6 +31,19 @@ fn read(disk: &mut FileDisk, at: u64, out: &mut [u8]) -> bool {
     at <= DEVICE_BYTES && at + out.len() as u64 <= disk.len() && disk.read_at(at, out).is_ok()
 }
 
+// Whether the device has the word, with zeros around it, and the last byte; and no call of it has failed.
+fn has_what_was_written(device: &mut FileDisk) -> bool {
+    let mut word = [1; 20];
+    let mut last = [0];
+    read(device, 4095, &mut word)
+        && word[0] == 0
+        && &word[1..19] == WORD
+        && word[19] == 0
+        && read(device, DEVICE_BYTES - 1, &mut last)
+        && last == *b"z"
+        && device.failures() == 0
+}
+
 // What is written is read back, also by one who opens the file later; all else reads as zeros.
 #[test]
 fn a_file_keeps_what_is_written(rt: HostRuntime) -> io::Result<()> {
@@ -39,16 +52,9 @@ fn a_file_keeps_what_is_written(rt: HostRuntime) -> io::Result<()> {
     assert!(rt; write(&mut disk, 4096, WORD));
     assert!(rt; write(&mut disk, DEVICE_BYTES - 1, b"z"));
     assert!(rt; disk.sync().is_ok());
+    assert!(rt; has_what_was_written(&mut disk));
     let mut again = FileDisk::new(open(&rt, PATH, false)?)?;
-    for device in [&mut disk, &mut again] {
-        let mut word = [0; 20];
-        assert!(rt; read(device, 4095, &mut word));
-        assert!(rt; word[0] == 0 && &word[1..19] == WORD && word[19] == 0);
-        let mut last = [0];
-        assert!(rt; read(device, DEVICE_BYTES - 1, &mut last));
-        assert!(rt; last == *b"z");
-        assert!(rt; device.failures() == 0);
-    }
+    assert!(rt; has_what_was_written(&mut again));
     Ok(())
 }
 
