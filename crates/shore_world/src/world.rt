@@ -244,11 +244,13 @@ impl<D: Disk> World<FuseDisk<D>> {
 
 impl World<FuseDisk<MemDisk>> {
     ghost use Rattle.shore_disk.specs.MemDisk.{history_of};
+    ghost use Rattle.shore_disk.specs.Memory.{picked_after};
     ghost use Rattle.shore_world.specs.Managers.{IsLeft};
     ghost use Rattle.shore_world.specs.Worlds.{history_in};
 
     /// A loss of power: what is in memory is lost with the fuse, and of the writes since the last sync the device keeps what is picked.
     pub fn lose_power(self, pick: Pick) -> MemDisk
+        ensures picked { (history_of result).first ≡ picked_after pick (history_in self).first (history_in self).calls }
         ensures left { IsLeft self (seen (history_of result)) }
         ensures stable { (c : List ℕ) → may_leave (history_of result) c → c ≡ seen (history_of result) }
         ensures size { size (history_of result) ≡ size (history_in self) }

@@ -14,7 +14,9 @@ use doings::{Doing, ONE_COMMIT};
 use lists::{Counts, check_lists};
 use lives::{Start, formatted, live};
 use shore_disk::Pick;
+use std::alloc::Global;
 use std::test::Fail;
+use trouble::Trouble;
 
 #[test]
 fn on_an_empty_log(rt: HostRuntime) -> Result<(), Fail> {
@@ -30,18 +32,23 @@ fn on_an_empty_log(rt: HostRuntime) -> Result<(), Fail> {
     Ok(())
 }
 
-#[test]
-fn on_a_committed_record(rt: HostRuntime) -> Result<(), Fail> {
-    let alloc = rt.alloc();
+// What a crash leaves of a manager that has committed a record.
+fn with_a_record(alloc: Global) -> Result<Start, Trouble> {
     let empty = Start {
         ground: formatted(alloc)?,
         before: &[],
     };
     let life = live(alloc, &empty, &ONE_COMMIT, None)?;
-    let start = Start {
+    Ok(Start {
         ground: check_crash(alloc, &empty.ground, life, Pick::Old)?,
         before: &[],
-    };
+    })
+}
+
+#[test]
+fn on_a_committed_record(rt: HostRuntime) -> Result<(), Fail> {
+    let alloc = rt.alloc();
+    let start = with_a_record(alloc)?;
     let Counts { lists, cases } = check_lists(alloc, &start)?;
     println!(rt; "on a committed record: {lists} lists, {cases} cases")?;
     assert_eq!(rt; lists, 19_608);

@@ -36,20 +36,29 @@ pub(super) fn check_crash(
     device.crash(pick);
     let image = device.bytes().to_vec(alloc)?;
     let world = reopened(alloc, device)?;
-    let (found, waiting) = world.records();
-    require(waiting.is_empty(), "something waits after an open")?;
-    require(list.starts_with(found), "no beginning of the list")?;
-    require(durable <= found.len(), "a durable record is gone")?;
-
-    let opened = found.len();
+    let opened = check_found(&world, &list, durable)?;
+    let records = check_shown(alloc, ground, &entries, &world)?;
     Ok(Ground {
         image,
         opening: Opening {
-            records: check_shown(alloc, ground, &entries, &world)?,
+            records,
             in_doubt: Sequence::new(alloc),
         },
         opened,
     })
+}
+
+// What was found is a prefix of the list with all that was durable. Answers how many records it has.
+fn check_found(
+    world: &World<MemDisk>,
+    list: &[LogRecord],
+    durable: usize,
+) -> Result<usize, Trouble> {
+    let (found, waiting) = world.records();
+    require(waiting.is_empty(), "something waits after an open")?;
+    require(list.starts_with(found), "no prefix of the list")?;
+    require(durable <= found.len(), "a durable record is gone")?;
+    Ok(found.len())
 }
 
 // The records in place are those that the list tells, and those that the decisions kept come to: these are the Commits that the
@@ -68,12 +77,23 @@ fn check_shown(
         return Err(Trouble::Wrong("a record of before is gone"));
     };
     let kept = commits_in(alloc, gained)?;
-    require(is_kept(alloc, entries, &kept)?, "not kept")?;
-    let serial = serial_records(alloc, &ground.opening, entries, &kept)?;
-    require(are_same(in_place, &serial), "not the serial records")?;
-    let all = shown_records(alloc, &ground.opening, entries, &kept)?;
-    require(are_same(in_place, &all), "not what is shown")?;
+    check_kept(alloc, &ground.opening, entries, &kept, in_place)?;
     Ok(shown)
+}
+
+// The decisions are kept ones, and the records in place are those that they come to.
+fn check_kept(
+    alloc: Global,
+    opening: &Opening,
+    entries: &[Entry],
+    kept: &[Decision],
+    in_place: &RidMap<Bytes>,
+) -> Result<(), Trouble> {
+    require(is_kept(alloc, entries, kept)?, "not kept")?;
+    let serial = serial_records(alloc, opening, entries, kept)?;
+    require(are_same(in_place, &serial), "not the serial records")?;
+    let all = shown_records(alloc, opening, entries, kept)?;
+    require(are_same(in_place, &all), "not what is shown")
 }
 
 /// On what a crash left a record more is committed, is acknowledged, and survives another crash.

@@ -63,25 +63,36 @@ pub(super) fn live(
     doings: &[Doing],
     fuse: Option<u64>,
 ) -> Result<Life, Trouble> {
-    let disk = MemDisk::new(alloc, start.ground.image.to_vec(alloc)?)?;
-    let opened = World::open(alloc, FuseDisk::new(disk, u64::MAX));
-    let mut world = opened.ok().ok_or(Trouble::Wrong("no open"))?;
+    let mut world = opened(alloc, &start.ground.image)?;
     let mut history = ShortHistory::new(alloc);
     make(alloc, &mut world, &mut history, start.before)?;
     if let Some(calls) = fuse {
         world.set_fuse(calls);
     }
     make(alloc, &mut world, &mut history, doings)?;
-    let mut list = Vec::new(alloc);
-    let (handed_over, waiting) = world.records();
-    push_copies(alloc, &mut list, handed_over)?;
-    push_copies(alloc, &mut list, waiting)?;
+    let list = copy_of_log(alloc, &world)?;
     Ok(Life {
         entries: history.into_entries(),
         list,
         durable: world.durable().0 as usize,
         device: world.into_devices().into_inner(),
     })
+}
+
+fn opened(alloc: Global, image: &[u8]) -> Result<World<FuseDisk<MemDisk>>, Trouble> {
+    let disk = MemDisk::new(alloc, image.to_vec(alloc)?)?;
+    match World::open(alloc, FuseDisk::new(disk, u64::MAX)) {
+        Ok(world) => Ok(world),
+        Err(_) => Err(Trouble::Wrong("no open")),
+    }
+}
+
+fn copy_of_log(alloc: Global, world: &World<FuseDisk<MemDisk>>) -> Result<Vec<LogRecord>, Trouble> {
+    let mut list = Vec::new(alloc);
+    let (handed_over, waiting) = world.records();
+    push_copies(alloc, &mut list, handed_over)?;
+    push_copies(alloc, &mut list, waiting)?;
+    Ok(list)
 }
 
 // Makes events and notes what each comes to.

@@ -1,4 +1,4 @@
-//! The texts of log records: the insert of one byte 0xaa and its commit.
+//! The texts of log records: the insert of one byte and its commit, and a change of another page.
 ghost use Rattle.std.specs.Prelude.{IfOk};
 ghost use Rattle.shore_logrec.specs.Text.{Fits, PayloadFits};
 
@@ -6,16 +6,16 @@ use shore_logrec::{LogRecord, Payload, decode, encode};
 use shore_types::{Lsn, PageId, Rid, Sequence, StoreId, TxnId};
 use std::alloc::{AllocError, Global};
 
-// The Change has 36 bytes and the Commit 21.
-const TEXTS: [u8; 57] = [
+/// Transaction 1 inserts the byte 0xaa at 0.0.0.
+const CHANGE: [u8; 36] = [
     0x01, 0x01, 0, 0, 0, 0, 0, 0, 0, 0, 0, 0, 0, 0, 0, 0, 0, 0x0f, 0, 0, 0, 0, 0, 0, 0, 0, 0, 0, 0,
-    0, 0, 0x00, 0x01, 0x01, 0x00, 0xaa, 0x03, 0x01, 0, 0, 0, 0, 0, 0, 0, 0x01, 0, 0, 0, 0, 0, 0, 0,
-    0, 0, 0, 0,
+    0, 0, 0x00, 0x01, 0x01, 0x00, 0xaa,
 ];
 
-/// A record of transaction 1: the byte that it inserts at 0.0.0, none for the commit, the record before it, and the place and
-/// the length of its text.
-const RECORDS: [(Option<u8>, u64, usize, usize); 2] = [(Some(0xaa), 0, 0, 36), (None, 1, 36, 21)];
+/// It commits; its record before is 1.
+const COMMIT: [u8; 21] = [
+    0x03, 0x01, 0, 0, 0, 0, 0, 0, 0, 0x01, 0, 0, 0, 0, 0, 0, 0, 0, 0, 0, 0,
+];
 
 fn payload(alloc: Global, inserted: Option<u8>) -> Result<Payload, AllocError>
     ensures { IfOk result PayloadFits }
@@ -57,17 +57,28 @@ fn is_read(
     }
 }
 
+// Whether a record is written as this text, and the text is read as the record, also with a byte behind it.
+fn has_text(alloc: Global, record: &LogRecord, text: &[u8]) -> Result<bool, AllocError>
+    requires { Fits record.now }
+{
+    let mut bytes = Vec::new(alloc);
+    encode(record, &mut bytes)?;
+    let is_written = bytes.as_slice() == text;
+    bytes.push(0xa5)?;
+    Ok(is_written && is_read(alloc, bytes.as_slice(), record, text.len())?)
+}
+
 #[test]
-fn worked_bytes(rt: HostRuntime) -> Result<(), AllocError> {
-    let alloc = rt.alloc();
-    let mut texts = Vec::new(alloc);
-    for (inserted, previous, offset, len) in RECORDS {
-        let record = record(alloc, inserted, previous)?;
-        encode(&record, &mut texts)?;
-        let rest = TEXTS.get(offset..).unwrap_or(&[]);
-        assert!(rt; is_read(alloc, rest, &record, len)?);
-    }
-    assert_eq!(rt; texts.as_slice(), TEXTS.as_slice());
+fn a_change_has_its_bytes(rt: HostRuntime) -> Result<(), AllocError> {
+    let change = record(rt.alloc(), Some(0xaa), 0)?;
+    assert!(rt; has_text(rt.alloc(), &change, &CHANGE)?);
+    Ok(())
+}
+
+#[test]
+fn a_commit_has_its_bytes(rt: HostRuntime) -> Result<(), AllocError> {
+    let commit = record(rt.alloc(), None, 1)?;
+    assert!(rt; has_text(rt.alloc(), &commit, &COMMIT)?);
     Ok(())
 }
 
@@ -98,12 +109,8 @@ fn other_change(alloc: Global) -> Result<LogRecord, AllocError>
 }
 
 #[test]
-fn worked_bytes_of_another_page(rt: HostRuntime) -> Result<(), AllocError> {
-    let alloc = rt.alloc();
-    let record = other_change(alloc)?;
-    let mut text = Vec::new(alloc);
-    encode(&record, &mut text)?;
-    assert_eq!(rt; text.as_slice(), OTHER_CHANGE.as_slice());
-    assert!(rt; is_read(alloc, &OTHER_CHANGE, &record, 40)?);
+fn a_change_of_another_page_has_its_bytes(rt: HostRuntime) -> Result<(), AllocError> {
+    let change = other_change(rt.alloc())?;
+    assert!(rt; has_text(rt.alloc(), &change, &OTHER_CHANGE)?);
     Ok(())
 }
