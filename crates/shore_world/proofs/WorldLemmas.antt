@@ -223,7 +223,7 @@ module _ {D : Type 0} {G : Ghosts D} where
 
 module _ {D : Type 0} {G : Ghosts D} where
   pub like_itself : (w : World D G) → IsLike w w
-  like_itself w = record { geometry = refl; state = refl; history = refl; kept = λ front k. k }
+  like_itself w = record { geometry = refl; state = refl; history = refl; staged = refl; faults = refl; kept = λ front k. k }
 
   pub no_event : (w : World D G) → Runs w [] [] w
   no_event w = like_itself w
@@ -240,6 +240,8 @@ module _ {D : Type 0} {G : Ghosts D} where
     geometry = two.geometry ∙ one.geometry;
     state = two.state ∙ one.state;
     history = two.history ∙ one.history;
+    staged = two.staged ∙ one.staged;
+    faults = two.faults ∙ one.faults;
     kept = λ front k. two.kept front (one.kept front k);
   }
 

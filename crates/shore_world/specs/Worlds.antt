@@ -125,6 +125,8 @@ pub record IsLike {D : Type 0} {G : Ghosts D} (old new : World D G) : Type 0 whe
   pub geometry : geometry_in new ≡ geometry_in old
   pub state : state_in new ≡ state_in old
   pub history : history_in new ≡ history_in old
+  pub staged : new.log.staged ≡ old.log.staged
+  pub faults : G.faults new.log.device ≡ G.faults old.log.device
   pub kept : (front : List ℕ) → SurvivesCrashes old front → SurvivesCrashes new front
 
 -- The events, one step each, from a world to another. Between two of them a fuse may be set.
