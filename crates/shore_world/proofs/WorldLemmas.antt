@@ -24,7 +24,7 @@ use Rattle.shore_types.specs.declared.faults.Fault.TheVariants.{Device, Memory}
 use Rattle.shore_types.specs.declared.layout.Geometry.{Geometry}
 use Rattle.shore_machine.specs.declared.step.Step.TheVariants.{Refused}
 use Rattle.shore_world.specs.declared.event.Event.TheVariants as event
-use Rattle.shore_world.specs.Events.{IsCall}
+use Rattle.shore_world.specs.Events.{IsCall, IsOfSession}
 use Rattle.shore_world.specs.Worlds.{HasStaged, IsLike, Runs, state_in, geometry_in, history_in, EventStep, GivesBeginning, IsReady, SurvivesCrashes, Moves, Steps}
 use Rattle.shore_world.proofs.RoomLemmas.{no_failure}
 
@@ -259,26 +259,22 @@ module _ {D : Type 0} {G : Ghosts D} where
 
 -- ---- an event that is no step of a force
 
-abbrev pub IsNoForce : Event → Type 0
-IsNoForce event.ForceStage = ⊥
-IsNoForce event.ForceOpen = ⊥
-IsNoForce _ = Unit {0}
-
-pub call_is_no_force : (e : Event) → IsCall e → IsNoForce e
+pub call_is_no_force : (e : Event) → IsCall e → IsOfSession e
 call_is_no_force (event.Call session call) is = tt
 call_is_no_force _ is = absurd is
 
 -- one for which the device stands still
-pub no_force : {D : Type 0} {G : Ghosts D} (old new : World D G) (e : Event) (step : Step) → IsNoForce e → geometry_in new ≡ geometry_in old
+pub no_force : {D : Type 0} {G : Ghosts D} (old new : World D G) (e : Event) (step : Step) → IsOfSession e → geometry_in new ≡ geometry_in old
     → EventStep (geometry_in old) (state_in old) e step (state_in new) → step ≢ Refused Device → new.log.device ≡ old.log.device → Grows (state_in old) (state_in new)
     → ((front : List ℕ) → IsReady old front → IsReady new front) → Steps old e step new
 no_force {G = G} old new e step other geometry state unreported device grows ready = record {
   moves = unmoved old new e step geometry state device grows ready;
-  staged = λ n is done. absurd (subst IsNoForce is other);
-  forced = λ n is done. absurd (subst IsNoForce is other);
-  idle = λ is nothing. absurd (subst IsNoForce is other);
-  shut = λ is nothing. absurd (subst IsNoForce is other);
-  full = λ is refused room. subst IsNoForce is other;
+  still = λ is. device;
+  staged = λ n is done. absurd (subst IsOfSession is other);
+  forced = λ n is done. absurd (subst IsOfSession is other);
+  idle = λ is nothing. absurd (subst IsOfSession is other);
+  shut = λ is nothing. absurd (subst IsOfSession is other);
+  full = λ is refused room. subst IsOfSession is other;
   cause = no_failure step (G.faults old.log.device) (G.faults new.log.device) unreported (ap G.faults device);
 }
 

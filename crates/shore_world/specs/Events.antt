@@ -17,3 +17,10 @@ IsCall (event.Call session call) = Unit {0}
 IsCall (event.Resume session) = ⊥
 IsCall event.ForceStage = ⊥
 IsCall event.ForceOpen = ⊥
+
+-- an event of a session, which is no step of a force
+abbrev pub IsOfSession : Event → Type 0
+IsOfSession (event.Call session call) = Unit {0}
+IsOfSession (event.Resume session) = Unit {0}
+IsOfSession event.ForceStage = ⊥
+IsOfSession event.ForceOpen = ⊥

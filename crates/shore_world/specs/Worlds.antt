@@ -20,6 +20,7 @@ use Rattle.shore_core.specs.Cores.{state_of, geometry_of}
 use Rattle.shore_world.specs.declared.event.Event.{Event}
 use Rattle.shore_world.specs.declared.event.Event.TheVariants as event
 use Rattle.shore_world.specs.declared.world.World.{World}
+use Rattle.shore_world.specs.Events.{IsOfSession}
 
 -- ---- as the machine that it is
 
@@ -112,6 +113,8 @@ pub record HasForced {D : Type 0} {G : Ghosts D} (old new : World D G) (n : ℕ)
 -- One event: what it moves, what a step of a force that was made has done, when it may come to nothing, and who tells of a failure.
 pub record Steps {D : Type 0} {G : Ghosts D} (old : World D G) (e : Event) (step : Step) (new : World D G) : Type 0 where
   pub moves : Moves old e step new
+  -- a call and a resume make no call of the device
+  pub still : IsOfSession e → new.log.device ≡ old.log.device
   pub staged : (n : ℕ) → e ≡ event.ForceStage → step ≡ Done (Staged n) → HasStaged old new n
   pub forced : (n : ℕ) → e ≡ event.ForceOpen → step ≡ Done (Forced n) → HasForced old new n
   -- nothing is staged only if every record is durable or a frame is under way, and no gate is opened only if none is
