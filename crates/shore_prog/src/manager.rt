@@ -10,6 +10,7 @@ use shore_model::Call;
 use shore_types::Fault;
 use shore_world::{Event, Step, World, format};
 use std::alloc::{AllocError, Global};
+use std::mem;
 
 /// A device in memory that may be made to fail.
 pub type ScriptDisk = FuseDisk<MemDisk>;
@@ -20,12 +21,18 @@ const NO_FUSE: u64 = u64::MAX;
 /// The manager, open or refused at its last open.
 #[derive(Drop)]
 pub enum Manager {
-    Open {
-        world: World<ScriptDisk>,
-        /// The session's call waits for a force.
-        waits: bool,
-    },
+    Open(Opened),
     Closed(ScriptDisk),
+    /// An allocation failed between a loss of power and the open that follows it: the run ends.
+    Lost,
+}
+
+/// A world that is open, and its one session.
+#[derive(Drop)]
+pub struct Opened {
+    world: World<ScriptDisk>,
+    /// The session's call waits for a force.
+    waits: bool,
 }
 
 impl Manager {
@@ -35,88 +42,85 @@ impl Manager {
         let disk = MemDisk::new(alloc, bytes).map_err(|_| Fault::Memory)?;
         let mut device = FuseDisk::new(disk, NO_FUSE);
         format(alloc, &mut device, &settings.geometry)?;
-        match World::open(alloc, device) {
-            Ok(world) => Ok(Manager::Open {
-                world,
-                waits: false,
-            }),
-            Err((fault, _)) => Err(fault),
+        let (manager, refused) = open(alloc, device);
+        match refused {
+            None => Ok(manager),
+            Some(fault) => Err(fault),
         }
     }
 
     pub fn is_open(&self) -> bool {
-        matches!(self, Manager::Open { .. })
+        matches!(self, Manager::Open(_))
     }
 
     /// Does what a line asks for, and adds its answers.
     pub fn execute(
-        self,
+        &mut self,
         alloc: Global,
         command: Command,
         out: &mut String,
-    ) -> Result<Manager, AllocError>
+    ) -> Result<(), AllocError>
         requires { IsServedCommand command }
     {
         match command {
-            Command::Nothing => Ok(self),
+            Command::Nothing => Ok(()),
             Command::Crash(pick) => self.crash(alloc, pick, out),
-            Command::Fuse(calls) => Ok(self.with_fuse(calls)),
+            Command::Fuse(calls) => {
+                self.set_fuse(calls);
+                Ok(())
+            }
             command => self.serve(alloc, command, out),
         }
     }
 
     // A line that an open manager answers, with all that follows from it; one that is refused answers that it failed.
-    fn serve(self, alloc: Global, command: Command, out: &mut String) -> Result<Manager, AllocError>
+    fn serve(&mut self, alloc: Global, command: Command, out: &mut String) -> Result<(), AllocError>
         requires { IsServedCommand command }
     {
         match self {
-            Manager::Closed(device) => {
-                render::fault(out, None, &Fault::Failed)?;
-                Ok(Manager::Closed(device))
+            Manager::Open(Opened { world, waits }) => {
+                answer(alloc, world, waits, command, out)?;
+                settle(alloc, world, waits, out)
             }
-            Manager::Open {
-                mut world,
-                mut waits,
-            } => {
-                answer(alloc, &mut world, &mut waits, command, out)?;
-                settle(alloc, &mut world, &mut waits, out)?;
-                Ok(Manager::Open { world, waits })
-            }
+            Manager::Closed(_) | Manager::Lost => render::fault(out, None, &Fault::Failed),
         }
     }
 
     // Everything in memory is lost, and the fuse goes away.
-    fn crash(self, alloc: Global, pick: Pick, out: &mut String) -> Result<Manager, AllocError> {
-        let disk = match self {
-            Manager::Open { world, waits: _ } => world.lose_power(pick),
+    fn crash(&mut self, alloc: Global, pick: Pick, out: &mut String) -> Result<(), AllocError> {
+        let disk = match mem::replace(self, Manager::Lost) {
+            Manager::Open(opened) => opened.world.lose_power(pick),
             Manager::Closed(device) => crashed(device, pick),
+            Manager::Lost => return Err(AllocError),
         };
-        match World::open(alloc, FuseDisk::new(disk, NO_FUSE)) {
-            Ok(world) => {
-                out.push_str("opened\n")?;
-                Ok(Manager::Open {
-                    world,
-                    waits: false,
-                })
-            }
-            Err((fault, device)) => {
-                render::open_fault(out, &fault)?;
-                Ok(Manager::Closed(device))
-            }
+        let (manager, refused) = open(alloc, FuseDisk::new(disk, NO_FUSE));
+        *self = manager;
+        match refused {
+            None => out.push_str("opened\n"),
+            Some(fault) => render::open_fault(out, &fault),
         }
     }
 
-    fn with_fuse(self, calls: u64) -> Manager {
+    fn set_fuse(&mut self, calls: u64) {
         match self {
-            Manager::Open { mut world, waits } => {
-                world.set_fuse(calls);
-                Manager::Open { world, waits }
-            }
-            Manager::Closed(mut device) => {
-                device.set_calls(calls);
-                Manager::Closed(device)
-            }
+            Manager::Open(opened) => opened.world.set_fuse(calls),
+            Manager::Closed(device) => device.set_calls(calls),
+            Manager::Lost => {}
         }
+    }
+}
+
+// Opens the device. A refusal is told with its fault.
+fn open(alloc: Global, device: ScriptDisk) -> (Manager, Option<Fault>) {
+    match World::open(alloc, device) {
+        Ok(world) => {
+            let opened = Opened {
+                world,
+                waits: false,
+            };
+            (Manager::Open(opened), None)
+        }
+        Err((fault, device)) => (Manager::Closed(device), Some(fault)),
     }
 }
 

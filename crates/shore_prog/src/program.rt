@@ -83,18 +83,25 @@ fn respond<W: Write>(alloc: Global, text: &[u8], output: &mut W) -> Status {
 }
 
 fn run_text<W: Write>(alloc: Global, text: &[u8], output: &mut W) -> Result<Status, Stop> {
+    match begin(alloc, text) {
+        Ok((mut manager, script)) => run_script(alloc, &mut manager, script, output),
+        Err(refusal) => refuse(alloc, &refusal, output),
+    }
+}
+
+// Answers with what no line of the script was run for.
+fn refuse<W: Write>(alloc: Global, refusal: &Refusal, output: &mut W) -> Result<Status, Stop> {
     let mut line = String::new(alloc);
-    let status = match begin(alloc, text) {
-        Ok((manager, script)) => return run_script(alloc, manager, script, output),
-        Err(Refusal::Settings(fault)) => {
-            render::fault(&mut line, None, &fault)?;
+    let status = match refusal {
+        Refusal::Settings(fault) => {
+            render::fault(&mut line, None, fault)?;
             Status::Bad
         }
-        Err(Refusal::Open(fault)) => {
-            render::open_fault(&mut line, &fault)?;
+        Refusal::Open(fault) => {
+            render::open_fault(&mut line, fault)?;
             Status::Refused
         }
-        Err(Refusal::Memory) => return Err(Stop::Memory),
+        Refusal::Memory => return Err(Stop::Memory),
     };
     output.write_all(line.as_bytes())?;
     output.flush()?;
@@ -102,6 +109,7 @@ fn run_text<W: Write>(alloc: Global, text: &[u8], output: &mut W) -> Result<Stat
 }
 
 // Why no line of the script was run.
+#[derive(Drop)]
 enum Refusal {
     Settings(Fault),
     Open(Fault),
@@ -157,29 +165,58 @@ fn first_line(text: &[u8]) -> (&[u8], &[u8]) {
 
 fn run_script<W: Write>(
     alloc: Global,
-    mut manager: Manager,
+    manager: &mut Manager,
     script: &[u8],
     output: &mut W,
 ) -> Result<Status, Stop> {
     let mut answers = String::new(alloc);
+    let is_good = run_lines(alloc, manager, script, &mut answers, output)?;
+    Ok(match (is_good, manager.is_open()) {
+        (false, _) => Status::Bad,
+        (true, true) => Status::Done,
+        (true, false) => Status::Refused,
+    })
+}
+
+// Runs each line and writes its answers. False at a bad line, which is answered, and behind which none is run.
+fn run_lines<W: Write>(
+    alloc: Global,
+    manager: &mut Manager,
+    script: &[u8],
+    answers: &mut String,
+    output: &mut W,
+) -> Result<bool, Stop> {
     for (number, line) in (1u64..u64::MAX).zip(script.split(|byte| *byte == b'\n')) {
-        let Some(command) = read_line(alloc, line)? else {
-            let place = Fault::BadConfig(ConfigPlace::Line(number));
-            render::fault(&mut answers, None, &place)?;
-            output.write_all(answers.as_bytes())?;
-            output.flush()?;
-            return Ok(Status::Bad);
-        };
-        manager = manager.execute(alloc, command, &mut answers)?;
+        let is_good = run_line(alloc, manager, number, line, answers)?;
         output.write_all(answers.as_bytes())?;
+        if !is_good {
+            output.flush()?;
+            return Ok(false);
+        }
         answers.clear();
     }
     output.flush()?;
-    Ok(if manager.is_open() {
-        Status::Done
-    } else {
-        Status::Refused
-    })
+    Ok(true)
+}
+
+fn run_line(
+    alloc: Global,
+    manager: &mut Manager,
+    number: u64,
+    line: &[u8],
+    answers: &mut String,
+) -> Result<bool, AllocError> {
+    match read_line(alloc, line)? {
+        Some(command) => {
+            manager.execute(alloc, command, answers)?;
+            Ok(true)
+        }
+        None => {
+            let place = Fault::BadConfig(ConfigPlace::Line(number));
+            render::fault(answers, None, &place)?;
+            Ok(false)
+        }
+    }
 }
 
 fn read_line(alloc: Global, line: &[u8]) -> Result<Option<Command>, AllocError>
