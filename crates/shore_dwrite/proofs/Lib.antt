@@ -1,0 +1,10 @@
+pub mod Overwrites
+pub mod TableLemmas
+pub mod Moves
+pub mod Numbers
+pub mod PageWrites
+pub mod InPlace
+pub mod AreaWrites
+pub mod Overlays
+pub mod Batches
+pub mod BatchMoments

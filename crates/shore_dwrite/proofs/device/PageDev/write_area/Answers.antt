@@ -1,0 +1,48 @@
+use Rattle.std.proofs.Common.{◌≡◌, ◌+◌, ◌*◌, ◌≤◌, ℕ, List, IsTrue, OnOk, length, sym, ap, subst, ◌∙◌, arith}
+use Rattle.shore_disk.specs.Device.{Stands}
+use Rattle.shore_dwrite.specs.Differences.{HasImages}
+use Rattle.shore_dwrite.specs.Tables.{IsTable}
+use Rattle.shore_dwrite.specs.Volumes.{page_count}
+use Rattle.shore_dwrite.proofs.AreaWrites.{moments_none, moments_more, area_written}
+use Rattle.shore_dwrite.proofs.Moves.{sync_more}
+use Rattle.shore_dwrite.proofs.device.PageDev.write_area.Goals as goal
+
+pub returns-in_err-write_at-clause-any_moment : goal.returns-in_err-write_at-clause-any_moment
+returns-in_err-write_at-clause-any_moment g c base honest stands =
+    let old = c.args.self.now in
+    let long : length base ≡ 270336 + 8192 * page_count old.geometry = sym (ap length stands.read) ∙ g.met.D.Disk.keeps_length old.device honest ∙ old.as_long in
+    moments_more _ base stands (omega arith) _ _ _ _ _ (omega arith) (omega (arith, c.table_of.ensures.whole)) (moments_none _ base stands (omega arith)) (c.write_at.ensures.written honest)
+
+pub returns-in_err-write_at-2-clause-any_moment : goal.returns-in_err-write_at-2-clause-any_moment
+returns-in_err-write_at-2-clause-any_moment g c base honest stands =
+    let old = c.args.self.now in
+    let long : length base ≡ 270336 + 8192 * page_count old.geometry = sym (ap length stands.read) ∙ g.met.D.Disk.keeps_length old.device honest ∙ old.as_long in
+    let short : length c.bytes.result.now ≤ 262144 = omega (arith, c.bytes.ensures.len, c.requires.most) in
+    moments_more _ base stands (omega arith) _ _ _ _ c.write_at-2.result (omega arith) (omega arith)
+    (moments_more _ base stands (omega arith) _ _ _ _ c.write_at.result (omega arith) (omega (arith, c.table_of.ensures.whole)) (moments_none _ base stands (omega arith)) (c.write_at.ensures.written honest))
+    (c.write_at-2.ensures.written (subst IsTrue (sym c.write_at.ensures.honest) honest))
+
+pub returns-clause-done : goal.returns-clause-done
+returns-clause-done g c base honest stands =
+    let old = c.args.self.now in
+    let long : length base ≡ 270336 + 8192 * page_count old.geometry = sym (ap length stands.read) ∙ g.met.D.Disk.keeps_length old.device honest ∙ old.as_long in
+    let short : length c.bytes.result.now ≤ 262144 = omega (arith, c.bytes.ensures.len, c.requires.most) in
+    let still : IsTrue (g.D.Disk.is_honest c.write_at.new.self) = subst IsTrue (sym c.write_at.ensures.honest) honest in
+    let still_so : IsTrue (g.D.Disk.is_honest c.write_at-2.new.self) = subst IsTrue (sym c.write_at-2.ensures.honest) still in
+    let is_table = subst (IsTable c.table_of.result) c.numbers.ensures c.table_of.ensures in
+    subst (λ (l : List ℕ). OnOk c.sync.result ((image : List ℕ) × Stands (g.D.Disk.history c.sync.new.self) image × HasImages base image c.args.images.now.numbers.items l)) c.bytes.ensures.texts
+    (area_written _ base stands (omega arith) _ _ _ c.table_of.result c.args.images.now.numbers.items c.bytes.result.now c.sync.result is_table short
+    (c.in_ok-write_at.ensures.written honest) (c.in_ok-write_at-2.ensures.written still) (c.sync.ensures.synced still_so))
+
+pub returns-clause-any_moment : goal.returns-clause-any_moment
+returns-clause-any_moment g c base honest stands =
+    let old = c.args.self.now in
+    let long : length base ≡ 270336 + 8192 * page_count old.geometry = sym (ap length stands.read) ∙ g.met.D.Disk.keeps_length old.device honest ∙ old.as_long in
+    let short : length c.bytes.result.now ≤ 262144 = omega (arith, c.bytes.ensures.len, c.requires.most) in
+    let still : IsTrue (g.D.Disk.is_honest c.write_at.new.self) = subst IsTrue (sym c.write_at.ensures.honest) honest in
+    let still_so : IsTrue (g.D.Disk.is_honest c.write_at-2.new.self) = subst IsTrue (sym c.write_at-2.ensures.honest) still in
+    sync_more _ _ _ _ c.sync.result
+    (moments_more _ base stands (omega arith) _ _ _ _ c.write_at-2.result (omega arith) (omega arith)
+    (moments_more _ base stands (omega arith) _ _ _ _ c.write_at.result (omega arith) (omega (arith, c.table_of.ensures.whole)) (moments_none _ base stands (omega arith)) (c.write_at.ensures.written honest))
+    (c.write_at-2.ensures.written still))
+    (c.sync.ensures.synced still_so)

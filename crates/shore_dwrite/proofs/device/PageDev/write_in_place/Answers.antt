@@ -1,0 +1,64 @@
+use Rattle.std.proofs.Common.{◌≡◌, ◌+◌, ◌*◌, ◌<◌, ℕ, List, All, IsTrue, OnOk, length, refl, sym, ap, subst, ◌∙◌}
+use Rattle.std.proofs.lemmas.Option.{slice_get-get_or}
+use Rattle.shore_disk.specs.Device.{LeavesOnly, Stands}
+use Rattle.shore_dwrite.specs.Differences.{DiffersInPages, HasPages}
+use Rattle.shore_dwrite.specs.Shown.{RiseFrom}
+use Rattle.shore_dwrite.specs.Volumes.{page_count}
+use Rattle.shore_dwrite.proofs.InPlace.{wrote_none, wrote_torn, wrote_more, wrote_and_synced, page_fits, text_is, length-text}
+use Rattle.shore_dwrite.proofs.Moves.{sync_more}
+use Rattle.shore_dwrite.proofs.device.PageDev.write_in_place.Goals as goal
+
+pub loop-i-init : goal.loop-i-init
+loop-i-init g c = record {
+  honest = refl;
+  faults = refl;
+  geometry = refl;
+  wrote = λ honest base stands. wrote_none _ _ _ base stands;
+}
+
+pub returns-in_err-write_at-clause-any_moment : goal.returns-in_err-write_at-clause-any_moment
+returns-in_err-write_at-clause-any_moment g c base honest stands =
+    let numbers = c.numbers-numbers.result.now in
+    let is : numbers ≡ c.args.images.now.numbers.items = c.numbers-numbers.ensures in
+    let i = c.loop-i.i in
+    let on_volume : All (λ k. k < page_count c.args.self.now.geometry) numbers = subst (All (λ k. k < page_count c.args.self.now.geometry)) (sym is) c.requires.on_volume in
+    let long : length base ≡ 270336 + 8192 * page_count c.args.self.now.geometry = sym (ap length stands.read) ∙ g.met.D.Disk.keeps_length c.args.self.now.device honest ∙ c.args.self.now.as_long in
+    let fits = page_fits numbers base i (page_count c.args.self.now.geometry) c.loop-i-test.true on_volume long in
+    let texts_long : length c.bytes-bytes.result.now ≡ 8192 * length numbers = c.bytes-bytes.ensures.len ∙ ap (λ (l : List ℕ). 8192 * length l) (sym is) in
+    subst (λ (l : List ℕ). LeavesOnly (g.D.Disk.history c.args.self.now.device) (g.D.Disk.history c.write_at.new.self) (DiffersInPages l base)) is
+    (wrote_torn _ _ _ _ _ base _ i _ _ _ (c.loop-i.invariant.wrote honest base stands) (slice_get-get_or _ i 0 c.loop-i-test.true) fits (length-text _ i (length numbers) texts_long c.loop-i-test.true) c.page_offset.ensures
+    (c.write_at.ensures.written (subst IsTrue (sym c.loop-i.invariant.honest) honest)))
+
+pub loop-i-preserved : goal.loop-i-preserved
+loop-i-preserved g c = record {
+  honest = c.write_at.ensures.honest ∙ c.loop-i.invariant.honest;
+  faults = c.in_ok-write_at.ensures.cause ∙ c.loop-i.invariant.faults;
+  geometry = c.loop-i.invariant.geometry;
+  wrote = λ honest base stands.
+      let numbers = c.numbers-numbers.result.now in
+      let is : numbers ≡ c.args.images.now.numbers.items = c.numbers-numbers.ensures in
+      let i = c.loop-i.i in
+      let rise : RiseFrom 0 numbers = subst (RiseFrom 0) (sym is) c.requires.rise in
+      let on_volume : All (λ k. k < page_count c.args.self.now.geometry) numbers = subst (All (λ k. k < page_count c.args.self.now.geometry)) (sym is) c.requires.on_volume in
+      let long : length base ≡ 270336 + 8192 * page_count c.args.self.now.geometry = sym (ap length stands.read) ∙ g.met.D.Disk.keeps_length c.args.self.now.device honest ∙ c.args.self.now.as_long in
+      let texts_long : length c.bytes-bytes.result.now ≡ 8192 * length numbers = c.bytes-bytes.ensures.len ∙ ap (λ (l : List ℕ). 8192 * length l) (sym is) in
+      wrote_more _ _ _ _ _ base _ i _ _ (c.loop-i.invariant.wrote honest base stands) (slice_get-get_or _ i 0 c.loop-i-test.true) rise
+      (page_fits numbers base i (page_count c.args.self.now.geometry) c.loop-i-test.true on_volume long) (length-text _ i (length numbers) texts_long c.loop-i-test.true) (text_is _ i)
+      c.page_offset.ensures (c.in_ok-write_at.ensures.written (subst IsTrue (sym c.loop-i.invariant.honest) honest));
+}
+
+pub returns-clause-done : goal.returns-clause-done
+returns-clause-done g c base honest stands =
+    let numbers = c.numbers-numbers.result.now in
+    let texts = c.bytes-bytes.result.now in
+    let syncs = c.sync.ensures.synced (subst IsTrue (sym c.loop-i.invariant.honest) honest) in
+    let ns : numbers ≡ c.args.images.now.numbers.items = c.numbers-numbers.ensures in
+    let ts : texts ≡ c.args.images.now.bytes.items = c.bytes-bytes.ensures.texts in
+    subst (λ (l : List ℕ). OnOk c.sync.result ((image : List ℕ) × Stands (g.D.Disk.history c.sync.new.self) image × HasPages base image l c.args.images.now.bytes.items)) ns
+    (subst (λ (l : List ℕ). OnOk c.sync.result ((image : List ℕ) × Stands (g.D.Disk.history c.sync.new.self) image × HasPages base image numbers l)) ts
+    (wrote_and_synced _ _ _ numbers texts base c.loop-i.i c.sync.result c.loop-i-test.false (c.loop-i.invariant.wrote honest base stands) syncs))
+
+pub returns-clause-any_moment : goal.returns-clause-any_moment
+returns-clause-any_moment g c base honest stands =
+    subst (λ (l : List ℕ). LeavesOnly (g.D.Disk.history c.args.self.now.device) (g.D.Disk.history c.sync.new.self) (DiffersInPages l base)) c.numbers-numbers.ensures
+    (sync_more _ _ _ _ c.sync.result (c.loop-i.invariant.wrote honest base stands).moments (c.sync.ensures.synced (subst IsTrue (sym c.loop-i.invariant.honest) honest)))

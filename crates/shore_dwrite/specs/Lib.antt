@@ -1,0 +1,6 @@
+pub mod Volumes
+pub mod Tables
+pub mod Images
+pub mod Shown
+pub mod Differences
+pub mod Settled

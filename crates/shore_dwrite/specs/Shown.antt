@@ -1,0 +1,58 @@
+-- What a volume shows: its pages in place, or behind an open gate those of the double-write area over them.
+use Rattle.std.specs.Prelude.{◌≡◌, ◌≢◌, ◌⊎◌, ◌==◌, ℕ, ◌+◌, ◌<◌, ◌≤◌, List, [], ◌∷◌, length, take, drop, All, if◌then◌else◌}
+use Rattle.shore_gate.specs.declared.gates.TheConstants.{OPEN}
+use Rattle.shore_types.specs.declared.layout.Geometry.{Geometry}
+use Rattle.shore_types.specs.declared.layout.TheConstants.{PAGE_BYTES, MAX_BATCH_PAGES}
+use Rattle.shore_dwrite.specs.declared.places.TheConstants.{GATE_AT, TABLE_AT, TABLE_BYTES, AREA_AT}
+use Rattle.shore_dwrite.specs.Tables.{IsTable}
+use Rattle.shore_dwrite.specs.Volumes.{part, page_at, page_count, IsImageOf}
+
+-- they rise, from this number on
+abbrev pub RiseFrom : ℕ → List ℕ → Type 0
+RiseFrom low [] = Unit {0}
+RiseFrom low (k ∷ ks) = (low ≤ k) × RiseFrom (k + 1) ks
+
+-- the bytes begin with a text of each of these pages, one behind another
+abbrev pub AreImages : Geometry → List ℕ → List ℕ → Type 0
+AreImages g [] bytes = Unit {0}
+AreImages g (k ∷ ks) bytes = IsImageOf g k (take PAGE_BYTES bytes) × AreImages g ks (drop PAGE_BYTES bytes)
+
+-- what a batch may be: 1 to 32 pages of the volume, rising, and a text of each
+pub record IsBatch (g : Geometry) (numbers bytes : List ℕ) : Type 0 where
+  pub some : 1 ≤ length numbers
+  pub most : length numbers ≤ MAX_BATCH_PAGES
+  pub rise : RiseFrom 0 numbers
+  pub on_volume : All (λ k. k < page_count g) numbers
+  pub images : AreImages g numbers bytes
+
+-- pages, with the images of some of them laid over
+abbrev pub overlaid : List ℕ → List ℕ → (ℕ → List ℕ) → ℕ → List ℕ
+overlaid [] bytes pages k = pages k
+overlaid (n ∷ ns) bytes pages k = if n == k then take PAGE_BYTES bytes else overlaid ns (drop PAGE_BYTES bytes) pages k
+
+-- the double-write area has the images of a batch, behind an open gate
+pub record HasArea (g : Geometry) (image numbers : List ℕ) : Type 0 where
+  pub is_open : part GATE_AT 1 image ≡ OPEN ∷ []
+  pub table : IsTable (part TABLE_AT TABLE_BYTES image) numbers
+  pub batch : IsBatch g numbers (drop AREA_AT image)
+
+-- these pages are in place
+abbrev pub AreInPlace : Geometry → List ℕ → (ℕ → List ℕ) → Type 0
+AreInPlace g image pages = (k : ℕ) → k < page_count g → page_at image k ≡ pages k
+
+abbrev pub IsShut : List ℕ → Type 0
+IsShut image = part GATE_AT 1 image ≢ OPEN ∷ []
+
+-- The volume shows these pages: a replay leaves them in place.
+abbrev pub Shows : Geometry → List ℕ → (ℕ → List ℕ) → Type 0
+Shows g image pages =
+    (IsShut image × AreInPlace g image pages)
+    ⊎ ((numbers : List ℕ) × HasArea g image numbers × ((k : ℕ) → k < page_count g → overlaid numbers (drop AREA_AT image) (page_at image) k ≡ pages k))
+
+-- .. behind these first 4,096 bytes, the label among them
+abbrev pub ShowsBehind : Geometry → List ℕ → (ℕ → List ℕ) → List ℕ → Type 0
+ShowsBehind g front pages image = (take GATE_AT image ≡ front) × Shows g image pages
+
+-- .. these pages or those
+abbrev pub ShowsEither : Geometry → List ℕ → (ℕ → List ℕ) → (ℕ → List ℕ) → List ℕ → Type 0
+ShowsEither g front pages others image = ShowsBehind g front pages image ⊎ ShowsBehind g front others image

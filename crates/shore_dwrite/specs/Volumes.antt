@@ -1,0 +1,42 @@
+-- Where things are on a volume, and the number of each page there.
+use Rattle.std.specs.Prelude.{◌≡◌, ◌<◌, ℕ, ◌+◌, ◌*◌, List, take, drop, sum}
+use Rattle.shore_types.specs.declared.ids.PageId.{PageId}
+use Rattle.shore_types.specs.declared.layout.Geometry.{Geometry}
+use Rattle.shore_types.specs.declared.layout.TheConstants.{PAGE_BYTES}
+use Rattle.shore_types.specs.Images.{Image}
+use Rattle.shore_types.specs.Layout.{HasPage}
+use Rattle.shore_page.specs.Text.{IsPageText}
+use Rattle.shore_dwrite.specs.declared.places.TheConstants.{PAGES_AT}
+
+-- so many bytes at an offset
+abbrev pub part : ℕ → ℕ → List ℕ → List ℕ
+part offset bytes image = take bytes (drop offset image)
+
+-- where the page of a number is
+abbrev pub page_offset : ℕ → ℕ
+page_offset k = PAGES_AT + PAGE_BYTES * k
+
+-- what is there
+abbrev pub page_at : List ℕ → ℕ → List ℕ
+page_at image k = part (page_offset k) PAGE_BYTES image
+
+-- the number of a page on the volume: the pages of all stores below its own come before it
+abbrev pub page_number : Geometry → PageId → ℕ
+page_number g id = sum (take id.store g.stores) + id.page
+
+-- how many pages there are
+abbrev pub page_count : Geometry → ℕ
+page_count g = sum g.stores
+
+-- the bytes are the text of the page of this number
+pub record IsImageOf (g : Geometry) (k : ℕ) (bytes : List ℕ) : Type 0 where
+  pub id : PageId
+  pub there : HasPage g id
+  pub number : page_number g id ≡ k
+  pub lsn : ℕ
+  pub images : List Image
+  pub text : IsPageText bytes id lsn images
+
+-- the bytes are no text of the page with a number up to this one
+abbrev pub HasNoPage : List ℕ → PageId → ℕ → Type 0
+HasNoPage bytes id last = (number : ℕ) (images : List Image) → IsPageText bytes id number images → last < number

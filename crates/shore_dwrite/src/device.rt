@@ -1,0 +1,169 @@
+//! The pages of a volume on its device.
+ghost use Rattle.std.specs.Prelude.{◌≡◌, ◌⊎◌, ◌+◌, ◌*◌, ◌<◌, ◌≤◌, ℕ, List, length, All, Contains, IsTrue, IfErr, IfOk, OnOk, slice_get, Some};
+ghost use Rattle.shore_types.specs.declared.layout.TheConstants.{PAGE_BYTES, MAX_PAGES};
+ghost use Rattle.shore_disk.specs.Device.{History, size, seen, may_leave, overwritten, CountsFault, LeavesOnly, Stands};
+ghost use Rattle.shore_dwrite.specs.Differences.{DiffersInArea, DiffersInPages, HasImages, HasPages};
+ghost use Rattle.shore_dwrite.specs.declared.places.TheConstants.{PAGES_AT};
+ghost use Rattle.shore_dwrite.specs.Images.{numbers_of, texts_of};
+ghost use Rattle.shore_dwrite.specs.Shown.{IsBatch, RiseFrom, overlaid, ShowsBehind, ShowsEither};
+ghost use Rattle.shore_disk.specs.Cause.{HasCause};
+ghost use Rattle.shore_gate.specs.Checks.{IsFromOutside};
+ghost use Rattle.shore_page.specs.Text.{IsPageText, images_of, settled_page};
+ghost use Rattle.shore_types.specs.Layout.{HasPage};
+ghost use Rattle.shore_types.specs.declared.faults.Device.TheVariants as Device;
+ghost use Rattle.shore_types.specs.declared.faults.Fault.TheVariants as Fault;
+ghost use Rattle.shore_dwrite.specs.Volumes.{HasNoPage, page_at, page_count, page_number, page_offset, part};
+
+use crate::images::PageImages;
+use crate::places::{AREA_AT, GATE_AT, TABLE_AT, page_number, page_offset};
+use crate::table::table_of;
+use shore_disk::{Disk, DiskFault};
+use shore_gate::{close_gate, open_gate};
+use shore_page::Page;
+use shore_types::layout::PAGE_BYTES;
+use shore_types::{Device, Fault, Geometry, Lsn, PageId};
+use std::alloc::Global;
+
+// What a volume is refused with whose bytes at an offset are not what they have to be.
+fn damaged(place: u64) -> Fault
+    ensures { result ≡ Fault.Damaged Device.Volume place }
+{
+    Fault::Damaged {
+        device: Device::Volume,
+        place,
+    }
+}
+
+// The page whose text the bytes at an offset are, if its number is not above the last one of the log.
+fn find_page(alloc: Global, id: &PageId, bytes: &[u8], last: Lsn, at: u64) -> Result<Page, Fault>
+    ensures found { IfOk result (λ page. IsPageText bytes.now id.now page.number (images_of page.slots)
+        × (page ≡ settled_page id.now page.number (images_of page.slots)) × (page.number ≤ last)) }
+    ensures refused { IfErr result (λ fault. (fault ≡ Fault.Memory)
+        ⊎ ((fault ≡ Fault.Damaged Device.Volume at) × HasNoPage bytes.now id.now last)) }
+{
+    let Some(page) = Page::from_bytes(alloc, *id, bytes)? else {
+        return Err(damaged(at));
+    };
+    if page.number().0 > last.0 {
+        return Err(damaged(at));
+    }
+    Ok(page)
+}
+
+/// The pages of a volume. It keeps none of them in memory.
+#[derive(Drop)]
+pub struct PageDev<D: Disk> {
+    device: D,
+    geometry: Geometry,
+    ghost as_long: { size (D.Disk.history device) ≡ PAGES_AT + PAGE_BYTES * page_count geometry },
+    ghost few: { page_count geometry ≤ MAX_PAGES },
+}
+
+impl<D: Disk> PageDev<D> {
+    ghost use Rattle.shore_dwrite.specs.Settled.{IsSettled, device_of, geometry_of};
+
+    /// The pages on a device that is as long as its geometry asks.
+    pub fn new(device: D, geometry: Geometry) -> PageDev<D>
+        requires long { size (D.history device) ≡ PAGES_AT + PAGE_BYTES * page_count geometry }
+        requires few { page_count geometry ≤ MAX_PAGES }
+        ensures device { device_of result ≡ device }
+        ensures geometry { geometry_of result ≡ geometry }
+    {
+        PageDev { device, geometry }
+    }
+
+    /// The device, as it is.
+    pub fn into_device(self) -> D
+        ensures { result ≡ device_of self }
+    {
+        self.device
+    }
+
+    /// The number of a page on the volume. Numbers rise with the store, and in it with the page.
+    pub fn number(&self, id: PageId) -> u32
+        requires { HasPage (geometry_of self.now) id }
+        ensures number { result ≡ page_number (geometry_of self.now) id }
+        ensures within { result < page_count (geometry_of self.now) }
+    {
+        page_number(&self.geometry, id)
+    }
+
+    /// Reads a page. `Damaged` at its first byte if the bytes there are no text of it, or if its number is above the last one of the log;
+    /// `Memory` if an allocation failed. After each of these nothing has changed.
+    pub fn read_page(&mut self, alloc: Global, id: PageId, last: Lsn) -> Result<Page, Fault>
+        requires { HasPage (geometry_of self.old) id }
+        ensures found { (front : List ℕ) (pages : ℕ → List ℕ) → IsSettled self.old front pages → IfOk result (λ page.
+            IsPageText (pages (page_number (geometry_of self.old) id)) id page.number (images_of page.slots)
+            × (page ≡ settled_page id page.number (images_of page.slots))) }
+        ensures behind { IfOk result (λ page. page.number ≤ last) }
+        ensures refused { (front : List ℕ) (pages : ℕ → List ℕ) → IsSettled self.old front pages → IfErr result (λ fault.
+            IsFromOutside fault
+            ⊎ ((fault ≡ Fault.Damaged Device.Volume (page_offset (page_number (geometry_of self.old) id)))
+            × HasNoPage (pages (page_number (geometry_of self.old) id)) id last)) }
+        ensures settled { (front : List ℕ) (pages : ℕ → List ℕ) → IsSettled self.old front pages → IsSettled self.new front pages }
+        ensures geometry { geometry_of self.new ≡ geometry_of self.old }
+        ensures cause { HasCause result (D.faults self.old.device) (D.faults self.new.device) }
+    {
+        let at = page_offset(page_number(&self.geometry, id));
+        let mut bytes = [0; PAGE_BYTES];
+        self.device.read_at(at, &mut bytes)?;
+        find_page(alloc, &id, &bytes, last, at)
+    }
+
+    /// Writes a batch of pages: all of them, or none after a loss of power and a replay. At an error the device failed, and any part of it
+    /// may be done.
+    pub fn write_batch(&mut self, images: &PageImages) -> Result<(), DiskFault>
+        requires { IsBatch (geometry_of self.old) (numbers_of images.now) (texts_of images.now) }
+        ensures settled { (front : List ℕ) (pages : ℕ → List ℕ) → IsSettled self.old front pages
+            → OnOk result (IsSettled self.new front (overlaid (numbers_of images.now) (texts_of images.now) pages)) }
+
+        // A crash at any moment of the call leaves all pages of the batch old or all new, and each other page as it was.
+        ensures any_moment { (front : List ℕ) (pages : ℕ → List ℕ) → IsSettled self.old front pages
+            → LeavesOnly (D.history self.old.device) (D.history self.new.device)
+            (ShowsEither (geometry_of self.old) front pages (overlaid (numbers_of images.now) (texts_of images.now) pages)) }
+
+        ensures geometry { geometry_of self.new ≡ geometry_of self.old }
+        ensures cause { CountsFault result (D.faults self.old.device) (D.faults self.new.device) }
+    {
+        self.write_area(images)?;
+        open_gate(&mut self.device, GATE_AT)?;
+        self.write_in_place(images)?;
+        close_gate(&mut self.device, GATE_AT)
+    }
+
+    // Writes the table and the images behind the gate, and syncs.
+    fn write_area(&mut self, images: &PageImages) -> Result<(), DiskFault>
+        requires { IsBatch (geometry_of self.old) (numbers_of images.now) (texts_of images.now) }
+        ensures done { (base : List ℕ) → IsTrue (D.is_honest self.old.device) → Stands (D.history self.old.device) base
+            → OnOk result ((new : List ℕ) × Stands (D.history self.new.device) new × HasImages base new (numbers_of images.now) (texts_of images.now)) }
+        ensures any_moment { (base : List ℕ) → IsTrue (D.is_honest self.old.device) → Stands (D.history self.old.device) base
+            → LeavesOnly (D.history self.old.device) (D.history self.new.device) (DiffersInArea base) }
+        ensures honest { D.is_honest self.new.device ≡ D.is_honest self.old.device }
+        ensures geometry { geometry_of self.new ≡ geometry_of self.old }
+        ensures cause { CountsFault result (D.faults self.old.device) (D.faults self.new.device) }
+    {
+        self.device.write_at(TABLE_AT, &table_of(images.numbers()))?;
+        self.device.write_at(AREA_AT, images.bytes())?;
+        self.device.sync()
+    }
+
+    // Writes each page in place, and syncs.
+    fn write_in_place(&mut self, images: &PageImages) -> Result<(), DiskFault>
+        requires { IsBatch (geometry_of self.old) (numbers_of images.now) (texts_of images.now) }
+        ensures done { (base : List ℕ) → IsTrue (D.is_honest self.old.device) → Stands (D.history self.old.device) base
+            → OnOk result ((new : List ℕ) × Stands (D.history self.new.device) new × HasPages base new (numbers_of images.now) (texts_of images.now)) }
+        ensures any_moment { (base : List ℕ) → IsTrue (D.is_honest self.old.device) → Stands (D.history self.old.device) base
+            → LeavesOnly (D.history self.old.device) (D.history self.new.device) (DiffersInPages (numbers_of images.now) base) }
+        ensures honest { D.is_honest self.new.device ≡ D.is_honest self.old.device }
+        ensures geometry { geometry_of self.new ≡ geometry_of self.old }
+        ensures cause { CountsFault result (D.faults self.old.device) (D.faults self.new.device) }
+    {
+        let bytes = images.bytes();
+        let numbers = images.numbers();
+        for i in 0..numbers.len() {
+            let text = &bytes[PAGE_BYTES * i..PAGE_BYTES * (i + 1)];
+            self.device.write_at(page_offset(numbers[i]), text)?;
+        }
+        self.device.sync()
+    }
+}

@@ -1,0 +1,65 @@
+//! The pages of a batch, with their texts one behind another, as one write takes them.
+ghost use Rattle.std.specs.Prelude.{◌≡◌, ◌*◌, ◌+◌, ◌++◌, ◌∷◌, [], ℕ, length, IfOk, OnOk, OnErr};
+ghost use Rattle.shore_types.specs.declared.layout.TheConstants.{PAGE_BYTES};
+
+use shore_types::layout::{MAX_BATCH_PAGES, PAGE_BYTES};
+use std::alloc::{AllocError, Global};
+
+/// Page texts that are written as one batch, with the number of each page on the volume.
+#[derive(Drop)]
+pub struct PageImages {
+    numbers: Vec<u32>,
+    bytes: Vec<u8>,
+    ghost as_many: { length bytes.items ≡ PAGE_BYTES * length numbers.items },
+}
+
+impl PageImages {
+    ghost use Rattle.shore_dwrite.specs.Images.{numbers_of, texts_of};
+
+    /// No pages, with room for a batch.
+    pub fn new(alloc: Global) -> Result<PageImages, AllocError>
+        ensures numbers { IfOk result (λ images. numbers_of images ≡ []) }
+        ensures texts { IfOk result (λ images. texts_of images ≡ []) }
+    {
+        let numbers = Vec::with_capacity(alloc, MAX_BATCH_PAGES)?;
+        let bytes = Vec::with_capacity(alloc, MAX_BATCH_PAGES * PAGE_BYTES)?;
+        Ok(PageImages { numbers, bytes })
+    }
+
+    /// Drops all pages, and keeps the room.
+    pub fn clear(&mut self)
+        ensures numbers { numbers_of self.new ≡ [] }
+        ensures texts { texts_of self.new ≡ [] }
+    {
+        self.numbers.clear();
+        self.bytes.clear();
+    }
+
+    /// One page more, behind the others. After an error none was added.
+    pub fn push(&mut self, number: u32, text: &[u8]) -> Result<(), AllocError>
+        requires { length text.now ≡ PAGE_BYTES }
+        ensures numbers { OnOk result (numbers_of self.new ≡ numbers_of self.old ++ number ∷ []) }
+        ensures texts { OnOk result (texts_of self.new ≡ texts_of self.old ++ text.now) }
+        ensures refused { OnErr result ((numbers_of self.new ≡ numbers_of self.old) × (texts_of self.new ≡ texts_of self.old)) }
+    {
+        self.numbers.reserve(1)?;
+        self.bytes.extend_from_slice(text)?;
+        self.numbers.push(number)?;
+        Ok(())
+    }
+
+    /// The numbers of the pages, in the order in which they came.
+    pub fn numbers(&self) -> &[u32]
+        ensures { result.now ≡ numbers_of self.now }
+    {
+        &self.numbers
+    }
+
+    /// Their texts, one behind another.
+    pub fn bytes(&self) -> &[u8]
+        ensures texts { result.now ≡ texts_of self.now }
+        ensures len { length result.now ≡ PAGE_BYTES * length (numbers_of self.now) }
+    {
+        &self.bytes
+    }
+}

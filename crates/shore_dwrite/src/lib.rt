@@ -1,0 +1,11 @@
+//! The pages of a volume: a batch of them is written so that a loss of power leaves all of them old or all of them new (a double write).
+#![tactic(auto)]
+
+mod device;
+mod images;
+mod places;
+mod table;
+
+pub use device::PageDev;
+pub use images::PageImages;
+pub use places::PAGES_AT;
