@@ -2,12 +2,12 @@
 //! does one kind of work so often and prints the nanoseconds of a round; with no words it does each once and prints what it counts.
 #![tactic(auto)]
 
-ghost use Rattle.std.specs.Prelude.{◌≡◌, false, OnOk};
+ghost use Rattle.std.specs.Prelude.{◌≡◌, false};
 ghost use Rattle.shore_locks.specs.Tables.{is_waiting};
 
 use shore_locks::LockTable;
 use shore_locks::laws::waits_only_if_told_to;
-use shore_types::{Fault, Granule, Mode, PageId, Rid, StoreId, TxnId};
+use shore_types::{Granule, Mode, PageId, Rid, StoreId, TxnId};
 use std::time::Instant;
 use std::{env, io};
 
@@ -44,51 +44,49 @@ fn record(slot: u16) -> Granule {
     Granule::Record(Rid { page, slot })
 }
 
-fn take(table: &mut LockTable, slot: u16) -> Result<(), Fault>
+fn take(table: &mut LockTable, slot: u16)
     requires { is_waiting 1 table.old.requests ≡ false }
-    ensures { OnOk result (is_waiting 1 table.new.requests ≡ false) }
+    ensures { is_waiting 1 table.new.requests ≡ false }
 {
     waits_only_if_told_to();
     table.nodes();
-    table.try_request(FIRST, record(slot), Mode::EX)?;
-    Ok(())
+    table.try_request(FIRST, record(slot), Mode::EX);
 }
 
-fn take_all(table: &mut LockTable) -> Result<(), Fault>
+fn take_all(table: &mut LockTable)
     requires { is_waiting 1 table.old.requests ≡ false }
 {
     for slot in 0..LOCKS {
-        take(table, slot)?;
+        take(table, slot);
     }
-    Ok(())
 }
 
 /// The number of nodes that stand once all wait. Whoever waits already asks for nothing.
-fn wait_all(table: &mut LockTable) -> Result<usize, Fault> {
+fn wait_all(table: &mut LockTable) -> usize {
     for txn in 1..WAITERS + 2 {
         let mode = if txn == 1 { Mode::EX } else { Mode::SH };
         if !table.is_waiting(TxnId(txn)) {
-            table.request(TxnId(txn), record(0), mode)?;
+            table.request(TxnId(txn), record(0), mode);
         }
     }
-    Ok(table.nodes())
+    table.nodes()
 }
 
 /// One round. It answers how many nodes stood.
-fn round(table: &mut LockTable, work: Work) -> Result<usize, Fault> {
+fn round(table: &mut LockTable, work: Work) -> usize {
     match work {
         Work::Locks => {
             if !table.is_waiting(FIRST) {
-                take_all(table)?;
+                take_all(table);
             }
-            Ok(table.release_all(FIRST))
+            table.release_all(FIRST)
         }
         Work::Waiters => {
-            let nodes = wait_all(table)?;
+            let nodes = wait_all(table);
             for txn in 1..WAITERS + 2 {
                 table.release_all(TxnId(txn));
             }
-            Ok(nodes)
+            nodes
         }
     }
 }
@@ -98,8 +96,8 @@ fn main(rt: HostRuntime) -> io::Result<()> {
     let mut table = LockTable::new(alloc, 4096)?;
     let words: Vec<String> = env::args(&rt)?.collect(alloc)?;
     let [_, name, rounds] = words.as_slice() else {
-        let locks = round(&mut table, Work::Locks).unwrap_or(0);
-        let waiters = round(&mut table, Work::Waiters).unwrap_or(0);
+        let locks = round(&mut table, Work::Locks);
+        let waiters = round(&mut table, Work::Waiters);
         println!(rt; "{locks} locks, {waiters} requests")?;
         return Ok(());
     };
@@ -110,7 +108,7 @@ fn main(rt: HostRuntime) -> io::Result<()> {
     let mut sum = 0usize;
     let start = Instant::now(&rt)?;
     for _ in 0..rounds {
-        sum = sum.wrapping_add(round(&mut table, work).unwrap_or(0));
+        sum = sum.wrapping_add(round(&mut table, work));
     }
     let nanos = start.elapsed(&rt)?.as_nanos() / u128::from(rounds.max(1));
     println!(rt; "{name} {nanos} ns a round ({sum})")?;

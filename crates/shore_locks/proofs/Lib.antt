@@ -1,4 +1,5 @@
 mod AlikeNodes
+pub mod AtOnce
 pub mod Answered
 mod Buckets
 pub mod Counts
@@ -8,6 +9,7 @@ pub mod Fits
 pub mod Keys
 mod Lasts
 mod GrantWalks
+mod Spreads
 pub mod LawLemmas
 pub mod Members
 mod NodeLemmas

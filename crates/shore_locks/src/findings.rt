@@ -23,15 +23,9 @@ pub enum Finding {
     Free { request: Request, known: bool },
 }
 
-/// What a transaction meets, with a limit on the nodes. It looks for the transaction's node once.
-pub fn check_request(
-    nodes: &Nodes,
-    limit: usize,
-    txn: TxnId,
-    granule: &Granule,
-    mode: Mode,
-) -> Finding
-    ensures { Finds (record { limit = limit; requests = nodes.now }) txn granule.now mode result }
+/// What a transaction meets. It looks for the transaction's node once.
+pub fn check_request(nodes: &Nodes, txn: TxnId, granule: &Granule, mode: Mode) -> Finding
+    ensures { Finds nodes.now txn granule.now mode result }
 {
     let own = request_for(nodes, txn, granule);
     let held = mode_of(&own);
@@ -39,7 +33,7 @@ pub fn check_request(
         return Finding::Enough;
     }
     let known = own.is_some();
-    if !known && nodes.len() >= limit {
+    if !known && nodes.is_full() {
         return Finding::Full;
     }
     let request = Request {

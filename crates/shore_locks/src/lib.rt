@@ -5,6 +5,7 @@ pub mod answers;
 mod changes;
 mod findings;
 mod granting;
+mod heads;
 mod judgements;
 pub mod laws;
 mod nodes;
