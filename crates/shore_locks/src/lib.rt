@@ -8,6 +8,7 @@ mod granting;
 mod heads;
 mod judgements;
 pub mod laws;
+pub mod listings;
 mod nodes;
 mod openings;
 pub mod queues;
@@ -17,5 +18,6 @@ mod walks;
 
 pub use answers::{Requested, Tried};
 pub use judgements::refuses;
+pub use listings::Requests;
 pub use queues::{Holders, Waiters};
 pub use table::LockTable;

@@ -7,6 +7,7 @@ ghost use Rattle.shore_locks.specs.Orderly.{IsOrderly};
 
 use crate::answers::{Requested, Tried};
 use crate::findings::{Finding, check_request};
+use crate::listings::Requests;
 use crate::nodes::Nodes;
 use crate::queues::{Holders, Waiters};
 use crate::{changes, searches};
@@ -123,6 +124,24 @@ impl LockTable {
                 Tried::Granted
             }
         }
+    }
+
+    /// What `try_request` would answer. Nothing changes.
+    pub fn would(&self, txn: TxnId, granule: Granule, mode: Mode) -> Tried
+        ensures { result ≡ answer_to_try self.now txn granule mode }
+    {
+        match check_request(&self.nodes, txn, &granule, mode) {
+            Finding::Enough | Finding::Free { .. } => Tried::Granted,
+            Finding::Full => Tried::Full,
+            Finding::Stopped { other: holder, .. } => Tried::Blocked(holder),
+        }
+    }
+
+    /// The requests of a transaction, in the order in which they came.
+    pub fn requests_of(&self, txn: TxnId) -> Requests<'_>
+        ensures { result ≡ requests_by txn self.now.requests }
+    {
+        Requests::new(&self.nodes, txn)
     }
 
     /// A transaction waits no more: what it waited for is given up, and what it holds stays. Those behind it may be granted.
