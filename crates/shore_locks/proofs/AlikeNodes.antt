@@ -43,7 +43,7 @@ apart_from slots ks r one key h alike k i other =
     let e = (alike-Decides (request_at slots key) r).0 alike in
     alike_by_keys (request_at slots k) r (request_at slots k) (request_at slots key) refl refl (sym e.0) (sym e.1) ∙ apart_keys slots ks one key k h i other
 
-filter_mapped : (p : Request → Bool) (f : ℕ → Request) (q : ℕ → Bool) (ks : List ℕ) → ((k : ℕ) → In k ks → p (f k) ≡ q k) → filter p (map f ks) ≡ map f (filter q ks)
+pub filter_mapped : (p : Request → Bool) (f : ℕ → Request) (q : ℕ → Bool) (ks : List ℕ) → ((k : ℕ) → In k ks → p (f k) ≡ q k) → filter p (map f ks) ≡ map f (filter q ks)
 filter_mapped p f q [] same = refl
 filter_mapped p f q (k ∷ ks) same =
     ⊎_elim

@@ -3,6 +3,7 @@ pub mod AtOnce
 pub mod Answered
 mod Buckets
 pub mod Counts
+mod Crowds
 pub mod Entering
 mod Firsts
 pub mod Fits
@@ -18,5 +19,6 @@ pub mod Others
 pub mod Outcomes
 pub mod Passes
 pub mod Tables
+mod Tallying
 mod Links
 pub mod Waiting

@@ -194,7 +194,7 @@ filter_of_bucket p f bucket b (k ∷ ks) inside =
     ∙ sym (filter-no p (f k) (map f ks) (⊎_elim (λ passes. absurd (let yes = (Decides-eqb (bucket k) b).1 (inside k passes) in let f : (bucket k == b) ≡ false = no in cc)) (λ fails. fails) (either (p (f k))))))
     (either (bucket k == b))
 
-seconds : (heads : ℕ) (slots : Slab Request) (ks : List ℕ) → map (λ (p : ℕ × Request). p.1) (map (pair_at heads slots) ks) ≡ requests_in slots ks
+pub seconds : (heads : ℕ) (slots : Slab Request) (ks : List ℕ) → map (λ (p : ℕ × Request). p.1) (map (pair_at heads slots) ks) ≡ requests_in slots ks
 seconds heads slots [] = refl
 seconds heads slots (k ∷ ks) = ap (λ xs. request_at slots k ∷ xs) (seconds heads slots ks)
 

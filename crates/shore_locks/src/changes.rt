@@ -1,24 +1,28 @@
 //! Changes to the list of requests.
-ghost use Rattle.std.specs.Prelude.{◌≡◌, cond, is_some, length};
+ghost use Rattle.std.specs.Prelude.{◌≡◌, cond, is_some, length, slice_get};
 ghost use Rattle.std.specs.List.{list_any};
 ghost use Rattle.shore_model.specs.Requests as asked;
 ghost use Rattle.shore_model.specs.Requests.{AreRequests};
 ghost use Rattle.shore_locks.specs.Findings.{FindsNode, IsFree};
 ghost use Rattle.shore_locks.specs.Grants as steps;
+ghost use Rattle.shore_locks.specs.Tables.{waiters_at};
 
+use crate::counted::Counted;
 use crate::judgements::{granted, holds_is, withdrawn};
-use crate::nodes::Nodes;
-use crate::searches::{can_be_granted, first_waiter};
+use crate::searches;
 use shore_model::Request;
 use shore_types::{Granule, TxnId};
 
 /// A grant pass: waiters of a granule's queue are granted in turn, up to the first that another holder refuses. Behind the last
-/// conversion the new waiters are granted together.
-pub fn pass(nodes: &mut Nodes, granule: &Granule)
+/// conversion the new waiters are granted together. If the counts show that nobody waits, that is all.
+pub fn pass(nodes: &mut Counted, granule: &Granule)
     requires { AreRequests nodes.old.requests }
     ensures items { nodes.new.requests ≡ steps.passed granule.now nodes.old.requests }
     ensures limit { nodes.new.limit ≡ nodes.old.limit }
 {
+    if !nodes.may_have_waiters(granule) {
+        return;
+    }
     while let Some(waiter) = first_waiter(nodes, granule) {
         if waiter.held.is_none() {
             nodes.grant_new(granule);
@@ -32,8 +36,20 @@ pub fn pass(nodes: &mut Nodes, granule: &Granule)
     }
 }
 
+fn first_waiter(nodes: &Counted, granule: &Granule) -> Option<Request>
+    ensures { result ≡ slice_get (waiters_at granule.now nodes.now.requests) 0 }
+{
+    searches::first_waiter(nodes.nodes(), granule)
+}
+
+fn can_be_granted(nodes: &Counted, waiter: &Request) -> bool
+    ensures { result ≡ steps.can_be_granted waiter.now (asked.requests_at waiter.now.granule nodes.now.requests) }
+{
+    searches::can_be_granted(nodes.nodes(), waiter)
+}
+
 /// A waiting request is taken back, with a grant pass over its queue.
-pub fn take_back(nodes: &mut Nodes, request: &Request)
+pub fn take_back(nodes: &mut Counted, request: &Request)
     requires { AreRequests nodes.old.requests }
     ensures items { nodes.new.requests ≡ steps.taken_back request.now nodes.old.requests }
     ensures limit { nodes.new.limit ≡ nodes.old.limit }
@@ -42,7 +58,7 @@ pub fn take_back(nodes: &mut Nodes, request: &Request)
     pass(nodes, &request.granule);
 }
 
-fn stop_waiting(nodes: &mut Nodes, request: &Request)
+fn stop_waiting(nodes: &mut Counted, request: &Request)
     requires { AreRequests nodes.old.requests }
     ensures items { nodes.new.requests ≡ cond (is_some request.now.held) (steps.replaced (steps.withdrawn request.now) nodes.old.requests) (steps.removed request.now nodes.old.requests) }
     ensures limit { nodes.new.limit ≡ nodes.old.limit }
@@ -57,7 +73,7 @@ fn stop_waiting(nodes: &mut Nodes, request: &Request)
 
 /// Gives up all that a transaction holds and wants, each with a grant pass over its queue, and answers how many requests
 /// that were. No queue is searched for them: the transaction's ring has them.
-pub fn release(nodes: &mut Nodes, txn: TxnId) -> usize
+pub fn release(nodes: &mut Counted, txn: TxnId) -> usize
     requires { AreRequests nodes.old.requests }
     ensures items { nodes.new.requests ≡ steps.released txn nodes.old.requests }
     ensures limit { nodes.new.limit ≡ nodes.old.limit }
@@ -74,7 +90,7 @@ pub fn release(nodes: &mut Nodes, txn: TxnId) -> usize
 }
 
 /// Puts a request last, and takes the one of its transaction for its granule away.
-pub fn place_last(nodes: &mut Nodes, request: &Request)
+pub fn place_last(nodes: &mut Counted, request: &Request)
     requires one { AreRequests nodes.old.requests }
     requires room { FindsNode nodes.old request.now }
     ensures items { nodes.new.requests ≡ asked.placed_last request.now nodes.old.requests }
@@ -87,7 +103,7 @@ pub fn place_last(nodes: &mut Nodes, request: &Request)
 
 /// Grants a request at once, in the place of the one of its transaction for its granule if that is known, else last. What is held
 /// refuses no less than before, so a grant pass would grant nobody; but IS refuses UD, and SH does not.
-pub fn grant(nodes: &mut Nodes, request: &Request, known: bool)
+pub fn grant(nodes: &mut Counted, request: &Request, known: bool)
     requires free { IsFree nodes.old request.now }
     requires known { known ≡ list_any (λ q. asked.are_alike q request.now) nodes.old.requests }
     ensures items { nodes.new.requests ≡ steps.passed request.now.granule (steps.put (steps.granted request.now) nodes.old.requests) }
@@ -100,7 +116,7 @@ pub fn grant(nodes: &mut Nodes, request: &Request, known: bool)
     }
 }
 
-fn put(nodes: &mut Nodes, request: &Request, known: bool)
+fn put(nodes: &mut Counted, request: &Request, known: bool)
     requires one { AreRequests nodes.old.requests }
     requires room { FindsNode nodes.old request.now }
     requires known { known ≡ list_any (λ q. asked.are_alike q request.now) nodes.old.requests }

@@ -3,6 +3,7 @@
 
 pub mod answers;
 mod changes;
+mod counted;
 mod findings;
 mod granting;
 mod heads;
@@ -14,6 +15,7 @@ mod openings;
 pub mod queues;
 mod searches;
 pub mod table;
+mod tallies;
 mod walks;
 
 pub use answers::{Requested, Tried};

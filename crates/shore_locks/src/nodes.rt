@@ -12,6 +12,7 @@ ghost use Rattle.shore_locks.specs.Granting.{new_waiters};
 ghost use Rattle.shore_locks.specs.Nodes as spec;
 ghost use Rattle.shore_locks.specs.Orderly.{IsNewest};
 ghost use Rattle.shore_locks.specs.Tables.{is_for};
+ghost use Rattle.shore_locks.specs.Tallies.{crowd};
 ghost use Rattle.shore_locks.specs.Nodes.{IsLinked, LinksIn, LinksOut, pairs_from, request_at, without};
 
 use crate::granting::{grant_new_waiters, openings_among};
@@ -40,13 +41,13 @@ pub struct Nodes {
 
 impl Model for Nodes {
     ghost use Rattle.std.specs.Prelude.{length};
-    ghost use Rattle.shore_locks.specs.Tables.{Table};
+    ghost use Rattle.shore_locks.specs.Tallies.{Stored};
 
-    ghost Value = { Table };
+    ghost Value = { Stored };
 
     ghost use Rattle.shore_locks.specs.Nodes.{HasRoom, IsLinked, alive, requests_in};
 
-    ghost view = { λ n. record { limit = n.limit; requests = requests_in n.slots (alive n.history.items) } };
+    ghost view = { λ n. record { heads = n.heads; limit = n.limit; requests = requests_in n.slots (alive n.history.items) } };
 
     ghost invariant = { λ n. IsLinked n.heads n.slots n.queues n.lists n.owners (alive n.history.items)
         × HasRoom n.limit n.heads n.slots.capacity (length n.queues) (length n.lists) (length n.owners) };
@@ -55,7 +56,10 @@ impl Model for Nodes {
 impl Nodes {
     /// No requests, with the memory for as many as there may be.
     pub fn new(alloc: Global, limit: usize) -> Result<Nodes, AllocError>
-        ensures { IfOk result (λ nodes. nodes ≡ record { limit = limit; requests = [] }) }
+        ensures requests { IfOk result (λ nodes. nodes.requests ≡ []) }
+        ensures limit { IfOk result (λ nodes. nodes.limit ≡ limit) }
+        ensures some { IfOk result (λ nodes. 65 < nodes.heads) }
+        ensures few { IfOk result (λ nodes. nodes.heads ≤ 2 ^ 32) }
     {
         let heads = heads_for(limit);
         let slots = Slab::with_capacity(alloc, limit)?;
@@ -82,6 +86,21 @@ impl Nodes {
     {
         let head = queue_head(granule, self.heads);
         Walk::new(&self.slots, &self.queues, self.heads, head)
+    }
+
+    /// The nodes of a head, in their order.
+    pub fn crowd(&self, head: usize) -> Walk<'_>
+        requires { head < self.now.heads }
+        ensures { map (λ (p : ℕ × Request). p.1) result ≡ crowd self.now.heads head self.now.requests }
+    {
+        Walk::new(&self.slots, &self.queues, self.heads, head)
+    }
+
+    /// How many heads there are.
+    pub fn heads(&self) -> usize
+        ensures { result ≡ self.now.heads }
+    {
+        self.heads
     }
 
     /// The nodes among which are all of a transaction, in their order.
@@ -120,6 +139,7 @@ impl Nodes {
         requires { length self.old.requests < self.old.limit }
         ensures items { self.new.requests ≡ self.old.requests ++ request.now ∷ [] }
         ensures limit { self.new.limit ≡ self.old.limit }
+        ensures heads { self.new.heads ≡ self.old.heads }
     {
         let key = insert(&mut self.slots, request);
         let node = self.heads + key;
@@ -139,6 +159,7 @@ impl Nodes {
         requires { AreRequests self.old.requests }
         ensures items { self.new.requests ≡ removed request.now self.old.requests }
         ensures limit { self.new.limit ≡ self.old.limit }
+        ensures heads { self.new.heads ≡ self.old.heads }
     {
         let head = owner_head(request.txn, &request.granule, self.heads);
         let walk = Walk::new(&self.slots, &self.owners, self.heads, head);
@@ -157,6 +178,7 @@ impl Nodes {
             ((list_any (λ q. are_alike q request.now) self.old.requests ≡ true) × (self.new.requests ≡ placed_last request.now self.old.requests))
             ((list_any (λ q. are_alike q request.now) self.old.requests ≡ false) × (self.new.requests ≡ self.old.requests)) }
         ensures limit { self.new.limit ≡ self.old.limit }
+        ensures heads { self.new.heads ≡ self.old.heads }
     {
         let head = owner_head(request.txn, &request.granule, self.heads);
         let walk = Walk::new(&self.slots, &self.owners, self.heads, head);
@@ -189,6 +211,7 @@ impl Nodes {
             ((None ≡ slice_get (requests_by txn self.old.requests) 0) × (self.new.requests ≡ self.old.requests))
             (λ r. (Some r ≡ slice_get (requests_by txn self.old.requests) 0) × (self.new.requests ≡ removed r self.old.requests)) }
         ensures limit { self.new.limit ≡ self.old.limit }
+        ensures heads { self.new.heads ≡ self.old.heads }
     {
         let head = list_head(txn, self.heads);
         let walk = Walk::new(&self.slots, &self.lists, self.heads, head);
@@ -213,7 +236,8 @@ impl Nodes {
 
     /// How many requests there are.
     pub fn len(&self) -> usize
-        ensures { result ≡ length self.now.requests }
+        ensures is { result ≡ length self.now.requests }
+        ensures fits { length self.now.requests < 2 ^ 64 }
     {
         self.slots.len()
     }
@@ -223,6 +247,7 @@ impl Nodes {
         requires { AreRequests self.old.requests }
         ensures items { self.new.requests ≡ replaced request.now self.old.requests }
         ensures limit { self.new.limit ≡ self.old.limit }
+        ensures heads { self.new.heads ≡ self.old.heads }
     {
         let head = owner_head(request.txn, &request.granule, self.heads);
         let walk = Walk::new(&self.slots, &self.owners, self.heads, head);
@@ -238,6 +263,7 @@ impl Nodes {
         requires { AreRequests self.old.requests }
         ensures items { self.new.requests ≡ granted_in_turn (new_waiters granule.now self.old.requests) self.old.requests }
         ensures limit { self.new.limit ≡ self.old.limit }
+        ensures heads { self.new.heads ≡ self.old.heads }
     {
         let head = queue_head(granule, self.heads);
         let walk = Walk::new(&self.slots, &self.queues, self.heads, head);

@@ -6,9 +6,9 @@ ghost use Rattle.shore_locks.specs.Tables.{holders_at, is_waiting, mode_held, wa
 ghost use Rattle.shore_locks.specs.Orderly.{IsOrderly};
 
 use crate::answers::{Requested, Tried};
+use crate::counted::Counted;
 use crate::findings::{Finding, check_request};
 use crate::listings::Requests;
-use crate::nodes::Nodes;
 use crate::queues::{Holders, Waiters};
 use crate::{changes, searches};
 use shore_model::Request;
@@ -19,7 +19,7 @@ use std::marker::Model;
 /// What each transaction holds and wants of each granule. There is one node (lock request block) for each pair of the two.
 #[derive(Drop)]
 pub struct LockTable {
-    nodes: Nodes,
+    nodes: Counted,
 }
 
 impl Model for LockTable {
@@ -40,7 +40,7 @@ impl LockTable {
     pub fn new(alloc: Global, limit: usize) -> Result<LockTable, AllocError>
         ensures { IfOk result (λ table. table ≡ record { limit = limit; requests = [] }) }
     {
-        let nodes = Nodes::new(alloc, limit)?;
+        let nodes = Counted::new(alloc, limit)?;
         Ok(LockTable { nodes })
     }
 
@@ -57,35 +57,35 @@ impl LockTable {
     pub fn held(&self, txn: TxnId, granule: Granule) -> Option<Mode>
         ensures { result ≡ mode_held txn granule self.now.requests }
     {
-        searches::mode_held(&self.nodes, txn, &granule)
+        searches::mode_held(self.nodes.nodes(), txn, &granule)
     }
 
     /// Whether a transaction waits.
     pub fn is_waiting(&self, txn: TxnId) -> bool
         ensures { result ≡ is_waiting txn self.now.requests }
     {
-        searches::waiting_request(&self.nodes, txn).is_some()
+        searches::waiting_request(self.nodes.nodes(), txn).is_some()
     }
 
     /// The request with which a transaction waits.
     pub fn waiting_request(&self, txn: TxnId) -> Option<Request>
         ensures { result ≡ waiting_request txn self.now.requests }
     {
-        searches::waiting_request(&self.nodes, txn)
+        searches::waiting_request(self.nodes.nodes(), txn)
     }
 
     /// Those that hold a granule and want nothing, in the order of its queue.
     pub fn holders(&self, granule: Granule) -> Holders<'_>
         ensures { result ≡ holders_at granule self.now.requests }
     {
-        Holders::new(&self.nodes, granule)
+        Holders::new(self.nodes.nodes(), granule)
     }
 
     /// Those that wait for a granule, in the order of its queue: conversions, which hold it too, and then new waiters.
     pub fn waiters(&self, granule: Granule) -> Waiters<'_>
         ensures { result ≡ waiters_at granule self.now.requests }
     {
-        Waiters::new(&self.nodes, granule)
+        Waiters::new(self.nodes.nodes(), granule)
     }
 
     /// Asks for a granule in a mode, with what the transaction holds of it already. It is granted at once where the transaction
@@ -141,14 +141,14 @@ impl LockTable {
     pub fn requests_of(&self, txn: TxnId) -> Requests<'_>
         ensures { result ≡ requests_by txn self.now.requests }
     {
-        Requests::new(&self.nodes, txn)
+        Requests::new(self.nodes.nodes(), txn)
     }
 
     /// A transaction waits no more: what it waited for is given up, and what it holds stays. Those behind it may be granted.
     pub fn cancel(&mut self, txn: TxnId)
         ensures { self.new ≡ record { limit = self.old.limit; requests = cancelled txn self.old.requests } }
     {
-        if let Some(request) = searches::waiting_request(&self.nodes, txn) {
+        if let Some(request) = searches::waiting_request(self.nodes.nodes(), txn) {
             changes::take_back(&mut self.nodes, &request);
         }
     }

@@ -6,7 +6,7 @@ use Rattle.shore_model.specs.Requests.{AreRequests, are_alike}
 use Rattle.shore_locks.specs.Grants.{removed}
 use Rattle.shore_locks.specs.Nodes.{alive, requests_in}
 use Rattle.shore_locks.proofs.NodeSteps.{found_there, found_within, less_requests, less_linked, more_requests, more_linked, node_any, none_of_any, on_some, place_is, search_found, search_none, room_same}
-use Rattle.shore_locks.specs.Tables.{Table}
+use Rattle.shore_locks.specs.Tallies.{Stored}
 use Rattle.shore_locks.proofs.nodes.Nodes.move_last.Goals as goal
 
 pub unlink_node-requires-clause-queue_node : goal.unlink_node-requires-clause-queue_node
@@ -61,18 +61,18 @@ returns-in-Some-clause-items c =
     (on_some (slab_len c.try_remove.new.self + 1 ≡ slab_len c.self.inside.slots) c.try_remove.result there c.try_remove.ensures.len)
     c.unlink_node.ensures.queues c.unlink_node.ensures.lists c.unlink_node.ensures.owners c.unlink_node.ensures.queue_nodes c.unlink_node.ensures.list_nodes c.unlink_node.ensures.owner_nodes c.and-gone.ensures in
     let next = on_some (c.try_remove.new.self.vacant_key ≡ c.saturating_sub-key.result) c.try_remove.result there c.try_remove.ensures.key_is_next in (
-      ap (λ rs. list_any (λ q. are_alike q c.args.request.now) rs) (sym (ap (λ (t : Table). t.requests) c.self.view_is)) ∙ node_any c.self.inside.heads c.self.inside.slots (alive c.self.inside.history.items) c.args.request.now c.in-Some.node alike_node,
+      ap (λ rs. list_any (λ q. are_alike q c.args.request.now) rs) (sym (ap (λ (t : Stored). t.requests) c.self.view_is)) ∙ node_any c.self.inside.heads c.self.inside.slots (alive c.self.inside.history.items) c.args.request.now c.in-Some.node alike_node,
       more_requests c.self.inside.heads c.try_remove.new.self c.insert.new.slots c.unlink_node.new.queues c.unlink_node.new.lists c.unlink_node.new.owners c.and-gone.result.items c.and-self-inside.result.items c.args.request.now c.saturating_sub-key.result gone
           c.try_remove.ensures.updates.changed (subst (λ k. Updates c.try_remove.new.self c.insert.new.slots k (Some c.args.request.now)) (c.insert.ensures.key ∙ next) c.insert.ensures.updates) c.and-self-inside.ensures
           ∙ ap (λ xs. xs ++ c.args.request.now ∷ [])
           (less_requests c.self.inside.heads c.self.inside.slots c.self.inside.queues c.self.inside.lists c.self.inside.owners c.self.inside.history.items c.args.request.now c.in-Some.node c.saturating_sub-key.result
-          c.try_remove.new.self c.and-gone.result.items (subst AreRequests (sym (ap (λ (t : Table). t.requests) c.self.view_is)) c.requires) alike_node c.saturating_sub-key.ensures c.try_remove.ensures.updates c.and-gone.ensures
-          ∙ ap (removed c.args.request.now) (ap (λ (t : Table). t.requests) c.self.view_is)),
+          c.try_remove.new.self c.and-gone.result.items (subst AreRequests (sym (ap (λ (t : Stored). t.requests) c.self.view_is)) c.requires) alike_node c.saturating_sub-key.ensures c.try_remove.ensures.updates c.and-gone.ensures
+          ∙ ap (removed c.args.request.now) (ap (λ (t : Stored). t.requests) c.self.view_is)),
     )
 
 pub returns-in-None-clause-items : goal.returns-in-None-clause-items
 returns-in-None-clause-items c = (
-  ap (λ rs. list_any (λ q. are_alike q c.args.request.now) rs) (sym (ap (λ (t : Table). t.requests) c.self.view_is))
+  ap (λ rs. list_any (λ q. are_alike q c.args.request.now) rs) (sym (ap (λ (t : Stored). t.requests) c.self.view_is))
       ∙ none_of_any (λ q. are_alike q c.args.request.now) (requests_in c.self.inside.slots (alive c.self.inside.history.items))
       (search_none c.self.inside.heads c.self.inside.slots c.self.inside.queues c.self.inside.lists c.self.inside.owners (alive c.self.inside.history.items) c.args.request.now c.owner_head-head.result c.new-walk.result c.self.invariant.0 c.owner_head-head.ensures.is c.new-walk.ensures c.in-None.ensures),
   refl,

@@ -5,7 +5,7 @@ use Rattle.shore_model.specs.Requests.{AreRequests, requests_by}
 use Rattle.shore_locks.specs.Grants.{removed}
 use Rattle.shore_locks.specs.Nodes.{alive}
 use Rattle.shore_locks.proofs.NodeSteps.{first_node, first_request, found_there, found_within, less_requests, less_linked, no_request, on_some, room_same}
-use Rattle.shore_locks.specs.Tables.{Table}
+use Rattle.shore_locks.specs.Tallies.{Stored}
 use Rattle.shore_locks.proofs.nodes.Nodes.pop_first.Goals as goal
 
 pub unlink_node-requires-clause-queue_node : goal.unlink_node-requires-clause-queue_node
@@ -32,15 +32,15 @@ pub returns-in-Some-clause-items : goal.returns-in-Some-clause-items
 returns-in-Some-clause-items c =
     let alike_node = first_node c.self.inside.heads c.self.inside.slots c.self.inside.queues c.self.inside.lists c.self.inside.owners (alive c.self.inside.history.items) c.args.txn c.list_head-head.result c.new-walk.result (c.in-Some.node, c.in-Some.request) c.self.invariant.0 c.list_head-head.ensures.is c.new-walk.ensures c.in-Some.ensures in (
       first_request c.self.inside.heads c.self.inside.slots c.self.inside.queues c.self.inside.lists c.self.inside.owners (alive c.self.inside.history.items) c.args.txn c.list_head-head.result c.new-walk.result (c.in-Some.node, c.in-Some.request) c.self.invariant.0 c.list_head-head.ensures.is c.new-walk.ensures c.in-Some.ensures
-          ∙ ap (λ rs. slice_get (requests_by c.args.txn rs) 0) (ap (λ (t : Table). t.requests) c.self.view_is),
+          ∙ ap (λ rs. slice_get (requests_by c.args.txn rs) 0) (ap (λ (t : Stored). t.requests) c.self.view_is),
       less_requests c.self.inside.heads c.self.inside.slots c.self.inside.queues c.self.inside.lists c.self.inside.owners c.self.inside.history.items c.in-Some.request c.in-Some.node c.saturating_sub-key.result
-          c.try_remove.new.self c.and-self-inside.result.items (subst AreRequests (sym (ap (λ (t : Table). t.requests) c.self.view_is)) c.requires) alike_node c.saturating_sub-key.ensures c.try_remove.ensures.updates c.and-self-inside.ensures
-          ∙ ap (removed c.in-Some.request) (ap (λ (t : Table). t.requests) c.self.view_is),
+          c.try_remove.new.self c.and-self-inside.result.items (subst AreRequests (sym (ap (λ (t : Stored). t.requests) c.self.view_is)) c.requires) alike_node c.saturating_sub-key.ensures c.try_remove.ensures.updates c.and-self-inside.ensures
+          ∙ ap (removed c.in-Some.request) (ap (λ (t : Stored). t.requests) c.self.view_is),
     )
 
 pub returns-in-None-clause-items : goal.returns-in-None-clause-items
 returns-in-None-clause-items c = (
   no_request c.self.inside.heads c.self.inside.slots c.self.inside.queues c.self.inside.lists c.self.inside.owners (alive c.self.inside.history.items) c.args.txn c.list_head-head.result c.new-walk.result c.self.invariant.0 c.list_head-head.ensures.is c.new-walk.ensures c.in-None.ensures
-      ∙ ap (λ rs. slice_get (requests_by c.args.txn rs) 0) (ap (λ (t : Table). t.requests) c.self.view_is),
+      ∙ ap (λ rs. slice_get (requests_by c.args.txn rs) 0) (ap (λ (t : Stored). t.requests) c.self.view_is),
   refl,
 )

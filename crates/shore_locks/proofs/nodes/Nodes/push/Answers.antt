@@ -2,13 +2,13 @@ use Rattle.std.proofs.Common.{◌<◌, ◌+◌, length, refl, ◌++◌, ◌∷�
 use Rattle.shore_locks.specs.Nodes.{alive, request_at, requests_in}
 use Rattle.slab.specs.Slab.{slab_len}
 use Rattle.std.proofs.lemmas.List.{length-map}
-use Rattle.shore_locks.specs.Tables.{Table}
+use Rattle.shore_locks.specs.Tallies.{Stored}
 use Rattle.shore_locks.proofs.NodeSteps.{more_requests, more_linked, room_left, room_same}
 use Rattle.shore_locks.proofs.nodes.Nodes.push.Goals as goal
 
 pub insert-key-requires : goal.insert-key-requires
 insert-key-requires c =
-    let short = subst (λ (t : Table). length t.requests < t.limit) (sym c.self.view_is) c.requires in
+    let short = subst (λ (t : Stored). length t.requests < t.limit) (sym c.self.view_is) c.requires in
     room_left c.self.inside.limit c.self.inside.heads c.self.inside.slots.capacity _ _ _ (length (requests_in c.self.inside.slots (alive c.self.inside.history.items))) (slab_len c.self.inside.slots) c.self.invariant.1
     (c.self.invariant.0.count ∙ sym (length-map (alive c.self.inside.history.items) (request_at c.self.inside.slots))) short
 
@@ -24,4 +24,4 @@ pub returns-clause-items : goal.returns-clause-items
 returns-clause-items c =
     more_requests c.self.inside.heads c.self.inside.slots c.insert-key.new.slots c.self.inside.queues c.self.inside.lists c.self.inside.owners c.self.inside.history.items c.and-self-inside.result.items c.args.request.now c.insert-key.result c.self.invariant.0
     c.insert-key.ensures.vacant c.insert-key.ensures.updates c.and-self-inside.ensures
-    ∙ ap (λ (t : Table). t.requests ++ c.args.request.now ∷ []) c.self.view_is
+    ∙ ap (λ (t : Stored). t.requests ++ c.args.request.now ∷ []) c.self.view_is

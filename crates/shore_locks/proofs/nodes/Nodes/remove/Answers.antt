@@ -6,7 +6,7 @@ use Rattle.shore_locks.specs.Nodes.{alive, requests_in}
 use Rattle.shore_locks.proofs.NodeSteps.{found_there, found_within, less_requests, less_linked, on_some, search_found, search_none, room_same}
 use Rattle.shore_locks.proofs.Others.{removed_none}
 use Rattle.std.specs.Prelude.{is_some}
-use Rattle.shore_locks.specs.Tables.{Table}
+use Rattle.shore_locks.specs.Tallies.{Stored}
 use Rattle.shore_locks.proofs.nodes.Nodes.remove.Goals as goal
 
 pub unlink_node-requires-clause-queue_node : goal.unlink_node-requires-clause-queue_node
@@ -39,12 +39,12 @@ pub returns-in-Some-clause-items : goal.returns-in-Some-clause-items
 returns-in-Some-clause-items c =
     let alike_node = search_found c.self.inside.heads c.self.inside.slots c.self.inside.queues c.self.inside.lists c.self.inside.owners (alive c.self.inside.history.items) c.args.request.now c.owner_head-head.result c.in-Some.node c.new-walk.result c.self.invariant.0 c.owner_head-head.ensures.is c.new-walk.ensures c.in-Some.ensures in
     less_requests c.self.inside.heads c.self.inside.slots c.self.inside.queues c.self.inside.lists c.self.inside.owners c.self.inside.history.items c.args.request.now c.in-Some.node c.saturating_sub-key.result
-    c.try_remove.new.self c.and-self-inside.result.items (subst AreRequests (sym (ap (λ (t : Table). t.requests) c.self.view_is)) c.requires) alike_node c.saturating_sub-key.ensures c.try_remove.ensures.updates c.and-self-inside.ensures
-    ∙ ap (removed c.args.request.now) (ap (λ (t : Table). t.requests) c.self.view_is)
+    c.try_remove.new.self c.and-self-inside.result.items (subst AreRequests (sym (ap (λ (t : Stored). t.requests) c.self.view_is)) c.requires) alike_node c.saturating_sub-key.ensures c.try_remove.ensures.updates c.and-self-inside.ensures
+    ∙ ap (removed c.args.request.now) (ap (λ (t : Stored). t.requests) c.self.view_is)
 
 pub returns-in_default-clause-items : goal.returns-in_default-clause-items
 returns-in_default-clause-items c =
-    sym (ap (removed c.args.request.now) (sym (ap (λ (t : Table). t.requests) c.self.view_is))
+    sym (ap (removed c.args.request.now) (sym (ap (λ (t : Stored). t.requests) c.self.view_is))
     ∙ removed_none c.args.request.now (requests_in c.self.inside.slots (alive c.self.inside.history.items))
     (search_none c.self.inside.heads c.self.inside.slots c.self.inside.queues c.self.inside.lists c.self.inside.owners (alive c.self.inside.history.items) c.args.request.now c.owner_head-head.result c.new-walk.result c.self.invariant.0 c.owner_head-head.ensures.is c.new-walk.ensures c.in_default.ensures)
-    ∙ (ap (λ (t : Table). t.requests) c.self.view_is))
+    ∙ (ap (λ (t : Stored). t.requests) c.self.view_is))
