@@ -1,20 +1,21 @@
 -- The node of a request among the nodes.
-use Rattle.std.proofs.Common.{◌≡◌, ◌<◌, ◌≤◌, ◌+◌, ◌%◌, inl, inr, ⊎_elim, ℕ, List, [], ◌∷◌, Bool, true, false, None, Some, refl, ap, sym, subst, ◌∙◌, length, map, arith}
-use Rattle.std.specs.Prelude.{filter, not, ◌==◌, is_some, find}
+use Rattle.std.proofs.Common.{◌≡◌, ◌<◌, ◌+◌, inl, inr, ⊎_elim, ℕ, List, [], ◌∷◌, Bool, true, false, None, Some, refl, ap, sym, subst, ◌∙◌, length, map}
+use Rattle.std.specs.Prelude.{filter, not, ◌==◌, find}
 use Rattle.std.proofs.lemmas.Bool.Decides.{Decides-eqb}
-use Rattle.slab.specs.Slab.{Slab, Updates, get, slab_len}
+use Rattle.slab.specs.Slab.{Slab, Updates}
 use Rattle.shore_model.specs.declared.requests.Request.{Request}
 use Rattle.shore_model.specs.Requests.{are_alike, AreRequests}
 use Rattle.shore_rings.specs.declared.ring.Link.{Link}
-use Rattle.shore_rings.specs.Rings.{In, IsRing}
+use Rattle.shore_rings.specs.Rings.{In}
 use Rattle.shore_locks.specs.Grants.{removed, replaced}
-use Rattle.shore_locks.specs.Nodes.{IsLinked, in_bucket, nodes_of, queue_of, list_of, request_at, request_or, requests_in, without, granule_number}
+use Rattle.shore_locks.specs.Nodes.{IsLinked, in_bucket, nodes_of, list_of, owner_head, owner_of, queue_of, request_at, request_or, requests_in, without}
 use Rattle.shore_locks.proofs.Entering.{found_in, found_none}
+use Rattle.shore_locks.proofs.Spreads.{list_small, owner_small, queue_small}
 use Rattle.shore_locks.proofs.Keys.{alike-Decides, alike-swap, alike_by_keys, in_place, in_place-no, in_place-yes}
 use Rattle.shore_locks.proofs.Members as members
 use Rattle.shore_locks.proofs.Members.{either, filter-yes, filter-no, In-All}
 use Rattle.shore_locks.proofs.NodeLemmas.{pair_at}
-use Rattle.shore_locks.proofs.Links.{filter_in, holds_same, in_filter, from_member}
+use Rattle.shore_locks.proofs.Links.{filter_in, in_filter, from_member}
 
 pub in_map : {A : Type 0} (f : ℕ → A) (ks : List ℕ) (k : ℕ) → In k ks → members.In (f k) (map f ks)
 in_map f [] k h = absurd h
@@ -42,7 +43,7 @@ apart_from slots ks r one key h alike k i other =
     let e = (alike-Decides (request_at slots key) r).0 alike in
     alike_by_keys (request_at slots k) r (request_at slots k) (request_at slots key) refl refl (sym e.0) (sym e.1) ∙ apart_keys slots ks one key k h i other
 
-filter_mapped : (p : Request → Bool) (f : ℕ → Request) (q : ℕ → Bool) (ks : List ℕ) → ((k : ℕ) → In k ks → p (f k) ≡ q k) → filter p (map f ks) ≡ map f (filter q ks)
+pub filter_mapped : (p : Request → Bool) (f : ℕ → Request) (q : ℕ → Bool) (ks : List ℕ) → ((k : ℕ) → In k ks → p (f k) ≡ q k) → filter p (map f ks) ≡ map f (filter q ks)
 filter_mapped p f q [] same = refl
 filter_mapped p f q (k ∷ ks) same =
     ⊎_elim
@@ -100,53 +101,28 @@ found_node heads slots bucket b ks r alike_node is =
       alike = ap (λ (p : ℕ × Request). are_alike p.1 r) m.2 ∙ f.1;
     }
 
-pub no_node : (heads : ℕ) (slots : Slab Request) (ks : List ℕ) (r : Request) → find (λ (p : ℕ × Request). are_alike p.1 r) (map (pair_at heads slots) (in_bucket (queue_of heads slots) (granule_number r.granule % heads) ks)) ≡ None → (q : Request) → members.In q (requests_in slots ks) → are_alike q r ≡ false
+pub no_node : (heads : ℕ) (slots : Slab Request) (ks : List ℕ) (r : Request) → find (λ (p : ℕ × Request). are_alike p.1 r) (map (pair_at heads slots) (in_bucket (owner_of heads slots) (owner_head heads r.txn r.granule) ks)) ≡ None → (q : Request) → members.In q (requests_in slots ks) → are_alike q r ≡ false
 no_node heads slots ks r none q h =
     let m = from_map (request_at slots) ks q h in
     ⊎_elim
     (λ yes.
-    let same = ((alike-Decides q r).0 yes).1 in
-    let bucket : (queue_of heads slots m.0 == granule_number r.granule % heads) ≡ true =
-    (Decides-eqb (queue_of heads slots m.0) (granule_number r.granule % heads)).1 (ap (λ (x : Request). granule_number x.granule % heads) m.2 ∙ ap (λ g. granule_number g % heads) same) in
-    let there = in_map (pair_at heads slots) (in_bucket (queue_of heads slots) (granule_number r.granule % heads) ks) m.0 (filter_in (λ k. queue_of heads slots k == granule_number r.granule % heads) ks m.0 m.1 bucket) in
-    let refuted = found_none (λ (p : ℕ × Request). are_alike p.1 r) (map (pair_at heads slots) (in_bucket (queue_of heads slots) (granule_number r.granule % heads) ks)) none (pair_at heads slots m.0) there in
+    let same = (alike-Decides q r).0 yes in
+    let bucket : (owner_of heads slots m.0 == owner_head heads r.txn r.granule) ≡ true =
+    (Decides-eqb (owner_of heads slots m.0) (owner_head heads r.txn r.granule)).1
+    (ap (λ (x : Request). owner_head heads x.txn x.granule) m.2 ∙ ap (λ t. owner_head heads t q.granule) same.0 ∙ ap (λ g. owner_head heads r.txn g) same.1) in
+    let there = in_map (pair_at heads slots) (in_bucket (owner_of heads slots) (owner_head heads r.txn r.granule) ks) m.0 (filter_in (λ k. owner_of heads slots k == owner_head heads r.txn r.granule) ks m.0 m.1 bucket) in
+    let refuted = found_none (λ (p : ℕ × Request). are_alike p.1 r) (map (pair_at heads slots) (in_bucket (owner_of heads slots) (owner_head heads r.txn r.granule) ks)) none (pair_at heads slots m.0) there in
     let also : are_alike (request_at slots m.0) r ≡ true = ap (λ x. are_alike x r) m.2 ∙ yes in
     absurd (let f : are_alike (request_at slots m.0) r ≡ false = refuted in cc))
     (λ no. no)
     (either (are_alike q r))
 
--- the place of a node is there in both rings
-pub node_within : (heads : ℕ) (slots : Slab Request) (queues lists : List Link) (ks : List ℕ) (key : ℕ) → IsLinked heads slots queues lists ks → In key ks → queue_of heads slots key < heads → list_of heads slots key < heads → (heads + key < length queues) × (heads + key < length lists)
-node_within heads slots queues lists ks key are_linked h small_queue small_list =
+-- the place of a node is there in its rings
+pub node_within : (heads : ℕ) (slots : Slab Request) (queues lists owners : List Link) (ks : List ℕ) (key : ℕ) → IsLinked heads slots queues lists owners ks → In key ks → (heads + key < length queues) × (heads + key < length lists) × (heads + key < length owners)
+node_within heads slots queues lists owners ks key are_linked h =
     let in_places : (bucket : ℕ → ℕ) → In (heads + key) (nodes_of heads (in_bucket bucket (bucket key) ks)) = λ bucket.
     from_member (heads + key) (nodes_of heads (in_bucket bucket (bucket key) ks)) (in_map (λ k. heads + k) (in_bucket bucket (bucket key) ks) key (filter_in (λ k. bucket k == bucket key) ks key h ((Decides-eqb (bucket key) (bucket key)).1 refl))) in (
-      (are_linked.queues_hold (queue_of heads slots key) small_queue).within (heads + key) (inr (in_places (queue_of heads slots))),
-      (are_linked.lists_hold (list_of heads slots key) small_list).within (heads + key) (inr (in_places (list_of heads slots))),
+      (are_linked.queues_hold (queue_of heads slots key) (queue_small (request_at slots key).granule heads are_linked.some_heads)).within (heads + key) (inr (in_places (queue_of heads slots))),
+      (are_linked.lists_hold (list_of heads slots key) (list_small (request_at slots key).txn heads are_linked.some_heads)).within (heads + key) (inr (in_places (list_of heads slots))),
+      (are_linked.owners_hold (owner_of heads slots key) (owner_small (request_at slots key).txn (request_at slots key).granule heads are_linked.some_heads)).within (heads + key) (inr (in_places (owner_of heads slots))),
     )
-
--- nodes that are as they were stay linked
-pub linked_same : (heads : ℕ) (slots new : Slab Request) (queues lists : List Link) (ks : List ℕ) → ((k : ℕ) → get new k ≡ get slots k) → slab_len new ≡ slab_len slots → IsLinked heads slots queues lists ks → IsLinked heads new queues lists ks
-linked_same heads slots new queues lists ks same len are_linked = record {
-  some_heads = are_linked.some_heads;
-  distinct = are_linked.distinct;
-  there = λ k h. ap is_some (same k) ∙ are_linked.there k h;
-  count = len ∙ are_linked.count;
-  queues_hold = holds_same queues heads (queue_of heads slots) (queue_of heads new) ks (λ k h. ap (λ (x : Request). granule_number x.granule % heads) (ap request_or (sym (same k)))) are_linked.queues_hold;
-  lists_hold = holds_same lists heads (list_of heads slots) (list_of heads new) ks (λ k h. ap (λ (x : Request). x.txn % heads) (ap request_or (sym (same k)))) are_linked.lists_hold;
-  queue_heads = are_linked.queue_heads;
-  list_heads = are_linked.list_heads;
-}
-
--- .. and so if the rings have places more
-pub linked_wider : (heads : ℕ) (slots : Slab Request) (queues lists queues_now lists_now : List Link) (ks : List ℕ) → ((head : ℕ) (xs : List ℕ) → IsRing queues head xs → IsRing queues_now head xs) → ((head : ℕ) (xs : List ℕ) → IsRing lists head xs → IsRing lists_now head xs)
-    → length queues ≤ length queues_now → length lists ≤ length lists_now → IsLinked heads slots queues lists ks → IsLinked heads slots queues_now lists_now ks
-linked_wider heads slots queues lists queues_now lists_now ks more_queues more_lists long_queues long_lists are_linked = record {
-  some_heads = are_linked.some_heads;
-  distinct = are_linked.distinct;
-  there = are_linked.there;
-  count = are_linked.count;
-  queues_hold = λ b small. more_queues b (nodes_of heads (in_bucket (queue_of heads slots) b ks)) (are_linked.queues_hold b small);
-  lists_hold = λ b small. more_lists b (nodes_of heads (in_bucket (list_of heads slots) b ks)) (are_linked.lists_hold b small);
-  queue_heads = let h = are_linked.queue_heads in omega arith;
-  list_heads = let h = are_linked.list_heads in omega arith;
-}

@@ -2,9 +2,8 @@
 use Rattle.std.proofs.Common.{◌≡◌, ⊎_elim, ℕ, List, [], ◌∷◌, Bool, true, false, refl, ap, sym, ◌∙◌}
 use Rattle.std.specs.Prelude.{filter, find, is_some, ◌&&◌, ◌==◌}
 use Rattle.shore_types.specs.declared.locking.Granule.{Granule}
-use Rattle.shore_types.specs.Locking.{same_granule}
 use Rattle.shore_model.specs.declared.requests.Request.{Request}
-use Rattle.shore_model.specs.Requests.{requests_at, requests_by}
+use Rattle.shore_model.specs.Requests.{requests_by}
 use Rattle.shore_locks.specs.Tables.{is_for, request_for, waiting_request}
 use Rattle.shore_locks.proofs.Entering.{both_true, find_here, find_step}
 use Rattle.shore_locks.proofs.Members.{either, filter-no, filter-yes}
@@ -19,10 +18,9 @@ find_filtered p q inside (x ∷ xs) =
     ∙ sym (find_step p x xs (⊎_elim (λ passes. absurd (let yes = inside x passes in let f : q x ≡ false = no in cc)) (λ fails. fails) (either (p x)))))
     (either (q x))
 
-pub request_for_same : (t : ℕ) (g : Granule) (xs ys : List Request) → requests_at g xs ≡ requests_at g ys → request_for t g xs ≡ request_for t g ys
+pub request_for_same : (t : ℕ) (g : Granule) (xs ys : List Request) → filter (is_for t g) xs ≡ filter (is_for t g) ys → request_for t g xs ≡ request_for t g ys
 request_for_same t g xs ys same =
-    let inside = λ (x : Request) (e : is_for t g x ≡ true). (both_true (x.txn == t) (same_granule x.granule g) e).1 in
-    sym (find_filtered (is_for t g) (λ r. same_granule r.granule g) inside xs) ∙ ap (find (is_for t g)) same ∙ find_filtered (is_for t g) (λ r. same_granule r.granule g) inside ys
+    sym (find_filtered (is_for t g) (is_for t g) (λ x e. e) xs) ∙ ap (find (is_for t g)) same ∙ find_filtered (is_for t g) (is_for t g) (λ x e. e) ys
 
 pub waiting_same : (t : ℕ) (xs ys : List Request) → requests_by t xs ≡ requests_by t ys → waiting_request t xs ≡ waiting_request t ys
 waiting_same t xs ys same =

@@ -8,8 +8,9 @@ use Rattle.std.proofs.lemmas.Bool.Decides.{Decides-eqb}
 use Rattle.shore_types.specs.declared.locking.Granule.{Granule}
 use Rattle.shore_model.specs.declared.requests.Request.{Request}
 use Rattle.shore_model.specs.Requests.{are_alike, AreRequests, requests_by, placed_last}
-use Rattle.shore_locks.specs.Tables.{waiters_at, request_for}
-use Rattle.shore_locks.specs.Grants.{removed, replaced, put, granted, withdrawn, passed, taken_back, given_up, released}
+use Rattle.shore_locks.specs.Findings.{FindsNode}
+use Rattle.shore_locks.specs.Tables.{Table, waiters_at, request_for}
+use Rattle.shore_locks.specs.Grants.{is_full, removed, replaced, put, granted, withdrawn, passed, taken_back, given_up, released}
 use Rattle.shore_locks.proofs.Members.{In, either, In-All, In-filter, filter-yes, filter-no, filter-all, filter-swap}
 use Rattle.shore_locks.proofs.Keys.{in_place, in_place-keys, alike-Decides, alike-self, alike-swap, AreRequests-filter, AreRequests-replaced}
 use Rattle.shore_locks.proofs.Passes.{filter_by_key, first_of}
@@ -147,3 +148,11 @@ length-put_within r rs limit most room =
     (λ short. let f = length-replaced r rs in let g = length_push rs r in
     ⊎_elim (λ yes. let e = ap length (put_in_place r rs yes) in omega arith) (λ none. let e = ap length (put_last r rs none) in omega arith) (either (list_any (λ q. are_alike q r) rs)))
     (short_of (is_some (request_for r.txn r.granule rs)) (length rs) limit most room)
+
+-- if the table is not full for a transaction and a granule, its request has a node or one is left
+pub node_found : (table : Table) (r : Request) → length table.requests ≤ table.limit → is_full table r.txn r.granule ≡ false → FindsNode table r
+node_found table r most room none =
+    ⊎_elim
+    (λ has. absurd (let yes = has_one r table.requests has in cc))
+    (λ short. short)
+    (short_of (is_some (request_for r.txn r.granule table.requests)) (length table.requests) table.limit most room)

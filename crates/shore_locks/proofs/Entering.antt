@@ -74,11 +74,11 @@ tt_for : (held : Option Mode) → StandBoth None held
 tt_for None = tt
 tt_for (Some m) = tt
 
-held_in : (o : Option Request) (m : Mode) → option_and_then (λ (r : Request). r.held) o ≡ Some m → (e : Request) × (o ≡ Some e) × (e.held ≡ Some m)
+pub held_in : (o : Option Request) (m : Mode) → option_and_then (λ (r : Request). r.held) o ≡ Some m → (e : Request) × (o ≡ Some e) × (e.held ≡ Some m)
 held_in None m e = cc
 held_in (Some r) m e = (r, refl, e)
 
-rises_to_wanted : (held : Option Mode) (mode : Mode) → Rises held (Some (wanted_mode held mode))
+pub rises_to_wanted : (held : Option Mode) (mode : Mode) → Rises held (Some (wanted_mode held mode))
 rises_to_wanted None mode = tt
 rises_to_wanted (Some h) mode = (sup_least h mode).left
 

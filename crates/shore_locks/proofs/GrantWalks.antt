@@ -1,5 +1,5 @@
 -- A sweep over the nodes of a granule's queue grants its new waiters in turn.
-use Rattle.std.proofs.Common.{◌≡◌, ◌⊎◌, ◌++◌, ◌<◌, ◌≤◌, ◌+◌, ◌-◌, ◌%◌, inl, inr, ⊎_elim, ℕ, List, [], ◌∷◌, Bool, true, false, Option, None, Some, refl, ap, sym, subst, ◌∙◌, length, map, arith}
+use Rattle.std.proofs.Common.{◌≡◌, ◌⊎◌, ◌++◌, ◌<◌, ◌≤◌, ◌+◌, ◌-◌, inl, inr, ⊎_elim, ℕ, List, [], ◌∷◌, Bool, true, false, Option, None, Some, refl, ap, sym, subst, ◌∙◌, length, map, arith}
 use Rattle.std.specs.Prelude.{filter, not, ◌==◌, ◌&&◌, ◌||◌, is_some, slice_get}
 use Rattle.std.specs.List.{list_any}
 use Rattle.std.proofs.lemmas.Bool.Decides.{Decides-eqb}
@@ -14,7 +14,7 @@ use Rattle.shore_rings.specs.declared.ring.Link.{Link}
 use Rattle.shore_rings.specs.Rings.{Distinct, In, Way, after_at, before_at}
 use Rattle.shore_locks.specs.declared.openings.Openings.{Openings}
 use Rattle.shore_locks.specs.Grants.{can_be_granted, granted, granted_in_turn, is_refused, refuses, replaced}
-use Rattle.shore_locks.specs.Nodes.{IsLinked, granule_number, in_bucket, pairs_from, nodes_of, queue_of, request_at, request_or, requests_in}
+use Rattle.shore_locks.specs.Nodes.{IsLinked, in_bucket, queue_head, pairs_from, nodes_of, queue_of, request_at, request_or, requests_in}
 use Rattle.shore_locks.specs.Tables.{waiters_at}
 use Rattle.shore_locks.specs.Granting.{CanWalk, Opens, all_grant, allow, is_open, new_waiters}
 use Rattle.shore_locks.proofs.AlikeNodes.{in_map, replaced_is}
@@ -25,7 +25,7 @@ use Rattle.shore_locks.proofs.Keys.{AreRequests-filter, AreRequests-replaced, al
 use Rattle.shore_locks.proofs.Members as members
 use Rattle.shore_locks.proofs.Members.{either, filter-no, filter-yes, In-All}
 use Rattle.shore_locks.proofs.NodeLemmas.{filter_of_bucket, queue_requests, requests_same, linked_set}
-use Rattle.shore_locks.proofs.NodeSteps.{mod_small}
+use Rattle.shore_locks.proofs.Spreads.{queue_small}
 use Rattle.shore_locks.proofs.Others.{replaced_none}
 use Rattle.shore_locks.proofs.Passes.{requests_at-replaced}
 use Rattle.shore_locks.proofs.Links.{distinct_filter, in_filter}
@@ -99,7 +99,7 @@ new_can w mode xs one h none wants at =
     (either (q.txn == w.txn))))
 
 -- how far a sweep has come: the keys that are left, behind a place of the ring
-pub record GrantWalk (heads : ℕ) (first slots : Slab Request) (queues lists : List Link) (head : ℕ) (g : Granule) (openings : Openings) (ks : List ℕ) (node left : ℕ) : Type 0 where
+pub record GrantWalk (heads : ℕ) (first slots : Slab Request) (queues lists owners : List Link) (head : ℕ) (g : Granule) (openings : Openings) (ks : List ℕ) (node left : ℕ) : Type 0 where
   pub previous : ℕ
   pub rest : List ℕ
   pub way : Way (after_at queues) (before_at queues) previous (nodes_of heads rest) head
@@ -107,18 +107,18 @@ pub record GrantWalk (heads : ℕ) (first slots : Slab Request) (queues lists : 
   pub within : (k : ℕ) → In k rest → In k ks
   pub distinct : Distinct rest
   pub few : length rest ≤ left
-  pub are_linked : IsLinked heads slots queues lists ks
+  pub are_linked : IsLinked heads slots queues lists owners ks
   pub one : AreRequests (requests_in slots ks)
   pub opens : Opens openings (requests_at g (requests_in slots ks))
   pub target : granted_in_turn (new_waiters g (requests_in slots rest)) (requests_in slots ks) ≡ granted_in_turn (new_waiters g (requests_in first ks)) (requests_in first ks)
 
-module _ (heads : ℕ) (first : Slab Request) (queues lists : List Link) (head : ℕ) (g : Granule) (ks : List ℕ) where
-  pub walk_begins : (openings : Openings) (node left : ℕ) → CanWalk heads first queues lists head g openings ks → node ≡ after_at queues head → left ≡ slab_len first → GrantWalk heads first first queues lists head g openings ks node left
+module _ (heads : ℕ) (first : Slab Request) (queues lists owners : List Link) (head : ℕ) (g : Granule) (ks : List ℕ) where
+  pub walk_begins : (openings : Openings) (node left : ℕ) → CanWalk heads first queues lists owners head g openings ks → node ≡ after_at queues head → left ≡ slab_len first → GrantWalk heads first first queues lists owners head g openings ks node left
   walk_begins openings node left can begins all =
-      let small : head < heads = subst (λ b. b < heads) (sym can.at) (mod_small (granule_number g) heads can.are_linked.some_heads) in
+      let small : head < heads = subst (λ b. b < heads) (sym can.at) (queue_small g heads can.are_linked.some_heads) in
       let same : requests_at g (requests_in first (in_bucket (queue_of heads first) head ks)) ≡ requests_at g (requests_in first ks) =
       filter_of_bucket (λ r. same_granule r.granule g) (request_at first) (queue_of heads first) head ks
-      (λ k h. ap (λ x. granule_number x % heads) ((same_granule-Decides (request_at first k).granule g).0 h) ∙ sym can.at) in
+      (λ k h. ap (λ x. queue_head heads x) ((same_granule-Decides (request_at first k).granule g).0 h) ∙ sym can.at) in
       let most = length-filter_most (λ k. queue_of heads first k == head) ks in
       let count = can.are_linked.count in
       record {
@@ -151,15 +151,15 @@ pub waiters_are_new : (g : Granule) (rs : List Request) (w : Request) → Some w
 waiters_are_new g rs w first new = sym (ap (λ cs. cs ++ new_waiters g rs) (new_alone g rs w (filter (is_in_group Conversions) (requests_at g rs)) refl first new))
 
 -- what a walk along the ring sees of the holders
-pub can_sweep : (heads : ℕ) (slots : Slab Request) (queues lists : List Link) (ks : List ℕ) (g : Granule) (head : ℕ) (walk : List (ℕ × Request)) (openings : Openings) → IsLinked heads slots queues lists ks → head ≡ granule_number g % heads
-    → AreRequests (requests_in slots ks) → walk ≡ pairs_from (slab_len slots) slots queues heads head (after_at queues head) → Opens openings (requests_at g (map (λ (p : ℕ × Request). p.1) walk)) → CanWalk heads slots queues lists head g openings ks
-can_sweep heads slots queues lists ks g head walk openings are_linked at one is opens = record {
+pub can_sweep : (heads : ℕ) (slots : Slab Request) (queues lists owners : List Link) (ks : List ℕ) (g : Granule) (head : ℕ) (walk : List (ℕ × Request)) (openings : Openings) → IsLinked heads slots queues lists owners ks → head ≡ queue_head heads g
+    → AreRequests (requests_in slots ks) → walk ≡ pairs_from (slab_len slots) slots queues heads head (after_at queues head) → Opens openings (requests_at g (map (λ (p : ℕ × Request). p.1) walk)) → CanWalk heads slots queues lists owners head g openings ks
+can_sweep heads slots queues lists owners ks g head walk openings are_linked at one is opens = record {
   are_linked = are_linked;
   at = at;
   one = one;
   opens = subst (Opens openings)
       (ap (λ w. requests_at g (map (λ (p : ℕ × Request). p.1) w)) (is ∙ ap (λ b. pairs_from (slab_len slots) slots queues heads b (after_at queues b)) at)
-      ∙ queue_requests heads slots queues lists ks g are_linked (mod_small (granule_number g) heads are_linked.some_heads))
+      ∙ queue_requests heads slots queues lists owners ks g are_linked (queue_small g heads are_linked.some_heads))
       opens;
 }
 
@@ -213,13 +213,13 @@ may_come g openings w rs one there at new opens =
     (λ q i. (same_granule-Decides q.granule g).0 (members.In-filter (λ q. same_granule q.granule g) rs q i).1 ∙ sym here)
     ∙ sym (opens mode.0) ∙ sym (allowed_as openings w.wanted mode.0 mode.1)
 
-module _ (heads : ℕ) (first slots : Slab Request) (queues lists : List Link) (head : ℕ) (g : Granule) (openings : Openings) (ks : List ℕ) (node left : ℕ) where
-  pub walk_ends : head < heads → GrantWalk heads first slots queues lists head g openings ks node left → (left ≡ 0) ⊎ (node ≡ head) → requests_in slots ks ≡ granted_in_turn (new_waiters g (requests_in first ks)) (requests_in first ks)
+module _ (heads : ℕ) (first slots : Slab Request) (queues lists owners : List Link) (head : ℕ) (g : Granule) (openings : Openings) (ks : List ℕ) (node left : ℕ) where
+  pub walk_ends : head < heads → GrantWalk heads first slots queues lists owners head g openings ks node left → (left ≡ 0) ⊎ (node ≡ head) → requests_in slots ks ≡ granted_in_turn (new_waiters g (requests_in first ks)) (requests_in first ks)
   walk_ends small s end =
       let empty : s.rest ≡ [] = ⊎_elim (λ none. none_left s.rest left s.few none) (λ round. ended_by queues heads head node s.previous s.rest s.way small s.at round) end in
       ap (λ rest. granted_in_turn (new_waiters g (requests_in slots rest)) (requests_in slots ks)) (sym empty) ∙ s.target
 
-  module _ (s : GrantWalk heads first slots queues lists head g openings ks node left) (on : node ≡ head → ⊥) (some : 0 < left) where
+  module _ (s : GrantWalk heads first slots queues lists owners head g openings ks node left) (on : node ≡ head → ⊥) (some : 0 < left) where
     next : Next heads s.rest node
     next = next_of queues heads head node s.previous s.rest s.way s.at on
 
@@ -239,7 +239,7 @@ module _ (heads : ℕ) (first slots : Slab Request) (queues lists : List Link) (
     key_here key is = let h = next.here in omega (arith, h, is)
 
     -- what is at the place is no new waiter
-    pub walk_passes : (key now : ℕ) → key ≡ node - heads → now ≡ after_at queues node → ((r : Request) → get slots key ≡ Some r → (same_granule r.granule g && is_new r) ≡ false) → GrantWalk heads first slots queues lists head g openings ks now (left - 1)
+    pub walk_passes : (key now : ℕ) → key ≡ node - heads → now ≡ after_at queues node → ((r : Request) → get slots key ≡ Some r → (same_granule r.granule g && is_new r) ≡ false) → GrantWalk heads first slots queues lists owners head g openings ks now (left - 1)
     walk_passes key now is moves old =
         let r = some_one (get slots next.key) (s.are_linked.there next.key in_keys) in
         let mild : (same_granule (request_at slots next.key).granule g && is_new (request_at slots next.key)) ≡ false =
@@ -285,7 +285,7 @@ module _ (heads : ℕ) (first slots : Slab Request) (queues lists : List Link) (
 
       -- .. and one whose mode is open is granted
       pub walk_grants : (after : Slab Request) (openings_now : Openings) (now : ℕ) → now ≡ after_at queues node → allow openings w.wanted ≡ true → Updates slots after key (Some (granted w)) → slab_len after ≡ slab_len slots
-          → ((m : Mode) → is_open openings_now m ≡ (is_open openings m && not (is_refused (Some m) w.wanted))) → GrantWalk heads first after queues lists head g openings_now ks now (left - 1)
+          → ((m : Mode) → is_open openings_now m ≡ (is_open openings m && not (is_refused (Some m) w.wanted))) → GrantWalk heads first after queues lists owners head g openings_now ks now (left - 1)
       walk_grants after openings_now now moves free updates len beside =
           let update : Updates slots after next.key (Some (granted w)) = subst (λ k. Updates slots after k (Some (granted w))) (key_here key is) updates in
           let alike : are_alike (request_at slots next.key) (granted w) ≡ true = ap (λ q. are_alike q (granted w)) here ∙ alike-self w in
@@ -300,7 +300,7 @@ module _ (heads : ℕ) (first slots : Slab Request) (queues lists : List Link) (
             within = λ k h. s.within k (subst (In k) (sym next.are) (inr h));
             distinct = (subst Distinct next.are s.distinct).1;
             few = fewer;
-            are_linked = linked_set heads slots queues lists ks after next.key (granted w) s.are_linked in_keys update len (sym (ap (λ (q : Request). q.txn) here)) (sym (ap (λ (q : Request). q.granule) here));
+            are_linked = linked_set heads slots queues lists owners ks after next.key (granted w) s.are_linked in_keys update len (sym (ap (λ (q : Request). q.txn) here)) (sym (ap (λ (q : Request). q.granule) here));
             one = subst AreRequests (sym put) (AreRequests-replaced (granted w) (requests_in slots ks) s.one);
             opens = λ m. beside m ∙ ap (λ b. b && not (is_refused (Some m) w.wanted)) (s.opens m)
                 ∙ sym (grant_beside m w (requests_at g (requests_in slots ks)) (AreRequests-filter (λ q. same_granule q.granule g) (requests_in slots ks) s.one)

@@ -1,13 +1,16 @@
 mod AlikeNodes
+pub mod AtOnce
 pub mod Answered
 mod Buckets
 pub mod Counts
+mod Crowds
 pub mod Entering
 mod Firsts
 pub mod Fits
 pub mod Keys
 mod Lasts
 mod GrantWalks
+mod Spreads
 pub mod LawLemmas
 pub mod Members
 mod NodeLemmas
@@ -16,5 +19,6 @@ pub mod Others
 pub mod Outcomes
 pub mod Passes
 pub mod Tables
+mod Tallying
 mod Links
 pub mod Waiting

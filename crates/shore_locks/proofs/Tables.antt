@@ -9,14 +9,15 @@ use Rattle.shore_model.specs.declared.requests.Request.{Request}
 use Rattle.shore_model.specs.Modes.{coexist}
 use Rattle.shore_model.specs.Locks.{Agree, StandTogether}
 use Rattle.shore_model.specs.Requests.{are_alike, requests_by, placed_last, held_by_all, hold_in}
-use Rattle.shore_locks.specs.Tables.{is_waiting, waiting_request}
+use Rattle.shore_locks.specs.Findings.{IsFree, MayAsk}
+use Rattle.shore_locks.specs.Tables.{Table, mode_held, is_waiting, waiting_request}
 use Rattle.shore_locks.specs.Grants.{removed, replaced, put, granted, withdrawn, asking, obstacle, passed, taken_back, taken_back_if, cancelled, given_up, released, is_full, after_grant}
 use Rattle.shore_locks.specs.Orderly.{IsOrderlyWithin, IsOrderly, IsOfUse, Rises, WaitsLast}
 use Rattle.shore_locks.proofs.Members.{In, either, In-All, All-In, In-Contains, Contains-In}
 use Rattle.shore_locks.proofs.Fits.{Fit, Fit-filter, Fit-withdrawn, Fit-passed, StandBoth}
 use Rattle.shore_locks.proofs.Others.{NoneLeftAt, none_left_as, none_left_passed, at_other_removed, at_other_replaced, at_other_put}
-use Rattle.shore_locks.proofs.Entering.{AreRequests-put, Fit-placed, Fit-put, found_in}
-use Rattle.shore_locks.proofs.Counts.{length-given_up, length-passed, length-placed_within, length-put_within, length-taken_back}
+use Rattle.shore_locks.proofs.Entering.{AreRequests-put, Fit-placed, Fit-put, found_in, rises_to_wanted}
+use Rattle.shore_locks.proofs.Counts.{node_found, length-given_up, length-passed, length-placed_within, length-put_within, length-taken_back}
 use Rattle.shore_locks.proofs.Waiting.{none_left_placed}
 use Rattle.shore_locks.proofs.Lasts.{last_filter, last_passed, last_placed, last_put, last_replaced, quiet_of}
 
@@ -188,3 +189,21 @@ kept_granted limit t g mode rs kept quiet room free =
     let same = length-passed g (put (granted (asking t g mode rs)) rs) one in
     let most = length-put_within (granted (asking t g mode rs)) rs limit kept.within room in
     record { orderly = orderly_put t g mode rs kept.orderly quiet free; within = omega (arith, same, most) }
+
+-- a table with the same limit and these requests
+pub kept_as : (old new : Table) (rs : List Request) → new.limit ≡ old.limit → new.requests ≡ rs → IsOrderlyWithin old.limit rs → IsOrderlyWithin new.limit new.requests
+kept_as old new rs limit requests kept = subst (λ xs. IsOrderlyWithin new.limit xs) (sym requests) (subst (λ n. IsOrderlyWithin n rs) (sym limit) kept)
+
+-- a request for which nobody is in the way
+pub free_of : (table : Table) (t : ℕ) (g : Granule) (mode : Mode) (r : Request) → IsOrderlyWithin table.limit table.requests → is_waiting t table.requests ≡ false → MayAsk table t g mode → r ≡ asking t g mode table.requests
+    → obstacle (asking t g mode table.requests) table.requests ≡ None → IsFree table r
+free_of table t g mode r kept quiet may is free =
+    subst (IsFree table) (sym is) (record {
+      orderly = kept.orderly;
+      quiet = quiet;
+      finds_node = node_found table (asking t g mode table.requests) kept.within may.1;
+      as_held = refl;
+      wants = refl;
+      rises = rises_to_wanted (mode_held t g table.requests) mode;
+      free = free;
+    })

@@ -1,5 +1,5 @@
 -- The new waiters of a queue, granted in one walk over its nodes.
-use Rattle.std.specs.Prelude.{◌≡◌, ◌%◌, ℕ, List, Bool, true, not, Option, None, Some, filter}
+use Rattle.std.specs.Prelude.{◌≡◌, ℕ, List, Bool, true, not, Option, None, Some, filter}
 use Rattle.std.specs.List.{list_any}
 use Rattle.slab.specs.Slab.{Slab}
 use Rattle.shore_types.specs.declared.locking.Granule.{Granule}
@@ -11,7 +11,7 @@ use Rattle.shore_model.specs.Requests.{AreRequests, is_in_group, requests_at}
 use Rattle.shore_rings.specs.declared.ring.Link.{Link}
 use Rattle.shore_locks.specs.declared.openings.Openings.{Openings}
 use Rattle.shore_locks.specs.Grants.{is_refused}
-use Rattle.shore_locks.specs.Nodes.{IsLinked, granule_number, requests_in}
+use Rattle.shore_locks.specs.Nodes.{IsLinked, queue_head, requests_in}
 
 -- the new waiters of a granule, in list order
 abbrev pub new_waiters : Granule → List Request → List Request
@@ -39,8 +39,8 @@ abbrev pub Opens : Openings → List Request → Type 0
 Opens openings rs = (m : Mode) → is_open openings m ≡ all_grant rs m
 
 -- nodes in order, the head of a granule's ring, and the modes that its holders grant
-pub record CanWalk (heads : ℕ) (slots : Slab Request) (queues lists : List Link) (head : ℕ) (g : Granule) (openings : Openings) (ks : List ℕ) : Type 0 where
-  pub are_linked : IsLinked heads slots queues lists ks
-  pub at : head ≡ granule_number g % heads
+pub record CanWalk (heads : ℕ) (slots : Slab Request) (queues lists owners : List Link) (head : ℕ) (g : Granule) (openings : Openings) (ks : List ℕ) : Type 0 where
+  pub are_linked : IsLinked heads slots queues lists owners ks
+  pub at : head ≡ queue_head heads g
   pub one : AreRequests (requests_in slots ks)
   pub opens : Opens openings (requests_at g (requests_in slots ks))

@@ -5,3 +5,4 @@ pub mod Nodes
 pub mod Orderly
 pub mod Granting
 pub mod Tables
+pub mod Tallies

@@ -1,5 +1,5 @@
--- Requests as nodes of a slab, linked into two rings each: that of a bucket of granules, and that of a bucket of transactions.
-use Rattle.std.specs.Prelude.{◌≡◌, ◌==◌, ◌<◌, ◌≤◌, ◌+◌, ◌-◌, ◌*◌, ◌%◌, ◌++◌, ℕ, zero, suc, List, [], ◌∷◌, Bool, true, not, cond, Option, None, Some, is_some, filter, map, length}
+-- Requests as nodes of a slab, linked into three rings each: by its granule, by its transaction, and by both.
+use Rattle.std.specs.Prelude.{◌≡◌, ◌==◌, ◌<◌, ◌≤◌, ◌+◌, ◌-◌, ◌*◌, ◌/◌, ◌%◌, ◌^◌, ◌++◌, ℕ, zero, suc, List, [], ◌∷◌, Bool, true, not, cond, Option, None, Some, is_some, filter, map, length, nat_lt}
 use Rattle.slab.specs.Slab.{Slab, get, slab_len}
 use Rattle.shore_types.specs.declared.locking.Granule.{Granule}
 use Rattle.shore_types.specs.declared.locking.Granule.TheVariants.{Volume, Store, Page, Record}
@@ -7,12 +7,26 @@ use Rattle.shore_model.specs.declared.requests.Request.{Request}
 use Rattle.shore_rings.specs.declared.ring.Link.{Link}
 use Rattle.shore_rings.specs.Rings.{Apart, Distinct, In, IsRing, after_at}
 
--- a number by which a granule finds its bucket
+-- a number for each granule: small ones for the volume and the first stores, in whose queues everybody stands
 abbrev pub granule_number : Granule → ℕ
 granule_number Volume = 0
 granule_number (Store s) = s + 1
-granule_number (Page p) = p.store * 65599 + p.page
-granule_number (Record r) = (r.page.store * 65599 + r.page.page) * 2053 + r.slot
+granule_number (Page p) = p.store * 65599 + p.page + 65
+granule_number (Record r) = (r.page.store * 65599 + r.page.page + 65) * 2053 + r.slot
+
+-- a number is spread over so many heads by a multiplication, of which the high bits count (Fibonacci hashing)
+abbrev pub spread : ℕ → ℕ → ℕ
+spread heads n = (n * 11400714819323198485) % 2 ^ 64 / 2 ^ 32 * heads / 2 ^ 32
+
+-- the heads under which a request finds its three rings: that of its granule, of its transaction, and of both
+abbrev pub queue_head : ℕ → Granule → ℕ
+queue_head heads g = cond (nat_lt (granule_number g) 65) (granule_number g) (65 + spread (heads - 65) (granule_number g))
+
+abbrev pub list_head : ℕ → ℕ → ℕ
+list_head heads t = spread heads t
+
+abbrev pub owner_head : ℕ → ℕ → Granule → ℕ
+owner_head heads t g = spread heads ((granule_number g + (t * 15074714826142052245) % 2 ^ 64) % 2 ^ 64)
 
 abbrev pub request_or : Option Request → Request
 request_or None = record { txn = 0; granule = Volume; held = None; wanted = None }
@@ -24,10 +38,13 @@ request_at slots key = request_or (get slots key)
 
 -- the buckets of the request at a key
 abbrev pub queue_of : ℕ → Slab Request → ℕ → ℕ
-queue_of heads slots key = granule_number (request_at slots key).granule % heads
+queue_of heads slots key = queue_head heads (request_at slots key).granule
 
 abbrev pub list_of : ℕ → Slab Request → ℕ → ℕ
-list_of heads slots key = (request_at slots key).txn % heads
+list_of heads slots key = list_head heads (request_at slots key).txn
+
+abbrev pub owner_of : ℕ → Slab Request → ℕ → ℕ
+owner_of heads slots key = owner_head heads (request_at slots key).txn (request_at slots key).granule
 
 -- keys without one
 abbrev pub without : ℕ → List ℕ → List ℕ
@@ -56,16 +73,27 @@ nodes_of heads keys = map (λ k. heads + k) keys
 abbrev pub Holds : List Link → ℕ → (ℕ → ℕ) → List ℕ → Type 0
 Holds links heads bucket keys = (b : ℕ) → b < heads → IsRing links b (nodes_of heads (in_bucket bucket b keys))
 
--- the nodes are those of the keys, each in its two rings
-pub record IsLinked (heads : ℕ) (slots : Slab Request) (queues lists : List Link) (keys : List ℕ) : Type 0 where
-  pub some_heads : 0 < heads
+-- the nodes are those of the keys, each in its three rings
+pub record IsLinked (heads : ℕ) (slots : Slab Request) (queues lists owners : List Link) (keys : List ℕ) : Type 0 where
+  pub some_heads : 65 < heads
   pub distinct : Distinct keys
   pub there : (k : ℕ) → In k keys → is_some (get slots k) ≡ true
   pub count : slab_len slots ≡ length keys
   pub queues_hold : Holds queues heads (queue_of heads slots) keys
   pub lists_hold : Holds lists heads (list_of heads slots) keys
+  pub owners_hold : Holds owners heads (owner_of heads slots) keys
   pub queue_heads : heads ≤ length queues
   pub list_heads : heads ≤ length lists
+  pub owner_heads : heads ≤ length owners
+
+-- the numbers under which nodes are kept: as many as the limit fit, and each has its links
+pub record HasRoom (limit heads capacity queues lists owners : ℕ) : Type 0 where
+  pub few_heads : heads ≤ 2 ^ 32
+  pub within : limit ≤ capacity
+  pub numbers : heads + capacity < 2 ^ 64
+  pub queue_nodes : heads + capacity ≤ queues
+  pub list_nodes : heads + capacity ≤ lists
+  pub owner_nodes : heads + capacity ≤ owners
 
 -- a node with its number, if it is there, and then the others
 abbrev pub pair_and : ℕ → Option Request → List (ℕ × Request) → List (ℕ × Request)

@@ -1,23 +1,28 @@
 //! Changes to the list of requests.
-ghost use Rattle.std.specs.Prelude.{◌≡◌, cond, is_some, length, OnErr, OnOk};
+ghost use Rattle.std.specs.Prelude.{◌≡◌, cond, is_some, length, slice_get};
 ghost use Rattle.std.specs.List.{list_any};
 ghost use Rattle.shore_model.specs.Requests as asked;
 ghost use Rattle.shore_model.specs.Requests.{AreRequests};
+ghost use Rattle.shore_locks.specs.Findings.{FindsNode, IsFree};
 ghost use Rattle.shore_locks.specs.Grants as steps;
+ghost use Rattle.shore_locks.specs.Tables.{waiters_at};
 
-use crate::judgements::{granted, withdrawn};
-use crate::nodes::Nodes;
-use crate::searches::{can_be_granted, first_waiter};
+use crate::counted::Counted;
+use crate::judgements::{granted, holds_is, withdrawn};
+use crate::searches;
 use shore_model::Request;
 use shore_types::{Granule, TxnId};
-use std::alloc::AllocError;
 
 /// A grant pass: waiters of a granule's queue are granted in turn, up to the first that another holder refuses. Behind the last
-/// conversion the new waiters are granted together.
-pub fn pass(nodes: &mut Nodes, granule: &Granule)
-    requires { AreRequests nodes.old }
-    ensures { nodes.new ≡ steps.passed granule.now nodes.old }
+/// conversion the new waiters are granted together. If the counts show that nobody waits, that is all.
+pub fn pass(nodes: &mut Counted, granule: &Granule)
+    requires { AreRequests nodes.old.requests }
+    ensures items { nodes.new.requests ≡ steps.passed granule.now nodes.old.requests }
+    ensures limit { nodes.new.limit ≡ nodes.old.limit }
 {
+    if !nodes.may_have_waiters(granule) {
+        return;
+    }
     while let Some(waiter) = first_waiter(nodes, granule) {
         if waiter.held.is_none() {
             nodes.grant_new(granule);
@@ -31,18 +36,32 @@ pub fn pass(nodes: &mut Nodes, granule: &Granule)
     }
 }
 
+fn first_waiter(nodes: &Counted, granule: &Granule) -> Option<Request>
+    ensures { result ≡ slice_get (waiters_at granule.now nodes.now.requests) 0 }
+{
+    searches::first_waiter(nodes.nodes(), granule)
+}
+
+fn can_be_granted(nodes: &Counted, waiter: &Request) -> bool
+    ensures { result ≡ steps.can_be_granted waiter.now (asked.requests_at waiter.now.granule nodes.now.requests) }
+{
+    searches::can_be_granted(nodes.nodes(), waiter)
+}
+
 /// A waiting request is taken back, with a grant pass over its queue.
-pub fn take_back(nodes: &mut Nodes, request: &Request)
-    requires { AreRequests nodes.old }
-    ensures { nodes.new ≡ steps.taken_back request.now nodes.old }
+pub fn take_back(nodes: &mut Counted, request: &Request)
+    requires { AreRequests nodes.old.requests }
+    ensures items { nodes.new.requests ≡ steps.taken_back request.now nodes.old.requests }
+    ensures limit { nodes.new.limit ≡ nodes.old.limit }
 {
     stop_waiting(nodes, request);
     pass(nodes, &request.granule);
 }
 
-fn stop_waiting(nodes: &mut Nodes, request: &Request)
-    requires { AreRequests nodes.old }
-    ensures { nodes.new ≡ cond (is_some request.now.held) (steps.replaced (steps.withdrawn request.now) nodes.old) (steps.removed request.now nodes.old) }
+fn stop_waiting(nodes: &mut Counted, request: &Request)
+    requires { AreRequests nodes.old.requests }
+    ensures items { nodes.new.requests ≡ cond (is_some request.now.held) (steps.replaced (steps.withdrawn request.now) nodes.old.requests) (steps.removed request.now nodes.old.requests) }
+    ensures limit { nodes.new.limit ≡ nodes.old.limit }
 {
     if request.held.is_some() {
         let withdrawn = withdrawn(request);
@@ -54,10 +73,11 @@ fn stop_waiting(nodes: &mut Nodes, request: &Request)
 
 /// Gives up all that a transaction holds and wants, each with a grant pass over its queue, and answers how many requests
 /// that were. No queue is searched for them: the transaction's ring has them.
-pub fn release(nodes: &mut Nodes, txn: TxnId) -> usize
-    requires { AreRequests nodes.old }
-    ensures items { nodes.new ≡ steps.released txn nodes.old }
-    ensures count { result ≡ length (asked.requests_by txn nodes.old) }
+pub fn release(nodes: &mut Counted, txn: TxnId) -> usize
+    requires { AreRequests nodes.old.requests }
+    ensures items { nodes.new.requests ≡ steps.released txn nodes.old.requests }
+    ensures limit { nodes.new.limit ≡ nodes.old.limit }
+    ensures count { result ≡ length (asked.requests_by txn nodes.old.requests) }
 {
     let most = nodes.len();
     for count in 0..most {
@@ -69,44 +89,43 @@ pub fn release(nodes: &mut Nodes, txn: TxnId) -> usize
     most
 }
 
-/// Puts a request last, and takes the one of its transaction for its granule away. If an allocation failed nothing has
-/// changed.
-pub fn place_last(nodes: &mut Nodes, request: Request) -> Result<(), AllocError>
-    requires { AreRequests nodes.old }
-    ensures ok { OnOk result (nodes.new ≡ asked.placed_last request nodes.old) }
-    ensures err { OnErr result (nodes.new ≡ nodes.old) }
+/// Puts a request last, and takes the one of its transaction for its granule away.
+pub fn place_last(nodes: &mut Counted, request: &Request)
+    requires one { AreRequests nodes.old.requests }
+    requires room { FindsNode nodes.old request.now }
+    ensures items { nodes.new.requests ≡ asked.placed_last request.now nodes.old.requests }
+    ensures limit { nodes.new.limit ≡ nodes.old.limit }
 {
-    if nodes.move_last(&request) {
-        return Ok(());
+    if !nodes.move_last(request) {
+        nodes.push(request);
     }
-    nodes.push(request)?;
-    Ok(())
 }
 
-/// Grants a request at once, in the place of the one of its transaction for its granule if that is known, else last; a
-/// grant pass follows. If an allocation failed nothing has changed.
-pub fn grant(nodes: &mut Nodes, request: &Request, known: bool) -> Result<(), AllocError>
-    requires one { AreRequests nodes.old }
-    requires known { known ≡ list_any (λ q. asked.are_alike q request.now) nodes.old }
-    ensures ok { OnOk result (nodes.new ≡ steps.passed request.now.granule (steps.put (steps.granted request.now) nodes.old)) }
-    ensures err { OnErr result (nodes.new ≡ nodes.old) }
+/// Grants a request at once, in the place of the one of its transaction for its granule if that is known, else last. What is held
+/// refuses no less than before, so a grant pass would grant nobody; but IS refuses UD, and SH does not.
+pub fn grant(nodes: &mut Counted, request: &Request, known: bool)
+    requires free { IsFree nodes.old request.now }
+    requires known { known ≡ list_any (λ q. asked.are_alike q request.now) nodes.old.requests }
+    ensures items { nodes.new.requests ≡ steps.passed request.now.granule (steps.put (steps.granted request.now) nodes.old.requests) }
+    ensures limit { nodes.new.limit ≡ nodes.old.limit }
 {
     let granted = granted(request);
-    put(nodes, granted, known)?;
-    pass(nodes, &request.granule);
-    Ok(())
+    put(nodes, &granted, known);
+    if holds_is(request) {
+        pass(nodes, &request.granule);
+    }
 }
 
-fn put(nodes: &mut Nodes, request: Request, known: bool) -> Result<(), AllocError>
-    requires one { AreRequests nodes.old }
-    requires known { known ≡ list_any (λ q. asked.are_alike q request) nodes.old }
-    ensures ok { OnOk result (nodes.new ≡ steps.put request nodes.old) }
-    ensures err { OnErr result (nodes.new ≡ nodes.old) }
+fn put(nodes: &mut Counted, request: &Request, known: bool)
+    requires one { AreRequests nodes.old.requests }
+    requires room { FindsNode nodes.old request.now }
+    requires known { known ≡ list_any (λ q. asked.are_alike q request.now) nodes.old.requests }
+    ensures items { nodes.new.requests ≡ steps.put request.now nodes.old.requests }
+    ensures limit { nodes.new.limit ≡ nodes.old.limit }
 {
     if known {
-        nodes.replace(&request);
-        return Ok(());
+        nodes.replace(request);
+    } else {
+        nodes.push(request);
     }
-    nodes.push(request)?;
-    Ok(())
 }

@@ -4,8 +4,8 @@ ghost use Rattle.shore_locks.specs.Findings.{Finds};
 ghost use Rattle.shore_locks.specs.Grants as steps;
 ghost use Rattle.shore_locks.specs.Tables as tables;
 
+use crate::counted::Counted;
 use crate::judgements::{is_enough, wanted_mode};
-use crate::nodes::Nodes;
 use crate::searches::{obstacle, request_for};
 use shore_model::Request;
 use shore_types::{Granule, Mode, TxnId};
@@ -23,23 +23,17 @@ pub enum Finding {
     Free { request: Request, known: bool },
 }
 
-/// What a transaction meets, with a limit on the nodes. It looks for the transaction's node once.
-pub fn check_request(
-    nodes: &Nodes,
-    limit: usize,
-    txn: TxnId,
-    granule: &Granule,
-    mode: Mode,
-) -> Finding
-    ensures { Finds (record { limit = limit; requests = nodes.now }) txn granule.now mode result }
+/// What a transaction meets. It looks for the transaction's node once.
+pub fn check_request(nodes: &Counted, txn: TxnId, granule: &Granule, mode: Mode) -> Finding
+    ensures { Finds nodes.now txn granule.now mode result }
 {
-    let own = request_for(nodes, txn, granule);
+    let own = request_for(nodes.nodes(), txn, granule);
     let held = mode_of(&own);
     if is_enough(mode, held) {
         return Finding::Enough;
     }
     let known = own.is_some();
-    if !known && nodes.len() >= limit {
+    if !known && nodes.is_full() {
         return Finding::Full;
     }
     let request = Request {
@@ -48,13 +42,23 @@ pub fn check_request(
         held,
         wanted: Some(wanted_mode(held, mode)),
     };
-    match obstacle(nodes, &request) {
+    match first_in_the_way(nodes, &request) {
         Some(other) => Finding::Stopped {
             request,
             other: other.txn,
         },
         None => Finding::Free { request, known },
     }
+}
+
+// Mostly nobody is, which the counts of the queue show; else the queue is walked.
+fn first_in_the_way(nodes: &Counted, request: &Request) -> Option<Request>
+    ensures { result ≡ steps.obstacle request.now nodes.now.requests }
+{
+    if nodes.lets_in(request) {
+        return None;
+    }
+    obstacle(nodes.nodes(), request)
 }
 
 fn mode_of(own: &Option<Request>) -> Option<Mode>

@@ -41,8 +41,9 @@ pub fn grant_new_waiters(
     holders: Openings,
 )
     requires { head < length queues.now }
-    ensures are_linked { (lists : List Link) (ks : List ℕ) → CanWalk heads slots.old queues.now lists head granule.now holders ks → IsLinked heads slots.new queues.now lists ks }
-    ensures granted { (lists : List Link) (ks : List ℕ) → CanWalk heads slots.old queues.now lists head granule.now holders ks →
+    ensures capacity { slots.new.capacity ≡ slots.old.capacity }
+    ensures are_linked { (lists owners : List Link) (ks : List ℕ) → CanWalk heads slots.old queues.now lists owners head granule.now holders ks → IsLinked heads slots.new queues.now lists owners ks }
+    ensures granted { (lists owners : List Link) (ks : List ℕ) → CanWalk heads slots.old queues.now lists owners head granule.now holders ks →
         requests_in slots.new ks ≡ granted_in_turn (new_waiters granule.now (requests_in slots.old ks)) (requests_in slots.old ks) }
 {
     let mut openings = holders;

@@ -1,5 +1,5 @@
 //! What one request says of another, and of what is asked.
-ghost use Rattle.std.specs.Prelude.{◌≡◌};
+ghost use Rattle.std.specs.Prelude.{◌≡◌, ◌↔◌, IsTrue, Some};
 ghost use Rattle.shore_types.specs.Locking.{same_granule};
 ghost use Rattle.shore_model.specs.Requests.{is_in_group};
 ghost use Rattle.shore_locks.specs.Tables as tables;
@@ -82,6 +82,13 @@ pub fn wanted_mode(held: Option<Mode>, mode: Mode) -> Mode
         Some(held) => sup(held, mode),
         None => mode,
     }
+}
+
+/// Whether IS is held.
+pub fn holds_is(request: &Request) -> bool
+    ensures { IsTrue result ↔ (request.now.held ≡ Some Mode.IS) }
+{
+    matches!(request.held, Some(Mode::IS))
 }
 
 /// A request with what it wanted held.

@@ -1,12 +1,12 @@
 //! Laws over the list of requests, each stated as the contract of an empty function.
-ghost use Rattle.std.specs.Prelude.{◌≡◌, ℕ, List, false};
+ghost use Rattle.std.specs.Prelude.{◌≡◌, ◌≢◌, ℕ, List, None, Some, false};
 ghost use Rattle.shore_types.specs.declared.locking.Granule.{Granule};
 ghost use Rattle.shore_types.specs.declared.locking.Mode.{Mode};
 ghost use Rattle.shore_model.specs.declared.requests.Request.{Request};
 ghost use Rattle.shore_model.specs.Requests.{AreRequests};
 ghost use Rattle.shore_locks.specs.Orderly.{IsOrderly};
-ghost use Rattle.shore_locks.specs.Grants.{cancelled, passed, released};
-ghost use Rattle.shore_locks.specs.Tables.{Table, is_waiting};
+ghost use Rattle.shore_locks.specs.Grants.{after_grant, asking, cancelled, granted, obstacle, passed, put, released};
+ghost use Rattle.shore_locks.specs.Tables.{Table, is_waiting, mode_held};
 ghost use Rattle.shore_locks.specs.Laws.{BlockedByOneInTheWay, FirstWaitersAreRefused, GrantedIsHeld, GrantsABeginning, OnlyGrants, RefusedChangesNothing, StaysQuiet, WaitsForSomebody, of_others, owners};
 
 use crate::table::LockTable;
@@ -36,6 +36,13 @@ pub fn release_removes_its_own()
 /// A grant pass only grants.
 pub fn grant_pass_only_grants()
     ensures { (rs : List Request) (g : Granule) → AreRequests rs → OnlyGrants rs (passed g rs) }
+{}
+
+/// After a request that is granted at once a grant pass would grant nobody, unless its transaction held IS: what is held refuses no less
+/// than before. IS refuses UD, and SH does not.
+pub fn grant_leaves_nobody_to_grant()
+    ensures { (rs : List Request) (t : ℕ) (g : Granule) (mode : Mode) → IsOrderly rs → is_waiting t rs ≡ false → obstacle (asking t g mode rs) rs ≡ None → mode_held t g rs ≢ Some Mode.IS →
+        after_grant t g mode rs ≡ put (granted (asking t g mode rs)) rs }
 {}
 
 /// A transaction whose request was cancelled waits no more.

@@ -3,18 +3,23 @@
 
 pub mod answers;
 mod changes;
+mod counted;
 mod findings;
 mod granting;
+mod heads;
 mod judgements;
 pub mod laws;
+pub mod listings;
 mod nodes;
 mod openings;
 pub mod queues;
 mod searches;
 pub mod table;
+mod tallies;
 mod walks;
 
 pub use answers::{Requested, Tried};
 pub use judgements::refuses;
+pub use listings::Requests;
 pub use queues::{Holders, Waiters};
 pub use table::LockTable;

@@ -1,6 +1,6 @@
-//! Requests as nodes of a slab. Each has four links: two in the ring of its granule's bucket, and two in that of its
-//! transaction's. A bucket is found by a number, so a queue and a transaction's list are found in constant expected time.
-ghost use Rattle.std.specs.Prelude.{◌≡◌, ◌<◌, ◌≤◌, ◌+◌, ◌*◌, ◌^◌, ◌%◌, ◌==◌, ◌++◌, ◌∷◌, [], ℕ, List, None, Some, IfOk, IfSome, OnOk, OnErr, MatchBool, MatchOption, false, find, is_some, length, true, map, slice_get};
+//! Requests as nodes of a slab. Each has six links: two in the ring of its granule's head, which is its queue, two in that of its
+//! transaction's, and two in that of both, so that each is found in constant expected time.
+ghost use Rattle.std.specs.Prelude.{◌≡◌, ◌<◌, ◌≤◌, ◌+◌, ◌*◌, ◌^◌, ◌%◌, ◌==◌, ◌++◌, ◌∷◌, [], ℕ, List, None, Some, IfOk, IfSome, OnOk, OnErr, MatchBool, MatchOption, false, filter, find, is_some, length, map, nat_lt, not, true, slice_get};
 ghost use Rattle.std.specs.List.{list_any};
 ghost use Rattle.std.specs.Option.{option_map};
 ghost use Rattle.shore_model.specs.Requests.{AreRequests, are_alike, placed_last, requests_at, requests_by};
@@ -11,54 +11,70 @@ ghost use Rattle.shore_locks.specs.Grants.{granted_in_turn, removed, replaced};
 ghost use Rattle.shore_locks.specs.Granting.{new_waiters};
 ghost use Rattle.shore_locks.specs.Nodes as spec;
 ghost use Rattle.shore_locks.specs.Orderly.{IsNewest};
+ghost use Rattle.shore_locks.specs.Tables.{is_for};
+ghost use Rattle.shore_locks.specs.Tallies.{crowd};
 ghost use Rattle.shore_locks.specs.Nodes.{IsLinked, LinksIn, LinksOut, pairs_from, request_at, without};
 
 use crate::granting::{grant_new_waiters, openings_among};
+use crate::heads::{heads_for, list_head, owner_head, queue_head};
 use crate::walks::Walk;
 use http_server::Log;
 use shore_model::Request;
 use shore_rings::Rings;
-use shore_types::{Granule, PageId, TxnId};
+use shore_types::{Granule, TxnId};
 use slab::Slab;
 use std::alloc::{AllocError, Global};
 use std::marker::Model;
 
-/// A list of requests, in the order in which they came.
+/// A list of requests, in the order in which they came, and how many there may be.
 #[derive(Drop)]
 pub struct Nodes {
+    limit: usize,
     slots: Slab<Request>,
     queues: Rings,
     lists: Rings,
+    owners: Rings,
     heads: usize,
     // Which keys came and went. It takes no memory: only proofs read it, and it says nothing but the order of the list.
     history: Log<usize, bool>,
 }
 
 impl Model for Nodes {
-    ghost use Rattle.std.specs.Prelude.{List};
-    ghost use Rattle.shore_model.specs.declared.requests.Request.{Request};
+    ghost use Rattle.std.specs.Prelude.{length};
+    ghost use Rattle.shore_locks.specs.Tallies.{Stored};
 
-    ghost Value = { List Request };
+    ghost Value = { Stored };
 
-    ghost use Rattle.shore_locks.specs.Nodes.{IsLinked, alive, requests_in};
+    ghost use Rattle.shore_locks.specs.Nodes.{HasRoom, IsLinked, alive, requests_in};
 
-    ghost view = { λ n. requests_in n.slots (alive n.history.items) };
+    ghost view = { λ n. record { heads = n.heads; limit = n.limit; requests = requests_in n.slots (alive n.history.items) } };
 
-    ghost invariant = { λ n. IsLinked n.heads n.slots n.queues n.lists (alive n.history.items) };
+    ghost invariant = { λ n. IsLinked n.heads n.slots n.queues n.lists n.owners (alive n.history.items)
+        × HasRoom n.limit n.heads n.slots.capacity (length n.queues) (length n.lists) (length n.owners) };
 }
 
 impl Nodes {
-    /// No requests, with so many buckets of granules and of transactions.
-    pub fn new(alloc: Global, heads: usize) -> Result<Nodes, AllocError>
-        requires { 0 < heads }
-        ensures { IfOk result (λ nodes. nodes ≡ []) }
+    /// No requests, with the memory for as many as there may be.
+    pub fn new(alloc: Global, limit: usize) -> Result<Nodes, AllocError>
+        ensures requests { IfOk result (λ nodes. nodes.requests ≡ []) }
+        ensures limit { IfOk result (λ nodes. nodes.limit ≡ limit) }
+        ensures some { IfOk result (λ nodes. 65 < nodes.heads) }
+        ensures few { IfOk result (λ nodes. nodes.heads ≤ 2 ^ 32) }
     {
-        let queues = lone_rings(alloc, heads)?;
-        let lists = lone_rings(alloc, heads)?;
+        let heads = heads_for(limit);
+        let slots = Slab::with_capacity(alloc, limit)?;
+        let Some(nodes) = heads.checked_add(slots.capacity()) else {
+            return Err(AllocError);
+        };
+        let queues = lone_rings(alloc, nodes)?;
+        let lists = lone_rings(alloc, nodes)?;
+        let owners = lone_rings(alloc, nodes)?;
         Ok(Nodes {
-            slots: Slab::new(alloc),
+            limit,
+            slots,
             queues,
             lists,
+            owners,
             heads,
             history: Log::new(),
         })
@@ -66,23 +82,46 @@ impl Nodes {
 
     /// The nodes among which are all for a granule, in their order.
     pub fn queue(&self, granule: &Granule) -> Walk<'_>
-        ensures { requests_at granule.now (map (λ (p : ℕ × Request). p.1) result) ≡ requests_at granule.now self.now }
+        ensures { requests_at granule.now (map (λ (p : ℕ × Request). p.1) result) ≡ requests_at granule.now self.now.requests }
     {
         let head = queue_head(granule, self.heads);
         Walk::new(&self.slots, &self.queues, self.heads, head)
     }
 
+    /// The nodes of a head, in their order.
+    pub fn crowd(&self, head: usize) -> Walk<'_>
+        requires { head < self.now.heads }
+        ensures { map (λ (p : ℕ × Request). p.1) result ≡ crowd self.now.heads head self.now.requests }
+    {
+        Walk::new(&self.slots, &self.queues, self.heads, head)
+    }
+
+    /// How many heads there are.
+    pub fn heads(&self) -> usize
+        ensures { result ≡ self.now.heads }
+    {
+        self.heads
+    }
+
     /// The nodes among which are all of a transaction, in their order.
     pub fn list(&self, txn: TxnId) -> Walk<'_>
-        ensures { requests_by txn (map (λ (p : ℕ × Request). p.1) result) ≡ requests_by txn self.now }
+        ensures { requests_by txn (map (λ (p : ℕ × Request). p.1) result) ≡ requests_by txn self.now.requests }
     {
         let head = list_head(txn, self.heads);
         Walk::new(&self.slots, &self.lists, self.heads, head)
     }
 
+    /// The nodes among which is that of a transaction for a granule.
+    pub fn owned(&self, txn: TxnId, granule: &Granule) -> Walk<'_>
+        ensures { filter (is_for txn granule.now) (map (λ (p : ℕ × Request). p.1) result) ≡ filter (is_for txn granule.now) self.now.requests }
+    {
+        let head = owner_head(txn, granule, self.heads);
+        Walk::new(&self.slots, &self.owners, self.heads, head)
+    }
+
     /// The newest request of a transaction, unless a newer one of another is in its bucket. It takes no search.
     pub fn newest(&self, txn: TxnId) -> Option<Request>
-        ensures { IfSome result (λ r. IsNewest txn self.now r) }
+        ensures { IfSome result (λ r. IsNewest txn self.now.requests r) }
     {
         let head = list_head(txn, self.heads);
         let node = self.lists.before(head);
@@ -95,60 +134,68 @@ impl Nodes {
         }
     }
 
-    /// A request comes last. If its node cannot be allocated nothing has changed.
-    pub fn push(&mut self, request: Request) -> Result<(), AllocError>
-        ensures ok { OnOk result (self.new ≡ self.old ++ request ∷ []) }
-        ensures err { OnErr result (self.new ≡ self.old) }
+    /// A request comes last. There is a node for it, and its memory.
+    pub fn push(&mut self, request: &Request)
+        requires { length self.old.requests < self.old.limit }
+        ensures items { self.new.requests ≡ self.old.requests ++ request.now ∷ [] }
+        ensures limit { self.new.limit ≡ self.old.limit }
+        ensures heads { self.new.heads ≡ self.old.heads }
     {
-        self.slots.reserve(1)?;
-        let key = self.slots.vacant_key();
-        let Some(node) = self.heads.checked_add(key) else {
-            return Err(AllocError);
-        };
-        grow_to(&mut self.queues, node)?;
-        grow_to(&mut self.lists, node)?;
+        let key = insert(&mut self.slots, request);
+        let node = self.heads + key;
         link_node(
             &mut self.queues,
             &mut self.lists,
+            &mut self.owners,
             self.heads,
             node,
-            &request,
+            request,
         );
-        insert(&mut self.slots, &request);
         self.history = self.history.and(&key, &true);
-        Ok(())
     }
 
     /// Takes the request of its transaction for its granule out.
     pub fn remove(&mut self, request: &Request)
-        requires { AreRequests self.old }
-        ensures { self.new ≡ removed request.now self.old }
+        requires { AreRequests self.old.requests }
+        ensures items { self.new.requests ≡ removed request.now self.old.requests }
+        ensures limit { self.new.limit ≡ self.old.limit }
+        ensures heads { self.new.heads ≡ self.old.heads }
     {
-        let head = queue_head(&request.granule, self.heads);
-        let walk = Walk::new(&self.slots, &self.queues, self.heads, head);
+        let head = owner_head(request.txn, &request.granule, self.heads);
+        let walk = Walk::new(&self.slots, &self.owners, self.heads, head);
         if let Some(node) = find_node(walk, request) {
             let key = node.saturating_sub(self.heads);
-            unlink_node(&mut self.queues, &mut self.lists, node);
+            unlink_node(&mut self.queues, &mut self.lists, &mut self.owners, node);
             self.slots.try_remove(key);
             self.history = self.history.and(&key, &false);
         }
     }
 
-    /// Moves the request of its transaction for its granule last, as this one, which takes no memory. The answer is whether it
-    /// was there.
+    /// Moves the request of its transaction for its granule last, as this one. The answer is whether it was there.
     pub fn move_last(&mut self, request: &Request) -> bool
-        requires { AreRequests self.old }
-        ensures { MatchBool result ((list_any (λ q. are_alike q request.now) self.old ≡ true) × (self.new ≡ placed_last request.now self.old)) ((list_any (λ q. are_alike q request.now) self.old ≡ false) × (self.new ≡ self.old)) }
+        requires { AreRequests self.old.requests }
+        ensures items { MatchBool result
+            ((list_any (λ q. are_alike q request.now) self.old.requests ≡ true) × (self.new.requests ≡ placed_last request.now self.old.requests))
+            ((list_any (λ q. are_alike q request.now) self.old.requests ≡ false) × (self.new.requests ≡ self.old.requests)) }
+        ensures limit { self.new.limit ≡ self.old.limit }
+        ensures heads { self.new.heads ≡ self.old.heads }
     {
-        let head = queue_head(&request.granule, self.heads);
-        let walk = Walk::new(&self.slots, &self.queues, self.heads, head);
+        let head = owner_head(request.txn, &request.granule, self.heads);
+        let walk = Walk::new(&self.slots, &self.owners, self.heads, head);
         match find_node(walk, request) {
             Some(node) => {
                 let key = node.saturating_sub(self.heads);
-                unlink_node(&mut self.queues, &mut self.lists, node);
+                unlink_node(&mut self.queues, &mut self.lists, &mut self.owners, node);
                 self.slots.try_remove(key);
                 let gone = self.history.and(&key, &false);
-                link_node(&mut self.queues, &mut self.lists, self.heads, node, request);
+                link_node(
+                    &mut self.queues,
+                    &mut self.lists,
+                    &mut self.owners,
+                    self.heads,
+                    node,
+                    request,
+                );
                 insert(&mut self.slots, request);
                 self.history = gone.and(&key, &true);
                 true
@@ -159,15 +206,19 @@ impl Nodes {
 
     /// Takes out the first request of a transaction.
     pub fn pop_first(&mut self, txn: TxnId) -> Option<Request>
-        requires { AreRequests self.old }
-        ensures { MatchOption result ((None ≡ slice_get (requests_by txn self.old) 0) × (self.new ≡ self.old)) (λ r. (Some r ≡ slice_get (requests_by txn self.old) 0) × (self.new ≡ removed r self.old)) }
+        requires { AreRequests self.old.requests }
+        ensures items { MatchOption result
+            ((None ≡ slice_get (requests_by txn self.old.requests) 0) × (self.new.requests ≡ self.old.requests))
+            (λ r. (Some r ≡ slice_get (requests_by txn self.old.requests) 0) × (self.new.requests ≡ removed r self.old.requests)) }
+        ensures limit { self.new.limit ≡ self.old.limit }
+        ensures heads { self.new.heads ≡ self.old.heads }
     {
         let head = list_head(txn, self.heads);
         let walk = Walk::new(&self.slots, &self.lists, self.heads, head);
         match first_of(walk, txn) {
             Some((node, request)) => {
                 let key = node.saturating_sub(self.heads);
-                unlink_node(&mut self.queues, &mut self.lists, node);
+                unlink_node(&mut self.queues, &mut self.lists, &mut self.owners, node);
                 self.slots.try_remove(key);
                 self.history = self.history.and(&key, &false);
                 Some(request)
@@ -176,20 +227,30 @@ impl Nodes {
         }
     }
 
+    /// Whether there are as many requests as there may be.
+    pub fn is_full(&self) -> bool
+        ensures { result ≡ not (nat_lt (length self.now.requests) self.now.limit) }
+    {
+        self.slots.len() >= self.limit
+    }
+
     /// How many requests there are.
     pub fn len(&self) -> usize
-        ensures { result ≡ length self.now }
+        ensures is { result ≡ length self.now.requests }
+        ensures fits { length self.now.requests < 2 ^ 64 }
     {
         self.slots.len()
     }
 
     /// Puts a request in the place of the one of its transaction for its granule.
     pub fn replace(&mut self, request: &Request)
-        requires { AreRequests self.old }
-        ensures { self.new ≡ replaced request.now self.old }
+        requires { AreRequests self.old.requests }
+        ensures items { self.new.requests ≡ replaced request.now self.old.requests }
+        ensures limit { self.new.limit ≡ self.old.limit }
+        ensures heads { self.new.heads ≡ self.old.heads }
     {
-        let head = queue_head(&request.granule, self.heads);
-        let walk = Walk::new(&self.slots, &self.queues, self.heads, head);
+        let head = owner_head(request.txn, &request.granule, self.heads);
+        let walk = Walk::new(&self.slots, &self.owners, self.heads, head);
         if let Some(node) = find_node(walk, request) {
             let key = node.saturating_sub(self.heads);
             set_slot(&mut self.slots, key, request);
@@ -199,8 +260,10 @@ impl Nodes {
     /// Grants the new waiters of a granule in their order, up to the first whom a holder refuses: one walk over the queue sees what
     /// is held, and a second grants, however many they are.
     pub fn grant_new(&mut self, granule: &Granule)
-        requires { AreRequests self.old }
-        ensures { self.new ≡ granted_in_turn (new_waiters granule.now self.old) self.old }
+        requires { AreRequests self.old.requests }
+        ensures items { self.new.requests ≡ granted_in_turn (new_waiters granule.now self.old.requests) self.old.requests }
+        ensures limit { self.new.limit ≡ self.old.limit }
+        ensures heads { self.new.heads ≡ self.old.heads }
     {
         let head = queue_head(granule, self.heads);
         let walk = Walk::new(&self.slots, &self.queues, self.heads, head);
@@ -226,60 +289,70 @@ fn only_of(request: &Request, txn: TxnId) -> Option<Request>
     }
 }
 
-// Adds nodes that are alone in their rings, up to this one.
-fn grow_to(rings: &mut Rings, node: usize) -> Result<(), AllocError>
-    ensures kept { (head : ℕ) (xs : List ℕ) → IsRing rings.old head xs → IsRing rings.new head xs }
-    ensures longer { length rings.old ≤ length rings.new }
-    ensures there { OnOk result (node < length rings.new) }
-{
-    while rings.nodes() <= node {
-        rings.add()?;
-    }
-    Ok(())
-}
-
-// A node goes last in the rings of its two buckets.
-fn link_node(queues: &mut Rings, lists: &mut Rings, heads: usize, node: usize, request: &Request)
-    requires some { 0 < heads }
+// A node goes last in its three rings.
+fn link_node(
+    queues: &mut Rings,
+    lists: &mut Rings,
+    owners: &mut Rings,
+    heads: usize,
+    node: usize,
+    request: &Request,
+)
+    requires some { 65 < heads }
+    requires few { heads ≤ 2 ^ 32 }
     requires queue_heads { heads ≤ length queues.old }
     requires list_heads { heads ≤ length lists.old }
+    requires owner_heads { heads ≤ length owners.old }
     requires queue_node { node < length queues.old }
     requires list_node { node < length lists.old }
-    ensures queues { LinksIn queues.old queues.new (spec.granule_number request.now.granule % heads) node }
-    ensures lists { LinksIn lists.old lists.new (request.now.txn % heads) node }
+    requires owner_node { node < length owners.old }
+    ensures queues { LinksIn queues.old queues.new (spec.queue_head heads request.now.granule) node }
+    ensures lists { LinksIn lists.old lists.new (spec.list_head heads request.now.txn) node }
+    ensures owners { LinksIn owners.old owners.new (spec.owner_head heads request.now.txn request.now.granule) node }
     ensures queue_nodes { length queues.new ≡ length queues.old }
     ensures list_nodes { length lists.new ≡ length lists.old }
+    ensures owner_nodes { length owners.new ≡ length owners.old }
 {
     let queue = queue_head(&request.granule, heads);
     queues.link(queue, node);
     let list = list_head(request.txn, heads);
     lists.link(list, node);
+    let owner = owner_head(request.txn, &request.granule, heads);
+    owners.link(owner, node);
 }
 
-// A node leaves its two rings.
-fn unlink_node(queues: &mut Rings, lists: &mut Rings, node: usize)
+// A node leaves its three rings.
+fn unlink_node(queues: &mut Rings, lists: &mut Rings, owners: &mut Rings, node: usize)
     requires queue_node { node < length queues.old }
     requires list_node { node < length lists.old }
+    requires owner_node { node < length owners.old }
     ensures queues { LinksOut queues.old queues.new node }
     ensures lists { LinksOut lists.old lists.new node }
+    ensures owners { LinksOut owners.old owners.new node }
     ensures queue_nodes { length queues.new ≡ length queues.old }
     ensures list_nodes { length lists.new ≡ length lists.old }
+    ensures owner_nodes { length owners.new ≡ length owners.old }
 {
     queues.unlink(node);
     lists.unlink(node);
+    owners.unlink(node);
 }
 
-fn insert(slots: &mut Slab<Request>, request: &Request)
+fn insert(slots: &mut Slab<Request>, request: &Request) -> usize
     requires { HasRoomFor slots.old 1 }
-    ensures updates { Updates slots.old slots.new slots.old.vacant_key (Some request.now) }
+    ensures key { result ≡ slots.old.vacant_key }
+    ensures vacant { get slots.old result ≡ None }
+    ensures within { result < slots.old.capacity }
+    ensures updates { Updates slots.old slots.new result (Some request.now) }
     ensures len { slab_len slots.new ≡ slab_len slots.old + 1 }
+    ensures capacity { slots.new.capacity ≡ slots.old.capacity }
 {
     slots.insert_reserved(Request {
         txn: request.txn,
         granule: request.granule,
         held: request.held,
         wanted: request.wanted,
-    });
+    })
 }
 
 /// Puts a request in the place of the one at a key.
@@ -287,6 +360,7 @@ pub fn set_slot(slots: &mut Slab<Request>, key: usize, request: &Request)
     requires { is_some (get slots.old key) ≡ true }
     ensures updates { Updates slots.old slots.new key (Some request.now) }
     ensures len { slab_len slots.new ≡ slab_len slots.old }
+    ensures capacity { slots.new.capacity ≡ slots.old.capacity }
 {
     if let Some(slot) = slots.get_mut(key) {
         *slot = *request;
@@ -302,40 +376,6 @@ fn lone_rings(alloc: Global, count: usize) -> Result<Rings, AllocError>
         rings.add()?;
     }
     Ok(rings)
-}
-
-fn queue_head(granule: &Granule, heads: usize) -> usize
-    requires { 0 < heads }
-    ensures is { result ≡ spec.granule_number granule.now % heads }
-    ensures small { result < heads }
-{
-    (granule_number(*granule) % heads as u64) as usize
-}
-
-fn granule_number(granule: Granule) -> u64
-    ensures { result ≡ spec.granule_number granule }
-{
-    match granule {
-        Granule::Volume => 0,
-        Granule::Store(store) => u64::from(store.0) + 1,
-        Granule::Page(page) => page_number(page),
-        Granule::Record(id) => page_number(id.page) * 2053 + u64::from(id.slot),
-    }
-}
-
-fn page_number(page: PageId) -> u64
-    ensures is { result ≡ page.store * 65599 + page.page }
-    ensures small { result < 2 ^ 49 }
-{
-    u64::from(page.store.0) * 65599 + u64::from(page.page)
-}
-
-fn list_head(txn: TxnId, heads: usize) -> usize
-    requires { 0 < heads }
-    ensures is { result ≡ txn % heads }
-    ensures small { result < heads }
-{
-    (txn.0 % heads as u64) as usize
 }
 
 // The node of the request of its transaction for its granule.

@@ -34,7 +34,7 @@ impl<'a> Model for InGroup<'a> {
 
 impl<'a> InGroup<'a> {
     fn new(nodes: &'a Nodes, granule: &Granule, group: Group) -> InGroup<'a>
-        ensures { result ≡ filter (is_in_group group) (requests_at granule.now nodes.now) }
+        ensures { result ≡ filter (is_in_group group) (requests_at granule.now nodes.now.requests) }
     {
         InGroup {
             walk: nodes.queue(granule),
@@ -78,7 +78,7 @@ impl<'a> Model for Holders<'a> {
 
 impl<'a> Holders<'a> {
     pub(crate) fn new(nodes: &'a Nodes, granule: Granule) -> Holders<'a>
-        ensures { result ≡ holders_at granule nodes.now }
+        ensures { result ≡ holders_at granule nodes.now.requests }
     {
         Holders {
             left: InGroup::new(nodes, &granule, Group::Holders),
@@ -116,7 +116,7 @@ impl<'a> Model for Waiters<'a> {
 
 impl<'a> Waiters<'a> {
     pub(crate) fn new(nodes: &'a Nodes, granule: Granule) -> Waiters<'a>
-        ensures { result ≡ waiters_at granule nodes.now }
+        ensures { result ≡ waiters_at granule nodes.now.requests }
     {
         Waiters {
             conversions: InGroup::new(nodes, &granule, Group::Conversions),

@@ -12,9 +12,9 @@ use shore_types::{Granule, Mode, TxnId};
 
 /// The request of a transaction for a granule.
 pub fn request_for(nodes: &Nodes, txn: TxnId, granule: &Granule) -> Option<Request>
-    ensures { result ≡ tables.request_for txn granule.now nodes.now }
+    ensures { result ≡ tables.request_for txn granule.now nodes.now.requests }
 {
-    let mut walk = nodes.queue(granule);
+    let mut walk = nodes.owned(txn, granule);
     while let Some((_, request)) = walk.advance() {
         if is_for(&request, txn, granule) {
             return Some(request);
@@ -25,7 +25,7 @@ pub fn request_for(nodes: &Nodes, txn: TxnId, granule: &Granule) -> Option<Reque
 
 /// The mode in which a transaction holds a granule.
 pub fn mode_held(nodes: &Nodes, txn: TxnId, granule: &Granule) -> Option<Mode>
-    ensures { result ≡ tables.mode_held txn granule.now nodes.now }
+    ensures { result ≡ tables.mode_held txn granule.now nodes.now.requests }
 {
     request_for(nodes, txn, granule)?.held
 }
@@ -33,8 +33,8 @@ pub fn mode_held(nodes: &Nodes, txn: TxnId, granule: &Granule) -> Option<Mode>
 /// The request with which a transaction waits. It could only be its newest, which is mostly the last in its ring: then no other
 /// is looked at.
 pub fn waiting_request(nodes: &Nodes, txn: TxnId) -> Option<Request>
-    requires { WaitsLast nodes.now }
-    ensures { result ≡ tables.waiting_request txn nodes.now }
+    requires { WaitsLast nodes.now.requests }
+    ensures { result ≡ tables.waiting_request txn nodes.now.requests }
 {
     if let Some(newest) = nodes.newest(txn) {
         return if_waiting(newest);
@@ -60,7 +60,7 @@ fn if_waiting(request: Request) -> Option<Request>
 
 /// The first waiter of a granule's queue: a conversion, or else the first that is new.
 pub fn first_waiter(nodes: &Nodes, granule: &Granule) -> Option<Request>
-    ensures { result ≡ slice_get (tables.waiters_at granule.now nodes.now) 0 }
+    ensures { result ≡ slice_get (tables.waiters_at granule.now nodes.now.requests) 0 }
 {
     let mut first_new = None;
     let mut walk = nodes.queue(granule);
@@ -79,7 +79,7 @@ pub fn first_waiter(nodes: &Nodes, granule: &Granule) -> Option<Request>
 
 /// Whether each other holder of its granule grants what a waiter wants.
 pub fn can_be_granted(nodes: &Nodes, waiter: &Request) -> bool
-    ensures { result ≡ steps.can_be_granted waiter.now (requests_at waiter.now.granule nodes.now) }
+    ensures { result ≡ steps.can_be_granted waiter.now (requests_at waiter.now.granule nodes.now.requests) }
 {
     let mut walk = nodes.queue(&waiter.granule);
     while let Some((_, other)) = walk.advance() {
@@ -92,7 +92,7 @@ pub fn can_be_granted(nodes: &Nodes, waiter: &Request) -> bool
 
 /// The first request that a new one would wait for.
 pub fn obstacle(nodes: &Nodes, waiter: &Request) -> Option<Request>
-    ensures { result ≡ steps.obstacle waiter.now nodes.now }
+    ensures { result ≡ steps.obstacle waiter.now nodes.now.requests }
 {
     let mut walk = nodes.queue(&waiter.granule);
     while let Some((_, other)) = walk.advance() {

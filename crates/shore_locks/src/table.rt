@@ -1,26 +1,25 @@
 //! The lock table.
-ghost use Rattle.std.specs.Prelude.{◌≡◌, ◌≤◌, ◌+◌, ℕ, [], length, IfErr, IfOk, OnOk, OnErr, Ok, Err, false};
-ghost use Rattle.shore_types.specs.declared.faults.Fault.TheVariants.{Memory};
+ghost use Rattle.std.specs.Prelude.{◌≡◌, ◌≤◌, [], length, IfOk, false};
 ghost use Rattle.shore_model.specs.Requests.{requests_by};
 ghost use Rattle.shore_locks.specs.Grants.{after_request, after_try, answer_to, answer_to_try, cancelled, released};
 ghost use Rattle.shore_locks.specs.Tables.{holders_at, is_waiting, mode_held, waiters_at, waiting_request};
 ghost use Rattle.shore_locks.specs.Orderly.{IsOrderly};
 
 use crate::answers::{Requested, Tried};
+use crate::counted::Counted;
 use crate::findings::{Finding, check_request};
-use crate::nodes::Nodes;
+use crate::listings::Requests;
 use crate::queues::{Holders, Waiters};
 use crate::{changes, searches};
 use shore_model::Request;
-use shore_types::{Fault, Granule, Mode, TxnId};
+use shore_types::{Granule, Mode, TxnId};
 use std::alloc::{AllocError, Global};
 use std::marker::Model;
 
 /// What each transaction holds and wants of each granule. There is one node (lock request block) for each pair of the two.
 #[derive(Drop)]
 pub struct LockTable {
-    limit: usize,
-    nodes: Nodes,
+    nodes: Counted,
 }
 
 impl Model for LockTable {
@@ -31,19 +30,18 @@ impl Model for LockTable {
 
     ghost use Rattle.shore_locks.specs.Orderly.{IsOrderlyWithin};
 
-    ghost view = { λ t. record { limit = t.limit; requests = t.nodes } };
+    ghost view = { λ t. t.nodes };
 
-    ghost invariant = { λ t. IsOrderlyWithin t.limit t.nodes };
+    ghost invariant = { λ t. IsOrderlyWithin t.nodes.limit t.nodes.requests };
 }
 
 impl LockTable {
-    /// A table with no requests, for so many nodes.
+    /// A table with no requests, with the memory for so many nodes: no later call takes any.
     pub fn new(alloc: Global, limit: usize) -> Result<LockTable, AllocError>
         ensures { IfOk result (λ table. table ≡ record { limit = limit; requests = [] }) }
     {
-        let heads = limit.max(1);
-        let nodes = Nodes::new(alloc, heads)?;
-        Ok(LockTable { limit, nodes })
+        let nodes = Counted::new(alloc, limit)?;
+        Ok(LockTable { nodes })
     }
 
     /// How many nodes there are.
@@ -59,84 +57,98 @@ impl LockTable {
     pub fn held(&self, txn: TxnId, granule: Granule) -> Option<Mode>
         ensures { result ≡ mode_held txn granule self.now.requests }
     {
-        searches::mode_held(&self.nodes, txn, &granule)
+        searches::mode_held(self.nodes.nodes(), txn, &granule)
     }
 
     /// Whether a transaction waits.
     pub fn is_waiting(&self, txn: TxnId) -> bool
         ensures { result ≡ is_waiting txn self.now.requests }
     {
-        searches::waiting_request(&self.nodes, txn).is_some()
+        searches::waiting_request(self.nodes.nodes(), txn).is_some()
     }
 
     /// The request with which a transaction waits.
     pub fn waiting_request(&self, txn: TxnId) -> Option<Request>
         ensures { result ≡ waiting_request txn self.now.requests }
     {
-        searches::waiting_request(&self.nodes, txn)
+        searches::waiting_request(self.nodes.nodes(), txn)
     }
 
     /// Those that hold a granule and want nothing, in the order of its queue.
     pub fn holders(&self, granule: Granule) -> Holders<'_>
         ensures { result ≡ holders_at granule self.now.requests }
     {
-        Holders::new(&self.nodes, granule)
+        Holders::new(self.nodes.nodes(), granule)
     }
 
     /// Those that wait for a granule, in the order of its queue: conversions, which hold it too, and then new waiters.
     pub fn waiters(&self, granule: Granule) -> Waiters<'_>
         ensures { result ≡ waiters_at granule self.now.requests }
     {
-        Waiters::new(&self.nodes, granule)
+        Waiters::new(self.nodes.nodes(), granule)
     }
 
     /// Asks for a granule in a mode, with what the transaction holds of it already. It is granted at once where the transaction
     /// holds as much, or would wait for nobody; else it waits. A transaction that waits asks for nothing.
-    pub fn request(&mut self, txn: TxnId, granule: Granule, mode: Mode) -> Result<Requested, Fault>
+    pub fn request(&mut self, txn: TxnId, granule: Granule, mode: Mode) -> Requested
         requires { is_waiting txn self.old.requests ≡ false }
-        ensures answer { IfOk result (λ answer. answer ≡ answer_to self.old txn granule mode) }
-        ensures table { OnOk result (self.new ≡ record { limit = self.old.limit; requests = after_request self.old txn granule mode }) }
-        ensures refused { OnErr result (self.new ≡ self.old) }
-        ensures memory { IfErr result (λ fault. fault ≡ Memory) }
+        ensures answer { result ≡ answer_to self.old txn granule mode }
+        ensures table { self.new ≡ record { limit = self.old.limit; requests = after_request self.old txn granule mode } }
     {
-        match check_request(&self.nodes, self.limit, txn, &granule, mode) {
-            Finding::Enough => Ok(Requested::Granted),
-            Finding::Full => Ok(Requested::Full),
+        match check_request(&self.nodes, txn, &granule, mode) {
+            Finding::Enough => Requested::Granted,
+            Finding::Full => Requested::Full,
             Finding::Stopped { request, .. } => {
-                changes::place_last(&mut self.nodes, request)?;
-                Ok(Requested::Waiting)
+                changes::place_last(&mut self.nodes, &request);
+                Requested::Waiting
             }
             Finding::Free { request, known } => {
-                changes::grant(&mut self.nodes, &request, known)?;
-                Ok(Requested::Granted)
+                changes::grant(&mut self.nodes, &request, known);
+                Requested::Granted
             }
         }
     }
 
     /// As `request`, but the transaction is not to wait: then the answer is one for whom it would, and nothing changes.
-    pub fn try_request(&mut self, txn: TxnId, granule: Granule, mode: Mode) -> Result<Tried, Fault>
+    pub fn try_request(&mut self, txn: TxnId, granule: Granule, mode: Mode) -> Tried
         requires { is_waiting txn self.old.requests ≡ false }
-        ensures answer { IfOk result (λ answer. answer ≡ answer_to_try self.old txn granule mode) }
-        ensures table { OnOk result (self.new ≡ record { limit = self.old.limit; requests = after_try self.old txn granule mode }) }
-        ensures refused { OnErr result (self.new ≡ self.old) }
-        ensures memory { IfErr result (λ fault. fault ≡ Memory) }
+        ensures answer { result ≡ answer_to_try self.old txn granule mode }
+        ensures table { self.new ≡ record { limit = self.old.limit; requests = after_try self.old txn granule mode } }
     {
-        match check_request(&self.nodes, self.limit, txn, &granule, mode) {
-            Finding::Enough => Ok(Tried::Granted),
-            Finding::Full => Ok(Tried::Full),
-            Finding::Stopped { other, .. } => Ok(Tried::Blocked(other)),
+        match check_request(&self.nodes, txn, &granule, mode) {
+            Finding::Enough => Tried::Granted,
+            Finding::Full => Tried::Full,
+            Finding::Stopped { other, .. } => Tried::Blocked(other),
             Finding::Free { request, known } => {
-                changes::grant(&mut self.nodes, &request, known)?;
-                Ok(Tried::Granted)
+                changes::grant(&mut self.nodes, &request, known);
+                Tried::Granted
             }
         }
+    }
+
+    /// What `try_request` would answer. Nothing changes.
+    pub fn would(&self, txn: TxnId, granule: Granule, mode: Mode) -> Tried
+        ensures { result ≡ answer_to_try self.now txn granule mode }
+    {
+        match check_request(&self.nodes, txn, &granule, mode) {
+            Finding::Enough | Finding::Free { .. } => Tried::Granted,
+            Finding::Full => Tried::Full,
+            Finding::Stopped { other: holder, .. } => Tried::Blocked(holder),
+        }
+    }
+
+    /// The requests of a transaction, in the order in which they came.
+    pub fn requests_of(&self, txn: TxnId) -> Requests<'_>
+        ensures { result ≡ requests_by txn self.now.requests }
+    {
+        Requests::new(self.nodes.nodes(), txn)
     }
 
     /// A transaction waits no more: what it waited for is given up, and what it holds stays. Those behind it may be granted.
     pub fn cancel(&mut self, txn: TxnId)
         ensures { self.new ≡ record { limit = self.old.limit; requests = cancelled txn self.old.requests } }
     {
-        if let Some(request) = searches::waiting_request(&self.nodes, txn) {
+        if let Some(request) = searches::waiting_request(self.nodes.nodes(), txn) {
             changes::take_back(&mut self.nodes, &request);
         }
     }

@@ -99,11 +99,11 @@ fn ask(
 {
     match on_conflict {
         OnConflict::Wait => {
-            let requested = table.request(txn, *granule, mode)?;
+            let requested = table.request(txn, *granule, mode);
             of_request(*granule, requested)
         }
         OnConflict::Refuse => {
-            let tried = table.try_request(txn, *granule, mode)?;
+            let tried = table.try_request(txn, *granule, mode);
             of_try(tried)
         }
     }

@@ -68,9 +68,7 @@ fn step(
     if table.is_waiting(txn) {
         return Ok(true);
     }
-    let Ok(answer) = table.request(txn, choices.granule(), choices.mode()) else {
-        return Ok(false);
-    };
+    let answer = table.request(txn, choices.granule(), choices.mode());
     if answer == Requested::Waiting {
         closed.waits = closed.waits.saturating_add(1);
         return check_break(alloc, table, txn, closed);

@@ -116,7 +116,7 @@ fn asks(table: &mut LockTable, txn: u64, target: Target, mode: Mode, answer: Req
         return false;
     }
     let asked = table.request(TxnId(txn), target.granule(), mode);
-    asked == Ok(answer)
+    asked == answer
 }
 
 fn tries(table: &mut LockTable, txn: u64, target: Target, mode: Mode, outcome: Outcome) -> bool {
@@ -124,16 +124,16 @@ fn tries(table: &mut LockTable, txn: u64, target: Target, mode: Mode, outcome: O
         return false;
     }
     let tried = table.try_request(TxnId(txn), target.granule(), mode);
-    tried == tried_of(outcome)
+    tried_of(outcome) == Some(tried)
 }
 
 // The table itself refuses no mode.
-fn tried_of(outcome: Outcome) -> Result<Tried, Fault> {
+fn tried_of(outcome: Outcome) -> Option<Tried> {
     match outcome {
-        Outcome::Granted => Ok(Tried::Granted),
-        Outcome::Blocked(txn) => Ok(Tried::Blocked(TxnId(txn))),
-        Outcome::Full => Ok(Tried::Full),
-        Outcome::BadMode => Err(Fault::BadMode),
+        Outcome::Granted => Some(Tried::Granted),
+        Outcome::Blocked(txn) => Some(Tried::Blocked(TxnId(txn))),
+        Outcome::Full => Some(Tried::Full),
+        Outcome::BadMode => None,
     }
 }
 

@@ -107,15 +107,11 @@ fn step(
     }
     let (granule, mode) = (choices.granule(), choices.mode());
     if percent < 70 {
-        let Ok(answer) = table.request(txn, granule, mode) else {
-            return Ok(false);
-        };
+        let answer = table.request(txn, granule, mode);
         seen.count_request(answer);
         return Ok(answer == twin.request(txn, &granule, mode)?);
     }
-    let Ok(answer) = table.try_request(txn, granule, mode) else {
-        return Ok(false);
-    };
+    let answer = table.try_request(txn, granule, mode);
     seen.count_try(answer);
     Ok(answer == twin.try_request(alloc, txn, &granule, mode)?)
 }

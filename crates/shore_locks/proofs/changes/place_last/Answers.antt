@@ -2,6 +2,7 @@ use Rattle.std.proofs.Common.{◌++◌, ◌∷◌, [], ap, ◌∙◌}
 use Rattle.shore_locks.proofs.Entering.{placed_new}
 use Rattle.shore_locks.proofs.changes.place_last.Goals as goal
 
-pub returns-clause-ok : goal.returns-clause-ok
-returns-clause-ok c =
-    c.in_ok-push.ensures.ok ∙ ap (λ rs. rs ++ c.args.request ∷ []) c.if-move_last.ensures.1 ∙ placed_new c.args.request c.args.nodes.now c.if-move_last.ensures.0
+pub returns-then-not-move_last-clause-items : goal.returns-then-not-move_last-clause-items
+returns-then-not-move_last-clause-items c =
+    let gone = c.if-not-move_last.ensures.items in
+    c.push.ensures.items ∙ ap (λ rs. rs ++ c.args.request.now ∷ []) gone.1 ∙ placed_new c.args.request.now c.args.nodes.now.requests gone.0

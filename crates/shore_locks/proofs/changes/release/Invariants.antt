@@ -5,5 +5,5 @@ use Rattle.shore_locks.proofs.changes.release.Given as goal
 
 abbrev pub invariant-loop-count : goal.invariant-loop-count
 invariant-loop-count l =
-    AreRequests l.nodes × (released l.txn l.nodes ≡ released l.txn l.initial.nodes)
-    × (l.count + length (requests_by l.txn l.nodes) ≡ length (requests_by l.txn l.initial.nodes))
+    AreRequests l.nodes.requests × (released l.txn l.nodes.requests ≡ released l.txn l.initial.nodes.requests)
+    × (l.nodes.limit ≡ l.initial.nodes.limit) × (l.count + length (requests_by l.txn l.nodes.requests) ≡ length (requests_by l.txn l.initial.nodes.requests))

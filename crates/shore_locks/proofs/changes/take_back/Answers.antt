@@ -4,4 +4,4 @@ use Rattle.shore_locks.proofs.Counts.{AreRequests-stopped}
 use Rattle.shore_locks.proofs.changes.take_back.Goals as goal
 
 pub pass-requires : goal.pass-requires
-pass-requires c = subst AreRequests (sym c.stop_waiting.ensures) (AreRequests-stopped c.args.request.now c.args.nodes.now c.requires)
+pass-requires c = subst AreRequests (sym c.stop_waiting.ensures.items) (AreRequests-stopped c.args.request.now c.args.nodes.now.requests c.requires)

@@ -9,3 +9,7 @@ returns-clause-queues c =
 pub returns-clause-lists : goal.returns-clause-lists
 returns-clause-lists c =
     subst (λ b. LinksIn c.args.lists.now c.link-2.new.self b c.args.node) c.list_head-list.ensures.is (c.link-2.ensures.ring, c.link-2.ensures.others)
+
+pub returns-clause-owners : goal.returns-clause-owners
+returns-clause-owners c =
+    subst (λ b. LinksIn c.args.owners.now c.link-3.new.self b c.args.node) c.owner_head-owner.ensures.is (c.link-3.ensures.ring, c.link-3.ensures.others)

@@ -5,13 +5,14 @@ use Rattle.shore_rings.specs.Rings.{after_at}
 use Rattle.slab.specs.Slab.{slab_len}
 use Rattle.shore_locks.specs.Nodes.{alive, pairs_from}
 use Rattle.shore_locks.proofs.NodeLemmas.{list_requests}
-use Rattle.shore_locks.proofs.NodeSteps.{mod_small}
+use Rattle.shore_locks.proofs.Spreads.{list_small}
+use Rattle.shore_locks.specs.Tallies.{Stored}
 use Rattle.shore_locks.proofs.nodes.Nodes.list.Goals as goal
 
 pub returns : goal.returns
 returns c =
     ap (λ walk. requests_by c.args.txn (map (λ (p : ℕ × Request). p.1) walk))
     (c.new.ensures ∙ ap (λ head. pairs_from (slab_len c.self.inside.slots) c.self.inside.slots c.self.inside.lists c.self.inside.heads head (after_at c.self.inside.lists head)) c.list_head-head.ensures.is)
-    ∙ list_requests c.self.inside.heads c.self.inside.slots c.self.inside.queues c.self.inside.lists (alive c.self.inside.history.items) c.args.txn c.self.invariant
-    (mod_small c.args.txn c.self.inside.heads c.self.invariant.some_heads)
-    ∙ ap (requests_by c.args.txn) c.self.view_is
+    ∙ list_requests c.self.inside.heads c.self.inside.slots c.self.inside.queues c.self.inside.lists c.self.inside.owners (alive c.self.inside.history.items) c.args.txn c.self.invariant.0
+    (list_small c.args.txn c.self.inside.heads c.self.invariant.0.some_heads)
+    ∙ ap (requests_by c.args.txn) (ap (λ (t : Stored). t.requests) c.self.view_is)

@@ -1,36 +1,27 @@
-use Rattle.std.proofs.Common.{◌++◌, ◌∷◌, [], Some, arith, sym, ap, subst, ◌∙◌}
-use Rattle.slab.specs.Slab.{Updates}
-use Rattle.shore_locks.specs.Nodes.{alive}
-use Rattle.shore_locks.proofs.NodeSteps.{more_requests, more_linked, grown_linked, requests_reserved, reserved_linked}
+use Rattle.std.proofs.Common.{◌<◌, ◌+◌, length, refl, ◌++◌, ◌∷◌, [], ap, sym, subst, ◌∙◌}
+use Rattle.shore_locks.specs.Nodes.{alive, request_at, requests_in}
+use Rattle.slab.specs.Slab.{slab_len}
+use Rattle.std.proofs.lemmas.List.{length-map}
+use Rattle.shore_locks.specs.Tallies.{Stored}
+use Rattle.shore_locks.proofs.NodeSteps.{more_requests, more_linked, room_left, room_same}
 use Rattle.shore_locks.proofs.nodes.Nodes.push.Goals as goal
 
+pub insert-key-requires : goal.insert-key-requires
+insert-key-requires c =
+    let short = subst (λ (t : Stored). length t.requests < t.limit) (sym c.self.view_is) c.requires in
+    room_left c.self.inside.limit c.self.inside.heads c.self.inside.slots.capacity _ _ _ (length (requests_in c.self.inside.slots (alive c.self.inside.history.items))) (slab_len c.self.inside.slots) c.self.invariant.1
+    (c.self.invariant.0.count ∙ sym (length-map (alive c.self.inside.history.items) (request_at c.self.inside.slots))) short
+
 pub invariant_of-self : goal.invariant_of-self
-invariant_of-self c = reserved_linked c.self.inside.heads c.self.inside.slots c.reserve.new.self c.self.inside.queues c.self.inside.lists (alive c.self.inside.history.items) c.reserve.ensures.rest_kept c.self.invariant
+invariant_of-self c = (
+  more_linked c.self.inside.heads c.self.inside.slots c.insert-key.new.slots c.self.inside.queues c.self.inside.lists c.self.inside.owners c.link_node.new.queues c.link_node.new.lists c.link_node.new.owners c.self.inside.history.items c.and-self-inside.result.items
+      c.args.request.now c.insert-key.result (c.self.inside.heads + c.insert-key.result) c.self.invariant.0 c.insert-key.ensures.vacant refl c.insert-key.ensures.updates c.insert-key.ensures.len
+      c.link_node.ensures.queues c.link_node.ensures.lists c.link_node.ensures.owners c.link_node.ensures.queue_nodes c.link_node.ensures.list_nodes c.link_node.ensures.owner_nodes c.and-self-inside.ensures,
+  room_same c.self.invariant.1 c.insert-key.ensures.capacity c.link_node.ensures.queue_nodes c.link_node.ensures.list_nodes c.link_node.ensures.owner_nodes,
+)
 
-pub invariant_of-self-in_default : goal.invariant_of-self-in_default
-invariant_of-self-in_default c = reserved_linked c.self.inside.heads c.self.inside.slots c.reserve.new.self c.self.inside.queues c.self.inside.lists (alive c.self.inside.history.items) c.reserve.ensures.rest_kept c.self.invariant
-
-pub invariant_of-self-in_err-grow_to : goal.invariant_of-self-in_err-grow_to
-invariant_of-self-in_err-grow_to c =
-    grown_linked c.self.inside.heads c.self.inside.slots c.reserve.new.self c.self.inside.queues c.self.inside.lists (alive c.self.inside.history.items) c.grow_to.new.rings c.self.inside.lists
-    c.reserve.ensures.rest_kept c.self.invariant c.grow_to.ensures.kept (λ head xs ring. ring) c.grow_to.ensures.longer (omega arith)
-
-pub invariant_of-self-in_err-grow_to-2 : goal.invariant_of-self-in_err-grow_to-2
-invariant_of-self-in_err-grow_to-2 c =
-    grown_linked c.self.inside.heads c.self.inside.slots c.reserve.new.self c.self.inside.queues c.self.inside.lists (alive c.self.inside.history.items) c.grow_to.new.rings c.grow_to-2.new.rings
-    c.reserve.ensures.rest_kept c.self.invariant c.grow_to.ensures.kept c.grow_to-2.ensures.kept c.grow_to.ensures.longer c.grow_to-2.ensures.longer
-
-pub invariant_of-self-2 : goal.invariant_of-self-2
-invariant_of-self-2 c =
-    let ready = grown_linked c.self.inside.heads c.self.inside.slots c.reserve.new.self c.self.inside.queues c.self.inside.lists (alive c.self.inside.history.items) c.grow_to.new.rings c.grow_to-2.new.rings
-    c.reserve.ensures.rest_kept c.self.invariant c.grow_to.ensures.kept c.grow_to-2.ensures.kept c.grow_to.ensures.longer c.grow_to-2.ensures.longer in
-    more_linked c.self.inside.heads c.reserve.new.self c.insert.new.slots c.grow_to.new.rings c.grow_to-2.new.rings c.link_node.new.queues c.link_node.new.lists c.self.inside.history.items c.and-self-inside.result.items
-    c.args.request c.vacant_key-key.result c.in-Some.node ready c.vacant_key-key.ensures.vacant (omega (arith, c.in-Some.ensures)) (subst (λ k. Updates c.reserve.new.self c.insert.new.slots k (Some c.args.request)) (sym c.vacant_key-key.ensures.value) c.insert.ensures.updates) c.insert.ensures.len
-    c.link_node.ensures.queues c.link_node.ensures.lists c.link_node.ensures.queue_nodes c.link_node.ensures.list_nodes c.and-self-inside.ensures
-
-pub returns-clause-ok : goal.returns-clause-ok
-returns-clause-ok c =
-    let ready = reserved_linked c.self.inside.heads c.self.inside.slots c.reserve.new.self c.self.inside.queues c.self.inside.lists (alive c.self.inside.history.items) c.reserve.ensures.rest_kept c.self.invariant in
-    more_requests c.self.inside.heads c.reserve.new.self c.insert.new.slots c.self.inside.queues c.self.inside.lists c.self.inside.history.items c.and-self-inside.result.items c.args.request c.vacant_key-key.result ready
-    c.vacant_key-key.ensures.vacant (subst (λ k. Updates c.reserve.new.self c.insert.new.slots k (Some c.args.request)) (sym c.vacant_key-key.ensures.value) c.insert.ensures.updates) c.and-self-inside.ensures
-    ∙ ap (λ xs. xs ++ c.args.request ∷ []) (requests_reserved c.self.inside.slots c.reserve.new.self (alive c.self.inside.history.items) c.reserve.ensures.rest_kept ∙ c.self.view_is)
+pub returns-clause-items : goal.returns-clause-items
+returns-clause-items c =
+    more_requests c.self.inside.heads c.self.inside.slots c.insert-key.new.slots c.self.inside.queues c.self.inside.lists c.self.inside.owners c.self.inside.history.items c.and-self-inside.result.items c.args.request.now c.insert-key.result c.self.invariant.0
+    c.insert-key.ensures.vacant c.insert-key.ensures.updates c.and-self-inside.ensures
+    ∙ ap (λ (t : Stored). t.requests ++ c.args.request.now ∷ []) c.self.view_is

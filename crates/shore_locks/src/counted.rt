@@ -1,0 +1,180 @@
+//! Nodes, and for each head how many hold in each mode and how many wait: most often nobody is in the way, and that is seen at once.
+ghost use Rattle.std.specs.Prelude.{◌≡◌, ◌<◌, ◌++◌, ◌∷◌, [], IfOk, IsTrue, IsFalse, MatchBool, MatchOption, None, Some, false, length, nat_lt, not, slice_get, true};
+ghost use Rattle.std.specs.List.{list_any};
+ghost use Rattle.shore_model.specs.Requests.{AreRequests, are_alike, placed_last, requests_by};
+ghost use Rattle.shore_locks.specs.Grants.{granted_in_turn, obstacle, removed, replaced};
+ghost use Rattle.shore_locks.specs.Granting.{new_waiters};
+ghost use Rattle.shore_locks.specs.Tables.{waiters_at};
+ghost use Rattle.shore_locks.specs.Tallies.{Counts, crowd};
+
+use crate::heads::queue_head;
+use crate::nodes::Nodes;
+use crate::searches::request_for;
+use crate::tallies::{Tally, tally_of};
+use shore_model::Request;
+use shore_types::{Granule, TxnId};
+use std::alloc::{AllocError, Global};
+use std::marker::Model;
+
+/// A list of requests, and how many there may be.
+#[derive(Drop)]
+pub struct Counted {
+    nodes: Nodes,
+    tallies: Vec<Tally>,
+}
+
+impl Model for Counted {
+    ghost use Rattle.shore_locks.specs.Tables.{Table};
+
+    ghost Value = { Table };
+
+    ghost use Rattle.shore_locks.specs.Tallies.{AreCounted};
+
+    ghost view = { λ c. record { limit = c.nodes.limit; requests = c.nodes.requests } };
+
+    ghost invariant = { λ c. AreCounted c.tallies.items c.nodes };
+}
+
+impl Counted {
+    /// No requests, with the memory for as many as there may be.
+    pub fn new(alloc: Global, limit: usize) -> Result<Counted, AllocError>
+        ensures { IfOk result (λ table. table ≡ record { limit = limit; requests = [] }) }
+    {
+        let nodes = Nodes::new(alloc, limit)?;
+        let tallies = vec![in alloc; Tally::none(); nodes.heads()]?;
+        Ok(Counted { nodes, tallies })
+    }
+
+    /// The nodes.
+    pub fn nodes(&self) -> &Nodes
+        ensures requests { result.now.requests ≡ self.now.requests }
+        ensures limit { result.now.limit ≡ self.now.limit }
+    {
+        &self.nodes
+    }
+
+    /// Whether somebody may wait for a granule: nobody does if not.
+    pub fn may_have_waiters(&self, granule: &Granule) -> bool
+        ensures { IsFalse result → waiters_at granule.now self.now.requests ≡ [] }
+    {
+        let head = queue_head(granule, self.nodes.heads());
+        self.tallies[head].has_waiters()
+    }
+
+    /// Whether it is seen at once that nobody is in the way of a request.
+    pub fn lets_in(&self, request: &Request) -> bool
+        ensures { IsTrue result → obstacle request.now self.now.requests ≡ None }
+    {
+        let head = queue_head(&request.granule, self.nodes.heads());
+        match request.wanted {
+            Some(wanted) => self.tallies[head].lets_in(wanted),
+            None => false,
+        }
+    }
+
+    /// A request comes last. There is a node for it, and its memory.
+    pub fn push(&mut self, request: &Request)
+        requires { length self.old.requests < self.old.limit }
+        ensures items { self.new.requests ≡ self.old.requests ++ request.now ∷ [] }
+        ensures limit { self.new.limit ≡ self.old.limit }
+    {
+        let head = queue_head(&request.granule, self.nodes.heads());
+        let tally = self.tallies[head].with(request);
+        self.nodes.push(request);
+        self.nodes.len();
+        self.tallies[head] = tally;
+    }
+
+    /// Puts a request in the place of the one of its transaction for its granule.
+    pub fn replace(&mut self, request: &Request)
+        requires { AreRequests self.old.requests }
+        ensures items { self.new.requests ≡ replaced request.now self.old.requests }
+        ensures limit { self.new.limit ≡ self.old.limit }
+    {
+        if let Some(old) = request_for(&self.nodes, request.txn, &request.granule) {
+            let head = queue_head(&request.granule, self.nodes.heads());
+            let gone = self.tallies[head].without(&old);
+            self.nodes.len();
+            self.nodes.replace(request);
+            self.tallies[head] = gone.with(request);
+        }
+    }
+
+    /// Takes out the first request of a transaction.
+    pub fn pop_first(&mut self, txn: TxnId) -> Option<Request>
+        requires { AreRequests self.old.requests }
+        ensures items { MatchOption result
+            ((None ≡ slice_get (requests_by txn self.old.requests) 0) × (self.new.requests ≡ self.old.requests))
+            (λ r. (Some r ≡ slice_get (requests_by txn self.old.requests) 0) × (self.new.requests ≡ removed r self.old.requests)) }
+        ensures limit { self.new.limit ≡ self.old.limit }
+    {
+        let heads = self.nodes.heads();
+        match self.nodes.pop_first(txn) {
+            Some(request) => {
+                let head = queue_head(&request.granule, heads);
+                let tally = self.tallies[head].without(&request);
+                self.tallies[head] = tally;
+                Some(request)
+            }
+            None => None,
+        }
+    }
+
+    /// Takes the request of its transaction for its granule out.
+    pub fn remove(&mut self, request: &Request)
+        requires { AreRequests self.old.requests }
+        ensures items { self.new.requests ≡ removed request.now self.old.requests }
+        ensures limit { self.new.limit ≡ self.old.limit }
+    {
+        let head = queue_head(&request.granule, self.nodes.heads());
+        self.nodes.remove(request);
+        self.tallies[head] = recount(&self.nodes, head);
+    }
+
+    /// Moves the request of its transaction for its granule last, as this one. The answer is whether it was there.
+    pub fn move_last(&mut self, request: &Request) -> bool
+        requires { AreRequests self.old.requests }
+        ensures items { MatchBool result
+            ((list_any (λ q. are_alike q request.now) self.old.requests ≡ true) × (self.new.requests ≡ placed_last request.now self.old.requests))
+            ((list_any (λ q. are_alike q request.now) self.old.requests ≡ false) × (self.new.requests ≡ self.old.requests)) }
+        ensures limit { self.new.limit ≡ self.old.limit }
+    {
+        let head = queue_head(&request.granule, self.nodes.heads());
+        let was_there = self.nodes.move_last(request);
+        self.tallies[head] = recount(&self.nodes, head);
+        was_there
+    }
+
+    /// Grants the new waiters of a granule in their order, up to the first whom a holder refuses.
+    pub fn grant_new(&mut self, granule: &Granule)
+        requires { AreRequests self.old.requests }
+        ensures items { self.new.requests ≡ granted_in_turn (new_waiters granule.now self.old.requests) self.old.requests }
+        ensures limit { self.new.limit ≡ self.old.limit }
+    {
+        let head = queue_head(granule, self.nodes.heads());
+        self.nodes.grant_new(granule);
+        self.tallies[head] = recount(&self.nodes, head);
+    }
+
+    /// Whether there are as many requests as there may be.
+    pub fn is_full(&self) -> bool
+        ensures { result ≡ not (nat_lt (length self.now.requests) self.now.limit) }
+    {
+        self.nodes.is_full()
+    }
+
+    /// How many requests there are.
+    pub fn len(&self) -> usize
+        ensures { result ≡ length self.now.requests }
+    {
+        self.nodes.len()
+    }
+}
+
+fn recount(nodes: &Nodes, head: usize) -> Tally
+    requires { head < nodes.now.heads }
+    ensures { Counts result (crowd nodes.now.heads head nodes.now.requests) }
+{
+    nodes.len();
+    tally_of(nodes.crowd(head))
+}

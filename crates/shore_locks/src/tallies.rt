@@ -1,0 +1,115 @@
+//! How many of a queue hold in each mode, and how many wait.
+ghost use Rattle.std.specs.Prelude.{◌≡◌, ◌<◌, ◌+◌, ◌-◌, ◌^◌, [], ℕ, Some, IsFalse, IsTrue, is_some, length, map, true};
+ghost use Rattle.shore_types.specs.declared.locking.Mode.{Mode};
+ghost use Rattle.shore_locks.specs.Grants as steps;
+ghost use Rattle.shore_model.specs.declared.requests.Request.{Request};
+ghost use Rattle.shore_locks.specs.Tallies as counts;
+ghost use Rattle.shore_locks.specs.Tallies.{count_in, is_just, one_if};
+
+use crate::walks::Walk;
+use shore_model::Request;
+use shore_modes::grants;
+use shore_types::Mode;
+
+/// How many requests hold in each mode, and how many want something.
+#[derive(Clone, Copy)]
+pub struct Tally {
+    is: usize,
+    ix: usize,
+    sh: usize,
+    six: usize,
+    ex: usize,
+    ud: usize,
+    waiting: usize,
+}
+
+impl Tally {
+    /// Of no requests.
+    pub fn none() -> Tally
+        ensures { counts.Counts result [] }
+    {
+        Tally {
+            is: 0,
+            ix: 0,
+            sh: 0,
+            six: 0,
+            ex: 0,
+            ud: 0,
+            waiting: 0,
+        }
+    }
+
+    /// With one request more.
+    pub fn with(self, request: &Request) -> Tally
+        ensures holding { (m : Mode) → count_in self m + 1 < 2 ^ 64 → count_in result m ≡ count_in self m + one_if (is_just m request.now.held) }
+        ensures waiting { self.waiting + 1 < 2 ^ 64 → result.waiting ≡ self.waiting + one_if (is_some request.now.wanted) }
+    {
+        let mut tally = self;
+        match request.held {
+            None => {}
+            Some(Mode::IS) => tally.is = self.is.saturating_add(1),
+            Some(Mode::IX) => tally.ix = self.ix.saturating_add(1),
+            Some(Mode::SH) => tally.sh = self.sh.saturating_add(1),
+            Some(Mode::SIX) => tally.six = self.six.saturating_add(1),
+            Some(Mode::EX) => tally.ex = self.ex.saturating_add(1),
+            Some(Mode::UD) => tally.ud = self.ud.saturating_add(1),
+        }
+        if request.wanted.is_some() {
+            tally.waiting = self.waiting.saturating_add(1);
+        }
+        tally
+    }
+
+    /// With one request fewer.
+    pub fn without(self, request: &Request) -> Tally
+        ensures holding { (m : Mode) → count_in result m ≡ count_in self m - one_if (is_just m request.now.held) }
+        ensures waiting { result.waiting ≡ self.waiting - one_if (is_some request.now.wanted) }
+    {
+        let mut tally = self;
+        match request.held {
+            None => {}
+            Some(Mode::IS) => tally.is = self.is.saturating_sub(1),
+            Some(Mode::IX) => tally.ix = self.ix.saturating_sub(1),
+            Some(Mode::SH) => tally.sh = self.sh.saturating_sub(1),
+            Some(Mode::SIX) => tally.six = self.six.saturating_sub(1),
+            Some(Mode::EX) => tally.ex = self.ex.saturating_sub(1),
+            Some(Mode::UD) => tally.ud = self.ud.saturating_sub(1),
+        }
+        if request.wanted.is_some() {
+            tally.waiting = self.waiting.saturating_sub(1);
+        }
+        tally
+    }
+
+    /// Whether somebody wants something.
+    pub fn has_waiters(self) -> bool
+        ensures none { IsFalse result → self.waiting ≡ 0 }
+        ensures some { IsTrue result → 0 < self.waiting }
+    {
+        self.waiting > 0
+    }
+
+    /// Whether nobody wants something, and no mode is held that refuses this one.
+    pub fn lets_in(self, asked: Mode) -> bool
+        ensures { IsTrue result → (self.waiting ≡ 0) × ((m : Mode) → steps.is_refused (Some asked) (Some m) ≡ true → count_in self m ≡ 0) }
+    {
+        self.waiting == 0
+            && (self.is == 0 || grants(Mode::IS, asked))
+            && (self.ix == 0 || grants(Mode::IX, asked))
+            && (self.sh == 0 || grants(Mode::SH, asked))
+            && (self.six == 0 || grants(Mode::SIX, asked))
+            && (self.ex == 0 || grants(Mode::EX, asked))
+            && (self.ud == 0 || grants(Mode::UD, asked))
+    }
+}
+
+/// Of the requests of a walk.
+pub fn tally_of(mut walk: Walk<'_>) -> Tally
+    ensures { length walk.entry < 2 ^ 64 → counts.Counts result (map (λ (p : ℕ × Request). p.1) walk.entry) }
+{
+    let mut tally = Tally::none();
+    while let Some((_, request)) = walk.advance() {
+        tally = tally.with(&request);
+    }
+    tally
+}
