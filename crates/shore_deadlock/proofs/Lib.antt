@@ -1,3 +1,4 @@
+pub mod MarkLemmas
 pub mod ReachedSteps
 pub mod Edges
 pub mod Changes

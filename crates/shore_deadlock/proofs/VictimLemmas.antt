@@ -8,7 +8,7 @@ use Rattle.shore_model.specs.declared.requests.Request.{Request}
 use Rattle.shore_model.specs.Requests.{HasNoCycle, IsCycle, WaitsFor}
 use Rattle.shore_locks.specs.Orderly.{IsOrderly}
 use Rattle.shore_locks.specs.Grants.{cancelled}
-use Rattle.shore_locks.proofs.Members.{In, All-In, In-All, In-Contains, In-left, In-right, either}
+use Rattle.shore_locks.proofs.Members.{In, All-In, Contains-In, In-All, In-Contains, In-left, In-right, either}
 use Rattle.shore_locks.proofs.Fits.{any_of, found_any}
 use Rattle.shore_locks.proofs.Outcomes.{quiet_after_cancel}
 use Rattle.shore_locks.proofs.Tables.{orderly_cancelled}
@@ -149,3 +149,19 @@ pub free_after : (rs : List Request) (t : ℕ) (vs : List Victim) → IsOrderly 
 free_after rs t vs orderly all each cycle closed =
     none_left rs t vs orderly all cycle closed
     (each cycle (cycle_as (after_victims vs rs) rs cycle (λ a b in_a in_b h. after_adds_none vs rs orderly a b h) closed))
+
+-- a victim that is the transaction itself ends all cycles that pass it
+pub none_past : (rs : List Request) (t : ℕ) (vs : List Victim) (v : Victim) → v.txn ≡ t → IsOnNoCycleWithout (vs ++ v ∷ []) rs t
+none_past rs t vs v same cycle closed passes spared =
+    let one : is_victim (vs ++ v ∷ []) t ≡ true = any_of (λ (x : Victim). x.txn == t) (vs ++ v ∷ []) v (In-right vs (v ∷ []) v (inl refl)) ((Decides-eqb v.txn t).1 same) in
+    let none : is_victim (vs ++ v ∷ []) t ≡ false = In-All (λ u. is_victim (vs ++ v ∷ []) u ≡ false) cycle t spared (Contains-In cycle t passes) in
+    clash one none
+
+-- what a search found, and the victim that was made of it
+pub record IsChosen (rs : List Request) (t : ℕ) (vs : List Victim) (cycle : List ℕ) (v : Victim) : Type 0 where
+  pub simple : IsSimpleCycleFrom rs t cycle
+  pub spared : AreNoVictims vs cycle
+  pub made : IsMadeOf cycle v
+
+pub chosen_more : (rs : List Request) (t : ℕ) (vs : List Victim) (cycle : List ℕ) (v : Victim) → IsOrderly rs → AreVictims rs t vs → IsChosen rs t vs cycle v → AreVictims rs t (vs ++ v ∷ [])
+chosen_more rs t vs cycle v orderly are chosen = victims_more rs t vs v are (is_victim_of rs t vs cycle v orderly chosen.simple chosen.spared chosen.made)

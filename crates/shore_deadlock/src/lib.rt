@@ -3,6 +3,7 @@
 
 mod blockers;
 pub mod laws;
+mod marks;
 mod reached;
 pub mod search;
 pub mod victims;

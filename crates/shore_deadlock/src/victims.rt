@@ -5,7 +5,7 @@ ghost use Rattle.shore_model.specs.Requests.{HasNoCycle};
 ghost use Rattle.shore_locks.specs.Tables.{is_waiting};
 ghost use Rattle.shore_deadlock.specs.Cycles.{AreVictims, IsOnEachCycle, IsOnNoCycle, IsOnNoCycleWithout, after_victims};
 
-use crate::search::cycle_without;
+use crate::search::Search;
 use shore_locks::LockTable;
 use shore_locks::laws::tables_are_orderly;
 use shore_types::{Fault, Sequence, TxnId};
@@ -47,12 +47,16 @@ fn choose(alloc: Global, table: &LockTable, txn: TxnId) -> Result<Vec<Victim>, F
     ensures memory { IfErr result (λ fault. fault ≡ Memory) }
 {
     tables_are_orderly(table);
-    let mut victims = Vec::new(alloc);
-    while let Some(cycle) = cycle_without(alloc, table, txn, &victims)? {
+    let mut search = Search::new(alloc, txn)?;
+    while let Some(cycle) = search.next_cycle(alloc, table)? {
         let victim = victim_of(cycle);
-        victims.push(victim)?;
+        if victim.txn == txn {
+            let victims = search.end_with(victim)?;
+            return Ok(victims);
+        }
+        search.pass_over(victim)?;
     }
-    Ok(victims)
+    Ok(search.into_victims())
 }
 
 fn victim_of(mut cycle: Vec<TxnId>) -> Victim
