@@ -10,3 +10,7 @@ pub mod ReachedLemmas
 pub mod Ahead
 pub mod Searches
 pub mod VictimLemmas
+pub mod AcquireLemmas
+pub mod Counting
+pub mod Lockings
+pub mod Rounds

@@ -28,7 +28,7 @@ after_adds_none [] rs orderly a b h = h
 after_adds_none (v ∷ vs) rs orderly a b h =
     cancelled_adds_none rs v.txn a b orderly (after_adds_none vs (cancelled v.txn rs) (orderly_cancelled v.txn rs orderly) a b h)
 
-still_quiet : (vs : List Victim) (rs : List Request) (u : ℕ) → IsOrderly rs → is_waiting u rs ≡ false → is_waiting u (after_victims vs rs) ≡ false
+pub still_quiet : (vs : List Victim) (rs : List Request) (u : ℕ) → IsOrderly rs → is_waiting u rs ≡ false → is_waiting u (after_victims vs rs) ≡ false
 still_quiet [] rs u orderly quiet = quiet
 still_quiet (v ∷ vs) rs u orderly quiet = still_quiet vs (cancelled v.txn rs) u (orderly_cancelled v.txn rs orderly) (cancelled_keeps_quiet rs v.txn u orderly.one_each quiet)
 
@@ -48,10 +48,10 @@ victims_quiet vs rs orderly = All-In (λ v. is_waiting v.txn (after_victims vs r
 victim_waits_not : (vs : List Victim) (rs : List Request) (v : Victim) → IsOrderly rs → In v vs → (u : ℕ) → WaitsFor (after_victims vs rs) v.txn u → ⊥
 victim_waits_not vs rs v orderly there u h = quiet_waits_not v.txn (after_victims vs rs) (victim_quiet vs rs v orderly there) u h
 
-first_victim : (v : Victim) (vs : List Victim) (u : ℕ) → v.txn ≡ u → is_victim (v ∷ vs) u ≡ true
+pub first_victim : (v : Victim) (vs : List Victim) (u : ℕ) → v.txn ≡ u → is_victim (v ∷ vs) u ≡ true
 first_victim v vs u same = any_of (λ x. x.txn == u) (v ∷ vs) v (inl refl) ((Decides-eqb v.txn u).1 same)
 
-later_spared : (v : Victim) (vs : List Victim) (u : ℕ) → is_victim (v ∷ vs) u ≡ false → is_victim vs u ≡ false
+pub later_spared : (v : Victim) (vs : List Victim) (u : ℕ) → is_victim (v ∷ vs) u ≡ false → is_victim vs u ≡ false
 later_spared v vs u spared =
     ⊎_elim
     (λ one. absurd (
@@ -81,7 +81,7 @@ pub record IsMadeOf (cycle : List ℕ) (v : Victim) : Type 0 where
   pub first : slice_get v.cycle 0 ≡ Some v.txn
   pub greatest : All (λ t. t ≤ v.txn) v.cycle
 
-first_In : (ts : List ℕ) (t : ℕ) → slice_get ts 0 ≡ Some t → In t ts
+pub first_In : (ts : List ℕ) (t : ℕ) → slice_get ts 0 ≡ Some t → In t ts
 first_In [] t is = cc
 first_In (u ∷ us) t is = let same : u ≡ t = cc in inl same
 

@@ -3,3 +3,4 @@ pub mod Blockers
 pub mod Reached
 pub mod Cycles
 pub mod Searching
+pub mod Locking
