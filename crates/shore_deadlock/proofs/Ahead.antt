@@ -1,15 +1,17 @@
 -- Those whom `blockers` lists are just those for whom a transaction waits.
 use Rattle.std.proofs.Common.{◌≡◌, ◌++◌, inl, inr, ⊎_elim, ℕ, List, [], ◌∷◌, true, false, Option, None, Some, refl, ap, sym, subst, ◌∙◌}
-use Rattle.std.specs.Prelude.{not, ◌==◌, is_some}
+use Rattle.std.specs.Prelude.{not, ◌==◌, is_some, IsSomeAnd}
 use Rattle.std.proofs.lemmas.Bool.Decides.{Decides-eqb}
 use Rattle.shore_types.specs.declared.locking.Granule.{Granule}
 use Rattle.shore_model.specs.declared.requests.Request.{Request}
 use Rattle.shore_model.specs.declared.requests.Group.TheVariants.{Holders}
-use Rattle.shore_model.specs.Requests.{AreRequests, Before, WaitsFor, are_alike}
+use Rattle.shore_types.specs.declared.locking.Mode.{Mode}
+use Rattle.shore_model.specs.Modes.{grants}
+use Rattle.shore_model.specs.Requests.{AreRequests, Before, IsRefusedBy, WaitsFor, are_alike}
 use Rattle.shore_locks.specs.Tables.{holders_at, waiters_at, waiting_request}
 use Rattle.shore_locks.specs.Grants.{is_refused, refuses}
 use Rattle.shore_locks.proofs.Members.{In, Contains-In, In-All, In-Contains, In-append, In-left, In-right, either}
-use Rattle.shore_locks.proofs.Keys.{alike-Decides}
+use Rattle.shore_locks.proofs.Keys.{alike-Decides, alike-self, only_one}
 use Rattle.shore_locks.proofs.Passes.{AreRequests-waiters, In-waiters}
 use Rattle.shore_locks.proofs.Fits.{Fit, no_of}
 use Rattle.shore_locks.proofs.Entering.{both_true, none_waits}
@@ -18,6 +20,7 @@ use Rattle.shore_deadlock.specs.Blockers.{ahead, blockers, refusing, stoppers}
 use Rattle.shore_deadlock.proofs.Edges.{edge_of, group, of_group, queue-In, waits_of, clash}
 use Rattle.shore_deadlock.proofs.Changes.{Before-In, Before-waiters, before_right, is_refused_of, queue_parts, no_holder, waiter_wants}
 use Rattle.shore_deadlock.proofs.Steps.{Waits, waits_as}
+use Rattle.shore_deadlock.specs.Searching.{ShareQueue}
 
 -- ---- those that refuse
 
@@ -194,3 +197,72 @@ waits_listed t rs fit u h =
     (before_listed w.granule (waiters_at w.granule rs) w e.other (AreRequests-waiters w.granule rs fit.one) (λ q q_in. (In-waiters w.granule rs q q_in).1)
     (Before-waiters w.granule rs e.other w behind.1 behind.2)))
     e.why))
+
+-- ---- one who waits ahead, in the same queue for the same mode
+
+Before_trans : (xs : List Request) (a b d : Request) → AreRequests xs → Before xs a b → Before xs b d → Before xs a d
+Before_trans [] a b d one h k = absurd h
+Before_trans (x ∷ xs) a b d one h k =
+    ⊎_elim
+    (λ here. ⊎_elim
+    (λ twice. absurd (let apart = In-All (λ o. are_alike x o ≡ false) xs b one.0 (Contains-In xs b here.1) in let alike = ap (are_alike x) (sym twice.0) ∙ alike-self x in clash alike apart))
+    (λ later. inl (here.0, In-Contains xs d (Before-In xs b d later).1)) k)
+    (λ rest. ⊎_elim
+    (λ twice. absurd (let apart = In-All (λ o. are_alike x o ≡ false) xs b one.0 (Before-In xs a b rest).1 in let alike = ap (are_alike x) (sym twice.0) ∙ alike-self x in clash alike apart))
+    (λ later. inr (Before_trans xs a b d one.1 rest later)) k)
+    h
+
+refuses_nothing : (wanted held : Option Mode) → held ≡ None → is_refused wanted held ≡ false
+refuses_nothing None None is = refl
+refuses_nothing (Some m) None is = refl
+refuses_nothing wanted (Some m) is = cc
+
+-- a request that holds nothing refuses nobody
+none_refuses : (w o : Request) → o.held ≡ None → IsRefusedBy w o → ⊥
+none_refuses w o none h = let refused = is_refused_of w.wanted o.held h in let never = refuses_nothing w.wanted o.held none in clash refused never
+
+-- then whoever is waited for by the one ahead is waited for by the one behind
+pub shared_waits : (rs : List Request) → Fit rs → (t p u : ℕ) → ShareQueue rs t p → WaitsFor rs p t → WaitsFor rs t u → WaitsFor rs p u
+shared_waits rs fit t p u share behind waits =
+    let w = share.mine in
+    let v = share.other in
+    let mine = waits_as t rs w share.waits in
+    let its = waits_as p rs v share.other_waits in
+    let e = edge_of rs t u waits in
+    let f = edge_of rs p t behind in
+    let e_is : e.waiter ≡ w = fit.once e.waiter w e.waiter_in mine.there (e.by ∙ sym mine.by) (waiter_wants rs t u e) mine.wants in
+    let f_is : f.waiter ≡ v = fit.once f.waiter v f.waiter_in its.there (f.by ∙ sym its.by) (waiter_wants rs p t f) its.wants in
+    let f_at : f.other.granule ≡ w.granule = f.beside ∙ ap (λ (x : Request). x.granule) f_is ∙ sym share.at in
+    let f_other : f.other ≡ w = only_one rs fit.one f.other w f.other_in mine.there ((alike-Decides f.other w).1 (f.upon ∙ sym mine.by, f_at)) in
+    let e_at : e.other.granule ≡ v.granule = e.beside ∙ ap (λ (x : Request). x.granule) e_is ∙ share.at in
+    -- the one ahead stands before the one behind
+    let ahead : Before (waiters_at v.granule rs) w v =
+    ⊎_elim
+    (λ refused. absurd (none_refuses f.waiter w share.new (subst (IsRefusedBy f.waiter) f_other refused)))
+    (λ after. subst (λ x. Before (waiters_at v.granule rs) x v) f_other
+    (subst (λ x. Before (waiters_at x.granule rs) f.other x) f_is (Before-waiters f.waiter.granule rs f.other f.waiter after.1 after.2)))
+    f.why in
+    let one = AreRequests-waiters v.granule rs fit.one in
+    let same_key : p ≡ u → e.other ≡ v = λ same. only_one rs fit.one e.other v e.other_in its.there ((alike-Decides e.other v).1 (e.upon ∙ sym same ∙ sym its.by, e_at)) in
+    ⊎_elim
+    (λ refused.
+    let by_v : IsRefusedBy v e.other =
+    subst (λ o. IsSomeAnd o (λ asked. IsSomeAnd e.other.held (λ mode. grants mode asked ≡ false))) (ap (λ (x : Request). x.wanted) e_is ∙ share.wanted) refused in
+    waits_of rs p u (record {
+      apart = λ same. none_refuses v v share.other_new (subst (IsRefusedBy v) (same_key same) by_v);
+      waiter = v;
+      other = e.other;
+      waiter_in = its.there;
+      other_in = e.other_in;
+      by = its.by;
+      upon = e.upon;
+      beside = e_at;
+      why = inl by_v;
+    }))
+    (λ after.
+    let before_w : Before (waiters_at v.granule rs) e.other w =
+    subst (λ g. Before (waiters_at g rs) e.other w) share.at
+    (subst (λ x. Before (waiters_at x.granule rs) e.other x) e_is (Before-waiters e.waiter.granule rs e.other e.waiter after.1 after.2)) in
+    let before_v = Before_trans (waiters_at v.granule rs) e.other w v one before_w ahead in
+    subst (λ x. WaitsFor rs x u) its.by (subst (WaitsFor rs v.txn) e.upon (ahead_waits rs v e.other fit its.there its.wants before_v)))
+    e.why

@@ -14,8 +14,8 @@ use Rattle.shore_deadlock.specs.declared.victims.Victim.{Victim}
 use Rattle.shore_deadlock.specs.Blockers.{AreNoVictims, blockers, is_among, is_victim}
 use Rattle.shore_deadlock.specs.Cycles.{ComeOnce, IsOnNoCycleWithout, IsSimpleCycleFrom}
 use Rattle.shore_deadlock.specs.Reached.{Chain, Seen, extended, is_reached, step_at, started, txn_at}
-use Rattle.shore_deadlock.specs.Searching.{IsSound, IsTrail, IsUnderWay}
-use Rattle.shore_deadlock.proofs.Ahead.{listed_waits, waits_listed}
+use Rattle.shore_deadlock.specs.Searching.{IsSound, IsTrail, IsUnderWay, ShareQueue}
+use Rattle.shore_deadlock.proofs.Ahead.{listed_waits, shared_waits, waits_listed}
 use Rattle.shore_deadlock.proofs.Edges.{clash}
 use Rattle.shore_deadlock.proofs.ReachedLemmas.{Extends, any-append, extends_all, found_marked, neither, reached_at, unreached}
 use Rattle.shore_deadlock.proofs.Walks.{cycle_turned, parts_about}
@@ -149,6 +149,20 @@ module _ (rs : List Request) (victims : List Victim) (t : ℕ) (seen : Seen) (in
           λ same. not_among t (blockers (txn_at seen.steps index) rs) without (subst (λ x. In x (blockers (txn_at seen.steps index) rs)) same there),
         ));
   }
+
+-- who waits ahead in a queue waits for nobody for whom the one behind does not wait
+pub shared_on : (rs : List Request) (victims : List Victim) (t : ℕ) (seen : Seen) (index : ℕ) → IsOrderly rs → IsUnderWay rs victims t seen index → index < length seen.steps → 0 < index
+    → ShareQueue rs (txn_at seen.steps index) (txn_at seen.steps (step_at seen.steps index).parent) → IsUnderWay rs victims t seen (index + 1)
+shared_on rs victims t seen index orderly under within later share = record {
+  sound = past rs victims t seen index (wider rs victims t seen index under.sound);
+  explored =
+      below_more (λ k. is_victim victims (txn_at seen.steps k) ≡ false → (u : ℕ) → WaitsFor rs (txn_at seen.steps k) u → is_victim victims u ≡ false → (is_reached seen.steps u ≡ true) × (u ≡ t → ⊥)) index
+      (λ k below. under.explored k below)
+      (λ spared u waits safe.
+      let p = under.sound.parents index later within in
+      under.explored (step_at seen.steps index).parent p.0 p.1 u
+      (shared_waits rs (fit_of rs orderly) (txn_at seen.steps index) (txn_at seen.steps (step_at seen.steps index).parent) u share (under.sound.trail.waits index later within) waits) safe);
+}
 
 -- ---- where the search ends
 

@@ -1,7 +1,8 @@
 -- A search for cycles that is under way.
-use Rattle.std.specs.Prelude.{◌≡◌, ◌<◌, ◌≤◌, ◌||◌, ℕ, List, true, false, length}
+use Rattle.std.specs.Prelude.{◌≡◌, ◌<◌, ◌≤◌, ◌||◌, ℕ, List, None, Some, true, false, length}
 use Rattle.shore_model.specs.declared.requests.Request.{Request}
 use Rattle.shore_model.specs.Requests.{WaitsFor}
+use Rattle.shore_locks.specs.Tables.{waiting_request}
 use Rattle.shore_deadlock.specs.declared.reached.Step.{Step}
 use Rattle.shore_deadlock.specs.declared.victims.Victim.{Victim}
 use Rattle.shore_deadlock.specs.Blockers.{is_victim}
@@ -35,3 +36,14 @@ Explored rs victims t steps n =
 pub record IsUnderWay (rs : List Request) (victims : List Victim) (t : ℕ) (seen : Seen) (index : ℕ) : Type 0 where
   pub sound : IsSound rs victims t seen index index
   pub explored : Explored rs victims t seen.steps index
+
+-- both wait as new waiters for the same granule and mode
+pub record ShareQueue (rs : List Request) (t u : ℕ) : Type 0 where
+  pub mine : Request
+  pub other : Request
+  pub waits : waiting_request t rs ≡ Some mine
+  pub other_waits : waiting_request u rs ≡ Some other
+  pub new : mine.held ≡ None
+  pub other_new : other.held ≡ None
+  pub at : mine.granule ≡ other.granule
+  pub wanted : mine.wanted ≡ other.wanted

@@ -1,8 +1,9 @@
 //! Whom a transaction waits for.
-ghost use Rattle.std.specs.Prelude.{◌≡◌, ◌++◌, IfOk, IsFalse};
+ghost use Rattle.std.specs.Prelude.{◌≡◌, ◌++◌, None, IfOk, IsFalse, IsTrue};
 ghost use Rattle.shore_locks.specs.Tables.{holders_at, waiters_at};
 ghost use Rattle.shore_deadlock.specs.Blockers as blockers;
 ghost use Rattle.shore_deadlock.specs.Blockers.{ahead, is_among, refusing};
+ghost use Rattle.shore_deadlock.specs.Searching.{ShareQueue};
 
 use shore_locks::{LockTable, refuses};
 use shore_model::Request;
@@ -93,4 +94,24 @@ fn list_ahead(
         out.push(other.txn)?;
     }
     Ok(false)
+}
+
+/// Whether both wait as new waiters for the same granule and mode. Then whoever is waited for by the one ahead is waited for by
+/// the one behind.
+pub(crate) fn share_queue(table: &LockTable, txn: TxnId, other: TxnId) -> bool
+    ensures { IsTrue result → ShareQueue table.now.requests txn other }
+{
+    match (table.waiting_request(txn), table.waiting_request(other)) {
+        (Some(mine), Some(its)) => are_twins(&mine, &its),
+        _ => false,
+    }
+}
+
+fn are_twins(mine: &Request, its: &Request) -> bool
+    ensures { IsTrue result → (mine.now.held ≡ None) × (its.now.held ≡ None) × (mine.now.granule ≡ its.now.granule) × (mine.now.wanted ≡ its.now.wanted) }
+{
+    mine.held.is_none()
+        && its.held.is_none()
+        && mine.granule == its.granule
+        && mine.wanted == its.wanted
 }

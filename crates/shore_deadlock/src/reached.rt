@@ -73,6 +73,14 @@ impl Trail {
         self.steps[index].txn
     }
 
+    /// The index of the one that led to the transaction at an index.
+    pub(crate) fn parent_at(&self, index: usize) -> usize
+        requires { index < length self.now.steps }
+        ensures { result ≡ (spec.step_at self.now.steps index).parent }
+    {
+        self.steps[index].parent
+    }
+
     /// Reaches those that are not marked, from the one at an index.
     pub(crate) fn extend(&mut self, found: &[TxnId], parent: usize) -> Result<(), AllocError>
         ensures { OnOk result (self.new ≡ extended parent found.now self.old) }

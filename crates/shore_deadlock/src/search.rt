@@ -1,12 +1,13 @@
 //! The search for a cycle of waits.
-ghost use Rattle.std.specs.Prelude.{◌≡◌, ◌<◌, ◌++◌, ◌∷◌, [], ℕ, List, Contains, length, IfOk, IfErr, IfSome, IfNone, OnOk};
+ghost use Rattle.std.specs.Prelude.{◌≡◌, ◌<◌, ◌++◌, ◌∷◌, [], ℕ, List, Contains, length, IfOk, IfErr, IfSome, IfNone, IsTrue, OnOk};
 ghost use Rattle.shore_types.specs.declared.faults.Fault.TheVariants.{Memory};
 ghost use Rattle.shore_model.specs.declared.requests.Request.{Request};
 ghost use Rattle.shore_deadlock.specs.Blockers.{AreNoVictims};
 ghost use Rattle.shore_deadlock.specs.Cycles.{IsSimpleCycleFrom, IsOnNoCycle, IsOnNoCycleWithout};
-ghost use Rattle.shore_deadlock.specs.Searching.{IsUnderWay};
+ghost use Rattle.shore_deadlock.specs.Reached.{LeadsBack, step_at, txn_at};
+ghost use Rattle.shore_deadlock.specs.Searching.{IsUnderWay, ShareQueue};
 
-use crate::blockers::list_blockers;
+use crate::blockers::{list_blockers, share_queue};
 use crate::reached::Trail;
 use crate::victims::Victim;
 use shore_locks::LockTable;
@@ -73,6 +74,10 @@ impl Search {
         tables_are_orderly(table);
         let mut blockers = Vec::new(alloc);
         while self.index < self.trail.len() {
+            if self.is_shared(table) {
+                self.index += 1;
+                continue;
+            }
             let from = self.trail.txn_at(self.index);
             if list_blockers(&mut blockers, table, from, self.txn)? {
                 let cycle = self.trail.path_to(alloc, self.index)?;
@@ -82,6 +87,22 @@ impl Search {
             self.index += 1;
         }
         Ok(None)
+    }
+
+    // Whether the next of the trail waits in the queue of the one that led to it, for nobody for whom that one does not wait too. So
+    // a queue is walked once, and not once for each of its waiters.
+    fn is_shared(&self, table: &LockTable) -> bool
+        requires within { self.now.index < length self.now.trail.steps }
+        requires leads { LeadsBack self.now.trail.steps }
+        ensures { IsTrue result → (0 < self.now.index)
+            × ShareQueue table.now.requests (txn_at self.now.trail.steps self.now.index) (txn_at self.now.trail.steps (step_at self.now.trail.steps self.now.index).parent) }
+    {
+        if self.index == 0 {
+            return false;
+        }
+        let parent = self.trail.parent_at(self.index);
+        let from = self.trail.txn_at(self.index);
+        share_queue(table, from, self.trail.txn_at(parent))
     }
 
     /// Passes over one victim more. If it is the one from whom a way back was seen last, it led to nobody yet, and the search goes on behind it;

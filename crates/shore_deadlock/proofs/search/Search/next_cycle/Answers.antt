@@ -3,7 +3,7 @@ use Rattle.shore_deadlock.specs.Blockers.{blockers, is_among}
 use Rattle.shore_deadlock.specs.Reached.{txn_at}
 use Rattle.shore_deadlock.specs.Searching.{IsUnderWay}
 use Rattle.shore_deadlock.proofs.ReachedLemmas.{unreached}
-use Rattle.shore_deadlock.proofs.Searches.{fewer_left, met_waits, none_passes, under_way_on, way_closes, way_spared}
+use Rattle.shore_deadlock.proofs.Searches.{fewer_left, met_waits, none_passes, shared_on, under_way_on, way_closes, way_spared}
 use Rattle.shore_deadlock.proofs.search.Search.next_cycle.Goals as goal
 
 pub returns-then-branch-clause-found : goal.returns-then-branch-clause-found
@@ -51,3 +51,14 @@ pub returns-clause-none : goal.returns-clause-none
 returns-clause-none c =
     let all : length c.loop-self.self.trail.steps ≤ c.loop-self.self.index = omega (arith, c.len.ensures, c.loop-self-test.false) in
     none_passes c.args.table.now.requests c.args.self.now.victims.items c.args.self.now.txn c.loop-self.self.trail c.loop-self.self.index c.loop-self.invariant.under_way all
+
+pub loop-self-preserved-then-is_shared : goal.loop-self-preserved-then-is_shared
+loop-self-preserved-then-is_shared c =
+    let within : c.loop-self.self.index < length c.loop-self.self.trail.steps = omega (arith, c.len.ensures, c.loop-self-test.true) in
+    let shares = c.is_shared.ensures c.if-is_shared.true in
+    record {
+      txn = c.loop-self.invariant.txn;
+      victims = c.loop-self.invariant.victims;
+      under_way = shared_on c.args.table.now.requests c.args.self.now.victims.items c.args.self.now.txn c.loop-self.self.trail c.loop-self.self.index
+          c.tables_are_orderly.ensures c.loop-self.invariant.under_way within shares.0 shares.1;
+    }
