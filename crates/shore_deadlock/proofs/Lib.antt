@@ -14,3 +14,4 @@ pub mod AcquireLemmas
 pub mod Counting
 pub mod Lockings
 pub mod Rounds
+pub mod Wakings

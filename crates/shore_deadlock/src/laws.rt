@@ -1,5 +1,5 @@
 //! Laws of waits and of cycles, each stated as the contract of an empty function.
-ghost use Rattle.std.specs.Prelude.{◌≡◌, ℕ, List, Ok, false};
+ghost use Rattle.std.specs.Prelude.{◌≡◌, ℕ, List, Some, Ok, false};
 ghost use Rattle.shore_types.specs.declared.locking.Granule.{Granule};
 ghost use Rattle.shore_types.specs.declared.locking.Mode.{Mode};
 ghost use Rattle.shore_model.specs.declared.requests.Request.{Request};
@@ -7,7 +7,7 @@ ghost use Rattle.shore_model.specs.Requests.{AreRequests, HasNoCycle, WaitsFor};
 ghost use Rattle.shore_locks.specs.declared.answers.Requested.TheVariants.{Waiting};
 ghost use Rattle.shore_locks.specs.Orderly.{IsOrderly};
 ghost use Rattle.shore_locks.specs.Grants.{after_request, after_try, answer_to, cancelled, released};
-ghost use Rattle.shore_locks.specs.Tables.{Table, is_waiting};
+ghost use Rattle.shore_locks.specs.Tables.{Table, is_waiting, mode_held, waiting_request};
 ghost use Rattle.shore_path.specs.declared.answers.Acquired.TheVariants.{Waiting as At};
 ghost use Rattle.shore_path.specs.declared.answers.OnConflict.{OnConflict};
 ghost use Rattle.shore_path.specs.Acquires.{NoneWeaker};
@@ -89,4 +89,16 @@ pub fn victims_keep_intentions()
 /// Then nobody begins to wait.
 pub fn victims_make_nobody_wait()
     ensures { (rs : List Request) (vs : List Victim) (u : ℕ) → IsOrderly rs → is_waiting u rs ≡ false → is_waiting u (after_victims vs rs) ≡ false }
+{}
+
+/// Who waited, and waits no more once the wait of another is taken back, holds what he wanted: he was granted.
+pub fn cancel_wakes_by_a_grant()
+    ensures { (rs : List Request) (t u : ℕ) (r : Request) → IsOrderly rs → waiting_request u rs ≡ Some r → (u ≡ t → ⊥) → is_waiting u (cancelled t rs) ≡ false →
+        mode_held u r.granule (cancelled t rs) ≡ r.wanted }
+{}
+
+/// So it is once another has given up all that it holds and wants.
+pub fn release_wakes_by_a_grant()
+    ensures { (rs : List Request) (t u : ℕ) (r : Request) → IsOrderly rs → waiting_request u rs ≡ Some r → (u ≡ t → ⊥) → is_waiting u (released t rs) ≡ false →
+        mode_held u r.granule (released t rs) ≡ r.wanted }
 {}
