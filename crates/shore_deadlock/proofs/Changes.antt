@@ -145,7 +145,7 @@ pub record IsNext (g : Granule) (rs : List Request) (w : Request) (ws : List Req
   pub first : waiters_at g rs ≡ w ∷ ws
   pub free : can_be_granted w (requests_at w.granule rs) ≡ true
 
-next_in : (g : Granule) (rs : List Request) (w : Request) (ws : List Request) → IsNext g rs w ws → In w rs × (w.granule ≡ g) × (is_some w.wanted ≡ true)
+pub next_in : (g : Granule) (rs : List Request) (w : Request) (ws : List Request) → IsNext g rs w ws → In w rs × (w.granule ≡ g) × (is_some w.wanted ≡ true)
 next_in g rs w ws next = In-waiters g rs w (subst (In w) (sym next.first) (inl refl))
 
 -- waits for nobody

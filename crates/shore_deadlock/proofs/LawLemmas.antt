@@ -18,7 +18,7 @@ use Rattle.shore_deadlock.proofs.Edges.{edge_of}
 use Rattle.shore_deadlock.proofs.Changes.{others-placed, others-put, pass_adds_none, waiter_wants}
 use Rattle.shore_deadlock.proofs.Walks.{cycle_apart, free_of_fewer, member_or_not, member_waits}
 use Rattle.shore_deadlock.proofs.Steps.{cancelled_adds_none, released_adds_none}
-use Rattle.shore_locks.proofs.Fits.{wants_nothing}
+use Rattle.shore_locks.proofs.Fits.{Fit, wants_nothing}
 
 pub cancel_keeps_free : (rs : List Request) (t : ℕ) → IsOrderly rs → HasNoCycle rs → HasNoCycle (cancelled t rs)
 cancel_keeps_free rs t orderly free = free_of_fewer rs (cancelled t rs) (λ a b h. cancelled_adds_none rs t a b orderly h) free
@@ -36,7 +36,7 @@ free_of_quiet : (t : ℕ) (rs new : List Request) → of_others t new ≡ of_oth
 free_of_quiet t rs new same never free cycle closed =
     ⊎_elim (λ member. let on = member_waits new cycle t closed member in never on.0 on.1) (λ out. free cycle (cycle_apart t new rs same cycle out closed)) (member_or_not t cycle)
 
-module _ (t : ℕ) (g : Granule) (mode : Mode) (rs : List Request) (orderly : IsOrderly rs) (quiet : is_waiting t rs ≡ false) (free : HasNoCycle rs) where
+module _ (t : ℕ) (g : Granule) (mode : Mode) (rs : List Request) (fit : Fit rs) (quiet : is_waiting t rs ≡ false) (free : HasNoCycle rs) where
   abbrev asked : Request
   asked = asking t g mode rs
 
@@ -50,13 +50,13 @@ module _ (t : ℕ) (g : Granule) (mode : Mode) (rs : List Request) (orderly : Is
       (λ stood. none_waits t rs quiet e.waiter stood.0 e.by wants)
       (In-put (granted asked) rs e.waiter e.waiter_in)
 
-  free_granted : obstacle asked rs ≡ None → HasNoCycle (after_grant t g mode rs)
+  pub free_granted : obstacle asked rs ≡ None → HasNoCycle (after_grant t g mode rs)
   free_granted none =
       free_of_fewer (put (granted asked) rs) (after_grant t g mode rs)
-      (λ a b h. pass_adds_none g (put (granted asked) rs) (Fit-put t g mode rs (fit_of rs orderly) none) a b h)
+      (λ a b h. pass_adds_none g (put (granted asked) rs) (Fit-put t g mode rs fit none) a b h)
       (free_of_quiet t rs (put (granted asked) rs) (others-put t (granted asked) rs refl) put_waits_not free)
 
-  on_each_placed : IsOnEachCycle (placed_last asked rs) t
+  pub on_each_placed : IsOnEachCycle (placed_last asked rs) t
   on_each_placed = on_each_new t rs (placed_last asked rs) (others-placed t asked rs refl) free
 
 -- by the cases of an answer
@@ -72,15 +72,15 @@ pub answered_keeps_free : (table : Table) (t : ℕ) (g : Granule) (mode : Mode) 
 answered_keeps_free table t g mode orderly quiet free never =
     among_answered HasNoCycle (is_enough mode (mode_held t g table.requests)) (is_full table t g) (obstacle (asking t g mode table.requests) table.requests)
     table.requests (placed_last (asking t g mode table.requests) table.requests) (after_grant t g mode table.requests)
-    free (free_granted t g mode table.requests orderly quiet free) (λ waits. absurd (never waits))
+    free (free_granted t g mode table.requests (fit_of table.requests orderly) quiet free) (λ waits. absurd (never waits))
 
 pub asker_on_each : (table : Table) (t : ℕ) (g : Granule) (mode : Mode) → IsOrderly table.requests → is_waiting t table.requests ≡ false → HasNoCycle table.requests
     → IsOnEachCycle (after_request table t g mode) t
 asker_on_each table t g mode orderly quiet free =
     among_answered (λ rs. IsOnEachCycle rs t) (is_enough mode (mode_held t g table.requests)) (is_full table t g) (obstacle (asking t g mode table.requests) table.requests)
     table.requests (placed_last (asking t g mode table.requests) table.requests) (after_grant t g mode table.requests)
-    (λ cycle closed. absurd (free cycle closed)) (λ none cycle closed. absurd (free_granted t g mode table.requests orderly quiet free none cycle closed))
-    (λ waits. on_each_placed t g mode table.requests orderly quiet free)
+    (λ cycle closed. absurd (free cycle closed)) (λ none cycle closed. absurd (free_granted t g mode table.requests (fit_of table.requests orderly) quiet free none cycle closed))
+    (λ waits. on_each_placed t g mode table.requests (fit_of table.requests orderly) quiet free)
 
 among_tried : (P : List Request → Type 0) (enough full : Bool) (o : Option Request) (same grants : List Request) → P same → (o ≡ None → P grants) → P (cond enough same (cond full same (cond (is_some o) same grants)))
 among_tried P true full o same grants p q = p
@@ -92,4 +92,4 @@ pub try_keeps_free : (table : Table) (t : ℕ) (g : Granule) (mode : Mode) → I
     → HasNoCycle (after_try table t g mode)
 try_keeps_free table t g mode orderly quiet free =
     among_tried HasNoCycle (is_enough mode (mode_held t g table.requests)) (is_full table t g) (obstacle (asking t g mode table.requests) table.requests)
-    table.requests (after_grant t g mode table.requests) free (free_granted t g mode table.requests orderly quiet free)
+    table.requests (after_grant t g mode table.requests) free (free_granted t g mode table.requests (fit_of table.requests orderly) quiet free)

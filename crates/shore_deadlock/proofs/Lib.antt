@@ -1,3 +1,4 @@
+pub mod MarkLemmas
 pub mod ReachedSteps
 pub mod Edges
 pub mod Changes
@@ -9,3 +10,8 @@ pub mod ReachedLemmas
 pub mod Ahead
 pub mod Searches
 pub mod VictimLemmas
+pub mod AcquireLemmas
+pub mod Counting
+pub mod Lockings
+pub mod Rounds
+pub mod Wakings

@@ -1,6 +1,7 @@
 -- What the reached transactions are, and what stays of them as they grow.
-use Rattle.std.proofs.Common.{◌≡◌, ◌<◌, ◌≤◌, ◌+◌, ◌++◌, inl, inr, ⊎_elim, ℕ, List, [], ◌∷◌, true, false, refl, ap, sym, subst, ◌∙◌, length, arith, below_more}
-use Rattle.std.specs.Prelude.{◌==◌, filter, not}
+use Rattle.std.proofs.Common.{◌≡◌, ◌<◌, ◌≤◌, ◌+◌, ◌++◌, inl, inr, ⊎_elim, ℕ, List, [], ◌∷◌, Bool, true, false, refl, ap, sym, subst, ◌∙◌, length, arith, below_more}
+use Rattle.std.specs.Prelude.{◌==◌, ◌||◌, filter, not}
+use Rattle.std.specs.List.{list_any}
 use Rattle.std.proofs.Math.ListN.{get_or-append}
 use Rattle.std.proofs.Math.Seq.{get_or-append_seam}
 use Rattle.std.proofs.lemmas.Bool.Decides.{Decides-eqb}
@@ -12,9 +13,11 @@ use Rattle.shore_locks.proofs.Fits.{any_of, found_any}
 use Rattle.shore_deadlock.specs.declared.reached.Step.{Step}
 use Rattle.shore_deadlock.specs.declared.victims.Victim.{Victim}
 use Rattle.shore_deadlock.specs.Blockers.{is_victim}
-use Rattle.shore_deadlock.specs.Reached.{LeadsBack, extended, is_reached, reached_from, step_at, txn_at}
+use Rattle.shore_deadlock.specs.Marks.{is_marked}
+use Rattle.shore_deadlock.specs.Reached.{LeadsBack, Seen, extended, is_reached, reached_from, step_at, txn_at}
+use Rattle.shore_deadlock.specs.Searching.{IsSound, IsTrail}
 use Rattle.shore_deadlock.proofs.Fewer.{fewer}
-use Rattle.shore_deadlock.proofs.Edges.{clash}
+use Rattle.shore_deadlock.proofs.Edges.{clash, edge_of}
 
 -- ---- reading among more reached transactions
 
@@ -38,18 +41,10 @@ step_in reached k within = Contains-In reached (step_at reached k) (k, within, g
 pub reached_at : (reached : List Step) (k : ℕ) → k < length reached → is_reached reached (txn_at reached k) ≡ true
 reached_at reached k within = any_of (λ s. s.txn == txn_at reached k) reached (step_at reached k) (step_in reached k within) ((Decides-eqb (txn_at reached k) (txn_at reached k)).1 refl)
 
--- ---- the reached transactions
+-- ---- the trail
 
-pub record IsTrail (rs : List Request) (victims : List Victim) (t : ℕ) (reached : List Step) : Type 0 where
-  pub some : 0 < length reached
-  pub first : txn_at reached 0 ≡ t
-  pub leads : LeadsBack reached
-  pub waits : (k : ℕ) → 0 < k → k < length reached → WaitsFor rs (txn_at reached (step_at reached k).parent) (txn_at reached k)
-  pub spared : (k : ℕ) → k < length reached → is_victim victims (txn_at reached k) ≡ false
-  pub apart : (j k : ℕ) → j < k → k < length reached → txn_at reached j ≡ txn_at reached k → ⊥
-
-module _ (rs : List Request) (victims : List Victim) (t : ℕ) (reached : List Step) (is : IsTrail rs victims t reached) (from u : ℕ) (here : from < length reached)
-    (waits : WaitsFor rs (txn_at reached from) u) (spared : is_victim victims u ≡ false) (new : is_reached reached u ≡ false) where
+module _ (rs : List Request) (t : ℕ) (reached : List Step) (is : IsTrail rs t reached) (from u : ℕ) (here : from < length reached)
+    (waits : WaitsFor rs (txn_at reached from) u) (new : is_reached reached u ≡ false) where
   abbrev step : Step
   step = record { txn = u; parent = from }
 
@@ -80,12 +75,6 @@ module _ (rs : List Request) (victims : List Victim) (t : ℕ) (reached : List S
       subst (λ (s : Step). WaitsFor rs (txn_at longer s.parent) s.txn) (sym last)
       (subst (λ (s : Step). WaitsFor rs s.txn u) (sym (old from here)) waits)) k within later
 
-  all_spared : (k : ℕ) → k < length longer → is_victim victims (txn_at longer k) ≡ false
-  all_spared =
-      each_index (λ k. is_victim victims (txn_at longer k) ≡ false) reached step
-      (λ k below. subst (λ (s : Step). is_victim victims s.txn ≡ false) (sym (old k below)) (is.spared k below))
-      (subst (λ (s : Step). is_victim victims s.txn ≡ false) (sym last) spared)
-
   all_apart : (j k : ℕ) → j < k → k < length longer → txn_at longer j ≡ txn_at longer k → ⊥
   all_apart j k before within =
       each_index (λ k. j < k → txn_at longer j ≡ txn_at longer k → ⊥) reached step
@@ -98,29 +87,14 @@ module _ (rs : List Request) (victims : List Victim) (t : ℕ) (reached : List S
       let unseen = new in
       clash seen unseen) k within before
 
-  reached_longer : IsTrail rs victims t longer
+  pub reached_longer : IsTrail rs t longer
   reached_longer = record {
     some = let more = length_push reached step in omega arith;
     first = ap (λ (s : Step). s.txn) (old 0 is.some) ∙ is.first;
     leads = leads_back;
     waits = all_wait;
-    spared = all_spared;
     apart = all_apart;
   }
-
-reached_again : (reached : List Step) (from u : ℕ) → is_reached reached u ≡ true → reached_from from u reached ≡ reached
-reached_again reached from u there = rw there refl
-
-reached_new : (reached : List Step) (from u : ℕ) → is_reached reached u ≡ false → reached_from from u reached ≡ reached ++ record { txn = u; parent = from } ∷ []
-reached_new reached from u fresh = rw fresh refl
-
-pub reached_one : (rs : List Request) (victims : List Victim) (t : ℕ) (reached : List Step) (from u : ℕ) → IsTrail rs victims t reached → from < length reached
-    → WaitsFor rs (txn_at reached from) u → is_victim victims u ≡ false → IsTrail rs victims t (reached_from from u reached)
-reached_one rs victims t reached from u is here waits spared =
-    ⊎_elim
-    (λ yes. subst (IsTrail rs victims t) (sym (reached_again reached from u yes)) is)
-    (λ no. subst (IsTrail rs victims t) (sym (reached_new reached from u no)) (reached_longer rs victims t reached is from u here waits spared no))
-    (either (is_reached reached u))
 
 -- ---- what more reached transactions have of fewer
 
@@ -129,69 +103,48 @@ pub record Grows (old new : List Step) : Type 0 where
   pub alike : (k : ℕ) → k < length old → txn_at new k ≡ txn_at old k
   pub kept : (u : ℕ) → is_reached old u ≡ true → is_reached new u ≡ true
 
-grows_not : (reached : List Step) → Grows reached reached
+pub grows_not : (reached : List Step) → Grows reached reached
 grows_not reached = record { no_shorter = omega arith; alike = λ k h. refl; kept = λ u h. h }
 
-grows_on : (a b c : List Step) → Grows a b → Grows b c → Grows a c
+pub grows_on : (a b c : List Step) → Grows a b → Grows b c → Grows a c
 grows_on a b c g h = record {
   no_shorter = let x = g.no_shorter in let y = h.no_shorter in omega arith;
   alike = λ k below. let x = g.no_shorter in let further : k < length b = omega arith in h.alike k further ∙ g.alike k below;
   kept = λ u yes. h.kept u (g.kept u yes);
 }
 
-grows_pushed : (reached : List Step) (s : Step) → Grows reached (reached ++ s ∷ [])
+pub grows_pushed : (reached : List Step) (s : Step) → Grows reached (reached ++ s ∷ [])
 grows_pushed reached s = record {
   no_shorter = let more = length_push reached s in omega arith;
   alike = λ k below. ap (λ (x : Step). x.txn) (step_before reached s k below);
   kept = λ u yes. let f = found_any (λ (x : Step). x.txn == u) reached yes in any_of (λ x. x.txn == u) (reached ++ s ∷ []) f.0 (In-left reached (s ∷ []) f.0 f.1) f.2;
 }
 
-grows_reached : (from u : ℕ) (reached : List Step) → Grows reached (reached_from from u reached)
-grows_reached from u reached =
-    ⊎_elim
-    (λ yes. subst (Grows reached) (sym (reached_again reached from u yes)) (grows_not reached))
-    (λ no. subst (Grows reached) (sym (reached_new reached from u no)) (grows_pushed reached (record { txn = u; parent = from })))
-    (either (is_reached reached u))
+-- ---- one more, beside victims
 
-pub grows_extended : (from : ℕ) (found : List ℕ) (reached : List Step) → Grows reached (extended from found reached)
-grows_extended from [] reached = grows_not reached
-grows_extended from (u ∷ us) reached = grows_on reached (reached_from from u reached) (extended from us (reached_from from u reached)) (grows_reached from u reached) (grows_extended from us (reached_from from u reached))
+pub any-append : {A : Type 0} (p : A → Bool) (xs : List A) (y : A) → list_any p (xs ++ y ∷ []) ≡ (list_any p xs || p y)
+any-append p [] y = ⊎_elim (λ yes. rw yes refl) (λ no. rw no refl) (either (p y))
+any-append p (x ∷ xs) y = ⊎_elim (λ yes. rw yes refl) (λ no. let rest = any-append p xs y in rw no rest) (either (p x))
 
-is_there : (from u : ℕ) (reached : List Step) → is_reached (reached_from from u reached) u ≡ true
-is_there from u reached =
-    ⊎_elim
-    (λ yes. ap (λ xs. is_reached xs u) (reached_again reached from u yes) ∙ yes)
-    (λ no. ap (λ xs. is_reached xs u) (reached_new reached from u no)
-    ∙ any_of (λ s. s.txn == u) (reached ++ record { txn = u; parent = from } ∷ []) (record { txn = u; parent = from })
-    (In-right reached (record { txn = u; parent = from } ∷ []) (record { txn = u; parent = from }) (inl refl)) ((Decides-eqb u u).1 refl))
-    (either (is_reached reached u))
+or_swap : (a b e : Bool) → ((a || b) || e) ≡ ((a || e) || b)
+or_swap true b e = refl
+or_swap false true true = refl
+or_swap false true false = refl
+or_swap false false true = refl
+or_swap false false false = refl
 
--- all that were found are reached
-pub found_reached : (from : ℕ) (found : List ℕ) (reached : List Step) (u : ℕ) → In u found → is_reached (extended from found reached) u ≡ true
-found_reached from [] reached u h = absurd h
-found_reached from (v ∷ vs) reached u h =
-    ⊎_elim
-    (λ same. (grows_extended from vs (reached_from from v reached)).kept u (subst (λ x. is_reached (reached_from from v reached) x ≡ true) same (is_there from v reached)))
-    (λ later. found_reached from vs (reached_from from v reached) u later) h
+pub neither : (a b : Bool) → (a || b) ≡ false → (a ≡ false) × (b ≡ false)
+neither true b h = absurd (clash refl h)
+neither false b h = (refl, h)
 
--- transactions that the one at an index waits for, no victims
-pub record AreFound (rs : List Request) (victims : List Victim) (at : ℕ) (found : List ℕ) : Type 0 where
-  pub waited : (u : ℕ) → In u found → WaitsFor rs at u
-  pub spared : (u : ℕ) → In u found → is_victim victims u ≡ false
+abbrev with_step : ℕ → ℕ → Seen → Seen
+with_step from u seen = record { steps = seen.steps ++ record { txn = u; parent = from } ∷ []; marks = seen.marks ++ u ∷ [] }
 
-pub extended_more : (rs : List Request) (victims : List Victim) (t from : ℕ) (found : List ℕ) (reached : List Step) → IsTrail rs victims t reached → from < length reached
-    → AreFound rs victims (txn_at reached from) found → IsTrail rs victims t (extended from found reached)
-extended_more rs victims t from [] reached is here are = is
-extended_more rs victims t from (u ∷ us) reached is here are =
-    let g = grows_reached from u reached in
-    let more = g.no_shorter in
-    extended_more rs victims t from us (reached_from from u reached) (reached_one rs victims t reached from u is here (are.waited u (inl refl)) (are.spared u (inl refl))) (omega arith)
-    (record {
-      waited = λ v h. subst (λ x. WaitsFor rs x v) (sym (g.alike from here)) (are.waited v (inr h));
-      spared = λ v h. are.spared v (inr h);
-    })
+seen_again : (from u : ℕ) (seen : Seen) → is_marked seen.marks u ≡ true → reached_from from u seen ≡ seen
+seen_again from u seen there = rw there refl
 
--- ---- how many are left
+seen_new : (from u : ℕ) (seen : Seen) → is_marked seen.marks u ≡ false → reached_from from u seen ≡ with_step from u seen
+seen_new from u seen fresh = rw fresh refl
 
 -- requests of transactions that are not reached
 abbrev pub unreached : List Request → List Step → ℕ
@@ -201,26 +154,133 @@ left_before : (old new : List Step) → Grows old new → (u : ℕ) → not (is_
 left_before old new g u h =
     ⊎_elim (λ yes. absurd (let gone : not (is_reached new u) ≡ false = ap not (g.kept u yes) in clash h gone)) (λ no. ap not no) (either (is_reached old u))
 
--- as one more is reached one less is left at least
-reached_counts : (rs : List Request) (from u : ℕ) (reached : List Step) (r : Request) → In r rs → r.txn ≡ u
-    → unreached rs (reached_from from u reached) + length (reached_from from u reached) ≤ unreached rs reached + length reached
-reached_counts rs from u reached r there by =
-    ⊎_elim
-    (λ yes. let same = reached_again reached from u yes in let a = ap length same in let b = ap (unreached rs) same in omega arith)
-    (λ no.
-    let now = reached_new reached from u no in
-    let one_more = ap length now ∙ length_push reached (record { txn = u; parent = from }) in
-    let less = fewer (λ (q : Request). not (is_reached reached q.txn)) (λ (q : Request). not (is_reached (reached_from from u reached) q.txn))
-    (λ q. left_before reached (reached_from from u reached) (grows_reached from u reached) q.txn) rs r there
-    (ap not (subst (λ x. is_reached reached x ≡ false) (sym by) no)) (ap not (subst (λ x. is_reached (reached_from from u reached) x ≡ true) (sym by) (is_there from u reached))) in
-    omega arith)
-    (either (is_reached reached u))
+pushed_there : (steps : List Step) (s : Step) → is_reached (steps ++ s ∷ []) s.txn ≡ true
+pushed_there steps s = any_of (λ x. x.txn == s.txn) (steps ++ s ∷ []) s (In-right steps (s ∷ []) s (inl refl)) ((Decides-eqb s.txn s.txn).1 refl)
 
-pub extended_counts : (rs : List Request) (from : ℕ) (found : List ℕ) (reached : List Step) → ((u : ℕ) → In u found → (r : Request) × In r rs × (r.txn ≡ u))
-    → unreached rs (extended from found reached) + length (extended from found reached) ≤ unreached rs reached + length reached
-extended_counts rs from [] reached known = omega arith
-extended_counts rs from (u ∷ us) reached known =
-    let one = known u (inl refl) in
-    let a = reached_counts rs from u reached one.0 one.1 one.2 in
-    let b = extended_counts rs from us (reached_from from u reached) (λ v h. known v (inr h)) in
-    omega arith
+-- what more reached ones have of fewer, beside victims: no more is left than was
+pub record Extends (rs : List Request) (victims : List Victim) (t leading from : ℕ) (old new : Seen) : Type 0 where
+  pub sound : IsSound rs victims t new leading from
+  pub grows : Grows old.steps new.steps
+  pub fewer_left : unreached rs new.steps + length new.steps ≤ unreached rs old.steps + length old.steps
+  pub kept : (u : ℕ) → is_marked old.marks u ≡ true → is_marked new.marks u ≡ true
+
+extends_not : (rs : List Request) (victims : List Victim) (t leading from : ℕ) (seen : Seen) → IsSound rs victims t seen leading from → Extends rs victims t leading from seen seen
+extends_not rs victims t leading from seen sound = record { sound = sound; grows = grows_not seen.steps; fewer_left = omega arith; kept = λ u h. h }
+
+module _ (rs : List Request) (victims : List Victim) (t leading from at u : ℕ) (seen : Seen) (sound : IsSound rs victims t seen leading from) (led : at < leading) (here : at < length seen.steps)
+    (spared : is_victim victims (txn_at seen.steps at) ≡ false) (waits : WaitsFor rs (txn_at seen.steps at) u) where
+  abbrev one_more : Step
+  one_more = record { txn = u; parent = at }
+
+  module _ (fresh : is_marked seen.marks u ≡ false) where
+    both : (is_reached seen.steps u ≡ false) × (is_victim victims u ≡ false)
+    both = neither (is_reached seen.steps u) (is_victim victims u) (sym (sound.marked u) ∙ fresh)
+
+    before : (k : ℕ) → k < length seen.steps → step_at (seen.steps ++ one_more ∷ []) k ≡ step_at seen.steps k
+    before = step_before seen.steps one_more
+
+    newest : step_at (seen.steps ++ one_more ∷ []) (length seen.steps) ≡ one_more
+    newest = step_last seen.steps one_more
+
+    marked_more : (v : ℕ) → is_marked (seen.marks ++ u ∷ []) v ≡ (is_reached (seen.steps ++ one_more ∷ []) v || is_victim victims v)
+    marked_more v =
+        any-append (λ x. x == v) seen.marks u
+        ∙ ap (λ b. b || (u == v)) (sound.marked v)
+        ∙ or_swap (is_reached seen.steps v) (is_victim victims v) (u == v)
+        ∙ ap (λ b. b || is_victim victims v) (sym (any-append (λ (s : Step). s.txn == v) seen.steps one_more))
+
+    parents_more : (k : ℕ) → 0 < k → k < length (seen.steps ++ one_more ∷ [])
+        → ((step_at (seen.steps ++ one_more ∷ []) k).parent < leading) × (is_victim victims (txn_at (seen.steps ++ one_more ∷ []) (step_at (seen.steps ++ one_more ∷ []) k).parent) ≡ false)
+    parents_more k later within =
+        each_index (λ k. 0 < k → ((step_at (seen.steps ++ one_more ∷ []) k).parent < leading) × (is_victim victims (txn_at (seen.steps ++ one_more ∷ []) (step_at (seen.steps ++ one_more ∷ []) k).parent) ≡ false))
+        seen.steps one_more
+        (λ k below after.
+        let p = sound.parents k after below in
+        let back = sound.trail.leads k after below in
+        let inside : (step_at seen.steps k).parent < length seen.steps = omega arith in
+        subst (λ (s : Step). (s.parent < leading) × (is_victim victims (txn_at (seen.steps ++ one_more ∷ []) s.parent) ≡ false)) (sym (before k below))
+        (p.0, subst (λ (s : Step). is_victim victims s.txn ≡ false) (sym (before (step_at seen.steps k).parent inside)) p.1))
+        (λ after.
+        subst (λ (s : Step). (s.parent < leading) × (is_victim victims (txn_at (seen.steps ++ one_more ∷ []) s.parent) ≡ false)) (sym newest)
+        (led, subst (λ (s : Step). is_victim victims s.txn ≡ false) (sym (before at here)) spared))
+        k within later
+
+    sound_more : IsSound rs victims t (with_step at u seen) leading from
+    sound_more = record {
+      trail = reached_longer rs t seen.steps sound.trail at u here waits both.0;
+      marked = marked_more;
+      start = sound.start;
+      spared = λ k past within.
+          each_index (λ k. from ≤ k → is_victim victims (txn_at (seen.steps ++ one_more ∷ []) k) ≡ false) seen.steps one_more
+          (λ k below past. subst (λ (s : Step). is_victim victims s.txn ≡ false) (sym (before k below)) (sound.spared k past below))
+          (λ past. subst (λ (s : Step). is_victim victims s.txn ≡ false) (sym newest) both.1) k within past;
+      parents = parents_more;
+    }
+
+    extends_new : Extends rs victims t leading from seen (with_step at u seen)
+    extends_new =
+        let e = edge_of rs (txn_at seen.steps at) u waits in
+        let grows = grows_pushed seen.steps one_more in
+        record {
+          sound = sound_more;
+          grows = grows;
+          fewer_left =
+              let longer = length_push seen.steps one_more in
+              let less = fewer (λ (q : Request). not (is_reached seen.steps q.txn)) (λ (q : Request). not (is_reached (seen.steps ++ one_more ∷ []) q.txn))
+              (λ q. left_before seen.steps (seen.steps ++ one_more ∷ []) grows q.txn) rs e.other e.other_in
+              (ap not (subst (λ x. is_reached seen.steps x ≡ false) (sym e.upon) both.0)) (ap not (subst (λ x. is_reached (seen.steps ++ one_more ∷ []) x ≡ true) (sym e.upon) (pushed_there seen.steps one_more))) in
+              omega arith;
+          kept = λ v yes. any-append (λ x. x == v) seen.marks u ∙ ap (λ b. b || (u == v)) yes;
+        }
+
+  pub extends_one : Extends rs victims t leading from seen (reached_from at u seen)
+  extends_one =
+      ⊎_elim
+      (λ yes. subst (Extends rs victims t leading from seen) (sym (seen_again at u seen yes)) (extends_not rs victims t leading from seen sound))
+      (λ no. subst (Extends rs victims t leading from seen) (sym (seen_new at u seen no)) (extends_new no))
+      (either (is_marked seen.marks u))
+
+extends_on : (rs : List Request) (victims : List Victim) (t leading from : ℕ) (a b d : Seen) → Extends rs victims t leading from a b → Extends rs victims t leading from b d → Extends rs victims t leading from a d
+extends_on rs victims t leading from a b d g h = record {
+  sound = h.sound;
+  grows = grows_on a.steps b.steps d.steps g.grows h.grows;
+  fewer_left = let x = g.fewer_left in let y = h.fewer_left in omega arith;
+  kept = λ u yes. h.kept u (g.kept u yes);
+}
+
+pub extends_all : (rs : List Request) (victims : List Victim) (t leading from at : ℕ) (found : List ℕ) (seen : Seen) → IsSound rs victims t seen leading from → at < leading → at < length seen.steps
+    → is_victim victims (txn_at seen.steps at) ≡ false → ((u : ℕ) → In u found → WaitsFor rs (txn_at seen.steps at) u) → Extends rs victims t leading from seen (extended at found seen)
+extends_all rs victims t leading from at [] seen sound led here spared waits = extends_not rs victims t leading from seen sound
+extends_all rs victims t leading from at (u ∷ us) seen sound led here spared waits =
+    let one = extends_one rs victims t leading from at u seen sound led here spared (waits u (inl refl)) in
+    let alike = one.grows.alike at here in
+    let more = one.grows.no_shorter in
+    extends_on rs victims t leading from seen (reached_from at u seen) (extended at us (reached_from at u seen)) one
+    (extends_all rs victims t leading from at us (reached_from at u seen) one.sound led (omega arith)
+    (subst (λ x. is_victim victims x ≡ false) (sym alike) spared) (λ v h. subst (λ x. WaitsFor rs x v) (sym alike) (waits v (inr h))))
+
+marked_one : (at u : ℕ) (seen : Seen) → is_marked (reached_from at u seen).marks u ≡ true
+marked_one at u seen =
+    ⊎_elim
+    (λ yes. ap (λ (s : Seen). is_marked s.marks u) (seen_again at u seen yes) ∙ yes)
+    (λ no. ap (λ (s : Seen). is_marked s.marks u) (seen_new at u seen no) ∙ any_of (λ x. x == u) (seen.marks ++ u ∷ []) u (In-right seen.marks (u ∷ []) u (inl refl)) ((Decides-eqb u u).1 refl))
+    (either (is_marked seen.marks u))
+
+kept_one : (at u v : ℕ) (seen : Seen) → is_marked seen.marks v ≡ true → is_marked (reached_from at u seen).marks v ≡ true
+kept_one at u v seen there =
+    ⊎_elim
+    (λ yes. ap (λ (s : Seen). is_marked s.marks v) (seen_again at u seen yes) ∙ there)
+    (λ no. ap (λ (s : Seen). is_marked s.marks v) (seen_new at u seen no) ∙ any-append (λ x. x == v) seen.marks u ∙ ap (λ b. b || (u == v)) there)
+    (either (is_marked seen.marks u))
+
+kept_all : (at : ℕ) (found : List ℕ) (v : ℕ) (seen : Seen) → is_marked seen.marks v ≡ true → is_marked (extended at found seen).marks v ≡ true
+kept_all at [] v seen there = there
+kept_all at (u ∷ us) v seen there = kept_all at us v (reached_from at u seen) (kept_one at u v seen there)
+
+-- all that were found are marked
+pub found_marked : (at : ℕ) (found : List ℕ) (seen : Seen) (u : ℕ) → In u found → is_marked (extended at found seen).marks u ≡ true
+found_marked at [] seen u h = absurd h
+found_marked at (v ∷ vs) seen u h =
+    ⊎_elim
+    (λ same. kept_all at vs u (reached_from at v seen) (subst (λ x. is_marked (reached_from at v seen).marks x ≡ true) same (marked_one at v seen)))
+    (λ later. found_marked at vs (reached_from at v seen) u later) h

@@ -8,7 +8,7 @@ use Rattle.shore_model.specs.declared.requests.Request.{Request}
 use Rattle.shore_model.specs.Requests.{HasNoCycle, IsCycle, WaitsFor}
 use Rattle.shore_locks.specs.Orderly.{IsOrderly}
 use Rattle.shore_locks.specs.Grants.{cancelled}
-use Rattle.shore_locks.proofs.Members.{In, All-In, In-All, In-Contains, In-left, In-right, either}
+use Rattle.shore_locks.proofs.Members.{In, All-In, Contains-In, In-All, In-Contains, In-left, In-right, either}
 use Rattle.shore_locks.proofs.Fits.{any_of, found_any}
 use Rattle.shore_locks.proofs.Outcomes.{quiet_after_cancel}
 use Rattle.shore_locks.proofs.Tables.{orderly_cancelled}
@@ -28,7 +28,7 @@ after_adds_none [] rs orderly a b h = h
 after_adds_none (v ∷ vs) rs orderly a b h =
     cancelled_adds_none rs v.txn a b orderly (after_adds_none vs (cancelled v.txn rs) (orderly_cancelled v.txn rs orderly) a b h)
 
-still_quiet : (vs : List Victim) (rs : List Request) (u : ℕ) → IsOrderly rs → is_waiting u rs ≡ false → is_waiting u (after_victims vs rs) ≡ false
+pub still_quiet : (vs : List Victim) (rs : List Request) (u : ℕ) → IsOrderly rs → is_waiting u rs ≡ false → is_waiting u (after_victims vs rs) ≡ false
 still_quiet [] rs u orderly quiet = quiet
 still_quiet (v ∷ vs) rs u orderly quiet = still_quiet vs (cancelled v.txn rs) u (orderly_cancelled v.txn rs orderly) (cancelled_keeps_quiet rs v.txn u orderly.one_each quiet)
 
@@ -48,10 +48,10 @@ victims_quiet vs rs orderly = All-In (λ v. is_waiting v.txn (after_victims vs r
 victim_waits_not : (vs : List Victim) (rs : List Request) (v : Victim) → IsOrderly rs → In v vs → (u : ℕ) → WaitsFor (after_victims vs rs) v.txn u → ⊥
 victim_waits_not vs rs v orderly there u h = quiet_waits_not v.txn (after_victims vs rs) (victim_quiet vs rs v orderly there) u h
 
-first_victim : (v : Victim) (vs : List Victim) (u : ℕ) → v.txn ≡ u → is_victim (v ∷ vs) u ≡ true
+pub first_victim : (v : Victim) (vs : List Victim) (u : ℕ) → v.txn ≡ u → is_victim (v ∷ vs) u ≡ true
 first_victim v vs u same = any_of (λ x. x.txn == u) (v ∷ vs) v (inl refl) ((Decides-eqb v.txn u).1 same)
 
-later_spared : (v : Victim) (vs : List Victim) (u : ℕ) → is_victim (v ∷ vs) u ≡ false → is_victim vs u ≡ false
+pub later_spared : (v : Victim) (vs : List Victim) (u : ℕ) → is_victim (v ∷ vs) u ≡ false → is_victim vs u ≡ false
 later_spared v vs u spared =
     ⊎_elim
     (λ one. absurd (
@@ -81,7 +81,7 @@ pub record IsMadeOf (cycle : List ℕ) (v : Victim) : Type 0 where
   pub first : slice_get v.cycle 0 ≡ Some v.txn
   pub greatest : All (λ t. t ≤ v.txn) v.cycle
 
-first_In : (ts : List ℕ) (t : ℕ) → slice_get ts 0 ≡ Some t → In t ts
+pub first_In : (ts : List ℕ) (t : ℕ) → slice_get ts 0 ≡ Some t → In t ts
 first_In [] t is = cc
 first_In (u ∷ us) t is = let same : u ≡ t = cc in inl same
 
@@ -149,3 +149,19 @@ pub free_after : (rs : List Request) (t : ℕ) (vs : List Victim) → IsOrderly 
 free_after rs t vs orderly all each cycle closed =
     none_left rs t vs orderly all cycle closed
     (each cycle (cycle_as (after_victims vs rs) rs cycle (λ a b in_a in_b h. after_adds_none vs rs orderly a b h) closed))
+
+-- a victim that is the transaction itself ends all cycles that pass it
+pub none_past : (rs : List Request) (t : ℕ) (vs : List Victim) (v : Victim) → v.txn ≡ t → IsOnNoCycleWithout (vs ++ v ∷ []) rs t
+none_past rs t vs v same cycle closed passes spared =
+    let one : is_victim (vs ++ v ∷ []) t ≡ true = any_of (λ (x : Victim). x.txn == t) (vs ++ v ∷ []) v (In-right vs (v ∷ []) v (inl refl)) ((Decides-eqb v.txn t).1 same) in
+    let none : is_victim (vs ++ v ∷ []) t ≡ false = In-All (λ u. is_victim (vs ++ v ∷ []) u ≡ false) cycle t spared (Contains-In cycle t passes) in
+    clash one none
+
+-- what a search found, and the victim that was made of it
+pub record IsChosen (rs : List Request) (t : ℕ) (vs : List Victim) (cycle : List ℕ) (v : Victim) : Type 0 where
+  pub simple : IsSimpleCycleFrom rs t cycle
+  pub spared : AreNoVictims vs cycle
+  pub made : IsMadeOf cycle v
+
+pub chosen_more : (rs : List Request) (t : ℕ) (vs : List Victim) (cycle : List ℕ) (v : Victim) → IsOrderly rs → AreVictims rs t vs → IsChosen rs t vs cycle v → AreVictims rs t (vs ++ v ∷ [])
+chosen_more rs t vs cycle v orderly are chosen = victims_more rs t vs v are (is_victim_of rs t vs cycle v orderly chosen.simple chosen.spared chosen.made)

@@ -1,5 +1,5 @@
--- Whom a transaction waits for, as a search of the waits-for graph needs it: those that refuse its request, and the nearest that waits ahead.
-use Rattle.std.specs.Prelude.{◌≡◌, ◌==◌, ◌&&◌, ◌++◌, ℕ, List, [], ◌∷◌, Bool, false, not, cond, Option, None, Some, All}
+-- Whom a transaction waits for, as a search of the waits-for graph needs it: those that refuse its request, and those that wait ahead.
+use Rattle.std.specs.Prelude.{◌≡◌, ◌==◌, ◌++◌, ℕ, List, [], ◌∷◌, Bool, false, cond, Option, None, Some, All}
 use Rattle.std.specs.List.{list_any}
 use Rattle.shore_model.specs.declared.requests.Request.{Request}
 use Rattle.shore_locks.specs.Tables.{holders_at, waiters_at, waiting_request}
@@ -14,34 +14,25 @@ is_victim victims t = list_any (λ v. v.txn == t) victims
 abbrev pub AreNoVictims : List Victim → List ℕ → Type 0
 AreNoVictims victims ts = All (λ t. is_victim victims t ≡ false) ts
 
--- the other's transaction, if it refuses the waiter and is no victim
-abbrev pub refusing_one : List Victim → Request → Request → List ℕ
-refusing_one victims w other = cond (refuses w other && not (is_victim victims other.txn)) (other.txn ∷ []) []
+-- the transaction is in the list
+abbrev pub is_among : List ℕ → ℕ → Bool
+is_among ts t = list_any (λ u. u == t) ts
 
--- .. of each
-abbrev pub refusing : List Victim → Request → List Request → List ℕ
-refusing victims w [] = []
-refusing victims w (other ∷ others) = refusing_one victims w other ++ refusing victims w others
+-- whose requests refuse the waiter
+abbrev pub refusing : Request → List Request → List ℕ
+refusing w [] = []
+refusing w (other ∷ others) = cond (refuses w other) (other.txn ∷ refusing w others) (refusing w others)
 
--- the last in a queue, before the waiter, who is no victim
-abbrev pub nearest : List Victim → Request → Option ℕ → List Request → Option ℕ
-nearest victims w last [] = last
-nearest victims w last (q ∷ queue) =
-    cond (q.txn == w.txn) last (nearest victims w (cond (is_victim victims q.txn) last (Some q.txn)) queue)
+-- whose come before the waiter's in a queue
+abbrev pub ahead : Request → List Request → List ℕ
+ahead w [] = []
+ahead w (q ∷ queue) = cond (q.txn == w.txn) [] (q.txn ∷ ahead w queue)
 
-abbrev pub nearest_ahead : List Victim → Request → List Request → Option ℕ
-nearest_ahead victims w rs = nearest victims w None (waiters_at w.granule rs)
+-- whom a waiting request is stopped by
+abbrev pub stoppers : List Request → Option Request → List ℕ
+stoppers rs None = []
+stoppers rs (Some w) = refusing w (holders_at w.granule rs) ++ refusing w (waiters_at w.granule rs) ++ ahead w (waiters_at w.granule rs)
 
-abbrev pub at_most_one : Option ℕ → List ℕ
-at_most_one None = []
-at_most_one (Some t) = t ∷ []
-
--- what a waiting request is stopped by
-abbrev pub stoppers : List Victim → List Request → Option Request → List ℕ
-stoppers victims rs None = []
-stoppers victims rs (Some w) =
-    refusing victims w (holders_at w.granule rs) ++ refusing victims w (waiters_at w.granule rs) ++ at_most_one (nearest_ahead victims w rs)
-
--- .. and so what a transaction is
-abbrev pub blockers : List Victim → ℕ → List Request → List ℕ
-blockers victims t rs = stoppers victims rs (waiting_request t rs)
+-- .. and so whom a transaction is
+abbrev pub blockers : ℕ → List Request → List ℕ
+blockers t rs = stoppers rs (waiting_request t rs)

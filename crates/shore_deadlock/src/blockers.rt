@@ -1,99 +1,117 @@
 //! Whom a transaction waits for.
-ghost use Rattle.std.specs.Prelude.{◌≡◌, ◌++◌, OnOk};
+ghost use Rattle.std.specs.Prelude.{◌≡◌, ◌++◌, None, IfOk, IsFalse, IsTrue};
 ghost use Rattle.shore_locks.specs.Tables.{holders_at, waiters_at};
 ghost use Rattle.shore_deadlock.specs.Blockers as blockers;
-ghost use Rattle.shore_deadlock.specs.Blockers.{refusing, refusing_one, nearest};
+ghost use Rattle.shore_deadlock.specs.Blockers.{ahead, is_among, refusing};
+ghost use Rattle.shore_deadlock.specs.Searching.{ShareQueue};
 
-use crate::victims::Victim;
 use shore_locks::{LockTable, refuses};
 use shore_model::Request;
 use shore_types::TxnId;
 use std::alloc::AllocError;
 
-/// Lists those for whom a transaction waits, without the victims, in the place of what the list had: whoever holds what
-/// refuses its request, and the nearest of those that wait ahead of it. That one waits for all that are further ahead, so
-/// that a search that goes on from it comes by them too.
-pub fn list_blockers(
+/// Lists those for whom a transaction waits, in the place of what the list had, and ends if it meets the one that is sought:
+/// whoever holds what refuses its request, and all that wait ahead of it. The answer is whether it met that one.
+pub(crate) fn list_blockers(
     out: &mut Vec<TxnId>,
     table: &LockTable,
     txn: TxnId,
-    victims: &[Victim],
-) -> Result<(), AllocError>
-    ensures { OnOk result (out.new.items ≡ blockers.blockers victims.now txn table.now.requests) }
+    sought: TxnId,
+) -> Result<bool, AllocError>
+    ensures met { IfOk result (λ met. met ≡ is_among (blockers.blockers txn table.now.requests) sought) }
+    ensures listed { IfOk result (λ met. IsFalse met → out.new.items ≡ blockers.blockers txn table.now.requests) }
 {
     out.clear();
     let Some(waiter) = table.waiting_request(txn) else {
-        return Ok(());
+        return Ok(false);
     };
-    push_holders(out, table, &waiter, victims)?;
-    push_waiters(out, table, &waiter, victims)?;
-    if let Some(nearest) = nearest_ahead(table, &waiter, victims) {
-        out.push(nearest)?;
+    if list_holders(out, table, &waiter, sought)? {
+        return Ok(true);
     }
-    Ok(())
+    if list_waiters(out, table, &waiter, sought)? {
+        return Ok(true);
+    }
+    list_ahead(out, table, &waiter, sought)
 }
 
-fn push_holders(
+fn list_holders(
     out: &mut Vec<TxnId>,
     table: &LockTable,
     waiter: &Request,
-    victims: &[Victim],
-) -> Result<(), AllocError>
-    ensures { OnOk result (out.new.items ≡ out.old.items ++ refusing victims.now waiter.now (holders_at waiter.now.granule table.now.requests)) }
+    sought: TxnId,
+) -> Result<bool, AllocError>
+    ensures met { IfOk result (λ met. met ≡ is_among (refusing waiter.now (holders_at waiter.now.granule table.now.requests)) sought) }
+    ensures listed { IfOk result (λ met. IsFalse met → out.new.items ≡ out.old.items ++ refusing waiter.now (holders_at waiter.now.granule table.now.requests)) }
 {
     for other in table.holders(waiter.granule) {
-        push_refusing(out, waiter, &other, victims)?;
+        if refuses(waiter, &other) {
+            if other.txn == sought {
+                return Ok(true);
+            }
+            out.push(other.txn)?;
+        }
     }
-    Ok(())
+    Ok(false)
 }
 
-fn push_waiters(
+// Conversions hold what they wait for already, so they refuse too.
+fn list_waiters(
     out: &mut Vec<TxnId>,
     table: &LockTable,
     waiter: &Request,
-    victims: &[Victim],
-) -> Result<(), AllocError>
-    ensures { OnOk result (out.new.items ≡ out.old.items ++ refusing victims.now waiter.now (waiters_at waiter.now.granule table.now.requests)) }
+    sought: TxnId,
+) -> Result<bool, AllocError>
+    ensures met { IfOk result (λ met. met ≡ is_among (refusing waiter.now (waiters_at waiter.now.granule table.now.requests)) sought) }
+    ensures listed { IfOk result (λ met. IsFalse met → out.new.items ≡ out.old.items ++ refusing waiter.now (waiters_at waiter.now.granule table.now.requests)) }
 {
     for other in table.waiters(waiter.granule) {
-        push_refusing(out, waiter, &other, victims)?;
+        if refuses(waiter, &other) {
+            if other.txn == sought {
+                return Ok(true);
+            }
+            out.push(other.txn)?;
+        }
     }
-    Ok(())
+    Ok(false)
 }
 
-fn push_refusing(
+fn list_ahead(
     out: &mut Vec<TxnId>,
+    table: &LockTable,
     waiter: &Request,
-    other: &Request,
-    victims: &[Victim],
-) -> Result<(), AllocError>
-    ensures { OnOk result (out.new.items ≡ out.old.items ++ refusing_one victims.now waiter.now other.now) }
+    sought: TxnId,
+) -> Result<bool, AllocError>
+    ensures met { IfOk result (λ met. met ≡ is_among (ahead waiter.now (waiters_at waiter.now.granule table.now.requests)) sought) }
+    ensures listed { IfOk result (λ met. IsFalse met → out.new.items ≡ out.old.items ++ ahead waiter.now (waiters_at waiter.now.granule table.now.requests)) }
 {
-    if refuses(waiter, other) && !is_victim(victims, other.txn) {
-        out.push(other.txn)?;
-    }
-    Ok(())
-}
-
-// The last before the waiter in its queue who is no victim.
-fn nearest_ahead(table: &LockTable, waiter: &Request, victims: &[Victim]) -> Option<TxnId>
-    ensures { result ≡ blockers.nearest_ahead victims.now waiter.now table.now.requests }
-{
-    let mut nearest = None;
     for other in table.waiters(waiter.granule) {
         if other.txn == waiter.txn {
-            return nearest;
+            return Ok(false);
         }
-        if !is_victim(victims, other.txn) {
-            nearest = Some(other.txn);
+        if other.txn == sought {
+            return Ok(true);
         }
+        out.push(other.txn)?;
     }
-    nearest
+    Ok(false)
 }
 
-/// Whether a transaction is one of the victims.
-pub fn is_victim(victims: &[Victim], txn: TxnId) -> bool
-    ensures { result ≡ blockers.is_victim victims.now txn }
+/// Whether both wait as new waiters for the same granule and mode. Then whoever is waited for by the one ahead is waited for by
+/// the one behind.
+pub(crate) fn share_queue(table: &LockTable, txn: TxnId, other: TxnId) -> bool
+    ensures { IsTrue result → ShareQueue table.now.requests txn other }
 {
-    victims.iter().any(|victim| victim.txn == txn)
+    match (table.waiting_request(txn), table.waiting_request(other)) {
+        (Some(mine), Some(its)) => are_twins(&mine, &its),
+        _ => false,
+    }
+}
+
+fn are_twins(mine: &Request, its: &Request) -> bool
+    ensures { IsTrue result → (mine.now.held ≡ None) × (its.now.held ≡ None) × (mine.now.granule ≡ its.now.granule) × (mine.now.wanted ≡ its.now.wanted) }
+{
+    mine.held.is_none()
+        && its.held.is_none()
+        && mine.granule == its.granule
+        && mine.wanted == its.wanted
 }

@@ -1,5 +1,5 @@
 //! Laws of waits and of cycles, each stated as the contract of an empty function.
-ghost use Rattle.std.specs.Prelude.{◌≡◌, ℕ, List, false};
+ghost use Rattle.std.specs.Prelude.{◌≡◌, ℕ, List, Some, Ok, false};
 ghost use Rattle.shore_types.specs.declared.locking.Granule.{Granule};
 ghost use Rattle.shore_types.specs.declared.locking.Mode.{Mode};
 ghost use Rattle.shore_model.specs.declared.requests.Request.{Request};
@@ -7,8 +7,14 @@ ghost use Rattle.shore_model.specs.Requests.{AreRequests, HasNoCycle, WaitsFor};
 ghost use Rattle.shore_locks.specs.declared.answers.Requested.TheVariants.{Waiting};
 ghost use Rattle.shore_locks.specs.Orderly.{IsOrderly};
 ghost use Rattle.shore_locks.specs.Grants.{after_request, after_try, answer_to, cancelled, released};
-ghost use Rattle.shore_locks.specs.Tables.{Table, is_waiting};
-ghost use Rattle.shore_deadlock.specs.Cycles.{IsOnEachCycle};
+ghost use Rattle.shore_locks.specs.Tables.{Table, is_waiting, mode_held, waiting_request};
+ghost use Rattle.shore_path.specs.declared.answers.Acquired.TheVariants.{Waiting as At};
+ghost use Rattle.shore_path.specs.declared.answers.OnConflict.{OnConflict};
+ghost use Rattle.shore_path.specs.Acquires.{NoneWeaker};
+ghost use Rattle.shore_path.specs.Rooted.{AreRooted};
+ghost use Rattle.shore_path.specs.Walks.{acquired};
+ghost use Rattle.shore_deadlock.specs.declared.victims.Victim.{Victim};
+ghost use Rattle.shore_deadlock.specs.Cycles.{IsOnEachCycle, after_victims};
 
 /// If a transaction waits no more, nobody waits for somebody for whom he did not wait before.
 pub fn cancel_adds_no_wait()
@@ -56,4 +62,43 @@ pub fn cycles_pass_the_asker()
 pub fn try_closes_no_cycle()
     ensures { (table : Table) (t : ℕ) (g : Granule) (mode : Mode) → IsOrderly table.requests → is_waiting t table.requests ≡ false → HasNoCycle table.requests →
         HasNoCycle (after_try table t g mode) }
+{}
+
+/// An acquire that does not wait closes no cycle.
+pub fn acquire_closes_no_cycle()
+    ensures { (c : OnConflict) (table : Table) (t : ℕ) (target : Granule) (mode : Mode) → IsOrderly table.requests → is_waiting t table.requests ≡ false → HasNoCycle table.requests →
+        ((g : Granule) → (acquired c table t target mode).answer ≡ Ok (At g) → ⊥) → HasNoCycle (acquired c table t target mode).requests }
+{}
+
+/// If there was no cycle, each one that an acquire closes passes the one who asked.
+pub fn acquired_cycles_pass_the_asker()
+    ensures { (c : OnConflict) (table : Table) (t : ℕ) (target : Granule) (mode : Mode) → IsOrderly table.requests → is_waiting t table.requests ≡ false → HasNoCycle table.requests →
+        IsOnEachCycle (acquired c table t target mode).requests t }
+{}
+
+/// If the requests with which victims wait are taken back, nobody's lock becomes weaker.
+pub fn victims_weaken_nobody()
+    ensures { (rs : List Request) (vs : List Victim) → IsOrderly rs → NoneWeaker rs (after_victims vs rs) }
+{}
+
+/// Then all requests that are left have their intentions, and those that are granted then too.
+pub fn victims_keep_intentions()
+    ensures { (rs : List Request) (vs : List Victim) → IsOrderly rs → AreRooted rs → AreRooted (after_victims vs rs) }
+{}
+
+/// Then nobody begins to wait.
+pub fn victims_make_nobody_wait()
+    ensures { (rs : List Request) (vs : List Victim) (u : ℕ) → IsOrderly rs → is_waiting u rs ≡ false → is_waiting u (after_victims vs rs) ≡ false }
+{}
+
+/// Who waited, and waits no more once the wait of another is taken back, holds what he wanted: he was granted.
+pub fn cancel_wakes_by_a_grant()
+    ensures { (rs : List Request) (t u : ℕ) (r : Request) → IsOrderly rs → waiting_request u rs ≡ Some r → (u ≡ t → ⊥) → is_waiting u (cancelled t rs) ≡ false →
+        mode_held u r.granule (cancelled t rs) ≡ r.wanted }
+{}
+
+/// So it is once another has given up all that it holds and wants.
+pub fn release_wakes_by_a_grant()
+    ensures { (rs : List Request) (t u : ℕ) (r : Request) → IsOrderly rs → waiting_request u rs ≡ Some r → (u ≡ t → ⊥) → is_waiting u (released t rs) ≡ false →
+        mode_held u r.granule (released t rs) ≡ r.wanted }
 {}

@@ -3,9 +3,12 @@
 
 mod blockers;
 pub mod laws;
+pub mod locking;
+mod marks;
 mod reached;
 pub mod search;
 pub mod victims;
 
+pub use locking::{Locked, Reply, lock};
 pub use search::find_cycle;
 pub use victims::{Victim, break_cycles};

@@ -3,9 +3,10 @@ ghost use Rattle.std.specs.Prelude.{◌≡◌, ◌<◌, ◌≤◌, ◌++◌, ℕ
 ghost use Rattle.shore_types.specs.declared.faults.Fault.TheVariants.{Memory};
 ghost use Rattle.shore_model.specs.Requests.{HasNoCycle};
 ghost use Rattle.shore_locks.specs.Tables.{is_waiting};
+ghost use Rattle.shore_deadlock.specs.Blockers as blockers;
 ghost use Rattle.shore_deadlock.specs.Cycles.{AreVictims, IsOnEachCycle, IsOnNoCycle, IsOnNoCycleWithout, after_victims};
 
-use crate::search::cycle_without;
+use crate::search::Search;
 use shore_locks::LockTable;
 use shore_locks::laws::tables_are_orderly;
 use shore_types::{Fault, Sequence, TxnId};
@@ -33,26 +34,44 @@ pub fn break_cycles(alloc: Global, table: &mut LockTable, txn: TxnId) -> Result<
 {
     tables_are_orderly(table);
     let victims = choose(alloc, table, txn)?;
-    for victim in &victims {
-        table.cancel(victim.txn);
-    }
+    take_back(table, &victims);
     Ok(victims)
 }
 
-// What is chosen before the table changes is right when its turn comes: a cycle that passes no victim stays as long as
-// victims alone wait no more.
-fn choose(alloc: Global, table: &LockTable, txn: TxnId) -> Result<Vec<Victim>, Fault>
+/// The requests with which these wait are taken back, in their turn.
+pub(crate) fn take_back(table: &mut LockTable, victims: &[Victim])
+    ensures { table.new ≡ record { limit = table.old.limit; requests = after_victims victims.now table.old.requests } }
+{
+    for victim in victims {
+        table.cancel(victim.txn);
+    }
+}
+
+/// Whether a transaction is one of the victims.
+pub(crate) fn is_victim(victims: &[Victim], txn: TxnId) -> bool
+    ensures { result ≡ blockers.is_victim victims.now txn }
+{
+    victims.iter().any(|victim| victim.txn == txn)
+}
+
+/// The victims of a transaction. What is chosen before the table changes is right when its turn comes: a cycle that passes no
+/// victim stays as long as victims alone wait no more.
+pub(crate) fn choose(alloc: Global, table: &LockTable, txn: TxnId) -> Result<Vec<Victim>, Fault>
     ensures victims { IfOk result (λ victims. AreVictims table.now.requests txn victims.items) }
     ensures all { IfOk result (λ victims. IsOnNoCycleWithout victims.items table.now.requests txn) }
     ensures memory { IfErr result (λ fault. fault ≡ Memory) }
 {
     tables_are_orderly(table);
-    let mut victims = Vec::new(alloc);
-    while let Some(cycle) = cycle_without(alloc, table, txn, &victims)? {
+    let mut search = Search::new(alloc, txn)?;
+    while let Some(cycle) = search.next_cycle(alloc, table)? {
         let victim = victim_of(cycle);
-        victims.push(victim)?;
+        if victim.txn == txn {
+            let victims = search.end_with(victim)?;
+            return Ok(victims);
+        }
+        search.pass_over(victim)?;
     }
-    Ok(victims)
+    Ok(search.into_victims())
 }
 
 fn victim_of(mut cycle: Vec<TxnId>) -> Victim

@@ -16,9 +16,11 @@ use Rattle.shore_locks.proofs.Counts.{AreRequests-removed}
 use Rattle.shore_locks.proofs.Fits.{Fit, Fit-filter, Fit-passed, Fit-withdrawn, In-replaced, no_of}
 use Rattle.shore_locks.proofs.Entering.{found_in}
 use Rattle.shore_locks.proofs.LawLemmas.{released_own}
-use Rattle.shore_locks.proofs.Tables.{fit_of}
-use Rattle.shore_path.proofs.Kept.{Each}
-use Rattle.shore_path.proofs.Moving.{Above, HasMode, Rooted, Stays, onto_replaced, rooted_after, rooted_passed, stays_onto}
+use Rattle.shore_locks.proofs.Tables.{fit_of, orderly_cancelled, orderly_given_up}
+use Rattle.shore_path.specs.Acquires.{NoOtherWeaker, NoneWeaker}
+use Rattle.shore_path.proofs.Holding.{enough_of, holder_of}
+use Rattle.shore_path.proofs.Kept.{Each, still_enough}
+use Rattle.shore_path.proofs.Moving.{Above, HasMode, Rooted, Stays, held_still, onto_replaced, rooted_after, rooted_passed, stays-on, stays-self, stays_onto, stays_passed}
 
 stays_withdrawn : (P : ℕ → Type 0) (rs : List Request) (w : Request) → AreRequests rs → In w rs → Stays P rs (replaced (withdrawn w) rs)
 stays_withdrawn P rs w one in_w =
@@ -101,3 +103,44 @@ pub rooted_released : (t : ℕ) (rs : List Request) → IsOrderly rs → Rooted 
 rooted_released t rs orderly rooted =
     let others = rooted_given_up t (requests_by t rs) rs (λ r h. (Decides-eqb r.txn t).0 (In-filter (λ x. x.txn == t) rs r h).1) (fit_of rs orderly) (λ r h other m has. rooted r h tt m has) in
     λ r h p m has. others r h (none_left t rs orderly.one_each r h) m has
+
+-- ---- nobody's lock becomes weaker
+
+stays_removed : (P : ℕ → Type 0) (r : Request) (rs : List Request) → Spares P r rs → Stays P rs (removed r rs)
+stays_removed P r rs spares q h p m e =
+    let apart : are_alike q r ≡ false = ⊎_elim (λ yes. absurd (spares q h p yes m e)) (λ no. no) (either (are_alike q r)) in
+    record { request = q; there = filter-In (λ x. not (are_alike x r)) rs q h (ap not apart); by = refl; at = refl; enough = e }
+
+stays_stopped : (r : Request) (rs : List Request) (b : Bool) → is_some r.held ≡ b → Fit rs → In r rs → Stays Each rs (passed r.granule (cond b (replaced (withdrawn r) rs) (removed r rs)))
+stays_stopped r rs true is fit in_r =
+    stays-on Each rs (replaced (withdrawn r) rs) (passed r.granule (replaced (withdrawn r) rs)) (stays_withdrawn Each rs r fit.one in_r)
+    (stays_passed Each r.granule (replaced (withdrawn r) rs) (Fit-withdrawn rs r fit in_r is))
+stays_stopped r rs false is fit in_r =
+    stays-on Each rs (removed r rs) (passed r.granule (removed r rs))
+    (stays_removed Each r rs (λ q h p alike m e. holds_none m r.held is (subst (λ (x : Request). is_enough m x.held ≡ true) (only_one rs fit.one q r h in_r alike) e)))
+    (stays_passed Each r.granule (removed r rs) (Fit-filter (λ q. not (are_alike q r)) rs fit))
+
+stays_taken_if : (o : Option Request) (rs : List Request) → Fit rs → ((r : Request) → o ≡ Some r → In r rs) → Stays Each rs (taken_back_if o rs)
+stays_taken_if None rs fit there = stays-self Each rs
+stays_taken_if (Some r) rs fit there = stays_stopped r rs (is_some r.held) refl fit (there r refl)
+
+pub weaker_cancelled : (t : ℕ) (rs : List Request) → IsOrderly rs → NoneWeaker rs (cancelled t rs)
+weaker_cancelled t rs orderly =
+    still_enough rs (cancelled t rs) (orderly_cancelled t rs orderly).one_each
+    (stays_taken_if (waiting_request t rs) rs (fit_of rs orderly) (λ r is. (found_in (λ r. (r.txn == t) && is_some r.wanted) rs r is).0))
+
+stays_given_up : (t : ℕ) (mine rs : List Request) → ((r : Request) → In r mine → r.txn ≡ t) → Fit rs → Stays (λ u. u ≢ t) rs (given_up mine rs)
+stays_given_up t [] rs its fit = stays-self (λ u. u ≢ t) rs
+stays_given_up t (r ∷ mine) rs its fit =
+    let left = Fit-filter (λ q. not (are_alike q r)) rs fit in
+    stays-on (λ u. u ≢ t) rs (removed r rs) (given_up mine (passed r.granule (removed r rs)))
+    (stays_removed (λ u. u ≢ t) r rs (λ q h other alike m e. other (((alike-Decides q r).0 alike).0 ∙ its r (inl refl))))
+    (stays-on (λ u. u ≢ t) (removed r rs) (passed r.granule (removed r rs)) (given_up mine (passed r.granule (removed r rs)))
+    (stays_passed (λ u. u ≢ t) r.granule (removed r rs) left)
+    (stays_given_up t mine (passed r.granule (removed r rs)) (λ q h. its q (inr h)) (Fit-passed r.granule (removed r rs) left)))
+
+pub weaker_released : (t : ℕ) (rs : List Request) → IsOrderly rs → NoOtherWeaker rs (released t rs) t
+weaker_released t rs orderly u g m other e =
+    enough_of u g m (released t rs) (orderly_given_up (requests_by t rs) rs orderly).one_each
+    (held_still (λ v. v ≢ t) rs (released t rs) (stays_given_up t (requests_by t rs) rs (λ r h. (Decides-eqb r.txn t).0 (In-filter (λ x. x.txn == t) rs r h).1) (fit_of rs orderly))
+    u g m other (holder_of u g m rs e))

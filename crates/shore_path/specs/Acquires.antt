@@ -58,6 +58,10 @@ WalkedSome c old new t target mode granules =
 abbrev pub NoneWeaker : List Request → List Request → Type 0
 NoneWeaker rs new = (u : ℕ) (g : Granule) (m : Mode) → IsTrue (is_enough m (mode_held u g rs)) → IsTrue (is_enough m (mode_held u g new))
 
+-- .. but of one
+abbrev pub NoOtherWeaker : List Request → List Request → ℕ → Type 0
+NoOtherWeaker rs new t = (u : ℕ) (g : Granule) (m : Mode) → (u ≡ t → ⊥) → IsTrue (is_enough m (mode_held u g rs)) → IsTrue (is_enough m (mode_held u g new))
+
 -- the transaction's locks change on the path alone, each by the mode that is asked there, joined to the one held
 abbrev pub GrowsAsAsked : List Request → List Request → ℕ → Granule → Mode → Type 0
 GrowsAsAsked rs new t target mode =

@@ -6,6 +6,7 @@ ghost use Rattle.shore_model.specs.Locks.{Agree, Harmony, IsRooted, StandTogethe
 ghost use Rattle.shore_model.specs.Requests.{held_by_all};
 ghost use Rattle.shore_locks.specs.Grants.{cancelled, released};
 ghost use Rattle.shore_locks.specs.Orderly.{IsOrderly};
+ghost use Rattle.shore_path.specs.Acquires.{NoOtherWeaker, NoneWeaker};
 ghost use Rattle.shore_path.specs.Rooted.{AreRooted};
 
 /// Locks with their intentions, whose holders are compatible on each granule, are in harmony along every path.
@@ -37,4 +38,14 @@ pub fn cancel_keeps_intentions()
 /// So it is when a transaction gives up all that it has.
 pub fn release_keeps_intentions()
     ensures { (rs : List Request) (t : ℕ) → IsOrderly rs → AreRooted rs → AreRooted (released t rs) }
+{}
+
+/// If a transaction waits no more, nobody's lock becomes weaker.
+pub fn cancel_weakens_nobody()
+    ensures { (rs : List Request) (t : ℕ) → IsOrderly rs → NoneWeaker rs (cancelled t rs) }
+{}
+
+/// If a transaction gives up all that it has, no lock of the others becomes weaker.
+pub fn release_weakens_no_other()
+    ensures { (rs : List Request) (t : ℕ) → IsOrderly rs → NoOtherWeaker rs (released t rs) t }
 {}

@@ -4,6 +4,7 @@ mod comparison;
 mod cycle_runs;
 mod cycles;
 mod granules;
+mod lock_runs;
 mod path_runs;
 mod paths;
 mod shown;
@@ -14,6 +15,7 @@ mod twin;
 mod waits;
 
 use cycle_runs::Closed;
+use lock_runs::Taken;
 use path_runs::Ended;
 use std::test::Fail;
 use table_runs::Seen;
@@ -51,5 +53,17 @@ fn acquires_keep_harmony(rt: HostRuntime) -> Result<(), Fail> {
         path_runs::run(rt.alloc(), seed, &mut ended)?;
     }
     assert!(rt; ended.is_often());
+    Ok(())
+}
+
+// After each lock the others and the transaction are as it was told, the locks are in harmony and rooted, and nobody is on a cycle, as the
+// slow functions see it.
+#[test]
+fn locks_leave_no_cycle(rt: HostRuntime) -> Result<(), Fail> {
+    let mut taken = Taken::default();
+    for seed in 0..RUNS {
+        lock_runs::run(rt.alloc(), seed, &mut taken)?;
+    }
+    assert!(rt; taken.is_often());
     Ok(())
 }

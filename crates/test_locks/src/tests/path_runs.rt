@@ -98,7 +98,7 @@ fn step(
     }
 }
 
-fn waits_for(table: &LockTable, txn: TxnId, granule: &Granule) -> bool {
+pub(crate) fn waits_for(table: &LockTable, txn: TxnId, granule: &Granule) -> bool {
     match table.waiting_request(txn) {
         Some(request) => request.granule == *granule,
         None => false,
@@ -134,14 +134,20 @@ fn count_done(
     is_covered(alloc, table, txn, target, mode)
 }
 
-fn is_held(table: &LockTable, txn: TxnId, target: &Granule, mode: Mode) -> bool {
+pub(crate) fn is_held(table: &LockTable, txn: TxnId, target: &Granule, mode: Mode) -> bool {
     match table.held(txn, *target) {
         Some(held) => is_at_most(mode, held),
         None => false,
     }
 }
 
-fn is_covered(alloc: Global, table: &LockTable, txn: TxnId, target: &Granule, mode: Mode) -> bool {
+pub(crate) fn is_covered(
+    alloc: Global,
+    table: &LockTable,
+    txn: TxnId,
+    target: &Granule,
+    mode: Mode,
+) -> bool {
     let path = path_to(alloc, *target);
     for granule in path.as_slice() {
         if let Some(held) = table.held(txn, *granule)
@@ -166,7 +172,7 @@ fn count_fault(fault: &Fault, ended: &mut Ended) -> bool {
 }
 
 // Locks are in harmony along every path, and rooted; and nobody is on a cycle.
-fn is_sound(alloc: Global, table: &LockTable) -> Result<bool, AllocError> {
+pub(crate) fn is_sound(alloc: Global, table: &LockTable) -> Result<bool, AllocError> {
     let holds = holds_of(alloc, table)?;
     Ok(harmony(&holds) && well_rooted(&holds) && is_free(alloc, table)?)
 }

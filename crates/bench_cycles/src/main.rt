@@ -1,0 +1,110 @@
+//! How long the search for cycles takes where many transactions wait. `bench_cycles WORK ROUNDS` does one kind of work so often and
+//! prints the nanoseconds of the call that is measured; with no words it does each once and prints what it counts.
+#![tactic(auto)]
+
+use shore_deadlock::{break_cycles, find_cycle};
+use shore_locks::LockTable;
+use shore_types::{Fault, Granule, Mode, PageId, Rid, StoreId, TxnId};
+use std::alloc::Global;
+use std::time::Instant;
+use std::{env, io};
+
+const NODES: usize = 2048;
+
+const ASKER: u64 = 1;
+
+const LAST: u64 = 255;
+
+/// What is measured in a round.
+#[derive(Clone, Copy)]
+enum Work {
+    /// 254 transactions hold a record and wait for another, which one holds that now waits for the first: the cycles are broken.
+    Victims,
+    /// 254 transactions wait in one queue for a record of one that waits for nobody: the search from the last of them.
+    Queue,
+    /// As for the victims, but what they wait for is held by one that waits for nobody: the search from the asker.
+    Waiters,
+}
+
+impl Work {
+    fn of(name: &str) -> Option<Work> {
+        match name {
+            "victims" => Some(Work::Victims),
+            "queue" => Some(Work::Queue),
+            "waiters" => Some(Work::Waiters),
+            _ => None,
+        }
+    }
+}
+
+fn record(slot: u16) -> Granule {
+    let page = PageId {
+        store: StoreId(0),
+        page: 0,
+    };
+    Granule::Record(Rid { page, slot })
+}
+
+fn ask(table: &mut LockTable, txn: u64, slot: u16, mode: Mode) -> Result<(), Fault> {
+    if !table.is_waiting(TxnId(txn)) {
+        table.request(TxnId(txn), record(slot), mode)?;
+    }
+    Ok(())
+}
+
+fn fill(table: &mut LockTable, work: Work) -> Result<(), Fault> {
+    let holder = match work {
+        Work::Victims => ASKER,
+        Work::Queue | Work::Waiters => LAST + 1,
+    };
+    ask(table, holder, 0, Mode::EX)?;
+    for txn in ASKER + 1..LAST + 1 {
+        ask(table, txn, 1, Mode::SH)?;
+        ask(table, txn, 0, Mode::SH)?;
+    }
+    ask(table, ASKER, 1, Mode::EX)
+}
+
+/// What the call answers: how many victims, or how long the cycle is.
+fn call(alloc: Global, table: &mut LockTable, work: Work) -> Result<usize, Fault> {
+    match work {
+        Work::Victims => Ok(break_cycles(alloc, table, TxnId(ASKER))?.len()),
+        Work::Queue => searched(alloc, table, LAST),
+        Work::Waiters => searched(alloc, table, ASKER),
+    }
+}
+
+fn searched(alloc: Global, table: &LockTable, txn: u64) -> Result<usize, Fault> {
+    match find_cycle(alloc, table, TxnId(txn))? {
+        Some(cycle) => Ok(cycle.as_slice().len()),
+        None => Ok(0),
+    }
+}
+
+fn main(rt: HostRuntime) -> io::Result<()> {
+    let alloc = rt.alloc();
+    let words: Vec<String> = env::args(&rt)?.collect(alloc)?;
+    let [_, name, rounds] = words.as_slice() else {
+        println!(rt; "bench_cycles victims|queue|waiters ROUNDS")?;
+        return Ok(());
+    };
+    let (Some(work), Ok(rounds)) = (Work::of(name.as_str()), rounds.as_str().parse::<u64>()) else {
+        println!(rt; "bench_cycles victims|queue|waiters ROUNDS")?;
+        return Ok(());
+    };
+    let mut sum = 0usize;
+    let mut nanos = 0u128;
+    for _ in 0..rounds {
+        let mut table = LockTable::new(alloc, NODES)?;
+        let filled = fill(&mut table, work);
+        let start = Instant::now(&rt)?;
+        sum = sum.wrapping_add(call(alloc, &mut table, work).unwrap_or(0));
+        nanos = nanos.wrapping_add(start.elapsed(&rt)?.as_nanos());
+        if filled.is_err() {
+            return Ok(());
+        }
+    }
+    let each = nanos / u128::from(rounds.max(1));
+    println!(rt; "{name} {each} ns ({sum})")?;
+    Ok(())
+}
