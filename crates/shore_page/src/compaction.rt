@@ -39,6 +39,7 @@ fn put_slot(out: &mut [u8], slots: usize, slot: usize, offset: usize, image: Opt
 
 /// Puts the records of a page one behind another, in the order of their slots; answers where the last of them ends. They are read
 /// from a copy of the page, since a slot's record may lie where one before it goes.
+#[inline(never)]
 pub fn compact(out: &mut [u8], slots: usize) -> usize
     requires laid_out { IsTable out.old slots }
     requires whole { length out.old ≡ 8192 }
@@ -50,7 +51,7 @@ pub fn compact(out: &mut [u8], slots: usize) -> usize
     ensures header { KeepsHeader out.old out.new }
 {
     let mut copy = [0u8; PAGE_BYTES];
-    copy.copy_from_slice(out);
+    copy.copy_from_slice(&out[..PAGE_BYTES]);
     let mut offset = PAGE_HEADER_BYTES;
     for slot in 0..slots {
         offset = put_slot(out, slots, slot, offset, image_at(&copy, slot));

@@ -16,9 +16,6 @@ use shore_types::{Lsn, PageId};
 use std::alloc::{AllocError, Global};
 use std::marker::Model;
 
-// A part of the bytes of a page.
-const ZEROS: [u8; 512] = [0; 512];
-
 /// The text of a page.
 #[derive(Drop)]
 pub struct PageBytes {
@@ -47,10 +44,7 @@ impl PageBytes {
     pub fn new(alloc: Global, id: PageId) -> Result<PageBytes, AllocError>
         ensures { IfOk result (λ text. text ≡ record { id = id; number = 0; images = [] }) }
     {
-        let mut bytes = Vec::with_capacity(alloc, PAGE_BYTES)?;
-        for _ in 0..PAGE_BYTES / ZEROS.len() {
-            bytes.extend_from_slice(&ZEROS)?;
-        }
+        let mut bytes = Vec::from_elem(alloc, 0u8, PAGE_BYTES)?;
         put_header(&mut bytes, &id);
         Ok(PageBytes {
             id,
