@@ -334,6 +334,28 @@ fn read_again(
     Ok(true)
 }
 
+/// One call on both sides; false if they do not agree on it.
+fn play(
+    alloc: Global,
+    page: &mut Page,
+    twin: &mut Twin,
+    chance: &mut Chance,
+    counts: &mut Counts,
+) -> Result<bool, AllocError> {
+    match chance.below(20) {
+        0..=8 => put(page, twin, chance, counts),
+        9..=12 => take_away(page, twin, chance, counts),
+        13..=18 => {
+            claim(page, twin, chance, counts);
+            Ok(true)
+        }
+        _ => {
+            counts.reads = counts.reads.wrapping_add(1);
+            read_again(alloc, page, twin, chance)
+        }
+    }
+}
+
 #[test]
 fn random_runs_beside_a_twin(rt: HostRuntime) -> io::Result<()> {
     let alloc = rt.alloc();
@@ -350,25 +372,8 @@ fn random_runs_beside_a_twin(rt: HostRuntime) -> io::Result<()> {
         let mut page = Page::new(alloc, ID)?;
         let mut twin = Twin::new(alloc)?;
         for step in 0..600 {
-            match chance.below(20) {
-                0..=8 => assert!(&rt;
-                    put(&mut page, &mut twin, &mut chance, &mut counts)?,
-                    "run {run}, step {step}"
-                ),
-                9..=12 => assert!(&rt;
-                    take_away(&mut page, &mut twin, &mut chance, &mut counts)?,
-                    "run {run}, step {step}"
-                ),
-                13..=18 => claim(&mut page, &mut twin, &mut chance, &mut counts),
-                _ => {
-                    assert!(&rt;
-                        read_again(alloc, &mut page, &mut twin, &mut chance)?,
-                        "run {run}, step {step}"
-                    );
-                    counts.reads = counts.reads.wrapping_add(1);
-                }
-            }
-            assert!(&rt; twin.is_like(&page), "run {run}, step {step}");
+            let agrees = play(alloc, &mut page, &mut twin, &mut chance, &mut counts)?;
+            assert!(&rt; agrees && twin.is_like(&page), "run {run}, step {step}");
         }
     }
     println!(rt;
