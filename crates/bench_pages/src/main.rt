@@ -30,6 +30,8 @@ enum Work {
     Write,
     /// Reads the page from its text.
     Read,
+    /// Puts a shorter record in place of the first, and then the first again, for which the others have to be moved together.
+    Compact,
 }
 
 impl Work {
@@ -39,18 +41,19 @@ impl Work {
             "get" => Some(Work::Get),
             "write" => Some(Work::Write),
             "read" => Some(Work::Read),
+            "compact" => Some(Work::Compact),
             _ => None,
         }
     }
 }
 
 fn filled(alloc: Global) -> Result<Page, AllocError> {
-    let mut page = Page::new(alloc, ID);
+    let mut page = Page::new(alloc, ID)?;
     for slot in 0..MAX_SLOTS {
         if !page.fits(slot, RECORD.len()) {
             break;
         }
-        page.put(slot, &RECORD)?;
+        page.put(slot, &RECORD);
     }
     Ok(page)
 }
@@ -67,7 +70,7 @@ fn bytes_of(page: &Page) -> u64 {
 }
 
 /// One round, on a page that is full and on its text. It answers a number that hangs on what was done.
-fn round(alloc: Global, work: Work, page: &Page, text: &mut [u8]) -> Result<u64, AllocError>
+fn round(alloc: Global, work: Work, page: &mut Page, text: &mut [u8]) -> Result<u64, AllocError>
     requires { length text.old ≡ PAGE_BYTES }
     ensures { length text.new ≡ PAGE_BYTES }
 {
@@ -82,12 +85,20 @@ fn round(alloc: Global, work: Work, page: &Page, text: &mut [u8]) -> Result<u64,
             0,
             |page| page.free_bytes() as u64,
         )),
+        Work::Compact => {
+            for bytes in [&RECORD[..99], &RECORD[..]] {
+                if page.fits(0, bytes.len()) {
+                    page.put(0, bytes);
+                }
+            }
+            Ok(page.free_bytes() as u64)
+        }
     }
 }
 
 fn main(rt: HostRuntime) -> io::Result<()> {
     let alloc = rt.alloc();
-    let page = filled(alloc)?;
+    let mut page = filled(alloc)?;
     let mut text = [0u8; PAGE_BYTES];
     page.to_bytes(&mut text);
     let words: Vec<String> = env::args(&rt)?.collect(alloc)?;
@@ -97,13 +108,13 @@ fn main(rt: HostRuntime) -> io::Result<()> {
         return Ok(());
     };
     let (Some(work), Ok(rounds)) = (Work::of(name.as_str()), rounds.as_str().parse::<u64>()) else {
-        println!(rt; "bench_pages fill|get|write|read ROUNDS")?;
+        println!(rt; "bench_pages fill|get|write|read|compact ROUNDS")?;
         return Ok(());
     };
     let mut sum = 0u64;
     let start = Instant::now(&rt)?;
     for _ in 0..rounds {
-        sum = sum.wrapping_add(round(alloc, work, &page, &mut text)?);
+        sum = sum.wrapping_add(round(alloc, work, &mut page, &mut text)?);
     }
     let nanos = start.elapsed(&rt)?.as_nanos() / u128::from(rounds.max(1));
     println!(rt; "{name} {nanos} ns a round ({sum})")?;

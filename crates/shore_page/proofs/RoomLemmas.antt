@@ -1,14 +1,14 @@
 -- What a change of one slot does to the claims and to the room of a page.
-use Rattle.std.proofs.Common.{◌≡◌, ◌≢◌, ℕ, zero, suc, ◌+◌, ◌-◌, ◌*◌, ◌<◌, ◌≤◌, max, min, nat_lt, inl, inr, List, [], ◌∷◌, ◌++◌, length, get_or, Option, Some, None, refl, sym, ap, subst, ◌∙◌, arith}
+use Rattle.std.proofs.Common.{◌≡◌, ◌≢◌, ℕ, zero, suc, ◌+◌, ◌-◌, ◌*◌, ◌<◌, ◌≤◌, max, min, List, [], ◌∷◌, ◌++◌, length, get_or, replicate, Option, Some, None, refl, sym, ap, subst, ◌∙◌, arith}
 use Rattle.std.proofs.Math.ListN.{set}
-use Rattle.std.proofs.lemmas.List.{get_or_default, get_or_push, get_or-set_same, length-set, length-append}
-use Rattle.std.proofs.lemmas.List.Elements.{All-set, All-push, All-get_or}
-use Rattle.std.proofs.lemmas.List.Sums.{sum_by-set, sum_by_push}
-use Rattle.std.proofs.lemmas.Bool.{cases_lt, lt-ltb, le-ltb, cond-true, cond-false}
-use Rattle.std.proofs.lemmas.Option.{slice_get_past, slice_get_read, slice_get-get_or}
+use Rattle.std.proofs.lemmas.List.{get_or_default, get_or-set_same, length-set, length-append, length-replicate, append-nil}
+use Rattle.std.proofs.lemmas.List.Folds.{sum_by-replicate}
+use Rattle.std.proofs.lemmas.List.Elements.{All-set, All-nil, All-cons, All-append, All-get_or}
+use Rattle.std.proofs.lemmas.List.Sums.{sum_by-set, sum_by-append}
+use Rattle.std.proofs.lemmas.Option.{slice_get_read, slice_get-get_or}
 use Rattle.std.specs.Option.{option_and_then, option_map_or}
-use Rattle.std.specs.List.{slice_get}
-use Rattle.shore_page.specs.Slots.{Slot, PageState, image_len, with_change, with_image, holding}
+use Rattle.std.specs.List.{slice_get, All}
+use Rattle.shore_page.specs.Slots.{Slot, image_len, image_at_slot, with_change, with_slot, with_image, holding, settled}
 use Rattle.shore_types.specs.Images.{Image}
 use Rattle.shore_page.specs.Room.{claims, claim_at, free_bytes, need, Fits, HasRoom, HoldsItsImage, KeepsClaims, ChangesOne, raised, lowered}
 
@@ -55,12 +55,7 @@ set_kept_less slots claimed i x y kept inside here holds falls =
     }
 
 pub need_inside : (slots : List Slot) (i bytes : ℕ) (x : Slot) → i < length slots → x ≡ get_or slots i x → need slots i bytes ≡ bytes - x.claim
-need_inside slots i bytes x inside here =
-    let claim = claim_is slots i x inside here in
-    rw (lt-ltb i (length slots) inside) (omega arith)
-
-need_behind : (slots : List Slot) (i bytes : ℕ) → length slots ≤ i → need slots i bytes ≡ bytes + 4
-need_behind slots i bytes behind = rw (le-ltb i (length slots) behind, slice_get_past slots i behind) (omega arith)
+need_inside slots i bytes x inside here = omega (arith, claim_is slots i x inside here)
 
 -- an image in a slot that is there
 pub hold_kept : (slots : List Slot) (claimed i : ℕ) (image : Image) (x y : Slot) → KeepsClaims slots claimed → i < length slots → x ≡ get_or slots i x → y ≡ holding image x
@@ -86,7 +81,10 @@ hold_one slots claimed i image x y kept inside here is fits =
     record {
       here = ap (λ (o : Option Slot). option_and_then (λ (s : Slot). s.image) o) there ∙ ap (λ (s : Slot). s.image) is;
       claim = ap (λ (o : Option Slot). option_map_or (λ (s : Slot). s.claim) o 0) there ∙ claim ∙ ap (λ (n : ℕ). max n (image_len image)) (sym old_claim);
-      others = set_others slots i y;
+      others = λ other apart. let same = set_others slots i y other apart in (
+        ap (λ (o : Option Slot). option_and_then (λ (s : Slot). s.image) o) same,
+        ap (λ (o : Option Slot). option_map_or (λ (s : Slot). s.claim) o 0) same,
+      );
       stay = omega arith;
       taken = omega arith;
     }
@@ -98,70 +96,9 @@ hold_one slots claimed i image x y kept inside here is fits =
     set_others (z ∷ slots) (suc i) y zero apart = refl
     set_others (z ∷ slots) (suc i) y (suc other) apart = set_others slots i y other (λ (e : other ≡ i). apart (ap suc e))
 
--- an image in a new slot
-pub push_kept : (slots : List Slot) (claimed i : ℕ) (image : Image) (y : Slot) → KeepsClaims slots claimed → length slots ≤ i → y ≡ record { image = image; claim = image_len image }
-    → Fits slots i (image_len image) → KeepsClaims (slots ++ y ∷ []) (claimed + y.claim)
-push_kept slots claimed i image y kept behind is fits =
-    let claim : y.claim ≡ image_len image = ap (λ (s : Slot). s.claim) is in
-    let held : image_len y.image ≡ image_len image = ap (λ (s : Slot). image_len s.image) is in
-    let room = need_behind slots i (image_len image) behind in
-    let total : claims (slots ++ y ∷ []) ≡ claims slots + y.claim = sum_by_push (λ (s : Slot). s.claim) slots y in
-    let len : length (slots ++ y ∷ []) ≡ length slots + 1 = length-append slots (y ∷ []) in
-    let free = free_is slots kept.room in
-    record {
-      sum = omega (arith, kept.sum);
-      room = record { room = omega (arith, fits.room); each = All-push HoldsItsImage slots y kept.room.each (omega arith, omega (arith, fits.most)) };
-    }
-
-pub push_one : (slots : List Slot) (claimed i : ℕ) (image : Image) (y : Slot) → KeepsClaims slots claimed → length slots ≤ i → y ≡ record { image = image; claim = image_len image }
-    → Fits slots i (image_len image) → ChangesOne slots (slots ++ y ∷ []) i image
-push_one slots claimed i image y kept behind is fits =
-    let claim : y.claim ≡ image_len image = ap (λ (s : Slot). s.claim) is in
-    let total : claims (slots ++ y ∷ []) ≡ claims slots + y.claim = sum_by_push (λ (s : Slot). s.claim) slots y in
-    let len : length (slots ++ y ∷ []) ≡ length slots + 1 = length-append slots (y ∷ []) in
-    let free = free_is slots kept.room in
-    let new_free = free_is (slots ++ y ∷ []) (push_kept slots claimed i image y kept behind is fits).room in
-    let need_is = need_behind slots i (image_len image) behind in
-    let last : i ≡ length slots = omega (arith, fits.there) in
-    let there : slice_get (slots ++ y ∷ []) i ≡ Some y = slice_get-get_or (slots ++ y ∷ []) i y (omega arith) ∙ ap (λ (s : Slot). Some s) (get_or_push slots y y i (sym last)) in
-    record {
-      here = ap (λ (o : Option Slot). option_and_then (λ (s : Slot). s.image) o) there ∙ ap (λ (s : Slot). s.image) is;
-      claim = ap (λ (o : Option Slot). option_map_or (λ (s : Slot). s.claim) o 0) there ∙ claim ∙ none (image_len image) ∙ ap (λ (n : ℕ). max n (image_len image)) (sym no_claim);
-      others = λ other apart. push_others slots y other (λ (e : other ≡ length slots). apart (e ∙ sym last));
-      stay = omega arith;
-      taken = omega arith;
-    }
-  where
-    none : (n : ℕ) → n ≡ max 0 n
-    none n = omega arith
-
-    no_claim : claim_at slots i ≡ 0
-    no_claim = ap (λ (o : Option Slot). option_map_or (λ (s : Slot). s.claim) o 0) (slice_get_past slots i behind)
-
-    push_others : (slots : List Slot) (y : Slot) (other : ℕ) → other ≢ length slots → slice_get (slots ++ y ∷ []) other ≡ slice_get slots other
-    push_others [] y zero apart = absurd (apart refl)
-    push_others [] y (suc other) apart = refl
-    push_others (z ∷ slots) y zero apart = refl
-    push_others (z ∷ slots) y (suc other) apart = push_others slots y other (λ (e : other ≡ length slots). apart (ap suc e))
-
--- the image put into a slot, by whether it is there
-pub hold_is : (slots : List Slot) (i : ℕ) (image : Image) (x y : Slot) → i < length slots → x ≡ get_or slots i x → y ≡ holding image x → set slots i y ≡ with_image slots i image
-hold_is slots i image x y inside here is = with_change_set (holding image) slots i x y inside here is ∙ sym (cond-true (nat_lt i (length slots)) _ _ (lt-ltb i (length slots) inside))
-
-pub push_is : (slots : List Slot) (i : ℕ) (image : Image) (y : Slot) → length slots ≤ i → y ≡ record { image = image; claim = image_len image } → slots ++ y ∷ [] ≡ with_image slots i image
-push_is slots i image y behind is = ap (λ (s : Slot). slots ++ s ∷ []) is ∙ sym (cond-false (nat_lt i (length slots)) _ _ (le-ltb i (length slots) behind))
-
--- a page with other slots
-abbrev pub with_slots : PageState → List Slot → PageState
-with_slots p l = record { id = p.id; number = p.number; slots = l }
-
--- pages that are alike but for their slots
-pub same_but_slots : (p q : PageState) (l m : List Slot) → p ≡ q → l ≡ m → with_slots p l ≡ with_slots q m
-same_but_slots p q l m same slots = ap (λ (p : PageState). with_slots p l) same ∙ ap (λ (l : List Slot). with_slots q l) slots
-
 -- no record fits a slot that is there
-pub fits_none : (slots : List Slot) (i : ℕ) (x : Slot) → i < length slots → x ≡ get_or slots i x → Fits slots i (image_len None)
-fits_none slots i x inside here = record { there = omega arith; most = omega arith; room = omega (arith, need_inside slots i 0 x inside here) }
+pub fits_none : (slots : List Slot) (i : ℕ) (x : Slot) → HasRoom slots → i < length slots → x ≡ get_or slots i x → Fits slots i (image_len None)
+fits_none slots i x room inside here = record { there = omega (arith, room.room); most = omega arith; room = omega (arith, need_inside slots i 0 x inside here) }
 
 -- a claim raised by what is free, at most
 pub raise_kept : (slots : List Slot) (claimed i bytes : ℕ) (x y : Slot) → KeepsClaims slots claimed → i < length slots → x ≡ get_or slots i x → y ≡ raised bytes x
@@ -182,19 +119,92 @@ lower_kept slots claimed i bytes x y kept inside here is =
     let old : HoldsItsImage x = subst HoldsItsImage (sym here) (All-get_or HoldsItsImage slots i x inside kept.room.each) in
     set_kept_less slots claimed i x y kept inside here (omega (arith, old.0), omega (arith, old.1)) (omega arith)
 
+-- ---- slots up to one
+
+abbrev pub nothing : Slot
+nothing = settled None
+
+pub length-with_slot : (slots : List Slot) (i : ℕ) → length (with_slot slots i) ≡ max (length slots) (i + 1)
+length-with_slot slots i = omega (arith, length-append slots (replicate (i + 1 - length slots) nothing), length-replicate (i + 1 - length slots) nothing)
+
+pub with_slot_inside : (slots : List Slot) (i : ℕ) → i < length slots → with_slot slots i ≡ slots
+with_slot_inside slots i inside =
+    let none : i + 1 - length slots ≡ 0 = omega arith in
+    ap (λ (n : ℕ). slots ++ replicate n nothing) none ∙ append-nil slots
+
+pub claims-with_slot : (slots : List Slot) (i : ℕ) → claims (with_slot slots i) ≡ claims slots
+claims-with_slot slots i =
+    let n = i + 1 - length slots in
+    let empties : claims (replicate n nothing) ≡ n * 0 = sum_by-replicate (λ (s : Slot). s.claim) n nothing in
+    let all : claims (with_slot slots i) ≡ claims slots + claims (replicate n nothing) = sum_by-append (λ (s : Slot). s.claim) slots (replicate n nothing) in
+    omega arith
+
+-- what is in a slot, and its claim
+new_at : (n other : ℕ) → (image_at_slot (replicate n nothing) other ≡ None) × (claim_at (replicate n nothing) other ≡ 0)
+new_at zero other = (refl, refl)
+new_at (suc n) zero = (refl, refl)
+new_at (suc n) (suc other) = new_at n other
+
+append_at : (slots : List Slot) (n other : ℕ) → (image_at_slot (slots ++ replicate n nothing) other ≡ image_at_slot slots other) × (claim_at (slots ++ replicate n nothing) other ≡ claim_at slots other)
+append_at [] n other = new_at n other
+append_at (s ∷ slots) n zero = (refl, refl)
+append_at (s ∷ slots) n (suc other) = append_at slots n other
+
+pub with_slot_room : (slots : List Slot) (i : ℕ) → HasRoom slots → 4 * (i + 1 - length slots) ≤ free_bytes slots → HasRoom (with_slot slots i)
+with_slot_room slots i room fits = record {
+  room = omega (arith, room.room, length-with_slot slots i, claims-with_slot slots i);
+  each = All-append HoldsItsImage slots (replicate (i + 1 - length slots) nothing) room.each (empty (i + 1 - length slots));
+}
+  where
+    empty : (n : ℕ) → All HoldsItsImage (replicate n nothing)
+    empty zero = All-nil HoldsItsImage
+    empty (suc n) = All-cons HoldsItsImage nothing (replicate n nothing) (omega arith, omega arith) (empty n)
+
+pub with_slot_fits : (slots : List Slot) (i bytes : ℕ) → HasRoom slots → Fits slots i bytes → Fits (with_slot slots i) i bytes
+with_slot_fits slots i bytes room fits =
+    let claim = (append_at slots (i + 1 - length slots) i).1 in
+    record {
+      there = fits.there;
+      most = fits.most;
+      room = omega (arith, fits.room, room.room, length-with_slot slots i, claims-with_slot slots i);
+    }
+
+-- ---- an image that fits
+
+-- what is at a slot that is there
+get_here : (slots : List Slot) (i : ℕ) → i < length slots → get_or slots i nothing ≡ get_or slots i (get_or slots i nothing)
+get_here slots i inside = get_or_default slots i nothing (get_or slots i nothing) inside
+
+-- a change of one slot, as a list
+pub with_change_is : (f : Slot → Slot) (slots : List Slot) (i : ℕ) → i < length slots → set slots i (f (get_or slots i nothing)) ≡ with_change f slots i
+with_change_is f slots i inside = with_change_set f slots i (get_or slots i nothing) (f (get_or slots i nothing)) inside (get_here slots i inside) refl
+
+pub changes_one : (slots : List Slot) (i : ℕ) (image : Image) → HasRoom slots → Fits slots i (image_len image) → ChangesOne slots (with_image slots i image) i image
+changes_one slots i image room fits =
+    let more = with_slot slots i in
+    let len = length-with_slot slots i in
+    let inside : i < length more = omega arith in
+    let fits_more = with_slot_fits slots i (image_len image) room fits in
+    let kept : KeepsClaims more (claims more) = record { sum = refl; room = with_slot_room slots i room (omega (arith, fits.room)) } in
+    let one : ChangesOne more (with_image slots i image) i image = subst (λ (l : List Slot). ChangesOne more l i image) (with_change_is (holding image) more i inside)
+    (hold_one more (claims more) i image (get_or more i nothing) (holding image (get_or more i nothing)) kept inside (get_here more i inside) refl fits_more) in
+    let same = λ (other : ℕ). append_at slots (i + 1 - length slots) other in
+    let claim_here = (same i).1 in
+    record {
+      here = one.here;
+      claim = omega (arith, one.claim, claim_here);
+      others = λ other apart. ((one.others other apart).0 ∙ (same other).0, (one.others other apart).1 ∙ (same other).1);
+      stay = omega (arith, one.stay);
+      taken = omega (arith, one.taken, claim_here, claims-with_slot slots i, room.room, fits.room);
+    }
+
 -- a page with an image that fits has room again
 pub with_image_room : (slots : List Slot) (i : ℕ) (image : Image) → HasRoom slots → Fits slots i (image_len image) → HasRoom (with_image slots i image)
-with_image_room slots i image room fits = elim (cases_lt i (length slots)) [
-  | inl inside ↦
-      let x = get_or slots i nothing in
-      let here : x ≡ get_or slots i x = get_or_default slots i nothing x inside in
-      subst HasRoom (hold_is slots i image x (holding image x) inside here refl) (hold_kept slots (claims slots) i image x (holding image x) kept inside here refl fits).room
-  | inr behind ↦
-      subst HasRoom (push_is slots i image _ behind refl) (push_kept slots (claims slots) i image _ kept behind refl fits).room
-]
-  where
-    nothing : Slot
-    nothing = record { image = None; claim = 0 }
-
-    kept : KeepsClaims slots (claims slots)
-    kept = record { sum = refl; room = room }
+with_image_room slots i image room fits =
+    let more = with_slot slots i in
+    let len = length-with_slot slots i in
+    let inside : i < length more = omega arith in
+    let fits_more = with_slot_fits slots i (image_len image) room fits in
+    let kept : KeepsClaims more (claims more) = record { sum = refl; room = with_slot_room slots i room (omega (arith, fits.room)) } in
+    subst HasRoom (with_change_is (holding image) more i inside)
+    (hold_kept more (claims more) i image (get_or more i nothing) (holding image (get_or more i nothing)) kept inside (get_here more i inside) refl fits_more).room

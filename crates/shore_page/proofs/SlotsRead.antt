@@ -1,36 +1,40 @@
 -- The slots of a page's text that are read so far.
-use Rattle.std.proofs.Common.{◌≡◌, ℕ, ◌+◌, ◌-◌, ◌*◌, ◌<◌, ◌≤◌, inl, inr, Bool, true, false, List, [], ◌∷◌, ◌++◌, length, get_or, map, Option, Some, None, refl, sym, ap, subst, ◌∙◌, arith}
-use Rattle.std.proofs.lemmas.List.{length-map, map_push, ext_get_or, get_or-map}
+use Rattle.std.proofs.Common.{◌≡◌, ℕ, ◌+◌, ◌-◌, ◌*◌, ◌<◌, ◌≤◌, max, inl, inr, Bool, true, false, cond, List, [], ◌∷◌, length, get_or, replicate, Option, Some, None, refl, sym, ap, subst, ◌∙◌, arith}
+use Rattle.std.proofs.Math.ListN.{get_or-eq_default}
+use Rattle.std.proofs.lemmas.List.{ext_get_or, length-replicate, get_or-replicate}
+use Rattle.std.proofs.lemmas.List.Folds.{sum_by-replicate}
 use Rattle.std.proofs.lemmas.List.Edits.{length-between}
 use Rattle.std.proofs.lemmas.List.Sums.{sum_by-cons}
-use Rattle.std.proofs.lemmas.List.FromFn.{sum_by-map-range_with_len_more, map-range_with_len_more, length-map-range_with_len, get_or-map-range_with_len}
-use Rattle.std.proofs.lemmas.Bool.{cases_lt, ne_eqb, eq-eqb}
-use Rattle.std.proofs.lemmas.List.Elements.{All-from_get_or}
+use Rattle.std.proofs.lemmas.List.FromFn.{sum_by-map-range_with_len_more, length-map-range_with_len, get_or-map-range_with_len}
+use Rattle.std.proofs.lemmas.Bool.{cases_lt, ne_eqb, eq-eqb, false≢true}
 use Rattle.std.proofs.lemmas.Option.{slice_get-get_or, slice_get_within, get_or_from_slice_get}
 use Rattle.std.specs.Prelude.{unwrap_or}
-use Rattle.std.specs.List.{between, sum_by}
+use Rattle.std.specs.List.{between}
 use Rattle.shore_types.specs.declared.ids.PageId.{PageId}
-use Rattle.shore_page.specs.Slots.{settled, Slot, image_len}
+use Rattle.shore_page.specs.Slots.{image_len}
 use Rattle.shore_types.specs.Images.{Image}
-use Rattle.shore_page.specs.Room.{claims, HoldsItsImage, KeepsClaims}
-use Rattle.shore_page.specs.Text.{table_of, offset_at, length_at, HasHeader, HasSlot, Covers, IsPageText, images_of}
+use Rattle.shore_page.specs.Text.{table_of, offset_at, length_at, HasHeader, HasSlot, Covers, IsPageText}
 use Rattle.shore_page.specs.Reading.{IsEntry, IsTable, slot_image, images_in, marked, Marks, IsTaken}
+use Rattle.shore_page.specs.Layout.{IsLaidOut, record_bytes}
+use Rattle.shore_page.proofs.LayoutLemmas.{entry_within, entry_short}
 
 -- The first slots are in order, no two of their records overlap, and just their bytes are marked.
-pub record Checked (bytes : List ℕ) (slots : ℕ) (marks : List Bool) (i taken : ℕ) : Type 0 where
+pub record Checked (bytes : List ℕ) (slots : ℕ) (marks : List Bool) (i end : ℕ) : Type 0 where
   pub len : 24 + length marks ≡ table_of slots
   pub each : (j : ℕ) → j < i → IsEntry (table_of slots) (offset_at bytes j) (length_at bytes j)
   pub apart : (a b position : ℕ) → a < i → b < i → Covers bytes a position → Covers bytes b position → a ≡ b
   pub covered : (j position : ℕ) → j < i → Covers bytes j position → get_or marks (position - 24) false ≡ true
   pub owned : (position : ℕ) → get_or marks position false ≡ true → (j : ℕ) × (j < i) × Covers bytes j (24 + position)
-  pub count : marked marks ≡ taken
-  pub sum : taken ≡ sum_by image_len (images_in bytes i)
+  pub count : marked marks ≡ record_bytes (images_in bytes i)
+  pub front : 24 ≤ end
+  pub back : end ≤ table_of slots
+  pub ends : (j : ℕ) → j < i → offset_at bytes j + length_at bytes j ≤ end
 
 added_less : (a b : ℕ) → a + b - a ≡ b
 added_less a b = omega arith
 
 -- the bytes of a slot's record
-slot_bytes : (bytes : List ℕ) (table slot : ℕ) → length bytes ≡ 8192 → table ≤ 8192 → IsEntry table (offset_at bytes slot) (length_at bytes slot) → image_len (slot_image bytes slot) ≡ length_at bytes slot
+pub slot_bytes : (bytes : List ℕ) (table slot : ℕ) → length bytes ≡ 8192 → table ≤ 8192 → IsEntry table (offset_at bytes slot) (length_at bytes slot) → image_len (slot_image bytes slot) ≡ length_at bytes slot
 unfolding slot_image
 slot_bytes bytes table slot whole inside (inl empty) = rw (eq-eqb (offset_at bytes slot) 0 empty.0) (sym empty.1)
 slot_bytes bytes table slot whole inside (inr lies) =
@@ -47,10 +51,10 @@ position_covered table offset bytes position (inl empty) low high = absurd (omeg
 position_covered table offset bytes position (inr lies) low high = (omega (arith, lies.behind_header), omega (arith, lies.behind_header))
 
 -- one slot more
-pub checked_more : (bytes : List ℕ) (slots : ℕ) (marks new : List Bool) (i taken : ℕ) → length bytes ≡ 8192 → Checked bytes slots marks i taken
+pub checked_more : (bytes : List ℕ) (slots : ℕ) (marks new : List Bool) (i end : ℕ) → length bytes ≡ 8192 → slots ≤ 2042 → Checked bytes slots marks i end
     → IsEntry (table_of slots) (offset_at bytes i) (length_at bytes i) → Marks marks new (offset_at bytes i - 24) (offset_at bytes i - 24 + length_at bytes i)
-    → Checked bytes slots new (i + 1) (taken + length_at bytes i)
-checked_more bytes slots marks new i taken whole so_far entry marks_more = record {
+    → Checked bytes slots new (i + 1) (max end (offset_at bytes i + length_at bytes i))
+checked_more bytes slots marks new i end whole few so_far entry marks_more = record {
   len = omega (arith, marks_more.len, so_far.len);
   each = λ j before. elim (cases_lt j i) [
     | inl earlier ↦ so_far.each j earlier
@@ -77,14 +81,19 @@ checked_more bytes slots marks new i taken whole so_far entry marks_more = recor
       | inr high ↦ owned_before position (sym (marks_more.above position high) ∙ here)
     ]
   ];
-  count = omega (arith, marks_more.count, so_far.count);
-  sum = ap (λ (n : ℕ). n + length_at bytes i) so_far.sum ∙ sym (more ∙ ap (λ (n : ℕ). sum_by image_len (images_in bytes i) + n) (slot_bytes bytes (table_of slots) i whole (omega arith) entry));
+  count = omega (arith, marks_more.count, so_far.count, more, slot_bytes bytes (table_of slots) i whole (omega arith) entry);
+  front = omega (arith, so_far.front);
+  back = omega (arith, so_far.back, so_far.front, entry_within (table_of slots) (offset_at bytes i) (length_at bytes i) entry);
+  ends = λ j before. elim (cases_lt j i) [
+    | inl earlier ↦ omega (arith, so_far.ends j earlier)
+    | inr late ↦ (let same : j ≡ i = omega arith in subst (λ (k : ℕ). offset_at bytes k + length_at bytes k ≤ max end (offset_at bytes i + length_at bytes i)) (sym same) (omega arith))
+  ];
 }
   where
     from : ℕ
     from = offset_at bytes i - 24
 
-    more : sum_by image_len (images_in bytes (i + 1)) ≡ sum_by image_len (images_in bytes i) + image_len (slot_image bytes i)
+    more : record_bytes (images_in bytes (i + 1)) ≡ record_bytes (images_in bytes i) + image_len (slot_image bytes i)
     more = sum_by-map-range_with_len_more image_len (slot_image bytes) 0 i i (omega arith)
 
     -- what was marked stays so
@@ -116,9 +125,9 @@ checked_more bytes slots marks new i taken whole so_far entry marks_more = recor
         cc
 
 -- a record that cannot be marked is none of a slot table
-pub checked_refused : (bytes : List ℕ) (slots : ℕ) (marks : List Bool) (i taken : ℕ) → Checked bytes slots marks i taken → i < slots
+pub checked_refused : (bytes : List ℕ) (slots : ℕ) (marks : List Bool) (i end : ℕ) → Checked bytes slots marks i end → i < slots
     → (IsEntry (table_of slots) (offset_at bytes i) (length_at bytes i) → IsTaken marks (offset_at bytes i - 24) (offset_at bytes i - 24 + length_at bytes i)) → IsTable bytes slots → ⊥
-checked_refused bytes slots marks i taken so_far before refused table =
+checked_refused bytes slots marks i end so_far before refused table =
     let entry = table.each i before in
     let position = refused entry in
     let owner = so_far.owned position.0 position.3 in
@@ -126,22 +135,37 @@ checked_refused bytes slots marks i taken so_far before refused table =
     omega (arith, owner.1)
 
 -- all slots
-pub checked_all : (bytes : List ℕ) (slots : ℕ) (marks : List Bool) (i taken : ℕ) → Checked bytes slots marks i taken → slots ≤ i → i ≤ slots → IsTable bytes slots
-checked_all bytes slots marks i taken so_far reached inside = record {
-  each = λ slot before. so_far.each slot (omega arith);
-  apart = λ a b position before_a before_b. so_far.apart a b position (omega arith) (omega arith);
+pub checked_all : (bytes : List ℕ) (slots : ℕ) (marks : List Bool) (i end : ℕ) → Checked bytes slots marks i end → slots ≤ i → i ≤ slots → length bytes ≡ 8192 → slots ≤ 2042 → IsLaidOut bytes slots end
+checked_all bytes slots marks i end so_far reached inside whole few = record {
+  whole = whole;
+  few = few;
+  table = record {
+    each = λ slot before. so_far.each slot (omega arith);
+    apart = λ a b position before_a before_b. so_far.apart a b position (omega arith) (omega arith);
+  };
+  front = so_far.front;
+  back = so_far.back;
+  ends = λ slot before. so_far.ends slot (omega arith);
 }
 
--- ---- the images that a slot table names
+-- the records of all slots have room: each byte has one mark
+pub checked_room : (bytes : List ℕ) (slots : ℕ) (marks : List Bool) (i end : ℕ) → Checked bytes slots marks i end → slots ≤ i → i ≤ slots → slots ≤ 2042 → 4 * slots + record_bytes (images_in bytes slots) ≤ 8168
+checked_room bytes slots marks i end so_far reached inside few =
+    let same : i ≡ slots = omega arith in
+    subst (λ (n : ℕ). 4 * slots + record_bytes (images_in bytes n) ≤ 8168) same (omega (arith, so_far.count, so_far.len, marked-most marks))
+  where
+    marked-most : (marks : List Bool) → marked marks ≤ length marks
+    marked-most [] = omega arith
+    marked-most (true ∷ marks) = omega (arith, marked-most marks, sum_by-cons (λ (m : Bool). cond m 1 0) true marks)
+    marked-most (false ∷ marks) = omega (arith, marked-most marks, sum_by-cons (λ (m : Bool). cond m 1 0) false marks)
 
-pub images_more : (bytes : List ℕ) (i : ℕ) → map settled (images_in bytes (i + 1)) ≡ map settled (images_in bytes i) ++ settled (slot_image bytes i) ∷ []
-images_more bytes i = ap (map settled) (map-range_with_len_more (slot_image bytes) 0 i i (omega arith)) ∙ map_push settled (images_in bytes i) (slot_image bytes i)
+-- ---- the images that a slot table names
 
 pub length-images_in : (bytes : List ℕ) (slots : ℕ) → length (images_in bytes slots) ≡ slots
 length-images_in bytes slots = length-map-range_with_len (slot_image bytes) 0 slots
 
 -- what is in a slot has an entry
-entry_of_slot : (bytes : List ℕ) (table slot : ℕ) (image : Image) → HasSlot bytes table slot image → IsEntry table (offset_at bytes slot) (length_at bytes slot)
+pub entry_of_slot : (bytes : List ℕ) (table slot : ℕ) (image : Image) → HasSlot bytes table slot image → IsEntry table (offset_at bytes slot) (length_at bytes slot)
 entry_of_slot bytes table slot None empty = inl empty
 entry_of_slot bytes table slot (Some image) full = inr record {
   behind_header = full.0.behind_header;
@@ -150,7 +174,7 @@ entry_of_slot bytes table slot (Some image) full = inr record {
 }
 
 -- and is what the entry names
-image_of_slot : (bytes : List ℕ) (table slot : ℕ) (image : Image) → HasSlot bytes table slot image → slot_image bytes slot ≡ image
+pub image_of_slot : (bytes : List ℕ) (table slot : ℕ) (image : Image) → HasSlot bytes table slot image → slot_image bytes slot ≡ image
 unfolding slot_image
 image_of_slot bytes table slot None empty = rw (eq-eqb (offset_at bytes slot) 0 empty.0) refl
 image_of_slot bytes table slot (Some image) full =
@@ -202,39 +226,37 @@ text_of_table bytes id number slots whole header table =
       apart = λ a b position before_a before_b. table.apart a b position (omega arith) (omega arith);
     }
 
--- the records of a page alone, of slots that claim what their records take
-pub images_of-settled : (images : List Image) → images_of (map settled images) ≡ images
-images_of-settled [] = refl
-images_of-settled (image ∷ images) = ap (λ (l : List Image). image ∷ l) (images_of-settled images)
-
-pub claims-settled : (images : List Image) → claims (map settled images) ≡ sum_by image_len images
-claims-settled [] = refl
-claims-settled (image ∷ images) = omega (arith, claims-settled images, sum_by-cons (λ (s : Slot). s.claim) (settled image) (map settled images), sum_by-cons image_len image images)
-
--- the slots that a slot table names, with their claims, are kept by a page
-pub table_kept : (bytes : List ℕ) (slots taken : ℕ) (items : List Slot) → length bytes ≡ 8192 → IsTable bytes slots → items ≡ map settled (images_in bytes slots)
-    → taken ≡ sum_by image_len (images_in bytes slots) → 4 * slots + taken ≤ 8168 → KeepsClaims items taken
-table_kept bytes slots taken items whole table is sum room =
-    let read = map settled (images_in bytes slots) in
-    let len : length read ≡ slots = length-map (images_in bytes slots) settled ∙ length-images_in bytes slots in
-    let claimed : claims read ≡ taken = claims-settled (images_in bytes slots) ∙ sym sum in
-    let nothing : Slot = settled None in
-    subst (λ (l : List Slot). KeepsClaims l taken) (sym is) record {
-      sum = sym claimed;
-      room = record {
-        room = omega arith;
-        each = All-from_get_or HoldsItsImage read nothing (λ i before.
-            let inside : i < slots = omega (arith, len) in
-            let here : get_or read i nothing ≡ settled (slot_image bytes i) =
-            get_or-map settled (images_in bytes slots) i None nothing (omega (arith, length-images_in bytes slots)) ∙ ap settled (get_or-map-range_with_len (slot_image bytes) 0 slots i i None inside (omega arith)) in
-            let short : image_len (slot_image bytes i) ≤ 4000 = omega (arith, slot_bytes bytes (table_of slots) i whole (omega arith) (table.each i inside), entry_short (table_of slots) (offset_at bytes i) (length_at bytes i) (table.each i inside)) in
-            subst HoldsItsImage (sym here) (omega arith, short));
-      };
-    }
-  where
-    entry_short : (table offset len : ℕ) → IsEntry table offset len → len ≤ 4000
-    entry_short table offset len (inl empty) = omega (arith, empty.1)
-    entry_short table offset len (inr lies) = lies.most
-
 pub some_is : {A : Type 0} (a b : A) → Some a ≡ Some b → a ≡ b
 some_is {A = A} a b same = ap (λ (o : Option A). unwrap_or o a) same
+
+-- no record is longer than one may be
+pub image_short : (bytes : List ℕ) (slots slot : ℕ) → length bytes ≡ 8192 → IsTable bytes slots → slot < slots → image_len (slot_image bytes slot) ≤ 4000
+image_short bytes slots slot whole table before =
+    let entry = table.each slot before in
+    omega (arith, slot_bytes bytes (table_of slots) slot whole (omega arith) entry, entry_short (table_of slots) (offset_at bytes slot) (length_at bytes slot) entry)
+
+-- no slot yet
+pub checked_none : (bytes : List ℕ) (slots : ℕ) (marks : List Bool) → slots ≤ 2042 → marks ≡ replicate (8168 - 4 * slots) false → Checked bytes slots marks 0 24
+checked_none bytes slots marks few clear = record {
+  len = omega (arith, ap (λ (l : List Bool). length l) clear, length-replicate (8168 - 4 * slots) false);
+  each = λ j none. absurd (omega arith);
+  apart = λ a b position none. absurd (omega arith);
+  covered = λ j position none. absurd (omega arith);
+  owned = λ position here. absurd (false≢true (sym (unmarked position) ∙ here));
+  count = ap marked clear ∙ (sum_by-replicate (λ (m : Bool). cond m 1 0) (8168 - 4 * slots) false ∙ none (8168 - 4 * slots));
+  front = omega arith;
+  back = omega arith;
+  ends = λ j none. absurd (omega arith);
+}
+  where
+    none : (n : ℕ) → n * 0 ≡ 0
+    none n = omega arith
+
+    unmarked : (position : ℕ) → get_or marks position false ≡ false
+    unmarked position = ap (λ (l : List Bool). get_or l position false) clear ∙ all (8168 - 4 * slots) position
+      where
+        all : (n position : ℕ) → get_or (replicate n false) position false ≡ false
+        all n position = elim (cases_lt position n) [
+          | inl inside ↦ get_or-replicate n position false false inside
+          | inr past ↦ get_or-eq_default (replicate n false) false (omega (arith, length-replicate n false))
+        ]

@@ -1,18 +1,17 @@
 -- Claims of slots with undecided changes, and the room for undoing these.
-use Rattle.std.proofs.Common.{◌≡◌, ℕ, zero, suc, ◌<◌, ◌≤◌, max, min, nat_lt, inl, inr, List, [], ◌∷◌, ◌++◌, length, map, get_or, Option, Some, None, refl, sym, ap, subst, ◌∙◌, arith}
+use Rattle.std.proofs.Common.{◌≡◌, ℕ, zero, suc, ◌+◌, ◌-◌, ◌<◌, ◌≤◌, max, min, List, [], ◌∷◌, ◌++◌, length, map, replicate, get_or, Option, Some, None, refl, sym, ap, subst, ◌∙◌, arith}
 use Rattle.std.specs.Prelude.{IfSome, option_map}
 use Rattle.std.specs.Option.{option_and_then}
 use Rattle.std.specs.List.{slice_get, All}
 use Rattle.std.proofs.lemmas.List.{length-map, map-append}
 use Rattle.std.proofs.lemmas.List.Sums.{sum_by-cons}
 use Rattle.std.proofs.lemmas.List.Elements.{All-cons, All-head, All-tail, All-nil, All-get_or}
-use Rattle.std.proofs.lemmas.Bool.{cases_lt, lt-ltb, le-ltb, cond-true, cond-false}
 use Rattle.std.proofs.lemmas.Option.{slice_get-map, slice_get_within, get_or_from_slice_get}
-use Rattle.shore_page.specs.Slots.{Slot, image_len, with_change, with_image, holding}
+use Rattle.shore_page.specs.Slots.{Slot, image_len, with_change, with_slot, with_image, holding, settled}
 use Rattle.shore_types.specs.Images.{Image}
 use Rattle.shore_page.specs.Room.{claims, Fits, HasRoom, HoldsItsImage, lowered}
-use Rattle.shore_page.specs.Undo.{Undecided, longest, claiming, claiming_all, changing, with_undecided, undone, undoing, deciding, undo_image, UndoFits}
-use Rattle.shore_page.proofs.RoomLemmas.{with_image_room, need_inside}
+use Rattle.shore_page.specs.Undo.{Undecided, longest, claiming, claiming_all, changing, untouched, with_undecided, undone, undoing, deciding, undo_image, UndoFits}
+use Rattle.shore_page.proofs.RoomLemmas.{with_image_room, with_slot_inside, need_inside}
 
 -- ---- one element changed
 
@@ -33,7 +32,7 @@ map-with_change_at f g h [] i x here same = refl
 map-with_change_at f g h (y ∷ xs) zero x here same = let is : x ≡ y = cc in ap (λ z. z ∷ map f xs) (rw (← is) same)
 map-with_change_at f g h (y ∷ xs) (suc i) x here same = ap (λ ys. f y ∷ ys) (map-with_change_at f g h xs i x here same)
 
-with_change_twice : {A : Type 0} (f g : A → A) (xs : List A) (i : ℕ) → with_change f (with_change g xs i) i ≡ with_change (λ x. f (g x)) xs i
+pub with_change_twice : {A : Type 0} (f g : A → A) (xs : List A) (i : ℕ) → with_change f (with_change g xs i) i ≡ with_change (λ x. f (g x)) xs i
 with_change_twice f g [] i = refl
 with_change_twice f g (x ∷ xs) zero = refl
 with_change_twice f g (x ∷ xs) (suc i) = ap (λ ys. x ∷ ys) (with_change_twice f g xs i)
@@ -52,29 +51,26 @@ changing_claims after s = slot_is after _ _ (greatest (image_len after) (image_l
     greatest : (a b c : ℕ) → max a (max b c) ≡ max (max b c) a
     greatest a b c = omega arith
 
-pub change_claims : (slots : List Undecided) (slot : ℕ) (after : Image) → with_image (claiming_all slots) slot after ≡ claiming_all (with_undecided slots slot after)
-change_claims slots slot after = elim (cases_lt slot (length slots)) [
-  | inl inside ↦
-      let here : slot < length (claiming_all slots) = omega (arith, length-map slots claiming) in
-      cond-true (nat_lt slot (length (claiming_all slots))) _ _ (lt-ltb slot (length (claiming_all slots)) here)
-      ∙ sym (map-with_change claiming (changing after) (holding after) (changing_claims after) slots slot)
-      ∙ ap claiming_all (sym (cond-true (nat_lt slot (length slots)) _ _ (lt-ltb slot (length slots) inside)))
-  | inr behind ↦
-      let there : length (claiming_all slots) ≤ slot = omega (arith, length-map slots claiming) in
-      cond-false (nat_lt slot (length (claiming_all slots))) _ _ (le-ltb slot (length (claiming_all slots)) there)
-      ∙ ap (λ (s : Slot). claiming_all slots ++ s ∷ []) (slot_is after (image_len after) _ (alone (image_len after)))
-      ∙ sym (map-append claiming slots _)
-      ∙ ap claiming_all (sym (cond-false (nat_lt slot (length slots)) _ _ (le-ltb slot (length slots) behind)))
-]
+-- claims of slots that are new
+padded_claims : (slots : List Undecided) (i : ℕ) → with_slot (claiming_all slots) i ≡ claiming_all (slots ++ replicate (i + 1 - length slots) untouched)
+padded_claims slots i =
+    ap (λ (n : ℕ). claiming_all slots ++ replicate (i + 1 - n) (settled None)) (length-map slots claiming)
+    ∙ ap (λ (l : List Slot). claiming_all slots ++ l) (empty (i + 1 - length slots)) ∙ sym (map-append claiming slots (replicate (i + 1 - length slots) untouched))
   where
-    alone : (a : ℕ) → a ≡ max a (max 0 0)
-    alone a = omega arith
+    empty : (n : ℕ) → replicate n (settled None) ≡ map claiming (replicate n untouched)
+    empty zero = refl
+    empty (suc n) = ap (λ (l : List Slot). settled None ∷ l) (empty n)
+
+pub change_claims : (slots : List Undecided) (slot : ℕ) (after : Image) → with_image (claiming_all slots) slot after ≡ claiming_all (with_undecided slots slot after)
+change_claims slots slot after =
+    ap (λ (l : List Slot). with_change (holding after) l slot) (padded_claims slots slot)
+    ∙ sym (map-with_change claiming (changing after) (holding after) (changing_claims after) (slots ++ replicate (slot + 1 - length slots) untouched) slot)
 
 pub undo_claims : (slots : List Undecided) (slot : ℕ) (image before : Image) (rest : List Image) → slice_get slots slot ≡ Some record { image = image; befores = before ∷ rest }
     → with_change (lowered (longest rest)) (with_image (claiming_all slots) slot before) slot ≡ claiming_all (with_change undoing slots slot)
 undo_claims slots slot image before rest here =
     let inside : slot < length (claiming_all slots) = omega (arith, length-map slots claiming, slice_get_within slots slot _ here) in
-    ap (λ (l : List Slot). with_change (lowered (longest rest)) l slot) (cond-true (nat_lt slot (length (claiming_all slots))) _ _ (lt-ltb slot (length (claiming_all slots)) inside))
+    ap (λ (l : List Slot). with_change (lowered (longest rest)) (with_change (holding before) l slot) slot) (with_slot_inside (claiming_all slots) slot inside)
     ∙ with_change_twice (lowered (longest rest)) (holding before) (claiming_all slots) slot
     ∙ sym (map-with_change_at claiming undoing (λ (s : Slot). lowered (longest rest) (holding before s)) slots slot _ here (slot_is before _ _ (least (image_len image) (image_len before) (longest rest))))
   where
@@ -120,7 +116,7 @@ undo_fits slots slot room = found (slice_get slots slot) refl
         let got : slice_get (claiming_all slots) slot ≡ Some x = slice_get-map claiming slots slot ∙ ap (option_map claiming) here in
         let read : x ≡ get_or (claiming_all slots) slot x = sym (get_or_from_slice_get (claiming_all slots) slot x x got) in
         let holds : HoldsItsImage x = subst HoldsItsImage (sym read) (All-get_or HoldsItsImage (claiming_all slots) slot x inside room.each) in
-        record { there = omega arith; most = omega (arith, holds.1); room = omega (arith, need_inside (claiming_all slots) slot (image_len before) x inside read) }
+        record { there = omega (arith, room.room); most = omega (arith, holds.1); room = omega (arith, need_inside (claiming_all slots) slot (image_len before) x inside read) }
 
     found : (o : Option Undecided) → slice_get slots slot ≡ o → IfSome (option_and_then (λ s. slice_get s.befores 0) o) (λ before. Fits (claiming_all slots) slot (image_len before))
     found None none = tt

@@ -4,3 +4,4 @@ pub mod Undo
 pub mod Text
 pub mod Writing
 pub mod Reading
+pub mod Layout

@@ -1,6 +1,7 @@
 -- What a page's slot table says: which entries it may have, and the images that they name.
-use Rattle.std.specs.Prelude.{◌≡◌, ◌⊎◌, ◌==◌, ℕ, ◌+◌, ◌-◌, ◌<◌, ◌≤◌, Bool, false, true, List, length, map, get_or, None, Some, if◌then◌else◌}
+use Rattle.std.specs.Prelude.{◌≡◌, ◌⊎◌, ◌==◌, ℕ, ◌+◌, ◌-◌, ◌/◌, ◌%◌, ◌<◌, ◌≤◌, Bool, false, true, List, length, map, get_or, slice_index, None, Some, if◌then◌else◌}
 use Rattle.std.specs.List.{between, count_by, range_with_len}
+use Rattle.std.specs.Int.{bit_at}
 use Rattle.shore_types.specs.declared.layout.TheConstants.{MAX_RECORD_BYTES}
 use Rattle.shore_types.specs.Images.{Image}
 use Rattle.shore_page.specs.Text.{table_of, offset_at, length_at, Covers}
@@ -33,6 +34,21 @@ images_in bytes slots = map (slot_image bytes) (range_with_len 0 slots)
 -- how many are marked
 abbrev pub marked : List Bool → ℕ
 marked marks = count_by (λ m. m) marks
+
+-- a mark: bit after bit of words, the lowest first
+abbrev pub mark_at : List ℕ → ℕ → ℕ
+mark_at words position = bit_at (slice_index words (position / 64)) (position % 64)
+
+-- the first marks of some words
+abbrev pub marks_of : List ℕ → ℕ → List Bool
+marks_of words count = map (λ position. mark_at words position == 1) (range_with_len 0 count)
+
+-- bits of words were marked that had no mark, and no other
+pub record MarksBits (old new : List ℕ) (from to : ℕ) : Type 0 where
+  pub len : length new ≡ length old
+  pub inside : (position : ℕ) → from ≤ position → position < to → (mark_at old position ≡ 0) × (mark_at new position ≡ 1)
+  pub below : (position : ℕ) → position < from → mark_at new position ≡ mark_at old position
+  pub above : (position : ℕ) → to ≤ position → mark_at new position ≡ mark_at old position
 
 -- places were marked that had no mark, and no other
 pub record Marks (old new : List Bool) (from to : ℕ) : Type 0 where

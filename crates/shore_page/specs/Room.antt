@@ -1,8 +1,8 @@
 -- The room of a page: what its slots claim, what is free, and which changes fit.
-use Rattle.std.specs.Prelude.{◌≡◌, ◌≢◌, ℕ, ◌+◌, ◌-◌, ◌*◌, ◌≤◌, max, min, nat_lt, List, length, All, slice_get, if◌then◌else◌}
+use Rattle.std.specs.Prelude.{◌≡◌, ◌≢◌, ℕ, ◌+◌, ◌-◌, ◌*◌, ◌<◌, ◌≤◌, max, min, List, length, All, slice_get}
 use Rattle.std.specs.List.{sum_by}
 use Rattle.std.specs.Option.{option_map_or}
-use Rattle.shore_types.specs.declared.layout.TheConstants.{MAX_RECORD_BYTES}
+use Rattle.shore_types.specs.declared.layout.TheConstants.{MAX_RECORD_BYTES, MAX_SLOTS}
 use Rattle.shore_page.specs.Slots.{Slot, image_len, image_at_slot}
 use Rattle.shore_types.specs.Images.{Image}
 
@@ -18,13 +18,13 @@ free_bytes slots = 8168 - 4 * length slots - claims slots
 abbrev pub claim_at : List Slot → ℕ → ℕ
 claim_at slots slot = option_map_or (λ s. s.claim) (slice_get slots slot) 0
 
--- what a change to a slot takes of the free bytes: the new bytes past its claim, and an entry for a new slot
+-- what a change to a slot takes of the free bytes: the new bytes past its claim, and an entry for each slot that is new
 abbrev pub need : List Slot → ℕ → ℕ → ℕ
-need slots slot bytes = (bytes - claim_at slots slot) + (if nat_lt slot (length slots) then 0 else 4)
+need slots slot bytes = (bytes - claim_at slots slot) + 4 * (slot + 1 - length slots)
 
--- A slot, or the one behind the last, may have this many bytes. A page of MAX_SLOTS slots has no free byte left, so none is new then.
+-- A slot may have this many bytes, also one that is not there yet.
 pub record Fits (slots : List Slot) (slot bytes : ℕ) : Type 0 where
-  pub there : slot ≤ length slots
+  pub there : slot < MAX_SLOTS
   pub most : bytes ≤ MAX_RECORD_BYTES
   pub room : need slots slot bytes ≤ free_bytes slots
 
@@ -50,11 +50,11 @@ pub record KeepsClaims (slots : List Slot) (claimed : ℕ) : Type 0 where
   pub sum : claimed ≡ claims slots
   pub room : HasRoom slots
 
--- One slot changed: an image is there, and the slot keeps what it claimed, or what the image takes. Every other slot is as it
--- was, none went away, and the free bytes lost what was needed.
+-- One slot changed: an image is there, and the slot keeps what it claimed, or what the image takes. Every other slot has what it
+-- had, which is nothing if it is new; no slot went away, none came past this one, and the free bytes lost what was needed.
 pub record ChangesOne (old new : List Slot) (slot : ℕ) (image : Image) : Type 0 where
   pub here : image_at_slot new slot ≡ image
   pub claim : claim_at new slot ≡ max (claim_at old slot) (image_len image)
-  pub others : (other : ℕ) → other ≢ slot → slice_get new other ≡ slice_get old other
-  pub stay : length old ≤ length new
+  pub others : (other : ℕ) → other ≢ slot → (image_at_slot new other ≡ image_at_slot old other) × (claim_at new other ≡ claim_at old other)
+  pub stay : length new ≡ max (length old) (slot + 1)
   pub taken : free_bytes new + need old slot (image_len image) ≡ free_bytes old

@@ -1,5 +1,5 @@
 -- What a page is: its id, the number of its last change (page_LSN), and its slots. A slot has an image and a claim.
-use Rattle.std.specs.Prelude.{ℕ, zero, suc, max, nat_lt, List, [], ◌∷◌, ◌++◌, length, slice_get, Option, Some, None, if◌then◌else◌}
+use Rattle.std.specs.Prelude.{ℕ, zero, suc, ◌+◌, ◌-◌, max, List, [], ◌∷◌, ◌++◌, length, replicate, slice_get, Option, Some, None}
 use Rattle.std.specs.Option.{option_and_then}
 use Rattle.shore_types.specs.declared.ids.PageId.{PageId}
 use Rattle.shore_types.specs.Images.{Image}
@@ -38,8 +38,10 @@ holding image s = record { image = image; claim = max s.claim (image_len image) 
 abbrev pub settled : Image → Slot
 settled image = record { image = image; claim = image_len image }
 
--- the image put into a slot, or into a new one behind the last
+-- the slots up to this one are there: those that are new are empty
+abbrev pub with_slot : List Slot → ℕ → List Slot
+with_slot slots slot = slots ++ replicate (slot + 1 - length slots) (settled None)
+
+-- the image put into a slot, which is new behind the last, or farther on
 abbrev pub with_image : List Slot → ℕ → Image → List Slot
-with_image slots slot image = if nat_lt slot (length slots)
-    then with_change (holding image) slots slot
-    else slots ++ settled image ∷ []
+with_image slots slot image = with_change (holding image) (with_slot slots slot) slot

@@ -1,5 +1,5 @@
 -- Changes that are not decided yet: what undoing them puts back, and the room that it takes.
-use Rattle.std.specs.Prelude.{ℕ, max, nat_lt, List, [], ◌∷◌, ◌++◌, length, map, slice_get, Option, None, IfSome, if◌then◌else◌}
+use Rattle.std.specs.Prelude.{ℕ, ◌+◌, ◌-◌, max, List, [], ◌∷◌, ◌++◌, length, map, replicate, slice_get, Option, None, IfSome}
 use Rattle.std.specs.Option.{option_and_then}
 use Rattle.shore_page.specs.Slots.{Slot, image_len, with_change}
 use Rattle.shore_types.specs.Images.{Image}
@@ -26,11 +26,13 @@ claiming_all slots = map claiming slots
 abbrev pub changing : Image → Undecided → Undecided
 changing image s = record { image = image; befores = s.image ∷ s.befores }
 
--- an undecided change to a slot, or to a new one behind the last, where nothing was
+-- a slot that no change has reached
+abbrev pub untouched : Undecided
+untouched = record { image = None; befores = [] }
+
+-- an undecided change to a slot, which is new behind the last, or farther on: nothing was there
 abbrev pub with_undecided : List Undecided → ℕ → Image → List Undecided
-with_undecided slots slot image = if nat_lt slot (length slots)
-    then with_change (changing image) slots slot
-    else slots ++ record { image = image; befores = None ∷ [] } ∷ []
+with_undecided slots slot image = with_change (changing image) (slots ++ replicate (slot + 1 - length slots) untouched) slot
 
 -- an image, and those that could be put back, with the newest of them put back
 abbrev pub undone : Image → List Image → Undecided

@@ -1,14 +1,35 @@
 -- What a write to a part of some bytes leaves as it was.
-use Rattle.std.specs.Prelude.{◌≡◌, ℕ, ◌+◌, ◌≤◌, List, length}
+use Rattle.std.specs.Prelude.{◌≡◌, ◌≢◌, ◌⊎◌, ℕ, ◌+◌, ◌<◌, ◌≤◌, List, length, slice_index}
 use Rattle.std.specs.List.{between}
+use Rattle.shore_page.specs.Text.{table_of, offset_at, length_at}
 
--- nothing changed but bytes between two places
+-- no byte changed but those between two places
 pub record KeepsBeside (old new : List ℕ) (from to : ℕ) : Type 0 where
   pub len : length new ≡ length old
-  pub below : (a b : ℕ) → b ≤ from → between a b new ≡ between a b old
-  pub above : (a b : ℕ) → to ≤ a → between a b new ≡ between a b old
+  pub below : (position : ℕ) → position < from → slice_index new position ≡ slice_index old position
+  pub above : (position : ℕ) → to ≤ position → slice_index new position ≡ slice_index old position
 
 -- these bytes are at an offset now, and nothing else changed
 pub record Writes (old new : List ℕ) (position : ℕ) (written : List ℕ) : Type 0 where
   pub here : between position (position + length written) new ≡ written
   pub beside : KeepsBeside old new position (position + length written)
+
+-- a record was put at an offset, and into the entry of its slot; no other entry changed, and no other byte below the slot table
+pub record PutsRecord (old new : List ℕ) (slots slot offset : ℕ) (bytes : List ℕ) : Type 0 where
+  pub len : length new ≡ length old
+  pub begins : offset_at new slot ≡ offset
+  pub lasts : length_at new slot ≡ length bytes
+  pub here : between offset (offset + length bytes) new ≡ bytes
+  pub entries : (other : ℕ) → other < slots → other ≢ slot → (offset_at new other ≡ offset_at old other) × (length_at new other ≡ length_at old other)
+  pub beside : (position : ℕ) → position < table_of slots → (position < offset) ⊎ (offset + length bytes ≤ position) → slice_index new position ≡ slice_index old position
+
+-- the bytes of the header stayed as they were
+pub record KeepsHeader (old new : List ℕ) : Type 0 where
+  pub len : length new ≡ length old
+  pub same : (position : ℕ) → position < 24 → slice_index new position ≡ slice_index old position
+
+-- a slot's entry was written, and bytes from an offset up to the slot table: no other entry changed
+pub record KeepsSlots (old new : List ℕ) (slots slot offset : ℕ) : Type 0 where
+  pub len : length new ≡ length old
+  pub entries : (other : ℕ) → other < slots → other ≢ slot → (offset_at new other ≡ offset_at old other) × (length_at new other ≡ length_at old other)
+  pub below : (position : ℕ) → position < offset → slice_index new position ≡ slice_index old position

@@ -1,17 +1,15 @@
 //! A page as a map of its slots.
-ghost use Rattle.std.specs.Prelude.{◌≡◌, ◌≢◌, ◌+◌, ◌-◌, ◌*◌, ◌<◌, ◌≤◌, ◌↔◌, ℕ, [], length, slice_get, Some, None, option_map, IsTrue, OnOk, OnErr, IfOk, IfSome, List};
-ghost use Rattle.std.specs.Option.{option_copied};
-ghost use Rattle.shore_page.specs.Slots.{image_len, image_at_slot, with_change, with_image};
+ghost use Rattle.std.specs.Prelude.{◌≡◌, ◌≢◌, ◌+◌, ◌-◌, ◌*◌, ◌<◌, ◌≤◌, ◌++◌, ◌↔◌, ℕ, [], length, replicate, slice_get, Some, None, option_map, IsTrue, IfOk, IfSome, List, vec_capacity};
+ghost use Rattle.shore_page.specs.Slots.{image_len, image_at_slot, with_change, with_slot, with_image};
 ghost use Rattle.shore_types.specs.Images.{Image};
 ghost use Rattle.shore_page.specs.Room.{free_bytes, need, Fits, HasRoom, ChangesOne, raised, lowered};
 ghost use Rattle.shore_types.specs.declared.layout.TheConstants.{PAGE_BYTES, MAX_SLOTS};
 ghost use Rattle.shore_page.specs.Text.{IsPageText, images_of, settled_page};
 
-use crate::reading::{check_slots, read_header, read_slots};
-use crate::slots::Slot;
-use crate::writing::put_page;
-use shore_types::layout::{MAX_RECORD_BYTES, PAGE_BYTES, PAGE_ROOM, SLOT_ENTRY_BYTES};
-use shore_types::{Bytes, Lsn, PageId, Sequence};
+use crate::claims::{add_claims, claim_records};
+use crate::text::PageBytes;
+use shore_types::layout::{MAX_RECORD_BYTES, MAX_SLOTS, PAGE_ROOM, SLOT_ENTRY_BYTES};
+use shore_types::{Lsn, PageId};
 use std::alloc::{AllocError, Global};
 use std::marker::Model;
 
@@ -20,51 +18,48 @@ use std::marker::Model;
 /// decided yet may be undone. A slot number never goes away.
 #[derive(Drop)]
 pub struct Page {
-    alloc: Global,
-    id: PageId,
-    number: Lsn,
-    slots: Vec<Slot>,
+    text: PageBytes,
+    // The claim of each slot.
+    claims: Vec<u16>,
     // The sum of the claims, so that no call walks over the slots.
     claimed: usize,
 }
 
 impl Model for Page {
-    ghost use Rattle.std.specs.Prelude.{◌≡◌};
+    ghost use Rattle.std.specs.Prelude.{◌≡◌, vec_capacity};
     ghost use Rattle.shore_page.specs.Slots.{PageState};
-    ghost use Rattle.shore_page.specs.Room.{KeepsClaims};
+    ghost use Rattle.shore_page.specs.Layout.{slots_of, HasClaims};
 
     ghost Value = { PageState };
 
-    ghost view = { λ p. record { id = p.id; number = p.number; slots = p.slots.items } };
+    ghost view = { λ p. record { id = p.text.id; number = p.text.number; slots = slots_of p.text.images p.claims.items } };
 
-    ghost invariant = { λ p. KeepsClaims p.slots.items p.claimed };
+    ghost invariant = { λ p. HasClaims p.text.images p.claims.items (vec_capacity p.claims) p.claimed };
 }
 
 impl Page {
-    /// A page with no slot, which no change has reached.
-    pub fn new(alloc: Global, id: PageId) -> Page
-        ensures { result ≡ record { id = id; number = 0; slots = [] } }
+    /// A page with no slot, which no change has reached. Only this call and `from_bytes` take memory.
+    pub fn new(alloc: Global, id: PageId) -> Result<Page, AllocError>
+        ensures { IfOk result (λ page. page ≡ record { id = id; number = 0; slots = [] }) }
     {
-        Page {
-            alloc,
-            id,
-            number: Lsn(0),
-            slots: Vec::new(alloc),
+        Ok(Page {
+            text: PageBytes::new(alloc, id)?,
+            claims: Vec::with_capacity(alloc, MAX_SLOTS as usize)?,
             claimed: 0,
-        }
+        })
     }
 
     pub fn id(&self) -> PageId
         ensures { result ≡ self.now.id }
     {
-        self.id
+        self.text.id()
     }
 
     /// The number of the last change that was applied, 0 for none.
     pub fn number(&self) -> Lsn
         ensures { result ≡ self.now.number }
     {
-        self.number
+        self.text.number()
     }
 
     /// How many slots there are, empty ones too.
@@ -72,14 +67,14 @@ impl Page {
         ensures count { result ≡ length self.now.slots }
         ensures most { result ≤ MAX_SLOTS }
     {
-        self.slots.len() as u16
+        self.text.slot_count() as u16
     }
 
     /// The record in a slot; None in an empty slot, and if there is no such slot.
     pub fn get(&self, slot: u16) -> Option<&[u8]>
         ensures { option_map (λ bytes. bytes.now) result ≡ image_at_slot self.now.slots slot }
     {
-        self.slots.get(slot as usize)?.image()
+        self.text.get(slot as usize)
     }
 
     /// The bytes that are neither in the slot table nor claimed by a slot.
@@ -87,34 +82,35 @@ impl Page {
         ensures free { result ≡ free_bytes self.now.slots }
         ensures room { HasRoom self.now.slots }
     {
-        PAGE_ROOM - SLOT_ENTRY_BYTES * self.slots.len() - self.claimed
+        PAGE_ROOM - SLOT_ENTRY_BYTES * self.text.slot_count() - self.claimed
     }
 
-    /// Whether a slot, or the one behind the last, can have a record of this length.
+    /// Whether a slot can have a record of this length, with entries for it and the slots before it if it is new.
     pub fn fits(&self, slot: u16, bytes: usize) -> bool
         ensures { IsTrue result ↔ Fits self.now.slots slot bytes }
     {
-        let slot = slot as usize;
-        if slot > self.slots.len() || bytes > MAX_RECORD_BYTES {
+        if slot >= MAX_SLOTS || bytes > MAX_RECORD_BYTES {
             return false;
         }
-        let need = match self.slots.get(slot) {
-            Some(slot) => bytes.saturating_sub(slot.claim()),
-            None => bytes + SLOT_ENTRY_BYTES,
+        let slot = slot as usize;
+        let slots = self.text.slot_count();
+        let need = if slot < slots {
+            bytes.saturating_sub(self.claims[slot] as usize)
+        } else {
+            bytes + SLOT_ENTRY_BYTES * (slot + 1 - slots)
         };
         need <= self.free_bytes()
     }
 
-    /// Puts a record into a slot, or into a new one behind the last. What was kept for the slot stays so.
-    pub fn put(&mut self, slot: u16, bytes: &[u8]) -> Result<(), AllocError>
+    /// Puts a record into a slot. What was kept for the slot stays so. If the slot is new, so are those between the last one and it,
+    /// and they are empty.
+    pub fn put(&mut self, slot: u16, bytes: &[u8])
         requires { Fits self.old.slots slot (length bytes.now) }
-        ensures ok { OnOk result
-            (self.new ≡ record self.old { slots = with_image self.old.slots slot (Some bytes.now) }) }
-        ensures one { OnOk result (ChangesOne self.old.slots self.new.slots slot (Some bytes.now)) }
-        ensures err { OnErr result (self.new ≡ self.old) }
+        ensures put { self.new ≡ record self.old { slots = with_image self.old.slots slot (Some bytes.now) } }
+        ensures one { ChangesOne self.old.slots self.new.slots slot (Some bytes.now) }
     {
-        let bytes = Sequence::from_vec(Vec::from_slice(self.alloc, bytes)?);
-        self.set(slot, Some(bytes))
+        self.raise(slot as usize, bytes.len());
+        self.text.put(slot as usize, bytes);
     }
 
     /// Takes the record of a slot away. What it claimed stays kept for the slot.
@@ -123,25 +119,22 @@ impl Page {
         ensures removed { self.new ≡ record self.old { slots = with_image self.old.slots slot None } }
         ensures one { ChangesOne self.old.slots self.new.slots slot None }
     {
-        self.slots[slot as usize].hold(None);
+        self.text.clear(slot as usize);
     }
 
-    /// Makes a change that was logged under this number: puts the image after it into its slot.
-    pub fn apply(&mut self, lsn: Lsn, slot: u16, after: Option<&[u8]>) -> Result<(), AllocError>
+    /// Makes a change that was logged under this number: puts the image after it into its slot, as `put` and `remove` do.
+    pub fn apply(&mut self, lsn: Lsn, slot: u16, after: Option<&[u8]>)
         requires { Fits self.old.slots slot (image_len (option_map (λ bytes. bytes.now) after)) }
-        ensures ok { let after = option_map (λ bytes. bytes.now) after.entry in
-            OnOk result (self.new ≡ record self.old { number = lsn; slots = with_image self.old.slots slot after }) }
+        ensures applied { let after = option_map (λ bytes. bytes.now) after.entry in
+            self.new ≡ record self.old { number = lsn; slots = with_image self.old.slots slot after } }
         ensures one { let after = option_map (λ bytes. bytes.now) after.entry in
-            OnOk result (ChangesOne self.old.slots self.new.slots slot after) }
-        ensures err { OnErr result (self.new ≡ self.old) }
+            ChangesOne self.old.slots self.new.slots slot after }
     {
-        let after = match after {
-            None => None,
-            Some(bytes) => Some(Sequence::from_vec(Vec::from_slice(self.alloc, bytes)?)),
-        };
-        self.set(slot, after)?;
-        self.number = lsn;
-        Ok(())
+        match after {
+            None => self.empty(slot),
+            Some(bytes) => self.put(slot, bytes),
+        }
+        self.text.set_number(lsn);
     }
 
     /// Keeps at least this many bytes for a slot: for an image that may come back to it.
@@ -150,10 +143,7 @@ impl Page {
         requires fits { Fits self.old.slots slot bytes }
         ensures { self.new ≡ record self.old { slots = with_change (raised bytes) self.old.slots slot } }
     {
-        let slot = &mut self.slots[slot as usize];
-        let claim = slot.claim();
-        slot.raise(bytes);
-        self.claimed += slot.claim() - claim;
+        self.raise(slot as usize, bytes);
     }
 
     /// Keeps no more than this many bytes for a slot, and what its record has: the images that may still come back to it
@@ -162,10 +152,12 @@ impl Page {
         requires { slot < length self.old.slots }
         ensures { self.new ≡ record self.old { slots = with_change (lowered bytes) self.old.slots slot } }
     {
-        let slot = &mut self.slots[slot as usize];
-        let claim = slot.claim();
-        slot.lower(bytes);
-        self.claimed -= claim - slot.claim();
+        let slot = slot as usize;
+        let kept = bytes.max(self.text.record_len(slot));
+        let claim = self.claims[slot] as usize;
+        let lowered = claim.min(kept);
+        self.claims[slot] = lowered as u16;
+        self.claimed -= claim - lowered;
     }
 
     /// Fills bytes with the page's text.
@@ -173,11 +165,10 @@ impl Page {
         requires { length out.old ≡ PAGE_BYTES }
         ensures { IsPageText out.new self.now.id self.now.number (images_of self.now.slots) }
     {
-        put_page(out, self.id, self.number, &self.slots);
+        self.text.to_bytes(out);
     }
 
     /// The page of this id whose text the bytes are; None if they are no text of it. Each slot claims what its record takes.
-    /// It takes memory for the records, and for a mark for each byte.
     pub fn from_bytes(alloc: Global, id: PageId, bytes: &[u8]) -> Result<Option<Page>, AllocError>
         // What is answered is a page whose text the bytes are.
         ensures found { IfOk result (λ found. IfSome found (λ page.
@@ -186,45 +177,51 @@ impl Page {
         ensures only { (number : ℕ) (images : List Image) → IsPageText bytes.now id number images
             → IfOk result (λ found. found ≡ Some (settled_page id number images)) }
     {
-        if bytes.len() != PAGE_BYTES {
-            return Ok(None);
-        }
-        let Some(header) = read_header(&id, bytes) else {
+        let Some(text) = PageBytes::from_bytes(alloc, id, bytes)? else {
             return Ok(None);
         };
-        let mut marks = Vec::from_elem(alloc, false, PAGE_ROOM - SLOT_ENTRY_BYTES * header.slots)?;
-        let Some(claimed) = check_slots(bytes, header.slots, &mut marks) else {
-            return Ok(None);
-        };
-        let slots = read_slots(alloc, bytes, header.slots)?;
+        let mut claims = Vec::with_capacity(alloc, MAX_SLOTS as usize)?;
+        let claimed = claim_records(&text, &mut claims);
         Ok(Some(Page {
-            alloc,
-            id,
-            number: header.number,
-            slots,
+            text,
+            claims,
             claimed,
         }))
     }
 
-    // Puts an image into a slot, or into a new one behind the last.
-    fn set(&mut self, slot: u16, image: Option<Bytes>) -> Result<(), AllocError>
-        requires { Fits self.old.slots slot (image_len image) }
-        ensures ok { OnOk result (self.new ≡ record self.old { slots = with_image self.old.slots slot image }) }
-        ensures one { OnOk result (ChangesOne self.old.slots self.new.slots slot image) }
-        ensures err { OnErr result (self.new ≡ self.old) }
+    // The slots up to this one are there, and this one claims at least so many bytes.
+    fn raise(&mut self, slot: usize, bytes: usize)
+        requires { Fits self.old.slots slot bytes }
+        ensures raised { self.new ≡ record self.old { slots = with_change (raised bytes) (with_slot self.old.slots slot) slot } }
+        ensures room { HasRoom self.old.slots }
     {
-        let index = slot as usize;
-        if index < self.slots.len() {
-            let slot = &mut self.slots[index];
-            let claim = slot.claim();
-            slot.hold(image);
-            self.claimed += slot.claim() - claim;
-        } else {
-            let slot = Slot::of(image);
-            let claim = slot.claim();
-            self.slots.push(slot)?;
-            self.claimed += claim;
+        self.reach(slot);
+        let claim = self.claims[slot] as usize;
+        let raised = claim.max(bytes);
+        self.claims[slot] = raised as u16;
+        self.claimed += raised - claim;
+    }
+
+    // The slots up to this one are there.
+    fn reach(&mut self, slot: usize)
+        requires { 4 * (slot + 1 - length self.old.slots) ≤ free_bytes self.old.slots }
+        ensures reached { self.new ≡ record self.old { slots = with_slot self.old.slots slot } }
+        ensures room { HasRoom self.old.slots }
+    {
+        if slot >= self.text.slot_count() {
+            self.text.grow(slot + 1);
+            add_claims(&mut self.claims, slot + 1);
         }
-        Ok(())
+    }
+
+    // No record is in a slot, which may be new.
+    fn empty(&mut self, slot: u16)
+        requires { Fits self.old.slots slot 0 }
+        ensures emptied { self.new ≡ record self.old { slots = with_image self.old.slots slot None } }
+        ensures one { ChangesOne self.old.slots self.new.slots slot None }
+    {
+        let slot = slot as usize;
+        self.raise(slot, 0);
+        self.text.clear(slot);
     }
 }

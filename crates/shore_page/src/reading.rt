@@ -1,39 +1,16 @@
-//! The slots of a page from its text.
-ghost use Rattle.std.specs.Prelude.{◌≡◌, ◌+◌, ◌-◌, ◌*◌, ◌<◌, ◌≤◌, ◌↔◌, ℕ, false, length, map, replicate, sum, Some, None, IsTrue, IsSome, IfSome, IfOk};
-ghost use Rattle.std.specs.List.{sum_by};
+//! Which bytes are a page's: the check of a header, and of a slot table.
+ghost use Rattle.std.specs.Prelude.{◌≡◌, ◌+◌, ◌-◌, ◌*◌, ◌<◌, ◌≤◌, ◌↔◌, ℕ, false, length, Some, None, IsTrue, IsSome, IfSome};
 ghost use Rattle.shore_types.specs.declared.layout.TheConstants.{MAX_SLOTS};
-ghost use Rattle.shore_page.specs.Slots.{settled, image_len};
-ghost use Rattle.shore_page.specs.Text.{number_at, table_of, offset_at, length_at, HasHeader};
-ghost use Rattle.shore_page.specs.Reading.{Lies, IsEntry, IsTable, slot_image, images_in, Marks, IsTaken};
+ghost use Rattle.shore_page.specs.Layout.{IsLaidOut, record_bytes};
+ghost use Rattle.shore_page.specs.Text.{HasHeader};
+ghost use Rattle.shore_page.specs.Reading.{Lies, IsEntry, IsTable, images_in, marks_of, Marks, IsTaken};
 
-use crate::slots::Slot;
-use byteorder::{ByteOrder, LittleEndian};
+use crate::entries::{Entry, entry_at, u16_at, u32_at, u64_at};
+use crate::marks::{MARK_WORDS, mark};
 use shore_types::layout::{
     MAX_RECORD_BYTES, MAX_SLOTS, PAGE_BYTES, PAGE_HEADER_BYTES, SLOT_ENTRY_BYTES,
 };
-use shore_types::{Bytes, Lsn, PageId, Sequence};
-use std::alloc::{AllocError, Global};
-
-fn u16_at(bytes: &[u8], position: usize) -> u16
-    requires { position + 2 ≤ length bytes.now }
-    ensures { result ≡ number_at bytes.now position 2 }
-{
-    LittleEndian::read_u16(&bytes[position..position + 2])
-}
-
-fn u32_at(bytes: &[u8], position: usize) -> u32
-    requires { position + 4 ≤ length bytes.now }
-    ensures { result ≡ number_at bytes.now position 4 }
-{
-    LittleEndian::read_u32(&bytes[position..position + 4])
-}
-
-fn u64_at(bytes: &[u8], position: usize) -> u64
-    requires { position + 8 ≤ length bytes.now }
-    ensures { result ≡ number_at bytes.now position 8 }
-{
-    LittleEndian::read_u64(&bytes[position..position + 8])
-}
+use shore_types::{Lsn, PageId};
 
 /// What the front of a page says.
 #[derive(Clone, Copy)]
@@ -66,30 +43,9 @@ pub fn read_header(id: &PageId, bytes: &[u8]) -> Option<Header>
     Some(Header { number, slots })
 }
 
-// The entry of a slot: where its record begins, and how long it is.
-#[derive(Clone, Copy)]
-struct Entry {
-    offset: usize,
-    bytes: usize,
-}
-
-fn entry_at(bytes: &[u8], slot: usize) -> Entry
-    requires whole { length bytes.now ≡ 8192 }
-    requires few { slot < MAX_SLOTS }
-    ensures offset { result.offset ≡ offset_at bytes.now slot }
-    ensures bytes { result.bytes ≡ length_at bytes.now slot }
-    ensures small { result.offset + result.bytes < 131072 }
-{
-    let position = PAGE_BYTES - SLOT_ENTRY_BYTES * (slot + 1);
-    Entry {
-        offset: u16_at(bytes, position) as usize,
-        bytes: u16_at(bytes, position + 2) as usize,
-    }
-}
-
 // Whether a record may be where an entry says.
 fn lies(entry: Entry, table: usize) -> bool
-    requires { entry.offset + entry.bytes < 131072 }
+    requires { (entry.offset < 65536) × (entry.bytes < 65536) }
     ensures { IsTrue result ↔ Lies table entry.offset entry.bytes }
 {
     entry.offset >= PAGE_HEADER_BYTES
@@ -97,33 +53,18 @@ fn lies(entry: Entry, table: usize) -> bool
         && entry.bytes <= MAX_RECORD_BYTES
 }
 
-// Marks bytes that have no mark yet; false if one has.
-fn mark(marks: &mut [bool], from: usize, to: usize) -> bool
-    requires order { from ≤ to }
-    requires within { to ≤ length marks.old }
-    ensures free { IsTrue result → Marks marks.old marks.new from to }
-    ensures taken { result ≡ false → IsTaken marks.old from to }
-    ensures len { length marks.new ≡ length marks.old }
-{
-    let part = &mut marks[from..to];
-    if part.contains(&true) {
-        return false;
-    }
-    part.fill(true);
-    true
-}
-
 // Marks the bytes of a slot's record, counted from behind the header. False if its entry is none, or if a byte belongs
 // to another record.
-fn take_entry(entry: Entry, table: usize, marks: &mut [bool]) -> bool
-    requires small { entry.offset + entry.bytes < 131072 }
-    requires marks { 24 + length marks.old ≡ table }
+fn take_entry(entry: Entry, table: usize, marks: &mut [u64]) -> bool
+    requires small { (entry.offset < 65536) × (entry.bytes < 65536) }
+    requires words { length marks.old ≡ 128 }
+    requires table { (24 ≤ table) × (table ≤ 8192) }
     ensures entry { IsTrue result → IsEntry table entry.offset entry.bytes }
     ensures free { let from = entry.offset - 24 in
-        IsTrue result → Marks marks.old marks.new from (from + entry.bytes) }
+        IsTrue result → Marks (marks_of marks.old (table - 24)) (marks_of marks.new (table - 24)) from (from + entry.bytes) }
     ensures taken { let from = entry.offset - 24 in result ≡ false
-        → IsEntry table entry.offset entry.bytes → IsTaken marks.old from (from + entry.bytes) }
-    ensures len { length marks.new ≡ length marks.old }
+        → IsEntry table entry.offset entry.bytes → IsTaken (marks_of marks.old (table - 24)) from (from + entry.bytes) }
+    ensures len { length marks.new ≡ 128 }
 {
     if entry.offset == 0 && entry.bytes == 0 {
         return true;
@@ -135,55 +76,24 @@ fn take_entry(entry: Entry, table: usize, marks: &mut [bool]) -> bool
     mark(marks, from, from + entry.bytes)
 }
 
-/// How many bytes the records of all slots have; None if the slot table has an entry that is none, or if two records
-/// overlap. It takes a mark for each byte between the header and the slot table.
-pub fn check_slots(bytes: &[u8], slots: usize, marks: &mut [bool]) -> Option<usize>
+/// Where the last record ends; None if the slot table has an entry that is none, or if two records overlap. A byte that belongs to a
+/// record is marked by a bit.
+pub fn check_slots(bytes: &[u8], slots: usize) -> Option<usize>
     requires whole { length bytes.now ≡ 8192 }
     requires few { slots ≤ MAX_SLOTS }
-    requires clear { marks.old ≡ replicate (8168 - 4 * slots) false }
-    ensures table { IfSome result (λ _. IsTable bytes.now slots) }
-    ensures bytes { IfSome result (λ taken. taken ≡ sum_by image_len (images_in bytes.now slots)) }
-    ensures room { IfSome result (λ taken. 4 * slots + taken ≤ 8168) }
+    ensures laid_out { IfSome result (λ end. IsLaidOut bytes.now slots end) }
+    ensures room { IfSome result (λ _. 4 * slots + record_bytes (images_in bytes.now slots) ≤ 8168) }
     ensures only { IsTable bytes.now slots → IsSome result }
 {
     let table = PAGE_BYTES - SLOT_ENTRY_BYTES * slots;
-    let mut taken = 0;
+    let mut marks = [0u64; MARK_WORDS];
+    let mut end = PAGE_HEADER_BYTES;
     for slot in 0..slots {
         let entry = entry_at(bytes, slot);
-        if !take_entry(entry, table, marks) {
+        if !take_entry(entry, table, &mut marks) {
             return None;
         }
-        taken += entry.bytes;
+        end = end.max(entry.offset + entry.bytes);
     }
-    Some(taken)
-}
-
-// A copy of the record that the entry of a slot names.
-#[tactic(auto, unfolding(crate::specs::Reading::slot_image))]
-fn read_image(alloc: Global, bytes: &[u8], slot: usize) -> Result<Option<Bytes>, AllocError>
-    requires whole { length bytes.now ≡ 8192 }
-    requires few { slot < MAX_SLOTS }
-    requires within { offset_at bytes.now slot + length_at bytes.now slot ≤ 8192 }
-    ensures { IfOk result (λ image. image ≡ slot_image bytes.now slot) }
-{
-    let entry = entry_at(bytes, slot);
-    if entry.offset == 0 {
-        return Ok(None);
-    }
-    let image = &bytes[entry.offset..entry.offset + entry.bytes];
-    Ok(Some(Sequence::from_vec(Vec::from_slice(alloc, image)?)))
-}
-
-/// The slots that a slot table names, each with a claim of what its record takes.
-pub fn read_slots(alloc: Global, bytes: &[u8], slots: usize) -> Result<Vec<Slot>, AllocError>
-    requires whole { length bytes.now ≡ 8192 }
-    requires few { slots ≤ MAX_SLOTS }
-    requires table { IsTable bytes.now slots }
-    ensures { IfOk result (λ read. read.items ≡ map settled (images_in bytes.now slots)) }
-{
-    let mut read = Vec::with_capacity(alloc, slots)?;
-    for slot in 0..slots {
-        read.push(Slot::of(read_image(alloc, bytes, slot)?))?;
-    }
-    Ok(read)
+    Some(end)
 }

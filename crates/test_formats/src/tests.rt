@@ -3,5 +3,6 @@ mod devices;
 mod files;
 mod gates;
 mod labels;
+mod page_runs;
 mod pages;
 mod records;

@@ -13,12 +13,20 @@ const ID: PageId = PageId {
 
 /// The test of what a put asks, and the call.
 fn put(page: &mut Page, slot: u16, bytes: &[u8]) -> bool {
-    page.fits(slot, bytes.len()) && page.put(slot, bytes).is_ok()
+    if !page.fits(slot, bytes.len()) {
+        return false;
+    }
+    page.put(slot, bytes);
+    true
 }
 
 /// The test of what an apply asks, and the call.
 fn apply(page: &mut Page, lsn: u64, slot: u16, bytes: &[u8]) -> bool {
-    page.fits(slot, bytes.len()) && page.apply(Lsn(lsn), slot, Some(bytes)).is_ok()
+    if !page.fits(slot, bytes.len()) {
+        return false;
+    }
+    page.apply(Lsn(lsn), slot, Some(bytes));
+    true
 }
 
 /// The test of what a remove asks, and the call.
@@ -44,14 +52,15 @@ const HEAD: [u8; 24] = [
 
 // The insert of one byte as the first change.
 #[test]
-fn worked_bytes(rt: HostRuntime) {
-    let mut page = Page::new(rt.alloc(), ID);
+fn worked_bytes(rt: HostRuntime) -> Result<(), AllocError> {
+    let mut page = Page::new(rt.alloc(), ID)?;
     assert!(&rt; apply(&mut page, 1, 0, &[0xaa]));
     let mut text = [0xffu8; PAGE_BYTES];
     page.to_bytes(&mut text);
     assert!(&rt; text.starts_with(&HEAD));
     assert!(&rt; text[24] == 0xaa);
     assert!(&rt; text.ends_with(&[0x18, 0, 1, 0]));
+    Ok(())
 }
 
 // Page 2 of store 3 with the number 7, and one byte at 24 and two behind it.
@@ -79,7 +88,7 @@ fn page_of(store: u32, page: u32) -> PageId {
 #[test]
 fn worked_bytes_of_another_page(rt: HostRuntime) -> Result<(), AllocError> {
     let alloc = rt.alloc();
-    let mut page = Page::new(alloc, page_of(3, 2));
+    let mut page = Page::new(alloc, page_of(3, 2))?;
     assert!(&rt; put(&mut page, 0, &[0xaa]) && apply(&mut page, 7, 1, &[0xbb, 0xcc]));
     let read = Page::from_bytes(alloc, page_of(3, 2), &other_text())?;
     assert!(&rt; read.is_some_and(|read| are_alike(&page, &read)));
@@ -92,8 +101,8 @@ fn worked_bytes_of_another_page(rt: HostRuntime) -> Result<(), AllocError> {
 
 // The room of an undecided delete is kept until it is decided.
 #[test]
-fn room_of_an_undecided_delete(rt: HostRuntime) {
-    let mut page = Page::new(rt.alloc(), ID);
+fn room_of_an_undecided_delete(rt: HostRuntime) -> Result<(), AllocError> {
+    let mut page = Page::new(rt.alloc(), ID)?;
     assert!(&rt; put(&mut page, 0, &[0xaa; 4000]) && put(&mut page, 1, &[0xbb; 4000]));
     assert!(&rt; !page.fits(2, 157) && put(&mut page, 2, &[0xcc; 156]) && page.free_bytes() == 0);
     assert!(&rt; remove(&mut page, 0) && page.free_bytes() == 0);
@@ -103,6 +112,55 @@ fn room_of_an_undecided_delete(rt: HostRuntime) {
     }
     assert!(&rt; page.free_bytes() == 4000);
     assert!(&rt; put(&mut page, 0, &[0xdd; 100]) && page.free_bytes() == 3900);
+    Ok(())
+}
+
+/// Whether a slot has these bytes.
+fn holds(page: &Page, slot: u16, bytes: &[u8]) -> bool {
+    page.get(slot) == Some(bytes)
+}
+
+// Three records fill a page but for 156 bytes. When the delete of one of 3,000 is decided, 3,100 bytes fit its slot, once the others
+// are moved together; then 56 bytes are free, and 52 with a new entry fill the page.
+#[test]
+fn room_of_a_decided_delete(rt: HostRuntime) -> Result<(), AllocError> {
+    let alloc = rt.alloc();
+    let mut page = Page::new(alloc, ID)?;
+    assert!(&rt;
+        put(&mut page, 0, &[0xaa; 3000])
+            && put(&mut page, 1, &[0xbb; 3000])
+            && put(&mut page, 2, &[0xcc; 2000])
+    );
+    assert!(&rt; page.free_bytes() == 156 && remove(&mut page, 0) && page.free_bytes() == 156);
+    assert!(&rt; !page.fits(3, 3100) && page.fits(0, 3100));
+    if page.slot_count() > 0 {
+        page.unreserve(0, 0);
+    }
+    assert!(&rt;
+        page.free_bytes() == 3156 && put(&mut page, 0, &[0xdd; 3100]) && page.free_bytes() == 56
+    );
+    assert!(&rt;
+        !put(&mut page, 3, &[0xee; 53]) && put(&mut page, 3, &[0xee; 52]) && page.free_bytes() == 0
+    );
+    assert!(&rt; holds(&page, 0, &[0xdd; 3100]) && holds(&page, 1, &[0xbb; 3000]));
+    assert!(&rt; holds(&page, 2, &[0xcc; 2000]) && holds(&page, 3, &[0xee; 52]));
+    assert!(&rt; is_read_back(alloc, &page)?);
+    Ok(())
+}
+
+// A slot beyond the last one: those between are empty. A change of an older number sets that number.
+#[test]
+fn slot_beyond_the_last(rt: HostRuntime) -> Result<(), AllocError> {
+    let alloc = rt.alloc();
+    let mut page = Page::new(alloc, ID)?;
+    assert!(&rt; apply(&mut page, 9, 0, &[0xaa; 8]) && apply(&mut page, 4, 3, &[0xbb; 8]));
+    assert!(&rt;
+        page.number() == Lsn(4) && page.slot_count() == 4 && page.free_bytes() == 8168 - 4 * 4 - 16
+    );
+    assert!(&rt; page.get(1).is_none() && page.get(2).is_none() && holds(&page, 3, &[0xbb; 8]));
+    assert!(&rt; !page.fits(2042, 0) && !page.fits(2038, 0) && page.fits(2037, 0));
+    assert!(&rt; is_read_back(alloc, &page)?);
+    Ok(())
 }
 
 /// A fixed run of numbers that look like chance.
@@ -123,10 +181,15 @@ impl Chance {
 }
 
 /// A page after so many changes, some of which did not fit.
-fn some_page(alloc: Global, chance: &mut Chance, changes: u64, longest: u64) -> Page
+fn some_page(
+    alloc: Global,
+    chance: &mut Chance,
+    changes: u64,
+    longest: u64,
+) -> Result<Page, AllocError>
     requires { longest < 4000 }
 {
-    let mut page = Page::new(alloc, ID);
+    let mut page = Page::new(alloc, ID)?;
     for change in 0..changes {
         let slot = chance.below(u64::from(page.slot_count()) + 1) as u16;
         let len = chance.below(longest + 1) as usize;
@@ -141,7 +204,7 @@ fn some_page(alloc: Global, chance: &mut Chance, changes: u64, longest: u64) -> 
             );
         }
     }
-    page
+    Ok(page)
 }
 
 /// Whether a page is the one that its text gives.
@@ -166,7 +229,7 @@ fn pages_are_read_as_they_were_written(rt: HostRuntime) -> Result<(), AllocError
     };
     let mut chance = Chance(7);
     for longest in [0, 1, 20, 100, 700, 3999] {
-        let page = some_page(alloc, &mut chance, 600, longest);
+        let page = some_page(alloc, &mut chance, 600, longest)?;
         assert!(&rt; is_read_back(alloc, &page)?, "at {longest}");
         let mut text = [0u8; PAGE_BYTES];
         page.to_bytes(&mut text);
@@ -179,7 +242,7 @@ fn pages_are_read_as_they_were_written(rt: HostRuntime) -> Result<(), AllocError
 #[test]
 fn any_byte_gives_a_page_or_a_refusal(rt: HostRuntime) -> Result<(), AllocError> {
     let alloc = rt.alloc();
-    let page = some_page(alloc, &mut Chance(11), 200, 300);
+    let page = some_page(alloc, &mut Chance(11), 200, 300)?;
     let mut text = [0u8; PAGE_BYTES];
     page.to_bytes(&mut text);
     let mut has_refused = false;

@@ -1,40 +1,46 @@
-use Rattle.std.proofs.Common.{◌≡◌, ℕ, List, length, map, Some, sym, ap, subst, ◌∙◌, arith}
+use Rattle.std.proofs.Common.{◌≡◌, ◌≤◌, ◌+◌, ◌*◌, ℕ, List, length, map, Option, Some, sym, ap, subst, ◌∙◌, vec_capacity}
+use Rattle.std.proofs.lemmas.List.{length-map}
+use Rattle.std.specs.Prelude.{IfSome}
 use Rattle.shore_types.specs.declared.ids.PageId.{PageId}
-use Rattle.shore_page.specs.declared.reading.Header.{Header}
-use Rattle.shore_page.specs.Slots.{settled, Slot, PageState}
+use Rattle.shore_page.proofs.SlotsRead.{some_is}
 use Rattle.shore_types.specs.Images.{Image}
-use Rattle.shore_page.specs.Text.{IsPageText, images_of}
-use Rattle.shore_page.specs.Reading.{IsTable, images_in}
-use Rattle.shore_page.proofs.SlotsRead.{table_of_text, text_of_table, images_are, images_of-settled, table_kept, some_is}
+use Rattle.shore_page.specs.Slots.{Slot, image_len, settled}
+use Rattle.shore_page.specs.Text.{IsPageText, settled_page}
+use Rattle.shore_page.specs.Layout.{PageImages, slots_of, record_bytes}
+use Rattle.shore_page.proofs.PageLemmas.{page_of, images_of-slots, slots_settled, settled_kept, text_short, with_slots}
 use Rattle.shore_page.proofs.page.Page.from_bytes.Goals as goal
 
 pub returns-in_default-clause-only : goal.returns-in_default-clause-only
 returns-in_default-clause-only c number images text =
-    let there = c.in_default.ensures.only number (length images) text.header in
-    absurd cc
+    let there = c.in_ok-text.ensures.only number images text in
+    absurd (c.in_default.not-Some (record { id = c.args.id; number = number; images = images }) there)
 
-pub returns-in_default-check_slots-clause-only : goal.returns-in_default-check_slots-clause-only
-returns-in_default-check_slots-clause-only c number images text =
-    let header : c.in-Some.header ≡ record { number = number; slots = length images } = some_is _ _ (c.in-Some.ensures.only number (length images) text.header) in
-    let count : length images ≡ c.in-Some.header.slots = sym (ap (λ (h : Header). h.slots) header) in
-    let none = c.in_default-check_slots.ensures.only (subst (λ (n : ℕ). IsTable c.args.bytes.now n) count (table_of_text c.args.bytes.now c.args.id number images text)) in
-    absurd cc
+-- what was read
+abbrev read : PageId → List ℕ → PageImages → Type 0
+read id bytes t = (t.id ≡ id) × IsPageText bytes id t.number t.images
 
 pub invariant_of-result : goal.invariant_of-result
 invariant_of-result c =
-    table_kept c.args.bytes.now c.in-Some.header.slots c.in-Some-check_slots.claimed c.in_ok-slots.slots.items (omega arith) c.in-Some-check_slots.ensures.table c.in_ok-slots.ensures c.in-Some-check_slots.ensures.bytes c.in-Some-check_slots.ensures.room
+    let text = c.in-Some.text in
+    let found = subst (λ (o : Option PageImages). IfSome o (read c.args.id c.args.bytes.now)) c.in-Some.is c.in_ok-text.ensures.found in
+    let room = subst (λ (o : Option PageImages). IfSome o (λ page. 4 * length page.images + record_bytes page.images ≤ 8168)) c.in-Some.is c.in_ok-text.ensures.room in
+    let done = c.claim_records-claimed.ensures in
+    settled_kept text.images c.claim_records-claimed.new.claims.items (vec_capacity c.claim_records-claimed.new.claims) c.claim_records-claimed.result done.claims done.sum done.capacity room
+    (text_short c.args.bytes.now c.args.id text.number text.images found.1)
+
+-- claims of what the records have, as slots
+slots_are : (images : List Image) (cs : List ℕ) → cs ≡ map image_len images → slots_of images cs ≡ map settled images
+slots_are images cs is = ap (λ (l : List ℕ). slots_of images l) is ∙ slots_settled images
 
 pub returns-clause-found : goal.returns-clause-found
 returns-clause-found c =
-    let text = text_of_table c.args.bytes.now c.args.id c.in-Some.header.number c.in-Some.header.slots (omega arith) c.in-Some.ensures.found c.in-Some-check_slots.ensures.table in
-    let is : images_in c.args.bytes.now c.in-Some.header.slots ≡ images_of c.in_ok-slots.slots.items = sym (ap images_of c.in_ok-slots.ensures ∙ images_of-settled (images_in c.args.bytes.now c.in-Some.header.slots)) in
-    subst (λ (l : List Image). IsPageText c.args.bytes.now c.args.id c.in-Some.header.number l) is text
+    let text = c.in-Some.text in
+    let found = subst (λ (o : Option PageImages). IfSome o (read c.args.id c.args.bytes.now)) c.in-Some.is c.in_ok-text.ensures.found in
+    let same : length c.claim_records-claimed.new.claims.items ≡ length text.images = ap (λ (l : List ℕ). length l) c.claim_records-claimed.ensures.claims ∙ length-map text.images image_len in
+    subst (λ (l : List Image). IsPageText c.args.bytes.now c.args.id text.number l) (sym (images_of-slots text.images c.claim_records-claimed.new.claims.items same)) found.1
 
 pub returns-clause-only : goal.returns-clause-only
 returns-clause-only c number images text =
-    let header : c.in-Some.header ≡ record { number = number; slots = length images } = some_is _ _ (c.in-Some.ensures.only number (length images) text.header) in
-    let slots : c.in_ok-slots.slots.items ≡ map settled images = c.in_ok-slots.ensures ∙ ap (λ (h : Header). map settled (images_in c.args.bytes.now h.slots)) header ∙ ap (map settled) (images_are c.args.bytes.now c.args.id number images text) in
-    ap (λ (h : Header). Some (page c.args.id h.number c.in_ok-slots.slots.items)) header ∙ ap (λ (l : List Slot). Some (page c.args.id number l)) slots
-  where
-    page : PageId → ℕ → List Slot → PageState
-    page id number slots = record { id = id; number = number; slots = slots }
+    let is : c.in-Some.text ≡ record { id = c.args.id; number = number; images = images } = some_is _ _ (sym c.in-Some.is ∙ c.in_ok-text.ensures.only number images text) in
+    ap (λ (l : List Slot). Some (with_slots (page_of c.in-Some.text c.claim_records-claimed.new.claims.items) l)) (slots_are c.in-Some.text.images c.claim_records-claimed.new.claims.items c.claim_records-claimed.ensures.claims)
+    ∙ ap (λ (t : PageImages). Some (settled_page t.id t.number t.images)) is

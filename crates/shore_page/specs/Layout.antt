@@ -1,0 +1,56 @@
+-- How the bytes of a page hold its records, and how the claims go beside them.
+use Rattle.std.specs.Prelude.{◌≡◌, ◌≢◌, ◌⊎◌, ℕ, ◌+◌, ◌<◌, ◌≤◌, List, [], ◌∷◌, length}
+use Rattle.std.specs.List.{sum_by}
+use Rattle.shore_types.specs.declared.ids.PageId.{PageId}
+use Rattle.shore_types.specs.declared.layout.TheConstants.{PAGE_BYTES, MAX_SLOTS}
+use Rattle.shore_types.specs.Images.{Image}
+use Rattle.shore_page.specs.Slots.{Slot, image_len}
+use Rattle.shore_page.specs.Room.{KeepsClaims}
+use Rattle.shore_page.specs.Text.{HasHeader, table_of, offset_at, length_at, Covers}
+use Rattle.shore_page.specs.Reading.{IsTable, slot_image}
+
+-- a page without its claims
+pub record PageImages : Type 0 where
+  pub id : PageId
+  pub number : ℕ
+  pub images : List Image
+
+-- the bytes of all records together
+abbrev pub record_bytes : List Image → ℕ
+record_bytes images = sum_by image_len images
+
+-- the slot table is one, and no record ends behind a place below it
+pub record IsLaidOut (bytes : List ℕ) (slots end : ℕ) : Type 0 where
+  pub whole : length bytes ≡ PAGE_BYTES
+  pub few : slots ≤ MAX_SLOTS
+  pub table : IsTable bytes slots
+  pub front : 24 ≤ end
+  pub back : end ≤ table_of slots
+  pub ends : (slot : ℕ) → slot < slots → offset_at bytes slot + length_at bytes slot ≤ end
+
+-- what the bytes of a page are at all times: a header, and a slot table with its records
+pub record IsPageBytes (bytes : List ℕ) (id : PageId) (number slots end : ℕ) : Type 0 where
+  pub header : HasHeader bytes id number slots
+  pub laid_out : IsLaidOut bytes slots end
+
+-- so many bytes at an offset lie between the header and the slot table, and belong to no other slot's record
+pub record IsFree (bytes : List ℕ) (slots slot offset len : ℕ) : Type 0 where
+  pub front : 24 ≤ offset
+  pub back : offset + len ≤ table_of slots
+  pub free : (other position : ℕ) → other < slots → other ≢ slot → Covers bytes other position → (position < offset) ⊎ (offset + len ≤ position)
+
+-- every slot but one has the image that it had
+abbrev pub KeepsOthers : List ℕ → List ℕ → ℕ → ℕ → Type 0
+KeepsOthers old new slots slot = (other : ℕ) → other < slots → other ≢ slot → slot_image new other ≡ slot_image old other
+
+-- slots by their images and their claims
+abbrev pub slots_of : List Image → List ℕ → List Slot
+slots_of [] claims = []
+slots_of (image ∷ images) [] = []
+slots_of (image ∷ images) (claim ∷ claims) = record { image = image; claim = claim } ∷ slots_of images claims
+
+-- a claim for each slot, with their sum at hand, and room for as many as a page may have
+pub record HasClaims (images : List Image) (claims : List ℕ) (capacity claimed : ℕ) : Type 0 where
+  pub same : length claims ≡ length images
+  pub kept : KeepsClaims (slots_of images claims) claimed
+  pub reserved : capacity ≡ MAX_SLOTS

@@ -1,0 +1,170 @@
+//! A page's text with its records: the bytes are a text at all times, and only they are kept.
+ghost use Rattle.std.specs.Prelude.{◌≡◌, ◌+◌, ◌-◌, ◌*◌, ◌<◌, ◌≤◌, ◌++◌, ℕ, [], length, replicate, set, slice_get, slice_index_or, Some, None, option_map, IfOk, IfSome, List};
+ghost use Rattle.std.specs.Option.{option_and_then};
+ghost use Rattle.shore_types.specs.Images.{Image};
+ghost use Rattle.shore_types.specs.declared.layout.TheConstants.{PAGE_BYTES, MAX_RECORD_BYTES, MAX_SLOTS};
+ghost use Rattle.shore_page.specs.Slots.{image_len};
+ghost use Rattle.shore_page.specs.Text.{IsPageText};
+ghost use Rattle.shore_page.specs.Layout.{record_bytes};
+
+use crate::entries::{entry_at, image_at};
+use crate::placing::{clear_slot, grow_table, put_image};
+use crate::reading::{check_slots, read_header};
+use crate::writing::{put_header, put_number};
+use shore_types::layout::{PAGE_BYTES, PAGE_HEADER_BYTES, SLOT_ENTRY_BYTES};
+use shore_types::{Lsn, PageId};
+use std::alloc::{AllocError, Global};
+use std::marker::Model;
+
+/// The text of a page.
+#[derive(Drop)]
+pub struct PageBytes {
+    id: PageId,
+    number: Lsn,
+    bytes: Vec<u8>,
+    slots: usize,
+    // No record ends behind it. What is between it and the slot table is free; so are holes below it.
+    end: usize,
+}
+
+impl Model for PageBytes {
+    ghost use Rattle.shore_page.specs.Layout.{PageImages};
+    ghost use Rattle.shore_page.specs.Reading.{images_in};
+    ghost use Rattle.shore_page.specs.Layout.{IsPageBytes};
+
+    ghost Value = { PageImages };
+
+    ghost view = { λ p. record { id = p.id; number = p.number; images = images_in p.bytes.items p.slots } };
+
+    ghost invariant = { λ p. IsPageBytes p.bytes.items p.id p.number p.slots p.end };
+}
+
+impl PageBytes {
+    /// The text of a page with no slot, which no change has reached.
+    pub fn new(alloc: Global, id: PageId) -> Result<PageBytes, AllocError>
+        ensures { IfOk result (λ text. text ≡ record { id = id; number = 0; images = [] }) }
+    {
+        let mut bytes = Vec::from_elem(alloc, 0u8, PAGE_BYTES)?;
+        put_header(&mut bytes, &id);
+        Ok(PageBytes {
+            id,
+            number: Lsn(0),
+            bytes,
+            slots: 0,
+            end: PAGE_HEADER_BYTES,
+        })
+    }
+
+    pub fn id(&self) -> PageId
+        ensures { result ≡ self.now.id }
+    {
+        self.id
+    }
+
+    /// The number of the last change, 0 for none.
+    pub fn number(&self) -> Lsn
+        ensures { result ≡ self.now.number }
+    {
+        self.number
+    }
+
+    pub fn set_number(&mut self, number: Lsn)
+        ensures { self.new ≡ record self.old { number = number } }
+    {
+        put_number(&mut self.bytes, number);
+        self.number = number;
+    }
+
+    pub fn slot_count(&self) -> usize
+        ensures count { result ≡ length self.now.images }
+        ensures most { result ≤ MAX_SLOTS }
+    {
+        self.slots
+    }
+
+    /// The record in a slot.
+    pub fn get(&self, slot: usize) -> Option<&[u8]>
+        ensures { option_map (λ bytes. bytes.now) result ≡ option_and_then (λ image. image) (slice_get self.now.images slot) }
+    {
+        if slot >= self.slots {
+            return None;
+        }
+        image_at(&self.bytes, slot)
+    }
+
+    /// How many bytes the record in a slot has, 0 in an empty one.
+    pub fn record_len(&self, slot: usize) -> usize
+        requires { slot < length self.now.images }
+        ensures len { result ≡ image_len (slice_index_or self.now.images slot None) }
+        ensures most { result ≤ MAX_RECORD_BYTES }
+    {
+        entry_at(&self.bytes, slot).bytes
+    }
+
+    /// Makes so many slots, of which those that are new are empty.
+    pub fn grow(&mut self, slots: usize)
+        requires order { length self.old.images ≤ slots }
+        requires room { 4 * slots + record_bytes self.old.images ≤ 8168 }
+        ensures { self.new ≡ record self.old { images = self.old.images ++ replicate (slots - length self.old.images) None } }
+    {
+        self.end = grow_table(&mut self.bytes, self.slots, self.end, slots);
+        self.slots = slots;
+    }
+
+    /// Puts a record into a slot that is there.
+    pub fn put(&mut self, slot: usize, bytes: &[u8])
+        requires there { slot < length self.old.images }
+        requires most { length bytes.now ≤ MAX_RECORD_BYTES }
+        requires room { 4 * length self.old.images + record_bytes (set self.old.images slot None) + length bytes.now ≤ 8168 }
+        ensures { self.new ≡ record self.old { images = set self.old.images slot (Some bytes.now) } }
+    {
+        self.end = put_image(&mut self.bytes, self.slots, self.end, slot, bytes);
+    }
+
+    /// Takes the record of a slot away.
+    pub fn clear(&mut self, slot: usize)
+        requires { slot < length self.old.images }
+        ensures { self.new ≡ record self.old { images = set self.old.images slot None } }
+    {
+        clear_slot(&mut self.bytes, self.slots, slot);
+    }
+
+    /// Fills bytes with the text.
+    pub fn to_bytes(&self, out: &mut [u8])
+        requires { length out.old ≡ PAGE_BYTES }
+        ensures { IsPageText out.new self.now.id self.now.number self.now.images }
+    {
+        out.copy_from_slice(&self.bytes);
+    }
+
+    /// The page of this id whose text the bytes are; None if they are no text of it.
+    pub fn from_bytes(
+        alloc: Global,
+        id: PageId,
+        bytes: &[u8],
+    ) -> Result<Option<PageBytes>, AllocError>
+        ensures found { IfOk result (λ found. IfSome found (λ page.
+            (page.id ≡ id) × IsPageText bytes.now id page.number page.images)) }
+        ensures room { IfOk result (λ found. IfSome found (λ page. 4 * length page.images + record_bytes page.images ≤ 8168)) }
+        ensures only { (number : ℕ) (images : List Image) → IsPageText bytes.now id number images
+            → IfOk result (λ found. found ≡ Some record { id = id; number = number; images = images }) }
+    {
+        if bytes.len() != PAGE_BYTES {
+            return Ok(None);
+        }
+        let Some(header) = read_header(&id, bytes) else {
+            return Ok(None);
+        };
+        let Some(end) = check_slots(bytes, header.slots) else {
+            return Ok(None);
+        };
+        let bytes = Vec::from_slice(alloc, bytes)?;
+        Ok(Some(PageBytes {
+            id,
+            number: header.number,
+            bytes,
+            slots: header.slots,
+            end,
+        }))
+    }
+}
