@@ -10,7 +10,7 @@ use Rattle.shore_dwrite.proofs.Batches.{IsLaid, laid_shows, area_shows, area_lai
 use Rattle.shore_dwrite.proofs.Overwrites.{length-overwritten}
 
 -- from what a crash may have left to what stood
-torn_from_stands : (h : History) (image : List ℕ) (at n : ℕ) (c : List ℕ) → Stands h image → TornFrom at n h c → Torn at n image c
+pub torn_from_stands : (h : History) (image : List ℕ) (at n : ℕ) (c : List ℕ) → Stands h image → TornFrom at n h c → Torn at n image c
 torn_from_stands h image at n c stands torn = subst (λ d. Torn at n d c) (stands.only torn.0 torn.1) torn.2
 
 module _ (g : Geometry) (front : List ℕ) (pages : ℕ → List ℕ) (numbers texts : List ℕ) (batch : IsBatch g numbers texts) (long : length texts ≡ 8192 * length numbers) (start : History)

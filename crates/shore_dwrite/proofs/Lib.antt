@@ -1,6 +1,8 @@
 pub mod Overwrites
 pub mod TableLemmas
 pub mod Moves
+pub mod ReadLemmas
+pub mod ImageLemmas
 pub mod Numbers
 pub mod PageWrites
 pub mod InPlace
@@ -8,3 +10,4 @@ pub mod AreaWrites
 pub mod Overlays
 pub mod Batches
 pub mod BatchMoments
+pub mod ReplayMoments

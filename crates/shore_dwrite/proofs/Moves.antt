@@ -1,5 +1,5 @@
 -- What a crash leaves over some writes and a sync.
-use Rattle.std.proofs.Common.{◌≡◌, ℕ, List, length, Result, Ok, Err, OnOk, IfErr, refl, sym, subst}
+use Rattle.std.proofs.Common.{◌≡◌, ℕ, List, length, Result, Ok, Err, OnOk, IfErr, IsErrAnd, refl, sym, subst}
 use Rattle.shore_disk.specs.Device.{History, Torn, seen, noted, synced, Writes, Syncs, LeavesOnly, Stands}
 use Rattle.shore_disk.proofs.Moments.{joined, write_leaves, sync_leaves, at_end, started}
 
@@ -29,3 +29,7 @@ on_ok (Err e) a to = tt
 pub on_err : {T E : Type 0} {P Q : E → Type 0} (r : Result T E) → IfErr r P → ((e : E) → P e → Q e) → IfErr r Q
 on_err (Ok u) holds to = tt
 on_err (Err e) holds to = to e holds
+
+pub if_err : {T E : Type 0} {P Q : E → Type 0} (r : Result T E) → IsErrAnd r P → ((e : E) → P e → Q e) → IfErr r Q
+if_err (Ok u) holds to = tt
+if_err (Err e) holds to = to e holds

@@ -3,6 +3,7 @@ use Rattle.std.proofs.Common.{◌≡◌, inl, inr, ℕ, zero, suc, ◌+◌, ◌*
 use Rattle.std.proofs.lemmas.Bool.{cases_eq, eq-eqb, ne_eqb}
 use Rattle.std.proofs.lemmas.List.{drop-take, drop-drop}
 use Rattle.shore_types.specs.declared.layout.Geometry.{Geometry}
+use Rattle.shore_dwrite.specs.Checks.{IsFirstBad}
 use Rattle.shore_dwrite.specs.Shown.{AreImages, overlaid}
 use Rattle.shore_dwrite.specs.Volumes.{part, IsImageOf}
 use Rattle.shore_dwrite.proofs.Overwrites.{take_again}
@@ -68,3 +69,16 @@ laid_in_place (n ∷ ns) texts placed pages k each same = elim (cases_eq n k) [
     shifted texts i =
         let n : 8192 * suc i ≡ 8192 + 8192 * i = omega arith in
         ap (λ (m : ℕ). take 8192 (drop m texts)) n ∙ ap (take 8192) (sym (drop-drop (8192 * i) 8192 texts))
+
+more : (all texts ns : List ℕ) → take (8192 * suc (length ns)) all ≡ texts → take (8192 + 8192 * length ns) all ≡ texts
+more all texts ns is =
+    let n : 8192 + 8192 * length ns ≡ 8192 * suc (length ns) = omega arith in
+    ap (λ (m : ℕ). take m all) n ∙ is
+
+-- .. also of the first image that is none
+pub bad_alike : (g : Geometry) (ns all texts : List ℕ) (i : ℕ) → take (8192 * length ns) all ≡ texts → IsFirstBad g ns texts i → IsFirstBad g ns all i
+bad_alike g [] all texts i is bad = bad
+bad_alike g (n ∷ ns) all texts zero is bad = λ has. bad (subst (IsImageOf g n) (take_text all texts (8192 * length ns) (more all texts ns is)) has)
+bad_alike g (n ∷ ns) all texts (suc i) is bad =
+    let longer = more all texts ns is in
+    (subst (IsImageOf g n) (sym (take_text all texts (8192 * length ns) longer)) bad.0, bad_alike g ns (drop 8192 all) (drop 8192 texts) i (drop_text all texts (8192 * length ns) longer) bad.1)

@@ -4,3 +4,4 @@ pub mod Images
 pub mod Shown
 pub mod Differences
 pub mod Settled
+pub mod Checks

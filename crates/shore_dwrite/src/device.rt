@@ -1,9 +1,11 @@
 //! The pages of a volume on its device.
-ghost use Rattle.std.specs.Prelude.{◌≡◌, ◌⊎◌, ◌+◌, ◌*◌, ◌<◌, ◌≤◌, ℕ, List, length, All, Contains, IsTrue, IfErr, IfOk, OnOk, slice_get, Some};
-ghost use Rattle.shore_types.specs.declared.layout.TheConstants.{PAGE_BYTES, MAX_PAGES};
+ghost use Rattle.std.specs.Prelude.{◌≡◌, [], ◌∷◌, ◌⊎◌, ◌+◌, ◌*◌, ◌<◌, ◌≤◌, ℕ, List, length, All, Contains, IsTrue, IfErr, IfOk, OnOk, slice_get, Some};
+ghost use Rattle.shore_types.specs.declared.layout.TheConstants.{PAGE_BYTES, MAX_PAGES, MAX_STORES};
 ghost use Rattle.shore_disk.specs.Device.{History, size, seen, may_leave, overwritten, CountsFault, LeavesOnly, Stands};
+ghost use Rattle.shore_gate.specs.declared.gates.TheConstants.{OPEN};
+ghost use Rattle.shore_dwrite.specs.Checks.{HasRead, RefusesArea};
 ghost use Rattle.shore_dwrite.specs.Differences.{DiffersInArea, DiffersInPages, HasImages, HasPages};
-ghost use Rattle.shore_dwrite.specs.declared.places.TheConstants.{PAGES_AT};
+ghost use Rattle.shore_dwrite.specs.declared.places.TheConstants.{GATE_AT, PAGES_AT};
 ghost use Rattle.shore_dwrite.specs.Images.{numbers_of, texts_of};
 ghost use Rattle.shore_dwrite.specs.Shown.{IsBatch, RiseFrom, overlaid, ShowsBehind, ShowsEither};
 ghost use Rattle.shore_disk.specs.Cause.{HasCause};
@@ -15,17 +17,20 @@ ghost use Rattle.shore_types.specs.declared.faults.Fault.TheVariants as Fault;
 ghost use Rattle.shore_dwrite.specs.Volumes.{HasNoPage, page_at, page_count, page_number, page_offset, part};
 
 use crate::images::PageImages;
-use crate::places::{AREA_AT, GATE_AT, TABLE_AT, page_number, page_offset};
+use crate::places::{
+    AREA_AT, GATE_AT, TABLE_AT, TABLE_BYTES, page_count, page_number, page_offset,
+};
+use crate::replay::{check_images, read_table};
 use crate::table::table_of;
 use shore_disk::{Disk, DiskFault};
-use shore_gate::{close_gate, open_gate};
+use shore_gate::{close_gate, is_open, open_gate};
 use shore_page::Page;
 use shore_types::layout::PAGE_BYTES;
 use shore_types::{Device, Fault, Geometry, Lsn, PageId};
 use std::alloc::Global;
 
-// What a volume is refused with whose bytes at an offset are not what they have to be.
-fn damaged(place: u64) -> Fault
+/// What a volume is refused with whose bytes at an offset are not what they have to be.
+pub fn damaged(place: u64) -> Fault
     ensures { result ≡ Fault.Damaged Device.Volume place }
 {
     Fault::Damaged {
@@ -57,15 +62,17 @@ pub struct PageDev<D: Disk> {
     geometry: Geometry,
     ghost as_long: { size (D.Disk.history device) ≡ PAGES_AT + PAGE_BYTES * page_count geometry },
     ghost few: { page_count geometry ≤ MAX_PAGES },
+    ghost few_stores: { length geometry.stores ≤ MAX_STORES },
 }
 
 impl<D: Disk> PageDev<D> {
-    ghost use Rattle.shore_dwrite.specs.Settled.{IsSettled, device_of, geometry_of};
+    ghost use Rattle.shore_dwrite.specs.Settled.{IsSettled, IsStable, device_of, geometry_of};
 
     /// The pages on a device that is as long as its geometry asks.
     pub fn new(device: D, geometry: Geometry) -> PageDev<D>
         requires long { size (D.history device) ≡ PAGES_AT + PAGE_BYTES * page_count geometry }
         requires few { page_count geometry ≤ MAX_PAGES }
+        requires few_stores { length geometry.stores ≤ MAX_STORES }
         ensures device { device_of result ≡ device }
         ensures geometry { geometry_of result ≡ geometry }
     {
@@ -129,6 +136,54 @@ impl<D: Disk> PageDev<D> {
         open_gate(&mut self.device, GATE_AT)?;
         self.write_in_place(images)?;
         close_gate(&mut self.device, GATE_AT)
+    }
+
+    /// Lays the images of an open area into place, which a loss of power left there, and closes its gate. With a shut gate there is nothing
+    /// to do. `Damaged` at the first part of an open area that is not in order: the count, an entry, an image; `Memory` if an allocation
+    /// failed. After both nothing has changed.
+    pub fn replay(&mut self, alloc: Global) -> Result<(), Fault>
+        ensures replayed { (front : List ℕ) (pages : ℕ → List ℕ) → IsStable self.old front pages → OnOk result (IsSettled self.new front pages) }
+
+        // A crash at any moment of the call leaves a volume that shows the same pages.
+        ensures any_moment { (front : List ℕ) (pages : ℕ → List ℕ) → IsStable self.old front pages
+            → LeavesOnly (D.history self.old.device) (D.history self.new.device) (ShowsBehind (geometry_of self.old) front pages) }
+
+        ensures refused { (image : List ℕ) → IsTrue (D.is_honest self.old.device) → Stands (D.history self.old.device) image → IfErr result (λ fault.
+            IsFromOutside fault ⊎ ((part GATE_AT 1 image ≡ OPEN ∷ []) × RefusesArea (geometry_of self.old) image fault)) }
+        ensures unchanged { IsTrue (D.is_honest self.old.device) → IfErr result (λ fault.
+            (fault ≡ Fault.Device) ⊎ (D.history self.new.device ≡ D.history self.old.device)) }
+        ensures geometry { geometry_of self.new ≡ geometry_of self.old }
+        ensures cause { HasCause result (D.faults self.old.device) (D.faults self.new.device) }
+    {
+        let mut gate = [0];
+        self.device.read_at(GATE_AT, &mut gate)?;
+        if !is_open(gate[0]) {
+            return Ok(());
+        }
+        let images = self.read_area(alloc)?;
+        self.write_in_place(&images)?;
+        Ok(close_gate(&mut self.device, GATE_AT)?)
+    }
+
+    // Reads and checks the table and the images of an open area.
+    fn read_area(&mut self, alloc: Global) -> Result<PageImages, Fault>
+        ensures batch { IfOk result (λ images. IsBatch (geometry_of self.old) (numbers_of images) (texts_of images)) }
+        ensures found { (image : List ℕ) → IsTrue (D.is_honest self.old.device) → Stands (D.history self.old.device) image
+            → IfOk result (λ images. HasRead image (numbers_of images) (texts_of images)) }
+        ensures refused { (image : List ℕ) → IsTrue (D.is_honest self.old.device) → Stands (D.history self.old.device) image
+            → IfErr result (λ fault. IsFromOutside fault ⊎ RefusesArea (geometry_of self.old) image fault) }
+        ensures same { IsTrue (D.is_honest self.old.device) → D.history self.new.device ≡ D.history self.old.device }
+        ensures honest { D.is_honest self.new.device ≡ D.is_honest self.old.device }
+        ensures geometry { geometry_of self.new ≡ geometry_of self.old }
+        ensures cause { HasCause result (D.faults self.old.device) (D.faults self.new.device) }
+    {
+        let mut table = [0; TABLE_BYTES];
+        self.device.read_at(TABLE_AT, &mut table)?;
+        let numbers = read_table(alloc, &table, page_count(&self.geometry))?;
+        let mut bytes = Vec::from_elem(alloc, 0, PAGE_BYTES * numbers.len())?;
+        self.device.read_at(AREA_AT, &mut bytes)?;
+        check_images(alloc, &self.geometry, &numbers, &bytes)?;
+        Ok(PageImages::of(numbers, bytes))
     }
 
     // Writes the table and the images behind the gate, and syncs.

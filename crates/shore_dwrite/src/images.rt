@@ -26,6 +26,15 @@ impl PageImages {
         Ok(PageImages { numbers, bytes })
     }
 
+    /// These pages, with their texts one behind another.
+    pub fn of(numbers: Vec<u32>, bytes: Vec<u8>) -> PageImages
+        requires { length bytes.items ≡ PAGE_BYTES * length numbers.items }
+        ensures numbers { numbers_of result ≡ numbers.items }
+        ensures texts { texts_of result ≡ bytes.items }
+    {
+        PageImages { numbers, bytes }
+    }
+
     /// Drops all pages, and keeps the room.
     pub fn clear(&mut self)
         ensures numbers { numbers_of self.new ≡ [] }

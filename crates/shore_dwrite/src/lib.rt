@@ -4,6 +4,7 @@
 mod device;
 mod images;
 mod places;
+mod replay;
 mod table;
 
 pub use device::PageDev;

@@ -1,11 +1,11 @@
 //! Where things are on a volume.
-ghost use Rattle.std.specs.Prelude.{◌≡◌, ◌<◌, ◌≤◌};
+ghost use Rattle.std.specs.Prelude.{◌≡◌, ◌<◌, ◌≤◌, length};
 ghost use Rattle.shore_types.specs.Layout.{HasPage};
-ghost use Rattle.shore_types.specs.declared.layout.TheConstants.{MAX_PAGES};
+ghost use Rattle.shore_types.specs.declared.layout.TheConstants.{MAX_PAGES, MAX_STORES};
 ghost use Rattle.shore_dwrite.specs.Volumes.{page_count, page_number, page_offset};
 
 use shore_types::layout::PAGE_BYTES;
-use shore_types::{Geometry, PageId};
+use shore_types::{Geometry, PageId, StoreId};
 
 /// The offset of the gate of the double-write area.
 pub const GATE_AT: u64 = 4096;
@@ -37,4 +37,36 @@ pub fn page_number(geometry: &Geometry, id: PageId) -> u32
         number += *pages;
     }
     number
+}
+
+/// How many pages a volume has.
+pub fn page_count(geometry: &Geometry) -> u32
+    requires { page_count geometry.now ≤ MAX_PAGES }
+    ensures { result ≡ page_count geometry.now }
+{
+    let mut count = 0;
+    for pages in geometry.stores.as_slice() {
+        count += *pages;
+    }
+    count
+}
+
+/// The page of a number on the volume.
+pub fn page_of(geometry: &Geometry, number: u32) -> PageId
+    requires within { number < page_count geometry.now }
+    requires few { length geometry.now.stores ≤ MAX_STORES }
+    ensures there { HasPage geometry.now result }
+    ensures number { page_number geometry.now result ≡ number }
+{
+    let stores = geometry.stores.as_slice();
+    let mut page = number;
+    let mut store = 0;
+    while page >= stores[store] {
+        page -= stores[store];
+        store += 1;
+    }
+    PageId {
+        store: StoreId(store as u32),
+        page,
+    }
 }
