@@ -165,7 +165,8 @@ impl<D: Disk> PageDev<D> {
         Ok(close_gate(&mut self.device, GATE_AT)?)
     }
 
-    // Reads and checks the table and the images of an open area.
+    // Reads and checks the table and the images of an open area. It owns what it has read across calls that may fail, and so keeps more
+    // steps than others.
     fn read_area(&mut self, alloc: Global) -> Result<PageImages, Fault>
         ensures batch { IfOk result (λ images. IsBatch (geometry_of self.old) (numbers_of images) (texts_of images)) }
         ensures found { (image : List ℕ) → IsTrue (D.is_honest self.old.device) → Stands (D.history self.old.device) image
