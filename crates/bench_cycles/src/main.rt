@@ -47,7 +47,7 @@ fn record(slot: u16) -> Granule {
 
 fn ask(table: &mut LockTable, txn: u64, slot: u16, mode: Mode) -> Result<(), Fault> {
     if !table.is_waiting(TxnId(txn)) {
-        table.request(TxnId(txn), record(slot), mode)?;
+        let _answer = table.request(TxnId(txn), record(slot), mode);
     }
     Ok(())
 }
