@@ -154,30 +154,68 @@ fn rounds_of(table: &mut LockTable, work: Work, rounds: u64) -> usize {
     sum
 }
 
-fn main(rt: HostRuntime) -> io::Result<()> {
-    let alloc = rt.alloc();
-    let mut table = LockTable::new(alloc, 4096)?;
-    let words: Vec<String> = env::args(&rt)?.collect(alloc)?;
-    let [_, name, rounds] = words.as_slice() else {
-        let locks = round(&mut table, Work::Locks);
-        let pages = round(&mut table, Work::Pages);
-        let waiters = round(&mut table, Work::Waiters);
-        place_others(&mut table, 255);
-        let path = round(&mut table, Work::Record);
-        println!(rt; "{locks} locks, {pages} pages, {waiters} requests, {path} on a path")?;
-        return Ok(());
-    };
-    let (Some((work, others)), Ok(rounds)) = (
-        work_of(name.as_str()),
-        rounds.as_str().parse::<u64>(),
-    ) else {
-        println!(rt; "bench_locks WORK ROUNDS")?;
-        return Ok(());
-    };
+/// The nanoseconds of a round, and the sum of them all.
+fn timed(
+    rt: &HostRuntime,
+    table: &mut LockTable,
+    work: Work,
+    rounds: u64,
+) -> io::Result<(u128, usize)> {
+    let start = Instant::now(rt)?;
+    let sum = rounds_of(table, work, rounds);
+    let nanos = start.elapsed(rt)?.as_nanos() / u128::from(rounds.max(1));
+    Ok((nanos, sum))
+}
+
+/// The same in a table of its own, beside so many others.
+fn measured(rt: &HostRuntime, work: Work, others: u64, rounds: u64) -> io::Result<(u128, usize)> {
+    let mut table = LockTable::new(rt.alloc(), 4096)?;
     place_others(&mut table, others);
-    let start = Instant::now(&rt)?;
-    let sum = rounds_of(&mut table, work, rounds);
-    let nanos = start.elapsed(&rt)?.as_nanos() / u128::from(rounds.max(1));
-    println!(rt; "{name} {nanos} ns a round ({sum})")?;
-    Ok(())
+    timed(rt, &mut table, work, rounds)
+}
+
+/// Measures the work of a name and prints it; a name of no work prints how the program is called.
+fn measure(rt: &HostRuntime, name: &str, rounds: u64) -> io::Result<()> {
+    let Some((work, others)) = work_of(name) else {
+        return println!(rt; "bench_locks WORK ROUNDS");
+    };
+    let (nanos, sum) = measured(rt, work, others, rounds)?;
+    println!(rt; "{name} {nanos} ns a round ({sum})")
+}
+
+/// What one round of each kind of work counts.
+fn counts(table: &mut LockTable) -> [usize; 4] {
+    let locks = round(table, Work::Locks);
+    let pages = round(table, Work::Pages);
+    let waiters = round(table, Work::Waiters);
+    place_others(table, 255);
+    let path = round(table, Work::Record);
+    [locks, pages, waiters, path]
+}
+
+/// The same in a table of its own.
+fn counted(rt: &HostRuntime) -> io::Result<[usize; 4]> {
+    let mut table = LockTable::new(rt.alloc(), 4096)?;
+    Ok(counts(&mut table))
+}
+
+fn count(rt: &HostRuntime) -> io::Result<()> {
+    let [locks, pages, waiters, path] = counted(rt)?;
+    println!(rt; "{locks} locks, {pages} pages, {waiters} requests, {path} on a path")
+}
+
+/// Does what the words ask for.
+fn perform(rt: &HostRuntime, words: &[String]) -> io::Result<()> {
+    let [_, name, rounds] = words else {
+        return count(rt);
+    };
+    match rounds.as_str().parse::<u64>() {
+        Ok(rounds) => measure(rt, name.as_str(), rounds),
+        Err(_) => println!(rt; "bench_locks WORK ROUNDS"),
+    }
+}
+
+fn main(rt: HostRuntime) -> io::Result<()> {
+    let words: Vec<String> = env::args(&rt)?.collect(rt.alloc())?;
+    perform(&rt, words.as_slice())
 }

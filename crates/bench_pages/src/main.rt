@@ -96,27 +96,66 @@ fn round(alloc: Global, work: Work, page: &mut Page, text: &mut [u8]) -> Result<
     }
 }
 
-fn main(rt: HostRuntime) -> io::Result<()> {
-    let alloc = rt.alloc();
-    let mut page = filled(alloc)?;
+/// The sum of so many rounds.
+fn rounds_of(
+    alloc: Global,
+    work: Work,
+    page: &mut Page,
+    text: &mut [u8],
+    rounds: u64,
+) -> Result<u64, AllocError>
+    requires { length text.old ≡ PAGE_BYTES }
+{
+    let mut sum = 0u64;
+    for _ in 0..rounds {
+        sum = sum.wrapping_add(round(alloc, work, page, text)?);
+    }
+    Ok(sum)
+}
+
+/// The nanoseconds of a round, and the sum of them all.
+fn timed(rt: &HostRuntime, work: Work, page: &mut Page, rounds: u64) -> io::Result<(u128, u64)> {
     let mut text = [0u8; PAGE_BYTES];
     page.to_bytes(&mut text);
-    let words: Vec<String> = env::args(&rt)?.collect(alloc)?;
-    let [_, name, rounds] = words.as_slice() else {
-        let count = page.slot_count();
-        println!(rt; "{count} records")?;
-        return Ok(());
+    let start = Instant::now(rt)?;
+    let sum = rounds_of(rt.alloc(), work, page, &mut text, rounds)?;
+    let nanos = start.elapsed(rt)?.as_nanos() / u128::from(rounds.max(1));
+    Ok((nanos, sum))
+}
+
+/// The same on a page of its own.
+fn measured(rt: &HostRuntime, work: Work, rounds: u64) -> io::Result<(u128, u64)> {
+    let mut page = filled(rt.alloc())?;
+    timed(rt, work, &mut page, rounds)
+}
+
+/// Measures the work of a name and prints it; a name of no work prints how the program is called.
+fn measure(rt: &HostRuntime, name: &str, rounds: u64) -> io::Result<()> {
+    let Some(work) = Work::of(name) else {
+        return println!(rt; "bench_pages fill|get|write|read|compact ROUNDS");
     };
-    let (Some(work), Ok(rounds)) = (Work::of(name.as_str()), rounds.as_str().parse::<u64>()) else {
-        println!(rt; "bench_pages fill|get|write|read|compact ROUNDS")?;
-        return Ok(());
+    let (nanos, sum) = measured(rt, work, rounds)?;
+    println!(rt; "{name} {nanos} ns a round ({sum})")
+}
+
+/// Prints how many records a page takes.
+fn count(rt: &HostRuntime) -> io::Result<()> {
+    let count = filled(rt.alloc())?.slot_count();
+    println!(rt; "{count} records")
+}
+
+/// Does what the words ask for.
+fn perform(rt: &HostRuntime, words: &[String]) -> io::Result<()> {
+    let [_, name, rounds] = words else {
+        return count(rt);
     };
-    let mut sum = 0u64;
-    let start = Instant::now(&rt)?;
-    for _ in 0..rounds {
-        sum = sum.wrapping_add(round(alloc, work, &mut page, &mut text)?);
+    match rounds.as_str().parse::<u64>() {
+        Ok(rounds) => measure(rt, name.as_str(), rounds),
+        Err(_) => println!(rt; "bench_pages fill|get|write|read|compact ROUNDS"),
     }
-    let nanos = start.elapsed(&rt)?.as_nanos() / u128::from(rounds.max(1));
-    println!(rt; "{name} {nanos} ns a round ({sum})")?;
-    Ok(())
+}
+
+fn main(rt: HostRuntime) -> io::Result<()> {
+    let words: Vec<String> = env::args(&rt)?.collect(rt.alloc())?;
+    perform(&rt, words.as_slice())
 }
