@@ -81,30 +81,53 @@ fn searched(alloc: Global, table: &LockTable, txn: u64) -> Result<usize, Fault> 
     }
 }
 
-fn main(rt: HostRuntime) -> io::Result<()> {
+/// What all rounds come to.
+#[derive(Drop)]
+struct Total {
+    answers: usize,
+    nanos: u128,
+}
+
+/// One round, of which the call alone is timed.
+fn round(rt: &HostRuntime, work: Work, total: &mut Total) -> io::Result<()> {
     let alloc = rt.alloc();
-    let words: Vec<String> = env::args(&rt)?.collect(alloc)?;
-    let [_, name, rounds] = words.as_slice() else {
-        println!(rt; "bench_cycles victims|queue|waiters ROUNDS")?;
+    let mut table = LockTable::new(alloc, NODES)?;
+    if fill(&mut table, work).is_err() {
         return Ok(());
+    }
+    let start = Instant::now(rt)?;
+    let answer = call(alloc, &mut table, work).unwrap_or(0);
+    total.answers = total.answers.wrapping_add(answer);
+    total.nanos = total.nanos.wrapping_add(start.elapsed(rt)?.as_nanos());
+    Ok(())
+}
+
+fn measure(rt: &HostRuntime, work: Work, rounds: u64) -> io::Result<Total> {
+    let mut total = Total {
+        answers: 0,
+        nanos: 0,
+    };
+    for _ in 0..rounds {
+        round(rt, work, &mut total)?;
+    }
+    Ok(total)
+}
+
+/// Does what the words ask for.
+fn perform(rt: &HostRuntime, words: &[String]) -> io::Result<()> {
+    let [_, name, rounds] = words else {
+        return println!(rt; "bench_cycles victims|queue|waiters ROUNDS");
     };
     let (Some(work), Ok(rounds)) = (Work::of(name.as_str()), rounds.as_str().parse::<u64>()) else {
-        println!(rt; "bench_cycles victims|queue|waiters ROUNDS")?;
-        return Ok(());
+        return println!(rt; "bench_cycles victims|queue|waiters ROUNDS");
     };
-    let mut sum = 0usize;
-    let mut nanos = 0u128;
-    for _ in 0..rounds {
-        let mut table = LockTable::new(alloc, NODES)?;
-        let filled = fill(&mut table, work);
-        let start = Instant::now(&rt)?;
-        sum = sum.wrapping_add(call(alloc, &mut table, work).unwrap_or(0));
-        nanos = nanos.wrapping_add(start.elapsed(&rt)?.as_nanos());
-        if filled.is_err() {
-            return Ok(());
-        }
-    }
-    let each = nanos / u128::from(rounds.max(1));
-    println!(rt; "{name} {each} ns ({sum})")?;
-    Ok(())
+    let total = measure(rt, work, rounds)?;
+    let each = total.nanos / u128::from(rounds.max(1));
+    let answers = total.answers;
+    println!(rt; "{name} {each} ns ({answers})")
+}
+
+fn main(rt: HostRuntime) -> io::Result<()> {
+    let words: Vec<String> = env::args(&rt)?.collect(rt.alloc())?;
+    perform(&rt, words.as_slice())
 }
