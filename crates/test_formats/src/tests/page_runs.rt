@@ -6,6 +6,7 @@ use shore_types::layout::{MAX_RECORD_BYTES, MAX_SLOTS, PAGE_BYTES, PAGE_ROOM};
 use shore_types::{Lsn, PageId, StoreId};
 use std::alloc::{AllocError, Global};
 use std::io;
+use std::process::Abort;
 
 const ID: PageId = PageId {
     store: StoreId(3),
@@ -143,39 +144,58 @@ impl Twin {
         page.get(page.slot_count()).is_none()
     }
 
-    /// The page's text as another writer might make it: the records from the slot table downwards, the last slot's first, with a hole
-    /// behind each while there is room for holes.
-    fn text(&self, chance: &mut Chance) -> [u8; PAGE_BYTES] {
-        let mut text = [0x5au8; PAGE_BYTES];
-        let count = self.slots.len().min(MAX_SLOTS as usize) as u16;
-        let table = (PAGE_BYTES as u16).saturating_sub(count.saturating_mul(4));
-        write(&mut text, 0, &3u32.to_le_bytes());
-        write(&mut text, 4, &5u32.to_le_bytes());
-        write(&mut text, 8, &self.number.to_le_bytes());
-        write(&mut text, 16, &count.to_le_bytes());
-        write(&mut text, 18, &table.to_le_bytes());
-        write(&mut text, 20, &[0; 4]);
+    /// What precedes the records, for so many slots.
+    fn write_head(&self, text: &mut [u8], count: u16, table: u16) {
+        write(text, 0, &3u32.to_le_bytes());
+        write(text, 4, &5u32.to_le_bytes());
+        write(text, 8, &self.number.to_le_bytes());
+        write(text, 16, &count.to_le_bytes());
+        write(text, 18, &table.to_le_bytes());
+        write(text, 20, &[0; 4]);
+    }
+
+    /// The bytes before the slot table that no record needs.
+    fn spare(&self, table: u16) -> u16 {
         let mut spare = table.saturating_sub(24);
         for kept in &self.slots {
             spare = spare.saturating_sub(kept.len);
         }
+        spare
+    }
+
+    /// The records from the slot table downwards, the last slot's first, with a hole behind each while there is room for holes.
+    fn write_slots(&self, text: &mut [u8], chance: &mut Chance, count: u16, table: u16) {
+        let mut spare = self.spare(table);
         let mut place = table;
         for (behind, kept) in (1u16..2043).zip(self.slots.iter().rev()) {
-            let slot = count.saturating_sub(behind);
             let mut offset = 0;
             if let Some(image) = self.image(kept) {
                 let hole = (chance.below(10) as u16).min(spare);
                 spare = spare.saturating_sub(hole);
                 place = place.saturating_sub(hole).saturating_sub(kept.len);
-                write(&mut text, place as usize, image);
+                write(text, place as usize, image);
                 offset = place;
             }
-            let entry = PAGE_BYTES.saturating_sub(4 * (slot as usize + 1));
-            write(&mut text, entry, &offset.to_le_bytes());
-            write(&mut text, entry.saturating_add(2), &kept.len.to_le_bytes());
+            write_entry(text, count.saturating_sub(behind), offset, kept.len);
         }
+    }
+
+    /// The page's text as another writer might make it: in another order, and with holes.
+    fn text(&self, chance: &mut Chance) -> [u8; PAGE_BYTES] {
+        let mut text = [0x5au8; PAGE_BYTES];
+        let count = self.slots.len().min(MAX_SLOTS as usize) as u16;
+        let table = (PAGE_BYTES as u16).saturating_sub(count.saturating_mul(4));
+        self.write_head(&mut text, count, table);
+        self.write_slots(&mut text, chance, count, table);
         text
     }
+}
+
+/// Writes a slot's entry of the slot table.
+fn write_entry(text: &mut [u8], slot: u16, offset: u16, len: u16) {
+    let entry = PAGE_BYTES.saturating_sub(4 * (slot as usize + 1));
+    write(text, entry, &offset.to_le_bytes());
+    write(text, entry.saturating_add(2), &len.to_le_bytes());
 }
 
 /// Writes bytes at a place, if they lie in the page.
@@ -216,9 +236,10 @@ impl Chance {
     }
 }
 
-/// How often each call was made, and how many changes did not fit.
+/// How many runs were made, how often each call was, and how many changes did not fit.
 #[derive(Drop)]
 struct Counts {
+    runs: u64,
     puts: u64,
     removes: u64,
     applies: u64,
@@ -356,10 +377,69 @@ fn play(
     }
 }
 
+/// One run on a page and its twin, both new.
+fn check_steps(
+    rt: &(impl Abort + AllocGlobal),
+    page: &mut Page,
+    twin: &mut Twin,
+    chance: &mut Chance,
+    counts: &mut Counts,
+) -> Result<(), AllocError> {
+    for step in 0..600 {
+        let agrees = play(rt.alloc(), page, twin, chance, counts)?;
+        let run = counts.runs;
+        assert!(rt; agrees && twin.is_like(page), "run {run}, step {step}");
+    }
+    counts.runs = counts.runs.wrapping_add(1);
+    Ok(())
+}
+
+fn check_run(
+    rt: &(impl Abort + AllocGlobal),
+    twin: &mut Twin,
+    chance: &mut Chance,
+    counts: &mut Counts,
+) -> Result<(), AllocError> {
+    let mut page = Page::new(rt.alloc(), ID)?;
+    check_steps(rt, &mut page, twin, chance, counts)
+}
+
+fn check_new_run(
+    rt: &(impl Abort + AllocGlobal),
+    chance: &mut Chance,
+    counts: &mut Counts,
+) -> Result<(), AllocError> {
+    let mut twin = Twin::new(rt.alloc())?;
+    check_run(rt, &mut twin, chance, counts)
+}
+
+fn print_counts(rt: &HostRuntime, counts: &Counts) -> io::Result<()> {
+    println!(rt;
+        "{} puts, {} applies, {} removes",
+        counts.puts, counts.applies, counts.removes
+    )?;
+    println!(rt;
+        "{} claims, {} reads, {} refusals",
+        counts.claims, counts.reads, counts.refusals
+    )
+}
+
+/// Each call was made often enough to say something.
+fn check_counts(rt: &impl Abort, counts: &Counts) {
+    assert!(rt;
+        counts.puts > 500 && counts.removes > 100 && counts.applies > 500,
+        "too few changes"
+    );
+    assert!(rt;
+        counts.claims > 500 && counts.reads > 100 && counts.refusals > 500,
+        "too few"
+    );
+}
+
 #[test]
 fn random_runs_beside_a_twin(rt: HostRuntime) -> io::Result<()> {
-    let alloc = rt.alloc();
     let mut counts = Counts {
+        runs: 0,
         puts: 0,
         removes: 0,
         applies: 0,
@@ -368,29 +448,10 @@ fn random_runs_beside_a_twin(rt: HostRuntime) -> io::Result<()> {
         refusals: 0,
     };
     let mut chance = Chance(23);
-    for run in 0..20 {
-        let mut page = Page::new(alloc, ID)?;
-        let mut twin = Twin::new(alloc)?;
-        for step in 0..600 {
-            let agrees = play(alloc, &mut page, &mut twin, &mut chance, &mut counts)?;
-            assert!(&rt; agrees && twin.is_like(&page), "run {run}, step {step}");
-        }
+    for _ in 0..20 {
+        check_new_run(&rt, &mut chance, &mut counts)?;
     }
-    println!(rt;
-        "{} puts, {} applies, {} removes",
-        counts.puts, counts.applies, counts.removes
-    )?;
-    println!(rt;
-        "{} claims, {} reads, {} refusals",
-        counts.claims, counts.reads, counts.refusals
-    )?;
-    assert!(&rt;
-        counts.puts > 500 && counts.removes > 100 && counts.applies > 500,
-        "too few changes"
-    );
-    assert!(&rt;
-        counts.claims > 500 && counts.reads > 100 && counts.refusals > 500,
-        "too few"
-    );
+    print_counts(&rt, &counts)?;
+    check_counts(&rt, &counts);
     Ok(())
 }

@@ -5,6 +5,7 @@ use shore_page::Page;
 use shore_types::layout::PAGE_BYTES;
 use shore_types::{Lsn, PageId, StoreId};
 use std::alloc::{AllocError, Global};
+use std::process::Abort;
 
 const ID: PageId = PageId {
     store: StoreId(0),
@@ -85,82 +86,187 @@ fn page_of(store: u32, page: u32) -> PageId {
     }
 }
 
-#[test]
-fn worked_bytes_of_another_page(rt: HostRuntime) -> Result<(), AllocError> {
-    let alloc = rt.alloc();
-    let mut page = Page::new(alloc, page_of(3, 2))?;
-    assert!(&rt; put(&mut page, 0, &[0xaa]) && apply(&mut page, 7, 1, &[0xbb, 0xcc]));
-    let read = Page::from_bytes(alloc, page_of(3, 2), &other_text())?;
-    assert!(&rt; read.is_some_and(|read| are_alike(&page, &read)));
-    assert!(&rt; is_refused(alloc, page_of(2, 3), &other_text())?);
+/// Whether bytes are read as this page.
+fn is_read_as(alloc: Global, page: &Page, bytes: &[u8]) -> Result<bool, AllocError> {
+    let read = Page::from_bytes(alloc, page.id(), bytes)?;
+    Ok(read.is_some_and(|read| are_alike(page, &read)))
+}
+
+fn check_other_page(rt: &(impl Abort + AllocGlobal), page: &mut Page) -> Result<(), AllocError> {
+    assert!(rt; put(page, 0, &[0xaa]) && apply(page, 7, 1, &[0xbb, 0xcc]));
+    assert!(rt; page.id() == page_of(3, 2) && is_read_as(rt.alloc(), page, &other_text())?);
     let mut text = [0u8; PAGE_BYTES];
     page.to_bytes(&mut text);
-    assert!(&rt; text.starts_with(&OTHER_HEAD[..24]));
+    assert!(rt; text.starts_with(&OTHER_HEAD[..24]));
     Ok(())
+}
+
+#[test]
+fn worked_bytes_of_another_page(rt: HostRuntime) -> Result<(), AllocError> {
+    assert!(&rt; is_refused(rt.alloc(), page_of(2, 3), &other_text())?);
+    let mut page = Page::new(rt.alloc(), page_of(3, 2))?;
+    check_other_page(&rt, &mut page)
+}
+
+/// A step of a run on one page. Each is a call that has to be allowed, or says what then stands.
+#[derive(Clone, Copy)]
+enum Step {
+    /// So many of a byte are put into a slot.
+    Put(u16, u8, usize),
+    /// A change of this number does the same.
+    Apply(u64, u16, u8, usize),
+    Remove(u16),
+    /// The delete in a slot is decided: it claims its record's bytes alone.
+    Decide(u16),
+    Fits(u16, usize),
+    FitsNot(u16, usize),
+    Free(usize),
+    Number(u64),
+    Slots(u16),
+    /// A slot has so many of a byte.
+    Holds(u16, u8, usize),
+    Empty(u16),
+}
+
+/// The test of what a decision asks, and the call.
+fn decide(page: &mut Page, slot: u16) -> bool {
+    if slot >= page.slot_count() {
+        return false;
+    }
+    page.unreserve(slot, 0);
+    true
+}
+
+/// Puts so many of a byte, by a change of a number if there is one.
+fn fill(page: &mut Page, number: Option<u64>, slot: u16, byte: u8, len: usize) -> bool {
+    let bytes = [byte; 4000];
+    let Some(part) = bytes.get(..len) else {
+        return false;
+    };
+    match number {
+        Some(number) => apply(page, number, slot, part),
+        None => put(page, slot, part),
+    }
+}
+
+/// Whether a slot has so many of a byte.
+fn holds(page: &Page, slot: u16, byte: u8, len: usize) -> bool {
+    let bytes = [byte; 4000];
+    bytes.get(..len).is_some() && page.get(slot) == bytes.get(..len)
+}
+
+/// Whether what a step says of a page stands.
+fn stands(page: &Page, step: &Step) -> bool {
+    match *step {
+        Step::Fits(slot, len) => page.fits(slot, len),
+        Step::FitsNot(slot, len) => !page.fits(slot, len),
+        Step::Free(bytes) => page.free_bytes() == bytes,
+        Step::Number(number) => page.number() == Lsn(number),
+        Step::Slots(count) => page.slot_count() == count,
+        Step::Holds(slot, byte, len) => holds(page, slot, byte, len),
+        Step::Empty(slot) => page.get(slot).is_none(),
+        Step::Put(..) | Step::Apply(..) | Step::Remove(_) | Step::Decide(_) => false,
+    }
+}
+
+/// Plays a step; false if it is not as told.
+fn play(page: &mut Page, step: &Step) -> bool {
+    match *step {
+        Step::Put(slot, byte, len) => fill(page, None, slot, byte, len),
+        Step::Apply(number, slot, byte, len) => fill(page, Some(number), slot, byte, len),
+        Step::Remove(slot) => remove(page, slot),
+        Step::Decide(slot) => decide(page, slot),
+        _ => stands(page, step),
+    }
+}
+
+/// Plays all steps on a page, and reads it back.
+fn check_steps(
+    rt: &(impl Abort + AllocGlobal),
+    page: &mut Page,
+    steps: &[Step],
+) -> Result<(), AllocError> {
+    for (place, step) in (0u16..u16::MAX).zip(steps.iter()) {
+        assert!(rt; play(page, step), "at step {place}");
+    }
+    assert!(rt; is_read_back(rt.alloc(), page)?);
+    Ok(())
+}
+
+fn check_run(rt: &(impl Abort + AllocGlobal), steps: &[Step]) -> Result<(), AllocError> {
+    let mut page = Page::new(rt.alloc(), ID)?;
+    check_steps(rt, &mut page, steps)
 }
 
 // The room of an undecided delete is kept until it is decided.
+const UNDECIDED: [Step; 13] = [
+    Step::Put(0, 0xaa, 4000),
+    Step::Put(1, 0xbb, 4000),
+    Step::FitsNot(2, 157),
+    Step::Put(2, 0xcc, 156),
+    Step::Free(0),
+    Step::Remove(0),
+    Step::Free(0),
+    Step::FitsNot(3, 100),
+    Step::Fits(0, 4000),
+    Step::Decide(0),
+    Step::Free(4000),
+    Step::Put(0, 0xdd, 100),
+    Step::Free(3900),
+];
+
 #[test]
 fn room_of_an_undecided_delete(rt: HostRuntime) -> Result<(), AllocError> {
-    let mut page = Page::new(rt.alloc(), ID)?;
-    assert!(&rt; put(&mut page, 0, &[0xaa; 4000]) && put(&mut page, 1, &[0xbb; 4000]));
-    assert!(&rt; !page.fits(2, 157) && put(&mut page, 2, &[0xcc; 156]) && page.free_bytes() == 0);
-    assert!(&rt; remove(&mut page, 0) && page.free_bytes() == 0);
-    assert!(&rt; !page.fits(3, 100) && page.fits(0, 4000));
-    if page.slot_count() > 0 {
-        page.unreserve(0, 0);
-    }
-    assert!(&rt; page.free_bytes() == 4000);
-    assert!(&rt; put(&mut page, 0, &[0xdd; 100]) && page.free_bytes() == 3900);
-    Ok(())
-}
-
-/// Whether a slot has these bytes.
-fn holds(page: &Page, slot: u16, bytes: &[u8]) -> bool {
-    page.get(slot) == Some(bytes)
+    check_run(&rt, &UNDECIDED)
 }
 
 // Three records fill a page but for 156 bytes. When the delete of one of 3,000 is decided, 3,100 bytes fit its slot, once the others
 // are moved together; then 56 bytes are free, and 52 with a new entry fill the page.
+const DECIDED: [Step; 19] = [
+    Step::Put(0, 0xaa, 3000),
+    Step::Put(1, 0xbb, 3000),
+    Step::Put(2, 0xcc, 2000),
+    Step::Free(156),
+    Step::Remove(0),
+    Step::Free(156),
+    Step::FitsNot(3, 3100),
+    Step::Fits(0, 3100),
+    Step::Decide(0),
+    Step::Free(3156),
+    Step::Put(0, 0xdd, 3100),
+    Step::Free(56),
+    Step::FitsNot(3, 53),
+    Step::Put(3, 0xee, 52),
+    Step::Free(0),
+    Step::Holds(0, 0xdd, 3100),
+    Step::Holds(1, 0xbb, 3000),
+    Step::Holds(2, 0xcc, 2000),
+    Step::Holds(3, 0xee, 52),
+];
+
 #[test]
 fn room_of_a_decided_delete(rt: HostRuntime) -> Result<(), AllocError> {
-    let alloc = rt.alloc();
-    let mut page = Page::new(alloc, ID)?;
-    assert!(&rt;
-        put(&mut page, 0, &[0xaa; 3000])
-            && put(&mut page, 1, &[0xbb; 3000])
-            && put(&mut page, 2, &[0xcc; 2000])
-    );
-    assert!(&rt; page.free_bytes() == 156 && remove(&mut page, 0) && page.free_bytes() == 156);
-    assert!(&rt; !page.fits(3, 3100) && page.fits(0, 3100));
-    if page.slot_count() > 0 {
-        page.unreserve(0, 0);
-    }
-    assert!(&rt;
-        page.free_bytes() == 3156 && put(&mut page, 0, &[0xdd; 3100]) && page.free_bytes() == 56
-    );
-    assert!(&rt;
-        !put(&mut page, 3, &[0xee; 53]) && put(&mut page, 3, &[0xee; 52]) && page.free_bytes() == 0
-    );
-    assert!(&rt; holds(&page, 0, &[0xdd; 3100]) && holds(&page, 1, &[0xbb; 3000]));
-    assert!(&rt; holds(&page, 2, &[0xcc; 2000]) && holds(&page, 3, &[0xee; 52]));
-    assert!(&rt; is_read_back(alloc, &page)?);
-    Ok(())
+    check_run(&rt, &DECIDED)
 }
 
 // A slot beyond the last one: those between are empty. A change of an older number sets that number.
+const BEYOND: [Step; 11] = [
+    Step::Apply(9, 0, 0xaa, 8),
+    Step::Apply(4, 3, 0xbb, 8),
+    Step::Number(4),
+    Step::Slots(4),
+    Step::Free(8168 - 4 * 4 - 16),
+    Step::Empty(1),
+    Step::Empty(2),
+    Step::Holds(3, 0xbb, 8),
+    Step::FitsNot(2042, 0),
+    Step::FitsNot(2038, 0),
+    Step::Fits(2037, 0),
+];
+
 #[test]
 fn slot_beyond_the_last(rt: HostRuntime) -> Result<(), AllocError> {
-    let alloc = rt.alloc();
-    let mut page = Page::new(alloc, ID)?;
-    assert!(&rt; apply(&mut page, 9, 0, &[0xaa; 8]) && apply(&mut page, 4, 3, &[0xbb; 8]));
-    assert!(&rt;
-        page.number() == Lsn(4) && page.slot_count() == 4 && page.free_bytes() == 8168 - 4 * 4 - 16
-    );
-    assert!(&rt; page.get(1).is_none() && page.get(2).is_none() && holds(&page, 3, &[0xbb; 8]));
-    assert!(&rt; !page.fits(2042, 0) && !page.fits(2038, 0) && page.fits(2037, 0));
-    assert!(&rt; is_read_back(alloc, &page)?);
-    Ok(())
+    check_run(&rt, &BEYOND)
 }
 
 /// A fixed run of numbers that look like chance.
@@ -220,39 +326,73 @@ fn is_refused(alloc: Global, id: PageId, bytes: &[u8]) -> Result<bool, AllocErro
     Ok(Page::from_bytes(alloc, id, bytes)?.is_none())
 }
 
+fn check_page(
+    rt: &(impl Abort + AllocGlobal),
+    page: &Page,
+    longest: u64,
+) -> Result<(), AllocError> {
+    let alloc = rt.alloc();
+    assert!(rt; is_read_back(alloc, page)?, "at {longest}");
+    let mut text = [0u8; PAGE_BYTES];
+    page.to_bytes(&mut text);
+    assert!(rt; is_refused(alloc, page_of(0, 1), &text)? && is_refused(alloc, ID, &text[1..])?);
+    Ok(())
+}
+
+fn check_some_page(
+    rt: &(impl Abort + AllocGlobal),
+    chance: &mut Chance,
+    longest: u64,
+) -> Result<(), AllocError>
+    requires { longest < 4000 }
+{
+    let page = some_page(rt.alloc(), chance, 600, longest)?;
+    check_page(rt, &page, longest)
+}
+
 #[test]
 fn pages_are_read_as_they_were_written(rt: HostRuntime) -> Result<(), AllocError> {
-    let alloc = rt.alloc();
-    let other = PageId {
-        store: StoreId(0),
-        page: 1,
-    };
     let mut chance = Chance(7);
     for longest in [0, 1, 20, 100, 700, 3999] {
-        let page = some_page(alloc, &mut chance, 600, longest)?;
-        assert!(&rt; is_read_back(alloc, &page)?, "at {longest}");
-        let mut text = [0u8; PAGE_BYTES];
-        page.to_bytes(&mut text);
-        assert!(&rt; is_refused(alloc, other, &text)? && is_refused(alloc, ID, &text[1..])?);
+        check_some_page(&rt, &mut chance, longest)?;
     }
     Ok(())
+}
+
+/// Whether bytes are refused; if not, they are those of a page that can be written and read again.
+fn check_bytes(
+    rt: &(impl Abort + AllocGlobal),
+    text: &[u8],
+    offset: usize,
+) -> Result<bool, AllocError> {
+    match Page::from_bytes(rt.alloc(), ID, text)? {
+        None => Ok(true),
+        Some(read) => {
+            let is_same = is_read_back(rt.alloc(), &read)?;
+            assert!(rt; is_same, "at {offset}");
+            Ok(false)
+        }
+    }
+}
+
+fn some_text(alloc: Global) -> Result<[u8; PAGE_BYTES], AllocError> {
+    let page = some_page(alloc, &mut Chance(11), 200, 300)?;
+    let mut text = [0u8; PAGE_BYTES];
+    page.to_bytes(&mut text);
+    Ok(text)
 }
 
 // Whatever stands in a byte, the bytes are refused, or are those of a page that can be written and read again.
 #[test]
 fn any_byte_gives_a_page_or_a_refusal(rt: HostRuntime) -> Result<(), AllocError> {
-    let alloc = rt.alloc();
-    let page = some_page(alloc, &mut Chance(11), 200, 300)?;
-    let mut text = [0u8; PAGE_BYTES];
-    page.to_bytes(&mut text);
+    let mut text = some_text(rt.alloc())?;
     let mut has_refused = false;
     for offset in 0..PAGE_BYTES {
         let before = text[offset];
         for value in [0x00, 0xa5, 0xff] {
             text[offset] = value;
-            match Page::from_bytes(alloc, ID, &text)? {
-                None => has_refused = true,
-                Some(read) => assert!(&rt; is_read_back(alloc, &read)?, "at {offset}"),
+            if check_bytes(&rt, &text, offset)? {
+                has_refused = true;
             }
         }
         text[offset] = before;

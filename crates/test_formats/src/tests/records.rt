@@ -68,17 +68,26 @@ fn has_text(alloc: Global, record: &LogRecord, text: &[u8]) -> Result<bool, Allo
     Ok(is_written && is_read(alloc, bytes.as_slice(), record, text.len())?)
 }
 
+// Whether the record of transaction 1 with this number before has this text.
+fn is_text(
+    alloc: Global,
+    inserted: Option<u8>,
+    previous: u64,
+    text: &[u8],
+) -> Result<bool, AllocError> {
+    let record = record(alloc, inserted, previous)?;
+    has_text(alloc, &record, text)
+}
+
 #[test]
 fn a_change_has_its_bytes(rt: HostRuntime) -> Result<(), AllocError> {
-    let change = record(rt.alloc(), Some(0xaa), 0)?;
-    assert!(rt; has_text(rt.alloc(), &change, &CHANGE)?);
+    assert!(rt; is_text(rt.alloc(), Some(0xaa), 0, &CHANGE)?);
     Ok(())
 }
 
 #[test]
 fn a_commit_has_its_bytes(rt: HostRuntime) -> Result<(), AllocError> {
-    let commit = record(rt.alloc(), None, 1)?;
-    assert!(rt; has_text(rt.alloc(), &commit, &COMMIT)?);
+    assert!(rt; is_text(rt.alloc(), None, 1, &COMMIT)?);
     Ok(())
 }
 
@@ -108,9 +117,13 @@ fn other_change(alloc: Global) -> Result<LogRecord, AllocError>
     })
 }
 
+fn is_other_text(alloc: Global, text: &[u8]) -> Result<bool, AllocError> {
+    let change = other_change(alloc)?;
+    has_text(alloc, &change, text)
+}
+
 #[test]
 fn a_change_of_another_page_has_its_bytes(rt: HostRuntime) -> Result<(), AllocError> {
-    let change = other_change(rt.alloc())?;
-    assert!(rt; has_text(rt.alloc(), &change, &OTHER_CHANGE)?);
+    assert!(rt; is_other_text(rt.alloc(), &OTHER_CHANGE)?);
     Ok(())
 }
