@@ -6,3 +6,4 @@ mod labels;
 mod page_runs;
 mod pages;
 mod records;
+mod settings;
