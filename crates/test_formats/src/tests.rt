@@ -1,9 +1,7 @@
 mod anchors;
-mod devices;
 mod files;
 mod gates;
 mod labels;
 mod page_runs;
 mod pages;
 mod records;
-mod settings;
