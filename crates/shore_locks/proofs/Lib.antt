@@ -1,7 +1,7 @@
 mod AlikeNodes
 pub mod AtOnce
 pub mod Answered
-mod Buckets
+pub mod Buckets
 pub mod Counts
 mod Crowds
 pub mod Entering

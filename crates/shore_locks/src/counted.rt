@@ -1,5 +1,5 @@
 //! Nodes, and for each head how many hold in each mode and how many wait: most often nobody is in the way, and that is seen at once.
-ghost use Rattle.std.specs.Prelude.{◌≡◌, ◌<◌, ◌++◌, ◌∷◌, [], IfOk, IsTrue, IsFalse, MatchBool, MatchOption, None, Some, false, length, nat_lt, not, slice_get, true};
+ghost use Rattle.std.specs.Prelude.{◌≡◌, ◌<◌, ◌≤◌, ◌+◌, ◌++◌, ◌∷◌, [], IfOk, IsTrue, IsFalse, MatchBool, MatchOption, None, Some, false, length, nat_lt, not, slice_get, true};
 ghost use Rattle.std.specs.List.{list_any};
 ghost use Rattle.shore_model.specs.Requests.{AreRequests, are_alike, placed_last, requests_by};
 ghost use Rattle.shore_locks.specs.Grants.{granted_in_turn, obstacle, removed, replaced};
@@ -161,6 +161,14 @@ impl Counted {
         ensures { result ≡ not (nat_lt (length self.now.requests) self.now.limit) }
     {
         self.nodes.is_full()
+    }
+
+    /// How many more there may be.
+    pub fn left(&self) -> usize
+        requires { length self.now.requests ≤ self.now.limit }
+        ensures { result + length self.now.requests ≡ self.now.limit }
+    {
+        self.nodes.left()
     }
 
     /// How many requests there are.

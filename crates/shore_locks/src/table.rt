@@ -1,8 +1,8 @@
 //! The lock table.
-ghost use Rattle.std.specs.Prelude.{◌≡◌, ◌≤◌, [], length, IfOk, false};
+ghost use Rattle.std.specs.Prelude.{◌≡◌, ◌≤◌, ◌+◌, [], length, IfOk, false};
 ghost use Rattle.shore_model.specs.Requests.{requests_by};
 ghost use Rattle.shore_locks.specs.Grants.{after_request, after_try, answer_to, answer_to_try, cancelled, released};
-ghost use Rattle.shore_locks.specs.Tables.{holders_at, is_waiting, mode_held, waiters_at, waiting_request};
+ghost use Rattle.shore_locks.specs.Tables.{holders_at, is_waiting, mode_held, request_for, waiters_at, waiting_request};
 ghost use Rattle.shore_locks.specs.Orderly.{IsOrderly};
 
 use crate::answers::{Requested, Tried};
@@ -51,6 +51,20 @@ impl LockTable {
         ensures orderly { IsOrderly self.now.requests }
     {
         self.nodes.len()
+    }
+
+    /// How many nodes are left.
+    pub fn nodes_left(&self) -> usize
+        ensures { result + length self.now.requests ≡ self.now.limit }
+    {
+        self.nodes.left()
+    }
+
+    /// The request of a transaction for a granule.
+    pub fn request_for(&self, txn: TxnId, granule: Granule) -> Option<Request>
+        ensures { result ≡ request_for txn granule self.now.requests }
+    {
+        searches::request_for(self.nodes.nodes(), txn, &granule)
     }
 
     /// The mode in which a transaction holds a granule.

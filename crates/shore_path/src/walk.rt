@@ -131,7 +131,7 @@ fn is_done(acquired: &Result<Acquired, Fault>) -> bool
 }
 
 // The mode that is asked of a granule on the way to the target.
-fn asked_of(target: &Granule, mode: Mode, granule: &Granule) -> Mode
+pub(crate) fn asked_of(target: &Granule, mode: Mode, granule: &Granule) -> Mode
     ensures { result ≡ walks.asked_of target.now mode granule.now }
 {
     if *granule == *target {
@@ -149,7 +149,7 @@ fn is_spared(table: &LockTable, txn: TxnId, target: &Granule, mode: Mode, granul
 }
 
 // Whether what is held of an ancestor, if anything, covers a mode below it.
-fn is_covered(mode: Mode, held: Option<Mode>) -> bool
+pub(crate) fn is_covered(mode: Mode, held: Option<Mode>) -> bool
     ensures { result ≡ walks.is_covered mode held }
 {
     match held {
