@@ -20,5 +20,6 @@ pub mod Outcomes
 pub mod Passes
 pub mod Tables
 mod Tallying
+mod Inventories
 mod Links
 pub mod Waiting

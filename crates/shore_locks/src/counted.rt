@@ -1,6 +1,7 @@
 //! Nodes, and for each head how many hold in each mode and how many wait: most often nobody is in the way, and that is seen at once.
 ghost use Rattle.std.specs.Prelude.{◌≡◌, ◌<◌, ◌≤◌, ◌+◌, ◌++◌, ◌∷◌, [], IfOk, IsTrue, IsFalse, MatchBool, MatchOption, None, Some, false, length, nat_lt, not, slice_get, true};
 ghost use Rattle.std.specs.List.{list_any};
+ghost use Rattle.std.specs.List.Sorted.{IsPermutation};
 ghost use Rattle.shore_model.specs.Requests.{AreRequests, are_alike, placed_last, requests_by};
 ghost use Rattle.shore_locks.specs.Grants.{granted_in_turn, obstacle, removed, replaced};
 ghost use Rattle.shore_locks.specs.Granting.{new_waiters};
@@ -8,6 +9,7 @@ ghost use Rattle.shore_locks.specs.Tables.{waiters_at};
 ghost use Rattle.shore_locks.specs.Tallies.{Counts, crowd};
 
 use crate::heads::queue_head;
+use crate::listings::append_walk;
 use crate::nodes::Nodes;
 use crate::searches::request_for;
 use crate::tallies::{Tally, tally_of};
@@ -51,6 +53,17 @@ impl Counted {
         ensures limit { result.now.limit ≡ self.now.limit }
     {
         &self.nodes
+    }
+
+    /// All requests, head by head.
+    pub fn all(&self, alloc: Global) -> Result<Vec<Request>, AllocError>
+        ensures { IfOk result (λ all. IsPermutation self.now.requests all.items) }
+    {
+        let mut requests = Vec::with_capacity(alloc, self.nodes.len())?;
+        for head in 0..self.nodes.heads() {
+            append_walk(&mut requests, self.nodes.crowd(head))?;
+        }
+        Ok(requests)
     }
 
     /// Whether somebody may wait for a granule: nobody does if not.
