@@ -92,10 +92,9 @@ impl Counted {
         ensures limit { self.new.limit ≡ self.old.limit }
     {
         let head = queue_head(&request.granule, self.nodes.heads());
-        let tally = self.tallies[head].with(request);
         self.nodes.push(request);
         self.nodes.len();
-        self.tallies[head] = tally;
+        self.tallies[head].add(request);
     }
 
     /// Puts a request in the place of the one of its transaction for its granule.
@@ -106,10 +105,11 @@ impl Counted {
     {
         if let Some(old) = request_for(&self.nodes, request.txn, &request.granule) {
             let head = queue_head(&request.granule, self.nodes.heads());
-            let gone = self.tallies[head].without(&old);
             self.nodes.len();
             self.nodes.replace(request);
-            self.tallies[head] = gone.with(request);
+            let tally = &mut self.tallies[head];
+            tally.take_out(&old);
+            tally.add(request);
         }
     }
 
@@ -125,8 +125,7 @@ impl Counted {
         match self.nodes.pop_first(txn) {
             Some(request) => {
                 let head = queue_head(&request.granule, heads);
-                let tally = self.tallies[head].without(&request);
-                self.tallies[head] = tally;
+                self.tallies[head].take_out(&request);
                 Some(request)
             }
             None => None,
