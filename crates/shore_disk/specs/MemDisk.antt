@@ -1,12 +1,12 @@
 -- What a device in memory shows of itself.
-use Rattle.std.specs.Prelude.{[], ℕ}
+use Rattle.std.specs.Prelude.{ℕ}
 use Rattle.shore_disk.specs.Device.{History}
-use Rattle.shore_disk.specs.Memory.{calls_onto}
+use Rattle.shore_disk.specs.Memory.{history_in}
 use Rattle.shore_disk.specs.declared.memory.MemDisk.{MemDisk}
 
 -- what it held at first, and its calls since
 abbrev pub history_of : MemDisk → History
-history_of d = record { first = d.first.items; calls = calls_onto [] d.calls.items }
+history_of d = history_in d.past.items
 
 -- how many of its calls have failed, up to 2^64 - 1
 abbrev pub failures_of : MemDisk → ℕ

@@ -8,7 +8,7 @@ use std::io;
 use std::os::unix::fs::FileExt;
 
 /// A file with the length that it had as it was handed in. It makes each call of a device, and promises nothing of
-/// the bytes, since no contract can say what a file keeps.
+/// the bytes, since no contract can say what a file keeps. A sync asks for the bytes alone (`fdatasync`), for the length stays.
 #[derive(Drop)]
 pub struct FileDisk {
     file: File,
@@ -70,7 +70,7 @@ impl Disk for FileDisk {
     }
 
     fn sync(&mut self) -> Result<(), DiskFault> {
-        count(self.file.sync_all(), &mut self.failures)
+        count(self.file.sync_data(), &mut self.failures)
     }
 
     ghost keeps_length = { λ _ _. refl };

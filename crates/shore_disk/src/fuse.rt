@@ -28,6 +28,13 @@ impl<D: Disk> FuseDisk<D> {
         }
     }
 
+    /// How many more writes and syncs pass.
+    pub fn calls_left(&self) -> u64
+        ensures { result ≡ fuse_calls self.now }
+    {
+        self.calls_left
+    }
+
     /// Lets so many more writes and syncs pass, whatever was left before.
     pub fn set_calls(&mut self, calls: u64)
         ensures inner { fuse_inner self.new ≡ fuse_inner self.old }

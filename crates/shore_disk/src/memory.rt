@@ -1,17 +1,18 @@
-//! A device in memory. It keeps a list of its calls, so that a crash may leave all that the model allows.
-ghost use Rattle.std.specs.Prelude.{◌≡◌, ◌+◌, ◌≤◌, [], ◌∷◌, All, true, ℕ, length, replicate, IfOk, OnOk, OnErr};
-ghost use Rattle.shore_disk.specs.Device.{wrote, synced, overwritten, seen_after, may_leave, size};
-ghost use Rattle.shore_disk.specs.Memory.{call_of, calls_onto, picked_once, picked_after, end_of};
+//! A device in memory. It keeps the bytes at the last sync beside those now, so that a crash may leave all that the model allows.
+ghost use Rattle.std.specs.Prelude.{◌≡◌, ◌+◌, ◌<◌, ◌≤◌, [], ◌∷◌, All, true, length, replicate, IfOk};
+ghost use Rattle.shore_disk.specs.Device.{overwritten, seen, seen_after, may_leave, size};
+ghost use Rattle.shore_disk.specs.declared.memory.Pick.TheVariants.{Old, Noise};
+ghost use Rattle.shore_disk.specs.Memory.{copied, end_of, history_in, laid, picked_after, picked_from, with_noise};
 
 use crate::{Disk, DiskFault};
+use http_server::Log;
 use std::alloc::{AllocError, Global};
 
-/// A call that changed what a read or a crash leaves.
-#[derive(Drop)]
-pub enum DiskCall {
-    /// Bytes at an offset.
-    Write(u64, Vec<u8>),
-    Sync,
+// Where bytes were written.
+#[derive(Clone, Copy)]
+struct Place {
+    at: usize,
+    len: usize,
 }
 
 /// What a crash makes of the writes since the last sync.
@@ -28,16 +29,24 @@ pub enum Pick {
 /// A device in memory. An allocation that fails inside it is a failure of the device.
 #[derive(Drop)]
 pub struct MemDisk {
-    first: Vec<u8>,
+    /// The bytes at the last sync.
+    stable: Vec<u8>,
+    /// The bytes as a read gives them.
     bytes: Vec<u8>,
-    calls: Vec<DiskCall>,
-    /// Room for the image that a crash leaves.
-    image: Vec<u8>,
+    /// Where they were written since that sync, the oldest first.
+    unsynced: Vec<Place>,
     failures: u64,
-    ghost seen: { bytes.items ≡ seen_after first.items (calls_onto [] calls.items) },
-    ghost as_long: { length bytes.items ≡ length first.items },
-    ghost room: { length image.items ≡ length first.items },
-    ghost within: { All (λ call. end_of call ≤ length first.items) calls.items },
+    // The bytes at first, and then each call with the bytes that it left. It takes no memory: only clauses read it.
+    past: Log<Option<Place>, Vec<u8>>,
+    ghost begun: { 0 < length past.items },
+    ghost seen: { bytes.items ≡ seen (history_in past.items) },
+    ghost lost: { stable.items ≡ picked_after Old (history_in past.items).first (history_in past.items).calls },
+    ghost noise: { with_noise stable.items unsynced.items ≡ picked_after Noise (history_in past.items).first (history_in past.items).calls },
+    // Stable bytes and those of now differ in the places alone.
+    ghost differ: { laid bytes.items stable.items unsynced.items ≡ bytes.items },
+    ghost as_long: { length bytes.items ≡ size (history_in past.items) },
+    ghost room: { length stable.items ≡ length bytes.items },
+    ghost within: { All (λ p. end_of p ≤ length bytes.items) unsynced.items },
 }
 
 impl MemDisk {
@@ -48,14 +57,14 @@ impl MemDisk {
         ensures history { IfOk result (λ d. history_of d ≡ record { first = bytes.items; calls = [] }) }
         ensures failures { IfOk result (λ d. failures_of d ≡ 0) }
     {
-        let first = bytes.to_vec(alloc)?;
-        let image = bytes.to_vec(alloc)?;
+        let stable = bytes.to_vec(alloc)?;
+        let past = Log::new().and(&None, &bytes);
         Ok(MemDisk {
-            first,
+            stable,
             bytes,
-            calls: Vec::new(alloc),
-            image,
+            unsynced: Vec::new(alloc),
             failures: 0,
+            past,
         })
     }
 
@@ -66,13 +75,6 @@ impl MemDisk {
         &self.bytes
     }
 
-    /// The calls that changed it, the oldest first.
-    pub fn calls(&self) -> &[DiskCall]
-        ensures { calls_onto [] result.now ≡ (history_of self.now).calls }
-    {
-        &self.calls
-    }
-
     /// A loss of power. The image that it leaves is then stable, and the calls begin anew.
     pub fn crash(&mut self, pick: Pick)
         ensures picked { history_of self.new ≡ record { first = picked_after pick (history_of self.old).first (history_of self.old).calls; calls = [] } }
@@ -80,16 +82,10 @@ impl MemDisk {
         ensures size { size (history_of self.new) ≡ size (history_of self.old) }
         ensures failures { failures_of self.new ≡ failures_of self.old }
     {
-        pick_image(
-            &self.first,
-            &self.calls,
-            pick,
-            &mut self.bytes,
-            &mut self.image,
-        );
-        self.calls.clear();
-        copy(&mut self.first, &self.image);
-        copy(&mut self.bytes, &self.image);
+        pick_image(&mut self.stable, &self.bytes, &self.unsynced, pick);
+        self.bytes.copy_from_slice(&self.stable);
+        self.unsynced.clear();
+        self.past = Log::new().and(&None, &self.bytes);
     }
 }
 
@@ -104,7 +100,7 @@ impl Disk for MemDisk {
     ghost faults = { failures_of };
 
     fn len(&self) -> u64 {
-        self.first.len() as u64
+        self.bytes.len() as u64
     }
 
     fn failures(&self) -> u64 {
@@ -118,121 +114,86 @@ impl Disk for MemDisk {
     }
 
     fn write_at(&mut self, at: u64, bytes: &[u8]) -> Result<(), DiskFault> {
-        if note_write(&mut self.calls, at, bytes).is_err() {
+        let at = at as usize;
+        let place = Place {
+            at,
+            len: bytes.len(),
+        };
+        if self.unsynced.push(place).is_err() {
             self.failures = self.failures.saturating_add(1);
             return Err(DiskFault);
         }
-        overwrite_bytes(&mut self.bytes, at as usize, bytes);
+        overwrite(&mut self.bytes, at, bytes);
+        self.past = self.past.and(&Some(place), &self.bytes);
         Ok(())
     }
 
     fn sync(&mut self) -> Result<(), DiskFault> {
-        if note_sync(&mut self.calls).is_err() {
-            self.failures = self.failures.saturating_add(1);
-            return Err(DiskFault);
-        }
+        pick_image(&mut self.stable, &self.bytes, &self.unsynced, Pick::New);
+        self.unsynced.clear();
+        self.past = self.past.and(&None, &self.bytes);
         Ok(())
     }
 
     ghost keeps_length = { λ d _. ap length (sym d.seen) ∙ d.as_long };
 }
 
-#[tactic(auto, using(crate::proofs::MemoryLemmas::notes))]
-fn note_write(calls: &mut Vec<DiskCall>, at: u64, bytes: &[u8]) -> Result<(), AllocError>
-    ensures ok { OnOk result (calls_onto [] calls.new.items ≡ wrote at bytes.now ∷ calls_onto [] calls.old.items) }
-    ensures within { (n : ℕ) → at + length bytes.now ≤ n → All (λ call. end_of call ≤ n) calls.old.items → All (λ call. end_of call ≤ n) calls.new.items }
-    ensures err { OnErr result (calls.new.items ≡ calls.old.items) }
-{
-    let copy = bytes.to_vec(*calls.allocator())?;
-    calls.push(DiskCall::Write(at, copy))?;
-    Ok(())
-}
-
-#[tactic(auto, using(crate::proofs::MemoryLemmas::notes))]
-fn note_sync(calls: &mut Vec<DiskCall>) -> Result<(), AllocError>
-    ensures ok { OnOk result (calls_onto [] calls.new.items ≡ synced ∷ calls_onto [] calls.old.items) }
-    ensures within { (n : ℕ) → All (λ call. end_of call ≤ n) calls.old.items → All (λ call. end_of call ≤ n) calls.new.items }
-    ensures err { OnErr result (calls.new.items ≡ calls.old.items) }
-{
-    calls.push(DiskCall::Sync)?;
-    Ok(())
-}
-
-fn overwrite_bytes(image: &mut Vec<u8>, at: usize, bytes: &[u8])
+fn overwrite(image: &mut Vec<u8>, at: usize, bytes: &[u8])
     requires { at + length bytes.now ≤ length image.old.items }
     ensures { image.new.items ≡ overwritten image.old.items at bytes.now }
-{
-    overwrite(image, at, bytes);
-}
-
-fn overwrite(image: &mut [u8], at: usize, bytes: &[u8])
-    requires { at + length bytes.now ≤ length image.old }
-    ensures { image.new ≡ overwritten image.old at bytes.now }
 {
     image[at..at + bytes.len()].copy_from_slice(bytes);
 }
 
-fn overwrite_with_noise(image: &mut [u8], at: usize, n: usize)
-    requires { at + n ≤ length image.old }
-    ensures { image.new ≡ overwritten image.old at (replicate n 90) }
+// Copies the bytes of some places.
+fn lay(from: &[u8], image: &mut [u8], places: &[Place])
+    requires room { length image.old ≡ length from.now }
+    requires within { All (λ p. end_of p ≤ length from.now) places.now }
+    ensures { image.new ≡ laid from.now image.old places.now }
 {
-    image[at..at + n].fill(0x5A);
-}
-
-fn copy(to: &mut Vec<u8>, from: &Vec<u8>)
-    requires { length to.old.items ≡ length from.now.items }
-    ensures { to.new.items ≡ from.now.items }
-{
-    to.copy_from_slice(from);
-}
-
-fn pick_image(
-    first: &Vec<u8>,
-    calls: &Vec<DiskCall>,
-    pick: Pick,
-    seen: &mut Vec<u8>,
-    image: &mut Vec<u8>,
-)
-    requires seen_room { length seen.old.items ≡ length first.now.items }
-    requires image_room { length image.old.items ≡ length first.now.items }
-    requires within { All (λ call. end_of call ≤ length first.now.items) calls.now.items }
-    ensures picked { image.new.items ≡ picked_after pick first.now.items (calls_onto [] calls.now.items) }
-    ensures seen_room { length seen.new.items ≡ length first.now.items }
-    ensures image_room { length image.new.items ≡ length first.now.items }
-{
-    replay(first, calls, pick, seen, image);
-}
-
-// Makes the calls once more, on the bytes as read and on the image that a crash picks.
-fn replay(first: &[u8], calls: &[DiskCall], pick: Pick, seen: &mut [u8], image: &mut [u8])
-    requires seen_room { length seen.old ≡ length first.now }
-    requires image_room { length image.old ≡ length first.now }
-    requires within { All (λ call. end_of call ≤ length first.now) calls.now }
-    ensures { image.new ≡ picked_after pick first.now (calls_onto [] calls.now) }
-{
-    seen.copy_from_slice(first);
-    image.copy_from_slice(first);
-    for call in calls {
-        make(call, pick, seen, image);
+    for place in places {
+        copy_place(from, image, place);
     }
 }
 
-fn make(call: &DiskCall, pick: Pick, seen: &mut [u8], image: &mut [u8])
-    requires rooms { length seen.old ≡ length image.old }
-    requires within { end_of call.now ≤ length image.old }
-    ensures seen { seen.new ≡ seen_after seen.old (call_of call.now ∷ []) }
-    ensures image { image.new ≡ picked_once pick seen.old image.old (call_of call.now) }
+fn copy_place(from: &[u8], image: &mut [u8], place: &Place)
+    requires room { length image.old ≡ length from.now }
+    requires within { end_of place.now ≤ length from.now }
+    ensures laid { image.new ≡ copied from.now image.old place.now }
+    ensures room { length image.new ≡ length image.old }
 {
-    match call {
-        DiskCall::Write(at, bytes) => {
-            let at = *at as usize;
-            overwrite(seen, at, bytes);
-            match pick {
-                Pick::Old => {}
-                Pick::New => overwrite(image, at, bytes),
-                Pick::Noise => overwrite_with_noise(image, at, bytes.len()),
-            }
-        }
-        DiskCall::Sync => image.copy_from_slice(seen),
+    let end = place.at + place.len;
+    image[place.at..end].copy_from_slice(&from[place.at..end]);
+}
+
+// Fills some places with noise.
+fn spoil(image: &mut [u8], places: &[Place])
+    requires { All (λ p. end_of p ≤ length image.old) places.now }
+    ensures { image.new ≡ with_noise image.old places.now }
+{
+    for place in places {
+        spoil_place(image, place);
+    }
+}
+
+fn spoil_place(image: &mut [u8], place: &Place)
+    requires { end_of place.now ≤ length image.old }
+    ensures spoilt { image.new ≡ overwritten image.old place.now.at (replicate place.now.len 90) }
+    ensures room { length image.new ≡ length image.old }
+{
+    image[place.at..place.at + place.len].fill(0x5A);
+}
+
+// Makes the stable bytes the image that a crash picks. With all writes standing that is what a sync leaves.
+fn pick_image(stable: &mut Vec<u8>, bytes: &Vec<u8>, unsynced: &Vec<Place>, pick: Pick)
+    requires room { length stable.old.items ≡ length bytes.now.items }
+    requires within { All (λ p. end_of p ≤ length bytes.now.items) unsynced.now.items }
+    ensures picked { stable.new.items ≡ picked_from pick stable.old.items bytes.now.items unsynced.now.items }
+    ensures room { length stable.new.items ≡ length stable.old.items }
+{
+    match pick {
+        Pick::Old => {}
+        Pick::New => lay(bytes, stable, unsynced),
+        Pick::Noise => spoil(stable, unsynced),
     }
 }

@@ -9,5 +9,6 @@ pub mod InPlace
 pub mod AreaWrites
 pub mod Overlays
 pub mod Batches
+pub mod Growing
 pub mod BatchMoments
 pub mod ReplayMoments

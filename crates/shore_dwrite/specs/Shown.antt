@@ -12,10 +12,20 @@ abbrev pub RiseFrom : ℕ → List ℕ → Type 0
 RiseFrom low [] = Unit {0}
 RiseFrom low (k ∷ ks) = (low ≤ k) × RiseFrom (k + 1) ks
 
--- the bytes begin with a text of each of these pages, one behind another
+-- the bytes begin with a text for each of these pages, one behind another, of which something holds
+abbrev pub AreTexts : (ℕ → List ℕ → Type 0) → List ℕ → List ℕ → Type 0
+AreTexts P [] bytes = Unit {0}
+AreTexts P (k ∷ ks) bytes = P k (take PAGE_BYTES bytes) × AreTexts P ks (drop PAGE_BYTES bytes)
+
+-- .. a text of each of them
 abbrev pub AreImages : Geometry → List ℕ → List ℕ → Type 0
-AreImages g [] bytes = Unit {0}
-AreImages g (k ∷ ks) bytes = IsImageOf g k (take PAGE_BYTES bytes) × AreImages g ks (drop PAGE_BYTES bytes)
+AreImages g = AreTexts (IsImageOf g)
+
+-- pages of the volume, rising, and a text of each: what a batch is while it grows
+pub record IsBatchSoFar (g : Geometry) (numbers bytes : List ℕ) : Type 0 where
+  pub rise : RiseFrom 0 numbers
+  pub on_volume : All (λ k. k < page_count g) numbers
+  pub images : AreImages g numbers bytes
 
 -- what a batch may be: 1 to 32 pages of the volume, rising, and a text of each
 pub record IsBatch (g : Geometry) (numbers bytes : List ℕ) : Type 0 where

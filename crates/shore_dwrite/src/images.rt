@@ -1,6 +1,9 @@
 //! The pages of a batch, with their texts one behind another, as one write takes them.
-ghost use Rattle.std.specs.Prelude.{◌≡◌, ◌*◌, ◌+◌, ◌++◌, ◌∷◌, [], ℕ, length, IfOk, OnOk, OnErr};
+ghost use Rattle.std.specs.Prelude.{◌≡◌, ◌*◌, ◌+◌, ◌++◌, ◌∷◌, [], ◌<◌, ℕ, All, length, IfOk, OnOk, OnErr};
+ghost use Rattle.shore_types.specs.declared.layout.Geometry.{Geometry};
 ghost use Rattle.shore_types.specs.declared.layout.TheConstants.{PAGE_BYTES};
+ghost use Rattle.shore_dwrite.specs.Shown.{IsBatchSoFar};
+ghost use Rattle.shore_dwrite.specs.Volumes.{IsImageOf, page_count};
 
 use shore_types::layout::{MAX_BATCH_PAGES, PAGE_BYTES};
 use std::alloc::{AllocError, Global};
@@ -44,12 +47,16 @@ impl PageImages {
         self.bytes.clear();
     }
 
-    /// One page more, behind the others. After an error none was added.
+    /// One page more, behind the others. After an error none was added. The text goes into the room of the batch in one copy.
     pub fn push(&mut self, number: u32, text: &[u8]) -> Result<(), AllocError>
         requires { length text.now ≡ PAGE_BYTES }
         ensures numbers { OnOk result (numbers_of self.new ≡ numbers_of self.old ++ number ∷ []) }
         ensures texts { OnOk result (texts_of self.new ≡ texts_of self.old ++ text.now) }
         ensures refused { OnErr result ((numbers_of self.new ≡ numbers_of self.old) × (texts_of self.new ≡ texts_of self.old)) }
+
+        // A batch goes on with a page that rises above the others, if this is its text.
+        ensures goes_on { (g : Geometry) → IsBatchSoFar g (numbers_of self.old) (texts_of self.old) → All (λ k. k < number) (numbers_of self.old)
+            → number < page_count g → IsImageOf g number text.now → OnOk result (IsBatchSoFar g (numbers_of self.new) (texts_of self.new)) }
     {
         self.numbers.reserve(1)?;
         self.bytes.extend_from_slice(text)?;

@@ -160,6 +160,13 @@ impl Page {
         self.claimed -= claim - lowered;
     }
 
+    /// The page's text, lent: it is kept at all times, so nothing is copied.
+    pub fn text(&self) -> &[u8]
+        ensures { IsPageText result.now self.now.id self.now.number (images_of self.now.slots) }
+    {
+        self.text.text()
+    }
+
     /// Fills bytes with the page's text.
     pub fn to_bytes(&self, out: &mut [u8])
         requires { length out.old ≡ PAGE_BYTES }

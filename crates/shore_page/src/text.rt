@@ -129,6 +129,13 @@ impl PageBytes {
         clear_slot(&mut self.bytes, self.slots, slot);
     }
 
+    /// The text itself.
+    pub fn text(&self) -> &[u8]
+        ensures { IsPageText result.now self.now.id self.now.number self.now.images }
+    {
+        &self.bytes
+    }
+
     /// Fills bytes with the text.
     pub fn to_bytes(&self, out: &mut [u8])
         requires { length out.old ≡ PAGE_BYTES }

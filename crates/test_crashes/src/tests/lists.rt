@@ -21,12 +21,12 @@ pub(super) struct Counts {
 
 /// Every list of up to five events, with each fuse and each pick.
 pub(super) fn check_lists(alloc: Global, start: &Start) -> Result<Counts, Fail> {
-    let calls_before = live(alloc, start, &[], None)?.device.calls().len();
+    let calls_left = live(alloc, start, &[], None)?.calls_left;
     let mut counts = Counts { lists: 0, cases: 0 };
     for (length, lists) in LISTS_BY_LENGTH {
         for number in 0..lists {
             let list = list_of(alloc, length, number)?;
-            check_list(alloc, start, &list, calls_before, &mut counts)?;
+            check_list(alloc, start, &list, calls_left, &mut counts)?;
         }
     }
     Ok(counts)
@@ -43,19 +43,19 @@ fn list_of(alloc: Global, length: u32, number: u32) -> Result<Vec<Doing>, AllocE
     Ok(list)
 }
 
-// The list with no fuse, and with a fuse for each number of its device calls.
+// The list with no fuse, and with a fuse for each number of its device calls. Before it so many were left.
 fn check_list(
     alloc: Global,
     start: &Start,
     list: &[Doing],
-    calls_before: usize,
+    calls_left: u64,
     counts: &mut Counts,
 ) -> Result<(), Fail> {
     let whole = live(alloc, start, list, None)?;
-    let calls = whole.device.calls().len().saturating_sub(calls_before);
+    let calls = calls_left.saturating_sub(whole.calls_left);
     check_picks(alloc, start, list, None, counts)?;
     for fuse in 0..=calls {
-        check_picks(alloc, start, list, Some(fuse as u64), counts)?;
+        check_picks(alloc, start, list, Some(fuse), counts)?;
     }
     counts.lists = counts.lists.saturating_add(1);
     Ok(())

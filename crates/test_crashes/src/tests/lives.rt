@@ -52,6 +52,8 @@ pub(super) struct Life {
     /// The records of the log, forced or not.
     pub(super) list: Vec<LogRecord>,
     pub(super) durable: usize,
+    /// How many more writes and syncs the fuse would have let pass.
+    pub(super) calls_left: u64,
     pub(super) device: MemDisk,
 }
 
@@ -71,11 +73,14 @@ pub(super) fn live(
     }
     make(alloc, &mut world, &mut history, doings)?;
     let list = copy_of_log(alloc, &world)?;
+    let durable = world.durable().0 as usize;
+    let device = world.into_devices();
     Ok(Life {
         entries: history.into_entries(),
         list,
-        durable: world.durable().0 as usize,
-        device: world.into_devices().into_inner(),
+        durable,
+        calls_left: device.calls_left(),
+        device: device.into_inner(),
     })
 }
 

@@ -1,0 +1,72 @@
+//! Batches of pages, and the volume that they leave by a slow twin.
+ghost use Rattle.std.specs.Prelude.{◌≡◌, [], ◌∷◌, IfOk};
+ghost use Rattle.shore_dwrite.specs.Images.{numbers_of, texts_of};
+ghost use Rattle.shore_dwrite.specs.Settled.{geometry_of};
+ghost use Rattle.shore_dwrite.specs.Shown.{IsBatch};
+ghost use Rattle.shore_types.specs.declared.layout.Geometry.{Geometry};
+
+use super::trouble::Trouble;
+use super::volumes::{PAGES, page_with, place_of};
+use shore_disk::Disk;
+use shore_dwrite::{PageDev, PageImages};
+use shore_types::layout::{MAX_BATCH_PAGES, PAGE_BYTES};
+use std::alloc::{AllocError, Global};
+
+/// The same change of some pages: its number, and the record that it puts into slot 0.
+#[derive(Clone, Copy)]
+pub(super) struct Change<'a> {
+    pub(super) pages: &'a [u32],
+    pub(super) number: u64,
+    pub(super) bytes: &'a [u8],
+}
+
+/// The batch of a change, if its pages are one: they rise, and are on the volume.
+fn batch_of(alloc: Global, change: &Change<'_>) -> Result<PageImages, Trouble>
+    ensures { (g : Geometry) → g.stores ≡ 40 ∷ [] → IfOk result (λ images. IsBatch g (numbers_of images) (texts_of images)) }
+{
+    let mut images = PageImages::new(alloc)?;
+    let mut low = 0;
+    for page in change.pages {
+        if *page < low || *page >= PAGES {
+            return Err(Trouble::Wrong("no batch"));
+        }
+        let text = page_with(alloc, *page, change.number, change.bytes)?;
+        images.push(*page, text.text())?;
+        low = *page + 1;
+    }
+    let count = images.numbers().len();
+    if count == 0 || count > MAX_BATCH_PAGES {
+        return Err(Trouble::Wrong("no batch"));
+    }
+    Ok(images)
+}
+
+/// Makes a change on a volume. It answers whether the batch was written; if not, a call of the device failed.
+pub(super) fn write<D: Disk>(
+    alloc: Global,
+    dev: &mut PageDev<D>,
+    change: &Change<'_>,
+) -> Result<bool, Trouble>
+    requires { (geometry_of dev.old).stores ≡ 40 ∷ [] }
+    ensures { geometry_of dev.new ≡ geometry_of dev.old }
+{
+    let images = batch_of(alloc, change)?;
+    Ok(dev.write_batch(&images).is_ok())
+}
+
+/// The bytes of a volume with a change made on its pages.
+pub(super) fn with_change(
+    alloc: Global,
+    image: &[u8],
+    change: &Change<'_>,
+) -> Result<Vec<u8>, AllocError> {
+    let mut image = image.to_vec(alloc)?;
+    for page in change.pages {
+        let text = page_with(alloc, *page, change.number, change.bytes)?;
+        let at = place_of(*page);
+        if at + PAGE_BYTES <= image.len() {
+            image[at..at + PAGE_BYTES].copy_from_slice(text.text());
+        }
+    }
+    Ok(image)
+}
