@@ -99,7 +99,7 @@ impl Counted {
         ensures limit { self.new.limit ≡ self.old.limit }
     {
         let head = queue_head(&request.granule, self.nodes.heads());
-        self.nodes.push(request);
+        self.nodes.push(request, head);
         self.nodes.len();
         self.tallies[head].add(request);
     }
