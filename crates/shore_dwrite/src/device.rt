@@ -108,6 +108,7 @@ impl<D: Disk> PageDev<D> {
             ⊎ ((fault ≡ Fault.Damaged Device.Volume (page_offset (page_number (geometry_of self.old) id)))
             × HasNoPage (pages (page_number (geometry_of self.old) id)) id last)) }
         ensures settled { (front : List ℕ) (pages : ℕ → List ℕ) → IsSettled self.old front pages → IsSettled self.new front pages }
+        ensures same { IsTrue (D.is_honest self.old.device) → D.history self.new.device ≡ D.history self.old.device }
         ensures geometry { geometry_of self.new ≡ geometry_of self.old }
         ensures cause { HasCause result (D.faults self.old.device) (D.faults self.new.device) }
     {
