@@ -86,6 +86,13 @@ impl<D: Disk> PageDev<D> {
         self.device
     }
 
+    /// How many pages the volume has.
+    pub fn pages(&self) -> u32
+        ensures { result ≡ page_count (geometry_of self.now) }
+    {
+        page_count(&self.geometry)
+    }
+
     /// The number of a page on the volume. Numbers rise with the store, and in it with the page.
     pub fn number(&self, id: PageId) -> u32
         requires { HasPage (geometry_of self.now) id }

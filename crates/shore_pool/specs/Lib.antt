@@ -1,0 +1,5 @@
+pub mod Clocks
+pub mod Changes
+pub mod Frames
+pub mod FrameMaps
+pub mod Pages
