@@ -109,6 +109,7 @@ impl<D: Disk> PageDev<D> {
         ensures found { (front : List ℕ) (pages : ℕ → List ℕ) → IsSettled self.old front pages → IfOk result (λ page.
             IsPageText (pages (page_number (geometry_of self.old) id)) id page.number (images_of page.slots)
             × (page ≡ settled_page id page.number (images_of page.slots))) }
+        ensures page { IfOk result (λ page. page ≡ settled_page id page.number (images_of page.slots)) }
         ensures behind { IfOk result (λ page. page.number ≤ last) }
         ensures refused { (front : List ℕ) (pages : ℕ → List ℕ) → IsSettled self.old front pages → IfErr result (λ fault.
             IsFromOutside fault

@@ -1,5 +1,5 @@
 -- Frames whose pages were written, one after another.
-use Rattle.std.proofs.Common.{◌≡◌, ◌≢◌, ℕ, zero, suc, Bool, List, [], ◌∷◌, ◌++◌, Contains, Option, Some, None, option_map, if◌then◌else◌, refl, sym, ap, ◌∙◌, inl, inr, arith}
+use Rattle.std.proofs.Common.{◌≡◌, ◌≢◌, ◌⊎◌, ℕ, zero, suc, Bool, List, [], ◌∷◌, ◌++◌, Contains, Option, Some, None, option_map, if◌then◌else◌, refl, sym, ap, ◌∙◌, inl, inr, arith}
 use Rattle.std.proofs.lemmas.Bool.{cases_eq, eq-eqb, ne_eqb}
 use Rattle.shore_pool.specs.declared.frame.Frame.{Frame}
 use Rattle.shore_pool.specs.Changes.{settled, settled_at}
@@ -59,4 +59,14 @@ module _ (at : ℕ → Option Frame) where
   not_settled (n ∷ ns) k none = elim (cases_eq n k) [
     | inl same ↦ absurd (none (0, omega arith, same))
     | inr other ↦ behind n k ns other ∙ not_settled ns k (λ has. none (suc has.0, omega (arith, has.1), has.2))
+  ]
+
+  pub settled_either : (ns : List ℕ) (k : ℕ) → (settled_at ns at k ≡ at k) ⊎ (settled_at ns at k ≡ option_map settled (at k))
+  settled_either [] k = inl refl
+  settled_either (n ∷ ns) k = elim (cases_eq n k) [
+    | inl same ↦ inr (here n k ns same)
+    | inr other ↦ elim (settled_either ns k) [
+      | inl is ↦ inl (behind n k ns other ∙ is)
+      | inr is ↦ inr (behind n k ns other ∙ is)
+    ]
   ]

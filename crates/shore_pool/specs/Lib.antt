@@ -3,3 +3,4 @@ pub mod Changes
 pub mod Frames
 pub mod FrameMaps
 pub mod Pages
+pub mod Pools

@@ -5,5 +5,7 @@ mod clock;
 mod frame;
 mod frames;
 mod gathering;
+mod pool;
 
 pub use frame::Frame;
+pub use pool::{Fetched, Pool};
