@@ -3,7 +3,7 @@
 #![tactic(auto)]
 
 use shore_deadlock::{break_cycles, find_cycle};
-use shore_locks::LockTable;
+use shore_locks::{LockTable, Requested};
 use shore_types::{Fault, Granule, Mode, PageId, Rid, StoreId, TxnId};
 use std::alloc::Global;
 use std::time::Instant;
@@ -45,24 +45,29 @@ fn record(slot: u16) -> Granule {
     Granule::Record(Rid { page, slot })
 }
 
-fn ask(table: &mut LockTable, txn: u64, slot: u16, mode: Mode) -> Result<(), Fault> {
-    if !table.is_waiting(TxnId(txn)) {
-        let _answer = table.request(TxnId(txn), record(slot), mode);
+/// Whether a transaction could ask, and there was a node for it.
+fn ask(table: &mut LockTable, txn: u64, slot: u16, mode: Mode) -> bool {
+    if table.is_waiting(TxnId(txn)) {
+        return false;
     }
-    Ok(())
+    match table.request(TxnId(txn), record(slot), mode) {
+        Requested::Granted | Requested::Waiting => true,
+        Requested::Full => false,
+    }
 }
 
-fn fill(table: &mut LockTable, work: Work) -> Result<(), Fault> {
+/// Whether all could ask: without that there is nothing to measure.
+fn fill(table: &mut LockTable, work: Work) -> bool {
     let holder = match work {
         Work::Victims => ASKER,
         Work::Queue | Work::Waiters => LAST + 1,
     };
-    ask(table, holder, 0, Mode::EX)?;
+    let mut all = ask(table, holder, 0, Mode::EX);
     for txn in ASKER + 1..LAST + 1 {
-        ask(table, txn, 1, Mode::SH)?;
-        ask(table, txn, 0, Mode::SH)?;
+        all &= ask(table, txn, 1, Mode::SH);
+        all &= ask(table, txn, 0, Mode::SH);
     }
-    ask(table, ASKER, 1, Mode::EX)
+    ask(table, ASKER, 1, Mode::EX) && all
 }
 
 /// What the call answers: how many victims, or how long the cycle is.
@@ -88,29 +93,34 @@ struct Total {
     nanos: u128,
 }
 
-/// One round, of which the call alone is timed.
-fn round(rt: &HostRuntime, work: Work, total: &mut Total) -> io::Result<()> {
+/// One round, of which the call alone is timed. The answer is whether it could be made.
+fn round(rt: &HostRuntime, work: Work, total: &mut Total) -> io::Result<bool> {
     let alloc = rt.alloc();
     let mut table = LockTable::new(alloc, NODES)?;
-    if fill(&mut table, work).is_err() {
-        return Ok(());
+    if !fill(&mut table, work) {
+        return Ok(false);
     }
     let start = Instant::now(rt)?;
-    let answer = call(alloc, &mut table, work).unwrap_or(0);
-    total.answers = total.answers.wrapping_add(answer);
+    let Ok(answer) = call(alloc, &mut table, work) else {
+        return Ok(false);
+    };
     total.nanos = total.nanos.wrapping_add(start.elapsed(rt)?.as_nanos());
-    Ok(())
+    total.answers = total.answers.wrapping_add(answer);
+    Ok(true)
 }
 
-fn measure(rt: &HostRuntime, work: Work, rounds: u64) -> io::Result<Total> {
+/// So many rounds, unless one could not be made.
+fn measure(rt: &HostRuntime, work: Work, rounds: u64) -> io::Result<Option<Total>> {
     let mut total = Total {
         answers: 0,
         nanos: 0,
     };
     for _ in 0..rounds {
-        round(rt, work, &mut total)?;
+        if !round(rt, work, &mut total)? {
+            return Ok(None);
+        }
     }
-    Ok(total)
+    Ok(Some(total))
 }
 
 /// Does what the words ask for.
@@ -121,7 +131,9 @@ fn perform(rt: &HostRuntime, words: &[String]) -> io::Result<()> {
     let (Some(work), Ok(rounds)) = (Work::of(name.as_str()), rounds.as_str().parse::<u64>()) else {
         return println!(rt; "bench_cycles victims|queue|waiters ROUNDS");
     };
-    let total = measure(rt, work, rounds)?;
+    let Some(total) = measure(rt, work, rounds)? else {
+        return println!(rt; "{name}: no figure, since a round could not be made");
+    };
     let each = total.nanos / u128::from(rounds.max(1));
     let answers = total.answers;
     println!(rt; "{name} {each} ns ({answers})")

@@ -14,7 +14,20 @@ use std::{env, io};
 
 const LOCKS: u16 = 1000;
 
+/// The pages of `Work::Slots`, and the limit of its table.
+const SLOT_PAGES: u32 = 2000;
+
+const SLOT_NODES: usize = 2053;
+
+/// The ids of `Work::Remainders` and `Work::Bucket`.
+const CHOSEN: u32 = 4000;
+
+const NODES: usize = 4096;
+
 const WAITERS: u64 = 64;
+
+/// The last transaction of `Work::Conversions`.
+const LAST: u64 = 255;
 
 const FIRST: TxnId = TxnId(1);
 
@@ -25,8 +38,17 @@ enum Work {
     Locks,
     /// The same, each in a page of its own.
     Pages,
+    /// One transaction takes slot 0 of two thousand pages, in a table that has room for little more, and releases them.
+    Slots,
+    /// One transaction takes four thousand records whose numbers have one remainder by the table's limit, and releases them.
+    Remainders,
+    /// The same with records that were chosen so that all have one head: the worst for a hash that is known.
+    Bucket,
     /// 64 transactions wait for a record that another holds; it releases, and so do they.
     Waiters,
+    /// 254 transactions hold IS and wait for IX, for one that holds SH; it releases, and all are granted, one by one: the worst release of
+    /// a queue.
+    Conversions,
     /// One transaction takes a record with the intentions above it, and releases them.
     Record,
     /// It asks for all that again, and has it already.
@@ -38,7 +60,11 @@ fn work_of(name: &str) -> Option<(Work, u64)> {
     match name {
         "locks" => Some((Work::Locks, 0)),
         "pages" => Some((Work::Pages, 0)),
+        "slots" => Some((Work::Slots, 0)),
+        "remainders" => Some((Work::Remainders, 0)),
+        "bucket" => Some((Work::Bucket, 0)),
         "waiters" => Some((Work::Waiters, 0)),
+        "conversions" => Some((Work::Conversions, 0)),
         "record" => Some((Work::Record, 0)),
         "record_16" => Some((Work::Record, 16)),
         "record_64" => Some((Work::Record, 64)),
@@ -51,12 +77,44 @@ fn work_of(name: &str) -> Option<(Work, u64)> {
     }
 }
 
-fn record(slot: u16) -> Granule {
+impl Work {
+    /// How many nodes the table of a work is made for.
+    fn limit(self) -> usize {
+        match self {
+            Work::Slots => SLOT_NODES,
+            _ => NODES,
+        }
+    }
+}
+
+fn record_in(page: u32, slot: u16) -> Granule {
     let page = PageId {
         store: StoreId(0),
-        page: 0,
+        page,
     };
     Granule::Record(Rid { page, slot })
+}
+
+fn record(slot: u16) -> Granule {
+    record_in(0, slot)
+}
+
+/// A record of a page whose number, as the table numbers records, is a multiple of 4,096.
+fn remainder(page: u32) -> Granule {
+    let number = (u64::from(page) + 65) * 2053;
+    let slot = (4096 - number % 4096) % 4096;
+    record_in(page, u16::try_from(slot).unwrap_or(0))
+}
+
+/// A record of the same head as all others of these: their numbers are apart by a number of Fibonacci, which the hash brings close together.
+fn in_bucket(index: u32) -> Granule {
+    let number = 200_000 + u64::from(index) * 102_334_155;
+    let page = (number / 2053).saturating_sub(65);
+    let slot = number % 2053;
+    record_in(
+        u32::try_from(page).unwrap_or(0),
+        u16::try_from(slot).unwrap_or(0),
+    )
 }
 
 fn take(table: &mut LockTable, granule: Granule, mode: Mode)
@@ -76,15 +134,28 @@ fn take_all(table: &mut LockTable)
     }
 }
 
-fn take_pages(table: &mut LockTable)
+/// Slot 0 of so many pages.
+fn take_pages(table: &mut LockTable, count: u32)
     requires { is_waiting 1 table.old.requests ≡ false }
 {
-    for page in 0..u32::from(LOCKS) {
-        let page = PageId {
-            store: StoreId(0),
-            page,
-        };
-        take(table, Granule::Record(Rid { page, slot: 0 }), Mode::EX);
+    for page in 0..count {
+        take(table, record_in(page, 0), Mode::EX);
+    }
+}
+
+fn take_remainders(table: &mut LockTable)
+    requires { is_waiting 1 table.old.requests ≡ false }
+{
+    for page in 0..CHOSEN {
+        take(table, remainder(page), Mode::EX);
+    }
+}
+
+fn take_bucket(table: &mut LockTable)
+    requires { is_waiting 1 table.old.requests ≡ false }
+{
+    for index in 0..CHOSEN {
+        take(table, in_bucket(index), Mode::EX);
     }
 }
 
@@ -123,25 +194,74 @@ fn wait_all(table: &mut LockTable) -> usize {
     table.nodes()
 }
 
+/// The number of nodes that stand once all but the first have asked for a conversion.
+fn convert_all(table: &mut LockTable) -> usize {
+    for txn in 1..LAST + 1 {
+        let mode = if txn == 1 { Mode::SH } else { Mode::IS };
+        ask(table, txn, mode);
+    }
+    for txn in 2..LAST + 1 {
+        ask(table, txn, Mode::IX);
+    }
+    table.nodes()
+}
+
+/// A transaction that does not wait asks for the page.
+fn ask(table: &mut LockTable, txn: u64, mode: Mode) {
+    let page = PageId {
+        store: StoreId(0),
+        page: 0,
+    };
+    if !table.is_waiting(TxnId(txn)) {
+        table.request(TxnId(txn), Granule::Page(page), mode);
+    }
+}
+
+fn release_to(table: &mut LockTable, last: u64) {
+    for txn in 1..last.saturating_add(1) {
+        table.release_all(TxnId(txn));
+    }
+}
+
 /// One round. It answers how many nodes stood, or were released.
 fn round(table: &mut LockTable, work: Work) -> usize {
-    if let Work::Waiters = work {
-        let nodes = wait_all(table);
-        for txn in 1..WAITERS + 2 {
-            table.release_all(TxnId(txn));
+    match work {
+        Work::Waiters => {
+            let nodes = wait_all(table);
+            release_to(table, WAITERS + 1);
+            nodes
         }
-        return nodes;
-    }
-    if !table.is_waiting(FIRST) {
-        match work {
-            Work::Locks => take_all(table),
-            Work::Pages => take_pages(table),
-            _ => take_path(table),
+        Work::Conversions => {
+            let nodes = convert_all(table);
+            release_to(table, LAST);
+            nodes
         }
+        _ => round_of_first(table, work),
     }
+}
+
+/// One round of the first transaction alone.
+fn round_of_first(table: &mut LockTable, work: Work) -> usize {
+    if table.is_waiting(FIRST) {
+        return 0;
+    }
+    take_for(table, work);
     match work {
         Work::Again => table.nodes(),
         _ => table.release_all(FIRST),
+    }
+}
+
+fn take_for(table: &mut LockTable, work: Work)
+    requires { is_waiting 1 table.old.requests ≡ false }
+{
+    match work {
+        Work::Locks => take_all(table),
+        Work::Pages => take_pages(table, u32::from(LOCKS)),
+        Work::Slots => take_pages(table, SLOT_PAGES),
+        Work::Remainders => take_remainders(table),
+        Work::Bucket => take_bucket(table),
+        _ => take_path(table),
     }
 }
 
@@ -169,7 +289,7 @@ fn timed(
 
 /// The same in a table of its own, beside so many others.
 fn measured(rt: &HostRuntime, work: Work, others: u64, rounds: u64) -> io::Result<(u128, usize)> {
-    let mut table = LockTable::new(rt.alloc(), 4096)?;
+    let mut table = LockTable::new(rt.alloc(), work.limit())?;
     place_others(&mut table, others);
     timed(rt, &mut table, work, rounds)
 }
@@ -184,24 +304,28 @@ fn measure(rt: &HostRuntime, name: &str, rounds: u64) -> io::Result<()> {
 }
 
 /// What one round of each kind of work counts.
-fn counts(table: &mut LockTable) -> [usize; 4] {
+fn counts(table: &mut LockTable) -> [usize; 6] {
     let locks = round(table, Work::Locks);
     let pages = round(table, Work::Pages);
+    let chosen = round(table, Work::Bucket);
     let waiters = round(table, Work::Waiters);
+    let conversions = round(table, Work::Conversions);
     place_others(table, 255);
     let path = round(table, Work::Record);
-    [locks, pages, waiters, path]
+    [locks, pages, chosen, waiters, conversions, path]
 }
 
 /// The same in a table of its own.
-fn counted(rt: &HostRuntime) -> io::Result<[usize; 4]> {
-    let mut table = LockTable::new(rt.alloc(), 4096)?;
+fn counted(rt: &HostRuntime) -> io::Result<[usize; 6]> {
+    let mut table = LockTable::new(rt.alloc(), NODES)?;
     Ok(counts(&mut table))
 }
 
 fn count(rt: &HostRuntime) -> io::Result<()> {
-    let [locks, pages, waiters, path] = counted(rt)?;
-    println!(rt; "{locks} locks, {pages} pages, {waiters} requests, {path} on a path")
+    let [locks, pages, chosen, waiters, conversions, path] = counted(rt)?;
+    println!(rt;
+        "{locks} locks, {pages} pages, {chosen} of one head, {waiters} requests, {conversions} that convert, {path} on a path"
+    )
 }
 
 /// Does what the words ask for.

@@ -1,14 +1,12 @@
 -- What a round of a lock keeps, and that it has a waiter less.
-use Rattle.std.proofs.Common.{◌≡◌, ◌≢◌, ◌<◌, ◌≤◌, ◌-◌, ◌++◌, ◌⊎◌, inl, inr, ⊎_elim, ℕ, List, [], ◌∷◌, true, false, Option, None, refl, ap, sym, subst, ◌∙◌, length, take, drop, reverse, arith}
+use Rattle.std.proofs.Common.{◌≡◌, ◌<◌, ◌≤◌, ◌-◌, ◌++◌, ◌⊎◌, ⊎_elim, ℕ, List, [], ◌∷◌, true, false, Option, None, ap, sym, subst, ◌∙◌, length, take, drop, arith}
 use Rattle.std.specs.Prelude.{◌==◌, Result, Ok, Err, is_some}
 use Rattle.std.proofs.lemmas.Bool.Decides.{Decides-eqb}
 use Rattle.std.proofs.lemmas.List.{drop_at, length-append, take_all}
 use Rattle.shore_types.specs.declared.faults.Fault.{Fault}
-use Rattle.shore_types.specs.declared.faults.Fault.TheVariants as fault
 use Rattle.shore_types.specs.declared.locking.Granule.{Granule}
 use Rattle.shore_types.specs.declared.locking.Mode.{Mode}
 use Rattle.shore_model.specs.declared.requests.Request.{Request}
-use Rattle.shore_model.specs.Locks.{path}
 use Rattle.shore_model.specs.Requests.{HasNoCycle, IsCycle}
 use Rattle.shore_locks.specs.Grants.{cancelled, granted}
 use Rattle.shore_locks.specs.Orderly.{IsOrderly}
@@ -18,7 +16,7 @@ use Rattle.shore_locks.proofs.Fits.{found_any, wants_nothing}
 use Rattle.shore_locks.proofs.Members.{Contains-In, In-All}
 use Rattle.shore_locks.proofs.Outcomes.{nobody_wants, quiet_after_cancel}
 use Rattle.shore_locks.proofs.Tables.{fit_of, orderly_cancelled}
-use Rattle.shore_path.specs.Acquires.{NoneWeaker, OthersOnlyGranted, WalkedSome}
+use Rattle.shore_path.specs.Acquires.{NoneWeaker, OthersOnlyGranted}
 use Rattle.shore_path.specs.Rooted.{AreRooted}
 use Rattle.shore_path.specs.Walks.{ComesTo, acquired}
 use Rattle.shore_path.specs.declared.answers.Acquired.{Acquired}
@@ -30,7 +28,7 @@ use Rattle.shore_deadlock.specs.declared.victims.Victim.{Victim}
 use Rattle.shore_deadlock.specs.Blockers.{is_victim}
 use Rattle.shore_deadlock.specs.Cycles.{AreVictims, IsOnEachCycle, IsOnNoCycleWithout, after_victims}
 use Rattle.shore_deadlock.specs.Locking.{IsBroken, Keeps, others_waiting}
-use Rattle.shore_deadlock.proofs.AcquireLemmas.{acquire_closes, walk_closes}
+use Rattle.shore_deadlock.proofs.AcquireLemmas.{acquire_closes}
 use Rattle.shore_deadlock.proofs.Counting.{count_acquired, count_victims}
 use Rattle.shore_deadlock.proofs.Edges.{clash}
 use Rattle.shore_deadlock.proofs.Steps.{cancelled_adds_none, cancelled_keeps_quiet}
@@ -100,41 +98,23 @@ gentle_acquire t old new weaker rooted others = record {
 
 -- ---- cycles
 
-answer_of : (result : Result Acquired Fault) → (result ≡ Err fault.Memory) ⊎ (result ≢ Err fault.Memory)
-answer_of (Ok a) = inr (λ e. cc)
-answer_of (Err fault.Memory) = inl refl
-answer_of (Err _) = inr (λ e. cc)
-
 module _ (t : ℕ) (target : Granule) (mode : Mode) (old new : Table) (result : Result Acquired Fault) (orderly : IsOrderly old.requests) (quiet : is_waiting t old.requests ≡ false)
-    (asked : result ≢ Err fault.Memory → ComesTo old (acquired Wait old t target mode) result new)
-    (some : result ≡ Err fault.Memory → WalkedSome Wait old new t target mode (reverse (path target))) where
+    (asked : ComesTo old (acquired Wait old t target mode) result new) where
+  left : new.requests ≡ (acquired Wait old t target mode).requests
+  left = ap (λ (x : Table). x.requests) asked.1
+
   -- an acquire that does not wait closes no cycle
   pub acquire_free : ((g : Granule) → result ≡ Ok (acquire.Waiting g) → ⊥) → HasNoCycle old.requests → HasNoCycle new.requests
   acquire_free never none =
-      ⊎_elim
-      (λ ran_out.
-      let part = some ran_out in
-      let closes = walk_closes Wait t target mode old.limit (take part.0 (reverse (path target))) old.requests (fit_of old.requests orderly) quiet none in
-      subst HasNoCycle (ap (λ out. out.requests) part.2)
-      (closes.free (λ g is. (let done : Ok acquire.Done ≡ Ok (acquire.Waiting g) = sym (ap (λ out. out.answer) part.2) ∙ is in cc))))
-      (λ other.
-      let comes = asked other in
       let closes = acquire_closes Wait old t target mode (fit_of old.requests orderly) quiet none in
-      subst HasNoCycle (sym (ap (λ (x : Table). x.requests) comes.1)) (closes.free (λ g is. never g (comes.0 ∙ is))))
-      (answer_of result)
+      subst HasNoCycle (sym left) (closes.free (λ g is. never g (asked.0 ∙ is)))
 
-  module _ (g : Granule) (waits : result ≡ Ok (acquire.Waiting g)) where
-    came : ComesTo old (acquired Wait old t target mode) result new
-    came = asked (λ e. (let both : Ok (acquire.Waiting g) ≡ Err fault.Memory = sym waits ∙ e in cc))
+  -- .. and if it waits each cycle passes the transaction
+  pub acquire_each : HasNoCycle old.requests → IsOnEachCycle new.requests t
+  acquire_each none = subst (λ xs. IsOnEachCycle xs t) (sym left) (acquire_closes Wait old t target mode (fit_of old.requests orderly) quiet none).each
 
-    -- .. and where it waits each cycle passes the transaction
-    pub acquire_each : HasNoCycle old.requests → IsOnEachCycle new.requests t
-    acquire_each none =
-        subst (λ xs. IsOnEachCycle xs t) (sym (ap (λ (x : Table). x.requests) came.1)) (acquire_closes Wait old t target mode (fit_of old.requests orderly) quiet none).each
-
-    pub acquire_count : others_waiting t new.requests ≤ others_waiting t old.requests
-    acquire_count =
-        subst (λ xs. others_waiting t xs ≤ others_waiting t old.requests) (sym (ap (λ (x : Table). x.requests) came.1)) (count_acquired Wait old t target mode (fit_of old.requests orderly) quiet)
+  pub acquire_count : others_waiting t new.requests ≤ others_waiting t old.requests
+  acquire_count = subst (λ xs. others_waiting t xs ≤ others_waiting t old.requests) (sym left) (count_acquired Wait old t target mode (fit_of old.requests orderly) quiet)
 
 pub keeps_of : (t : ℕ) (old new : List Request) → IsGentle t old new → (HasNoCycle old → HasNoCycle new) → Keeps t old new
 keeps_of t old new gentle free = record { free = free; none_weaker = gentle.none_weaker; rooted = gentle.rooted; others = gentle.others }

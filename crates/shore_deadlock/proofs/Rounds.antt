@@ -1,5 +1,5 @@
 -- Rounds of a lock one after another, and its end.
-use Rattle.std.proofs.Common.{◌≡◌, ◌≢◌, ◌<◌, ◌≤◌, ◌++◌, inr, ℕ, List, [], ◌∷◌, true, false, Option, None, Some, refl, ap, sym, subst, ◌∙◌, append_assoc, arith}
+use Rattle.std.proofs.Common.{◌≡◌, ◌<◌, ◌≤◌, ◌++◌, inr, ℕ, List, [], ◌∷◌, true, false, Option, None, Some, refl, ap, sym, subst, ◌∙◌, append_assoc, arith}
 use Rattle.std.specs.Prelude.{Result, Ok, Err, IfOk, IfErr, IfSome, IfNone}
 use Rattle.std.proofs.lemmas.List.{append-nil}
 use Rattle.shore_types.specs.declared.faults.Fault.{Fault}
@@ -82,9 +82,6 @@ pub acquires_waiting : (table : Table) (t : ℕ) (target : Granule) (mode : Mode
 acquires_waiting table t target mode result new g waits comes =
     λ i. record { answer = (sym comes.0 ∙ waits) i; requests = (ap (λ (x : Table). x.requests) (sym comes.1)) i }
 
-pub not_memory : (result : Result Acquired Fault) (a : Acquired) → result ≡ Ok a → result ≢ Err fault.Memory
-not_memory result a is e = (let both : Ok a ≡ Err fault.Memory = sym is ∙ e in cc)
-
 -- what the end of a wait says, and what goes on after it
 abbrev pub Ended : Option (Result Locked Fault) → ℕ → List Request → List Request → List Victim → List Victim → Type 0
 Ended res t mid new told now =
@@ -106,7 +103,7 @@ module _ (table : Table) (t : ℕ) (target : Granule) (mode : Mode) (g : Granule
   ends_of (Some (Ok locked.Done)) ended refused = absurd ended.2
   ends_of (Some (Ok (locked.Waiting h))) ended refused = (ended.0, (round_of ended.0 ended.1, ended.2), ended.3)
   ends_of (Some (Ok locked.Deadlock)) ended refused = (ended.0, (round_of ended.0 ended.1, ended.2), ended.3)
-  ends_of (Some (Err f)) ended refused = ([], (inr (refused.0, inr (g, mid, acquires, refused.1)), refl), refused.2 ∙ sym (append-nil told))
+  ends_of (Some (Err f)) ended refused = ([], (inr (refused.0, (g, mid, acquires, refused.1)), refl), refused.2 ∙ sym (append-nil told))
 
   pub through_of : (res : Option (Result Locked Fault)) → Through res t mid new told now → IfNone res ((vs : List Victim) × IsLetThrough table t target mode vs new × (now ≡ told ++ vs))
   through_of None through = (through.0, record { round = round_of through.0 through.1; spared = through.2; quiet = through.3 }, through.4)

@@ -1,15 +1,14 @@
 -- A lock that is taken along a path, waited for, and what becomes of the cycles that its wait closes.
-use Rattle.std.specs.Prelude.{◌≡◌, ◌⊎◌, ◌++◌, ℕ, List, [], ◌∷◌, true, false, Some, Result, Ok, Err, reverse, filter, not, is_some, length, ◌&&◌, ◌==◌}
+use Rattle.std.specs.Prelude.{◌≡◌, ◌⊎◌, ◌++◌, ℕ, List, [], ◌∷◌, true, false, Some, Result, Ok, Err, filter, not, is_some, length, ◌&&◌, ◌==◌}
 use Rattle.shore_types.specs.declared.faults.Fault.{Fault}
 use Rattle.shore_types.specs.declared.faults.Fault.TheVariants.{Memory}
 use Rattle.shore_types.specs.declared.locking.Granule.{Granule}
 use Rattle.shore_types.specs.declared.locking.Mode.{Mode}
 use Rattle.shore_model.specs.declared.requests.Request.{Request}
-use Rattle.shore_model.specs.Locks.{path}
 use Rattle.shore_model.specs.Requests.{HasNoCycle}
 use Rattle.shore_locks.specs.Grants.{cancelled}
 use Rattle.shore_locks.specs.Tables.{Table, is_waiting, waiting_request}
-use Rattle.shore_path.specs.Acquires.{NoneWeaker, WalkedSome}
+use Rattle.shore_path.specs.Acquires.{NoneWeaker}
 use Rattle.shore_path.specs.Rooted.{AreRooted}
 use Rattle.shore_path.specs.Walks.{acquired}
 use Rattle.shore_path.specs.declared.answers.Acquired.{Acquired}
@@ -50,11 +49,10 @@ AnswersBroken locked.Done t vs new = ⊥
 AnswersBroken (locked.Waiting g) t vs new = (is_victim vs t ≡ false) × ((r : Request) × (waiting_request t new ≡ Some r) × (r.granule ≡ g))
 AnswersBroken locked.Deadlock t vs new = is_victim vs t ≡ true
 
--- an allocation failed: in the acquire, or when it waited, which it does no more then
+-- an allocation failed when the acquire waited, which it does no more then
 abbrev pub RanOut : Table → ℕ → Granule → Mode → List Request → Type 0
 RanOut table t target mode new =
-    WalkedSome Wait table (record { limit = table.limit; requests = new }) t target mode (reverse (path target))
-    ⊎ ((g : Granule) × (waiting : List Request) × Acquires table t target mode (Ok (acquire.Waiting g)) waiting × (new ≡ cancelled t waiting))
+    (g : Granule) × (waiting : List Request) × Acquires table t target mode (Ok (acquire.Waiting g)) waiting × (new ≡ cancelled t waiting)
 
 -- what is answered at the end, with the victims of the last round and the requests that are left
 abbrev pub Ends : Table → ℕ → Granule → Mode → Result Locked Fault → List Victim → List Request → Type 0

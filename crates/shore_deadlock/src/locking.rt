@@ -75,7 +75,7 @@ fn go_round(
     ensures keeps { Keeps txn table.old.requests table.new.requests }
 {
     tables_are_orderly(table);
-    match acquire(alloc, table, txn, *target, mode, OnConflict::Wait) {
+    match acquire(table, txn, *target, mode, OnConflict::Wait) {
         Ok(Acquired::Done) => Some(Ok(Locked::Done)),
         Ok(Acquired::Waiting(_)) => {
             tables_are_orderly(table);

@@ -1,7 +1,7 @@
 mod AlikeNodes
 pub mod AtOnce
 pub mod Answered
-mod Buckets
+pub mod Buckets
 pub mod Counts
 mod Crowds
 pub mod Entering
@@ -20,5 +20,6 @@ pub mod Outcomes
 pub mod Passes
 pub mod Tables
 mod Tallying
+mod Inventories
 mod Links
 pub mod Waiting

@@ -1,8 +1,9 @@
 pub mod Findings
+pub mod Granting
 pub mod Grants
 pub mod Laws
+pub mod Listing
 pub mod Nodes
 pub mod Orderly
-pub mod Granting
 pub mod Tables
 pub mod Tallies

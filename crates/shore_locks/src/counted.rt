@@ -1,6 +1,7 @@
 //! Nodes, and for each head how many hold in each mode and how many wait: most often nobody is in the way, and that is seen at once.
-ghost use Rattle.std.specs.Prelude.{◌≡◌, ◌<◌, ◌++◌, ◌∷◌, [], IfOk, IsTrue, IsFalse, MatchBool, MatchOption, None, Some, false, length, nat_lt, not, slice_get, true};
+ghost use Rattle.std.specs.Prelude.{◌≡◌, ◌<◌, ◌≤◌, ◌+◌, ◌++◌, ◌∷◌, [], IfOk, IsTrue, IsFalse, MatchBool, MatchOption, None, Some, false, length, nat_lt, not, slice_get, true};
 ghost use Rattle.std.specs.List.{list_any};
+ghost use Rattle.std.specs.List.Sorted.{IsPermutation};
 ghost use Rattle.shore_model.specs.Requests.{AreRequests, are_alike, placed_last, requests_by};
 ghost use Rattle.shore_locks.specs.Grants.{granted_in_turn, obstacle, removed, replaced};
 ghost use Rattle.shore_locks.specs.Granting.{new_waiters};
@@ -8,6 +9,7 @@ ghost use Rattle.shore_locks.specs.Tables.{waiters_at};
 ghost use Rattle.shore_locks.specs.Tallies.{Counts, crowd};
 
 use crate::heads::queue_head;
+use crate::listings::append_walk;
 use crate::nodes::Nodes;
 use crate::searches::request_for;
 use crate::tallies::{Tally, tally_of};
@@ -53,6 +55,17 @@ impl Counted {
         &self.nodes
     }
 
+    /// All requests, head by head.
+    pub fn all(&self, alloc: Global) -> Result<Vec<Request>, AllocError>
+        ensures { IfOk result (λ all. IsPermutation self.now.requests all.items) }
+    {
+        let mut requests = Vec::with_capacity(alloc, self.nodes.len())?;
+        for head in 0..self.nodes.heads() {
+            append_walk(&mut requests, self.nodes.crowd(head))?;
+        }
+        Ok(requests)
+    }
+
     /// Whether somebody may wait for a granule: nobody does if not.
     pub fn may_have_waiters(&self, granule: &Granule) -> bool
         ensures { IsFalse result → waiters_at granule.now self.now.requests ≡ [] }
@@ -79,10 +92,9 @@ impl Counted {
         ensures limit { self.new.limit ≡ self.old.limit }
     {
         let head = queue_head(&request.granule, self.nodes.heads());
-        let tally = self.tallies[head].with(request);
         self.nodes.push(request);
         self.nodes.len();
-        self.tallies[head] = tally;
+        self.tallies[head].add(request);
     }
 
     /// Puts a request in the place of the one of its transaction for its granule.
@@ -93,10 +105,11 @@ impl Counted {
     {
         if let Some(old) = request_for(&self.nodes, request.txn, &request.granule) {
             let head = queue_head(&request.granule, self.nodes.heads());
-            let gone = self.tallies[head].without(&old);
             self.nodes.len();
             self.nodes.replace(request);
-            self.tallies[head] = gone.with(request);
+            let tally = &mut self.tallies[head];
+            tally.take_out(&old);
+            tally.add(request);
         }
     }
 
@@ -112,8 +125,7 @@ impl Counted {
         match self.nodes.pop_first(txn) {
             Some(request) => {
                 let head = queue_head(&request.granule, heads);
-                let tally = self.tallies[head].without(&request);
-                self.tallies[head] = tally;
+                self.tallies[head].take_out(&request);
                 Some(request)
             }
             None => None,
@@ -161,6 +173,14 @@ impl Counted {
         ensures { result ≡ not (nat_lt (length self.now.requests) self.now.limit) }
     {
         self.nodes.is_full()
+    }
+
+    /// How many more there may be.
+    pub fn left(&self) -> usize
+        requires { length self.now.requests ≤ self.now.limit }
+        ensures { result + length self.now.requests ≡ self.now.limit }
+    {
+        self.nodes.left()
     }
 
     /// How many requests there are.

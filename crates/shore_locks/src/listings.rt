@@ -1,12 +1,16 @@
-//! The requests of a transaction, one after another.
-ghost use Rattle.std.specs.Prelude.{◌≡◌, ◌∷◌, [], MatchOption};
+//! The requests of a transaction one after another, and all requests in order.
+ghost use Rattle.std.specs.Prelude.{◌≡◌, ◌∷◌, ◌++◌, [], ℕ, MatchOption, OnOk, map};
+ghost use Rattle.std.specs.List.Sorted.{IsPermutation, IsSorted};
 ghost use Rattle.std.specs.Iterator.{YieldsFirst, item_count};
+ghost use Rattle.shore_model.specs.declared.requests.Request.{Request as RequestData};
 ghost use Rattle.shore_model.specs.Requests.{requests_by};
+ghost use Rattle.shore_locks.specs.Listing.{request_cmp};
 
 use crate::nodes::Nodes;
 use crate::walks::Walk;
 use shore_model::Request;
 use shore_types::TxnId;
+use std::alloc::AllocError;
 use std::marker::Model;
 
 /// The requests of a transaction that are left, in the order in which they came.
@@ -58,4 +62,22 @@ impl<'a> Iterator for Requests<'a> {
     fn next(&mut self) -> Option<Request> {
         self.advance()
     }
+}
+
+/// Puts requests in order: by granule, and then by transaction.
+pub fn put_in_order(requests: &mut Vec<Request>)
+    ensures same { IsPermutation requests.old.items requests.new.items }
+    ensures order { IsSorted request_cmp requests.new.items }
+{
+    requests.sort_unstable_by_key(|request| (request.granule, request.txn));
+}
+
+/// Appends the requests of a walk.
+pub fn append_walk(requests: &mut Vec<Request>, mut walk: Walk<'_>) -> Result<(), AllocError>
+    ensures { OnOk result (requests.new.items ≡ requests.old.items ++ map (λ (p : ℕ × RequestData). p.1) walk.entry) }
+{
+    while let Some((_, request)) = walk.advance() {
+        requests.push(request)?;
+    }
+    Ok(())
 }

@@ -234,6 +234,14 @@ impl Nodes {
         self.slots.len() >= self.limit
     }
 
+    /// How many more there may be.
+    pub fn left(&self) -> usize
+        requires { length self.now.requests ≤ self.now.limit }
+        ensures { result + length self.now.requests ≡ self.now.limit }
+    {
+        self.limit - self.slots.len()
+    }
+
     /// How many requests there are.
     pub fn len(&self) -> usize
         ensures is { result ≡ length self.now.requests }

@@ -1,14 +1,16 @@
 //! The lock table.
-ghost use Rattle.std.specs.Prelude.{◌≡◌, ◌≤◌, [], length, IfOk, false};
+ghost use Rattle.std.specs.Prelude.{◌≡◌, ◌≤◌, ◌+◌, [], length, IfOk, false};
+ghost use Rattle.std.specs.List.Sorted.{IsPermutation, IsSorted};
 ghost use Rattle.shore_model.specs.Requests.{requests_by};
 ghost use Rattle.shore_locks.specs.Grants.{after_request, after_try, answer_to, answer_to_try, cancelled, released};
-ghost use Rattle.shore_locks.specs.Tables.{holders_at, is_waiting, mode_held, waiters_at, waiting_request};
+ghost use Rattle.shore_locks.specs.Tables.{holders_at, is_waiting, mode_held, request_for, waiters_at, waiting_request};
+ghost use Rattle.shore_locks.specs.Listing.{request_cmp};
 ghost use Rattle.shore_locks.specs.Orderly.{IsOrderly};
 
 use crate::answers::{Requested, Tried};
 use crate::counted::Counted;
 use crate::findings::{Finding, check_request};
-use crate::listings::Requests;
+use crate::listings::{Requests, put_in_order};
 use crate::queues::{Holders, Waiters};
 use crate::{changes, searches};
 use shore_model::Request;
@@ -51,6 +53,20 @@ impl LockTable {
         ensures orderly { IsOrderly self.now.requests }
     {
         self.nodes.len()
+    }
+
+    /// How many nodes are left.
+    pub fn nodes_left(&self) -> usize
+        ensures { result + length self.now.requests ≡ self.now.limit }
+    {
+        self.nodes.left()
+    }
+
+    /// The request of a transaction for a granule.
+    pub fn request_for(&self, txn: TxnId, granule: Granule) -> Option<Request>
+        ensures { result ≡ request_for txn granule self.now.requests }
+    {
+        searches::request_for(self.nodes.nodes(), txn, &granule)
     }
 
     /// The mode in which a transaction holds a granule.
@@ -135,6 +151,16 @@ impl LockTable {
             Finding::Full => Tried::Full,
             Finding::Stopped { other: holder, .. } => Tried::Blocked(holder),
         }
+    }
+
+    /// All requests, by granule and then by transaction.
+    pub fn requests(&self, alloc: Global) -> Result<Vec<Request>, AllocError>
+        ensures all { IfOk result (λ all. IsPermutation self.now.requests all.items) }
+        ensures order { IfOk result (λ all. IsSorted request_cmp all.items) }
+    {
+        let mut requests = self.nodes.all(alloc)?;
+        put_in_order(&mut requests);
+        Ok(requests)
     }
 
     /// The requests of a transaction, in the order in which they came.

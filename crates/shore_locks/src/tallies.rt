@@ -39,46 +39,42 @@ impl Tally {
         }
     }
 
-    /// With one request more.
-    pub fn with(self, request: &Request) -> Tally
-        ensures holding { (m : Mode) → count_in self m + 1 < 2 ^ 64 → count_in result m ≡ count_in self m + one_if (is_just m request.now.held) }
-        ensures waiting { self.waiting + 1 < 2 ^ 64 → result.waiting ≡ self.waiting + one_if (is_some request.now.wanted) }
+    /// Counts one request more.
+    pub fn add(&mut self, request: &Request)
+        ensures holding { (m : Mode) → count_in self.old m + 1 < 2 ^ 64 → count_in self.new m ≡ count_in self.old m + one_if (is_just m request.now.held) }
+        ensures waiting { self.old.waiting + 1 < 2 ^ 64 → self.new.waiting ≡ self.old.waiting + one_if (is_some request.now.wanted) }
     {
-        let mut tally = self;
         match request.held {
             None => {}
-            Some(Mode::IS) => tally.is = self.is.saturating_add(1),
-            Some(Mode::IX) => tally.ix = self.ix.saturating_add(1),
-            Some(Mode::SH) => tally.sh = self.sh.saturating_add(1),
-            Some(Mode::SIX) => tally.six = self.six.saturating_add(1),
-            Some(Mode::EX) => tally.ex = self.ex.saturating_add(1),
-            Some(Mode::UD) => tally.ud = self.ud.saturating_add(1),
+            Some(Mode::IS) => self.is = self.is.saturating_add(1),
+            Some(Mode::IX) => self.ix = self.ix.saturating_add(1),
+            Some(Mode::SH) => self.sh = self.sh.saturating_add(1),
+            Some(Mode::SIX) => self.six = self.six.saturating_add(1),
+            Some(Mode::EX) => self.ex = self.ex.saturating_add(1),
+            Some(Mode::UD) => self.ud = self.ud.saturating_add(1),
         }
         if request.wanted.is_some() {
-            tally.waiting = self.waiting.saturating_add(1);
+            self.waiting = self.waiting.saturating_add(1);
         }
-        tally
     }
 
-    /// With one request fewer.
-    pub fn without(self, request: &Request) -> Tally
-        ensures holding { (m : Mode) → count_in result m ≡ count_in self m - one_if (is_just m request.now.held) }
-        ensures waiting { result.waiting ≡ self.waiting - one_if (is_some request.now.wanted) }
+    /// Counts one request fewer.
+    pub fn take_out(&mut self, request: &Request)
+        ensures holding { (m : Mode) → count_in self.new m ≡ count_in self.old m - one_if (is_just m request.now.held) }
+        ensures waiting { self.new.waiting ≡ self.old.waiting - one_if (is_some request.now.wanted) }
     {
-        let mut tally = self;
         match request.held {
             None => {}
-            Some(Mode::IS) => tally.is = self.is.saturating_sub(1),
-            Some(Mode::IX) => tally.ix = self.ix.saturating_sub(1),
-            Some(Mode::SH) => tally.sh = self.sh.saturating_sub(1),
-            Some(Mode::SIX) => tally.six = self.six.saturating_sub(1),
-            Some(Mode::EX) => tally.ex = self.ex.saturating_sub(1),
-            Some(Mode::UD) => tally.ud = self.ud.saturating_sub(1),
+            Some(Mode::IS) => self.is = self.is.saturating_sub(1),
+            Some(Mode::IX) => self.ix = self.ix.saturating_sub(1),
+            Some(Mode::SH) => self.sh = self.sh.saturating_sub(1),
+            Some(Mode::SIX) => self.six = self.six.saturating_sub(1),
+            Some(Mode::EX) => self.ex = self.ex.saturating_sub(1),
+            Some(Mode::UD) => self.ud = self.ud.saturating_sub(1),
         }
         if request.wanted.is_some() {
-            tally.waiting = self.waiting.saturating_sub(1);
+            self.waiting = self.waiting.saturating_sub(1);
         }
-        tally
     }
 
     /// Whether somebody wants something.
@@ -109,7 +105,7 @@ pub fn tally_of(mut walk: Walk<'_>) -> Tally
 {
     let mut tally = Tally::none();
     while let Some((_, request)) = walk.advance() {
-        tally = tally.with(&request);
+        tally.add(&request);
     }
     tally
 }

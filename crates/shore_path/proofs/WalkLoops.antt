@@ -13,7 +13,6 @@ use Rattle.shore_locks.proofs.Tables.{fit_of}
 use Rattle.shore_path.specs.declared.answers.Acquired.{Acquired}
 use Rattle.shore_path.specs.declared.answers.Acquired.TheVariants as acquire
 use Rattle.shore_path.specs.declared.answers.OnConflict.{OnConflict}
-use Rattle.shore_path.specs.Acquires.{WalkedSome}
 use Rattle.shore_path.specs.Walks.{ComesTo, after_at, answer_at, asked_of, is_spared}
 use Rattle.shore_path.proofs.Kept.{quiet_after}
 use Rattle.shore_path.proofs.Walking.{Through, done, stop, stops_at, table_of, through_more, through_walk, walk_on}
@@ -80,7 +79,3 @@ module _ (c : OnConflict) (t : ℕ) (target : Granule) (mode : Mode) (old table 
   ends_whole past =
       let out : walk_on c t target mode old.limit path old.requests ≡ done table.requests = ap (λ way. walk_on c t target mode old.limit way old.requests) (sym (whole path i past)) ∙ come in
       (sym (ap (λ o. o.answer) out), same_table ∙ ap (λ xs. table_of c t target mode old.limit xs) (sym (ap (λ o. o.requests) out)))
-
-  pub ends_wanting : (new : Table) → i < length path → new ≡ table → WalkedSome c old new t target mode path
-  ends_wanting new within same =
-      (i, within, come ∙ ap (λ (x : Table). done x.requests) (sym same), ap (λ (x : Table). x.limit) same ∙ limit)

@@ -1,5 +1,5 @@
 -- The path of a granule from the root down.
-use Rattle.std.proofs.Common.{◌≡◌, inl, inr, ⊎_elim, ℕ, zero, suc, List, [], ◌∷◌, false, refl, subst, sym, reverse, take}
+use Rattle.std.proofs.Common.{◌≡◌, inl, inr, ⊎_elim, List, [], ◌∷◌, false, refl, subst, sym, reverse}
 use Rattle.std.specs.List.{AllByRecursion}
 use Rattle.shore_types.specs.declared.locking.Granule.{Granule}
 use Rattle.shore_types.specs.declared.locking.Granule.TheVariants.{Volume, Store, Page, Record}
@@ -60,16 +60,6 @@ in_order (Record r) = (
     ),
   ),
 )
-
-pub in_order-take : (target : Granule) (n : ℕ) (walked way : List Granule) → InOrder target walked way → InOrder target walked (take n way)
-in_order-take target zero walked way h = tt
-in_order-take target (suc n) walked [] h = tt
-in_order-take target (suc n) walked (g ∷ below) h = (h.0, in_order-take target n (g ∷ walked) below h.1)
-
-pub take-In : {A : Type 0} (n : ℕ) (xs : List A) (x : A) → In x (take n xs) → In x xs
-take-In zero xs x h = absurd h
-take-In (suc n) [] x h = absurd h
-take-In (suc n) (y ∷ ys) x h = ⊎_elim (λ e. inl e) (λ t. inr (take-In n ys x t)) h
 
 pub on_path : (target : Granule) → OnPathOf target (reverse (path target))
 on_path Volume = each_of (λ g. In g (path Volume)) (reverse (path Volume)) (inl refl, tt)

@@ -1,5 +1,5 @@
 -- What holds of an acquire, in words of its own.
-use Rattle.std.specs.Prelude.{◌≡◌, ◌⊎◌, ◌<◌, ℕ, List, Some, Ok, length, take, IsTrue, IsFalse, All, Any, Contains}
+use Rattle.std.specs.Prelude.{◌≡◌, ◌⊎◌, ℕ, List, Some, IsTrue, IsFalse, All, Any, Contains}
 use Rattle.shore_types.specs.declared.faults.Fault.{Fault}
 use Rattle.shore_types.specs.declared.faults.Fault.TheVariants as fault
 use Rattle.shore_types.specs.declared.locking.Granule.{Granule}
@@ -11,10 +11,9 @@ use Rattle.shore_model.specs.Modes.{is_allowed}
 use Rattle.shore_model.specs.Requests.{WaitsFor, placed_last}
 use Rattle.shore_locks.specs.Grants.{wanted_mode, asking, granted, is_enough, is_full}
 use Rattle.shore_locks.specs.Tables.{Table, mode_held, waiting_request}
-use Rattle.shore_path.specs.declared.answers.Acquired.TheVariants as acquire
 use Rattle.shore_path.specs.declared.answers.OnConflict.{OnConflict}
 use Rattle.shore_path.specs.declared.answers.OnConflict.TheVariants.{Refuse}
-use Rattle.shore_path.specs.Walks.{asked_of, is_covered, walk}
+use Rattle.shore_path.specs.Walks.{asked_of, is_covered}
 
 -- the transaction holds the target in the mode, or in a stronger one, or it holds an ancestor in a mode that covers it
 abbrev pub IsReached : List Request → ℕ → Granule → Mode → Type 0
@@ -44,15 +43,7 @@ abbrev pub MayRefuse : OnConflict → Table → ℕ → Granule → Mode → Fau
 MayRefuse c table t target mode fault.BadMode = IsFalse (is_allowed (level_of target) mode)
 MayRefuse c table t target mode fault.LockTableFull = IsFullOnPath table t target
 MayRefuse c table t target mode (fault.WouldBlock holder) = (c ≡ Refuse) × IsBlockedBy table.requests t target mode holder
-MayRefuse c table t target mode fault.Memory = Unit {0}
 MayRefuse c table t target mode _ = ⊥
-
--- the table is left as a walk over a prefix of these granules leaves it, one that came to Done
-abbrev pub WalkedSome : OnConflict → Table → Table → ℕ → Granule → Mode → List Granule → Type 0
-WalkedSome c old new t target mode granules =
-    (n : ℕ) × (n < length granules)
-    × (walk c t target mode old.limit (take n granules) old.requests ≡ record { answer = Ok acquire.Done; requests = new.requests })
-    × (new.limit ≡ old.limit)
 
 -- no lock of anybody becomes weaker
 abbrev pub NoneWeaker : List Request → List Request → Type 0

@@ -1,3 +1,4 @@
 pub mod Acquires
+pub mod Judging
 pub mod Rooted
 pub mod Walks

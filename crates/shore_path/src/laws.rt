@@ -1,13 +1,19 @@
 //! Laws of locks along paths, each stated as the contract of an empty function.
-ghost use Rattle.std.specs.Prelude.{◌∷◌, [], ℕ, List, All};
+ghost use Rattle.std.specs.Prelude.{◌≡◌, ◌∷◌, [], ℕ, List, All, Ok};
+ghost use Rattle.shore_types.specs.declared.locking.Granule.{Granule};
+ghost use Rattle.shore_types.specs.declared.locking.Mode.{Mode};
 ghost use Rattle.shore_model.specs.declared.holds.Hold.{Hold};
 ghost use Rattle.shore_model.specs.declared.requests.Request.{Request};
 ghost use Rattle.shore_model.specs.Locks.{Agree, Harmony, IsRooted, StandTogether, WellRooted};
 ghost use Rattle.shore_model.specs.Requests.{held_by_all};
 ghost use Rattle.shore_locks.specs.Grants.{cancelled, released};
 ghost use Rattle.shore_locks.specs.Orderly.{IsOrderly};
+ghost use Rattle.shore_locks.specs.Tables.{Table};
+ghost use Rattle.shore_path.specs.declared.answers.Acquired.TheVariants.{Done};
+ghost use Rattle.shore_path.specs.declared.answers.OnConflict.TheVariants.{Refuse, Wait};
 ghost use Rattle.shore_path.specs.Acquires.{NoOtherWeaker, NoneWeaker};
 ghost use Rattle.shore_path.specs.Rooted.{AreRooted};
+ghost use Rattle.shore_path.specs.Walks.{acquired};
 
 /// Locks with their intentions, whose holders are compatible on each granule, are in harmony along every path.
 pub fn intentions_give_harmony()
@@ -28,6 +34,12 @@ pub fn rooted_table_is_in_harmony()
 /// In a table with no requests each has its intentions.
 pub fn empty_table_is_rooted()
     ensures { AreRooted [] }
+{}
+
+/// An acquire that is Done if it may not wait is Done if it may, and leaves the same requests. So what `judge` calls Done will be.
+pub fn done_without_waiting()
+    ensures { (table : Table) (t : ℕ) (target : Granule) (mode : Mode) → (acquired Refuse table t target mode).answer ≡ Ok Done →
+        acquired Wait table t target mode ≡ acquired Refuse table t target mode }
 {}
 
 /// If a transaction waits no more, all requests that are left have their intentions, and those that are granted then too.

@@ -2,10 +2,12 @@
 #![tactic(auto)]
 
 pub mod answers;
+pub mod judging;
 pub mod laws;
 pub mod paths;
 pub mod walk;
 
 pub use answers::{Acquired, OnConflict};
+pub use judging::judge;
 pub use paths::{Path, path_to};
 pub use walk::acquire;

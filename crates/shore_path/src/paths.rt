@@ -2,32 +2,31 @@
 ghost use Rattle.std.specs.Prelude.{◌≡◌, reverse};
 ghost use Rattle.shore_model.specs.Locks as locks;
 
+use arrayvec::ArrayVec;
 use shore_types::Granule;
-use smallvec::SmallVec;
-use std::alloc::Global;
 
-/// A path: four granules at most, which it keeps in itself.
-pub type Path = SmallVec<Granule, 4>;
+/// A path: four granules at most, which lie in the value itself.
+pub type Path = ArrayVec<Granule, 4>;
 
-/// The path of a granule from the root down, the granule last. It takes no memory.
-pub fn path_to(alloc: Global, granule: Granule) -> Path
+/// The path of a granule from the root down, the granule last.
+pub fn path_to(granule: Granule) -> Path
     ensures { result.items ≡ reverse (locks.path granule) }
 {
-    let mut path = SmallVec::new(alloc);
-    path.push_reserved(Granule::Volume);
+    let mut path = ArrayVec::new();
+    path.push(Granule::Volume);
     match &granule {
         Granule::Volume => {}
         Granule::Store(_) => {
-            path.push_reserved(granule);
+            path.push(granule);
         }
         Granule::Page(page) => {
-            path.push_reserved(Granule::Store(page.store));
-            path.push_reserved(granule);
+            path.push(Granule::Store(page.store));
+            path.push(granule);
         }
         Granule::Record(id) => {
-            path.push_reserved(Granule::Store(id.page.store));
-            path.push_reserved(Granule::Page(id.page));
-            path.push_reserved(granule);
+            path.push(Granule::Store(id.page.store));
+            path.push(Granule::Page(id.page));
+            path.push(granule);
         }
     }
     path

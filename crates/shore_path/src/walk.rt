@@ -1,12 +1,12 @@
 //! Locks taken along a path.
-ghost use Rattle.std.specs.Prelude.{◌≡◌, ◌≢◌, ◌↔◌, false, reverse, Contains, IfErr, IsFalse, IsTrue};
+ghost use Rattle.std.specs.Prelude.{◌≡◌, ◌≢◌, ◌↔◌, false, Contains, IfErr, IsFalse, IsTrue};
 ghost use Rattle.shore_types.specs.declared.locking.Granule.{Granule};
 ghost use Rattle.shore_types.specs.Locking.{level_of};
 ghost use Rattle.shore_model.specs.Locks.{path};
 ghost use Rattle.shore_model.specs.Modes.{is_allowed};
 ghost use Rattle.shore_locks.specs.Orderly.{IsOrderly};
 ghost use Rattle.shore_locks.specs.Tables.{is_waiting};
-ghost use Rattle.shore_path.specs.Acquires.{GrowsAsAsked, IsReached, MayRefuse, NoneWeaker, OthersOnlyGranted, WaitsAt, WalkedSome};
+ghost use Rattle.shore_path.specs.Acquires.{GrowsAsAsked, IsReached, MayRefuse, NoneWeaker, OthersOnlyGranted, WaitsAt};
 ghost use Rattle.shore_path.specs.Rooted.{AreRooted};
 ghost use Rattle.shore_path.specs.Walks as walks;
 
@@ -16,18 +16,16 @@ use shore_locks::laws::tables_are_orderly;
 use shore_locks::{LockTable, Requested, Tried};
 use shore_modes::{allowed, covers, parent_mode};
 use shore_types::{Fault, Granule, Mode, TxnId};
-use std::alloc::Global;
 
 /// Takes a granule in a mode, after the intentions above it. From the root down each ancestor is asked for in the parent mode, and
 /// then the granule in the mode itself; each request is joined to what the transaction holds there. Where the mode held on an
 /// ancestor covers the mode that is asked, that is all, and nothing further is taken.
 ///
 /// Refused with BadMode if a granule of the level does not take the mode, and nothing has changed; with LockTableFull if a granule of the
-/// path needs a node and none is left; with WouldBlock in place of waiting, if told so; and with Memory. Locks that a refused or
-/// waiting call has taken on its way stay. A transaction that waits asks for nothing; once it waits no more it asks again, and what
-/// it has is found to be enough. After Gray, Lorie, Putzolu and Traiger (1976).
+/// path needs a node and none is left; and with WouldBlock in place of waiting, if told so. Locks that a refused or waiting call has
+/// taken on its way stay. A transaction that waits asks for nothing; once it waits no more it asks again, and what it has is found
+/// to be enough. After Gray, Lorie, Putzolu and Traiger (1976).
 pub fn acquire(
-    alloc: Global,
     table: &mut LockTable,
     txn: TxnId,
     target: Granule,
@@ -35,8 +33,7 @@ pub fn acquire(
     on_conflict: OnConflict,
 ) -> Result<Acquired, Fault>
     requires { is_waiting txn table.old.requests ≡ false }
-    ensures as_asked { result ≢ Err Fault.Memory → walks.ComesTo table.old (walks.acquired on_conflict table.old txn target mode) result table.new }
-    ensures memory { result ≡ Err Fault.Memory → WalkedSome on_conflict table.old table.new txn target mode (reverse (path target)) }
+    ensures as_asked { walks.ComesTo table.old (walks.acquired on_conflict table.old txn target mode) result table.new }
     ensures done { result ≡ Ok Acquired.Done → IsReached table.new.requests txn target mode }
     ensures waiting { (g : Granule) → result ≡ Ok (Acquired.Waiting g) →
         (on_conflict ≡ OnConflict.Wait) × Contains (path target) g × WaitsAt table.new.requests txn g (walks.asked_of target mode g) }
@@ -53,7 +50,7 @@ pub fn acquire(
         return Err(Fault::BadMode);
     }
     tables_are_orderly(table);
-    let path = path_to(alloc, *target);
+    let path = path_to(*target);
     walk(table, txn, target, mode, on_conflict, path.as_slice())
 }
 
@@ -68,8 +65,7 @@ fn walk(
 ) -> Result<Acquired, Fault>
     requires quiet { is_waiting txn table.old.requests ≡ false }
     requires orderly { IsOrderly table.old.requests }
-    ensures as_asked { result ≢ Err Fault.Memory → walks.ComesTo table.old (walks.walk on_conflict txn target.now mode table.old.limit path.now table.old.requests) result table.new }
-    ensures memory { result ≡ Err Fault.Memory → WalkedSome on_conflict table.old table.new txn target.now mode path.now }
+    ensures { walks.ComesTo table.old (walks.walk on_conflict txn target.now mode table.old.limit path.now table.old.requests) result table.new }
 {
     for granule in path {
         if is_spared(table, txn, target, mode, granule) {
@@ -93,9 +89,8 @@ fn ask(
     on_conflict: OnConflict,
 ) -> Result<Acquired, Fault>
     requires { is_waiting txn table.old.requests ≡ false }
-    ensures asked { result ≢ Err Fault.Memory → (result ≡ walks.answer_at on_conflict table.old txn granule.now mode)
-        × (table.new ≡ record { limit = table.old.limit; requests = walks.after_at on_conflict table.old txn granule.now mode }) }
-    ensures memory { result ≡ Err Fault.Memory → table.new ≡ table.old }
+    ensures answer { result ≡ walks.answer_at on_conflict table.old txn granule.now mode }
+    ensures table { table.new ≡ record { limit = table.old.limit; requests = walks.after_at on_conflict table.old txn granule.now mode } }
 {
     match on_conflict {
         OnConflict::Wait => {
@@ -136,7 +131,7 @@ fn is_done(acquired: &Result<Acquired, Fault>) -> bool
 }
 
 // The mode that is asked of a granule on the way to the target.
-fn asked_of(target: &Granule, mode: Mode, granule: &Granule) -> Mode
+pub(crate) fn asked_of(target: &Granule, mode: Mode, granule: &Granule) -> Mode
     ensures { result ≡ walks.asked_of target.now mode granule.now }
 {
     if *granule == *target {
@@ -154,7 +149,7 @@ fn is_spared(table: &LockTable, txn: TxnId, target: &Granule, mode: Mode, granul
 }
 
 // Whether what is held of an ancestor, if anything, covers a mode below it.
-fn is_covered(mode: Mode, held: Option<Mode>) -> bool
+pub(crate) fn is_covered(mode: Mode, held: Option<Mode>) -> bool
     ensures { result ≡ walks.is_covered mode held }
 {
     match held {

@@ -5,9 +5,6 @@ mod command;
 mod manager;
 mod program;
 mod render;
-mod settings;
-#[cfg(test)]
-mod tests;
 mod words;
 
 pub use program::run;

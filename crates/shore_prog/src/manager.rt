@@ -4,9 +4,9 @@ ghost use Rattle.shore_prog.specs.Commands.{IsServedCommand};
 
 use crate::command::{Command, SESSION};
 use crate::render;
-use crate::settings::Settings;
 use shore_disk::{FuseDisk, MemDisk, Pick};
 use shore_model::Call;
+use shore_settings::Settings;
 use shore_types::Fault;
 use shore_world::{Event, Step, World, format};
 use std::alloc::{AllocError, Global};

@@ -5,7 +5,7 @@ ghost use Rattle.shore_prog.specs.Commands.{IsServedCommand};
 use crate::command::{Command, parse};
 use crate::manager::Manager;
 use crate::render;
-use crate::settings::{Settings, read_settings};
+use shore_settings::{Settings, read_settings};
 use shore_types::{ConfigPlace, Fault};
 use std::alloc::{AllocError, Global};
 use std::io::{self, Read, Write};

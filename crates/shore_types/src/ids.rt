@@ -66,7 +66,7 @@ impl fmt::Display for Rid {
 }
 
 /// The number of a transaction. 0 means none.
-#[derive(Clone, Copy, PartialEq, PartialOrd)]
+#[derive(Clone, Copy, PartialEq, Eq, PartialOrd, Ord)]
 pub struct TxnId(pub u64);
 
 impl Model for TxnId {

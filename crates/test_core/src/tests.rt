@@ -1,5 +1,6 @@
 //! The definitions of the machine relate states, calls and steps. These runs pin what they come to on a real manager.
 mod events;
+mod left;
 mod runs;
 mod shown;
 mod trouble;

@@ -1,5 +1,4 @@
 mod anchors;
-mod devices;
 mod files;
 mod gates;
 mod labels;

@@ -186,7 +186,7 @@ fn play(alloc: Global, world: &mut Option<Manager>, line: &str) -> Result<(), Tr
     }
 }
 
-fn play_on(alloc: Global, world: &mut Manager, line: &str) -> Result<(), Trouble> {
+pub(super) fn play_on(alloc: Global, world: &mut Manager, line: &str) -> Result<(), Trouble> {
     if let Some((asked, wanted)) = line.split_once(" -> ") {
         return require_step(alloc, world, &mut asked.split_whitespace(), wanted);
     }
@@ -229,7 +229,7 @@ fn require_log(alloc: Global, world: &Manager, wanted: &str) -> Result<(), Troub
     require(as_log_entry.as_str() == wanted)
 }
 
-fn new_manager(alloc: Global) -> Result<Manager, Trouble> {
+pub(super) fn new_manager(alloc: Global) -> Result<Manager, Trouble> {
     let mut disk = MemDisk::new(alloc, Vec::from_elem(alloc, 0u8, 135_168)?)?;
     require(format(alloc, &mut disk, &geometry(alloc)?).is_ok())?;
     match World::open(alloc, FuseDisk::new(disk, u64::MAX)) {

@@ -21,6 +21,15 @@ const VOLUME_LABEL: [u8; 40] = [
 
 const VOLUME_BYTES: usize = 311_296;
 
+/// How a label is judged: it is the one that it is meant to be, or it is refused, if damaged then at this offset.
+#[derive(Clone, Copy)]
+enum Judged {
+    Read,
+    NotFormatted,
+    WrongVersion,
+    Damaged(u64),
+}
+
 fn a_label(alloc: Global, length: u64) -> Result<Label, AllocError> {
     Ok(Label {
         pair: 7,
@@ -30,140 +39,142 @@ fn a_label(alloc: Global, length: u64) -> Result<Label, AllocError> {
     })
 }
 
-/// The test of what writing a label asks, and the call.
-fn write(alloc: Global, disk: &mut MemDisk, label: Label) -> bool {
-    disk.len() >= 512
-        && label.stores.as_slice().len() <= 64
-        && write_label(alloc, disk, Device::Log, &label).is_ok()
-}
-
-fn damaged(device: Device, offset: u64) -> Fault {
-    Fault::Damaged {
-        device,
-        place: offset,
+/// Whether what the read of a label comes to is as a row says.
+fn is_as(row: &Row, read: &Result<Label, Fault>) -> bool {
+    match (row.3, read) {
+        (Judged::Read, Ok(label)) => is_the_label(label, row.1),
+        (Judged::NotFormatted, Err(Fault::NotFormatted)) => true,
+        (Judged::WrongVersion, Err(Fault::WrongVersion)) => true,
+        (Judged::Damaged(offset), Err(fault)) => is_damaged(fault, row.0, offset),
+        _ => false,
     }
 }
 
-/// Whether the label of a device of this length is read.
-fn is_read<D: Disk>(
+fn is_the_label(label: &Label, length: usize) -> bool {
+    label.pair == 7 && label.length == length as u64 && label.stores.as_slice() == [2, 3].as_slice()
+}
+
+fn is_damaged(fault: &Fault, wanted: Device, offset: u64) -> bool {
+    match fault {
+        Fault::Damaged { device, place } => *device == wanted && *place == offset,
+        _ => false,
+    }
+}
+
+/// A device of zeros with its label, of which some bytes have another value.
+fn changed(
     alloc: Global,
-    disk: &mut D,
     device: Device,
     length: usize,
-) -> Result<bool, AllocError> {
-    let label = a_label(alloc, length as u64)?;
-    Ok(read_label(alloc, disk, device) == Ok(label))
+    changes: &[(u64, u8)],
+) -> Result<MemDisk, AllocError> {
+    let mut disk = zeros(alloc, length)?;
+    let label = match device {
+        Device::Log => &LOG_LABEL,
+        Device::Volume => &VOLUME_LABEL,
+    };
+    put(&mut disk, 0, label);
+    for (at, byte) in changes {
+        put(&mut disk, *at, &[*byte]);
+    }
+    Ok(disk)
 }
 
-/// Whether the label of a device is refused with this.
-fn is_refused<D: Disk>(alloc: Global, disk: &mut D, device: Device, fault: Fault) -> bool {
-    read_label(alloc, disk, device).err() == Some(fault)
-}
+/// A device, its length, the changed bytes of its label, and how that is judged.
+type Row = (Device, usize, &'static [(u64, u8)], Judged);
 
-#[test]
-fn a_label_is_written_and_read(rt: HostRuntime) -> Result<(), AllocError> {
-    let alloc = rt.alloc();
-    let mut disk = zeros(alloc, LOG_BYTES)?;
-    assert!(rt; put(&mut disk, 0, &[9; 512]));
-    assert!(rt; write(alloc, &mut disk, a_label(alloc, LOG_BYTES as u64)?));
-    assert!(rt; open(&mut disk, 0));
-    let front = disk.bytes().get(..40);
-    assert!(rt; front == Some(LOG_LABEL.as_slice()));
-    let back = disk.bytes().get(40..512);
-    assert!(rt; back == Some([0; 472].as_slice()));
-    assert!(rt; is_read(alloc, &mut disk, Device::Log, LOG_BYTES)?);
-    Ok(())
-}
-
-/// Whether the log's label is refused with this, or read where it is none, once a byte of it has another value.
-fn is_judged_at(
-    alloc: Global,
-    at: u64,
-    byte: u8,
-    fault: Option<Fault>,
-) -> Result<bool, AllocError> {
-    let mut disk = zeros(alloc, LOG_BYTES)?;
-    Ok(
-        put(&mut disk, 0, &LOG_LABEL)
-            && put(&mut disk, at, &[byte])
-            && read_label(alloc, &mut disk, Device::Log).err() == fault,
-    )
-}
-
-/// The bytes of the label, a wrong value of each, and the field that is then refused.
-const WRONG_BYTES: [(u64, u8, u64); 12] = [
+const ROWS: [Row; 21] = [
+    (Device::Log, LOG_BYTES, &[], Judged::Read),
+    (Device::Volume, VOLUME_BYTES, &[], Judged::Read),
+    // the first byte, the device's letter, and the version
+    (Device::Log, LOG_BYTES, &[(0, 0)], Judged::NotFormatted),
+    (Device::Log, LOG_BYTES, &[(1, 0x56)], Judged::NotFormatted),
+    (Device::Log, LOG_BYTES, &[(2, 2)], Judged::WrongVersion),
     // the page size, and the device's length
-    (5, 0x10, 4),
-    (17, 0x11, 16),
-    // no lock nodes, and 66,560 of them
-    (25, 0, 24),
-    (26, 1, 24),
+    (Device::Log, LOG_BYTES, &[(5, 0x10)], Judged::Damaged(4)),
+    (Device::Log, LOG_BYTES, &[(17, 0x11)], Judged::Damaged(16)),
+    // no lock nodes, 4,096 of them, which are the most, and 66,560
+    (Device::Log, LOG_BYTES, &[(25, 0)], Judged::Damaged(24)),
+    (Device::Log, LOG_BYTES, &[(25, 0x10)], Judged::Read),
+    (Device::Log, LOG_BYTES, &[(26, 1)], Judged::Damaged(24)),
     // no store, and 65 of them
-    (28, 0, 28),
-    (28, 65, 28),
+    (Device::Log, LOG_BYTES, &[(28, 0)], Judged::Damaged(28)),
+    (Device::Log, LOG_BYTES, &[(28, 65)], Judged::Damaged(28)),
     // no page in a store
-    (32, 0, 32),
-    (36, 0, 36),
+    (Device::Log, LOG_BYTES, &[(32, 0)], Judged::Damaged(32)),
+    (Device::Log, LOG_BYTES, &[(36, 0)], Judged::Damaged(36)),
     // more than 65,536 pages in the first store, and up to the second
-    (34, 1, 32),
-    (38, 1, 36),
+    (Device::Log, LOG_BYTES, &[(34, 1)], Judged::Damaged(32)),
+    (Device::Log, LOG_BYTES, &[(38, 1)], Judged::Damaged(36)),
     // behind the stores
-    (40, 1, 40),
-    (511, 1, 40),
+    (Device::Log, LOG_BYTES, &[(40, 1)], Judged::Damaged(40)),
+    (Device::Log, LOG_BYTES, &[(511, 1)], Judged::Damaged(40)),
+    // a device too short for a label
+    (Device::Log, 4095, &[], Judged::NotFormatted),
+    // a volume of one page less, as its label says too: told behind all other fields
+    (
+        Device::Volume,
+        VOLUME_BYTES - 8192,
+        &[(17, 0xa0)],
+        Judged::Damaged(16),
+    ),
+    (
+        Device::Volume,
+        VOLUME_BYTES - 8192,
+        &[(17, 0xa0), (40, 1)],
+        Judged::Damaged(40),
+    ),
 ];
 
+fn is_judged_right(alloc: Global, row: &Row) -> Result<bool, AllocError> {
+    let mut disk = changed(alloc, row.0, row.1, row.2)?;
+    Ok(is_as(row, &read_label(alloc, &mut disk, row.0)))
+}
+
 #[test]
-fn a_label_is_refused_at_its_first_bad_field(rt: HostRuntime) -> Result<(), AllocError> {
-    let alloc = rt.alloc();
-    for (at, byte) in [(0, 0), (1, 0x56)] {
-        assert!(rt; is_judged_at(alloc, at, byte, Some(Fault::NotFormatted))?);
+fn labels_are_judged(rt: HostRuntime) -> Result<(), AllocError> {
+    for (number, row) in (0u32..u32::MAX).zip(ROWS.iter()) {
+        assert!(rt; is_judged_right(rt.alloc(), row)?, "row {number}");
     }
-    assert!(rt; is_judged_at(alloc, 2, 2, Some(Fault::WrongVersion))?);
-    for (at, byte, offset) in WRONG_BYTES {
-        let fault = damaged(Device::Log, offset);
-        assert!(rt; is_judged_at(alloc, at, byte, Some(fault))?, "at {at}");
-    }
-    // 4,096 lock nodes are allowed.
-    assert!(rt; is_judged_at(alloc, 25, 0x10, None)?);
     Ok(())
+}
+
+/// The test of what writing a label asks, and the call.
+fn write(alloc: Global, disk: &mut MemDisk, label: &Label) -> bool {
+    disk.len() >= 512
+        && label.stores.as_slice().len() <= 64
+        && write_label(alloc, disk, Device::Log, label).is_ok()
+}
+
+/// Whether a label is written as told, over bytes of another value.
+fn is_written(alloc: Global) -> Result<bool, AllocError> {
+    let mut disk = zeros(alloc, LOG_BYTES)?;
+    let label = a_label(alloc, LOG_BYTES as u64)?;
+    if !put(&mut disk, 0, &[9; 512]) || !write(alloc, &mut disk, &label) || !open(&mut disk, 0) {
+        return Ok(false);
+    }
+    let bytes = disk.bytes();
+    let behind = bytes.get(40..512);
+    Ok(bytes.starts_with(&LOG_LABEL) && behind == Some([0; 472].as_slice()))
+}
+
+#[test]
+fn a_label_is_written(rt: HostRuntime) -> Result<(), AllocError> {
+    assert!(rt; is_written(rt.alloc())?);
+    Ok(())
+}
+
+/// Whether a read of the label fails at the chosen call alone.
+fn fails_once<D: Disk>(alloc: Global, disk: &mut D) -> bool {
+    let first = read_label(alloc, disk, Device::Log).is_ok();
+    let second = read_label(alloc, disk, Device::Log).err() == Some(Fault::Device);
+    let third = read_label(alloc, disk, Device::Log).is_ok();
+    first && second && third && disk.failures() == 1
 }
 
 #[test]
 fn a_read_that_fails_is_told_at_its_call_alone(rt: HostRuntime) -> Result<(), AllocError> {
-    let alloc = rt.alloc();
-    let mut inner = zeros(alloc, LOG_BYTES)?;
-    assert!(rt; put(&mut inner, 0, &LOG_LABEL));
-    let mut disk = OnceDisk::new(inner, 1);
-    assert!(rt; is_read(alloc, &mut disk, Device::Log, LOG_BYTES)?);
-    assert!(rt; is_refused(alloc, &mut disk, Device::Log, Fault::Device));
-    assert!(rt; is_read(alloc, &mut disk, Device::Log, LOG_BYTES)?);
-    assert!(rt; disk.failures() == 1);
-    Ok(())
-}
-
-#[test]
-fn a_device_too_short_has_no_label(rt: HostRuntime) -> Result<(), AllocError> {
-    let alloc = rt.alloc();
-    let mut disk = zeros(alloc, 4095)?;
-    assert!(rt; put(&mut disk, 0, &LOG_LABEL));
-    assert!(rt; is_refused(alloc, &mut disk, Device::Log, Fault::NotFormatted));
-    Ok(())
-}
-
-#[test]
-fn a_volume_is_as_long_as_its_pages(rt: HostRuntime) -> Result<(), AllocError> {
-    let alloc = rt.alloc();
-    let mut volume = zeros(alloc, VOLUME_BYTES)?;
-    assert!(rt; put(&mut volume, 0, &VOLUME_LABEL));
-    assert!(rt; is_read(alloc, &mut volume, Device::Volume, VOLUME_BYTES)?);
-
-    // One page shorter, as its label says too: told behind all other fields.
-    let mut shorter = zeros(alloc, VOLUME_BYTES - 8192)?;
-    assert!(rt; put(&mut shorter, 0, &VOLUME_LABEL) && put(&mut shorter, 17, &[0xA0]));
-    let fault = damaged(Device::Volume, 16);
-    assert!(rt; is_refused(alloc, &mut shorter, Device::Volume, fault));
-    assert!(rt; put(&mut shorter, 40, &[1]));
-    let fault = damaged(Device::Volume, 40);
-    assert!(rt; is_refused(alloc, &mut shorter, Device::Volume, fault));
+    let inner = changed(rt.alloc(), Device::Log, LOG_BYTES, &[])?;
+    assert!(rt; fails_once(rt.alloc(), &mut OnceDisk::new(inner, 1)));
     Ok(())
 }

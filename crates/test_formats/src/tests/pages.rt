@@ -1,6 +1,4 @@
 //! Pages by their bytes, and the arithmetic of their room.
-ghost use Rattle.std.specs.Prelude.{◌<◌};
-
 use shore_page::Page;
 use shore_types::layout::PAGE_BYTES;
 use shore_types::{Lsn, PageId, StoreId};
@@ -269,50 +267,6 @@ fn slot_beyond_the_last(rt: HostRuntime) -> Result<(), AllocError> {
     check_run(&rt, &BEYOND)
 }
 
-/// A fixed run of numbers that look like chance.
-#[derive(Drop)]
-struct Chance(u64);
-
-impl Chance {
-    fn below(&mut self, bound: u64) -> u64
-        requires { 0 < bound }
-        ensures { result < bound }
-    {
-        self.0 = self
-            .0
-            .wrapping_mul(6_364_136_223_846_793_005)
-            .wrapping_add(1_442_695_040_888_963_407);
-        (self.0 >> 33) % bound
-    }
-}
-
-/// A page after so many changes, some of which did not fit.
-fn some_page(
-    alloc: Global,
-    chance: &mut Chance,
-    changes: u64,
-    longest: u64,
-) -> Result<Page, AllocError>
-    requires { longest < 4000 }
-{
-    let mut page = Page::new(alloc, ID)?;
-    for change in 0..changes {
-        let slot = chance.below(u64::from(page.slot_count()) + 1) as u16;
-        let len = chance.below(longest + 1) as usize;
-        if chance.below(5) == 0 {
-            remove(&mut page, slot);
-        } else {
-            apply(
-                &mut page,
-                change,
-                slot,
-                &[(change % 251) as u8; 4000][..len],
-            );
-        }
-    }
-    Ok(page)
-}
-
 /// Whether a page is the one that its text gives.
 fn is_read_back(alloc: Global, page: &Page) -> Result<bool, AllocError> {
     let mut text = [0u8; PAGE_BYTES];
@@ -324,39 +278,6 @@ fn is_read_back(alloc: Global, page: &Page) -> Result<bool, AllocError> {
 /// Whether bytes are refused as a page of an id.
 fn is_refused(alloc: Global, id: PageId, bytes: &[u8]) -> Result<bool, AllocError> {
     Ok(Page::from_bytes(alloc, id, bytes)?.is_none())
-}
-
-fn check_page(
-    rt: &(impl Abort + AllocGlobal),
-    page: &Page,
-    longest: u64,
-) -> Result<(), AllocError> {
-    let alloc = rt.alloc();
-    assert!(rt; is_read_back(alloc, page)?, "at {longest}");
-    let mut text = [0u8; PAGE_BYTES];
-    page.to_bytes(&mut text);
-    assert!(rt; is_refused(alloc, page_of(0, 1), &text)? && is_refused(alloc, ID, &text[1..])?);
-    Ok(())
-}
-
-fn check_some_page(
-    rt: &(impl Abort + AllocGlobal),
-    chance: &mut Chance,
-    longest: u64,
-) -> Result<(), AllocError>
-    requires { longest < 4000 }
-{
-    let page = some_page(rt.alloc(), chance, 600, longest)?;
-    check_page(rt, &page, longest)
-}
-
-#[test]
-fn pages_are_read_as_they_were_written(rt: HostRuntime) -> Result<(), AllocError> {
-    let mut chance = Chance(7);
-    for longest in [0, 1, 20, 100, 700, 3999] {
-        check_some_page(&rt, &mut chance, longest)?;
-    }
-    Ok(())
 }
 
 /// Whether bytes are refused; if not, they are those of a page that can be written and read again.
@@ -375,8 +296,12 @@ fn check_bytes(
     }
 }
 
-fn some_text(alloc: Global) -> Result<[u8; PAGE_BYTES], AllocError> {
-    let page = some_page(alloc, &mut Chance(11), 200, 300)?;
+/// The text of the page that steps come to.
+fn text_after(alloc: Global, steps: &[Step]) -> Result<[u8; PAGE_BYTES], AllocError> {
+    let mut page = Page::new(alloc, ID)?;
+    for step in steps {
+        play(&mut page, step);
+    }
     let mut text = [0u8; PAGE_BYTES];
     page.to_bytes(&mut text);
     Ok(text)
@@ -385,7 +310,7 @@ fn some_text(alloc: Global) -> Result<[u8; PAGE_BYTES], AllocError> {
 // Whatever stands in a byte, the bytes are refused, or are those of a page that can be written and read again.
 #[test]
 fn any_byte_gives_a_page_or_a_refusal(rt: HostRuntime) -> Result<(), AllocError> {
-    let mut text = some_text(rt.alloc())?;
+    let mut text = text_after(rt.alloc(), &DECIDED)?;
     let mut has_refused = false;
     for offset in 0..PAGE_BYTES {
         let before = text[offset];

@@ -96,7 +96,7 @@ fn is_right(
 ) -> bool {
     match answer {
         Ok(Locked::Done) => {
-            is_held(table, txn, target, mode) || is_covered(alloc, table, txn, target, mode)
+            is_held(table, txn, target, mode) || is_covered(table, txn, target, mode)
         }
         Ok(Locked::Waiting(granule)) => waits_for(table, txn, granule),
         Ok(Locked::Deadlock) => !table.is_waiting(txn),

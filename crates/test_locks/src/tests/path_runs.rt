@@ -87,8 +87,8 @@ fn step(
         OnConflict::Refuse
     };
     let (target, mode) = (choices.granule(), choices.mode());
-    match acquire(alloc, table, txn, target, mode, on_conflict) {
-        Ok(Acquired::Done) => Ok(count_done(alloc, table, txn, &target, mode, ended)),
+    match acquire(table, txn, target, mode, on_conflict) {
+        Ok(Acquired::Done) => Ok(count_done(table, txn, &target, mode, ended)),
         Ok(Acquired::Waiting(granule)) => {
             let waits_there = waits_for(table, txn, &granule);
             let is_broken = count_waiting(alloc, table, txn, ended);
@@ -119,7 +119,6 @@ fn count_waiting(alloc: Global, table: &mut LockTable, txn: TxnId, ended: &mut E
 
 // Done: the granule is held in the mode, or one above it in a mode that covers it.
 fn count_done(
-    alloc: Global,
     table: &LockTable,
     txn: TxnId,
     target: &Granule,
@@ -131,7 +130,7 @@ fn count_done(
         return true;
     }
     ended.covered = ended.covered.saturating_add(1);
-    is_covered(alloc, table, txn, target, mode)
+    is_covered(table, txn, target, mode)
 }
 
 pub(crate) fn is_held(table: &LockTable, txn: TxnId, target: &Granule, mode: Mode) -> bool {
@@ -141,14 +140,8 @@ pub(crate) fn is_held(table: &LockTable, txn: TxnId, target: &Granule, mode: Mod
     }
 }
 
-pub(crate) fn is_covered(
-    alloc: Global,
-    table: &LockTable,
-    txn: TxnId,
-    target: &Granule,
-    mode: Mode,
-) -> bool {
-    let path = path_to(alloc, *target);
+pub(crate) fn is_covered(table: &LockTable, txn: TxnId, target: &Granule, mode: Mode) -> bool {
+    let path = path_to(*target);
     for granule in path.as_slice() {
         if let Some(held) = table.held(txn, *granule)
             && *granule != *target

@@ -90,9 +90,9 @@ fn is_right(alloc: Global, table: &mut LockTable, step: &Step) -> bool {
     match *step {
         Step::Asks(txn, target, mode, answer) => asks(table, txn, target, mode, answer),
         Step::Tries(txn, target, mode, outcome) => tries(table, txn, target, mode, outcome),
-        Step::Takes(txn, target, mode, taken) => takes(alloc, table, txn, target, mode, taken),
+        Step::Takes(txn, target, mode, taken) => takes(table, txn, target, mode, taken),
         Step::Attempts(txn, target, mode, outcome) => {
-            attempts(alloc, table, txn, target, mode, outcome)
+            attempts(table, txn, target, mode, outcome)
         }
         Step::Cancels(txn) => {
             table.cancel(TxnId(txn));
@@ -137,19 +137,12 @@ fn tried_of(outcome: Outcome) -> Option<Tried> {
     }
 }
 
-fn takes(
-    alloc: Global,
-    table: &mut LockTable,
-    txn: u64,
-    target: Target,
-    mode: Mode,
-    taken: Taken,
-) -> bool {
+fn takes(table: &mut LockTable, txn: u64, target: Target, mode: Mode, taken: Taken) -> bool {
     if table.is_waiting(TxnId(txn)) {
         return false;
     }
     let granule = target.granule();
-    let acquired = acquire(alloc, table, TxnId(txn), granule, mode, OnConflict::Wait);
+    let acquired = acquire(table, TxnId(txn), granule, mode, OnConflict::Wait);
     acquired == Ok(acquired_of(taken))
 }
 
@@ -160,19 +153,12 @@ fn acquired_of(taken: Taken) -> Acquired {
     }
 }
 
-fn attempts(
-    alloc: Global,
-    table: &mut LockTable,
-    txn: u64,
-    target: Target,
-    mode: Mode,
-    outcome: Outcome,
-) -> bool {
+fn attempts(table: &mut LockTable, txn: u64, target: Target, mode: Mode, outcome: Outcome) -> bool {
     if table.is_waiting(TxnId(txn)) {
         return false;
     }
     let granule = target.granule();
-    let acquired = acquire(alloc, table, TxnId(txn), granule, mode, OnConflict::Refuse);
+    let acquired = acquire(table, TxnId(txn), granule, mode, OnConflict::Refuse);
     acquired == attempted_of(outcome)
 }
 

@@ -2,7 +2,7 @@ use Rattle.std.proofs.Common.{◌≡◌, ◌∙◌, ap, sym}
 use Rattle.std.specs.Prelude.{Ok, is_some}
 use Rattle.shore_path.specs.declared.answers.Acquired.TheVariants as acquire
 use Rattle.shore_deadlock.proofs.Lockings.{acquire_count, acquire_each, acquire_free, gentle_acquire, keeps_of}
-use Rattle.shore_deadlock.proofs.Rounds.{acquires_waiting, ends_of, fewer_round, keeps_round, not_memory, through_of}
+use Rattle.shore_deadlock.proofs.Rounds.{acquires_waiting, ends_of, fewer_round, keeps_round, through_of}
 use Rattle.shore_deadlock.proofs.locking.go_round.Goals as goal
 
 pub break_wait-requires : goal.break_wait-requires
@@ -15,7 +15,7 @@ returns-in-Ok-Waiting-clause-ends c =
     let waits : c.acquire.result ≡ Ok (acquire.Waiting c.in-Ok-Waiting.field-0-0) = c.in-Ok-Waiting.is ∙ ap Ok c.in-Ok-Waiting.field-0-is in
     ends_of c.args.table.now c.args.txn c.args.target.now c.args.mode c.in-Ok-Waiting.field-0-0 c.acquire.new.table.requests c.break_wait.new.table.requests c.args.victims.now.items c.break_wait.new.victims.items
     (acquires_waiting c.args.table.now c.args.txn c.args.target.now c.args.mode c.acquire.result c.acquire.new.table c.in-Ok-Waiting.field-0-0 waits
-    (c.acquire.ensures.as_asked (not_memory c.acquire.result (acquire.Waiting c.in-Ok-Waiting.field-0-0) waits)))
+    c.acquire.ensures.as_asked)
     c.break_wait.result c.break_wait.ensures.ends c.break_wait.ensures.refused
 
 pub returns-in-Ok-Waiting-clause-let_through : goal.returns-in-Ok-Waiting-clause-let_through
@@ -23,7 +23,7 @@ returns-in-Ok-Waiting-clause-let_through c =
     let waits : c.acquire.result ≡ Ok (acquire.Waiting c.in-Ok-Waiting.field-0-0) = c.in-Ok-Waiting.is ∙ ap Ok c.in-Ok-Waiting.field-0-is in
     through_of c.args.table.now c.args.txn c.args.target.now c.args.mode c.in-Ok-Waiting.field-0-0 c.acquire.new.table.requests c.break_wait.new.table.requests c.args.victims.now.items c.break_wait.new.victims.items
     (acquires_waiting c.args.table.now c.args.txn c.args.target.now c.args.mode c.acquire.result c.acquire.new.table c.in-Ok-Waiting.field-0-0 waits
-    (c.acquire.ensures.as_asked (not_memory c.acquire.result (acquire.Waiting c.in-Ok-Waiting.field-0-0) waits)))
+    c.acquire.ensures.as_asked)
     c.break_wait.result c.break_wait.ensures.let_through
 
 pub returns-in-Ok-Waiting-clause-fewer : goal.returns-in-Ok-Waiting-clause-fewer
@@ -31,7 +31,7 @@ returns-in-Ok-Waiting-clause-fewer c =
     let waits : c.acquire.result ≡ Ok (acquire.Waiting c.in-Ok-Waiting.field-0-0) = c.in-Ok-Waiting.is ∙ ap Ok c.in-Ok-Waiting.field-0-is in
     fewer_round c.args.txn c.args.table.now.requests c.acquire.new.table.requests c.break_wait.new.table.requests c.args.victims.now.items c.break_wait.new.victims.items c.break_wait.result
     c.tables_are_orderly-in-Ok-Waiting.ensures (ap is_some (c.acquire.ensures.waiting c.in-Ok-Waiting.field-0-0 waits).2.waits)
-    (acquire_count c.args.txn c.args.target.now c.args.mode c.args.table.now c.acquire.new.table c.acquire.result c.tables_are_orderly.ensures c.requires c.acquire.ensures.as_asked c.acquire.ensures.memory c.in-Ok-Waiting.field-0-0 waits)
+    (acquire_count c.args.txn c.args.target.now c.args.mode c.args.table.now c.acquire.new.table c.acquire.result c.tables_are_orderly.ensures c.requires c.acquire.ensures.as_asked)
     c.break_wait.ensures.let_through
 
 pub returns-in-Ok-Waiting-clause-keeps : goal.returns-in-Ok-Waiting-clause-keeps
@@ -40,7 +40,7 @@ returns-in-Ok-Waiting-clause-keeps c =
     keeps_round c.args.txn c.args.table.now.requests c.acquire.new.table.requests c.break_wait.new.table.requests c.args.victims.now.items c.break_wait.new.victims.items c.break_wait.result
     c.tables_are_orderly-in-Ok-Waiting.ensures
     (gentle_acquire c.args.txn c.args.table.now.requests c.acquire.new.table.requests c.acquire.ensures.none_weaker c.acquire.ensures.rooted c.acquire.ensures.others)
-    (acquire_each c.args.txn c.args.target.now c.args.mode c.args.table.now c.acquire.new.table c.acquire.result c.tables_are_orderly.ensures c.requires c.acquire.ensures.as_asked c.acquire.ensures.memory c.in-Ok-Waiting.field-0-0 waits)
+    (acquire_each c.args.txn c.args.target.now c.args.mode c.args.table.now c.acquire.new.table c.acquire.result c.tables_are_orderly.ensures c.requires c.acquire.ensures.as_asked)
     c.break_wait.ensures.ends c.break_wait.ensures.refused c.break_wait.ensures.let_through
 
 pub returns-in-Ok-Done-clause-keeps : goal.returns-in-Ok-Done-clause-keeps
@@ -48,12 +48,12 @@ returns-in-Ok-Done-clause-keeps c =
     let done : c.acquire.result ≡ Ok acquire.Done = c.in-Ok-Done.is ∙ ap Ok c.in-Ok-Done.field-0-is in
     keeps_of c.args.txn c.args.table.now.requests c.acquire.new.table.requests
     (gentle_acquire c.args.txn c.args.table.now.requests c.acquire.new.table.requests c.acquire.ensures.none_weaker c.acquire.ensures.rooted c.acquire.ensures.others)
-    (acquire_free c.args.txn c.args.target.now c.args.mode c.args.table.now c.acquire.new.table c.acquire.result c.tables_are_orderly.ensures c.requires c.acquire.ensures.as_asked c.acquire.ensures.memory
+    (acquire_free c.args.txn c.args.target.now c.args.mode c.args.table.now c.acquire.new.table c.acquire.result c.tables_are_orderly.ensures c.requires c.acquire.ensures.as_asked
     (λ g is. (let both : Ok acquire.Done ≡ Ok (acquire.Waiting g) = sym done ∙ is in cc)))
 
 pub returns-in-Err-clause-keeps : goal.returns-in-Err-clause-keeps
 returns-in-Err-clause-keeps c =
     keeps_of c.args.txn c.args.table.now.requests c.acquire.new.table.requests
     (gentle_acquire c.args.txn c.args.table.now.requests c.acquire.new.table.requests c.acquire.ensures.none_weaker c.acquire.ensures.rooted c.acquire.ensures.others)
-    (acquire_free c.args.txn c.args.target.now c.args.mode c.args.table.now c.acquire.new.table c.acquire.result c.tables_are_orderly.ensures c.requires c.acquire.ensures.as_asked c.acquire.ensures.memory
+    (acquire_free c.args.txn c.args.target.now c.args.mode c.args.table.now c.acquire.new.table c.acquire.result c.tables_are_orderly.ensures c.requires c.acquire.ensures.as_asked
     (λ g is. (let both = sym c.in-Err.is ∙ is in cc)))

@@ -1,0 +1,10 @@
+use Rattle.std.proofs.Common.{◌≡◌, ◌++◌, ℕ, map, length}
+use Rattle.shore_model.specs.declared.requests.Request.{Request}
+use Rattle.shore_locks.proofs.listings.append_walk.Given as goal
+
+abbrev pub invariant-loop-request : goal.invariant-loop-request
+invariant-loop-request l =
+    l.requests.items ++ map (λ (p : ℕ × Request). p.1) l.walk ≡ l.initial.requests.items ++ map (λ (p : ℕ × Request). p.1) l.initial.walk
+
+abbrev pub decreases-loop-request : goal.decreases-loop-request
+decreases-loop-request l = length l.walk
