@@ -86,6 +86,13 @@ impl<D: Disk> PageDev<D> {
         self.device
     }
 
+    /// How many pages the volume has.
+    pub fn pages(&self) -> u32
+        ensures { result ≡ page_count (geometry_of self.now) }
+    {
+        page_count(&self.geometry)
+    }
+
     /// The number of a page on the volume. Numbers rise with the store, and in it with the page.
     pub fn number(&self, id: PageId) -> u32
         requires { HasPage (geometry_of self.now) id }
@@ -102,12 +109,14 @@ impl<D: Disk> PageDev<D> {
         ensures found { (front : List ℕ) (pages : ℕ → List ℕ) → IsSettled self.old front pages → IfOk result (λ page.
             IsPageText (pages (page_number (geometry_of self.old) id)) id page.number (images_of page.slots)
             × (page ≡ settled_page id page.number (images_of page.slots))) }
+        ensures page { IfOk result (λ page. page ≡ settled_page id page.number (images_of page.slots)) }
         ensures behind { IfOk result (λ page. page.number ≤ last) }
         ensures refused { (front : List ℕ) (pages : ℕ → List ℕ) → IsSettled self.old front pages → IfErr result (λ fault.
             IsFromOutside fault
             ⊎ ((fault ≡ Fault.Damaged Device.Volume (page_offset (page_number (geometry_of self.old) id)))
             × HasNoPage (pages (page_number (geometry_of self.old) id)) id last)) }
         ensures settled { (front : List ℕ) (pages : ℕ → List ℕ) → IsSettled self.old front pages → IsSettled self.new front pages }
+        ensures same { IsTrue (D.is_honest self.old.device) → D.history self.new.device ≡ D.history self.old.device }
         ensures geometry { geometry_of self.new ≡ geometry_of self.old }
         ensures cause { HasCause result (D.faults self.old.device) (D.faults self.new.device) }
     {

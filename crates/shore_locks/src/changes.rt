@@ -81,9 +81,11 @@ pub fn release(nodes: &mut Counted, txn: TxnId) -> usize
 {
     let most = nodes.len();
     for count in 0..most {
-        match nodes.pop_first(txn) {
-            Some(request) => pass(nodes, &request.granule),
-            None => return count,
+        let Some(popped) = nodes.pop_first(txn) else {
+            return count;
+        };
+        if popped.may_wait {
+            pass(nodes, &popped.request.granule);
         }
     }
     most

@@ -1,5 +1,5 @@
 //! Nodes, and for each head how many hold in each mode and how many wait: most often nobody is in the way, and that is seen at once.
-ghost use Rattle.std.specs.Prelude.{◌≡◌, ◌<◌, ◌≤◌, ◌+◌, ◌++◌, ◌∷◌, [], IfOk, IsTrue, IsFalse, MatchBool, MatchOption, None, Some, false, length, nat_lt, not, slice_get, true};
+ghost use Rattle.std.specs.Prelude.{◌≡◌, ◌<◌, ◌≤◌, ◌+◌, ◌++◌, ◌∷◌, [], IfOk, IfSome, IsTrue, IsFalse, MatchBool, MatchOption, None, Some, false, length, nat_lt, not, slice_get, true};
 ghost use Rattle.std.specs.List.{list_any};
 ghost use Rattle.std.specs.List.Sorted.{IsPermutation};
 ghost use Rattle.shore_model.specs.Requests.{AreRequests, are_alike, placed_last, requests_by};
@@ -17,6 +17,13 @@ use shore_model::Request;
 use shore_types::{Granule, TxnId};
 use std::alloc::{AllocError, Global};
 use std::marker::Model;
+
+/// A request that was taken out, and whether somebody may wait for its granule.
+#[derive(Drop)]
+pub struct Popped {
+    pub request: Request,
+    pub may_wait: bool,
+}
 
 /// A list of requests, and how many there may be.
 #[derive(Drop)]
@@ -92,7 +99,7 @@ impl Counted {
         ensures limit { self.new.limit ≡ self.old.limit }
     {
         let head = queue_head(&request.granule, self.nodes.heads());
-        self.nodes.push(request);
+        self.nodes.push(request, head);
         self.nodes.len();
         self.tallies[head].add(request);
     }
@@ -114,11 +121,12 @@ impl Counted {
     }
 
     /// Takes out the first request of a transaction.
-    pub fn pop_first(&mut self, txn: TxnId) -> Option<Request>
+    pub fn pop_first(&mut self, txn: TxnId) -> Option<Popped>
         requires { AreRequests self.old.requests }
         ensures items { MatchOption result
             ((None ≡ slice_get (requests_by txn self.old.requests) 0) × (self.new.requests ≡ self.old.requests))
-            (λ r. (Some r ≡ slice_get (requests_by txn self.old.requests) 0) × (self.new.requests ≡ removed r self.old.requests)) }
+            (λ p. (Some p.request ≡ slice_get (requests_by txn self.old.requests) 0) × (self.new.requests ≡ removed p.request self.old.requests)) }
+        ensures waits { IfSome result (λ p. p.may_wait ≡ false → waiters_at p.request.granule self.new.requests ≡ []) }
         ensures limit { self.new.limit ≡ self.old.limit }
     {
         let heads = self.nodes.heads();
@@ -126,7 +134,8 @@ impl Counted {
             Some(request) => {
                 let head = queue_head(&request.granule, heads);
                 self.tallies[head].take_out(&request);
-                Some(request)
+                let may_wait = self.tallies[head].has_waiters();
+                Some(Popped { request, may_wait })
             }
             None => None,
         }

@@ -134,9 +134,10 @@ impl Nodes {
         }
     }
 
-    /// A request comes last. There is a node for it, and its memory.
-    pub fn push(&mut self, request: &Request)
-        requires { length self.old.requests < self.old.limit }
+    /// A request comes last, in the queue of this head. There is a node for it, and its memory.
+    pub fn push(&mut self, request: &Request, queue: usize)
+        requires room { length self.old.requests < self.old.limit }
+        requires queue { queue ≡ spec.queue_head self.old.heads request.now.granule }
         ensures items { self.new.requests ≡ self.old.requests ++ request.now ∷ [] }
         ensures limit { self.new.limit ≡ self.old.limit }
         ensures heads { self.new.heads ≡ self.old.heads }
@@ -149,6 +150,7 @@ impl Nodes {
             &mut self.owners,
             self.heads,
             node,
+            queue,
             request,
         );
         self.history = self.history.and(&key, &true);
@@ -185,6 +187,7 @@ impl Nodes {
         match find_node(walk, request) {
             Some(node) => {
                 let key = node.saturating_sub(self.heads);
+                let queue = queue_head(&request.granule, self.heads);
                 unlink_node(&mut self.queues, &mut self.lists, &mut self.owners, node);
                 self.slots.try_remove(key);
                 let gone = self.history.and(&key, &false);
@@ -194,6 +197,7 @@ impl Nodes {
                     &mut self.owners,
                     self.heads,
                     node,
+                    queue,
                     request,
                 );
                 insert(&mut self.slots, request);
@@ -297,15 +301,18 @@ fn only_of(request: &Request, txn: TxnId) -> Option<Request>
     }
 }
 
-// A node goes last in its three rings.
+// A node goes last in its three rings, of which that of its queue is known.
 fn link_node(
     queues: &mut Rings,
     lists: &mut Rings,
     owners: &mut Rings,
     heads: usize,
     node: usize,
+    queue: usize,
     request: &Request,
 )
+    requires queue { queue ≡ spec.queue_head heads request.now.granule }
+    requires small { queue < heads }
     requires some { 65 < heads }
     requires few { heads ≤ 2 ^ 32 }
     requires queue_heads { heads ≤ length queues.old }
@@ -321,7 +328,6 @@ fn link_node(
     ensures list_nodes { length lists.new ≡ length lists.old }
     ensures owner_nodes { length owners.new ≡ length owners.old }
 {
-    let queue = queue_head(&request.granule, heads);
     queues.link(queue, node);
     let list = list_head(request.txn, heads);
     lists.link(list, node);

@@ -4,7 +4,7 @@ use Rattle.shore_locks.proofs.nodes.link_node.Goals as goal
 
 pub returns-clause-queues : goal.returns-clause-queues
 returns-clause-queues c =
-    subst (λ b. LinksIn c.args.queues.now c.link.new.self b c.args.node) c.queue_head-queue.ensures.is (c.link.ensures.ring, c.link.ensures.others)
+    subst (λ b. LinksIn c.args.queues.now c.link.new.self b c.args.node) c.requires.queue (c.link.ensures.ring, c.link.ensures.others)
 
 pub returns-clause-lists : goal.returns-clause-lists
 returns-clause-lists c =

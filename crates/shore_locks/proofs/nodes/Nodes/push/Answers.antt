@@ -1,14 +1,20 @@
 use Rattle.std.proofs.Common.{◌<◌, ◌+◌, length, refl, ◌++◌, ◌∷◌, [], ap, sym, subst, ◌∙◌}
-use Rattle.shore_locks.specs.Nodes.{alive, request_at, requests_in}
+use Rattle.shore_locks.specs.Nodes.{alive, queue_head, request_at, requests_in}
 use Rattle.slab.specs.Slab.{slab_len}
 use Rattle.std.proofs.lemmas.List.{length-map}
 use Rattle.shore_locks.specs.Tallies.{Stored}
 use Rattle.shore_locks.proofs.NodeSteps.{more_requests, more_linked, room_left, room_same}
+use Rattle.shore_locks.proofs.Spreads.{queue_small}
 use Rattle.shore_locks.proofs.nodes.Nodes.push.Goals as goal
+
+pub link_node-requires-clause-small : goal.link_node-requires-clause-small
+link_node-requires-clause-small c =
+    subst (λ n. n < c.self.inside.heads) (sym (c.requires.queue ∙ ap (λ (t : Stored). queue_head t.heads c.args.request.now.granule) (sym c.self.view_is)))
+    (queue_small c.args.request.now.granule c.self.inside.heads c.self.invariant.0.some_heads)
 
 pub insert-key-requires : goal.insert-key-requires
 insert-key-requires c =
-    let short = subst (λ (t : Stored). length t.requests < t.limit) (sym c.self.view_is) c.requires in
+    let short = subst (λ (t : Stored). length t.requests < t.limit) (sym c.self.view_is) c.requires.room in
     room_left c.self.inside.limit c.self.inside.heads c.self.inside.slots.capacity _ _ _ (length (requests_in c.self.inside.slots (alive c.self.inside.history.items))) (slab_len c.self.inside.slots) c.self.invariant.1
     (c.self.invariant.0.count ∙ sym (length-map (alive c.self.inside.history.items) (request_at c.self.inside.slots))) short
 

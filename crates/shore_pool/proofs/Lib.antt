@@ -1,0 +1,7 @@
+pub mod Indexes
+pub mod Settling
+pub mod Orders
+pub mod Written
+pub mod Moments
+pub mod Same
+pub mod Steps

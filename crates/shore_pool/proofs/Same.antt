@@ -1,0 +1,121 @@
+-- Pages that stay what they are, in a frame or out of it.
+use Rattle.std.proofs.Common.{◌≡◌, ◌≢◌, ◌⊎◌, ◌↔◌, ◌<◌, ◌≤◌, ℕ, zero, suc, Contains, option_map, [], ◌∷◌, arith, List, Option, Some, None, IsSomeAnd, is_some, true, length, refl, sym, ap, subst, ◌∙◌, inl, inr}
+use Rattle.std.proofs.lemmas.Bool.{cases_eq, cases_lt}
+use Rattle.std.proofs.lemmas.List.Elements.{All-cons, All-nil}
+use Rattle.shore_types.specs.declared.ids.PageId.{PageId}
+use Rattle.shore_types.specs.Images.{Image}
+use Rattle.shore_page.specs.Reading.{images_in}
+use Rattle.shore_page.specs.Text.{IsPageText, images_of}
+use Rattle.shore_page.proofs.SlotsRead.{images_are}
+use Rattle.shore_pool.specs.declared.frame.Frame.{Frame}
+use Rattle.shore_pool.specs.Changes.{settled}
+use Rattle.shore_pool.specs.FrameMaps.{IsDue}
+use Rattle.shore_pool.specs.Pages.{AreUpTo, AreWritten, IsPage, IsTextOf, SamePages}
+
+page_id : ℕ → ℕ → PageId
+page_id store page = record { store = store; page = page }
+
+-- bytes are the text of one page at most
+one_text : (bytes : List ℕ) (a b : PageId) (m n : ℕ) (images others : List Image) → IsPageText bytes a m images → IsPageText bytes b n others → (a ≡ b) × (m ≡ n) × (images ≡ others)
+one_text bytes a b m n images others first second =
+    let count : length images ≡ length others = sym first.header.count ∙ second.header.count in
+    let id : a ≡ b = ap (λ (store : ℕ). record { store = store; page = a.page }) (sym first.header.store ∙ second.header.store) ∙ ap (λ (page : ℕ). record { store = b.store; page = page }) (sym first.header.page ∙ second.header.page) in
+    (id, sym first.header.last ∙ second.header.last, sym (images_are bytes a m images first) ∙ ap (images_in bytes) count ∙ images_are bytes b n others second)
+
+-- a clean frame and the volume have one page
+one_page : (f : Frame) (text : List ℕ) → IsTextOf f text → (id : PageId) (number : ℕ) (images : List Image) → IsPage (Some f) text id number images ↔ IsPage None text id number images
+one_page f text is id number images = (
+  (λ p. subst (λ (a : PageId). IsPageText text a number images) p.0 (subst (λ (n : ℕ). IsPageText text f.page.id n images) p.1 (subst (λ (l : List Image). IsPageText text f.page.id f.page.number l) p.2 is))),
+  (λ p. one_text text f.page.id id f.page.number number (images_of f.page.slots) images is p),
+)
+
+pub pages_stay : (at now : ℕ → Option Frame) (disk : ℕ → List ℕ) → ((k : ℕ) → now k ≡ at k) → SamePages at disk now disk
+pages_stay at now disk same k id number images = subst (λ (o : Option Frame). IsPage (at k) (disk k) id number images ↔ IsPage o (disk k) id number images) (sym (same k)) ((λ p. p), (λ p. p))
+
+pub pages_on : (at mid now : ℕ → Option Frame) (disk between left : ℕ → List ℕ) → SamePages at disk mid between → SamePages mid between now left → SamePages at disk now left
+pages_on at mid now disk between left one two k id number images = (
+  (λ p. (two k id number images).0 ((one k id number images).0 p)),
+  (λ p. (one k id number images).1 ((two k id number images).1 p)),
+)
+
+pub written_stay : (at now : ℕ → Option Frame) (disk : ℕ → List ℕ) → ((k : ℕ) → (now k ≡ at k) ⊎ (now k ≡ None)) → AreWritten at disk → AreWritten now disk
+written_stay at now disk each written k f is clean = elim (each k) [
+  | inl same ↦ written k f (sym same ∙ is) clean
+  | inr gone ↦ let clash : None ≡ Some f = sym gone ∙ is in absurd (cc)
+]
+
+module _ (at now : ℕ → Option Frame) (disk : ℕ → List ℕ) (n : ℕ) (others : (k : ℕ) → k ≢ n → now k ≡ at k) where
+  by_page : ((id : PageId) (number : ℕ) (images : List Image) → IsPage (at n) (disk n) id number images ↔ IsPage (now n) (disk n) id number images) → SamePages at disk now disk
+  by_page here k id number images = elim (cases_eq k n) [
+    | inl same ↦ subst (λ (i : ℕ). IsPage (at i) (disk i) id number images ↔ IsPage (now i) (disk i) id number images) (sym same) (here id number images)
+    | inr other ↦ subst (λ (o : Option Frame). IsPage (at k) (disk k) id number images ↔ IsPage o (disk k) id number images) (sym (others k other)) ((λ p. p), (λ p. p))
+  ]
+
+  turned : {A B : Type 0} → A ↔ B → B ↔ A
+  turned e = (e.1, e.0)
+
+  -- a clean frame goes
+  pub page_goes : AreWritten at disk → IsSomeAnd (at n) (λ f. f.recovery ≡ None) → now n ≡ None → SamePages at disk now disk
+  page_goes written clean gone = by_page (λ id number images. each (at n) (written n) clean id number images)
+    where
+      each : (slot : Option Frame) → ((f : Frame) → slot ≡ Some f → f.recovery ≡ None → IsTextOf f (disk n)) → IsSomeAnd slot (λ f. f.recovery ≡ None) → (id : PageId) (number : ℕ) (images : List Image) → IsPage slot (disk n) id number images ↔ IsPage (now n) (disk n) id number images
+      each None is clean id number images = absurd clean
+      each (Some f) is clean id number images = subst (λ (o : Option Frame). IsPage (Some f) (disk n) id number images ↔ IsPage o (disk n) id number images) (sym gone) (one_page f (disk n) (is f refl clean) id number images)
+
+  -- a page that was read comes
+  pub page_comes : (f : Frame) → IsTextOf f (disk n) → at n ≡ None → now n ≡ Some f → SamePages at disk now disk
+  page_comes f text none here = by_page (λ id number images.
+      subst (λ (o : Option Frame). IsPage o (disk n) id number images ↔ IsPage (now n) (disk n) id number images) (sym none)
+      (subst (λ (o : Option Frame). IsPage None (disk n) id number images ↔ IsPage o (disk n) id number images) (sym here) (turned (one_page f (disk n) text id number images))))
+
+  pub written_comes : (f : Frame) → IsTextOf f (disk n) → now n ≡ Some f → AreWritten at disk → AreWritten now disk
+  written_comes f text here written k e is clean = elim (cases_eq k n) [
+    | inl same ↦
+        let both : Some f ≡ Some e = sym here ∙ ap now (sym same) ∙ is in
+        let one : f ≡ e = cc in
+        subst (λ (x : Frame). IsTextOf x (disk k)) one (subst (λ (i : ℕ). IsTextOf f (disk i)) (sym same) text)
+    | inr other ↦ written k e (sym (others k other) ∙ is) clean
+  ]
+
+pub stay_or_go : (at now : ℕ → Option Frame) (n : ℕ) → now n ≡ None → ((k : ℕ) → k ≢ n → now k ≡ at k) → (k : ℕ) → (now k ≡ at k) ⊎ (now k ≡ None)
+stay_or_go at now n gone others k = elim (cases_eq k n) [
+  | inl same ↦ inr (ap now same ∙ gone)
+  | inr other ↦ inl (others k other)
+]
+
+pub there_is : (P : Frame → Type 0) (slot : Option Frame) → IsSomeAnd slot P → is_some slot ≡ true
+there_is P None p = absurd p
+there_is P (Some f) p = refl
+
+-- a batch of one page
+pub one_up_to : (at : ℕ → Option Frame) (n seen : ℕ) → IsSomeAnd (at n) (IsDue seen) → AreUpTo at seen (n ∷ [])
+one_up_to at n seen due = All-cons (λ k. IsSomeAnd (at k) (λ f. f.page.number ≤ seen)) n [] (each (at n) due) (All-nil (λ k. IsSomeAnd (at k) (λ f. f.page.number ≤ seen)))
+  where
+    each : (slot : Option Frame) → IsSomeAnd slot (IsDue seen) → IsSomeAnd slot (λ f. f.page.number ≤ seen)
+    each None is = absurd is
+    each (Some f) is = is.1
+
+pub contains_one : (n k : ℕ) → Contains (n ∷ []) k → n ≡ k
+contains_one n k (zero, inside, is) = is
+contains_one n k (suc i, inside, is) = absurd (omega arith)
+
+pub settled_clean : (slot now : Option Frame) (P : Frame → Type 0) → IsSomeAnd slot P → now ≡ option_map settled slot → IsSomeAnd now (λ f. f.recovery ≡ None)
+settled_clean None now P is same = absurd is
+settled_clean (Some f) now P is same = subst (λ (o : Option Frame). IsSomeAnd o (λ e. e.recovery ≡ None)) (sym same) refl
+
+-- all pages are dirty, and none may be written: each has a number above
+pub all_above : (at : ℕ → Option Frame) (seen : ℕ) → ((k : ℕ) (f : Frame) → at k ≡ Some f → f.recovery ≢ None) → ((k : ℕ) (f : Frame) → at k ≡ Some f → IsDue seen f → ⊥) → (k : ℕ) (f : Frame) → at k ≡ Some f → (f.recovery ≢ None) × (seen < f.page.number)
+all_above at seen dirty none k f is = (
+  dirty k f is,
+  elim (cases_lt seen f.page.number) [
+    | inl above ↦ above
+    | inr up_to ↦ absurd (none k f is (dirty k f is, up_to))
+  ],
+)
+
+pub one_above : (at : ℕ → Option Frame) (seen number : ℕ) (one : (k : ℕ) × IsSomeAnd (at k) (λ f. f.page.number ≡ number)) → ((k : ℕ) (f : Frame) → at k ≡ Some f → (f.recovery ≢ None) × (seen < f.page.number)) → seen < number
+one_above at seen number one all = each (at one.0) (all one.0) one.1
+  where
+    each : (slot : Option Frame) → ((f : Frame) → slot ≡ Some f → (f.recovery ≢ None) × (seen < f.page.number)) → IsSomeAnd slot (λ f. f.page.number ≡ number) → seen < number
+    each None is has = absurd has
+    each (Some f) is has = subst (λ (n : ℕ). seen < n) has (is f refl).1

@@ -1,0 +1,9 @@
+use Rattle.std.proofs.Common.{◌≡◌, take}
+use Rattle.shore_dwrite.specs.Images.{numbers_of, texts_of}
+use Rattle.shore_dwrite.specs.Shown.{AreTexts}
+use Rattle.shore_pool.specs.FrameMaps.{frame_at}
+use Rattle.shore_pool.specs.Pages.{HasText}
+use Rattle.shore_pool.proofs.gathering.gather.Given as goal
+
+abbrev pub invariant-loop-i : goal.invariant-loop-i
+invariant-loop-i l = (numbers_of l.batch ≡ take l.i l.numbers) × AreTexts (HasText (frame_at l.frames)) (take l.i l.numbers) (texts_of l.batch)

@@ -1,0 +1,130 @@
+use Rattle.std.proofs.Common.{◌≡◌, ℕ, List, Option, None, inl, inr, sym, ap, subst, ◌∙◌}
+use Rattle.shore_disk.specs.Device.{History, LeavesOnly}
+use Rattle.shore_types.specs.declared.faults.Device.TheVariants as Device
+use Rattle.shore_types.specs.declared.faults.Fault.{Fault}
+use Rattle.shore_types.specs.declared.layout.Geometry.{Geometry}
+use Rattle.shore_dwrite.specs.Settled as settled_device
+use Rattle.shore_dwrite.specs.Volumes.{HasNoPage, page_number, page_offset}
+use Rattle.shore_dwrite.proofs.Moves.{if_err}
+use Rattle.shore_pool.specs.declared.frame.Frame.{Frame}
+use Rattle.shore_pool.specs.FrameMaps as maps
+use Rattle.shore_pool.specs.Pages.{AreInOrder, AreWritten}
+use Rattle.shore_pool.specs.Pools.{LeavesPages, WroteBack, frame_at, geometry_of, history_of}
+use Rattle.shore_pool.proofs.Moments.{Leaves, as_it_was, while_still}
+use Rattle.shore_pool.proofs.Same.{pages_stay}
+use Rattle.shore_pool.proofs.Steps.{alike, force_from, left_alone, match_err, none_is, wrote_from, wrote_then}
+use Rattle.shore_pool.proofs.pool.Pool.fetch.Goals as goal
+
+pub invariant_of-self-clause-in_order : goal.invariant_of-self-clause-in_order
+invariant_of-self-clause-in_order g c =
+    let old = c.args.self.now in
+    let same = alike (maps.frame_at old.frames) (maps.frame_at c.touch.new.self) c.touch.ensures.same in
+    subst (λ (at : ℕ → Option Frame). AreInOrder at (settled_device.geometry_of old.device)) (sym same) old.in_order
+
+pub returns-then-touch-clause-kept : goal.returns-then-touch-clause-kept
+returns-then-touch-clause-kept g c front disk holds =
+    let old = c.args.self.now in
+    let at = maps.frame_at old.frames in
+    let now = maps.frame_at c.touch.new.self in
+    let same = alike at now c.touch.ensures.same in
+    record {
+      left = disk;
+      holds = record { settled = holds.settled; written = subst (λ (a : ℕ → Option Frame). AreWritten a disk) (sym same) holds.written };
+      may = as_it_was (settled_device.geometry_of old.device) at c.args.seen front disk;
+      same = pages_stay at now disk c.touch.ensures.same;
+    }
+
+pub returns-then-touch-clause-any_moment : goal.returns-then-touch-clause-any_moment
+returns-then-touch-clause-any_moment g c front disk holds = while_still c.args.self.now.device (frame_at c.args.self.now) c.args.seen front disk holds.settled
+
+pub returns-in_err-make_room-clause-kept : goal.returns-in_err-make_room-clause-kept
+returns-in_err-make_room-clause-kept g c front disk holds =
+    let old = c.args.self.now in
+    let same = alike (maps.frame_at old.frames) (maps.frame_at c.touch.new.self) c.touch.ensures.same in
+    match_err (WroteBack old c.make_room.new.self c.args.seen front disk) c.from_residual.result c.from_residual.ensures.1 (λ fault is. elim (c.in_err-make_room.ensures.kept front disk (record { settled = holds.settled; written = subst (λ (a : ℕ → Option Frame). AreWritten a disk) (sym same) holds.written })) [
+      | inl device ↦ inl (is ∙ device)
+      | inr w ↦ inr (wrote_from old _ c.make_room.new.self same c.args.seen front disk w)
+    ])
+
+pub returns-in_err-make_room-clause-refused : goal.returns-in_err-make_room-clause-refused
+returns-in_err-make_room-clause-refused g c front disk holds =
+    let old = c.args.self.now in
+    let same = alike (maps.frame_at old.frames) (maps.frame_at c.touch.new.self) c.touch.ensures.same in
+    if_err c.from_residual.result c.from_residual.ensures.1 (λ fault is. elim c.in_err-make_room.ensures.refused [
+      | inl device ↦ inl (is ∙ device)
+      | inr other ↦ elim other [
+        | inl memory ↦ inr (inl (is ∙ memory))
+        | inr force ↦ inr (inr (inr (force.0, is ∙ force.1, force_from old _ same c.args.seen force.0 force.2)))
+      ]
+    ])
+
+pub returns-in_err-make_room-clause-any_moment : goal.returns-in_err-make_room-clause-any_moment
+returns-in_err-make_room-clause-any_moment g c front disk holds =
+    let old = c.args.self.now in
+    let same = alike (maps.frame_at old.frames) (maps.frame_at c.touch.new.self) c.touch.ensures.same in
+    subst (λ (a : ℕ → Option Frame). LeavesOnly (history_of old) (history_of c.make_room.new.self) (Leaves (settled_device.geometry_of old.device) a c.args.seen front disk)) same
+    (c.make_room.ensures.any_moment front disk (record { settled = holds.settled; written = subst (λ (a : ℕ → Option Frame). AreWritten a disk) (sym same) holds.written }))
+
+pub returns-in_err-read-clause-kept : goal.returns-in_err-read-clause-kept
+returns-in_err-read-clause-kept g c front disk holds =
+    let old = c.args.self.now in
+    let same = alike (maps.frame_at old.frames) (maps.frame_at c.touch.new.self) c.touch.ensures.same in
+    let w = c.in_ok-make_room.ensures.kept front disk (record { settled = holds.settled; written = subst (λ (a : ℕ → Option Frame). AreWritten a disk) (sym same) holds.written }) in
+    match_err (WroteBack old c.read.new.self c.args.seen front disk) c.from_residual-in_err-read.result c.from_residual-in_err-read.ensures.1
+    (λ fault is. inr (wrote_from old _ c.read.new.self same c.args.seen front disk (wrote_then _ c.make_room.new.self c.read.new.self c.args.seen front disk w (c.read.ensures.kept front w.left w.holds))))
+
+pub returns-in_err-read-clause-refused : goal.returns-in_err-read-clause-refused
+returns-in_err-read-clause-refused g c front disk holds =
+    let old = c.args.self.now in
+    let geometry = settled_device.geometry_of old.device in
+    let at = maps.frame_at old.frames in
+    let now = maps.frame_at c.touch.new.self in
+    let same = alike at now c.touch.ensures.same in
+    let id = c.args.id in
+    let n = page_number geometry id in
+    let w = c.in_ok-make_room.ensures.kept front disk (record { settled = holds.settled; written = subst (λ (a : ℕ → Option Frame). AreWritten a disk) (sym same) holds.written }) in
+    let none : at n ≡ None = ap at (sym c.number-number.ensures.number) ∙ none_is (at c.number-number.result) (sym c.touch.ensures.there ∙ c.if-touch.false) in
+    let number_is : page_number (geometry_of c.make_room.new.self) id ≡ n = ap (λ (it : Geometry). page_number it id) c.make_room.ensures.geometry in
+    let text_is : w.left (page_number (geometry_of c.make_room.new.self) id) ≡ disk n = ap w.left number_is ∙ left_alone now c.args.seen disk w.left n w.may (c.touch.ensures.same n ∙ none) in
+    if_err c.from_residual-in_err-read.result c.from_residual-in_err-read.ensures.1 (λ fault is. elim (c.in_err-read.ensures.refused front w.left w.holds) [
+      | inl device ↦ inl (is ∙ device)
+      | inr other ↦ elim other [
+        | inl memory ↦ inr (inl (is ∙ memory))
+        | inr damaged ↦ inr (inr (inl (
+          is ∙ damaged.0 ∙ ap (λ (k : ℕ). Fault.Damaged Device.Volume (page_offset k)) number_is,
+          subst (λ (text : List ℕ). HasNoPage text id c.args.last) text_is damaged.1,
+          none,
+        )))
+      ]
+    ])
+
+pub returns-in_err-read-clause-any_moment : goal.returns-in_err-read-clause-any_moment
+returns-in_err-read-clause-any_moment g c front disk holds =
+    let old = c.args.self.now in
+    let same = alike (maps.frame_at old.frames) (maps.frame_at c.touch.new.self) c.touch.ensures.same in
+    let w = c.in_ok-make_room.ensures.kept front disk (record { settled = holds.settled; written = subst (λ (a : ℕ → Option Frame). AreWritten a disk) (sym same) holds.written }) in
+    subst (λ (h : History). LeavesOnly (history_of old) h (LeavesPages old c.args.seen front disk)) (sym (c.read.ensures.history front w.left w.holds))
+    (subst (λ (a : ℕ → Option Frame). LeavesOnly (history_of old) (history_of c.make_room.new.self) (Leaves (settled_device.geometry_of old.device) a c.args.seen front disk)) same (c.make_room.ensures.any_moment front disk (record { settled = holds.settled; written = subst (λ (a : ℕ → Option Frame). AreWritten a disk) (sym same) holds.written })))
+
+pub returns-clause-read : goal.returns-clause-read
+returns-clause-read g c front disk holds how =
+    let old = c.args.self.now in
+    let at = maps.frame_at old.frames in
+    let same = alike at (maps.frame_at c.touch.new.self) c.touch.ensures.same in
+    let w = c.in_ok-make_room.ensures.kept front disk (record { settled = holds.settled; written = subst (λ (a : ℕ → Option Frame). AreWritten a disk) (sym same) holds.written }) in
+    (ap at (sym c.number-number.ensures.number) ∙ none_is (at c.number-number.result) (sym c.touch.ensures.there ∙ c.if-touch.false), c.in_ok-read.ensures.read front w.left w.holds)
+
+pub returns-clause-kept : goal.returns-clause-kept
+returns-clause-kept g c front disk holds =
+    let old = c.args.self.now in
+    let same = alike (maps.frame_at old.frames) (maps.frame_at c.touch.new.self) c.touch.ensures.same in
+    let w = c.in_ok-make_room.ensures.kept front disk (record { settled = holds.settled; written = subst (λ (a : ℕ → Option Frame). AreWritten a disk) (sym same) holds.written }) in
+    wrote_from old _ c.read.new.self same c.args.seen front disk (wrote_then _ c.make_room.new.self c.read.new.self c.args.seen front disk w (c.read.ensures.kept front w.left w.holds))
+
+pub returns-clause-any_moment : goal.returns-clause-any_moment
+returns-clause-any_moment g c front disk holds =
+    let old = c.args.self.now in
+    let same = alike (maps.frame_at old.frames) (maps.frame_at c.touch.new.self) c.touch.ensures.same in
+    let w = c.in_ok-make_room.ensures.kept front disk (record { settled = holds.settled; written = subst (λ (a : ℕ → Option Frame). AreWritten a disk) (sym same) holds.written }) in
+    subst (λ (h : History). LeavesOnly (history_of old) h (LeavesPages old c.args.seen front disk)) (sym (c.read.ensures.history front w.left w.holds))
+    (subst (λ (a : ℕ → Option Frame). LeavesOnly (history_of old) (history_of c.make_room.new.self) (Leaves (settled_device.geometry_of old.device) a c.args.seen front disk)) same (c.make_room.ensures.any_moment front disk (record { settled = holds.settled; written = subst (λ (a : ℕ → Option Frame). AreWritten a disk) (sym same) holds.written })))

@@ -1,0 +1,62 @@
+use Rattle.std.proofs.Common.{inl, inr, refl, sym, ap, subst, ◌∙◌, arith}
+use Rattle.std.proofs.lemmas.Bool.{cases_eq}
+use Rattle.shore_disk.specs.Device.{LeavesOnly}
+use Rattle.shore_dwrite.specs.declared.device.PageDev.{PageDev}
+use Rattle.shore_dwrite.specs.Settled as settled_device
+use Rattle.shore_pool.specs.FrameMaps.{IsDue}
+use Rattle.shore_pool.specs.Pools.{LeavesPages, frame_at, history_of}
+use Rattle.shore_pool.proofs.Moments.{while_still}
+use Rattle.shore_pool.proofs.Same.{all_above, contains_one, one_above, one_up_to, pages_on, settled_clean}
+use Rattle.shore_pool.proofs.pool.Pool.steal.Goals as goal
+
+pub returns-in_err-write-clause-any_moment : goal.returns-in_err-write-clause-any_moment
+returns-in_err-write-clause-any_moment g c front disk holds =
+    let n = c.in-Some.number in
+    c.write.ensures.any_moment front disk c.args.seen holds (one_up_to (frame_at c.args.self.now) n c.args.seen c.in-Some.ensures.due)
+
+pub free-requires : goal.free-requires
+free-requires g c =
+    let n = c.in-Some.number in
+    settled_clean (frame_at c.args.self.now n) (frame_at c.write.new.self n) (IsDue c.args.seen) c.in-Some.ensures.due (c.in_ok-write.ensures.clean n (0, omega arith, refl))
+
+pub returns-in-Some-clause-frames : goal.returns-in-Some-clause-frames
+returns-in-Some-clause-frames g c k =
+    let n = c.in-Some.number in
+    elim (cases_eq k n) [
+      | inl same ↦ inr (ap (frame_at c.free.new.self) same ∙ c.free.ensures.gone)
+      | inr other ↦ inl (c.free.ensures.others k other ∙ c.in_ok-write.ensures.others k (λ has. other (sym (contains_one n k has))))
+    ]
+
+pub returns-in-Some-clause-kept : goal.returns-in-Some-clause-kept
+returns-in-Some-clause-kept g c front disk holds =
+    let n = c.in-Some.number in
+    let old = frame_at c.args.self.now in
+    let wrote = c.in_ok-write.ensures.kept front disk c.args.seen holds (one_up_to old n c.args.seen c.in-Some.ensures.due) in
+    let freed = c.free.ensures.kept front wrote.left wrote.holds in
+    record {
+      left = wrote.left;
+      holds = freed.0;
+      may = wrote.may;
+      same = pages_on old (frame_at c.write.new.self) (frame_at c.free.new.self) disk wrote.left wrote.left wrote.same freed.1;
+    }
+
+pub returns-in-Some-clause-any_moment : goal.returns-in-Some-clause-any_moment
+returns-in-Some-clause-any_moment g c front disk holds =
+    let n = c.in-Some.number in
+    let old = c.args.self.now in
+    subst (λ (d : PageDev _ _). LeavesOnly (history_of old) (g.D.Disk.history (settled_device.device_of d)) (LeavesPages old c.args.seen front disk)) (sym c.free.ensures.device)
+    (c.write.ensures.any_moment front disk c.args.seen holds (one_up_to (frame_at old) n c.args.seen c.in-Some.ensures.due))
+
+pub returns-in-Some-any_number-clause-refused : goal.returns-in-Some-any_number-clause-refused
+returns-in-Some-any_number-clause-refused g c dirty =
+    let at = frame_at c.args.self.now in
+    let number = c.in-Some-any_number.number in
+    let one = c.in-Some-any_number.ensures.some in
+    let all = all_above at c.args.seen dirty c.in_default.ensures.none in
+    inr (inr (number, refl, record { above = one_above at c.args.seen number one all; one = one; all = all }))
+
+pub returns-in-Some-any_number-clause-any_moment : goal.returns-in-Some-any_number-clause-any_moment
+returns-in-Some-any_number-clause-any_moment g c front disk holds = while_still c.args.self.now.device (frame_at c.args.self.now) c.args.seen front disk holds.settled
+
+pub returns-in-None-clause-any_moment : goal.returns-in-None-clause-any_moment
+returns-in-None-clause-any_moment g c front disk holds = while_still c.args.self.now.device (frame_at c.args.self.now) c.args.seen front disk holds.settled

@@ -1,0 +1,88 @@
+use Rattle.std.proofs.Common.{ℕ, List, subst, sym, ap, ◌∙◌}
+use Rattle.shore_dwrite.specs.Images.{texts_of}
+use Rattle.shore_dwrite.specs.Settled as settled_device
+use Rattle.shore_dwrite.specs.Settled.{IsSettled}
+use Rattle.shore_dwrite.specs.Shown.{IsBatch, ShowsEither, overlaid}
+use Rattle.shore_disk.specs.Device.{LeavesOnly}
+use Rattle.shore_dwrite.specs.Volumes.{page_count}
+use Rattle.shore_pool.specs.FrameMaps as maps
+use Rattle.shore_pool.specs.Pages.{AreInOrder}
+use Rattle.shore_pool.proofs.Moments.{while_still, while_written}
+use Rattle.shore_pool.proofs.Orders.{order_settled}
+use Rattle.shore_pool.proofs.Settling.{settled_here, not_settled}
+use Rattle.shore_pool.proofs.Written.{is_batch, may_be_left, all_written, same_pages}
+use Rattle.shore_pool.proofs.pool.Pool.write.Goals as goal
+
+pub write_batch-requires : goal.write_batch-requires
+write_batch-requires g c =
+    let old = c.args.self.now in
+    let numbers = c.args.numbers.now in
+    let batch = c.gather.new.batch in
+    let is : IsBatch (settled_device.geometry_of old.device) numbers (texts_of batch) = is_batch (maps.frame_at old.frames) (settled_device.geometry_of old.device) numbers (texts_of batch) old.in_order c.requires.some c.requires.most c.requires.rise c.requires.there c.in_ok-gather.ensures.texts in
+    subst (λ (l : List ℕ). IsBatch (settled_device.geometry_of old.device) l (texts_of batch)) (sym c.in_ok-gather.ensures.numbers) is
+
+pub returns-in_err-gather-clause-any_moment : goal.returns-in_err-gather-clause-any_moment
+returns-in_err-gather-clause-any_moment g c front disk seen holds up_to =
+    let old = c.args.self.now in
+    while_still old.device (maps.frame_at old.frames) seen front disk holds.settled
+
+pub invariant_of-self-in-Break-branch-2 : goal.invariant_of-self-in-Break-branch-2
+invariant_of-self-in-Break-branch-2 g c = record {
+  in_order = subst (AreInOrder (maps.frame_at c.args.self.now.frames)) (sym c.write_batch.ensures.geometry) c.args.self.now.in_order;
+  some = c.args.self.now.some;
+  pages = c.args.self.now.pages ∙ ap page_count (sym c.write_batch.ensures.geometry);
+}
+
+pub returns-in_err-write_batch-clause-any_moment : goal.returns-in_err-write_batch-clause-any_moment
+returns-in_err-write_batch-clause-any_moment g c front disk seen holds up_to =
+    let old = c.args.self.now in
+    let at = maps.frame_at old.frames in
+    let geometry = settled_device.geometry_of old.device in
+    let numbers = c.args.numbers.now in
+    let texts = texts_of c.gather.new.batch in
+    let are = c.in_ok-gather.ensures.texts in
+    while_written geometry at seen front disk _ _ (overlaid numbers texts disk) (may_be_left at seen numbers texts disk are up_to)
+    (subst (λ (l : List ℕ). LeavesOnly (g.D.Disk.history (settled_device.device_of old.device)) (g.D.Disk.history (settled_device.device_of c.write_batch.new.self)) (ShowsEither geometry front disk (overlaid l texts disk)))
+    c.in_ok-gather.ensures.numbers (c.write_batch.ensures.any_moment front disk holds.settled))
+
+pub returns-clause-any_moment : goal.returns-clause-any_moment
+returns-clause-any_moment g c front disk seen holds up_to =
+    let old = c.args.self.now in
+    let at = maps.frame_at old.frames in
+    let geometry = settled_device.geometry_of old.device in
+    let numbers = c.args.numbers.now in
+    let texts = texts_of c.gather.new.batch in
+    let are = c.in_ok-gather.ensures.texts in
+    while_written geometry at seen front disk _ _ (overlaid numbers texts disk) (may_be_left at seen numbers texts disk are up_to)
+    (subst (λ (l : List ℕ). LeavesOnly (g.D.Disk.history (settled_device.device_of old.device)) (g.D.Disk.history (settled_device.device_of c.write_batch.new.self)) (ShowsEither geometry front disk (overlaid l texts disk)))
+    c.in_ok-gather.ensures.numbers (c.write_batch.ensures.any_moment front disk holds.settled))
+
+pub invariant_of-self-2-clause-in_order : goal.invariant_of-self-2-clause-in_order
+invariant_of-self-2-clause-in_order g c =
+    let old = c.args.self.now in
+    subst (AreInOrder (maps.frame_at c.settle_all.new.self)) (sym c.write_batch.ensures.geometry)
+    (order_settled (maps.frame_at old.frames) (maps.frame_at c.settle_all.new.self) (settled_device.geometry_of old.device) c.args.numbers.now old.in_order c.settle_all.ensures.settled)
+
+pub returns-clause-clean : goal.returns-clause-clean
+returns-clause-clean g c k has = c.settle_all.ensures.settled k ∙ settled_here (maps.frame_at c.args.self.now.frames) c.args.numbers.now k has
+
+pub returns-clause-others : goal.returns-clause-others
+returns-clause-others g c k none = c.settle_all.ensures.settled k ∙ not_settled (maps.frame_at c.args.self.now.frames) c.args.numbers.now k none
+
+pub returns-clause-kept : goal.returns-clause-kept
+returns-clause-kept g c front disk seen holds up_to =
+    let old = c.args.self.now in
+    let at = maps.frame_at old.frames in
+    let now = maps.frame_at c.settle_all.new.self in
+    let numbers = c.args.numbers.now in
+    let texts = texts_of c.gather.new.batch in
+    let are = c.in_ok-gather.ensures.texts in
+    record {
+      left = overlaid numbers texts disk;
+      holds = record {
+        settled = subst (λ (l : List ℕ). IsSettled c.write_batch.new.self front (overlaid l texts disk)) c.in_ok-gather.ensures.numbers (c.in_ok-write_batch.ensures.settled front disk holds.settled);
+        written = all_written at now numbers texts disk are c.settle_all.ensures.settled holds.written;
+      };
+      may = may_be_left at seen numbers texts disk are up_to;
+      same = same_pages at now numbers texts disk are c.settle_all.ensures.settled;
+    }

@@ -1,0 +1,54 @@
+-- The frames of a pool as a map from the numbers of pages.
+use Rattle.std.specs.Prelude.{◌≡◌, ◌≢◌, ◌≤◌, ℕ, Option, None, Some, length}
+use Rattle.slab.specs.Slab.{get, slab_len}
+use Rattle.shore_pool.specs.declared.frame.Frame.{Frame}
+use Rattle.shore_pool.specs.declared.frames.Frames.{Frames}
+use Rattle.shore_pool.specs.Frames.{frame_in, key_at}
+
+-- the frame of the page of a number
+abbrev pub frame_at : Frames → ℕ → Option Frame
+frame_at frames k = frame_in frames.slots frames.table.items k
+
+-- .. and the key under which it is kept
+abbrev pub key_of : Frames → ℕ → Option ℕ
+key_of frames k = key_at frames.table.items k
+
+-- how many there are, and how many there may be
+abbrev pub count_of : Frames → ℕ
+count_of frames = slab_len frames.slots
+
+abbrev pub limit_of : Frames → ℕ
+limit_of frames = frames.limit
+
+-- how many pages the volume has
+abbrev pub pages_of : Frames → ℕ
+pages_of frames = length frames.table.items
+
+-- as many frames, under the same limit, for the same volume
+pub record KeepsShape (old new : Frames) : Type 0 where
+  pub count : count_of new ≡ count_of old
+  pub limit : limit_of new ≡ limit_of old
+  pub pages : pages_of new ≡ pages_of old
+
+abbrev pub SameFrames : Frames → Frames → Type 0
+SameFrames old new = (k : ℕ) → frame_at new k ≡ frame_at old k
+
+-- no frame is clean
+abbrev pub AllDirty : Frames → Type 0
+AllDirty frames = (k : ℕ) (f : Frame) → frame_at frames k ≡ Some f → f.recovery ≢ None
+
+-- a key has no clean frame
+abbrev pub IsNotClean : Frames → ℕ → Type 0
+IsNotClean frames key = (f : Frame) → get frames.slots key ≡ Some f → f.recovery ≢ None
+
+-- a dirty page with a number up to this one
+abbrev pub IsDue : ℕ → Frame → Type 0
+IsDue seen f = (f.recovery ≢ None) × (f.page.number ≤ seen)
+
+-- no frame has such a page
+abbrev pub NoneDue : Frames → ℕ → Type 0
+NoneDue frames seen = (k : ℕ) (f : Frame) → frame_at frames k ≡ Some f → IsDue seen f → ⊥
+
+-- .. nor has that of a key
+abbrev pub IsNotDue : Frames → ℕ → ℕ → Type 0
+IsNotDue frames seen key = (f : Frame) → get frames.slots key ≡ Some f → IsDue seen f → ⊥

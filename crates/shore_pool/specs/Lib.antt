@@ -1,0 +1,6 @@
+pub mod Clocks
+pub mod Changes
+pub mod Frames
+pub mod FrameMaps
+pub mod Pages
+pub mod Pools

@@ -1,0 +1,76 @@
+-- What a pool holds over a volume, and what a call leaves of both.
+use Rattle.std.specs.Prelude.{◌≡◌, ◌≢◌, ◌⊎◌, ◌<◌, ℕ, List, Option, Some, None, IsSomeAnd}
+use Rattle.shore_disk.specs.Device.{History}
+use Rattle.shore_disk.specs.declared.device.Disk.{Ghosts}
+use Rattle.shore_types.specs.declared.ids.PageId.{PageId}
+use Rattle.shore_types.specs.declared.layout.Geometry.{Geometry}
+use Rattle.shore_types.specs.Images.{Image}
+use Rattle.shore_dwrite.specs.declared.device.PageDev.{PageDev}
+use Rattle.shore_dwrite.specs.Settled as device
+use Rattle.shore_dwrite.specs.Settled.{IsSettled}
+use Rattle.shore_dwrite.specs.Shown.{ShowsBehind}
+use Rattle.shore_dwrite.specs.Volumes.{page_number}
+use Rattle.shore_pool.specs.declared.frame.Frame.{Frame}
+use Rattle.shore_pool.specs.declared.pool.Pool.{Pool}
+use Rattle.shore_pool.specs.FrameMaps as frames
+use Rattle.shore_pool.specs.Pages.{AreWritten, IsPage, MayBeLeft, SamePages}
+
+abbrev pub geometry_of : {D : Type 0} {G : Ghosts D} → Pool D G → Geometry
+geometry_of pool = device.geometry_of pool.device
+
+abbrev pub device_of : {D : Type 0} {G : Ghosts D} → Pool D G → PageDev D G
+device_of pool = pool.device
+
+abbrev pub history_of : {D : Type 0} {G : Ghosts D} → Pool D G → History
+history_of {G = G} pool = G.history (device.device_of pool.device)
+
+abbrev pub faults_of : {D : Type 0} {G : Ghosts D} → Pool D G → ℕ
+faults_of {G = G} pool = G.faults (device.device_of pool.device)
+
+-- the frame of the page of a number on the volume
+abbrev pub frame_at : {D : Type 0} {G : Ghosts D} → Pool D G → ℕ → Option Frame
+frame_at pool k = frames.frame_at pool.frames k
+
+-- .. and of a page
+abbrev pub frame_of : {D : Type 0} {G : Ghosts D} → Pool D G → PageId → Option Frame
+frame_of pool id = frame_at pool (page_number (geometry_of pool) id)
+
+-- how many pages have frames, and how many may have one
+abbrev pub count_of : {D : Type 0} {G : Ghosts D} → Pool D G → ℕ
+count_of pool = frames.count_of pool.frames
+
+abbrev pub limit_of : {D : Type 0} {G : Ghosts D} → Pool D G → ℕ
+limit_of pool = frames.limit_of pool.frames
+
+-- The volume is settled with these texts of its pages behind this front, and what is clean in the pool is there.
+pub record Holds {D : Type 0} {G : Ghosts D} (pool : Pool D G) (front : List ℕ) (disk : ℕ → List ℕ) : Type 0 where
+  pub settled : IsSettled pool.device front disk
+  pub written : AreWritten (frame_at pool) disk
+
+-- a page in place, over these texts: its number and what is in its slots
+abbrev pub HasInPlace : {D : Type 0} {G : Ghosts D} → Pool D G → (ℕ → List ℕ) → PageId → ℕ → List Image → Type 0
+HasInPlace pool disk id number images =
+    let k = page_number (geometry_of pool) id in
+    IsPage (frame_at pool k) (disk k) id number images
+
+-- What a call leaves that may have written pages back: all pages in place are what they were, and on the volume each is as it was, or
+-- as it was in its frame, with a number up to this one.
+pub record WroteBack {D : Type 0} {G : Ghosts D} (old new : Pool D G) (seen : ℕ) (front : List ℕ) (disk : ℕ → List ℕ) : Type 0 where
+  pub left : ℕ → List ℕ
+  pub holds : Holds new front left
+  pub may : MayBeLeft (frame_at old) seen disk left
+  pub same : SamePages (frame_at old) disk (frame_at new) left
+
+-- .. and an image of the volume that a crash leaves in the midst of it: it shows such pages behind the same front
+abbrev pub LeavesPages : {D : Type 0} {G : Ghosts D} → Pool D G → ℕ → List ℕ → (ℕ → List ℕ) → List ℕ → Type 0
+LeavesPages pool seen front disk image = (left : ℕ → List ℕ) × ShowsBehind (geometry_of pool) front left image × MayBeLeft (frame_at pool) seen disk left
+
+-- A frame is needed, and no page may leave its own: there is no clean one, and each has a number above this one. One has this number.
+pub record NeedsForce {D : Type 0} {G : Ghosts D} (pool : Pool D G) (seen number : ℕ) : Type 0 where
+  pub above : seen < number
+  pub one : (k : ℕ) × IsSomeAnd (frame_at pool k) (λ f. f.page.number ≡ number)
+  pub all : (k : ℕ) (f : Frame) → frame_at pool k ≡ Some f → (f.recovery ≢ None) × (seen < f.page.number)
+
+-- each other frame keeps its page, its claims and its recovery number, or went
+abbrev pub StayOrGo : {D : Type 0} {G : Ghosts D} → Pool D G → Pool D G → Type 0
+StayOrGo old new = (k : ℕ) → (frame_at new k ≡ frame_at old k) ⊎ (frame_at new k ≡ None)

@@ -1,0 +1,55 @@
+//! A page in memory.
+ghost use Rattle.std.specs.Prelude.{◌≡◌, Some, None, length, option_map};
+ghost use Rattle.std.specs.Prelude.{◌<◌};
+ghost use Rattle.shore_page.specs.Room.{Fits, raised, lowered};
+ghost use Rattle.shore_page.specs.Slots.{image_len, with_change};
+ghost use Rattle.shore_pool.specs.Changes.{changed, settled};
+
+use shore_page::Page;
+use shore_types::Lsn;
+
+/// A page in memory, with its number on the volume. It is dirty if it was changed since it was read or written, and has then
+/// its recovery number (RecLSN): that of the first such change.
+#[derive(Drop)]
+pub struct Frame {
+    pub number: u32,
+    pub page: Page,
+    pub recovery: Option<Lsn>,
+}
+
+impl Frame {
+    /// Makes a change that was logged under this number.
+    pub fn change(&mut self, lsn: Lsn, slot: u16, after: Option<&[u8]>)
+        requires { Fits self.old.page.slots slot (image_len (option_map (λ bytes. bytes.now) after)) }
+        ensures { self.new ≡ changed lsn slot (option_map (λ bytes. bytes.now) after.entry) self.old }
+    {
+        self.page.apply(lsn, slot, after);
+        if self.recovery.is_none() {
+            self.recovery = Some(lsn);
+        }
+    }
+
+    /// Its page was written.
+    pub fn settle(&mut self)
+        ensures { self.new ≡ settled self.old }
+    {
+        self.recovery = None;
+    }
+
+    /// Keeps at least this many bytes for a slot, as `Page::reserve`.
+    pub fn reserve(&mut self, slot: u16, bytes: usize)
+        requires there { slot < length self.old.page.slots }
+        requires fits { Fits self.old.page.slots slot bytes }
+        ensures { self.new ≡ record self.old { page = record self.old.page { slots = with_change (raised bytes) self.old.page.slots slot } } }
+    {
+        self.page.reserve(slot, bytes);
+    }
+
+    /// Keeps no more than this many bytes for a slot, and what its record has, as `Page::unreserve`.
+    pub fn unreserve(&mut self, slot: u16, bytes: usize)
+        requires { slot < length self.old.page.slots }
+        ensures { self.new ≡ record self.old { page = record self.old.page { slots = with_change (lowered bytes) self.old.page.slots slot } } }
+    {
+        self.page.unreserve(slot, bytes);
+    }
+}

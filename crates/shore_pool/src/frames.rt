@@ -1,0 +1,280 @@
+//! The frames of a pool, each found by its page's number on the volume, in one step: the volume has at most 65,536 pages, so the table has
+//! four bytes for each of them, where the page itself has 8,192.
+ghost use Rattle.std.specs.Prelude.{◌≡◌, ◌≢◌, ◌⊎◌, ◌+◌, ◌^◌, ◌<◌, ◌≤◌, ◌↔◌, ℕ, None, Some, IfOk, IfSome, IfNone, IsSomeAnd, IsTrue, length, nat_le, is_some, option_copied, option_map};
+ghost use Rattle.slab.specs.Slab.{slab_len};
+ghost use Rattle.shore_types.specs.Images.{Image};
+ghost use Rattle.shore_page.specs.Room.{Fits};
+ghost use Rattle.shore_page.specs.Slots.{image_len, PageState};
+ghost use Rattle.shore_pool.specs.Changes.{changed, settled, settled_at};
+ghost use Rattle.shore_pool.specs.Clocks.{places_of};
+ghost use Rattle.shore_pool.specs.Frames.{IsIndexed};
+
+use crate::clock::Clock;
+use crate::frame::Frame;
+use shore_page::Page;
+use shore_types::Lsn;
+use slab::Slab;
+use std::alloc::{AllocError, Global};
+
+/// Frames for pages of a volume, up to a limit.
+#[derive(Drop)]
+pub struct Frames {
+    slots: Slab<Frame>,
+    // The key of each page's frame, by the page's number.
+    table: Vec<Option<u16>>,
+    limit: usize,
+    clock: Clock,
+    ghost indexed: { IsIndexed slots table.items },
+    ghost room: { limit ≤ slots.capacity },
+    ghost few: { slots.capacity < 2 ^ 16 },
+    ghost within: { slab_len slots ≤ limit },
+}
+
+// A page that may be written, with its recovery number.
+#[derive(Clone, Copy)]
+struct Due {
+    number: u32,
+    recovery: Lsn,
+}
+
+fn older(oldest: Option<Due>, due: Due) -> Due
+    ensures { (result ≡ due) ⊎ (oldest ≡ Some result) }
+{
+    match oldest {
+        Some(other) => {
+            if other.recovery.0 <= due.recovery.0 {
+                other
+            } else {
+                due
+            }
+        }
+        None => due,
+    }
+}
+
+impl Frames {
+    ghost use Rattle.shore_pool.specs.FrameMaps.{frame_at, count_of, limit_of, pages_of, key_of, AllDirty, IsDue, IsNotClean, IsNotDue, KeepsShape, NoneDue, SameFrames};
+
+    /// No frames, with the memory for as many as the limit, of a volume of so many pages.
+    pub fn new(alloc: Global, pages: usize, limit: usize) -> Result<Frames, AllocError>
+        ensures none { IfOk result (λ frames. (k : ℕ) → frame_at frames k ≡ None) }
+        ensures limit { IfOk result (λ frames. limit_of frames ≡ limit) }
+        ensures pages { IfOk result (λ frames. pages_of frames ≡ pages) }
+        ensures count { IfOk result (λ frames. count_of frames ≡ 0) }
+    {
+        let slots = Slab::with_capacity(alloc, limit)?;
+        if slots.capacity() > u16::MAX as usize {
+            return Err(AllocError);
+        }
+        Ok(Frames {
+            slots,
+            table: Vec::from_elem(alloc, None, pages)?,
+            limit,
+            clock: Clock::new(alloc, limit)?,
+        })
+    }
+
+    /// Whether there are as many frames as the limit.
+    pub fn is_full(&self) -> bool
+        ensures { IsTrue result ↔ (limit_of self.now ≤ count_of self.now) }
+    {
+        self.slots.len() >= self.limit
+    }
+
+    /// The frame of a page.
+    pub fn find(&self, number: u32) -> Option<&Frame>
+        ensures { option_copied result ≡ frame_at self.now number }
+    {
+        match self.key(number) {
+            Some(key) => self.slots.get(key),
+            None => None,
+        }
+    }
+
+    /// Whether a page has a frame, which is marked as used.
+    pub fn touch(&mut self, number: u32) -> bool
+        ensures there { result ≡ is_some (frame_at self.old number) }
+        ensures same { SameFrames self.old self.new }
+        ensures shape { KeepsShape self.old self.new }
+    {
+        match self.key(number) {
+            Some(key) => {
+                self.clock.touch(key);
+                true
+            }
+            None => false,
+        }
+    }
+
+    /// A page that has just been read gets a frame.
+    pub fn add(&mut self, number: u32, page: Page)
+        requires on_volume { number < pages_of self.old }
+        requires none { frame_at self.old number ≡ None }
+        requires room { count_of self.old < limit_of self.old }
+        ensures here { frame_at self.new number ≡ Some record { number = number; page = page; recovery = None } }
+        ensures others { (k : ℕ) → k ≢ number → frame_at self.new k ≡ frame_at self.old k }
+        ensures count { count_of self.new ≡ count_of self.old + 1 }
+        ensures limit { limit_of self.new ≡ limit_of self.old }
+        ensures pages { pages_of self.new ≡ pages_of self.old }
+    {
+        let key = self.slots.insert_reserved(Frame {
+            number,
+            page,
+            recovery: None,
+        });
+        self.table[number as usize] = Some(key as u16);
+        self.clock.touch(key);
+    }
+
+    /// The frame of a page is free again.
+    pub fn remove(&mut self, number: u32)
+        requires { IsTrue (is_some (frame_at self.old number)) }
+        ensures here { frame_at self.new number ≡ None }
+        ensures others { (k : ℕ) → k ≢ number → frame_at self.new k ≡ frame_at self.old k }
+        ensures count { count_of self.new + 1 ≡ count_of self.old }
+        ensures limit { limit_of self.new ≡ limit_of self.old }
+        ensures pages { pages_of self.new ≡ pages_of self.old }
+    {
+        if let Some(key) = self.key(number) {
+            self.slots.try_remove(key);
+            self.table[number as usize] = None;
+        }
+    }
+
+    /// Makes a change that was logged under this number on a page in a frame.
+    pub fn change(&mut self, number: u32, lsn: Lsn, slot: u16, after: Option<&[u8]>)
+        requires { IsSomeAnd (frame_at self.old number) (λ f. Fits f.page.slots slot (image_len (option_map (λ bytes. bytes.now) after))) }
+        ensures here { frame_at self.new number ≡ option_map (changed lsn slot (option_map (λ bytes. bytes.now) after.entry)) (frame_at self.old number) }
+        ensures others { (k : ℕ) → k ≢ number → frame_at self.new k ≡ frame_at self.old k }
+        ensures shape { KeepsShape self.old self.new }
+    {
+        if let Some(key) = self.key(number) {
+            if let Some(frame) = self.slots.get_mut(key) {
+                frame.change(lsn, slot, after);
+            }
+        }
+    }
+
+    /// The page of a frame was written: it is clean.
+    pub fn settle(&mut self, number: u32)
+        ensures here { frame_at self.new number ≡ option_map settled (frame_at self.old number) }
+        ensures others { (k : ℕ) → k ≢ number → frame_at self.new k ≡ frame_at self.old k }
+        ensures shape { KeepsShape self.old self.new }
+    {
+        if let Some(key) = self.key(number) {
+            if let Some(frame) = self.slots.get_mut(key) {
+                frame.settle();
+            }
+        }
+    }
+
+    /// The page of a clean frame, one that was not used for a while if there is such a one; None if none is clean.
+    pub fn cold(&mut self) -> Option<u32>
+        ensures clean { IfSome result (λ k. IsSomeAnd (frame_at self.old k) (λ f. f.recovery ≡ None)) }
+        ensures none { IfNone result (AllDirty self.old) }
+        ensures same { SameFrames self.old self.new }
+        ensures shape { KeepsShape self.old self.new }
+    {
+        for _ in 0..2 * self.limit {
+            if let Some(key) = self.clock.pass() {
+                if let Some(number) = self.clean_at(key) {
+                    return Some(number);
+                }
+            }
+        }
+        self.first_clean()
+    }
+
+    // The page of the first clean frame.
+    fn first_clean(&self) -> Option<u32>
+        ensures clean { IfSome result (λ k. IsSomeAnd (frame_at self.now k) (λ f. f.recovery ≡ None)) }
+        ensures none { IfNone result (AllDirty self.now) }
+    {
+        for key in 0..self.slots.capacity() {
+            let clean = self.clean_at(key);
+            if clean.is_some() {
+                return clean;
+            }
+        }
+        None
+    }
+
+    // The page of the frame of a key, if it is clean.
+    fn clean_at(&self, key: usize) -> Option<u32>
+        ensures clean { IfSome result (λ k. IsSomeAnd (frame_at self.now k) (λ f. f.recovery ≡ None)) }
+        ensures none { IfNone result (IsNotClean self.now key) }
+    {
+        let frame = self.slots.get(key)?;
+        if frame.recovery.is_some() {
+            return None;
+        }
+        Some(frame.number)
+    }
+
+    /// The pages of these frames were written: they are clean.
+    pub fn settle_all(&mut self, numbers: &[u32])
+        ensures settled { (k : ℕ) → frame_at self.new k ≡ settled_at numbers.now (frame_at self.old) k }
+        ensures shape { KeepsShape self.old self.new }
+    {
+        for i in 0..numbers.len() {
+            self.settle(numbers[i]);
+        }
+    }
+
+    /// The dirty page that was changed first since it was clean, of those with numbers up to this one.
+    pub fn oldest_due(&self, seen: Lsn) -> Option<u32>
+        ensures due { IfSome result (λ k. IsSomeAnd (frame_at self.now k) (IsDue seen)) }
+        ensures none { IfNone result (NoneDue self.now seen) }
+    {
+        let mut oldest = None;
+        for key in 0..self.slots.capacity() {
+            if let Some(due) = self.due_at(key, seen) {
+                oldest = Some(older(oldest, due));
+            }
+        }
+        match oldest {
+            Some(due) => Some(due.number),
+            None => None,
+        }
+    }
+
+    // The page of the frame of a key, if it is dirty and has a number up to this one.
+    fn due_at(&self, key: usize, seen: Lsn) -> Option<Due>
+        ensures due { IfSome result (λ due. IsSomeAnd (frame_at self.now due.number) (IsDue seen)) }
+        ensures none { IfNone result (IsNotDue self.now seen key) }
+    {
+        let frame = self.slots.get(key)?;
+        let recovery = frame.recovery?;
+        if frame.page.number().0 > seen.0 {
+            return None;
+        }
+        Some(Due {
+            number: frame.number,
+            recovery,
+        })
+    }
+
+    /// The number of the last change of a page that has a frame; None if none has one.
+    pub fn any_number(&self) -> Option<Lsn>
+        ensures some { IfSome result (λ number. (k : ℕ) × IsSomeAnd (frame_at self.now k) (λ f. f.page.number ≡ number)) }
+        ensures none { IfNone result (count_of self.now ≡ 0) }
+    {
+        for key in 0..self.slots.capacity() {
+            if let Some(frame) = self.slots.get(key) {
+                return Some(frame.page.number());
+            }
+        }
+        None
+    }
+
+    // The key of a page's frame.
+    fn key(&self, number: u32) -> Option<usize>
+        ensures key { result ≡ key_of self.now number }
+        ensures within { IfSome result (λ key. number < pages_of self.now) }
+    {
+        match self.table.get(number as usize) {
+            Some(Some(key)) => Some(usize::from(*key)),
+            _ => None,
+        }
+    }
+}

@@ -1,0 +1,286 @@
+//! The pool: pages of a volume, of which as many as there are frames are in memory.
+ghost use Rattle.std.specs.Prelude.{◌≡◌, ◌≢◌, ◌⊎◌, ◌+◌, ◌-◌, ◌*◌, ◌<◌, ◌≤◌, ℕ, [], List, All, Contains, IfErr, IfOk, IsErrAnd, IsSomeAnd, IsTrue, MatchResult, None, OnOk, Some, is_some, length, option_copied, option_map};
+ghost use Rattle.std.proofs.Props.{props};
+ghost use Rattle.shore_disk.specs.Cause.{HasCause};
+ghost use Rattle.shore_disk.specs.Device.{CountsFault, LeavesOnly};
+ghost use Rattle.shore_dwrite.specs.Settled as settled_device;
+ghost use Rattle.shore_dwrite.specs.Shown.{RiseFrom};
+ghost use Rattle.shore_dwrite.specs.Volumes.{HasNoPage, page_count, page_number, page_offset};
+ghost use Rattle.shore_page.specs.Room.{Fits, lowered, raised};
+ghost use Rattle.shore_page.specs.Slots.{image_len, with_change};
+ghost use Rattle.shore_page.specs.Text.{images_of, settled_page};
+ghost use Rattle.shore_types.specs.Images.{Image};
+ghost use Rattle.shore_types.specs.Layout.{HasPage};
+ghost use Rattle.shore_types.specs.declared.faults.Device.TheVariants as Device;
+ghost use Rattle.shore_types.specs.declared.faults.Fault.TheVariants as Fault;
+ghost use Rattle.shore_types.specs.declared.layout.TheConstants.{MAX_BATCH_PAGES, MAX_POOL_FRAMES, MIN_POOL_FRAMES};
+ghost use Rattle.shore_pool.specs.Changes.{changed, settled};
+ghost use Rattle.shore_pool.specs.FrameMaps as maps;
+ghost use Rattle.shore_pool.specs.Pages.{AreInOrder, AreUpTo, SamePages};
+ghost use Rattle.shore_pool.specs.declared.pool.Fetched.TheVariants as Fetched;
+
+use crate::frame::Frame;
+use crate::frames::Frames;
+use crate::gathering::gather;
+use shore_disk::Disk;
+use shore_dwrite::{PageDev, PageImages};
+use shore_page::Page;
+use shore_types::{Fault, Lsn, PageId};
+use std::alloc::Global;
+
+/// How a page came into its frame.
+#[derive(Clone, Copy, PartialEq)]
+pub enum Fetched {
+    /// It was there.
+    Held,
+    /// It was read: its slots claim what their records take, and no more. Who keeps undo lists has to reserve what may come back.
+    Read,
+}
+
+/// A volume's pages, some of them in frames. Seen as a map from ids to pages: a page in a frame is the frame's, any other is what the volume
+/// has.
+#[derive(Drop)]
+pub struct Pool<D: Disk> {
+    device: PageDev<D>,
+    frames: Frames,
+    // Room for a batch, taken once.
+    batch: PageImages,
+    ghost in_order: { AreInOrder (maps.frame_at frames) (settled_device.geometry_of device) } by { Prim.hlevel props },
+    ghost some: { MIN_POOL_FRAMES ≤ maps.limit_of frames },
+    ghost pages: { maps.pages_of frames ≡ page_count (settled_device.geometry_of device) },
+}
+
+impl<D: Disk> Pool<D> {
+    ghost use Rattle.shore_pool.specs.Pools.{HasInPlace, Holds, LeavesPages, NeedsForce, StayOrGo, WroteBack, count_of, device_of, faults_of, frame_at, frame_of, geometry_of, history_of, limit_of};
+
+    /// A pool of so many frames, with all its memory but that of pages. The device is handed back if an allocation failed.
+    pub fn new(alloc: Global, device: PageDev<D>, frames: usize) -> Result<Pool<D>, PageDev<D>>
+        requires few { frames ≤ MAX_POOL_FRAMES }
+        requires some { MIN_POOL_FRAMES ≤ frames }
+        ensures device { IfOk result (λ pool. device_of pool ≡ device) }
+        ensures empty { IfOk result (λ pool. (k : ℕ) → frame_at pool k ≡ None) }
+        ensures count { IfOk result (λ pool. count_of pool ≡ 0) }
+        ensures limit { IfOk result (λ pool. limit_of pool ≡ frames) }
+        ensures refused { IfErr result (λ back. back ≡ device) }
+    {
+        let pages = device.pages() as usize;
+        let Ok(frames) = Frames::new(alloc, pages, frames) else {
+            return Err(device);
+        };
+        let Ok(batch) = PageImages::new(alloc) else {
+            return Err(device);
+        };
+        Ok(Pool {
+            device,
+            frames,
+            batch,
+        })
+    }
+
+    /// The device, as it is. What is dirty is forgotten.
+    pub fn into_device(self) -> PageDev<D>
+        ensures { result ≡ device_of self }
+    {
+        self.device
+    }
+
+    /// The page of an id, if it is in a frame.
+    pub fn page(&self, id: PageId) -> Option<&Page>
+        requires { HasPage (geometry_of self.now) id }
+        ensures { option_copied result ≡ option_map (λ f. f.page) (frame_of self.now id) }
+    {
+        let frame = self.frames.find(self.device.number(id))?;
+        Some(&frame.page)
+    }
+
+    /// Brings a page into a frame, if it is in none. `last` is the number of the log's last record, and `seen` that up to which it is
+    /// durable. A refused fetch leaves all pages as they were, though one may have been written back to make room.
+    pub fn fetch(
+        &mut self,
+        alloc: Global,
+        id: PageId,
+        last: Lsn,
+        seen: Lsn,
+    ) -> Result<Fetched, Fault>
+        requires { HasPage (geometry_of self.old) id }
+        ensures held { IfOk result (λ how. how ≡ Fetched.Held → (frame_of self.new id ≡ frame_of self.old id) × IsTrue (is_some (frame_of self.old id))) }
+        ensures read { (front : List ℕ) (disk : ℕ → List ℕ) → Holds self.old front disk → IfOk result (λ how. how ≡ Fetched.Read → (frame_of self.old id ≡ None)
+            × IsSomeAnd (frame_of self.new id) (λ f. (f.page ≡ settled_page id f.page.number (images_of f.page.slots)) × (f.page.number ≤ last) × (f.recovery ≡ None))) }
+        ensures others { (k : ℕ) → k ≢ page_number (geometry_of self.old) id → (frame_at self.new k ≡ frame_at self.old k) ⊎ (frame_at self.new k ≡ None) }
+        ensures kept { (front : List ℕ) (disk : ℕ → List ℕ) → Holds self.old front disk
+            → MatchResult result (λ _. WroteBack self.old self.new seen front disk) (λ fault. (fault ≡ Fault.Device) ⊎ WroteBack self.old self.new seen front disk) }
+
+        // What it is refused with.
+        ensures refused { (front : List ℕ) (disk : ℕ → List ℕ) → Holds self.old front disk → IfErr result (λ fault. (fault ≡ Fault.Device) ⊎ (fault ≡ Fault.Memory)
+            ⊎ ((fault ≡ Fault.Damaged Device.Volume (page_offset (page_number (geometry_of self.old) id)))
+            × HasNoPage (disk (page_number (geometry_of self.old) id)) id last × (frame_of self.old id ≡ None))
+            ⊎ ((number : ℕ) × (fault ≡ Fault.NeedForce number) × NeedsForce self.old seen number)) }
+
+        // A crash at any moment of the call leaves pages that are old, or those of their frames with durable numbers.
+        ensures any_moment { (front : List ℕ) (disk : ℕ → List ℕ) → Holds self.old front disk
+            → LeavesOnly (history_of self.old) (history_of self.new) (LeavesPages self.old seen front disk) }
+
+        ensures geometry { geometry_of self.new ≡ geometry_of self.old }
+        ensures limit { limit_of self.new ≡ limit_of self.old }
+        ensures cause { HasCause result (faults_of self.old) (faults_of self.new) }
+    {
+        let number = self.device.number(PageId {
+            store: id.store,
+            page: id.page,
+        });
+        if self.frames.touch(number) {
+            return Ok(Fetched::Held);
+        }
+        self.make_room(seen)?;
+        self.read(alloc, id, last)?;
+        Ok(Fetched::Read)
+    }
+
+    // Sees to it that a frame is free.
+    fn make_room(&mut self, seen: Lsn) -> Result<(), Fault>
+        ensures room { OnOk result (count_of self.new < limit_of self.new) }
+        ensures frames { StayOrGo self.old self.new }
+        ensures kept { (front : List ℕ) (disk : ℕ → List ℕ) → Holds self.old front disk
+            → MatchResult result (λ _. WroteBack self.old self.new seen front disk) (λ fault. (fault ≡ Fault.Device) ⊎ WroteBack self.old self.new seen front disk) }
+        ensures refused { IfErr result (λ fault. (fault ≡ Fault.Device) ⊎ (fault ≡ Fault.Memory)
+            ⊎ ((number : ℕ) × (fault ≡ Fault.NeedForce number) × NeedsForce self.old seen number)) }
+        ensures any_moment { (front : List ℕ) (disk : ℕ → List ℕ) → Holds self.old front disk
+            → LeavesOnly (history_of self.old) (history_of self.new) (LeavesPages self.old seen front disk) }
+        ensures geometry { geometry_of self.new ≡ geometry_of self.old }
+        ensures limit { limit_of self.new ≡ limit_of self.old }
+        ensures cause { HasCause result (faults_of self.old) (faults_of self.new) }
+    {
+        if self.frames.is_full() {
+            return self.evict(seen);
+        }
+        Ok(())
+    }
+
+    // Reads a page into a free frame.
+    fn read(&mut self, alloc: Global, id: PageId, last: Lsn) -> Result<(), Fault>
+        requires there { HasPage (geometry_of self.old) id }
+        requires none { frame_of self.old id ≡ None }
+        requires room { count_of self.old < limit_of self.old }
+        ensures read { (front : List ℕ) (disk : ℕ → List ℕ) → Holds self.old front disk → OnOk result (IsSomeAnd (frame_of self.new id)
+            (λ f. (f.page ≡ settled_page id f.page.number (images_of f.page.slots)) × (f.page.number ≤ last) × (f.recovery ≡ None))) }
+        ensures others { (k : ℕ) → k ≢ page_number (geometry_of self.old) id → frame_at self.new k ≡ frame_at self.old k }
+        ensures kept { (front : List ℕ) (disk : ℕ → List ℕ) → Holds self.old front disk → Holds self.new front disk × SamePages (frame_at self.old) disk (frame_at self.new) disk }
+        ensures refused { (front : List ℕ) (disk : ℕ → List ℕ) → Holds self.old front disk → IfErr result (λ fault. (fault ≡ Fault.Device) ⊎ (fault ≡ Fault.Memory)
+            ⊎ ((fault ≡ Fault.Damaged Device.Volume (page_offset (page_number (geometry_of self.old) id))) × HasNoPage (disk (page_number (geometry_of self.old) id)) id last)) }
+        ensures history { (front : List ℕ) (disk : ℕ → List ℕ) → Holds self.old front disk → history_of self.new ≡ history_of self.old }
+        ensures geometry { geometry_of self.new ≡ geometry_of self.old }
+        ensures limit { limit_of self.new ≡ limit_of self.old }
+        ensures cause { HasCause result (faults_of self.old) (faults_of self.new) }
+    {
+        let number = self.device.number(PageId {
+            store: id.store,
+            page: id.page,
+        });
+        let page = self.device.read_page(alloc, id, last)?;
+        self.frames.add(number, page);
+        Ok(())
+    }
+
+    /// Makes a change that was logged under this number on a page in a frame, which is dirty then.
+    pub fn change(&mut self, id: PageId, lsn: Lsn, slot: u16, after: Option<&[u8]>)
+        requires there { HasPage (geometry_of self.old) id }
+        requires fits { IsSomeAnd (frame_of self.old id) (λ f. Fits f.page.slots slot (image_len (option_map (λ bytes. bytes.now) after))) }
+        ensures here { frame_of self.new id ≡ option_map (changed lsn slot (option_map (λ bytes. bytes.now) after.entry)) (frame_of self.old id) }
+        ensures others { (k : ℕ) → k ≢ page_number (geometry_of self.old) id → frame_at self.new k ≡ frame_at self.old k }
+        ensures count { count_of self.new ≡ count_of self.old }
+        ensures limit { limit_of self.new ≡ limit_of self.old }
+        ensures device { device_of self.new ≡ device_of self.old }
+    {
+        let number = self.device.number(id);
+        self.frames.change(number, lsn, slot, after);
+    }
+
+    /// Frees a frame: one of a clean page that was not used for a while, if there is a clean page; else that of the page whose changes are
+    /// oldest among those with numbers up to the durable one, which is written first. `NeedForce` with the number of a page if none has
+    /// such a number. A pool with no page in a frame stays as it is.
+    pub fn evict(&mut self, seen: Lsn) -> Result<(), Fault>
+        ensures freed { OnOk result (count_of self.new ≡ count_of self.old - 1) }
+        ensures frames { StayOrGo self.old self.new }
+        ensures kept { (front : List ℕ) (disk : ℕ → List ℕ) → Holds self.old front disk
+            → MatchResult result (λ _. WroteBack self.old self.new seen front disk) (λ fault. (fault ≡ Fault.Device) ⊎ WroteBack self.old self.new seen front disk) }
+        ensures refused { IfErr result (λ fault. (fault ≡ Fault.Device) ⊎ (fault ≡ Fault.Memory)
+            ⊎ ((number : ℕ) × (fault ≡ Fault.NeedForce number) × NeedsForce self.old seen number)) }
+
+        // A crash at any moment of the call leaves pages that are old, or those of their frames with durable numbers.
+        ensures any_moment { (front : List ℕ) (disk : ℕ → List ℕ) → Holds self.old front disk
+            → LeavesOnly (history_of self.old) (history_of self.new) (LeavesPages self.old seen front disk) }
+
+        ensures geometry { geometry_of self.new ≡ geometry_of self.old }
+        ensures limit { limit_of self.new ≡ limit_of self.old }
+        ensures cause { HasCause result (faults_of self.old) (faults_of self.new) }
+    {
+        if let Some(number) = self.frames.cold() {
+            self.free(number);
+            return Ok(());
+        }
+        self.steal(seen)
+    }
+
+    // Frees the frame of the page whose changes are oldest among those with numbers up to this one. The page is written first.
+    fn steal(&mut self, seen: Lsn) -> Result<(), Fault>
+        ensures freed { OnOk result (count_of self.new ≡ count_of self.old - 1) }
+        ensures frames { StayOrGo self.old self.new }
+        ensures kept { (front : List ℕ) (disk : ℕ → List ℕ) → Holds self.old front disk
+            → MatchResult result (λ _. WroteBack self.old self.new seen front disk) (λ fault. (fault ≡ Fault.Device) ⊎ WroteBack self.old self.new seen front disk) }
+        ensures refused { maps.AllDirty self.old.frames → IfErr result (λ fault. (fault ≡ Fault.Device) ⊎ (fault ≡ Fault.Memory)
+            ⊎ ((number : ℕ) × (fault ≡ Fault.NeedForce number) × NeedsForce self.old seen number)) }
+        ensures any_moment { (front : List ℕ) (disk : ℕ → List ℕ) → Holds self.old front disk
+            → LeavesOnly (history_of self.old) (history_of self.new) (LeavesPages self.old seen front disk) }
+        ensures geometry { geometry_of self.new ≡ geometry_of self.old }
+        ensures limit { limit_of self.new ≡ limit_of self.old }
+        ensures cause { HasCause result (faults_of self.old) (faults_of self.new) }
+    {
+        if let Some(number) = self.frames.oldest_due(seen) {
+            self.write(&[number])?;
+            self.free(number);
+            return Ok(());
+        }
+        match self.frames.any_number() {
+            Some(number) => Err(Fault::NeedForce { number }),
+            None => Ok(()),
+        }
+    }
+
+    // Frees the frame of a clean page.
+    fn free(&mut self, number: u32)
+        requires { IsSomeAnd (frame_at self.old number) (λ f. f.recovery ≡ None) }
+        ensures gone { frame_at self.new number ≡ None }
+        ensures others { (k : ℕ) → k ≢ number → frame_at self.new k ≡ frame_at self.old k }
+        ensures kept { (front : List ℕ) (disk : ℕ → List ℕ) → Holds self.old front disk
+            → Holds self.new front disk × SamePages (frame_at self.old) disk (frame_at self.new) disk }
+        ensures count { count_of self.new + 1 ≡ count_of self.old }
+        ensures limit { limit_of self.new ≡ limit_of self.old }
+        ensures device { device_of self.new ≡ device_of self.old }
+    {
+        self.frames.remove(number);
+    }
+
+    /// Writes pages that are in frames, as one batch; they are clean then. At an error all stay dirty that were.
+    pub fn write(&mut self, numbers: &[u32]) -> Result<(), Fault>
+        requires some { 1 ≤ length numbers.now }
+        requires most { length numbers.now ≤ MAX_BATCH_PAGES }
+        requires rise { RiseFrom 0 numbers.now }
+        requires there { All (λ k. IsTrue (is_some (frame_at self.old k))) numbers.now }
+        ensures clean { OnOk result ((k : ℕ) → Contains numbers.now k → frame_at self.new k ≡ option_map settled (frame_at self.old k)) }
+        ensures others { OnOk result ((k : ℕ) → (Contains numbers.now k → ⊥) → frame_at self.new k ≡ frame_at self.old k) }
+        ensures refused { IfErr result (λ fault. ((fault ≡ Fault.Device) ⊎ (fault ≡ Fault.Memory)) × ((k : ℕ) → frame_at self.new k ≡ frame_at self.old k)) }
+        ensures kept { (front : List ℕ) (disk : ℕ → List ℕ) (seen : ℕ) → Holds self.old front disk → AreUpTo (frame_at self.old) seen numbers.now
+            → MatchResult result (λ _. WroteBack self.old self.new seen front disk) (λ fault. (fault ≡ Fault.Device) ⊎ WroteBack self.old self.new seen front disk) }
+        ensures any_moment { (front : List ℕ) (disk : ℕ → List ℕ) (seen : ℕ) → Holds self.old front disk → AreUpTo (frame_at self.old) seen numbers.now
+            → LeavesOnly (history_of self.old) (history_of self.new) (LeavesPages self.old seen front disk) }
+        ensures count { count_of self.new ≡ count_of self.old }
+        ensures geometry { geometry_of self.new ≡ geometry_of self.old }
+        ensures limit { limit_of self.new ≡ limit_of self.old }
+        ensures cause { HasCause result (faults_of self.old) (faults_of self.new) }
+    {
+        gather(&mut self.batch, &self.frames, numbers)?;
+        self.device.write_batch(&self.batch)?;
+        self.frames.settle_all(numbers);
+        Ok(())
+    }
+}
