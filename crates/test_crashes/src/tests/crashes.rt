@@ -32,6 +32,7 @@ pub(super) fn check_crash(
         list,
         durable,
         mut device,
+        ..
     } = life;
     device.crash(pick);
     let image = device.bytes().to_vec(alloc)?;

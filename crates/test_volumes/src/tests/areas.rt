@@ -1,8 +1,9 @@
 //! What the replay of an open area, and the read of a page, are refused with if one byte has another value.
-use super::batches::{Change, write};
-use super::trouble::{Trouble, require};
+use super::batches::Change;
+use super::crashes::cut_off;
+use super::trouble::Trouble;
 use super::volumes::{disk_of, first_image, pages_on, read};
-use shore_disk::{FuseDisk, Pick};
+use shore_disk::Pick;
 use shore_types::{Device, Fault};
 use std::alloc::{AllocError, Global};
 use std::process::Abort;
@@ -14,10 +15,7 @@ fn open_area(alloc: Global) -> Result<Vec<u8>, Trouble> {
         number: 2,
         bytes: &[0x22; 90],
     };
-    let device = FuseDisk::new(disk_of(alloc, &first_image(alloc)?)?, 5);
-    let mut dev = pages_on(alloc, device)?;
-    require(!write(alloc, &mut dev, &change)?, "a written batch")?;
-    let mut left = dev.into_device().into_inner();
+    let (mut left, _) = cut_off(alloc, &first_image(alloc)?, &change, 5)?;
     left.crash(Pick::Old);
     Ok(left.bytes().to_vec(alloc)?)
 }

@@ -1,10 +1,12 @@
 //! Batches crashed at each device call, and their replays too.
-ghost use Rattle.std.specs.Prelude.{◌≤◌};
+ghost use Rattle.std.specs.Prelude.{◌≡◌, ◌≤◌, [], ◌∷◌};
+ghost use Rattle.shore_dwrite.specs.Settled.{geometry_of};
 
 use super::batches::{Change, with_change, write};
 use super::trouble::{Trouble, require};
 use super::volumes::{disk_of, first_image, pages_on, shows};
 use shore_disk::{FuseDisk, MemDisk, OnceDisk, Pick};
+use shore_dwrite::PageDev;
 use std::alloc::Global;
 use std::process::Abort;
 
@@ -15,9 +17,9 @@ const MOST_CALLS: u64 = 50;
 
 /// How many crashes of a batch were made, and how many of a replay behind one of these.
 #[derive(Clone, Copy, Debug, PartialEq)]
-struct Counts {
-    batches: u64,
-    replays: u64,
+pub(super) struct Counts {
+    pub(super) batches: u64,
+    pub(super) replays: u64,
 }
 
 /// The bytes of a volume before a batch and after it.
@@ -28,7 +30,7 @@ struct Volumes {
 }
 
 /// Makes a change on a volume whose device fails after so many calls. It answers the device, and whether the batch was written.
-fn cut_off(
+pub(super) fn cut_off(
     alloc: Global,
     image: &[u8],
     change: &Change<'_>,
@@ -46,15 +48,25 @@ fn replayed_but(alloc: Global, image: &[u8], call: u64) -> Result<(MemDisk, bool
     Ok((dev.into_device().into_inner(), is_done))
 }
 
-/// Replays what a crash left and reads all pages: whether they are the new ones. They are all new, or all old.
-fn is_new(alloc: Global, left: MemDisk, volumes: &Volumes) -> Result<bool, Trouble> {
-    let mut dev = pages_on(alloc, left)?;
+/// Replays a volume and reads all pages: whether they are the new ones. They are all new, or all old.
+fn replays_to_new(
+    alloc: Global,
+    dev: &mut PageDev<MemDisk>,
+    volumes: &Volumes,
+) -> Result<bool, Trouble>
+    requires { (geometry_of dev.old).stores ≡ 40 ∷ [] }
+{
     dev.replay(alloc)?;
-    if shows(alloc, &mut dev, &volumes.new)? {
+    if shows(alloc, dev, &volumes.new)? {
         return Ok(true);
     }
-    require(shows(alloc, &mut dev, &volumes.old)?, "a torn batch")?;
+    require(shows(alloc, dev, &volumes.old)?, "a torn batch")?;
     Ok(false)
+}
+
+/// The same of what a crash left.
+fn is_new(alloc: Global, left: MemDisk, volumes: &Volumes) -> Result<bool, Trouble> {
+    replays_to_new(alloc, &mut pages_on(alloc, left)?, volumes)
 }
 
 /// Crashes the replay of what a crash left at each of its calls. What is read then is the same.
@@ -80,7 +92,21 @@ fn check_replays(
     Err(Trouble::Wrong("a replay without end"))
 }
 
-/// A batch crashed after so many calls, and each replay of it. It answers whether the batch was written.
+/// What a crash of a batch left, and each replay of it. A batch that was written is not lost.
+fn check_left(
+    alloc: Global,
+    image: &[u8],
+    is_written: bool,
+    volumes: &Volumes,
+    counts: &mut Counts,
+) -> Result<(), Trouble> {
+    let is_new_now = is_new(alloc, disk_of(alloc, image)?, volumes)?;
+    require(is_new_now || !is_written, "a written batch that is lost")?;
+    counts.batches = counts.batches.saturating_add(1);
+    check_replays(alloc, image, is_new_now, volumes, counts)
+}
+
+/// A batch crashed after so many calls. It answers whether the batch was written.
 fn check_crash(
     alloc: Global,
     change: &Change<'_>,
@@ -91,11 +117,7 @@ fn check_crash(
 ) -> Result<bool, Trouble> {
     let (mut left, is_written) = cut_off(alloc, &volumes.old, change, calls)?;
     left.crash(pick);
-    let again = disk_of(alloc, left.bytes())?;
-    let is_new_now = is_new(alloc, again, volumes)?;
-    require(is_new_now || !is_written, "a written batch that is lost")?;
-    check_replays(alloc, left.bytes(), is_new_now, volumes, counts)?;
-    counts.batches = counts.batches.saturating_add(1);
+    check_left(alloc, left.bytes(), is_written, volumes, counts)?;
     Ok(is_written)
 }
 
@@ -134,37 +156,38 @@ fn wanted_of(pages: u64) -> (u64, Counts)
     (calls, Counts { batches, replays })
 }
 
-/// Makes a change on a volume, crashed at each call. It answers the changed volume.
+/// Makes a change on a volume, crashed at each call. It answers the changed volume, and the crashes.
 pub(super) fn check_change(
     rt: &(impl Abort + AllocGlobal),
     old: Vec<u8>,
     change: &Change<'_>,
-) -> Result<Vec<u8>, Trouble> {
+) -> Result<(Vec<u8>, Counts), Trouble> {
     let new = with_change(rt.alloc(), &old, change)?;
     let volumes = Volumes { old, new };
-    let found = check_batch(rt.alloc(), change, &volumes)?;
+    let (calls, counts) = check_batch(rt.alloc(), change, &volumes)?;
     let pages = change.pages.len();
     assert!(rt;
-        pages <= 32 && found == wanted_of(pages as u64),
-        "{found:?}"
+        pages <= 32 && (calls, counts) == wanted_of(pages as u64),
+        "{calls} {counts:?}"
     );
-    Ok(volumes.new)
+    Ok((volumes.new, counts))
 }
 
-fn check_pages(rt: &(impl Abort + AllocGlobal), pages: &[u32]) -> Result<(), Trouble> {
+fn check_pages(rt: &(impl Abort + AllocGlobal), pages: &[u32]) -> Result<Counts, Trouble> {
     let change = Change {
         pages,
         number: 2,
         bytes: &[0x22; 90],
     };
-    check_change(rt, first_image(rt.alloc())?, &change)?;
-    Ok(())
+    let (_, counts) = check_change(rt, first_image(rt.alloc())?, &change)?;
+    Ok(counts)
 }
 
 #[test]
 fn batches_of_few_pages(rt: HostRuntime) -> Result<(), Trouble> {
-    check_pages(&rt, &[3])?;
-    check_pages(&rt, &[0, 39])
+    let one = check_pages(&rt, &[3])?;
+    let two = check_pages(&rt, &[0, 39])?;
+    Ok(println!(rt; "of one page: {one:?}; of two: {two:?}")?)
 }
 
 #[test]
@@ -173,5 +196,6 @@ fn a_batch_of_the_most_pages(rt: HostRuntime) -> Result<(), Trouble> {
     for page in 0..32u32 {
         pages[page as usize] = page + 4;
     }
-    check_pages(&rt, &pages)
+    let counts = check_pages(&rt, &pages)?;
+    Ok(println!(rt; "of 32 pages: {counts:?}")?)
 }

@@ -2,7 +2,7 @@
 ghost use Rattle.std.specs.Prelude.{◌<◌};
 
 use super::batches::{Change, with_change};
-use super::crashes::check_change;
+use super::crashes::{Counts, check_change};
 use super::trouble::Trouble;
 use super::volumes::{PAGES, first_image};
 use std::alloc::{AllocError, Global};
@@ -45,7 +45,7 @@ fn check_some(
     chance: &mut Chance,
     number: u64,
     old: Vec<u8>,
-) -> Result<Vec<u8>, Trouble> {
+) -> Result<(Vec<u8>, Counts), Trouble> {
     let pages = some_pages(rt.alloc(), chance, 1 + number % 9)?;
     let len = chance.below(4001) as usize;
     let bytes = [(number % 251) as u8; 4000];
@@ -64,8 +64,15 @@ fn check_some(
 fn random_batches(rt: HostRuntime) -> Result<(), Trouble> {
     let mut chance = Chance(5);
     let mut image = first_image(rt.alloc())?;
+    let mut all = Counts {
+        batches: 0,
+        replays: 0,
+    };
     for number in 2..14 {
-        image = check_some(&rt, &mut chance, number, image)?;
+        let (new, counts) = check_some(&rt, &mut chance, number, image)?;
+        image = new;
+        all.batches = all.batches.saturating_add(counts.batches);
+        all.replays = all.replays.saturating_add(counts.replays);
     }
-    Ok(())
+    Ok(println!(rt; "12 random ones: {all:?}")?)
 }
