@@ -1,5 +1,4 @@
-use Rattle.std.proofs.Common.{◌≡◌, ◌<◌, ◌≤◌, ℕ, Option, Some, None, IfNone, IfSome, IsSomeAnd, arith, subst, sym}
-use Rattle.shore_pool.specs.FrameMaps.{IsDue, IsNotDueFrom, frame_at}
+use Rattle.std.proofs.Common.{◌≡◌, ℕ, Option, Some, None, IfNone, arith}
 use Rattle.shore_pool.proofs.Indexes.{key_of_frame, same_number}
 use Rattle.shore_pool.proofs.frames.Frames.next_due.Goals as goal
 

@@ -1,4 +1,4 @@
-use Rattle.std.proofs.Common.{◌≡◌, ◌<◌, ◌≤◌, ℕ, Option, Some, None, IfSome, IsSomeAnd, arith}
+use Rattle.std.proofs.Common.{◌<◌, ◌≤◌, ℕ, Option, Some, None, IfSome, IsSomeAnd, arith}
 use Rattle.shore_dwrite.specs.Settled as settled_device
 use Rattle.shore_dwrite.specs.Volumes.{page_count}
 use Rattle.shore_pool.specs.FrameMaps as maps
