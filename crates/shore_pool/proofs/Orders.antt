@@ -1,13 +1,14 @@
 -- Frames of the pages of their numbers, as they come, go and change.
-use Rattle.std.proofs.Common.{◌≡◌, ◌≢◌, ◌⊎◌, ℕ, List, Option, Some, None, option_map, refl, sym, ap, subst, ◌∙◌, inl, inr}
+use Rattle.std.proofs.Common.{◌≡◌, ◌≢◌, ◌⊎◌, ◌<◌, ℕ, List, Option, Some, None, IsSomeAnd, option_map, refl, sym, ap, subst, ◌∙◌, inl, inr}
 use Rattle.std.proofs.lemmas.Bool.{cases_eq}
 use Rattle.shore_types.specs.declared.ids.PageId.{PageId}
 use Rattle.shore_types.specs.declared.layout.Geometry.{Geometry}
 use Rattle.shore_types.specs.Layout.{HasPage}
-use Rattle.shore_dwrite.specs.Volumes.{page_number}
+use Rattle.shore_dwrite.specs.Volumes.{page_count, page_number}
 use Rattle.shore_pool.specs.declared.frame.Frame.{Frame}
 use Rattle.shore_pool.specs.Changes.{settled, settled_at}
 use Rattle.shore_pool.specs.Pages.{AreInOrder}
+use Rattle.shore_dwrite.proofs.Numbers.{page_within}
 use Rattle.shore_pool.proofs.Settling.{settled_either}
 
 -- each frame there is has the page that it had
@@ -56,3 +57,11 @@ order_settled at now g ns order each = order_kept at now g order (λ k f is. eli
   | inl same ↦ (f, sym (each k ∙ same) ∙ is, refl)
   | inr clean ↦ had_before settled (λ e. refl) (at k) (now k) (each k ∙ clean) f is
 ])
+
+-- a page that has a frame is on the volume
+pub order_within : (at : ℕ → Option Frame) (g : Geometry) → AreInOrder at g → (P : Frame → Type 0) (k : ℕ) → IsSomeAnd (at k) P → k < page_count g
+order_within at g order P k has = each (at k) (order k) has
+  where
+    each : (slot : Option Frame) → ((f : Frame) → slot ≡ Some f → HasPage g f.page.id × (page_number g f.page.id ≡ k)) → IsSomeAnd slot P → k < page_count g
+    each None is there = absurd there
+    each (Some f) is there = subst (λ (n : ℕ). n < page_count g) (is f refl).1 (page_within g.stores f.page.id.store f.page.id.page (is f refl).0).1

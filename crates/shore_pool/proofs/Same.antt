@@ -8,7 +8,8 @@ use Rattle.shore_page.specs.Reading.{images_in}
 use Rattle.shore_page.specs.Text.{IsPageText, images_of}
 use Rattle.shore_page.proofs.SlotsRead.{images_are}
 use Rattle.shore_pool.specs.declared.frame.Frame.{Frame}
-use Rattle.shore_pool.specs.Changes.{settled}
+use Rattle.shore_pool.specs.Changes.{changed, first_of, reclaimed, settled}
+use Rattle.shore_page.specs.Slots.{Slot, with_change}
 use Rattle.shore_pool.specs.FrameMaps.{IsDue}
 use Rattle.shore_pool.specs.Pages.{AreUpTo, AreWritten, IsPage, IsTextOf, SamePages}
 
@@ -119,3 +120,50 @@ one_above at seen number one all = each (at one.0) (all one.0) one.1
     each : (slot : Option Frame) → ((f : Frame) → slot ≡ Some f → (f.recovery ≢ None) × (seen < f.page.number)) → IsSomeAnd slot (λ f. f.page.number ≡ number) → seen < number
     each None is has = absurd has
     each (Some f) is has = subst (λ (n : ℕ). seen < n) has (is f refl).1
+
+-- claims change, and no image with them
+images_stay : (claim : Slot → Slot) → ((s : Slot) → (claim s).image ≡ s.image) → (slots : List Slot) (slot : ℕ) → images_of (with_change claim slots slot) ≡ images_of slots
+images_stay claim keeps [] slot = refl
+images_stay claim keeps (s ∷ slots) zero = ap (λ (i : Image). i ∷ images_of slots) (keeps s)
+images_stay claim keeps (s ∷ slots) (suc slot) = ap (λ (l : List Image). s.image ∷ l) (images_stay claim keeps slots slot)
+
+module _ (at now : ℕ → Option Frame) (disk : ℕ → List ℕ) (n slot : ℕ) (claim : Slot → Slot) (keeps : (s : Slot) → (claim s).image ≡ s.image) (here : now n ≡ option_map (reclaimed claim slot) (at n)) (others : (k : ℕ) → k ≢ n → now k ≡ at k) where
+  pub claims_stay : SamePages at disk now disk
+  claims_stay = by_page at now disk n others (λ id number images. subst (λ (o : Option Frame). IsPage (at n) (disk n) id number images ↔ IsPage o (disk n) id number images) (sym here) (each (at n) id number images))
+    where
+      each : (o : Option Frame) (id : PageId) (number : ℕ) (images : List Image) → IsPage o (disk n) id number images ↔ IsPage (option_map (reclaimed claim slot) o) (disk n) id number images
+      each None id number images = ((λ p. p), (λ p. p))
+      each (Some f) id number images = (
+        (λ p. (p.0, p.1, images_stay claim keeps f.page.slots slot ∙ p.2)),
+        (λ p. (p.0, p.1, sym (images_stay claim keeps f.page.slots slot) ∙ p.2)),
+      )
+
+  pub claims_written : AreWritten at disk → AreWritten now disk
+  claims_written written k f is clean = elim (cases_eq k n) [
+    | inl same ↦ each (at k) (written k) (sym (subst (λ (i : ℕ). now i ≡ option_map (reclaimed claim slot) (at i)) (sym same) here) ∙ is)
+    | inr other ↦ written k f (sym (others k other) ∙ is) clean
+  ]
+    where
+      each : (o : Option Frame) → ((e : Frame) → o ≡ Some e → e.recovery ≡ None → IsTextOf e (disk k)) → option_map (reclaimed claim slot) o ≡ Some f → IsTextOf f (disk k)
+      each None text there = absurd (cc)
+      each (Some e) text there =
+          let both : reclaimed claim slot e ≡ f = cc in
+          let dirty : e.recovery ≡ None = ap (λ (x : Frame). x.recovery) both ∙ clean in
+          subst (λ (x : Frame). IsTextOf x (disk k)) both (subst (λ (l : List Image). IsPageText (disk k) e.page.id e.page.number l) (sym (images_stay claim keeps e.page.slots slot)) (text e refl dirty))
+
+-- a page that was changed is dirty
+pub change_written : (at now : ℕ → Option Frame) (disk : ℕ → List ℕ) (n lsn slot : ℕ) (after : Image) → now n ≡ option_map (changed lsn slot after) (at n) → ((k : ℕ) → k ≢ n → now k ≡ at k) → AreWritten at disk → AreWritten now disk
+change_written at now disk n lsn slot after here others written k f is clean = elim (cases_eq k n) [
+  | inl same ↦ absurd (each (at n) (sym here ∙ ap now (sym same) ∙ is))
+  | inr other ↦ written k f (sym (others k other) ∙ is) clean
+]
+  where
+    never : (first : Option ℕ) → first_of first lsn ≡ None → ⊥
+    never None is = cc
+    never (Some m) is = cc
+
+    each : (o : Option Frame) → option_map (changed lsn slot after) o ≡ Some f → ⊥
+    each None there = cc
+    each (Some e) there =
+        let both : changed lsn slot after e ≡ f = cc in
+        never e.recovery (ap (λ (x : Frame). x.recovery) both ∙ clean)

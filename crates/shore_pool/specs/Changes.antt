@@ -1,6 +1,6 @@
 -- What is done to a frame.
 use Rattle.std.specs.Prelude.{ℕ, ◌==◌, List, [], ◌∷◌, Option, None, Some, option_map, if◌then◌else◌}
-use Rattle.shore_page.specs.Slots.{with_image}
+use Rattle.shore_page.specs.Slots.{Slot, with_change, with_image}
 use Rattle.shore_types.specs.Images.{Image}
 use Rattle.shore_pool.specs.declared.frame.Frame.{Frame}
 
@@ -21,3 +21,7 @@ settled f = record f { recovery = None }
 abbrev pub settled_at : List ℕ → (ℕ → Option Frame) → ℕ → Option Frame
 settled_at [] at k = at k
 settled_at (n ∷ ns) at k = if n == k then option_map settled (at k) else settled_at ns at k
+
+-- the claim of a slot is another, and nothing else
+abbrev pub reclaimed : (Slot → Slot) → ℕ → Frame → Frame
+reclaimed claim slot f = record f { page = record f.page { slots = with_change claim f.page.slots slot } }

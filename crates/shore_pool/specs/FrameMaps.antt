@@ -52,3 +52,11 @@ NoneDue frames seen = (k : ℕ) (f : Frame) → frame_at frames k ≡ Some f →
 -- .. nor has that of a key
 abbrev pub IsNotDue : Frames → ℕ → ℕ → Type 0
 IsNotDue frames seen key = (f : Frame) → get frames.slots key ≡ Some f → IsDue seen f → ⊥
+
+-- .. or it has a lower number on the volume
+abbrev pub IsNotDueFrom : Frames → ℕ → ℕ → ℕ → Type 0
+IsNotDueFrom frames from seen key = (f : Frame) → get frames.slots key ≡ Some f → from ≤ f.number → IsDue seen f → ⊥
+
+-- the frame of a key is that of this page
+abbrev pub IsOfNumber : Frames → ℕ → ℕ → Type 0
+IsOfNumber frames key number = (f : Frame) → get frames.slots key ≡ Some f → f.number ≡ number

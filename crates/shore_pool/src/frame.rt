@@ -2,8 +2,8 @@
 ghost use Rattle.std.specs.Prelude.{◌≡◌, Some, None, length, option_map};
 ghost use Rattle.std.specs.Prelude.{◌<◌};
 ghost use Rattle.shore_page.specs.Room.{Fits, raised, lowered};
-ghost use Rattle.shore_page.specs.Slots.{image_len, with_change};
-ghost use Rattle.shore_pool.specs.Changes.{changed, settled};
+ghost use Rattle.shore_page.specs.Slots.{image_len};
+ghost use Rattle.shore_pool.specs.Changes.{changed, reclaimed, settled};
 
 use shore_page::Page;
 use shore_types::Lsn;
@@ -40,7 +40,7 @@ impl Frame {
     pub fn reserve(&mut self, slot: u16, bytes: usize)
         requires there { slot < length self.old.page.slots }
         requires fits { Fits self.old.page.slots slot bytes }
-        ensures { self.new ≡ record self.old { page = record self.old.page { slots = with_change (raised bytes) self.old.page.slots slot } } }
+        ensures { self.new ≡ reclaimed (raised bytes) slot self.old }
     {
         self.page.reserve(slot, bytes);
     }
@@ -48,7 +48,7 @@ impl Frame {
     /// Keeps no more than this many bytes for a slot, and what its record has, as `Page::unreserve`.
     pub fn unreserve(&mut self, slot: u16, bytes: usize)
         requires { slot < length self.old.page.slots }
-        ensures { self.new ≡ record self.old { page = record self.old.page { slots = with_change (lowered bytes) self.old.page.slots slot } } }
+        ensures { self.new ≡ reclaimed (lowered bytes) slot self.old }
     {
         self.page.unreserve(slot, bytes);
     }

@@ -3,9 +3,9 @@
 ghost use Rattle.std.specs.Prelude.{◌≡◌, ◌≢◌, ◌⊎◌, ◌+◌, ◌^◌, ◌<◌, ◌≤◌, ◌↔◌, ℕ, None, Some, IfOk, IfSome, IfNone, IsSomeAnd, IsTrue, length, nat_le, is_some, option_copied, option_map};
 ghost use Rattle.slab.specs.Slab.{slab_len};
 ghost use Rattle.shore_types.specs.Images.{Image};
-ghost use Rattle.shore_page.specs.Room.{Fits};
+ghost use Rattle.shore_page.specs.Room.{Fits, lowered, raised};
 ghost use Rattle.shore_page.specs.Slots.{image_len, PageState};
-ghost use Rattle.shore_pool.specs.Changes.{changed, settled, settled_at};
+ghost use Rattle.shore_pool.specs.Changes.{changed, reclaimed, settled, settled_at};
 ghost use Rattle.shore_pool.specs.Clocks.{places_of};
 ghost use Rattle.shore_pool.specs.Frames.{IsIndexed};
 
@@ -52,8 +52,17 @@ fn older(oldest: Option<Due>, due: Due) -> Due
     }
 }
 
+fn lower(next: Option<u32>, number: u32) -> u32
+    ensures { (result ≡ number) ⊎ (next ≡ Some result) }
+{
+    match next {
+        Some(other) => other.min(number),
+        None => number,
+    }
+}
+
 impl Frames {
-    ghost use Rattle.shore_pool.specs.FrameMaps.{frame_at, count_of, limit_of, pages_of, key_of, AllDirty, IsDue, IsNotClean, IsNotDue, KeepsShape, NoneDue, SameFrames};
+    ghost use Rattle.shore_pool.specs.FrameMaps.{frame_at, count_of, limit_of, pages_of, key_of, AllDirty, IsDue, IsNotClean, IsNotDue, IsNotDueFrom, IsOfNumber, KeepsShape, NoneDue, SameFrames};
 
     /// No frames, with the memory for as many as the limit, of a volume of so many pages.
     pub fn new(alloc: Global, pages: usize, limit: usize) -> Result<Frames, AllocError>
@@ -155,6 +164,34 @@ impl Frames {
         }
     }
 
+    /// Keeps at least this many bytes for a slot of a page in a frame, as `Page::reserve`.
+    pub fn reserve(&mut self, number: u32, slot: u16, bytes: usize)
+        requires { IsSomeAnd (frame_at self.old number) (λ f. (slot < length f.page.slots) × Fits f.page.slots slot bytes) }
+        ensures here { frame_at self.new number ≡ option_map (reclaimed (raised bytes) slot) (frame_at self.old number) }
+        ensures others { (k : ℕ) → k ≢ number → frame_at self.new k ≡ frame_at self.old k }
+        ensures shape { KeepsShape self.old self.new }
+    {
+        if let Some(key) = self.key(number) {
+            if let Some(frame) = self.slots.get_mut(key) {
+                frame.reserve(slot, bytes);
+            }
+        }
+    }
+
+    /// Keeps no more than this many bytes for a slot of a page in a frame, as `Page::unreserve`.
+    pub fn unreserve(&mut self, number: u32, slot: u16, bytes: usize)
+        requires { IsSomeAnd (frame_at self.old number) (λ f. slot < length f.page.slots) }
+        ensures here { frame_at self.new number ≡ option_map (reclaimed (lowered bytes) slot) (frame_at self.old number) }
+        ensures others { (k : ℕ) → k ≢ number → frame_at self.new k ≡ frame_at self.old k }
+        ensures shape { KeepsShape self.old self.new }
+    {
+        if let Some(key) = self.key(number) {
+            if let Some(frame) = self.slots.get_mut(key) {
+                frame.unreserve(slot, bytes);
+            }
+        }
+    }
+
     /// The page of a frame was written: it is clean.
     pub fn settle(&mut self, number: u32)
         ensures here { frame_at self.new number ≡ option_map settled (frame_at self.old number) }
@@ -238,9 +275,37 @@ impl Frames {
         }
     }
 
+    /// The dirty page with the least number on the volume from one on, of those with numbers up to this one.
+    pub fn next_due(&self, from: u32, seen: Lsn) -> Option<u32>
+        ensures due { IfSome result (λ k. IsSomeAnd (frame_at self.now k) (IsDue seen)) }
+        ensures rises { IfSome result (λ k. from ≤ k) }
+        ensures none { IfNone result ((k : ℕ) (f : Frame) → frame_at self.now k ≡ Some f → from ≤ k → IsDue seen f → ⊥) }
+    {
+        let mut next = None;
+        for key in 0..self.slots.capacity() {
+            if let Some(number) = self.due_from(key, from, seen) {
+                next = Some(lower(next, number));
+            }
+        }
+        next
+    }
+
+    // The page of the frame of a key, if it is due and has at least this number on the volume.
+    fn due_from(&self, key: usize, from: u32, seen: Lsn) -> Option<u32>
+        ensures due { IfSome result (λ k. IsSomeAnd (frame_at self.now k) (IsDue seen) × (from ≤ k)) }
+        ensures none { IfNone result (IsNotDueFrom self.now from seen key) }
+    {
+        let due = self.due_at(key, seen)?;
+        if due.number < from {
+            return None;
+        }
+        Some(due.number)
+    }
+
     // The page of the frame of a key, if it is dirty and has a number up to this one.
     fn due_at(&self, key: usize, seen: Lsn) -> Option<Due>
         ensures due { IfSome result (λ due. IsSomeAnd (frame_at self.now due.number) (IsDue seen)) }
+        ensures number { IfSome result (λ due. IsOfNumber self.now key due.number) }
         ensures none { IfNone result (IsNotDue self.now seen key) }
     {
         let frame = self.slots.get(key)?;

@@ -1,5 +1,5 @@
 //! The pool: pages of a volume, of which as many as there are frames are in memory.
-ghost use Rattle.std.specs.Prelude.{◌≡◌, ◌≢◌, ◌⊎◌, ◌+◌, ◌-◌, ◌*◌, ◌<◌, ◌≤◌, ℕ, [], List, All, Contains, IfErr, IfOk, IsErrAnd, IsSomeAnd, IsTrue, MatchResult, None, OnOk, Some, is_some, length, option_copied, option_map};
+ghost use Rattle.std.specs.Prelude.{◌≡◌, ◌≢◌, ◌⊎◌, ◌+◌, ◌-◌, ◌*◌, ◌<◌, ◌≤◌, ℕ, [], List, All, Contains, IfErr, IfNone, IfOk, IfSome, IsErrAnd, IsSomeAnd, IsTrue, MatchResult, None, OnOk, Some, is_some, length, option_copied, option_map};
 ghost use Rattle.std.proofs.Props.{props};
 ghost use Rattle.shore_disk.specs.Cause.{HasCause};
 ghost use Rattle.shore_disk.specs.Device.{CountsFault, LeavesOnly};
@@ -13,9 +13,11 @@ ghost use Rattle.shore_types.specs.Images.{Image};
 ghost use Rattle.shore_types.specs.Layout.{HasPage};
 ghost use Rattle.shore_types.specs.declared.faults.Device.TheVariants as Device;
 ghost use Rattle.shore_types.specs.declared.faults.Fault.TheVariants as Fault;
-ghost use Rattle.shore_types.specs.declared.layout.TheConstants.{MAX_BATCH_PAGES, MAX_POOL_FRAMES, MIN_POOL_FRAMES};
-ghost use Rattle.shore_pool.specs.Changes.{changed, settled};
+ghost use Rattle.shore_types.specs.declared.layout.TheConstants.{MAX_BATCH_PAGES, MAX_PAGES, MAX_POOL_FRAMES, MIN_POOL_FRAMES};
+ghost use Rattle.shore_pool.specs.Changes.{changed, reclaimed, settled};
 ghost use Rattle.shore_pool.specs.FrameMaps as maps;
+ghost use Rattle.shore_pool.specs.FrameMaps.{IsDue};
+ghost use Rattle.shore_pool.specs.declared.frame.Frame.{Frame};
 ghost use Rattle.shore_pool.specs.Pages.{AreInOrder, AreUpTo, SamePages};
 ghost use Rattle.shore_pool.specs.declared.pool.Fetched.TheVariants as Fetched;
 
@@ -187,12 +189,57 @@ impl<D: Disk> Pool<D> {
         requires fits { IsSomeAnd (frame_of self.old id) (λ f. Fits f.page.slots slot (image_len (option_map (λ bytes. bytes.now) after))) }
         ensures here { frame_of self.new id ≡ option_map (changed lsn slot (option_map (λ bytes. bytes.now) after.entry)) (frame_of self.old id) }
         ensures others { (k : ℕ) → k ≢ page_number (geometry_of self.old) id → frame_at self.new k ≡ frame_at self.old k }
+        ensures kept { (front : List ℕ) (disk : ℕ → List ℕ) → Holds self.old front disk → Holds self.new front disk }
         ensures count { count_of self.new ≡ count_of self.old }
         ensures limit { limit_of self.new ≡ limit_of self.old }
         ensures device { device_of self.new ≡ device_of self.old }
     {
         let number = self.device.number(id);
         self.frames.change(number, lsn, slot, after);
+    }
+
+    /// Keeps at least this many bytes for a slot of a page in a frame: for an image that may come back to it. After a fetch that read
+    /// a page its undecided changes are told so; no page is another by it.
+    pub fn reserve(&mut self, id: PageId, slot: u16, bytes: usize)
+        requires there { HasPage (geometry_of self.old) id }
+        requires fits { IsSomeAnd (frame_of self.old id) (λ f. (slot < length f.page.slots) × Fits f.page.slots slot bytes) }
+        ensures here { frame_of self.new id ≡ option_map (reclaimed (raised bytes) slot) (frame_of self.old id) }
+        ensures others { (k : ℕ) → k ≢ page_number (geometry_of self.old) id → frame_at self.new k ≡ frame_at self.old k }
+        ensures kept { (front : List ℕ) (disk : ℕ → List ℕ) → Holds self.old front disk
+            → Holds self.new front disk × SamePages (frame_at self.old) disk (frame_at self.new) disk }
+        ensures count { count_of self.new ≡ count_of self.old }
+        ensures limit { limit_of self.new ≡ limit_of self.old }
+        ensures device { device_of self.new ≡ device_of self.old }
+    {
+        let number = self.device.number(id);
+        self.frames.reserve(number, slot, bytes);
+    }
+
+    /// Keeps no more than this many bytes for a slot of a page in a frame, and what its record has: the images that may still come back
+    /// to it are no longer. No page is another by it.
+    pub fn unreserve(&mut self, id: PageId, slot: u16, bytes: usize)
+        requires there { HasPage (geometry_of self.old) id }
+        requires slot { IsSomeAnd (frame_of self.old id) (λ f. slot < length f.page.slots) }
+        ensures here { frame_of self.new id ≡ option_map (reclaimed (lowered bytes) slot) (frame_of self.old id) }
+        ensures others { (k : ℕ) → k ≢ page_number (geometry_of self.old) id → frame_at self.new k ≡ frame_at self.old k }
+        ensures kept { (front : List ℕ) (disk : ℕ → List ℕ) → Holds self.old front disk
+            → Holds self.new front disk × SamePages (frame_at self.old) disk (frame_at self.new) disk }
+        ensures count { count_of self.new ≡ count_of self.old }
+        ensures limit { limit_of self.new ≡ limit_of self.old }
+        ensures device { device_of self.new ≡ device_of self.old }
+    {
+        let number = self.device.number(id);
+        self.frames.unreserve(number, slot, bytes);
+    }
+
+    /// The dirty page that comes next on the volume from a number on, of those with numbers up to the durable one.
+    pub fn next_due(&self, from: u32, seen: Lsn) -> Option<u32>
+        ensures due { IfSome result (λ k. IsSomeAnd (frame_at self.now k) (IsDue seen)) }
+        ensures rises { IfSome result (λ k. from ≤ k) }
+        ensures within { IfSome result (λ k. k < MAX_PAGES) }
+        ensures none { IfNone result ((k : ℕ) (f : Frame) → frame_at self.now k ≡ Some f → from ≤ k → IsDue seen f → ⊥) }
+    {
+        self.frames.next_due(from, seen)
     }
 
     /// Frees a frame: one of a clean page that was not used for a while, if there is a clean page; else that of the page whose changes are

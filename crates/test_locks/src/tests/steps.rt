@@ -3,7 +3,7 @@ use super::granules::Target;
 use shore_deadlock::{Victim, break_cycles, find_cycle};
 use shore_locks::{LockTable, Requested, Tried};
 use shore_model::Request;
-use shore_path::{Acquired, OnConflict, acquire};
+use shore_path::{Acquired, OnConflict, acquire, judge};
 use shore_types::{Fault, Mode, TxnId};
 use std::alloc::Global;
 use std::test::Fail;
@@ -157,9 +157,15 @@ fn attempts(table: &mut LockTable, txn: u64, target: Target, mode: Mode, outcome
     if table.is_waiting(TxnId(txn)) {
         return false;
     }
-    let granule = target.granule();
-    let acquired = acquire(table, TxnId(txn), granule, mode, OnConflict::Refuse);
-    acquired == attempted_of(outcome)
+    let judged = judge(table, TxnId(txn), target.granule(), mode);
+    let acquired = acquire(
+        table,
+        TxnId(txn),
+        target.granule(),
+        mode,
+        OnConflict::Refuse,
+    );
+    acquired == judged && acquired == attempted_of(outcome)
 }
 
 fn attempted_of(outcome: Outcome) -> Result<Acquired, Fault> {

@@ -1,0 +1,3 @@
+pub mod Batches
+pub mod Flushes
+pub mod Choosing

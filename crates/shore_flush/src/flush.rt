@@ -1,0 +1,74 @@
+//! Which pages go into a batch, and their way to the volume.
+ghost use Rattle.std.specs.Prelude.{◌≡◌, ◌⊎◌, ◌+◌, ◌<◌, ◌≤◌, ℕ, [], List, All, IfErr, IfOk, MatchResult, length};
+ghost use Rattle.shore_disk.specs.Cause.{HasCause};
+ghost use Rattle.shore_disk.specs.Device.{LeavesOnly};
+ghost use Rattle.shore_dwrite.specs.Shown.{RiseFrom};
+ghost use Rattle.shore_types.specs.declared.faults.Fault.TheVariants as Fault;
+ghost use Rattle.shore_types.specs.declared.layout.TheConstants.{MAX_BATCH_PAGES};
+ghost use Rattle.shore_pool.specs.Pools.{Holds, LeavesPages, WroteBack, count_of, faults_of, frame_at, geometry_of, history_of, limit_of};
+ghost use Rattle.shore_flush.specs.Batches.{pages_of};
+ghost use Rattle.shore_flush.specs.Flushes.{AreDue, Flushes, NoneDue};
+
+use shore_disk::Disk;
+use shore_pool::Pool;
+use shore_types::layout::MAX_BATCH_PAGES;
+use shore_types::{Fault, Lsn};
+use std::alloc::{AllocError, Global};
+
+/// Pages that are written together, by their numbers on the volume.
+#[derive(Drop)]
+pub struct Batch {
+    pages: Vec<u32>,
+}
+
+impl Batch {
+    pub fn pages(&self) -> &[u32]
+        ensures { result.now ≡ pages_of self.now }
+    {
+        &self.pages
+    }
+}
+
+/// The first dirty pages of the volume with numbers up to the durable one, as many as a batch may have; none only if there is none.
+pub fn choose<D: Disk>(alloc: Global, pool: &Pool<D>, seen: Lsn) -> Result<Batch, AllocError>
+    ensures rise { IfOk result (λ batch. RiseFrom 0 (pages_of batch)) }
+    ensures most { IfOk result (λ batch. length (pages_of batch) ≤ MAX_BATCH_PAGES) }
+    ensures due { IfOk result (λ batch. AreDue pool.now seen (pages_of batch)) }
+    ensures none { IfOk result (λ batch. pages_of batch ≡ [] → NoneDue pool.now seen) }
+{
+    let mut pages = Vec::with_capacity(alloc, MAX_BATCH_PAGES)?;
+    let mut from = 0;
+    for _ in 0..MAX_BATCH_PAGES {
+        let Some(number) = pool.next_due(from, seen) else {
+            return Ok(Batch { pages });
+        };
+        pages.push(number)?;
+        from = number + 1;
+    }
+    Ok(Batch { pages })
+}
+
+/// Writes a batch of pages back, and answers how many. `Memory` if an allocation failed; nothing has changed then.
+pub fn flush_step<D: Disk>(alloc: Global, pool: &mut Pool<D>, seen: Lsn) -> Result<usize, Fault>
+    ensures flushed { IfOk result (λ count. Flushes pool.old pool.new seen count) }
+    ensures refused { IfErr result (λ fault. ((fault ≡ Fault.Device) ⊎ (fault ≡ Fault.Memory)) × ((k : ℕ) → frame_at pool.new k ≡ frame_at pool.old k)) }
+    ensures kept { (front : List ℕ) (disk : ℕ → List ℕ) → Holds pool.old front disk
+        → MatchResult result (λ _. WroteBack pool.old pool.new seen front disk) (λ fault. (fault ≡ Fault.Device) ⊎ WroteBack pool.old pool.new seen front disk) }
+
+    // A crash at any moment of the call leaves pages that are old, or those of their frames with durable numbers.
+    ensures any_moment { (front : List ℕ) (disk : ℕ → List ℕ) → Holds pool.old front disk
+        → LeavesOnly (history_of pool.old) (history_of pool.new) (LeavesPages pool.old seen front disk) }
+
+    ensures count { count_of pool.new ≡ count_of pool.old }
+    ensures limit { limit_of pool.new ≡ limit_of pool.old }
+    ensures geometry { geometry_of pool.new ≡ geometry_of pool.old }
+    ensures cause { HasCause result (faults_of pool.old) (faults_of pool.new) }
+{
+    let batch = choose(alloc, pool, seen)?;
+    let pages = batch.pages();
+    if pages.is_empty() {
+        return Ok(0);
+    }
+    pool.write(pages)?;
+    Ok(pages.len())
+}

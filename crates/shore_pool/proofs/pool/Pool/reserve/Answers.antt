@@ -1,0 +1,21 @@
+use Rattle.std.proofs.Common.{refl}
+use Rattle.shore_page.specs.Room.{raised}
+use Rattle.shore_dwrite.specs.Settled as settled_device
+use Rattle.shore_pool.specs.Changes.{reclaimed}
+use Rattle.shore_pool.specs.FrameMaps as maps
+use Rattle.shore_pool.proofs.Orders.{order_changed}
+use Rattle.shore_pool.proofs.Same.{claims_stay, claims_written}
+use Rattle.shore_pool.proofs.pool.Pool.reserve.Goals as goal
+
+pub invariant_of-self-clause-in_order : goal.invariant_of-self-clause-in_order
+invariant_of-self-clause-in_order g c =
+    let old = c.args.self.now in
+    order_changed (maps.frame_at old.frames) (maps.frame_at c.reserve.new.self) (settled_device.geometry_of old.device) c.number-number.result (reclaimed (raised c.args.bytes) c.args.slot) (λ f. refl) old.in_order c.reserve.ensures.here c.reserve.ensures.others
+
+pub returns-clause-kept : goal.returns-clause-kept
+returns-clause-kept g c front disk holds =
+    let at = maps.frame_at c.args.self.now.frames in
+    let now = maps.frame_at c.reserve.new.self in (
+      record { settled = holds.settled; written = claims_written at now disk c.number-number.result c.args.slot (raised c.args.bytes) (λ s. refl) c.reserve.ensures.here c.reserve.ensures.others holds.written },
+      claims_stay at now disk c.number-number.result c.args.slot (raised c.args.bytes) (λ s. refl) c.reserve.ensures.here c.reserve.ensures.others,
+    )
