@@ -18,26 +18,17 @@ use std::alloc::Global;
 use std::test::Fail;
 use trouble::Trouble;
 
-#[test]
-fn on_an_empty_log(rt: HostRuntime) -> Result<(), Fail> {
-    let alloc = rt.alloc();
-    let start = Start {
+/// A formatted log device, and what is done on it first.
+fn start_with(alloc: Global, before: &'static [Doing]) -> Result<Start, Trouble> {
+    Ok(Start {
         ground: formatted(alloc)?,
-        before: &[],
-    };
-    let Counts { lists, cases } = check_lists(alloc, &start)?;
-    println!(rt; "on an empty log: {lists} lists, {cases} cases")?;
-    assert_eq!(rt; lists, 19_608);
-    assert_eq!(rt; cases, 122_652);
-    Ok(())
+        before,
+    })
 }
 
-// What a crash leaves of a manager that has committed a record.
+/// What a crash leaves of a manager that has committed a record.
 fn with_a_record(alloc: Global) -> Result<Start, Trouble> {
-    let empty = Start {
-        ground: formatted(alloc)?,
-        before: &[],
-    };
+    let empty = start_with(alloc, &[])?;
     let life = live(alloc, &empty, &ONE_COMMIT, None)?;
     Ok(Start {
         ground: check_crash(alloc, &empty.ground, life, Pick::Old)?,
@@ -45,27 +36,36 @@ fn with_a_record(alloc: Global) -> Result<Start, Trouble> {
     })
 }
 
-#[test]
-fn on_a_committed_record(rt: HostRuntime) -> Result<(), Fail> {
-    let alloc = rt.alloc();
-    let start = with_a_record(alloc)?;
-    let Counts { lists, cases } = check_lists(alloc, &start)?;
-    println!(rt; "on a committed record: {lists} lists, {cases} cases")?;
-    assert_eq!(rt; lists, 19_608);
-    assert_eq!(rt; cases, 122_652);
+/// All lists on a start: there are so many, and so many cases of them.
+fn check_start(
+    rt: &HostRuntime,
+    start: &Start,
+    name: &str,
+    wanted: (u64, u64),
+) -> Result<(), Fail> {
+    let Counts { lists, cases } = check_lists(rt.alloc(), start)?;
+    println!(rt; "{name}: {lists} lists, {cases} cases")?;
+    if (lists, cases) != wanted {
+        return Err(Fail::new(format_args!("wanted {wanted:?}")));
+    }
     Ok(())
 }
 
 #[test]
+fn on_an_empty_log(rt: HostRuntime) -> Result<(), Fail> {
+    let start = start_with(rt.alloc(), &[])?;
+    check_start(&rt, &start, "on an empty log", (19_608, 122_652))
+}
+
+#[test]
+fn on_a_committed_record(rt: HostRuntime) -> Result<(), Fail> {
+    let start = with_a_record(rt.alloc())?;
+    check_start(&rt, &start, "on a committed record", (19_608, 122_652))
+}
+
+#[test]
 fn with_a_commit_under_way(rt: HostRuntime) -> Result<(), Fail> {
-    let alloc = rt.alloc();
-    let start = Start {
-        ground: formatted(alloc)?,
-        before: &[Doing::Begin, Doing::Insert, Doing::Commit],
-    };
-    let Counts { lists, cases } = check_lists(alloc, &start)?;
-    println!(rt; "with a commit under way: {lists} lists, {cases} cases")?;
-    assert_eq!(rt; lists, 19_608);
-    assert_eq!(rt; cases, 196_182);
-    Ok(())
+    let before = &[Doing::Begin, Doing::Insert, Doing::Commit];
+    let start = start_with(rt.alloc(), before)?;
+    check_start(&rt, &start, "with a commit under way", (19_608, 196_182))
 }

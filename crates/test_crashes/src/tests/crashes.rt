@@ -35,17 +35,38 @@ pub(super) fn check_crash(
         ..
     } = life;
     device.crash(pick);
+    check_left(alloc, ground, &entries, (&list, durable), device)
+}
+
+// Opens what a crash left of a log, so much of which was durable.
+fn check_left(
+    alloc: Global,
+    ground: &Ground,
+    entries: &[Entry],
+    log: (&[LogRecord], usize),
+    device: MemDisk,
+) -> Result<Ground, Trouble> {
     let image = device.bytes().to_vec(alloc)?;
     let world = reopened(alloc, device)?;
-    let opened = check_found(&world, &list, durable)?;
-    let records = check_shown(alloc, ground, &entries, &world)?;
+    let opened = check_found(&world, log.0, log.1)?;
+    let opening = opening_of(alloc, ground, entries, &world)?;
     Ok(Ground {
         image,
-        opening: Opening {
-            records,
-            in_doubt: Sequence::new(alloc),
-        },
+        opening,
         opened,
+    })
+}
+
+// What an open shows, which has to be right.
+fn opening_of(
+    alloc: Global,
+    ground: &Ground,
+    entries: &[Entry],
+    world: &World<MemDisk>,
+) -> Result<Opening, Trouble> {
+    Ok(Opening {
+        records: check_shown(alloc, ground, entries, world)?,
+        in_doubt: Sequence::new(alloc),
     })
 }
 
@@ -103,12 +124,21 @@ pub(super) fn check_next_life(alloc: Global, ground: Ground, pick: Pick) -> Resu
         ground,
         before: &[],
     };
-    let life = live(alloc, &start, &ONE_COMMIT, None)?;
+    check_one_commit(alloc, &start, pick)
+}
+
+fn check_one_commit(alloc: Global, start: &Start, pick: Pick) -> Result<(), Trouble> {
+    let life = live(alloc, start, &ONE_COMMIT, None)?;
     check_history(alloc, &start.ground, &life)?;
-    let answered = acknowledged(alloc, &life.entries)?;
-    require(answered.as_slice().len() == 1, "no commit is answered")?;
+    check_answered(alloc, &life.entries)?;
     check_crash(alloc, &start.ground, life, pick)?;
     Ok(())
+}
+
+// One commit was acknowledged.
+fn check_answered(alloc: Global, entries: &[Entry]) -> Result<(), Trouble> {
+    let answered = acknowledged(alloc, entries)?;
+    require(answered.as_slice().len() == 1, "no commit is answered")
 }
 
 fn reopened(alloc: Global, device: MemDisk) -> Result<World<MemDisk>, Trouble> {
