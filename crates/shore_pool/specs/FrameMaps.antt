@@ -1,5 +1,6 @@
 -- The frames of a pool as a map from the numbers of pages.
-use Rattle.std.specs.Prelude.{◌≡◌, ◌≢◌, ◌≤◌, ℕ, Option, None, Some, length}
+use Rattle.std.specs.Prelude.{◌≡◌, ◌≢◌, ◌≤◌, ℕ, List, Option, None, Some, Contains, IsSomeAnd, length}
+use Rattle.shore_model.specs.declared.log_records.DirtyPage.{DirtyPage}
 use Rattle.slab.specs.Slab.{get, slab_len}
 use Rattle.shore_pool.specs.declared.frame.Frame.{Frame}
 use Rattle.shore_pool.specs.declared.frames.Frames.{Frames}
@@ -60,3 +61,19 @@ IsNotDueFrom frames from seen key = (f : Frame) → get frames.slots key ≡ Som
 -- the frame of a key is that of this page
 abbrev pub IsOfNumber : Frames → ℕ → ℕ → Type 0
 IsOfNumber frames key number = (f : Frame) → get frames.slots key ≡ Some f → f.number ≡ number
+
+-- an entry of the table of dirty pages
+abbrev pub dirty_page : Frame → ℕ → DirtyPage
+dirty_page f recovery = record { page = f.page.id; recovery = recovery }
+
+-- .. that is right
+abbrev pub IsDirtyPage : Frames → DirtyPage → Type 0
+IsDirtyPage frames entry = (k : ℕ) × IsSomeAnd (frame_at frames k) (λ f. (f.page.id ≡ entry.page) × (f.recovery ≡ Some entry.recovery))
+
+-- each dirty page has its entry
+abbrev pub HasDirty : Frames → List DirtyPage → Type 0
+HasDirty frames list = (k : ℕ) (f : Frame) (recovery : ℕ) → frame_at frames k ≡ Some f → f.recovery ≡ Some recovery → Contains list (dirty_page f recovery)
+
+-- .. that of a key, if it has one
+abbrev pub HasDirtyAt : Frames → ℕ → List DirtyPage → Type 0
+HasDirtyAt frames key list = (f : Frame) (recovery : ℕ) → get frames.slots key ≡ Some f → f.recovery ≡ Some recovery → Contains list (dirty_page f recovery)

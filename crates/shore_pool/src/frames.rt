@@ -1,7 +1,8 @@
 //! The frames of a pool, each found by its page's number on the volume, in one step: the volume has at most 65,536 pages, so the table has
 //! four bytes for each of them, where the page itself has 8,192.
-ghost use Rattle.std.specs.Prelude.{◌≡◌, ◌≢◌, ◌⊎◌, ◌+◌, ◌^◌, ◌<◌, ◌≤◌, ◌↔◌, ℕ, None, Some, IfOk, IfSome, IfNone, IsSomeAnd, IsTrue, length, nat_le, is_some, option_copied, option_map};
+ghost use Rattle.std.specs.Prelude.{◌≡◌, ◌≢◌, ◌⊎◌, ◌+◌, ◌^◌, ◌<◌, ◌≤◌, ◌↔◌, ℕ, None, Some, All, Contains, IfOk, OnOk, IfSome, IfNone, IsSomeAnd, IsTrue, length, nat_le, is_some, option_copied, option_map};
 ghost use Rattle.slab.specs.Slab.{slab_len};
+ghost use Rattle.shore_model.specs.declared.log_records.DirtyPage.{DirtyPage};
 ghost use Rattle.shore_types.specs.Images.{Image};
 ghost use Rattle.shore_page.specs.Room.{Fits, lowered, raised};
 ghost use Rattle.shore_page.specs.Slots.{image_len, PageState};
@@ -11,6 +12,7 @@ ghost use Rattle.shore_pool.specs.Frames.{IsIndexed};
 
 use crate::clock::Clock;
 use crate::frame::Frame;
+use shore_model::DirtyPage;
 use shore_page::Page;
 use shore_types::Lsn;
 use slab::Slab;
@@ -62,7 +64,7 @@ fn lower(next: Option<u32>, number: u32) -> u32
 }
 
 impl Frames {
-    ghost use Rattle.shore_pool.specs.FrameMaps.{frame_at, count_of, limit_of, pages_of, key_of, AllDirty, IsDue, IsNotClean, IsNotDue, IsNotDueFrom, IsOfNumber, KeepsShape, NoneDue, SameFrames};
+    ghost use Rattle.shore_pool.specs.FrameMaps.{HasDirty, HasDirtyAt, IsDirtyPage, frame_at, count_of, limit_of, pages_of, key_of, AllDirty, IsDue, IsNotClean, IsNotDue, IsNotDueFrom, IsOfNumber, KeepsShape, NoneDue, SameFrames};
 
     /// No frames, with the memory for as many as the limit, of a volume of so many pages.
     pub fn new(alloc: Global, pages: usize, limit: usize) -> Result<Frames, AllocError>
@@ -317,6 +319,37 @@ impl Frames {
             number: frame.number,
             recovery,
         })
+    }
+
+    /// The dirty pages, each with its recovery number, in no order.
+    pub fn dirty_pages(&self, alloc: Global) -> Result<Vec<DirtyPage>, AllocError>
+        ensures listed { IfOk result (λ list. All (IsDirtyPage self.now) list.items) }
+        ensures all { IfOk result (λ list. HasDirty self.now list.items) }
+    {
+        let mut list = Vec::new(alloc);
+        for key in 0..self.slots.capacity() {
+            self.list_dirty(key, &mut list)?;
+        }
+        Ok(list)
+    }
+
+    // The page of the frame of a key goes on the list if it is dirty.
+    fn list_dirty(&self, key: usize, list: &mut Vec<DirtyPage>) -> Result<(), AllocError>
+        ensures listed { All (IsDirtyPage self.now) list.old.items → OnOk result (All (IsDirtyPage self.now) list.new.items) }
+        ensures here { OnOk result (HasDirtyAt self.now key list.new.items) }
+        ensures stay { OnOk result ((entry : DirtyPage) → Contains list.old.items entry → Contains list.new.items entry) }
+    {
+        let Some(frame) = self.slots.get(key) else {
+            return Ok(());
+        };
+        let Some(recovery) = frame.recovery else {
+            return Ok(());
+        };
+        list.push(DirtyPage {
+            page: frame.page.id(),
+            recovery,
+        })?;
+        Ok(())
     }
 
     /// The number of the last change of a page that has a frame; None if none has one.

@@ -26,9 +26,10 @@ use crate::frames::Frames;
 use crate::gathering::gather;
 use shore_disk::Disk;
 use shore_dwrite::{PageDev, PageImages};
+use shore_model::DirtyPage;
 use shore_page::Page;
 use shore_types::{Fault, Lsn, PageId};
-use std::alloc::Global;
+use std::alloc::{AllocError, Global};
 
 /// How a page came into its frame.
 #[derive(Clone, Copy, PartialEq)]
@@ -123,6 +124,7 @@ impl<D: Disk> Pool<D> {
             → LeavesOnly (history_of self.old) (history_of self.new) (LeavesPages self.old seen front disk) }
 
         ensures geometry { geometry_of self.new ≡ geometry_of self.old }
+        ensures few { count_of self.new ≤ limit_of self.new }
         ensures limit { limit_of self.new ≡ limit_of self.old }
         ensures cause { HasCause result (faults_of self.old) (faults_of self.new) }
     {
@@ -230,6 +232,14 @@ impl<D: Disk> Pool<D> {
     {
         let number = self.device.number(id);
         self.frames.unreserve(number, slot, bytes);
+    }
+
+    /// The dirty pages, each with its recovery number, in no order: the table of a checkpoint has them.
+    pub fn dirty_pages(&self, alloc: Global) -> Result<Vec<DirtyPage>, AllocError>
+        ensures listed { IfOk result (λ list. All (maps.IsDirtyPage self.now.frames) list.items) }
+        ensures all { IfOk result (λ list. maps.HasDirty self.now.frames list.items) }
+    {
+        self.frames.dirty_pages(alloc)
     }
 
     /// The dirty page that comes next on the volume from a number on, of those with numbers up to the durable one.
