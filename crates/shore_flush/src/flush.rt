@@ -7,7 +7,7 @@ ghost use Rattle.shore_types.specs.declared.faults.Fault.TheVariants as Fault;
 ghost use Rattle.shore_types.specs.declared.layout.TheConstants.{MAX_BATCH_PAGES};
 ghost use Rattle.shore_pool.specs.Pools.{Holds, LeavesPages, WroteBack, count_of, faults_of, frame_at, geometry_of, history_of, limit_of};
 ghost use Rattle.shore_flush.specs.Batches.{pages_of};
-ghost use Rattle.shore_flush.specs.Flushes.{AreDue, Flushes, NoneDue};
+ghost use Rattle.shore_flush.specs.Flushes.{AreDue, AreFirst, Flushes, NoneDue};
 
 use shore_disk::Disk;
 use shore_pool::Pool;
@@ -29,11 +29,12 @@ impl Batch {
     }
 }
 
-/// The first dirty pages of the volume with numbers up to the durable one, as many as a batch may have; none only if there is none.
+/// The first dirty pages of the volume with numbers up to the durable one: all of them, or as many as a batch may have.
 pub fn choose<D: Disk>(alloc: Global, pool: &Pool<D>, seen: Lsn) -> Result<Batch, AllocError>
     ensures rise { IfOk result (λ batch. RiseFrom 0 (pages_of batch)) }
     ensures most { IfOk result (λ batch. length (pages_of batch) ≤ MAX_BATCH_PAGES) }
     ensures due { IfOk result (λ batch. AreDue pool.now seen (pages_of batch)) }
+    ensures first { IfOk result (λ batch. AreFirst pool.now seen (pages_of batch)) }
     ensures none { IfOk result (λ batch. pages_of batch ≡ [] → NoneDue pool.now seen) }
 {
     let mut pages = Vec::with_capacity(alloc, MAX_BATCH_PAGES)?;

@@ -1,7 +1,7 @@
 -- The table of frames, as frames come, go and change.
 use Rattle.std.proofs.Common.{◌≡◌, ◌≢◌, ◌<◌, ◌+◌, ℕ, zero, suc, List, [], ◌∷◌, Option, Some, None, cond, count_by, length, slice_index_or, slice_set, option_map, is_some, true, refl, sym, ap, subst, ◌∙◌, inl, inr, arith}
-use Rattle.std.proofs.lemmas.Bool.{cases_eq}
-use Rattle.std.proofs.lemmas.List.{get_or-set_same, get_or-set_other}
+use Rattle.std.proofs.lemmas.Bool.{cases_eq, cases_lt}
+use Rattle.std.proofs.lemmas.List.{get_or_past, get_or-set_same, get_or-set_other}
 use Rattle.std.proofs.lemmas.List.Sums.{sum_by-cons}
 use Rattle.std.specs.Option.{option_and_then}
 use Rattle.slab.specs.Slab.{Slab, Updates, get}
@@ -166,6 +166,32 @@ key_of_frame slots table k f is = each (key_at table k) refl
     each (Some key) at =
         let got : get slots key ≡ Some f = ap (option_and_then (get slots)) (sym at) ∙ is in
         (key, at, got, ContainsKey-within slots key (ap is_some got))
+
+-- if the frame of a page's key has a number, it is that page's
+pub numbered : (slots : Slab Frame) (table : List (Option ℕ)) → IsIndexed slots table → (n key number : ℕ) → key_at table n ≡ Some key → ((f : Frame) → get slots key ≡ Some f → f.number ≡ number) → number ≡ n
+numbered slots table indexed n key number at is = each (get slots key) refl
+  where
+    there : number_in slots key ≡ Some n
+    there = indexed.there key n at
+
+    each : (slot : Option Frame) → get slots key ≡ slot → number ≡ n
+    each None none =
+        let clash : None ≡ Some n = sym (ap number_of none) ∙ there in
+        absurd cc
+    each (Some f) some =
+        let both : Some f.number ≡ Some n = sym (ap number_of some) ∙ there in
+        let named : f.number ≡ number = is f some in
+        cc
+
+-- a page with a frame is in the table
+pub frame_within : (slots : Slab Frame) (table : List (Option ℕ)) (k : ℕ) (f : Frame) → frame_in slots table k ≡ Some f → k < length table
+frame_within slots table k f is = elim (cases_lt k (length table)) [
+  | inl within ↦ within
+  | inr past ↦
+      let at = key_of_frame slots table k f is in
+      let clash : None ≡ Some at.0 = sym (get_or_past table k None past) ∙ at.1 in
+      absurd cc
+]
 
 -- a slab with nothing at any key has nothing
 pub none_kept : (slots : List (Option Frame)) → ((key : ℕ) → key < length slots → slice_index_or slots key None ≡ None) → count_by is_some slots ≡ 0

@@ -1,5 +1,5 @@
 -- The frames of a pool as a map from the numbers of pages.
-use Rattle.std.specs.Prelude.{◌≡◌, ◌≢◌, ◌≤◌, ℕ, List, Option, None, Some, Contains, IsSomeAnd, length}
+use Rattle.std.specs.Prelude.{◌≡◌, ◌≢◌, ◌<◌, ◌≤◌, ℕ, List, Option, None, Some, Contains, IsSomeAnd, length}
 use Rattle.shore_model.specs.declared.log_records.DirtyPage.{DirtyPage}
 use Rattle.slab.specs.Slab.{get, slab_len}
 use Rattle.shore_pool.specs.declared.frame.Frame.{Frame}
@@ -54,9 +54,9 @@ NoneDue frames seen = (k : ℕ) (f : Frame) → frame_at frames k ≡ Some f →
 abbrev pub IsNotDue : Frames → ℕ → ℕ → Type 0
 IsNotDue frames seen key = (f : Frame) → get frames.slots key ≡ Some f → IsDue seen f → ⊥
 
--- .. or it has a lower number on the volume
-abbrev pub IsNotDueFrom : Frames → ℕ → ℕ → ℕ → Type 0
-IsNotDueFrom frames from seen key = (f : Frame) → get frames.slots key ≡ Some f → from ≤ f.number → IsDue seen f → ⊥
+-- .. nor has one of the pages from a number up to another
+abbrev pub NoneDueIn : Frames → ℕ → ℕ → ℕ → Type 0
+NoneDueIn frames seen from to = (k : ℕ) (f : Frame) → frame_at frames k ≡ Some f → from ≤ k → k < to → IsDue seen f → ⊥
 
 -- the frame of a key is that of this page
 abbrev pub IsOfNumber : Frames → ℕ → ℕ → Type 0

@@ -54,17 +54,8 @@ fn older(oldest: Option<Due>, due: Due) -> Due
     }
 }
 
-fn lower(next: Option<u32>, number: u32) -> u32
-    ensures { (result ≡ number) ⊎ (next ≡ Some result) }
-{
-    match next {
-        Some(other) => other.min(number),
-        None => number,
-    }
-}
-
 impl Frames {
-    ghost use Rattle.shore_pool.specs.FrameMaps.{HasDirty, HasDirtyAt, IsDirtyPage, frame_at, count_of, limit_of, pages_of, key_of, AllDirty, IsDue, IsNotClean, IsNotDue, IsNotDueFrom, IsOfNumber, KeepsShape, NoneDue, SameFrames};
+    ghost use Rattle.shore_pool.specs.FrameMaps.{HasDirty, HasDirtyAt, IsDirtyPage, frame_at, count_of, limit_of, pages_of, key_of, AllDirty, IsDue, IsNotClean, IsNotDue, IsOfNumber, KeepsShape, NoneDue, NoneDueIn, SameFrames};
 
     /// No frames, with the memory for as many as the limit, of a volume of so many pages.
     pub fn new(alloc: Global, pages: usize, limit: usize) -> Result<Frames, AllocError>
@@ -281,26 +272,25 @@ impl Frames {
     pub fn next_due(&self, from: u32, seen: Lsn) -> Option<u32>
         ensures due { IfSome result (λ k. IsSomeAnd (frame_at self.now k) (IsDue seen)) }
         ensures rises { IfSome result (λ k. from ≤ k) }
+        ensures least { IfSome result (λ k. NoneDueIn self.now seen from k) }
         ensures none { IfNone result ((k : ℕ) (f : Frame) → frame_at self.now k ≡ Some f → from ≤ k → IsDue seen f → ⊥) }
     {
-        let mut next = None;
-        for key in 0..self.slots.capacity() {
-            if let Some(number) = self.due_from(key, from, seen) {
-                next = Some(lower(next, number));
+        for place in from as usize..self.table.len() {
+            let due = self.due_in(place, seen);
+            if due.is_some() {
+                return due;
             }
         }
-        next
+        None
     }
 
-    // The page of the frame of a key, if it is due and has at least this number on the volume.
-    fn due_from(&self, key: usize, from: u32, seen: Lsn) -> Option<u32>
-        ensures due { IfSome result (λ k. IsSomeAnd (frame_at self.now k) (IsDue seen) × (from ≤ k)) }
-        ensures none { IfNone result (IsNotDueFrom self.now from seen key) }
+    // The page at a place of the table, if it is due.
+    fn due_in(&self, place: usize, seen: Lsn) -> Option<u32>
+        ensures due { IfSome result (λ k. (k ≡ place) × IsSomeAnd (frame_at self.now k) (IsDue seen)) }
+        ensures none { IfNone result ((f : Frame) → frame_at self.now place ≡ Some f → IsDue seen f → ⊥) }
     {
+        let key = self.key_in(place)?;
         let due = self.due_at(key, seen)?;
-        if due.number < from {
-            return None;
-        }
         Some(due.number)
     }
 
@@ -370,7 +360,15 @@ impl Frames {
         ensures key { result ≡ key_of self.now number }
         ensures within { IfSome result (λ key. number < pages_of self.now) }
     {
-        match self.table.get(number as usize) {
+        self.key_in(number as usize)
+    }
+
+    // The key at a place of the table.
+    fn key_in(&self, place: usize) -> Option<usize>
+        ensures key { result ≡ key_of self.now place }
+        ensures within { IfSome result (λ key. place < pages_of self.now) }
+    {
+        match self.table.get(place) {
             Some(Some(key)) => Some(usize::from(*key)),
             _ => None,
         }

@@ -246,6 +246,7 @@ impl<D: Disk> Pool<D> {
     pub fn next_due(&self, from: u32, seen: Lsn) -> Option<u32>
         ensures due { IfSome result (λ k. IsSomeAnd (frame_at self.now k) (IsDue seen)) }
         ensures rises { IfSome result (λ k. from ≤ k) }
+        ensures least { IfSome result (λ k. (j : ℕ) (f : Frame) → frame_at self.now j ≡ Some f → from ≤ j → j < k → IsDue seen f → ⊥) }
         ensures within { IfSome result (λ k. k < MAX_PAGES) }
         ensures none { IfNone result ((k : ℕ) (f : Frame) → frame_at self.now k ≡ Some f → from ≤ k → IsDue seen f → ⊥) }
     {

@@ -32,6 +32,7 @@ returns-then-is_empty-clause-flushed g c =
       count_is = none;
       rise = c.in_ok-batch.ensures.rise;
       due = c.in_ok-batch.ensures.due;
+      first = c.in_ok-batch.ensures.first;
       clean = λ k has. absurd (omega (arith, none, has.1));
       others = λ k other. refl;
       none = λ is. c.in_ok-batch.ensures.none (no_pages pages none);

@@ -1,14 +1,31 @@
-use Rattle.std.proofs.Common.{◌≡◌, ℕ, Option, Some, None, IfNone, arith}
-use Rattle.shore_pool.proofs.Indexes.{key_of_frame, same_number}
+use Rattle.std.proofs.Common.{◌≡◌, ◌<◌, ℕ, Option, Some, None, IfNone, is_some, true, false, inl, inr, sym, subst, ◌∙◌, arith}
+use Rattle.std.proofs.lemmas.Bool.{cases_lt}
+use Rattle.shore_pool.specs.declared.frame.Frame.{Frame}
+use Rattle.shore_pool.specs.FrameMaps.{IsDue, frame_at}
+use Rattle.shore_pool.proofs.Indexes.{frame_within}
 use Rattle.shore_pool.proofs.frames.Frames.next_due.Goals as goal
 
-if_none : {A B : Type 0} (o : Option ℕ) → (A → B) → IfNone o A → IfNone o B
-if_none None to a = to a
-if_none (Some k) to a = tt
+if_none : (P : Type 0) (o : Option ℕ) → is_some o ≡ false → IfNone o P → P
+if_none P None is p = p
+if_none P (Some k) is p = let clash : true ≡ false = is in absurd cc
+
+pub loop-place-init : goal.loop-place-init
+loop-place-init c k f is low high due = absurd (omega (arith, low, high))
+
+pub loop-place-preserved : goal.loop-place-preserved
+loop-place-preserved c k f is low high due =
+    let place = c.loop-place.place in
+    let at = frame_at c.args.self.now in
+    let none = if_none ((f : Frame) → at place ≡ Some f → IsDue c.args.seen f → ⊥) c.due_in-due.result (sym c.is_some.ensures ∙ c.if-is_some.false) c.due_in-due.ensures.none in
+    elim (cases_lt k place) [
+      | inl before ↦ c.loop-place.invariant k f is low before due
+      | inr after ↦
+          let here : k ≡ place = omega (arith, after, high) in
+          none f (subst (λ (j : ℕ). at j ≡ Some f) here is) due
+    ]
 
 pub returns-clause-none : goal.returns-clause-none
-returns-clause-none c = if_none c.loop-key.next (λ all k f is from due.
+returns-clause-none c k f is low due =
     let old = c.args.self.now in
-    let at = key_of_frame old.slots old.table.items k f is in
-    let named : f.number ≡ k = same_number old.slots old.table.items old.indexed k at.0 at.1 f at.2 in
-    all at.0 (omega (arith, at.3, c.capacity-key-end.ensures.slots, c.loop-key-test.false)) f at.2 (omega (arith, from, named)) due) c.loop-key.invariant.1
+    let within : k < c.len-place-end.result = omega (arith, frame_within old.slots old.table.items k f is, c.len-place-end.ensures) in
+    c.loop-place.invariant k f is low (omega (arith, within, c.loop-place-test.false)) due
