@@ -4,6 +4,7 @@
 
 mod devices;
 mod pages;
+mod pools;
 mod volumes;
 
 use std::{env, io};
@@ -15,6 +16,9 @@ fn measured(rt: &HostRuntime, name: &str, rounds: u64) -> io::Result<Option<(u12
     }
     if let Some(work) = volumes::Work::of(name) {
         return Ok(Some(volumes::measured(rt, work, rounds)?));
+    }
+    if let Some(work) = pools::Work::of(name) {
+        return Ok(Some(pools::measured(rt, work, rounds)?));
     }
     if let Some(work) = devices::Work::of(name) {
         return Ok(Some(devices::measured(rt, work, rounds)?));
@@ -31,7 +35,9 @@ fn measure(rt: &HostRuntime, name: &str, rounds: u64) -> io::Result<()> {
 }
 
 fn print_usage(rt: &HostRuntime) -> io::Result<()> {
-    println!(rt; "bench_pages fill|get|write|read|compact|copy|batch|load|force|crash ROUNDS")
+    println!(rt;
+        "bench_pages fill|get|write|read|compact|copy|batch|load|hit|miss|steal|force|crash ROUNDS"
+    )
 }
 
 /// Prints how many records a page takes.
