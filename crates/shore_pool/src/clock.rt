@@ -1,6 +1,6 @@
 //! Which frame to look at next when one is needed: a clock's hand goes round and passes over those that were used since it came by.
-ghost use Rattle.std.specs.Prelude.{◌≡◌, ◌<◌, IfOk, IfSome};
-ghost use Rattle.shore_pool.specs.Clocks.{places_of};
+ghost use Rattle.std.specs.Prelude.{◌≡◌, ◌<◌, ◌+◌, IfOk, IfSome, false, slice_set, true};
+ghost use Rattle.shore_pool.specs.Clocks.{around, hand_of, marks_of, place_passed, places_of};
 
 use std::alloc::{AllocError, Global};
 
@@ -23,17 +23,22 @@ impl Clock {
 
     /// Marks a place as used.
     pub fn touch(&mut self, place: usize)
-        ensures { places_of self.new ≡ places_of self.old }
+        ensures places { places_of self.new ≡ places_of self.old }
+        ensures marks { marks_of self.new ≡ slice_set (marks_of self.old) place true }
+        ensures hand { hand_of self.new ≡ hand_of self.old }
     {
         if let Some(used) = self.used.get_mut(place) {
             *used = true;
         }
     }
 
-    /// The next place; None if it was used, and its mark is taken away.
+    /// The place at the hand, which goes on; None if it was used, and its mark is taken away.
     pub fn pass(&mut self) -> Option<usize>
         ensures within { IfSome result (λ place. place < places_of self.old) }
         ensures places { places_of self.new ≡ places_of self.old }
+        ensures place { result ≡ place_passed (marks_of self.old) (hand_of self.old) }
+        ensures marks { marks_of self.new ≡ slice_set (marks_of self.old) (hand_of self.old) false }
+        ensures hand { hand_of self.new ≡ around (places_of self.old) (hand_of self.old + 1) }
     {
         let place = if self.hand < self.used.len() {
             self.hand
@@ -44,10 +49,8 @@ impl Clock {
             return None;
         }
         self.hand = place + 1;
-        if self.used[place] {
-            self.used[place] = false;
-            return None;
-        }
-        Some(place)
+        let was_used = self.used[place];
+        self.used[place] = false;
+        if was_used { None } else { Some(place) }
     }
 }
