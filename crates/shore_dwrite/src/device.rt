@@ -7,7 +7,7 @@ ghost use Rattle.shore_dwrite.specs.Checks.{HasRead, RefusesArea};
 ghost use Rattle.shore_dwrite.specs.Differences.{DiffersInArea, DiffersInPages, HasImages, HasPages};
 ghost use Rattle.shore_dwrite.specs.declared.places.TheConstants.{GATE_AT, PAGES_AT};
 ghost use Rattle.shore_dwrite.specs.Images.{numbers_of, texts_of};
-ghost use Rattle.shore_dwrite.specs.Shown.{IsBatch, RiseFrom, overlaid, ShowsBehind, ShowsEither};
+ghost use Rattle.shore_dwrite.specs.Shown.{IsBatch, IsShut, RiseFrom, overlaid, ShowsBehind, ShowsEither};
 ghost use Rattle.shore_disk.specs.Cause.{HasCause};
 ghost use Rattle.shore_gate.specs.Checks.{IsFromOutside};
 ghost use Rattle.shore_page.specs.Text.{IsPageText, images_of, settled_page};
@@ -22,7 +22,7 @@ use crate::places::{
 };
 use crate::replay::{check_images, read_table};
 use crate::table::table_of;
-use shore_disk::{Disk, DiskFault};
+use shore_disk::{Disk, DiskFault, FuseDisk};
 use shore_gate::{close_gate, is_open, open_gate};
 use shore_page::Page;
 use shore_types::layout::PAGE_BYTES;
@@ -161,6 +161,12 @@ impl<D: Disk> PageDev<D> {
             IsFromOutside fault ⊎ ((part GATE_AT 1 image ≡ OPEN ∷ []) × RefusesArea (geometry_of self.old) image fault)) }
         ensures unchanged { IsTrue (D.is_honest self.old.device) → IfErr result (λ fault.
             (fault ≡ Fault.Device) ⊎ (D.history self.new.device ≡ D.history self.old.device)) }
+
+        // With a shut gate no call changes the device.
+        ensures shut { (image : List ℕ) → IsTrue (D.is_honest self.old.device) → Stands (D.history self.old.device) image → IsShut image
+            → D.history self.new.device ≡ D.history self.old.device }
+        ensures honest { D.is_honest self.new.device ≡ D.is_honest self.old.device }
+        ensures size { size (D.history self.new.device) ≡ size (D.history self.old.device) }
         ensures geometry { geometry_of self.new ≡ geometry_of self.old }
         ensures cause { HasCause result (D.faults self.old.device) (D.faults self.new.device) }
     {
@@ -230,5 +236,20 @@ impl<D: Disk> PageDev<D> {
             self.device.write_at(page_offset(numbers[i]), text)?;
         }
         self.device.sync()
+    }
+}
+
+impl<D: Disk> PageDev<FuseDisk<D>> {
+    ghost use Rattle.shore_disk.specs.Fuse.{fuse_calls, fuse_inner, fuse_refused};
+    ghost use Rattle.shore_dwrite.specs.Settled.{device_of, geometry_of};
+
+    /// Lets so many more writes and syncs of the device pass; then every call of it fails.
+    pub fn set_fuse(&mut self, calls: u64)
+        ensures inner { fuse_inner (device_of self.new) ≡ fuse_inner (device_of self.old) }
+        ensures calls { fuse_calls (device_of self.new) ≡ calls }
+        ensures refused { fuse_refused (device_of self.new) ≡ fuse_refused (device_of self.old) }
+        ensures geometry { geometry_of self.new ≡ geometry_of self.old }
+    {
+        self.device.set_calls(calls);
     }
 }

@@ -9,6 +9,6 @@ IsServedCommand (command.Ask call) = IsServed call
 IsServedCommand command.Nothing = Unit {0}
 IsServedCommand command.Force = Unit {0}
 IsServedCommand (command.Crash pick) = Unit {0}
-IsServedCommand (command.Fuse calls) = Unit {0}
+IsServedCommand (command.Fuse device calls) = Unit {0}
 IsServedCommand command.Dump = Unit {0}
 IsServedCommand command.Log = Unit {0}

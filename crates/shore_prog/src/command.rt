@@ -6,7 +6,7 @@ ghost use Rattle.shore_prog.specs.Commands.{IsServedCommand};
 use crate::words;
 use shore_disk::Pick;
 use shore_model::Call;
-use shore_types::SessionId;
+use shore_types::{Device, SessionId};
 use std::alloc::{AllocError, Global};
 
 /// The one session that is served as yet.
@@ -23,8 +23,8 @@ pub enum Command {
     Force,
     /// The power is lost, and the manager opened again.
     Crash(Pick),
-    /// The log device lets so many more writes and syncs pass.
-    Fuse(u64),
+    /// The device lets so many more writes and syncs pass.
+    Fuse(Device, u64),
     /// Every record in place.
     Dump,
     /// Every record of the log.
@@ -68,9 +68,17 @@ fn plain_command(words: &[&str]) -> Option<Command>
             _ => None,
         },
         [word, pick] if *word == "crash" => Some(Command::Crash(pick_of(pick)?)),
-        [word, device, calls] if *word == "fuse" && *device == "log" => {
-            Some(Command::Fuse(words::number(calls)?))
+        [word, device, calls] if *word == "fuse" => {
+            Some(Command::Fuse(device_of(device)?, words::number(calls)?))
         }
+        _ => None,
+    }
+}
+
+fn device_of(word: &str) -> Option<Device> {
+    match word {
+        "log" => Some(Device::Log),
+        "volume" => Some(Device::Volume),
         _ => None,
     }
 }

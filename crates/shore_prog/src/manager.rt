@@ -1,5 +1,6 @@
-//! The manager that a script works with: a world over a log device in memory, behind a fuse.
+//! The manager that a script works with: a world over two devices in memory, each behind a fuse.
 ghost use Rattle.shore_machine.specs.Served.{IsServed};
+ghost use Rattle.shore_settings.specs.Limits.{AreInLimits};
 ghost use Rattle.shore_prog.specs.Commands.{IsServedCommand};
 
 use crate::command::{Command, SESSION};
@@ -7,13 +8,16 @@ use crate::render;
 use shore_disk::{FuseDisk, MemDisk, Pick};
 use shore_model::Call;
 use shore_settings::Settings;
-use shore_types::Fault;
-use shore_world::{Event, Step, World, format};
+use shore_types::{Device, Fault};
+use shore_world::{Event, Step, World, format, volume_bytes};
 use std::alloc::{AllocError, Global};
 use std::mem;
 
 /// A device in memory that may be made to fail.
 pub type ScriptDisk = FuseDisk<MemDisk>;
+
+/// A world over two of them.
+pub type ScriptWorld = World<ScriptDisk, ScriptDisk>;
 
 // A fuse that no run of the program blows.
 const NO_FUSE: u64 = u64::MAX;
@@ -22,7 +26,7 @@ const NO_FUSE: u64 = u64::MAX;
 #[derive(Drop)]
 pub enum Manager {
     Open(Opened),
-    Closed(ScriptDisk),
+    Closed(ScriptDisk, ScriptDisk),
     /// An allocation failed between a loss of power and the open that follows it: the run ends.
     Lost,
 }
@@ -30,19 +34,22 @@ pub enum Manager {
 /// A world that is open, and its one session.
 #[derive(Drop)]
 pub struct Opened {
-    world: World<ScriptDisk>,
+    world: ScriptWorld,
     /// The session's call waits for a force.
     waits: bool,
 }
 
 impl Manager {
-    /// Formats a device in memory by the settings, and opens it.
-    pub fn start(alloc: Global, settings: &Settings) -> Result<Manager, Fault> {
-        let bytes = zeros(alloc, settings.log_bytes).map_err(|_| Fault::Memory)?;
-        let disk = MemDisk::new(alloc, bytes).map_err(|_| Fault::Memory)?;
-        let mut device = FuseDisk::new(disk, NO_FUSE);
-        format(alloc, &mut device, &settings.geometry)?;
-        let (manager, refused) = open(alloc, device);
+    /// Formats two devices in memory by the settings, and opens them.
+    pub fn start(alloc: Global, settings: &Settings) -> Result<Manager, Fault>
+        requires { AreInLimits settings.now }
+    {
+        let mut log = zeroed(alloc, settings.log_bytes).map_err(|_| Fault::Memory)?;
+        let mut volume = zeroed(alloc, volume_bytes(&settings.geometry)).map_err(
+            |_| Fault::Memory,
+        )?;
+        format(alloc, &mut log, &mut volume, &settings.geometry)?;
+        let (manager, refused) = open(alloc, log, volume);
         match refused {
             None => Ok(manager),
             Some(fault) => Err(fault),
@@ -65,8 +72,8 @@ impl Manager {
         match command {
             Command::Nothing => Ok(()),
             Command::Crash(pick) => self.crash(alloc, pick, out),
-            Command::Fuse(calls) => {
-                self.set_fuse(calls);
+            Command::Fuse(device, calls) => {
+                self.set_fuse(device, calls);
                 Ok(())
             }
             command => self.serve(alloc, command, out),
@@ -82,18 +89,18 @@ impl Manager {
                 answer(alloc, world, waits, command, out)?;
                 settle(alloc, world, waits, out)
             }
-            Manager::Closed(_) | Manager::Lost => render::fault(out, None, &Fault::Failed),
+            Manager::Closed(..) | Manager::Lost => render::fault(out, None, &Fault::Failed),
         }
     }
 
-    // Everything in memory is lost, and the fuse goes away.
+    // Everything in memory is lost, and the fuses go away.
     fn crash(&mut self, alloc: Global, pick: Pick, out: &mut String) -> Result<(), AllocError> {
-        let disk = match mem::replace(self, Manager::Lost) {
+        let (log, volume) = match mem::replace(self, Manager::Lost) {
             Manager::Open(opened) => opened.world.lose_power(pick),
-            Manager::Closed(device) => crashed(device, pick),
+            Manager::Closed(log, volume) => (crashed(log, pick), crashed(volume, pick)),
             Manager::Lost => return Err(AllocError),
         };
-        let (manager, refused) = open(alloc, FuseDisk::new(disk, NO_FUSE));
+        let (manager, refused) = open(alloc, fused(log), fused(volume));
         *self = manager;
         match refused {
             None => out.push_str("opened\n"),
@@ -101,18 +108,20 @@ impl Manager {
         }
     }
 
-    fn set_fuse(&mut self, calls: u64) {
-        match self {
-            Manager::Open(opened) => opened.world.set_fuse(calls),
-            Manager::Closed(device) => device.set_calls(calls),
-            Manager::Lost => {}
+    fn set_fuse(&mut self, device: Device, calls: u64) {
+        match (self, device) {
+            (Manager::Open(opened), Device::Log) => opened.world.set_log_fuse(calls),
+            (Manager::Open(opened), Device::Volume) => opened.world.set_volume_fuse(calls),
+            (Manager::Closed(log, _), Device::Log) => log.set_calls(calls),
+            (Manager::Closed(_, volume), Device::Volume) => volume.set_calls(calls),
+            (Manager::Lost, _) => {}
         }
     }
 }
 
-// Opens the device. A refusal is told with its fault.
-fn open(alloc: Global, device: ScriptDisk) -> (Manager, Option<Fault>) {
-    match World::open(alloc, device) {
+// Opens the pair. A refusal is told with its fault.
+fn open(alloc: Global, log: ScriptDisk, volume: ScriptDisk) -> (Manager, Option<Fault>) {
+    match World::open(alloc, log, volume) {
         Ok(world) => {
             let opened = Opened {
                 world,
@@ -120,7 +129,7 @@ fn open(alloc: Global, device: ScriptDisk) -> (Manager, Option<Fault>) {
             };
             (Manager::Open(opened), None)
         }
-        Err((fault, device)) => (Manager::Closed(device), Some(fault)),
+        Err((fault, log, volume)) => (Manager::Closed(log, volume), Some(fault)),
     }
 }
 
@@ -131,13 +140,19 @@ fn crashed(device: ScriptDisk, pick: Pick) -> MemDisk {
     disk
 }
 
-fn zeros(alloc: Global, len: u64) -> Result<Vec<u8>, AllocError> {
-    Vec::from_elem(alloc, 0, len as usize)
+// A device of so many zeros.
+fn zeroed(alloc: Global, len: u64) -> Result<ScriptDisk, AllocError> {
+    let bytes = Vec::from_elem(alloc, 0, len as usize)?;
+    Ok(fused(MemDisk::new(alloc, bytes)?))
+}
+
+fn fused(disk: MemDisk) -> ScriptDisk {
+    FuseDisk::new(disk, NO_FUSE)
 }
 
 fn answer(
     alloc: Global,
-    world: &mut World<ScriptDisk>,
+    world: &mut ScriptWorld,
     waits: &mut bool,
     command: Command,
     out: &mut String,
@@ -151,13 +166,13 @@ fn answer(
         Command::Log if world.has_failed() => render::fault(out, None, &Fault::Failed),
         Command::Dump => dump(world, out),
         Command::Log => log(world, out),
-        Command::Nothing | Command::Crash(_) | Command::Fuse(_) => Ok(()),
+        Command::Nothing | Command::Crash(_) | Command::Fuse(..) => Ok(()),
     }
 }
 
 fn ask(
     alloc: Global,
-    world: &mut World<ScriptDisk>,
+    world: &mut ScriptWorld,
     waits: &mut bool,
     call: Call,
     out: &mut String,
@@ -186,7 +201,7 @@ fn print(step: &Step, out: &mut String) -> Result<(), AllocError> {
 // force that was refused for another cause has changed nothing: the call waits on, and the next line tries again.
 fn settle(
     alloc: Global,
-    world: &mut World<ScriptDisk>,
+    world: &mut ScriptWorld,
     waits: &mut bool,
     out: &mut String,
 ) -> Result<(), AllocError> {
@@ -205,7 +220,7 @@ fn settle(
 
 fn resume(
     alloc: Global,
-    world: &mut World<ScriptDisk>,
+    world: &mut ScriptWorld,
     waits: &mut bool,
     out: &mut String,
 ) -> Result<(), AllocError> {
@@ -219,13 +234,13 @@ fn resume(
 }
 
 // The call that waits is answered, and waits no more.
-fn give_up(alloc: Global, world: &mut World<ScriptDisk>, waits: &mut bool) {
+fn give_up(alloc: Global, world: &mut ScriptWorld, waits: &mut bool) {
     *waits = false;
     let _answered = world.step(alloc, Event::Resume(SESSION));
 }
 
 // Forces every waiting record.
-fn force(alloc: Global, world: &mut World<ScriptDisk>) -> Result<(), Fault> {
+fn force(alloc: Global, world: &mut ScriptWorld) -> Result<(), Fault> {
     for _ in 0..u64::MAX {
         match world.step(alloc, Event::ForceStage) {
             Step::Done(_) => {}
@@ -239,11 +254,7 @@ fn force(alloc: Global, world: &mut World<ScriptDisk>) -> Result<(), Fault> {
     Ok(())
 }
 
-fn force_line(
-    alloc: Global,
-    world: &mut World<ScriptDisk>,
-    out: &mut String,
-) -> Result<(), AllocError> {
+fn force_line(alloc: Global, world: &mut ScriptWorld, out: &mut String) -> Result<(), AllocError> {
     match force(alloc, world) {
         Ok(()) => {
             let durable = world.durable();
@@ -253,7 +264,7 @@ fn force_line(
     }
 }
 
-fn dump(world: &World<ScriptDisk>, out: &mut String) -> Result<(), AllocError> {
+fn dump(world: &ScriptWorld, out: &mut String) -> Result<(), AllocError> {
     let mut is_empty = true;
     for (id, bytes) in world.dump().iter() {
         is_empty = false;
@@ -266,7 +277,7 @@ fn dump(world: &World<ScriptDisk>, out: &mut String) -> Result<(), AllocError> {
     }
 }
 
-fn log(world: &World<ScriptDisk>, out: &mut String) -> Result<(), AllocError> {
+fn log(world: &ScriptWorld, out: &mut String) -> Result<(), AllocError> {
     let mut is_empty = true;
     let (forced, waiting) = world.records();
     for (number, record) in (1u64..u64::MAX).zip(forced.iter().chain(waiting)) {

@@ -1,4 +1,8 @@
 //! The settings, read from a TOML text.
+ghost use Rattle.std.specs.Prelude.{◌≤◌, IfOk};
+ghost use Rattle.shore_types.specs.Layout.{IsInLimits};
+ghost use Rattle.shore_settings.specs.Limits.{AreInLimits, IsFrameCount};
+
 use shore_types::layout::{MAX_LOG_BYTES, MAX_POOL_FRAMES, MIN_LOG_BYTES, MIN_POOL_FRAMES};
 use shore_types::{ConfigPlace, Fault, Geometry, Sequence, Setting, Text};
 use std::alloc::{AllocError, Global};
@@ -30,7 +34,9 @@ fn refused(setting: Setting) -> Fault {
 
 /// The settings of a TOML text. Each key has a default. Refused by `BadConfig`: a text that is no TOML; then the least unknown key
 /// by bytes; then the first key, in the order of the settings, with a wrong value. `Memory` if an allocation failed.
-pub fn read_settings(alloc: Global, text: &str) -> Result<Settings, Fault> {
+pub fn read_settings(alloc: Global, text: &str) -> Result<Settings, Fault>
+    ensures { IfOk result AreInLimits }
+{
     let table = match toml::table_from_str(alloc, text) {
         Ok(table) => table,
         Err(error) if error.is_memory() => return Err(Fault::Memory),
@@ -42,7 +48,9 @@ pub fn read_settings(alloc: Global, text: &str) -> Result<Settings, Fault> {
     settings_of(alloc, &table)
 }
 
-fn settings_of(alloc: Global, table: &Table) -> Result<Settings, Fault> {
+fn settings_of(alloc: Global, table: &Table) -> Result<Settings, Fault>
+    ensures { IfOk result AreInLimits }
+{
     let pair = number_or(table, Setting::Pair, DEFAULT_PAIR)?;
     let log_bytes = number_or(table, Setting::LogBytes, DEFAULT_LOG_BYTES)?;
     if log_bytes < MIN_LOG_BYTES || log_bytes > MAX_LOG_BYTES {
@@ -57,7 +65,9 @@ fn settings_of(alloc: Global, table: &Table) -> Result<Settings, Fault> {
     })
 }
 
-fn geometry_of(alloc: Global, table: &Table, pair: u64) -> Result<Geometry, Fault> {
+fn geometry_of(alloc: Global, table: &Table, pair: u64) -> Result<Geometry, Fault>
+    ensures { IfOk result IsInLimits }
+{
     let max_locks = short_number_or(table, Setting::MaxLocks, DEFAULT_MAX_LOCKS);
     let geometry = Geometry {
         pair,
@@ -70,10 +80,14 @@ fn geometry_of(alloc: Global, table: &Table, pair: u64) -> Result<Geometry, Faul
     }
 }
 
-fn pool_of(table: &Table) -> Result<u32, Fault> {
-    short_number_or(table, Setting::Pool, DEFAULT_POOL_FRAMES)
-        .filter(|frames| (MIN_POOL_FRAMES..=MAX_POOL_FRAMES).contains(&(*frames as usize)))
-        .ok_or(refused(Setting::Pool))
+fn pool_of(table: &Table) -> Result<u32, Fault>
+    ensures { IfOk result IsFrameCount }
+{
+    let frames = short_number_or(table, Setting::Pool, DEFAULT_POOL_FRAMES).unwrap_or(0);
+    if (frames as usize) < MIN_POOL_FRAMES || frames as usize > MAX_POOL_FRAMES {
+        return Err(refused(Setting::Pool));
+    }
+    Ok(frames)
 }
 
 const KNOWN: [Setting; 9] = [

@@ -1,4 +1,3 @@
-pub mod FrontLemmas
 pub mod WorldLemmas
 pub mod ManagerLemmas
 pub mod OpenLemmas

@@ -1,13 +1,13 @@
 -- Runs of the world as runs of the machine, and managers one after another.
-use Rattle.std.proofs.Common.{◌≡◌, inl, inr, List, ℕ, ◌+◌, ◌-◌, ◌≤◌, [], ◌∷◌, ◌++◌, length, take, drop, arith, refl, sym, ◌∙◌, ap, subst}
+use Rattle.std.proofs.Common.{◌≡◌, inl, inr, List, ℕ, ◌-◌, ◌≤◌, [], ◌∷◌, ◌++◌, length, take, arith, refl, sym, ◌∙◌, ap, subst}
 use Rattle.std.specs.Prelude.{All, map}
 use Rattle.std.specs.List.{AllByRecursion}
-use Rattle.std.proofs.lemmas.List.{take-take, drop-take, length-take}
+use Rattle.std.proofs.lemmas.List.{take-take, length-take}
 use Rattle.std.proofs.lemmas.List.Elements.{recursion_from_All}
 use Rattle.shore_types.specs.declared.faults.Fault.{Fault}
 use Rattle.shore_types.specs.declared.layout.Geometry.{Geometry}
 use Rattle.shore_disk.specs.Device as device
-use Rattle.shore_disk.specs.Device.{size}
+use Rattle.shore_disk.specs.Device.{left_since, may_leave, moment, size}
 use Rattle.shore_disk.specs.declared.device.Disk.{Ghosts}
 use Rattle.shore_model.specs.declared.calls.Answer.TheVariants.{Staged, Forced}
 use Rattle.shore_model.specs.declared.log_records.LogRecord.{LogRecord}
@@ -25,18 +25,18 @@ use Rattle.shore_machine.proofs.QuietEvents.{open_on}
 use Rattle.shore_core.specs.Bounds.{InBounds, IsBounded}
 use Rattle.shore_core.proofs.BoundLemmas.{call_bounded, resume_bounded}
 use Rattle.shore_core.proofs.FitLemmas.{fits_pages}
-use Rattle.shore_types.specs.declared.faults.Device.TheVariants.{Log}
-use Rattle.shore_gate.specs.declared.anchors.Slot.{Slot}
-use Rattle.shore_gate.specs.declared.anchors.Slot.TheVariants.{A, B}
-use Rattle.shore_gate.specs.Label.{HoldsLabel}
-use Rattle.shore_gate.specs.Anchor.{HoldsAnchor, IsOlder, other_of, slot_bytes}
-use Rattle.shore_world.specs.Fronts.{HasFront, StandsFor, first_anchor, log_label}
+use Rattle.shore_format.specs.Pairs.{StandsFor}
+use Rattle.shore_format.specs.Volumes.{VolumeStandsFor}
+use Rattle.shore_format.proofs.FrontLemmas.{front_stays}
+use Rattle.shore_dwrite.specs.Settled.{device_of}
+use Rattle.shore_dwrite.specs.declared.device.PageDev.{PageDev}
+use Rattle.shore_disk.proofs.Moments.{started}
 use Rattle.shore_world.specs.declared.event.Event.{Event}
 use Rattle.shore_world.specs.declared.event.Event.TheVariants.{Call, Resume, ForceStage, ForceOpen}
 use Rattle.shore_world.specs.declared.world.World.{World}
 use Rattle.shore_world.specs.Events.{IsServedEvent}
-use Rattle.shore_world.specs.Worlds.{state_in, geometry_in, history_in, EventStep, ForceRefused, OpenRefused, GivesBeginning, SurvivesCrashes, IsLike, Runs, Steps}
-use Rattle.shore_world.specs.Managers.{Manager, IsManager, IsLeft, NoForceIsFull, AreManagers, failure_by, moves_by, all_moves, entries_of}
+use Rattle.shore_world.specs.Worlds.{state_in, geometry_in, history_in, volume_history_in, EventStep, ForceRefused, OpenRefused, GivesBeginning, SurvivesCrashes, IsLike, Runs, Steps}
+use Rattle.shore_world.specs.Managers.{Manager, IsManager, AreLeft, NoForceIsFull, AreManagers, failure_by, moves_by, all_moves, entries_of}
 
 -- ---- one event
 
@@ -71,8 +71,8 @@ further g a (e ∷ es) b fs c one two = (one.0, one.1, further g one.0 es b fs c
 pub all_served : (events : List Event) → All IsServedEvent events → AllByRecursion IsServedEvent events
 all_served events served = recursion_from_All IsServedEvent events served
 
-module _ {D : Type 0} {G : Ghosts D} where
-  pub run_moves : (g : Geometry) (old : World D G) (events : List Event) (steps : List Step) (new : World D G) → geometry_in old ≡ g → AllByRecursion IsServedEvent events
+module _ {L V : Type 0} {G : Ghosts L} {H : Ghosts V} where
+  pub run_moves : (g : Geometry) (old : World L V G H) (events : List Event) (steps : List Step) (new : World L V G H) → geometry_in old ≡ g → AllByRecursion IsServedEvent events
       → Runs old events steps new → EventsMove g (state_in old) (all_moves events steps) (state_in new)
   run_moves g old [] [] new at served runs = runs.state
   run_moves g old (e ∷ es) (step ∷ steps) new at served runs =
@@ -85,29 +85,6 @@ module _ {D : Type 0} {G : Ghosts D} where
       (one_move g (state_in start) e step (state_in mid) served.0 first) (run_moves g mid es steps new (runs.3.moves.geometry ∙ like.geometry ∙ at) served.1 runs.4))
   run_moves g old [] (step ∷ steps) new at served runs = absurd runs
   run_moves g old (e ∷ es) [] new at served runs = absurd runs
-
--- ---- what a manager leaves stands
-
-slot_within : (p m : ℕ) (image : List ℕ) → 40 ≤ m → take 40 (drop p image) ≡ take 40 (drop p (take (p + m) image))
-slot_within p m image le = sym (ap (take 40) (drop-take p m image) ∙ take-take 40 m (drop p image) le)
-
-same_slot : (slot : Slot) (image c : List ℕ) → take 4096 c ≡ take 4096 image → slot_bytes slot c ≡ slot_bytes slot image
-same_slot A image c same = slot_within 1024 3072 c (omega arith) ∙ ap (λ (l : List ℕ). take 40 (drop 1024 l)) same ∙ sym (slot_within 1024 3072 image (omega arith))
-same_slot B image c same = slot_within 2048 2048 c (omega arith) ∙ ap (λ (l : List ℕ). take 40 (drop 2048 l)) same ∙ sym (slot_within 2048 2048 image (omega arith))
-
--- the front is what the first 4,096 bytes say
-pub front_stays : (g : Geometry) (device_bytes : ℕ) (image c : List ℕ) → HasFront g device_bytes image → take 4096 c ≡ take 4096 image → HasFront g device_bytes c
-front_stays g device_bytes image c has same =
-    let label : take 512 c ≡ take 512 image = sym (take-take 512 4096 c (omega arith)) ∙ ap (take 512) same ∙ take-take 512 4096 image (omega arith) in
-    record {
-      label = subst (λ (l : List ℕ). HoldsLabel Log device_bytes l (log_label g device_bytes)) (sym label) has.label;
-      slot = has.slot;
-      anchor = record {
-        here = subst (λ (l : List ℕ). HoldsAnchor l first_anchor) (sym (same_slot has.slot image c same)) has.anchor.here;
-        older = subst (λ (l : List ℕ). IsOlder l first_anchor.sequence) (sym (same_slot (other_of has.slot) image c same)) has.anchor.older;
-        limits = has.anchor.limits;
-      };
-    }
 
 module _ (g : Geometry) (stream_bytes : ℕ) where
   with_failure_bounded : (s : State) → IsBounded g stream_bytes s → IsBounded g stream_bytes (with_failure s)
@@ -136,17 +113,17 @@ module _ (g : Geometry) (stream_bytes : ℕ) where
   event_bounded opened h s ForceStage step new k b fit served p = absurd p
   event_bounded opened h s ForceOpen step new k b fit served p = absurd p
 
-module _ {D : Type 0} {G : Ghosts D} where
-  pages_fit : (w : World D G) → FitPages (geometry_in w) (state_in w).records
+module _ {L V : Type 0} {G : Ghosts L} {H : Ghosts V} where
+  pages_fit : (w : World L V G H) → FitPages (geometry_in w) (state_in w).records
   pages_fit w = fits_pages w.core.geometry w.core.records w.core.pages
 
   -- what holds after one event of a run
-  record AfterOne (g : Geometry) (stream_bytes : ℕ) (opened : List LogRecord) (h : History) (w : World D G) : Type 0 where
+  record AfterOne (g : Geometry) (stream_bytes : ℕ) (opened : List LogRecord) (h : History) (w : World L V G H) : Type 0 where
     geometry : geometry_in w ≡ g
     history : IsAfter opened h (state_in w)
     bounded : IsBounded g stream_bytes (state_in w)
 
-  after_one : (g : Geometry) (stream_bytes : ℕ) (opened : List LogRecord) (old : World D G) (h : History) (e : Event) (step : Step) (start mid : World D G) → geometry_in old ≡ g → IsServedEvent e
+  after_one : (g : Geometry) (stream_bytes : ℕ) (opened : List LogRecord) (old : World L V G H) (h : History) (e : Event) (step : Step) (start mid : World L V G H) → geometry_in old ≡ g → IsServedEvent e
       → IsAfter opened h (state_in old) → IsBounded g stream_bytes (state_in old) → IsLike old start → Steps start e step mid → AfterOne g stream_bytes opened (after_events h (moves_by e step)) mid
   after_one g stream_bytes opened old h e step start mid at served k b like one =
       let here : geometry_in start ≡ g = like.geometry ∙ at in
@@ -162,7 +139,7 @@ module _ {D : Type 0} {G : Ghosts D} where
       }
 
   -- a force has its room at each event of the run
-  pub run_never_full : (g : Geometry) (stream_bytes : ℕ) (opened : List LogRecord) (front : List ℕ) (old : World D G) (h : History) (events : List Event) (steps : List Step) (new : World D G)
+  pub run_never_full : (g : Geometry) (stream_bytes : ℕ) (opened : List LogRecord) (front : List ℕ) (old : World L V G H) (h : History) (events : List Event) (steps : List Step) (new : World L V G H)
       → geometry_in old ≡ g → size (history_in old) - 4096 ≡ stream_bytes → AllByRecursion IsServedEvent events → IsAfter opened h (state_in old) → IsBounded g stream_bytes (state_in old) → SurvivesCrashes old front
       → Runs old events steps new → NoForceIsFull events steps
   run_never_full g stream_bytes opened front old h [] [] new at long served k b kept runs = tt
@@ -184,7 +161,7 @@ module _ {D : Type 0} {G : Ghosts D} where
   run_never_full g stream_bytes opened front old h [] (step ∷ steps) new at long served k b kept runs = absurd runs
   run_never_full g stream_bytes opened front old h (e ∷ es) [] new at long served k b kept runs = absurd runs
 
-  pub run_bounded : (g : Geometry) (stream_bytes : ℕ) (opened : List LogRecord) (old : World D G) (h : History) (events : List Event) (steps : List Step) (new : World D G) → geometry_in old ≡ g
+  pub run_bounded : (g : Geometry) (stream_bytes : ℕ) (opened : List LogRecord) (old : World L V G H) (h : History) (events : List Event) (steps : List Step) (new : World L V G H) → geometry_in old ≡ g
       → AllByRecursion IsServedEvent events → IsAfter opened h (state_in old) → IsBounded g stream_bytes (state_in old) → Runs old events steps new → IsBounded g stream_bytes (state_in new)
   run_bounded g stream_bytes opened old h [] [] new at served k b runs = subst (IsBounded g stream_bytes) (sym runs.state) b
   run_bounded g stream_bytes opened old h (e ∷ es) (step ∷ steps) new at served k b runs =
@@ -195,35 +172,51 @@ module _ {D : Type 0} {G : Ghosts D} where
 
   -- ---- a crash at any moment
 
-  runs_kept : (front : List ℕ) (old : World D G) (events : List Event) (steps : List Step) (new : World D G) → SurvivesCrashes old front → Runs old events steps new → SurvivesCrashes new front
+  runs_kept : (front : List ℕ) (old : World L V G H) (events : List Event) (steps : List Step) (new : World L V G H) → SurvivesCrashes old front → Runs old events steps new → SurvivesCrashes new front
   runs_kept front old [] [] new k runs = runs.kept front k
   runs_kept front old (e ∷ es) (step ∷ steps) new k runs = runs_kept front runs.1 es steps new (runs.3.moves.kept front (runs.2.kept front k)) runs.4
   runs_kept front old [] (step ∷ steps) new k runs = absurd runs
   runs_kept front old (e ∷ es) [] new k runs = absurd runs
 
-  left_keeps : (front : List ℕ) (w : World D G) (c : List ℕ) → SurvivesCrashes w front → IsLeft w c → GivesBeginning front (state_in w).durable (state_in w).log c
-  left_keeps front w c k (inl now) = k.images c now
-  left_keeps front w c k (inr under_way) = (under_way.3.moves.any_moment front k).each c under_way.4
+  left_keeps : (front : List ℕ) (w : World L V G H) (c d : List ℕ) → SurvivesCrashes w front → AreLeft w c d → GivesBeginning front (state_in w).durable (state_in w).log c
+  left_keeps front w c d k (inl now) = k.images c now.0
+  left_keeps front w c d k (inr under_way) = (under_way.3.moves.any_moment front k).each c under_way.4
+
+  -- no call of a run changes the volume
+  volume_stays : (old : World L V G H) (events : List Event) (steps : List Step) (new : World L V G H) → Runs old events steps new → volume_history_in new ≡ volume_history_in old
+  volume_stays old [] [] new runs = runs.volume
+  volume_stays old (e ∷ es) (step ∷ steps) new runs =
+      volume_stays runs.1 es steps new runs.4 ∙ ap (λ (v : PageDev V H). H.history (device_of v)) runs.3.volume ∙ runs.2.volume
+  volume_stays old [] (step ∷ steps) new runs = absurd runs
+  volume_stays old (e ∷ es) [] new runs = absurd runs
+
+  volume_left : (w : World L V G H) (P : List ℕ → Type 0) (c d : List ℕ) → ((i : List ℕ) → may_leave (volume_history_in w) i → P i) → AreLeft w c d → P d
+  volume_left w P c d each (inl now) = each d now.1
+  volume_left w P c d each (inr under_way) =
+      let same : volume_history_in under_way.2 ≡ volume_history_in w = ap (λ (v : PageDev V H). H.history (device_of v)) under_way.3.volume in
+      (started (volume_history_in w) P each).each d (subst (λ (h : device.History). left_since h (moment (volume_history_in w)) d) same under_way.5)
 
   -- ---- one manager
 
   -- what one manager does for the chain
-  pub record Managed (g : Geometry) (device_bytes : ℕ) (rs : List LogRecord) (m : Manager D G) : Type 0 where
+  pub record Managed (g : Geometry) (log_bytes volume_bytes : ℕ) (rs : List LogRecord) (m : Manager L V G H) : Type 0 where
     pub kept : ℕ
     pub opened : IsOpened rs (state_in m.opened)
     pub moves : EventsMove g (state_in m.opened) (all_moves m.events m.steps) (state_in m.ended)
     pub durable : (state_in m.ended).durable ≤ kept
     pub within : kept ≤ length (state_in m.ended).log
-    pub stands : StandsFor g device_bytes (take kept (state_in m.ended).log) m.left
+    pub stands : StandsFor g log_bytes volume_bytes (take kept (state_in m.ended).log) m.log_left m.volume_left
 
-  managed : (g : Geometry) (device_bytes : ℕ) (rs : List LogRecord) (image : List ℕ) (m : Manager D G) → StandsFor g device_bytes rs image → IsManager device_bytes image m → Managed g device_bytes rs m
-  managed g device_bytes rs image m stood is =
-      let list = is.log rs stood.log in
-      let at = is.geometry g stood.front in
+  managed : (g : Geometry) (log_bytes volume_bytes : ℕ) (rs : List LogRecord) (log_image volume_image : List ℕ) (m : Manager L V G H)
+      → StandsFor g log_bytes volume_bytes rs log_image volume_image → IsManager log_bytes volume_bytes log_image volume_image m → Managed g log_bytes volume_bytes rs m
+  managed g log_bytes volume_bytes rs log_image volume_image m stood is =
+      let list = is.log rs stood.log.log in
+      let at = is.geometry g rs stood in
       let served = all_served m.events is.served in
       let opened : IsOpened rs (state_in m.opened) = subst (λ (l : List LogRecord). IsOpened l (state_in m.opened)) list is.opened in
-      let keeps = left_keeps (take 4096 image) m.ended m.left (runs_kept (take 4096 image) m.opened m.events m.steps m.ended is.kept is.runs) is.crash in
-      let last = run_bounded g (device_bytes - 4096) rs m.opened (opened_on rs) m.events m.steps m.ended at served (open_on rs (state_in m.opened) opened) (is.bounded g rs stood) is.runs in
+      let keeps = left_keeps (take 4096 log_image) m.ended m.log_left m.volume_left (runs_kept (take 4096 log_image) m.opened m.events m.steps m.ended is.kept is.runs) is.crash in
+      let last = run_bounded g (log_bytes - 4096) rs m.opened (opened_on rs) m.events m.steps m.ended at served (open_on rs (state_in m.opened) opened) (is.bounded g rs stood) is.runs in
+      let still = volume_stays m.opened m.events m.steps m.ended is.runs in
       record {
         kept = keeps.0;
         opened = opened;
@@ -231,46 +224,60 @@ module _ {D : Type 0} {G : Ghosts D} where
         durable = keeps.1;
         within = keeps.2;
         stands = record {
-          front = front_stays g device_bytes image m.left stood.front keeps.3.0;
-          log = keeps.3.1;
-          bounds = λ k le.
-              let within : k ≤ keeps.0 = omega (arith, le, length-take keeps.0 (state_in m.ended).log) in
-              let room = last.beginnings k (omega (arith, within, keeps.2)) in
-              subst (λ n. InBounds g n (take k (take keeps.0 (state_in m.ended).log))) last.as_long
-              (subst (InBounds g (state_in m.ended).room.stream_bytes) (sym (take-take k keeps.0 (state_in m.ended).log within)) room);
+          log = record {
+            front = front_stays g log_bytes log_image m.log_left stood.log.front keeps.3.0;
+            log = keeps.3.1;
+            bounds = λ k le.
+                let within : k ≤ keeps.0 = omega (arith, le, length-take keeps.0 (state_in m.ended).log) in
+                let room = last.beginnings k (omega (arith, within, keeps.2)) in
+                subst (λ n. InBounds g n (take k (take keeps.0 (state_in m.ended).log))) last.as_long
+                (subst (InBounds g (state_in m.ended).room.stream_bytes) (sym (take-take k keeps.0 (state_in m.ended).log within)) room);
+          };
+          volume = volume_left m.ended (VolumeStandsFor g volume_bytes) m.log_left m.volume_left
+              (λ c left. is.volume g rs stood c (subst (λ (h : device.History). may_leave h c) still left)) is.crash;
         };
       }
 
   -- what it leaves is in bounds, and each force had its room
-  pub stays_in_bounds : (g : Geometry) (device_bytes : ℕ) (rs : List LogRecord) (image : List ℕ) (m : Manager D G) → StandsFor g device_bytes rs image → IsManager device_bytes image m
-      → IsBounded g (device_bytes - 4096) (state_in m.ended) × NoForceIsFull m.events m.steps
-  stays_in_bounds g device_bytes rs image m stood is =
-      let list = is.log rs stood.log in
-      let at = is.geometry g stood.front in
+  pub stays_in_bounds : (g : Geometry) (log_bytes volume_bytes : ℕ) (rs : List LogRecord) (log_image volume_image : List ℕ) (m : Manager L V G H)
+      → StandsFor g log_bytes volume_bytes rs log_image volume_image → IsManager log_bytes volume_bytes log_image volume_image m
+      → IsBounded g (log_bytes - 4096) (state_in m.ended) × NoForceIsFull m.events m.steps
+  stays_in_bounds g log_bytes volume_bytes rs log_image volume_image m stood is =
+      let list = is.log rs stood.log.log in
+      let at = is.geometry g rs stood in
       let served = all_served m.events is.served in
       let opened : IsOpened rs (state_in m.opened) = subst (λ (l : List LogRecord). IsOpened l (state_in m.opened)) list is.opened in
       let after = open_on rs (state_in m.opened) opened in
       let bounded = is.bounded g rs stood in (
-        run_bounded g (device_bytes - 4096) rs m.opened (opened_on rs) m.events m.steps m.ended at served after bounded is.runs,
-        run_never_full g (device_bytes - 4096) rs (take 4096 image) m.opened (opened_on rs) m.events m.steps m.ended at (ap (λ n. n - 4096) is.long) served after bounded is.kept is.runs,
+        run_bounded g (log_bytes - 4096) rs m.opened (opened_on rs) m.events m.steps m.ended at served after bounded is.runs,
+        run_never_full g (log_bytes - 4096) rs (take 4096 log_image) m.opened (opened_on rs) m.events m.steps m.ended at (ap (λ n. n - 4096) is.long) served after bounded is.kept is.runs,
       )
 
   -- ---- managers one after another
 
-  pub record Chained (g : Geometry) (device_bytes : ℕ) (rs : List LogRecord) (ms : List (Manager D G)) (last : List ℕ) : Type 0 where
+  pub record Chained (g : Geometry) (log_bytes volume_bytes : ℕ) (rs : List LogRecord) (ms : List (Manager L V G H)) (log_last volume_last : List ℕ) : Type 0 where
     pub runs : List Run
     pub end : List LogRecord
     pub are : AreRuns g rs runs end
-    pub stands : StandsFor g device_bytes end last
+    pub stands : StandsFor g log_bytes volume_bytes end log_last volume_last
     pub entries : map (λ (r : Run). made_by r.events) runs ≡ map entries_of ms
-    pub opened : map (λ (r : Run). r.first.log) runs ≡ map (λ (m : Manager D G). (state_in m.opened).log) ms
+    pub opened : map (λ (r : Run). r.first.log) runs ≡ map (λ (m : Manager L V G H). (state_in m.opened).log) ms
 
-  pub chained : (g : Geometry) (device_bytes : ℕ) (rs : List LogRecord) (image : List ℕ) (ms : List (Manager D G)) (last : List ℕ) → StandsFor g device_bytes rs image → AreManagers device_bytes image ms last → Chained g device_bytes rs ms last
-  chained g device_bytes rs image [] last stood are = record { runs = []; end = rs; are = refl; stands = subst (StandsFor g device_bytes rs) (sym are) stood; entries = refl; opened = refl }
-  chained g device_bytes rs image (m ∷ ms) last stood are =
-      let one = managed g device_bytes rs image m stood are.0 in
+  pub chained : (g : Geometry) (log_bytes volume_bytes : ℕ) (rs : List LogRecord) (log_image volume_image : List ℕ) (ms : List (Manager L V G H)) (log_last volume_last : List ℕ)
+      → StandsFor g log_bytes volume_bytes rs log_image volume_image → AreManagers log_bytes volume_bytes log_image volume_image ms log_last volume_last
+      → Chained g log_bytes volume_bytes rs ms log_last volume_last
+  chained g log_bytes volume_bytes rs log_image volume_image [] log_last volume_last stood are = record {
+    runs = [];
+    end = rs;
+    are = refl;
+    stands = subst (λ (c : List ℕ). StandsFor g log_bytes volume_bytes rs c volume_last) (sym are.0) (subst (StandsFor g log_bytes volume_bytes rs log_image) (sym are.1) stood);
+    entries = refl;
+    opened = refl;
+  }
+  chained g log_bytes volume_bytes rs log_image volume_image (m ∷ ms) log_last volume_last stood are =
+      let one = managed g log_bytes volume_bytes rs log_image volume_image m stood are.0 in
       let run : Run = record { first = state_in m.opened; events = all_moves m.events m.steps; last = state_in m.ended; kept = one.kept } in
-      let later = chained g device_bytes (list_left run) m.left ms last one.stands are.1 in
+      let later = chained g log_bytes volume_bytes (list_left run) m.log_left m.volume_left ms log_last volume_last one.stands are.1 in
       record {
         runs = run ∷ later.runs;
         end = later.end;

@@ -7,6 +7,7 @@ use Rattle.shore_types.specs.declared.faults.Fault.TheVariants as fault
 use Rattle.shore_types.specs.declared.ids.Rid.{Rid}
 use Rattle.shore_disk.specs.Device.{Rose}
 use Rattle.shore_disk.specs.Cause.{HasCause}
+use Rattle.shore_format.specs.Causes.{HasCauseOfPair}
 use Rattle.shore_model.specs.declared.log_records.LogRecord.{LogRecord}
 use Rattle.shore_model.specs.Logs.{id_in}
 use Rattle.shore_types.specs.declared.layout.Geometry.{Geometry}
@@ -64,3 +65,20 @@ later_cause {T} {U} {V} r x f a b c is one two =
 
     same_error : {A B : Type 0} (r : Result A B) (e f : B) → r ≡ Err e → r ≡ Err f → e ≡ f
     same_error r e f one two = cc
+
+-- a failure of the log device after a call on both that answered
+pub cause_of_pair : {T U V : Type 0} (r : Result T Fault) (x : T) (f : Fault) (a b c v w u : ℕ) → r ≡ Ok x → HasCauseOfPair r a b v w → HasCause {T = U} (Err f) b c → u ≡ w → HasCauseOfPair {T = V} (Err f) a c v u
+cause_of_pair {T} {U} {V} r x f a b c v w u is one two still =
+    let same = one.unreported (λ failed. none x fault.Device (sym is ∙ failed)) in
+    record {
+      log_no_lower = omega (arith, same.0, two.no_lower);
+      volume_no_lower = omega (arith, still, same.1);
+      reported = λ failed. inl (subst (λ n. Rose n c) same.0 (two.reported (ap Err (same_fault _ f fault.Device refl failed))));
+      unreported = λ other. (two.unreported (λ failed. other (ap Err (same_fault _ f fault.Device refl failed))) ∙ same.0, still ∙ same.1);
+    }
+  where
+    none : {A B : Type 0} (x : A) (e : B) → Ok x ≡ Err e → ⊥
+    none x e is = absurd cc
+
+    same_fault : {A B : Type 0} (r : Result A B) (e d : B) → r ≡ Err e → r ≡ Err d → e ≡ d
+    same_fault r e d one two = cc

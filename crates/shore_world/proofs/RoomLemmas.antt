@@ -60,9 +60,9 @@ frames_cost n (g ∷ gs) are =
 cost_parts : (n : ℕ) (rs : List LogRecord) → cost_of_log rs ≡ cost_of_log (take n rs) + cost_of_log (drop n rs)
 cost_parts n rs = sym (sum_by-take-drop (λ r. cost_of r.payload) rs n)
 
-module _ {D : Type 0} {G : Ghosts D} where
+module _ {L : Type 0} {G : Ghosts L} where
   -- the frame of waiting records takes no more than the list's records cost
-  pub frame_has_room : (log : LogDev D G) (front : List ℕ) → IsSettled log front → (count : ℕ) → 1 ≤ count → count ≤ length (waiting log)
+  pub frame_has_room : (log : LogDev L G) (front : List ℕ) → IsSettled log front → (count : ℕ) → 1 ≤ count → count ≤ length (waiting log)
       → 4096 + log.offset + (13 + length (texts (take count (waiting log)))) ≤ 4096 + cost_of_log (records_of_log log)
   frame_has_room log front s count some within =
       omega (
@@ -76,8 +76,9 @@ module _ {D : Type 0} {G : Ghosts D} where
         length-take-le count (waiting log) within,
       )
 
+module _ {L V : Type 0} {G : Ghosts L} {H : Ghosts V} where
   -- a world that has not failed, with no frame under way, is settled
-  pub ready_settled : (w : World D G) (front : List ℕ) → w.log.staged ≡ None → IsReady w front → IsSettled w.log front
+  pub ready_settled : (w : World L V G H) (front : List ℕ) → w.log.staged ≡ None → IsReady w front → IsSettled w.log front
   ready_settled w front none ready = elim ready [
     | inl s ↦ s.0
     | inr s ↦ absurd (let clash = s.1.waits in cc)

@@ -60,23 +60,27 @@ is_some_and o a P is p = subst (λ o. IsSomeAnd o P) (sym is) p
 pub open_is_no_stage : event.ForceOpen ≡ event.ForceStage → ⊥
 open_is_no_stage is = absurd cc
 
-module _ {D : Type 0} {G : Ghosts D} where
-  pub length-stable : (log : LogDev D G) → length (stable log) ≡ log.forced
+module _ {L : Type 0} {G : Ghosts L} where
+  pub length-stable : (log : LogDev L G) → length (stable log) ≡ log.forced
   length-stable log = length-take-le log.forced log.records.items log.forced_inside
 
-  pub durable_within : (w : World D G) → (state_in w).durable ≤ length (state_in w).log
+  pub none_staged : (log : LogDev L G) (is : Bool) → (IsTrue is ↔ IsSome log.staged) → is ≡ false → log.staged ≡ None
+  none_staged log is tells isnt = none_where log.staged (λ some. let clash : true ≡ false = sym (tells.1 some) ∙ isnt in absurd cc)
+
+module _ {L V : Type 0} {G : Ghosts L} {H : Ghosts V} where
+  pub durable_within : (w : World L V G H) → (state_in w).durable ≤ length (state_in w).log
   durable_within w = omega (arith, w.durable_agrees, length-stable w.log, w.log.forced_inside, length-append w.log.records.items (waiting_in (tail_of w.core)))
 
-  pub stable_is : (w : World D G) → take (state_in w).durable (state_in w).log ≡ stable w.log
+  pub stable_is : (w : World L V G H) → take (state_in w).durable (state_in w).log ≡ stable w.log
   stable_is w =
       ap (λ n. take n (w.log.records.items ++ waiting_in (tail_of w.core))) (w.durable_agrees ∙ length-stable w.log)
       ∙ take-append-le w.log.forced w.log.records.items (waiting_in (tail_of w.core)) w.log.forced_inside
 
-  pub stable_gives : (w : World D G) (front c : List ℕ) → GivesBehind front (stable w.log) c → GivesBeginning front (state_in w).durable (state_in w).log c
+  pub stable_gives : (w : World L V G H) (front c : List ℕ) → GivesBehind front (stable w.log) c → GivesBeginning front (state_in w).durable (state_in w).log c
   stable_gives w front c gives = ((state_in w).durable, omega arith, durable_within w, subst (λ (l : List LogRecord). GivesBehind front l c) (sym (stable_is w)) gives)
 
   -- the stable records and those of a staged frame
-  module _ (w : World D G) (front : List ℕ) (group : List LogRecord) (staged : IsStaged w.log front group) where
+  module _ (w : World L V G H) (front : List ℕ) (group : List LogRecord) (staged : IsStaged w.log front group) where
     abbrev rest : List LogRecord
     rest = waiting_in (tail_of w.core)
 
@@ -102,7 +106,7 @@ module _ {D : Type 0} {G : Ghosts D} where
 
   -- ---- an event for which the device stands still
 
-  pub unmoved : (old new : World D G) (e : Event) (step : Step) → geometry_in new ≡ geometry_in old → EventStep (geometry_in old) (state_in old) e step (state_in new)
+  pub unmoved : (old new : World L V G H) (e : Event) (step : Step) → geometry_in new ≡ geometry_in old → EventStep (geometry_in old) (state_in old) e step (state_in new)
       → new.log.device ≡ old.log.device → Grows (state_in old) (state_in new) → ((front : List ℕ) → IsReady old front → IsReady new front) → Moves old e step new
   unmoved old new e step geometry state device grows ready =
       let same : history_in new ≡ history_in old = ap G.history device in
@@ -119,36 +123,33 @@ module _ {D : Type 0} {G : Ghosts D} where
             (started (history_in old) (GivesBeginning front (state_in old).durable (state_in old).log) k.images);
       }
 
-  pub none_staged : (log : LogDev D G) (is : Bool) → (IsTrue is ↔ IsSome log.staged) → is ≡ false → log.staged ≡ None
-  none_staged log is tells isnt = none_where log.staged (λ some. let clash : true ≡ false = sym (tells.1 some) ∙ isnt in absurd cc)
-
   -- records that were handed over leave a settled log settled
-  pub ready_kept : (old new : World D G) → old.log.staged ≡ None → new.log.staged ≡ old.log.staged → ((front : List ℕ) → IsSettled old.log front → IsSettled new.log front)
+  pub ready_kept : (old new : World L V G H) → old.log.staged ≡ None → new.log.staged ≡ old.log.staged → ((front : List ℕ) → IsSettled old.log front → IsSettled new.log front)
       → (front : List ℕ) → IsReady old front → IsReady new front
   ready_kept old new none same settled front (inl s) = inl (settled front s.0, same ∙ none)
   ready_kept old new none same settled front (inr s) = absurd (let clash = s.1.waits in cc)
 
   -- .. and do nothing else
-  pub handed : (old new : World D G) (e : Event) (step : Step) → geometry_in new ≡ geometry_in old → EventStep (geometry_in old) (state_in old) e step (state_in new)
+  pub handed : (old new : World L V G H) (e : Event) (step : Step) → geometry_in new ≡ geometry_in old → EventStep (geometry_in old) (state_in old) e step (state_in new)
       → new.log.device ≡ old.log.device → state_in new ≡ state_in old → old.log.staged ≡ None → new.log.staged ≡ old.log.staged → ((front : List ℕ) → IsSettled old.log front → IsSettled new.log front)
       → Moves old e step new
   handed old new e step geometry state device same none waits settled = unmoved old new e step geometry state device (same_grows _ _ same) (ready_kept old new none waits settled)
 
   -- an event that does nothing
-  pub nothing_done : (old new : World D G) (e : Event) (step : Step) → geometry_in new ≡ geometry_in old → EventStep (geometry_in old) (state_in old) e step (state_in new)
+  pub nothing_done : (old new : World L V G H) (e : Event) (step : Step) → geometry_in new ≡ geometry_in old → EventStep (geometry_in old) (state_in old) e step (state_in new)
       → new.log ≡ old.log → state_in new ≡ state_in old → Moves old e step new
   nothing_done old new e step geometry state log same =
-      unmoved old new e step geometry state (ap (λ (l : LogDev D G). l.device) log) (same_grows _ _ same)
-      (λ front ready. subst (λ (l : LogDev D G). (IsSettled l front × (l.staged ≡ None)) ⊎ ((group : List LogRecord) × IsStaged l front group)) (sym log) ready)
+      unmoved old new e step geometry state (ap (λ (l : LogDev L G). l.device) log) (same_grows _ _ same)
+      (λ front ready. subst (λ (l : LogDev L G). (IsSettled l front × (l.staged ≡ None)) ⊎ ((group : List LogRecord) × IsStaged l front group)) (sym log) ready)
 
   -- ---- a frame is staged, or it fails as it is
 
-  as_before : (old new : World D G) (front c : List ℕ) → (state_in new).log ≡ (state_in old).log → (state_in new).durable ≡ (state_in old).durable
+  as_before : (old new : World L V G H) (front c : List ℕ) → (state_in new).log ≡ (state_in old).log → (state_in new).durable ≡ (state_in old).durable
       → GivesBeginning front (state_in old).durable (state_in old).log c → GivesBeginning front (state_in new).durable (state_in new).log c
   as_before old new front c list durable gives =
       subst (λ (l : List LogRecord). GivesBeginning front (state_in new).durable l c) (sym list) (subst (λ n. GivesBeginning front n (state_in old).log c) (sym durable) gives)
 
-  pub staging : (old new : World D G) (mid : LogDev D G) (e : Event) (step : Step) → geometry_in new ≡ geometry_in old → EventStep (geometry_in old) (state_in old) e step (state_in new)
+  pub staging : (old new : World L V G H) (mid : LogDev L G) (e : Event) (step : Step) → geometry_in new ≡ geometry_in old → EventStep (geometry_in old) (state_in old) e step (state_in new)
       → (state_in old).failed ≡ false → old.log.staged ≡ None → mid.device ≡ old.log.device → mid.staged ≡ old.log.staged → stable mid ≡ stable old.log
       → (state_in new).log ≡ (state_in old).log → (state_in new).durable ≡ (state_in old).durable
       → ((front : List ℕ) → IsSettled old.log front → IsSettled mid front)
@@ -160,7 +161,7 @@ module _ {D : Type 0} {G : Ghosts D} where
         | inr s ↦ absurd (let clash = s.1.waits in cc)
       ] in
       let leaves : (front : List ℕ) → SurvivesCrashes old front → LeavesOnly (history_in old) (history_in new) (GivesBeginning front (state_in old).durable (state_in old).log) =
-      λ front k. subst (λ (d : D). LeavesOnly (G.history d) (history_in new) (GivesBeginning front (state_in old).durable (state_in old).log)) device
+      λ front k. subst (λ (d : L). LeavesOnly (G.history d) (history_in new) (GivesBeginning front (state_in old).durable (state_in old).log)) device
       (widened (G.history mid.device) (history_in new) (GivesBehind front (stable mid)) (GivesBeginning front (state_in old).durable (state_in old).log) (moments front (settled front (settled_now front k)) (waits ∙ none))
       (λ c gives. stable_gives old front c (subst (λ (l : List LogRecord). GivesBehind front l c) same gives))) in
       record {
@@ -175,7 +176,7 @@ module _ {D : Type 0} {G : Ghosts D} where
 
   -- ---- its gate is opened, or it fails
 
-  pub opening_gate : (old new : World D G) (e : Event) (step : Step) → geometry_in new ≡ geometry_in old → EventStep (geometry_in old) (state_in old) e step (state_in new)
+  pub opening_gate : (old new : World L V G H) (e : Event) (step : Step) → geometry_in new ≡ geometry_in old → EventStep (geometry_in old) (state_in old) e step (state_in new)
       → (state_in old).failed ≡ false → old.log.staged ≢ None → (state_in new).log ≡ (state_in old).log
       → ((front : List ℕ) (group : List LogRecord) → IsStaged old.log front group → LeavesOnly (history_in old) (history_in new) (GivesWithOrWithout front (stable old.log) group))
       → ((front : List ℕ) (group : List LogRecord) → IsStaged old.log front group → ((state_in new).durable ≡ (state_in old).durable × ((state_in new).failed ≡ false → ⊥)) ⊎ (IsSettled new.log front × (new.log.staged ≡ None)))
@@ -206,7 +207,7 @@ module _ {D : Type 0} {G : Ghosts D} where
       }
 
   -- what is staged is the longest list of what is not durable
-  pub has_staged : (old new : World D G) (mid : LogDev D G) (n number : ℕ) → number ≡ n → (state_in old).durable ≡ mid.forced → mid.records.items ≡ (state_in old).log
+  pub has_staged : (old new : World L V G H) (mid : LogDev L G) (n number : ℕ) → number ≡ n → (state_in old).durable ≡ mid.forced → mid.records.items ≡ (state_in old).log
       → IsLongest (waiting mid) (number - mid.forced) → IsSomeAnd new.log.staged (λ frame. frame.count ≡ number - mid.forced)
       → ((front : List ℕ) → SurvivesCrashes old front → IsStaged new.log front (take (number - mid.forced) (waiting mid))) → HasStaged old new n
   has_staged old new mid n number same forced list longest under_way staged =
@@ -221,37 +222,38 @@ module _ {D : Type 0} {G : Ghosts D} where
 
 -- ---- a run of events
 
-module _ {D : Type 0} {G : Ghosts D} where
-  pub like_itself : (w : World D G) → IsLike w w
-  like_itself w = record { geometry = refl; state = refl; history = refl; staged = refl; faults = refl; kept = λ front k. k }
+module _ {L V : Type 0} {G : Ghosts L} {H : Ghosts V} where
+  pub like_itself : (w : World L V G H) → IsLike w w
+  like_itself w = record { geometry = refl; state = refl; history = refl; staged = refl; faults = refl; volume = refl; kept = λ front k. k }
 
-  pub no_event : (w : World D G) → Runs w [] [] w
+  pub no_event : (w : World L V G H) → Runs w [] [] w
   no_event w = like_itself w
 
-  pub one_more : (old : World D G) (es : List Event) (steps : List Step) (mid : World D G) (e : Event) (step : Step) (new : World D G)
+  pub one_more : (old : World L V G H) (es : List Event) (steps : List Step) (mid : World L V G H) (e : Event) (step : Step) (new : World L V G H)
       → Runs old es steps mid → Steps mid e step new → Runs old (es ++ e ∷ []) (steps ++ step ∷ []) new
   one_more old [] [] mid e step new runs one = (mid, new, runs, one, like_itself new)
   one_more old (first ∷ es) (s ∷ steps) mid e step new runs one = (runs.0, runs.1, runs.2, runs.3, one_more runs.1 es steps mid e step new runs.4 one)
   one_more old [] (s ∷ steps) mid e step new runs one = absurd runs
   one_more old (first ∷ es) [] mid e step new runs one = absurd runs
 
-  like_further : (a b c : World D G) → IsLike a b → IsLike b c → IsLike a c
+  like_further : (a b c : World L V G H) → IsLike a b → IsLike b c → IsLike a c
   like_further a b c one two = record {
     geometry = two.geometry ∙ one.geometry;
     state = two.state ∙ one.state;
     history = two.history ∙ one.history;
     staged = two.staged ∙ one.staged;
     faults = two.faults ∙ one.faults;
+    volume = two.volume ∙ one.volume;
     kept = λ front k. two.kept front (one.kept front k);
   }
 
-  like_first : (old mid new : World D G) (es : List Event) (steps : List Step) → IsLike old mid → Runs mid es steps new → Runs old es steps new
+  like_first : (old mid new : World L V G H) (es : List Event) (steps : List Step) → IsLike old mid → Runs mid es steps new → Runs old es steps new
   like_first old mid new [] [] like runs = like_further old mid new like runs
   like_first old mid new (e ∷ es) (s ∷ steps) like runs = (runs.0, runs.1, like_further old mid runs.0 like runs.2, runs.3, runs.4)
   like_first old mid new [] (s ∷ steps) like runs = absurd runs
   like_first old mid new (e ∷ es) [] like runs = absurd runs
 
-  pub runs_further : (old mid new : World D G) (es later : List Event) (steps more : List Step) → Runs old es steps mid → Runs mid later more new → Runs old (es ++ later) (steps ++ more) new
+  pub runs_further : (old mid new : World L V G H) (es later : List Event) (steps more : List Step) → Runs old es steps mid → Runs mid later more new → Runs old (es ++ later) (steps ++ more) new
   runs_further old mid new [] later [] more one two = like_first old mid new later more one two
   runs_further old mid new (e ∷ es) later (s ∷ steps) more one two = (one.0, one.1, one.2, one.3, runs_further one.1 mid new es later steps more one.4 two)
   runs_further old mid new [] later (s ∷ steps) more one two = absurd one
@@ -264,11 +266,12 @@ call_is_no_force (event.Call session call) is = tt
 call_is_no_force _ is = absurd is
 
 -- one for which the device stands still
-pub no_force : {D : Type 0} {G : Ghosts D} (old new : World D G) (e : Event) (step : Step) → IsOfSession e → geometry_in new ≡ geometry_in old
-    → EventStep (geometry_in old) (state_in old) e step (state_in new) → step ≢ Refused Device → new.log.device ≡ old.log.device → Grows (state_in old) (state_in new)
+pub no_force : {L V : Type 0} {G : Ghosts L} {H : Ghosts V} (old new : World L V G H) (e : Event) (step : Step) → IsOfSession e → geometry_in new ≡ geometry_in old
+    → EventStep (geometry_in old) (state_in old) e step (state_in new) → step ≢ Refused Device → new.log.device ≡ old.log.device → new.volume ≡ old.volume → Grows (state_in old) (state_in new)
     → ((front : List ℕ) → IsReady old front → IsReady new front) → Steps old e step new
-no_force {G = G} old new e step other geometry state unreported device grows ready = record {
+no_force {G = G} old new e step other geometry state unreported device volume grows ready = record {
   moves = unmoved old new e step geometry state device grows ready;
+  volume = volume;
   still = λ is. device;
   staged = λ n is done. absurd (subst IsOfSession is other);
   forced = λ n is done. absurd (subst IsOfSession is other);
@@ -295,7 +298,7 @@ pub synced_stands : (old new : History) → new ≡ noted old synced → Stands 
 synced_stands old new is = subst (λ (h : History). Stands h (seen old)) (sym is) (record { read = refl; only = λ c left. left })
 
 -- a world on a settled log
-pub settled_kept : {D : Type 0} {G : Ghosts D} (w : World D G) (front : List ℕ) → IsSettled w.log front → w.log.staged ≡ None → SurvivesCrashes w front
+pub settled_kept : {L V : Type 0} {G : Ghosts L} {H : Ghosts V} (w : World L V G H) (front : List ℕ) → IsSettled w.log front → w.log.staged ≡ None → SurvivesCrashes w front
 settled_kept w front settled none = record { images = λ c left. stable_gives w front c (settled_gives w.log front settled c left); ready = λ running. inl (settled, none) }
 
 -- bounds, as the opened log tells its length and its list

@@ -1,5 +1,4 @@
 pub mod Events
-pub mod Faults
-pub mod Fronts
-pub mod Worlds
 pub mod Managers
+pub mod OpenedVolumes
+pub mod Worlds

@@ -1,4 +1,4 @@
--- Managers one after another over one device: each opens what the crash before it left. Each condition is what a contract says of
+-- Managers one after another over one pair of devices: each opens what the crash before it left. Each condition is what a contract says of
 -- the call that it names.
 use Rattle.std.specs.Prelude.{◌≡◌, ◌≢◌, ◌⊎◌, ℕ, ◌-◌, List, [], ◌∷◌, ◌++◌, All, take}
 use Rattle.shore_types.specs.declared.faults.Fault.{Fault}
@@ -22,8 +22,9 @@ use Rattle.shore_world.specs.declared.event.Event.{Event}
 use Rattle.shore_world.specs.declared.event.Event.TheVariants as event
 use Rattle.shore_world.specs.declared.world.World.{World}
 use Rattle.shore_world.specs.Events.{IsServedEvent}
-use Rattle.shore_world.specs.Fronts.{HasFront, StandsFor}
-use Rattle.shore_world.specs.Worlds.{state_in, geometry_in, history_in, SurvivesCrashes, Steps, Runs}
+use Rattle.shore_format.specs.Pairs.{StandsFor}
+use Rattle.shore_format.specs.Volumes.{VolumeStandsFor}
+use Rattle.shore_world.specs.Worlds.{state_in, geometry_in, history_in, volume_history_in, SurvivesCrashes, Steps, Runs}
 
 -- ---- an event of the world, as the machine has it
 
@@ -85,40 +86,46 @@ NoForceIsFull (e ∷ es) [] = ⊥
 
 -- ---- one manager
 
--- One manager on a device: it is opened and makes these events, and then a crash leaves an image.
-pub record Manager (D : Type 0) (G : Ghosts D) : Type 0 where
-  pub opened : World D G
+-- One manager on a pair: it is opened and makes these events, and then a crash leaves an image of each device.
+pub record Manager (L V : Type 0) (G : Ghosts L) (H : Ghosts V) : Type 0 where
+  pub opened : World L V G H
   pub events : List Event
   pub steps : List Step
-  pub ended : World D G
-  pub left : List ℕ
+  pub ended : World L V G H
+  pub log_left : List ℕ
+  pub volume_left : List ℕ
 
--- a crash after the events, or at any moment of a further event that is under way, may leave this image
-abbrev pub IsLeft : {D : Type 0} {G : Ghosts D} → World D G → List ℕ → Type 0
-IsLeft {D = D} {G = G} w image =
-    may_leave (history_in w) image
-    ⊎ ((e : Event) × (step : Step) × (later : World D G) × Steps w e step later × left_since (history_in later) (moment (history_in w)) image)
+-- a crash after the events, or at any moment of a further event that is under way, may leave these images: both devices lose power at
+-- one moment
+abbrev pub AreLeft : {L V : Type 0} {G : Ghosts L} {H : Ghosts V} → World L V G H → List ℕ → List ℕ → Type 0
+AreLeft {L = L} {V = V} {G = G} {H = H} w log_image volume_image =
+    (may_leave (history_in w) log_image × may_leave (volume_history_in w) volume_image)
+    ⊎ ((e : Event) × (step : Step) × (later : World L V G H) × Steps w e step later × left_since (history_in later) (moment (history_in w)) log_image
+    × left_since (volume_history_in later) (moment (volume_history_in w)) volume_image)
 
--- The device has this length and read as this image when the manager was opened.
-pub record IsManager {D : Type 0} {G : Ghosts D} (device_bytes : ℕ) (image : List ℕ) (m : Manager D G) : Type 0 where
+-- The devices have these lengths and read as these images when the manager was opened.
+pub record IsManager {L V : Type 0} {G : Ghosts L} {H : Ghosts V} (log_bytes volume_bytes : ℕ) (log_image volume_image : List ℕ) (m : Manager L V G H) : Type 0 where
   -- what an open says
-  pub long : size (history_in m.opened) ≡ device_bytes
-  pub geometry : (g : Geometry) → HasFront g device_bytes image → geometry_in m.opened ≡ g
-  pub log : (rs : List LogRecord) → Gives rs image → (state_in m.opened).log ≡ rs
+  pub long : size (history_in m.opened) ≡ log_bytes
+  pub log : (rs : List LogRecord) → Gives rs log_image → (state_in m.opened).log ≡ rs
   pub opened : IsOpened (state_in m.opened).log (state_in m.opened)
-  pub bounded : (g : Geometry) (rs : List LogRecord) → StandsFor g device_bytes rs image → IsBounded g (device_bytes - LOG_FRONT_BYTES) (state_in m.opened)
-  pub kept : SurvivesCrashes m.opened (take LOG_FRONT_BYTES image)
+  pub kept : SurvivesCrashes m.opened (take LOG_FRONT_BYTES log_image)
+  pub geometry : (g : Geometry) (rs : List LogRecord) → StandsFor g log_bytes volume_bytes rs log_image volume_image → geometry_in m.opened ≡ g
+  pub bounded : (g : Geometry) (rs : List LogRecord) → StandsFor g log_bytes volume_bytes rs log_image volume_image → IsBounded g (log_bytes - LOG_FRONT_BYTES) (state_in m.opened)
+  pub volume : (g : Geometry) (rs : List LogRecord) → StandsFor g log_bytes volume_bytes rs log_image volume_image
+      → (c : List ℕ) → may_leave (volume_history_in m.opened) c → VolumeStandsFor g volume_bytes c
   -- what a run says
   pub served : All IsServedEvent m.events
   pub runs : Runs m.opened m.events m.steps m.ended
   -- a crash at any moment
-  pub crash : IsLeft m.ended m.left
+  pub crash : AreLeft m.ended m.log_left m.volume_left
 
 -- the entries of the history that it made
-abbrev pub entries_of : {D : Type 0} {G : Ghosts D} → Manager D G → List Entry
+abbrev pub entries_of : {L V : Type 0} {G : Ghosts L} {H : Ghosts V} → Manager L V G H → List Entry
 entries_of m = made_by (all_moves m.events m.steps)
 
 -- each opens what the crash before it left
-abbrev pub AreManagers : {D : Type 0} {G : Ghosts D} → ℕ → List ℕ → List (Manager D G) → List ℕ → Type 0
-AreManagers device_bytes image [] last = last ≡ image
-AreManagers device_bytes image (m ∷ ms) last = IsManager device_bytes image m × AreManagers device_bytes m.left ms last
+abbrev pub AreManagers : {L V : Type 0} {G : Ghosts L} {H : Ghosts V} → ℕ → ℕ → List ℕ → List ℕ → List (Manager L V G H) → List ℕ → List ℕ → Type 0
+AreManagers log_bytes volume_bytes log_image volume_image [] log_last volume_last = (log_last ≡ log_image) × (volume_last ≡ volume_image)
+AreManagers log_bytes volume_bytes log_image volume_image (m ∷ ms) log_last volume_last =
+    IsManager log_bytes volume_bytes log_image volume_image m × AreManagers log_bytes volume_bytes m.log_left m.volume_left ms log_last volume_last

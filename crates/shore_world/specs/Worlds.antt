@@ -17,6 +17,7 @@ use Rattle.shore_log.specs.Frames.{GivesBehind, IsLongest}
 use Rattle.shore_log.specs.Settled.{records_of_log, IsSettled, IsStaged}
 use Rattle.shore_core.specs.Bounds.{IsBounded}
 use Rattle.shore_core.specs.Cores.{state_of, geometry_of}
+use Rattle.shore_dwrite.specs.Settled.{device_of}
 use Rattle.shore_world.specs.declared.event.Event.{Event}
 use Rattle.shore_world.specs.declared.event.Event.TheVariants as event
 use Rattle.shore_world.specs.declared.world.World.{World}
@@ -25,15 +26,19 @@ use Rattle.shore_world.specs.Events.{IsOfSession}
 -- ---- as the machine that it is
 
 -- the log device has the records before those that wait in the core's log buffer
-abbrev pub state_in : {D : Type 0} {G : Ghosts D} → World D G → State
+abbrev pub state_in : {L V : Type 0} {G : Ghosts L} {H : Ghosts V} → World L V G H → State
 state_in w = state_of (records_of_log w.log) w.core
 
-abbrev pub geometry_in : {D : Type 0} {G : Ghosts D} → World D G → Geometry
+abbrev pub geometry_in : {L V : Type 0} {G : Ghosts L} {H : Ghosts V} → World L V G H → Geometry
 geometry_in w = geometry_of w.core
 
--- the calls of its device
-abbrev pub history_in : {D : Type 0} {G : Ghosts D} → World D G → History
+-- the calls of its log device
+abbrev pub history_in : {L V : Type 0} {G : Ghosts L} {H : Ghosts V} → World L V G H → History
 history_in {G = G} w = G.history w.log.device
+
+-- and those of its volume
+abbrev pub volume_history_in : {L V : Type 0} {G : Ghosts L} {H : Ghosts V} → World L V G H → History
+volume_history_in {H = H} w = H.history (device_of w.volume)
 
 -- a frame was not staged: a device had failed before; or it fails now, which the core is told; or nothing was done
 abbrev pub ForceRefused : State → Fault → State → Type 0
@@ -67,17 +72,17 @@ abbrev pub GivesBeginning : List ℕ → ℕ → List LogRecord → List ℕ →
 GivesBeginning front least rs image = (n : ℕ) × (least ≤ n) × (n ≤ length rs) × GivesBehind front (take n rs) image
 
 -- the log device is settled, or a frame of its waiting records is staged
-abbrev pub IsReady : {D : Type 0} {G : Ghosts D} → World D G → List ℕ → Type 0
+abbrev pub IsReady : {L V : Type 0} {G : Ghosts L} {H : Ghosts V} → World L V G H → List ℕ → Type 0
 IsReady w front = (IsSettled w.log front × (w.log.staged ≡ None)) ⊎ ((group : List LogRecord) × IsStaged w.log front group)
 
 -- Behind this front a crash now leaves a prefix of the list with all that is durable; and as long as no device has failed
 -- the next force can be made.
-pub record SurvivesCrashes {D : Type 0} {G : Ghosts D} (w : World D G) (front : List ℕ) : Type 0 where
+pub record SurvivesCrashes {L V : Type 0} {G : Ghosts L} {H : Ghosts V} (w : World L V G H) (front : List ℕ) : Type 0 where
   pub images : (c : List ℕ) → may_leave (history_in w) c → GivesBeginning front (state_in w).durable (state_in w).log c
   pub ready : (state_in w).failed ≡ false → IsReady w front
 
 -- there is no frame to stage: one is under way, or every record is durable
-abbrev pub IsIdle : {D : Type 0} {G : Ghosts D} → World D G → Type 0
+abbrev pub IsIdle : {L V : Type 0} {G : Ghosts L} {H : Ghosts V} → World L V G H → Type 0
 IsIdle w = IsSome w.log.staged ⊎ ((state_in w).durable ≡ length (state_in w).log)
 
 -- the fault that a step tells of, if any
@@ -89,30 +94,32 @@ fault_at Nothing = Ok tt
 
 -- What an event moves: the state by a step of the machine, and the log device so that at each moment a crash leaves a prefix
 -- of the list as it was before, with all that was durable then.
-pub record Moves {D : Type 0} {G : Ghosts D} (old : World D G) (e : Event) (step : Step) (new : World D G) : Type 0 where
+pub record Moves {L V : Type 0} {G : Ghosts L} {H : Ghosts V} (old : World L V G H) (e : Event) (step : Step) (new : World L V G H) : Type 0 where
   pub geometry : geometry_in new ≡ geometry_in old
   pub state : EventStep (geometry_in old) (state_in old) e step (state_in new)
   pub kept : (front : List ℕ) → SurvivesCrashes old front → SurvivesCrashes new front
   pub any_moment : (front : List ℕ) → SurvivesCrashes old front → LeavesOnly (history_in old) (history_in new) (GivesBeginning front (state_in old).durable (state_in old).log)
 
 -- the world is kept behind some front and its state is in bounds: then the next frame has its room
-abbrev pub HasForceRoom : {D : Type 0} {G : Ghosts D} → World D G → Type 0
+abbrev pub HasForceRoom : {L V : Type 0} {G : Ghosts L} {H : Ghosts V} → World L V G H → Type 0
 HasForceRoom w = (front : List ℕ) × SurvivesCrashes w front × IsBounded (geometry_in w) (size (history_in w) - LOG_FRONT_BYTES) (state_in w)
 
 -- A frame is under way now: it has the longest list of the records not yet durable that one frame holds, the last of this number.
-pub record HasStaged {D : Type 0} {G : Ghosts D} (old new : World D G) (n : ℕ) : Type 0 where
+pub record HasStaged {L V : Type 0} {G : Ghosts L} {H : Ghosts V} (old new : World L V G H) (n : ℕ) : Type 0 where
   pub longest : IsLongest (drop (state_in old).durable (state_in old).log) (n - (state_in old).durable)
   pub under_way : IsSomeAnd new.log.staged (λ frame. frame.count ≡ n - (state_in old).durable)
   pub on_device : (front : List ℕ) → SurvivesCrashes old front → IsStaged new.log front (take (n - (state_in old).durable) (drop (state_in old).durable (state_in old).log))
 
 -- The frame that was under way is durable now, and no other: its last record has this number.
-pub record HasForced {D : Type 0} {G : Ghosts D} (old new : World D G) (n : ℕ) : Type 0 where
+pub record HasForced {L V : Type 0} {G : Ghosts L} {H : Ghosts V} (old new : World L V G H) (n : ℕ) : Type 0 where
   pub frame : IsSomeAnd old.log.staged (λ frame. n ≡ (state_in old).durable + frame.count)
   pub none_left : new.log.staged ≡ None
 
 -- One event: what it moves, what a step of a force that was made has done, when it may come to nothing, and who tells of a failure.
-pub record Steps {D : Type 0} {G : Ghosts D} (old : World D G) (e : Event) (step : Step) (new : World D G) : Type 0 where
+pub record Steps {L V : Type 0} {G : Ghosts L} {H : Ghosts V} (old : World L V G H) (e : Event) (step : Step) (new : World L V G H) : Type 0 where
   pub moves : Moves old e step new
+  -- no event touches the volume as yet
+  pub volume : new.volume ≡ old.volume
   -- a call and a resume make no call of the device
   pub still : IsOfSession e → new.log.device ≡ old.log.device
   pub staged : (n : ℕ) → e ≡ event.ForceStage → step ≡ Done (Staged n) → HasStaged old new n
@@ -124,30 +131,36 @@ pub record Steps {D : Type 0} {G : Ghosts D} (old : World D G) (e : Event) (step
   pub cause : HasCause (fault_at step) (G.faults old.log.device) (G.faults new.log.device)
 
 -- The same but for what a device is told that changes none of its bytes, as the fuse of one that is made to fail.
-pub record IsLike {D : Type 0} {G : Ghosts D} (old new : World D G) : Type 0 where
+pub record IsLike {L V : Type 0} {G : Ghosts L} {H : Ghosts V} (old new : World L V G H) : Type 0 where
   pub geometry : geometry_in new ≡ geometry_in old
   pub state : state_in new ≡ state_in old
   pub history : history_in new ≡ history_in old
   pub staged : new.log.staged ≡ old.log.staged
   pub faults : G.faults new.log.device ≡ G.faults old.log.device
+  pub volume : volume_history_in new ≡ volume_history_in old
   pub kept : (front : List ℕ) → SurvivesCrashes old front → SurvivesCrashes new front
 
 -- The events, one step each, from a world to another. Between two of them a fuse may be set.
-abbrev pub Runs : {D : Type 0} {G : Ghosts D} → World D G → List Event → List Step → World D G → Type 0
+abbrev pub Runs : {L V : Type 0} {G : Ghosts L} {H : Ghosts V} → World L V G H → List Event → List Step → World L V G H → Type 0
 Runs old [] [] new = IsLike old new
-Runs {D = D} {G = G} old (e ∷ es) (step ∷ steps) new =
-    (start : World D G) × (mid : World D G) × IsLike old start × Steps start e step mid × Runs mid es steps new
+Runs {L = L} {V = V} {G = G} {H = H} old (e ∷ es) (step ∷ steps) new =
+    (start : World L V G H) × (mid : World L V G H) × IsLike old start × Steps start e step mid × Runs mid es steps new
 Runs old [] (step ∷ steps) new = ⊥
 Runs old (e ∷ es) [] new = ⊥
 
 -- ---- what an open answers
 
--- the device, whether a world stands on it or it is handed back
-abbrev pub device_in : {D : Type 0} {G : Ghosts D} → Result (World D G) (Fault × D) → D
-device_in (Ok w) = w.log.device
-device_in (Err refused) = refused.1
+-- the log device, whether a world stands on it or it is handed back
+abbrev pub log_in : {L V : Type 0} {G : Ghosts L} {H : Ghosts V} → Result (World L V G H) (Fault × L × V) → L
+log_in (Ok w) = w.log.device
+log_in (Err refused) = refused.1
+
+-- so the volume
+abbrev pub volume_in : {L V : Type 0} {G : Ghosts L} {H : Ghosts V} → Result (World L V G H) (Fault × L × V) → V
+volume_in (Ok w) = device_of w.volume
+volume_in (Err refused) = refused.2
 
 -- the answer with no device at the fault
-abbrev pub fault_in : {D : Type 0} {G : Ghosts D} → Result (World D G) (Fault × D) → Result (World D G) Fault
+abbrev pub fault_in : {L V : Type 0} {G : Ghosts L} {H : Ghosts V} → Result (World L V G H) (Fault × L × V) → Result (World L V G H) Fault
 fault_in (Ok w) = Ok w
 fault_in (Err refused) = Err refused.0

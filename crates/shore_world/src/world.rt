@@ -1,17 +1,30 @@
-//! The plain world: a core and its log device, one event at a time. There is no volume yet; the records in place are the
+//! The plain world: a core over its two devices, one event at a time. No page is read or written yet; the records in place are the
 //! core's, and an open makes them anew from the log.
-ghost use Rattle.std.specs.Prelude.{◌≡◌, ◌≢◌, ◌⊎◌, ◌+◌, ◌-◌, ◌≤◌, ◌++◌, ℕ, List, All, IsTrue, IfOk, IfErr, OnOk, OnErr, Err, None, length, take};
+ghost use Rattle.std.specs.Prelude.{◌≡◌, ◌≢◌, ◌⊎◌, ◌+◌, ◌-◌, ◌≤◌, ◌++◌, ℕ, List, [], ◌∷◌, All, IsTrue, IfOk, IfErr, OnOk, OnErr, Err, None, length, take};
 ghost use Rattle.shore_types.specs.declared.layout.Geometry.{Geometry};
 ghost use Rattle.shore_model.specs.declared.log_records.LogRecord.{LogRecord};
-ghost use Rattle.shore_disk.specs.Device.{size, seen, may_leave, LeavesOnly};
+ghost use Rattle.shore_disk.specs.Device.{size, seen, may_leave, LeavesOnly, Stands};
+ghost use Rattle.shore_dwrite.specs.Checks.{RefusesArea};
+ghost use Rattle.shore_dwrite.specs.declared.places.TheConstants.{GATE_AT};
+ghost use Rattle.shore_dwrite.specs.Settled.{IsSettled, device_of};
+ghost use Rattle.shore_dwrite.specs.Shown.{IsShut, Shows};
+ghost use Rattle.shore_dwrite.specs.Volumes.{part};
+ghost use Rattle.shore_format.specs.Volumes.{volume_bytes};
+ghost use Rattle.shore_gate.specs.declared.gates.TheConstants.{OPEN};
+ghost use Rattle.shore_types.specs.Layout.{IsInLimits};
+ghost use Rattle.shore_world.specs.OpenedVolumes.{fault_of_volume, volume_of};
 ghost use Rattle.shore_disk.specs.Cause.{HasCause};
+ghost use Rattle.shore_disk.specs.Fuse.{fuse_inner};
+ghost use Rattle.shore_disk.specs.MemDisk.{history_of};
+ghost use Rattle.shore_disk.specs.Memory.{picked_after};
 ghost use Rattle.shore_log.specs.Frames.{Gives};
 ghost use Rattle.shore_types.specs.declared.faults.Device.TheVariants as Device;
 ghost use Rattle.shore_core.specs.Opened.{HasTxns, IsBadRecord, cost_of_log};
 ghost use Rattle.shore_machine.specs.Pages.{FitPages};
 ghost use Rattle.shore_model.specs.Logs.{records_told};
 ghost use Rattle.shore_log.specs.Offsets.{IsFrameOf};
-ghost use Rattle.shore_log.specs.Settled.{records_of_log, stable, IsSettled};
+ghost use Rattle.shore_log.specs.Settled as logs;
+ghost use Rattle.shore_log.specs.Settled.{records_of_log, stable};
 ghost use Rattle.shore_log.specs.PlainTails.{first_of, waiting_in};
 ghost use Rattle.shore_machine.specs.Trails.{IsOpened};
 ghost use Rattle.shore_machine.specs.Steps.{with_failure};
@@ -22,83 +35,106 @@ ghost use Rattle.shore_core.specs.Cores.{tail_of, durable_of, geometry_of, state
 ghost use Rattle.shore_world.specs.Events.{IsServedEvent};
 
 use crate::Event;
-use crate::front::{Front, read_front};
 use shore_core::{Core, OpenError, Step};
 use shore_disk::{Disk, FuseDisk, MemDisk, Pick};
+use shore_dwrite::PageDev;
+use shore_format::{Fronts, read_fronts};
 use shore_log::{LogDev, LogRecord, PlainTail, damaged};
 use shore_model::{Answer, RidMap};
 use shore_types::{Bytes, Fault, Geometry, Lsn};
 use std::alloc::Global;
 
-/// A manager over its log device.
+/// A manager over its log device and its volume.
 #[derive(Drop)]
-pub struct World<D: Disk> {
+pub struct World<L: Disk, V: Disk> {
     core: Core<PlainTail>,
-    log: LogDev<D>,
+    log: LogDev<L>,
+    volume: PageDev<V>,
     ghost numbers: { first_of (tail_of core) ≡ 1 + length (records_of_log log) },
     ghost durable_agrees: { durable_of core ≡ length (stable log) },
 }
 
-impl<D: Disk> World<D> {
-    ghost use Rattle.shore_world.specs.Fronts.{HasFront, RefusesOpen, StandsFor};
-    ghost use Rattle.shore_world.specs.Worlds.{Moves, HasForced, HasStaged, Steps, Runs, HasForceRoom, IsIdle, SurvivesCrashes, state_in, geometry_in, device_in, fault_at, fault_in};
+impl<L: Disk, V: Disk> World<L, V> {
+    ghost use Rattle.shore_format.specs.Causes.{HasCauseOfPair};
+    ghost use Rattle.shore_format.specs.Fronts.{HasFront};
+    ghost use Rattle.shore_format.specs.Pairs.{HaveFronts, RefusesOpen, StandsFor};
+    ghost use Rattle.shore_format.specs.Volumes.{VolumeStandsFor};
+    ghost use Rattle.shore_world.specs.Worlds.{Moves, HasForced, HasStaged, Steps, Runs, HasForceRoom, IsIdle, SurvivesCrashes, state_in, geometry_in, volume_history_in, log_in, volume_in, fault_at, fault_in};
 
-    /// Opens the manager of a formatted log device: a barrier, the label, the anchors, the frames, and then the records in place
-    /// as the log tells them. Refused by `NotFormatted`, `WrongVersion` or `Damaged` with the offset if the device is not in order, by
-    /// `Device` if it failed, by `Memory` if an allocation failed; the device is handed back, and may be opened again.
-    pub fn open(alloc: Global, mut log: D) -> Result<World<D>, (Fault, D)>
-        // Its list is the one that stood there, and its geometry the label's.
-        ensures log { IsTrue (D.is_honest log) → IfOk result (λ w. Gives (state_in w).log (seen (D.history log))) }
-        ensures only { IsTrue (D.is_honest log) → (rs : List LogRecord) → Gives rs (seen (D.history log)) → IfOk result (λ w. (state_in w).log ≡ rs) }
-        ensures front { IsTrue (D.is_honest log) → IfOk result (λ w. HasFront (geometry_in w) (size (D.history log)) (seen (D.history log))) }
-        ensures geometry { IsTrue (D.is_honest log) → (g : Geometry) → HasFront g (size (D.history log)) (seen (D.history log)) → IfOk result (λ w. geometry_in w ≡ g) }
+    /// Opens the manager of a formatted pair: a barrier on both devices, the labels, that they are of one pair, the anchors, the frames, the
+    /// double-write area, and then the records in place as the log tells them. Refused by `NotFormatted`, `WrongVersion`, `WrongPair` or
+    /// `Damaged` with the device and the offset if the pair is not in order, by `Device` if one failed, by `Memory` if an allocation failed;
+    /// the devices are handed back, and may be opened again.
+    pub fn open(alloc: Global, mut log: L, mut volume: V) -> Result<World<L, V>, (Fault, L, V)>
+        // Its list is the one that stood there, and its geometry that of the labels.
+        ensures log { IsTrue (L.is_honest log) → IfOk result (λ w. Gives (state_in w).log (seen (L.history log))) }
+        ensures only { IsTrue (L.is_honest log) → (rs : List LogRecord) → Gives rs (seen (L.history log)) → IfOk result (λ w. (state_in w).log ≡ rs) }
+        ensures fronts { IsTrue (L.is_honest log) → IsTrue (V.is_honest volume) → IfOk result (λ w. HaveFronts (geometry_in w) (L.history log) (V.history volume)) }
+        ensures geometry { IsTrue (L.is_honest log) → IsTrue (V.is_honest volume) → (g : Geometry) → HaveFronts g (L.history log) (V.history volume)
+            → IfOk result (λ w. geometry_in w ≡ g) }
         ensures opened { IfOk result (λ w. IsOpened (state_in w).log (state_in w)) }
-        ensures room { IsTrue (D.is_honest log) → IfOk result (λ w. (state_in w).room
-            ≡ record { kept = cost_of_log (state_in w).log; reserved = 0; stream_bytes = size (D.history log) - LOG_FRONT_BYTES }) }
-        ensures kept { IsTrue (D.is_honest log) → IfOk result (λ w. SurvivesCrashes w (take LOG_FRONT_BYTES (seen (D.history log)))) }
+        ensures room { IsTrue (L.is_honest log) → IfOk result (λ w. (state_in w).room
+            ≡ record { kept = cost_of_log (state_in w).log; reserved = 0; stream_bytes = size (L.history log) - LOG_FRONT_BYTES }) }
+        ensures kept { IsTrue (L.is_honest log) → IfOk result (λ w. SurvivesCrashes w (take LOG_FRONT_BYTES (seen (L.history log)))) }
 
         // What is refused goes by the checks in their order.
-        ensures refused { IsTrue (D.is_honest log) → IfErr result (λ e. IsFromOutside e.0 ⊎ RefusesOpen (D.history log) e.0) }
+        ensures refused { IsTrue (L.is_honest log) → IsTrue (V.is_honest volume)
+            → IfErr result (λ e. IsFromOutside e.0 ⊎ RefusesOpen (L.history log) (V.history volume) e.0) }
 
-        // An image that stands for a list is opened, unless the device or an allocation fails; and the world is in bounds.
-        ensures stands { IsTrue (D.is_honest log) → (g : Geometry) (rs : List LogRecord) → StandsFor g (size (D.history log)) rs (seen (D.history log))
-            → IfErr result (λ e. IsFromOutside e.0) }
-        ensures bounded { IsTrue (D.is_honest log) → (g : Geometry) (rs : List LogRecord) → StandsFor g (size (D.history log)) rs (seen (D.history log))
-            → IfOk result (λ w. IsBounded g (size (D.history log) - LOG_FRONT_BYTES) (state_in w)) }
+        // Images that stand for a list are opened, unless a device or an allocation fails; the world is in bounds, and a crash leaves of the
+        // volume what stands for the same.
+        ensures stands { IsTrue (L.is_honest log) → IsTrue (V.is_honest volume) → (g : Geometry) (rs : List LogRecord)
+            → StandsFor g (size (L.history log)) (size (V.history volume)) rs (seen (L.history log)) (seen (V.history volume)) → IfErr result (λ e. IsFromOutside e.0) }
+        ensures bounded { IsTrue (L.is_honest log) → IsTrue (V.is_honest volume) → (g : Geometry) (rs : List LogRecord)
+            → StandsFor g (size (L.history log)) (size (V.history volume)) rs (seen (L.history log)) (seen (V.history volume))
+            → IfOk result (λ w. IsBounded g (size (L.history log) - LOG_FRONT_BYTES) (state_in w)) }
+        // The double-write area is replayed: the pages that the volume shows are in place behind a shut gate.
+        ensures pages { IsTrue (L.is_honest log) → IsTrue (V.is_honest volume) → (g : Geometry) (pages : ℕ → List ℕ)
+            → HaveFronts g (L.history log) (V.history volume) → Shows g (seen (V.history volume)) pages
+            → IfOk result (λ w. IsSettled w.volume (take GATE_AT (seen (V.history volume))) pages) }
+        ensures volume { IsTrue (V.is_honest volume) → (g : Geometry) → VolumeStandsFor g (size (V.history volume)) (seen (V.history volume))
+            → IfOk result (λ w. (c : List ℕ) → may_leave (volume_history_in w) c → VolumeStandsFor g (size (V.history volume)) c) }
 
-        // A crash at any moment of the call leaves what it could have left before.
-        ensures any_moment { IsTrue (D.is_honest log) → LeavesOnly (D.history log) (D.history (device_in result)) (may_leave (D.history log)) }
+        // A crash at any moment of the call leaves of each device what it could have left before, of a volume if its double-write area is shut.
+        ensures any_log { IsTrue (L.is_honest log) → LeavesOnly (L.history log) (L.history (log_in result)) (may_leave (L.history log)) }
+        ensures any_volume { IsTrue (V.is_honest volume) → IsShut (seen (V.history volume))
+            → LeavesOnly (V.history volume) (V.history (volume_in result)) (may_leave (V.history volume)) }
 
-        ensures seen { IsTrue (D.is_honest log) → seen (D.history (device_in result)) ≡ seen (D.history log) }
-        ensures honest { D.is_honest (device_in result) ≡ D.is_honest log }
-        ensures size { size (D.history (device_in result)) ≡ size (D.history log) }
-        ensures cause { HasCause (fault_in result) (D.faults log) (D.faults (device_in result)) }
+        ensures seen { IsTrue (L.is_honest log) → seen (L.history (log_in result)) ≡ seen (L.history log) }
+        ensures honest { (L.is_honest (log_in result) ≡ L.is_honest log) × (V.is_honest (volume_in result) ≡ V.is_honest volume) }
+        ensures size { (size (L.history (log_in result)) ≡ size (L.history log)) × (size (V.history (volume_in result)) ≡ size (V.history volume)) }
+        ensures cause { HasCauseOfPair (fault_in result) (L.faults log) (L.faults (log_in result)) (V.faults volume) (V.faults (volume_in result)) }
     {
-        let Front {
+        let Fronts {
             geometry,
+            of_pages,
             anchor_offset,
-        } = match read_front(alloc, &mut log) {
-            Ok(front) => front,
-            Err(fault) => return Err((fault, log)),
+        } = match read_fronts(alloc, &mut log, &mut volume) {
+            Ok(fronts) => fronts,
+            Err(fault) => return Err((fault, log, volume)),
         };
         let mut log = match LogDev::open(alloc, log) {
             Ok(log) => log,
-            Err(refused) => return Err(refused),
+            Err((fault, log)) => return Err((fault, log, volume)),
+        };
+        let volume = match open_volume(alloc, volume, of_pages) {
+            Ok(volume) => volume,
+            Err((fault, volume)) => return Err((fault, log.into_device(), volume)),
         };
         match open_core(alloc, geometry, &log) {
-            Ok(core) => Ok(World { core, log }),
+            Ok(core) => Ok(World { core, log, volume }),
             Err(error) => {
                 let fault = fault_of(error, anchor_offset, &mut log);
-                Err((fault, log.into_device()))
+                Err((fault, log.into_device(), volume.into_device()))
             }
         }
     }
 
-    /// Hands the device back.
-    pub fn into_devices(self) -> D
-        ensures { result ≡ self.log.device }
+    /// Hands the devices back.
+    pub fn into_devices(self) -> (L, V)
+        ensures { (result.0 ≡ self.log.device) × (result.1 ≡ device_of self.volume) }
     {
-        self.log.into_device()
+        (self.log.into_device(), self.volume.into_device())
     }
 
     /// The records in place, decided or not, as a map in place order. No locks are taken.
@@ -147,9 +183,10 @@ impl<D: Disk> World<D> {
     fn force_stage(&mut self, alloc: Global) -> Step
         ensures moves { Moves self.old Event.ForceStage result self.new }
         ensures staged { (n : ℕ) → result ≡ Step.Done (Answer.Staged n) → HasStaged self.old self.new n }
+        ensures volume { self.new.volume ≡ self.old.volume }
         ensures idle { result ≡ Step.Nothing → IsIdle self.old }
         ensures full { result ≡ Step.Refused Fault.LogFull → ¬ HasForceRoom self.old }
-        ensures cause { HasCause (fault_at result) (D.faults self.old.log.device) (D.faults self.new.log.device) }
+        ensures cause { HasCause (fault_at result) (L.faults self.old.log.device) (L.faults self.new.log.device) }
     {
         if self.core.has_failed() {
             return Step::Refused(Fault::Failed);
@@ -170,8 +207,9 @@ impl<D: Disk> World<D> {
     fn force_open(&mut self) -> Step
         ensures moves { Moves self.old Event.ForceOpen result self.new }
         ensures forced { (n : ℕ) → result ≡ Step.Done (Answer.Forced n) → HasForced self.old self.new n }
+        ensures volume { self.new.volume ≡ self.old.volume }
         ensures shut { result ≡ Step.Nothing → self.old.log.staged ≡ None }
-        ensures cause { HasCause (fault_at result) (D.faults self.old.log.device) (D.faults self.new.log.device) }
+        ensures cause { HasCause (fault_at result) (L.faults self.old.log.device) (L.faults self.new.log.device) }
     {
         if self.core.has_failed() {
             return Step::Refused(Fault::Failed);
@@ -194,6 +232,7 @@ impl<D: Disk> World<D> {
             ⊎ ((fault ≢ Fault.Device) × (state_in self.new ≡ state_in self.old)) }
         ensures geometry { geometry_in self.new ≡ geometry_in self.old }
         ensures log { self.new.log ≡ self.old.log }
+        ensures volume { self.new.volume ≡ self.old.volume }
     {
         if fault == Fault::Device {
             self.core.fail();
@@ -228,12 +267,12 @@ impl<D: Disk> World<D> {
     }
 }
 
-impl<D: Disk> World<FuseDisk<D>> {
-    ghost use Rattle.shore_disk.specs.Fuse.{fuse_inner, fuse_calls};
+impl<L: Disk, V: Disk> World<FuseDisk<L>, V> {
+    ghost use Rattle.shore_disk.specs.Fuse.{fuse_calls};
     ghost use Rattle.shore_world.specs.Worlds.{IsLike};
 
-    /// Lets so many more writes and syncs of the device pass; then every call of it fails.
-    pub fn set_fuse(&mut self, calls: u64)
+    /// Lets so many more writes and syncs of the log device pass; then every call of it fails.
+    pub fn set_log_fuse(&mut self, calls: u64)
         ensures calls { fuse_calls self.new.log.device ≡ calls }
         ensures inner { fuse_inner self.new.log.device ≡ fuse_inner self.old.log.device }
         ensures like { IsLike self.old self.new }
@@ -242,22 +281,71 @@ impl<D: Disk> World<FuseDisk<D>> {
     }
 }
 
-impl World<FuseDisk<MemDisk>> {
-    ghost use Rattle.shore_disk.specs.MemDisk.{history_of};
-    ghost use Rattle.shore_disk.specs.Memory.{picked_after};
-    ghost use Rattle.shore_world.specs.Managers.{IsLeft};
-    ghost use Rattle.shore_world.specs.Worlds.{history_in};
+impl<L: Disk, V: Disk> World<L, FuseDisk<V>> {
+    ghost use Rattle.shore_disk.specs.Fuse.{fuse_calls};
+    ghost use Rattle.shore_world.specs.Worlds.{IsLike};
 
-    /// A loss of power: what is in memory is lost with the fuse, and of the writes since the last sync the device keeps what is picked.
-    pub fn lose_power(self, pick: Pick) -> MemDisk
-        ensures picked { (history_of result).first ≡ picked_after pick (history_in self).first (history_in self).calls }
-        ensures left { IsLeft self (seen (history_of result)) }
-        ensures stable { (c : List ℕ) → may_leave (history_of result) c → c ≡ seen (history_of result) }
-        ensures size { size (history_of result) ≡ size (history_in self) }
+    /// Lets so many more writes and syncs of the volume pass; then every call of it fails.
+    pub fn set_volume_fuse(&mut self, calls: u64)
+        ensures calls { fuse_calls (device_of self.new.volume) ≡ calls }
+        ensures inner { fuse_inner (device_of self.new.volume) ≡ fuse_inner (device_of self.old.volume) }
+        ensures like { IsLike self.old self.new }
     {
-        let mut disk = self.into_devices().into_inner();
-        disk.crash(pick);
-        disk
+        self.volume.set_fuse(calls);
+    }
+}
+
+impl World<FuseDisk<MemDisk>, FuseDisk<MemDisk>> {
+    ghost use Rattle.shore_world.specs.Managers.{AreLeft};
+    ghost use Rattle.shore_world.specs.Worlds.{history_in, volume_history_in};
+
+    /// A loss of power: what is in memory is lost with the fuses, and of the writes since its last sync each device keeps what is picked.
+    pub fn lose_power(self, pick: Pick) -> (MemDisk, MemDisk)
+        ensures log { (history_of result.0).first ≡ picked_after pick (history_in self).first (history_in self).calls }
+        ensures volume { (history_of result.1).first ≡ picked_after pick (volume_history_in self).first (volume_history_in self).calls }
+        ensures left { AreLeft self (seen (history_of result.0)) (seen (history_of result.1)) }
+        ensures stable { ((c : List ℕ) → may_leave (history_of result.0) c → c ≡ seen (history_of result.0))
+            × ((c : List ℕ) → may_leave (history_of result.1) c → c ≡ seen (history_of result.1)) }
+        ensures size { (size (history_of result.0) ≡ size (history_in self)) × (size (history_of result.1) ≡ size (volume_history_in self)) }
+    {
+        let (log, volume) = self.into_devices();
+        (crashed(log, pick), crashed(volume, pick))
+    }
+}
+
+// What a loss of power leaves of a device.
+fn crashed(device: FuseDisk<MemDisk>, pick: Pick) -> MemDisk
+    ensures picked { history_of result ≡ record { first = picked_after pick (history_of (fuse_inner device)).first (history_of (fuse_inner device)).calls; calls = [] } }
+    ensures left { may_leave (history_of (fuse_inner device)) (history_of result).first }
+    ensures size { size (history_of result) ≡ size (history_of (fuse_inner device)) }
+{
+    let mut disk = device.into_inner();
+    disk.crash(pick);
+    disk
+}
+
+// The pages of a volume, behind the replay of its double-write area. With a shut area that makes no call that changes the device.
+fn open_volume<D: Disk>(
+    alloc: Global,
+    volume: D,
+    geometry: Geometry,
+) -> Result<PageDev<D>, (Fault, D)>
+    requires long { size (D.history volume) ≡ volume_bytes geometry }
+    requires limits { IsInLimits geometry }
+    ensures still { IsTrue (D.is_honest volume) → (image : List ℕ) → Stands (D.history volume) image → IsShut image
+        → D.history (volume_of result) ≡ D.history volume }
+    ensures replayed { IsTrue (D.is_honest volume) → (image : List ℕ) (pages : ℕ → List ℕ) → Stands (D.history volume) image → Shows geometry image pages
+        → IfOk result (λ dev. IsSettled dev (take GATE_AT image) pages) }
+    ensures refused { IsTrue (D.is_honest volume) → (image : List ℕ) → Stands (D.history volume) image
+        → IfErr result (λ e. IsFromOutside e.0 ⊎ ((part GATE_AT 1 image ≡ OPEN ∷ []) × RefusesArea geometry image e.0)) }
+    ensures honest { D.is_honest (volume_of result) ≡ D.is_honest volume }
+    ensures size { size (D.history (volume_of result)) ≡ size (D.history volume) }
+    ensures cause { HasCause (fault_of_volume result) (D.faults volume) (D.faults (volume_of result)) }
+{
+    let mut pages = PageDev::new(volume, geometry);
+    match pages.replay(alloc) {
+        Ok(()) => Ok(pages),
+        Err(fault) => Err((fault, pages.into_device())),
     }
 }
 
@@ -292,7 +380,7 @@ fn open_core<D: Disk>(
 fn fault_of<D: Disk>(error: OpenError, anchor_offset: u64, log: &mut LogDev<D>) -> Fault
     ensures memory { error ≡ OpenError.Memory → result ≡ Fault.Memory }
     ensures room { error ≡ OpenError.NoRoom → result ≡ Fault.Damaged Device.Log anchor_offset }
-    ensures record_of { (n : ℕ) (front : List ℕ) → error ≡ OpenError.BadRecord n → IsSettled log.old front → 1 ≤ n → n ≤ length (stable log.old)
+    ensures record_of { (n : ℕ) (front : List ℕ) → error ≡ OpenError.BadRecord n → logs.IsSettled log.old front → 1 ≤ n → n ≤ length (stable log.old)
         → (result ≡ Fault.Device) ⊎ ((offset : ℕ) × (result ≡ Fault.Damaged Device.Log offset) × IsFrameOf LOG_FRONT_BYTES (seen (D.history log.old.device)) n offset) }
     ensures still { IsTrue (D.is_honest log.old.device) → D.history log.new.device ≡ D.history log.old.device }
     ensures honest { D.is_honest log.new.device ≡ D.is_honest log.old.device }

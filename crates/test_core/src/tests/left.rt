@@ -1,9 +1,10 @@
-//! What a force leaves on a log device: its bytes, and what an open of them is refused with if one of them has another value.
-use super::runs::{new_manager, play_on};
+//! What a force leaves on a pair of devices: the log's bytes, and what an open is refused with if one byte has another value or the devices
+//! are of two pairs.
+use super::runs::{new_manager, new_pair, play_on, zeroed};
 use super::shown::Manager;
 use super::trouble::{Trouble, require};
 use shore_disk::{FuseDisk, MemDisk};
-use shore_types::Fault;
+use shore_types::{Device, Fault};
 use shore_world::World;
 use std::alloc::Global;
 use std::test::Fail;
@@ -29,7 +30,7 @@ const WHOLE: usize = 135_168;
 /// How many bytes of the device are kept, the offset of one that has another value, and what an open of them is told.
 type Row = (usize, usize, u8, &'static str);
 
-const ROWS: [Row; 13] = [
+const LOG_ROWS: [Row; 13] = [
     (WHOLE, 0, 0x00, "29 NotFormatted"),
     (WHOLE, 1, 0x56, "29 NotFormatted"),
     (WHOLE, 2, 0x03, "26 WrongVersion"),
@@ -45,55 +46,98 @@ const ROWS: [Row; 13] = [
     (4_095, 0, 0xa5, "29 NotFormatted"),
 ];
 
-// The device that the setup leaves.
-fn left_by_setup(alloc: Global) -> Result<MemDisk, Trouble> {
+const VOLUME: usize = 270_336 + 9 * 8_192;
+
+const VOLUME_ROWS: [Row; 10] = [
+    (VOLUME, 0, 0xa5, "opened"),
+    (VOLUME, 0, 0x00, "29 NotFormatted"),
+    (VOLUME, 1, 0x4c, "29 NotFormatted"),
+    (VOLUME, 2, 0x03, "26 WrongVersion"),
+    (VOLUME, 8, 0x02, "30 WrongPair"),
+    (VOLUME, 25, 0x00, "25 Damaged volume 24"),
+    (VOLUME, 40, 0x01, "25 Damaged volume 40"),
+    (VOLUME, 4_096, 0xa5, "25 Damaged volume 4100"),
+    (VOLUME, 4_096, 0x01, "opened"),
+    (VOLUME - 1, 0, 0xa5, "25 Damaged volume 16"),
+];
+
+// The pair that the setup leaves.
+fn left_by_setup(alloc: Global) -> Result<(MemDisk, MemDisk), Trouble> {
     let mut world = new_manager(alloc)?;
     for line in SETUP {
         play_on(alloc, &mut world, line)?;
     }
-    Ok(world.into_devices().into_inner())
+    let (log, volume) = world.into_devices();
+    Ok((log.into_inner(), volume))
 }
 
-fn opened(alloc: Global, disk: MemDisk) -> Result<Manager, Fault> {
-    match World::open(alloc, FuseDisk::new(disk, u64::MAX)) {
+fn opened(alloc: Global, log: MemDisk, volume: MemDisk) -> Result<Manager, Fault> {
+    match World::open(alloc, FuseDisk::new(log, u64::MAX), volume) {
         Ok(world) => Ok(world),
-        Err((fault, _)) => Err(fault),
+        Err((fault, _, _)) => Err(fault),
     }
 }
 
-fn require_told(alloc: Global, disk: MemDisk, wanted: &str) -> Result<(), Trouble> {
-    match opened(alloc, disk) {
+fn require_told(alloc: Global, log: MemDisk, volume: MemDisk, wanted: &str) -> Result<(), Trouble> {
+    match opened(alloc, log, volume) {
         Ok(_) => require(wanted == "opened"),
         Err(fault) => require(format!(in alloc; "{fault}")?.as_str() == wanted),
     }
 }
 
-fn require_row(alloc: Global, bytes: &[u8], row: &Row) -> Result<(), Trouble> {
-    let (length, offset, value, wanted) = *row;
+// A device of these bytes, as many of them as are kept, with one that has another value.
+fn changed(alloc: Global, bytes: &[u8], row: &Row) -> Result<MemDisk, Trouble> {
+    let (length, offset, value, _) = *row;
     let mut bytes = bytes.to_vec(alloc)?;
     bytes.truncate(length);
     if let Some(byte) = bytes.get_mut(offset) {
         *byte = value;
     }
-    require_told(alloc, MemDisk::new(alloc, bytes)?, wanted)
+    Ok(MemDisk::new(alloc, bytes)?)
 }
 
-// The number of the first row that does not hold, if there is one.
-fn first_untrue(alloc: Global, bytes: &[u8]) -> Option<u32> {
-    for (number, row) in (1u32..u32::MAX).zip(ROWS.iter()) {
-        if require_row(alloc, bytes, row).is_err() {
+fn copied(alloc: Global, disk: &MemDisk) -> Result<MemDisk, Trouble> {
+    Ok(MemDisk::new(alloc, disk.bytes().to_vec(alloc)?)?)
+}
+
+fn require_row(
+    alloc: Global,
+    pair: &(MemDisk, MemDisk),
+    of: Device,
+    row: &Row,
+) -> Result<(), Trouble> {
+    let (log, volume) = match of {
+        Device::Log => (
+            changed(alloc, pair.0.bytes(), row)?,
+            copied(alloc, &pair.1)?,
+        ),
+        Device::Volume => (
+            copied(alloc, &pair.0)?,
+            changed(alloc, pair.1.bytes(), row)?,
+        ),
+    };
+    require_told(alloc, log, volume, row.3)
+}
+
+// The number of the first row of a device that does not hold, if there is one.
+fn first_untrue(alloc: Global, pair: &(MemDisk, MemDisk), of: Device, rows: &[Row]) -> Option<u32> {
+    for (number, row) in (1u32..u32::MAX).zip(rows.iter()) {
+        if require_row(alloc, pair, of, row).is_err() {
             return Some(number);
         }
     }
     None
 }
 
-fn check(alloc: Global, disk: &MemDisk) -> Result<(), Fail> {
-    if disk.bytes().get(4096..4167) != Some(FRAME.as_slice()) {
+fn check(alloc: Global, pair: &(MemDisk, MemDisk)) -> Result<(), Fail> {
+    if pair.0.bytes().get(4096..4167) != Some(FRAME.as_slice()) {
         return Err(Fail::new(format_args!("the frame has other bytes")));
     }
-    match first_untrue(alloc, disk.bytes()) {
-        Some(number) => Err(Fail::new(format_args!("row {number}"))),
+    if let Some(number) = first_untrue(alloc, pair, Device::Log, &LOG_ROWS) {
+        return Err(Fail::new(format_args!("row {number} of the log")));
+    }
+    match first_untrue(alloc, pair, Device::Volume, &VOLUME_ROWS) {
+        Some(number) => Err(Fail::new(format_args!("row {number} of the volume"))),
         None => Ok(()),
     }
 }
@@ -101,7 +145,30 @@ fn check(alloc: Global, disk: &MemDisk) -> Result<(), Fail> {
 #[test]
 fn what_a_force_leaves(rt: HostRuntime) -> Result<(), Fail> {
     match left_by_setup(rt.alloc()) {
-        Ok(disk) => check(rt.alloc(), &disk),
+        Ok(pair) => check(rt.alloc(), &pair),
         Err(trouble) => Err(Fail::new(format_args!("{trouble:?} in the setup"))),
+    }
+}
+
+// A log of one pair with a volume of another, a volume that is a page shorter than its label says, and two devices of zeros.
+fn check_pairs(alloc: Global) -> Result<(), Trouble> {
+    let (log, volume) = new_pair(alloc, 7)?;
+    let (_, other) = new_pair(alloc, 8)?;
+    require_told(alloc, copied(alloc, &log)?, other, "30 WrongPair")?;
+    let short = (VOLUME - 8_192, 0, 0xa5, "25 Damaged volume 16");
+    require_told(alloc, log, changed(alloc, volume.bytes(), &short)?, short.3)?;
+    require_told(
+        alloc,
+        zeroed(alloc, WHOLE)?,
+        zeroed(alloc, VOLUME)?,
+        "29 NotFormatted",
+    )
+}
+
+#[test]
+fn devices_that_do_not_match(rt: HostRuntime) -> Result<(), Fail> {
+    match check_pairs(rt.alloc()) {
+        Ok(()) => Ok(()),
+        Err(trouble) => Err(Fail::new(format_args!("{trouble:?}"))),
     }
 }

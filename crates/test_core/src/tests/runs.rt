@@ -191,7 +191,7 @@ pub(super) fn play_on(alloc: Global, world: &mut Manager, line: &str) -> Result<
         return require_step(alloc, world, &mut asked.split_whitespace(), wanted);
     }
     match line.split_once(':') {
-        Some(("fuse", calls)) => set_fuse(world, &mut calls.split_whitespace()),
+        Some(("fuse", calls)) => set_log_fuse(world, &mut calls.split_whitespace()),
         Some(("records", wanted)) => require_records(alloc, world, wanted),
         Some(("log", wanted)) => require_log(alloc, world, wanted),
         _ => Err(Trouble::NoLine),
@@ -212,8 +212,8 @@ fn require_step(
     require(as_log_entry.as_str() == wanted)
 }
 
-fn set_fuse(world: &mut Manager, words: &mut Words) -> Result<(), Trouble> {
-    world.set_fuse(u64::from(number(words)?));
+fn set_log_fuse(world: &mut Manager, words: &mut Words) -> Result<(), Trouble> {
+    world.set_log_fuse(u64::from(number(words)?));
     end(words)
 }
 
@@ -230,18 +230,30 @@ fn require_log(alloc: Global, world: &Manager, wanted: &str) -> Result<(), Troub
 }
 
 pub(super) fn new_manager(alloc: Global) -> Result<Manager, Trouble> {
-    let mut disk = MemDisk::new(alloc, Vec::from_elem(alloc, 0u8, 135_168)?)?;
-    require(format(alloc, &mut disk, &geometry(alloc)?).is_ok())?;
-    match World::open(alloc, FuseDisk::new(disk, u64::MAX)) {
+    let (log, volume) = new_pair(alloc, 1)?;
+    match World::open(alloc, FuseDisk::new(log, u64::MAX), volume) {
         Ok(world) => Ok(world),
         Err(_) => Err(Trouble::Untrue),
     }
 }
 
-fn geometry(alloc: Global) -> Result<Geometry, AllocError> {
+/// A log device of the least length and a volume, formatted as a pair of this number.
+pub(super) fn new_pair(alloc: Global, pair: u64) -> Result<(MemDisk, MemDisk), Trouble> {
+    let mut log = zeroed(alloc, 135_168)?;
+    let mut volume = zeroed(alloc, 270_336 + 9 * 8_192)?;
+    require(format(alloc, &mut log, &mut volume, &geometry(alloc, pair)?).is_ok())?;
+    Ok((log, volume))
+}
+
+/// A device of zeros.
+pub(super) fn zeroed(alloc: Global, bytes: usize) -> Result<MemDisk, AllocError> {
+    MemDisk::new(alloc, Vec::from_elem(alloc, 0u8, bytes)?)
+}
+
+fn geometry(alloc: Global, pair: u64) -> Result<Geometry, AllocError> {
     let stores = Vec::from_slice(alloc, &[1u32, 8])?;
     Ok(Geometry {
-        pair: 1,
+        pair,
         max_locks: 1024,
         stores: Sequence::from_vec(stores),
     })

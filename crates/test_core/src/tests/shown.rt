@@ -5,7 +5,7 @@ use shore_types::Bytes;
 use shore_world::{Step, Wait, World};
 use std::alloc::AllocError;
 
-pub(super) type Manager = World<FuseDisk<MemDisk>>;
+pub(super) type Manager = World<FuseDisk<MemDisk>, MemDisk>;
 
 /// As `began 1`, `waits 2`, `refused 6 NoRecord` or `nothing`.
 pub(super) fn write_step(out: &mut String, step: &Step) -> Result<(), AllocError> {

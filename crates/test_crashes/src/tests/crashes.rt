@@ -20,22 +20,23 @@ pub(super) fn check_history(alloc: Global, ground: &Ground, life: &Life) -> Resu
     require(is_sound(alloc, opening, entries)?, "not sound")
 }
 
-/// Loses the power, opens again and checks what is there. Answers what the next manager may be opened on.
+/// Loses the power, opens again and checks what is there. Answers what the next manager may be opened on, with the volume.
 pub(super) fn check_crash(
     alloc: Global,
     ground: &Ground,
     life: Life,
     pick: Pick,
-) -> Result<Ground, Trouble> {
+) -> Result<(Ground, MemDisk), Trouble> {
     let Life {
         entries,
         list,
         durable,
-        mut device,
+        mut log,
+        volume,
         ..
     } = life;
-    device.crash(pick);
-    check_left(alloc, ground, &entries, (&list, durable), device)
+    log.crash(pick);
+    check_left(alloc, ground, &entries, (&list, durable), (log, volume))
 }
 
 // Opens what a crash left of a log, so much of which was durable.
@@ -44,17 +45,19 @@ fn check_left(
     ground: &Ground,
     entries: &[Entry],
     log: (&[LogRecord], usize),
-    device: MemDisk,
-) -> Result<Ground, Trouble> {
-    let image = device.bytes().to_vec(alloc)?;
-    let world = reopened(alloc, device)?;
+    devices: (MemDisk, MemDisk),
+) -> Result<(Ground, MemDisk), Trouble> {
+    let image = devices.0.bytes().to_vec(alloc)?;
+    let world = reopened(alloc, devices)?;
     let opened = check_found(&world, log.0, log.1)?;
     let opening = opening_of(alloc, ground, entries, &world)?;
-    Ok(Ground {
+    let (_, volume) = world.into_devices();
+    let left = Ground {
         image,
         opening,
         opened,
-    })
+    };
+    Ok((left, volume))
 }
 
 // What an open shows, which has to be right.
@@ -62,7 +65,7 @@ fn opening_of(
     alloc: Global,
     ground: &Ground,
     entries: &[Entry],
-    world: &World<MemDisk>,
+    world: &World<MemDisk, MemDisk>,
 ) -> Result<Opening, Trouble> {
     Ok(Opening {
         records: check_shown(alloc, ground, entries, world)?,
@@ -72,7 +75,7 @@ fn opening_of(
 
 // What was found is a prefix of the list with all that was durable. Answers how many records it has.
 fn check_found(
-    world: &World<MemDisk>,
+    world: &World<MemDisk, MemDisk>,
     list: &[LogRecord],
     durable: usize,
 ) -> Result<usize, Trouble> {
@@ -89,7 +92,7 @@ fn check_shown(
     alloc: Global,
     ground: &Ground,
     entries: &[Entry],
-    world: &World<MemDisk>,
+    world: &World<MemDisk, MemDisk>,
 ) -> Result<RidMap<Bytes>, Trouble> {
     let (found, _) = world.records();
     let in_place = world.dump();
@@ -119,20 +122,30 @@ fn check_kept(
 }
 
 /// On what a crash left a record more is committed, is acknowledged, and survives another crash.
-pub(super) fn check_next_life(alloc: Global, ground: Ground, pick: Pick) -> Result<(), Trouble> {
+pub(super) fn check_next_life(
+    alloc: Global,
+    ground: Ground,
+    pick: Pick,
+    volume: MemDisk,
+) -> Result<MemDisk, Trouble> {
     let start = Start {
         ground,
         before: &[],
     };
-    check_one_commit(alloc, &start, pick)
+    check_one_commit(alloc, &start, pick, volume)
 }
 
-fn check_one_commit(alloc: Global, start: &Start, pick: Pick) -> Result<(), Trouble> {
-    let life = live(alloc, start, &ONE_COMMIT, None)?;
+fn check_one_commit(
+    alloc: Global,
+    start: &Start,
+    pick: Pick,
+    volume: MemDisk,
+) -> Result<MemDisk, Trouble> {
+    let life = live(alloc, start, &ONE_COMMIT, None, volume)?;
     check_history(alloc, &start.ground, &life)?;
     check_answered(alloc, &life.entries)?;
-    check_crash(alloc, &start.ground, life, pick)?;
-    Ok(())
+    let (_, volume) = check_crash(alloc, &start.ground, life, pick)?;
+    Ok(volume)
 }
 
 // One commit was acknowledged.
@@ -141,8 +154,11 @@ fn check_answered(alloc: Global, entries: &[Entry]) -> Result<(), Trouble> {
     require(answered.as_slice().len() == 1, "no commit is answered")
 }
 
-fn reopened(alloc: Global, device: MemDisk) -> Result<World<MemDisk>, Trouble> {
-    match World::open(alloc, device) {
+fn reopened(
+    alloc: Global,
+    devices: (MemDisk, MemDisk),
+) -> Result<World<MemDisk, MemDisk>, Trouble> {
+    match World::open(alloc, devices.0, devices.1) {
         Ok(world) => Ok(world),
         Err(_) => Err(Trouble::Wrong("the open was refused")),
     }

@@ -1,9 +1,9 @@
 //! The lists of events, one after another, and the cases of each.
 use super::crashes::{check_crash, check_history, check_next_life};
 use super::doings::{Doing, EACH};
-use super::lives::{Start, live};
+use super::lives::{Life, Start, live};
 use super::trouble::Trouble;
-use shore_disk::Pick;
+use shore_disk::{MemDisk, Pick};
 use std::alloc::{AllocError, Global};
 use std::test::Fail;
 
@@ -19,14 +19,18 @@ pub(super) struct Counts {
     pub(super) cases: u64,
 }
 
-/// Every list of up to five events, with each fuse and each pick.
-pub(super) fn check_lists(alloc: Global, start: &Start) -> Result<Counts, Fail> {
-    let calls_left = live(alloc, start, &[], None)?.calls_left;
+/// Every list of up to five events, with each fuse and each pick. The volume goes from one manager to the next.
+pub(super) fn check_lists(alloc: Global, start: &Start, volume: MemDisk) -> Result<Counts, Fail> {
+    let Life {
+        calls_left,
+        mut volume,
+        ..
+    } = live(alloc, start, &[], None, volume)?;
     let mut counts = Counts { lists: 0, cases: 0 };
     for (length, lists) in LISTS_BY_LENGTH {
         for number in 0..lists {
             let list = list_of(alloc, length, number)?;
-            check_list(alloc, start, &list, calls_left, &mut counts)?;
+            volume = check_list(alloc, start, &list, calls_left, &mut counts, volume)?;
         }
     }
     Ok(counts)
@@ -50,15 +54,16 @@ fn check_list(
     list: &[Doing],
     calls_left: u64,
     counts: &mut Counts,
-) -> Result<(), Fail> {
-    let whole = live(alloc, start, list, None)?;
+    volume: MemDisk,
+) -> Result<MemDisk, Fail> {
+    let whole = live(alloc, start, list, None, volume)?;
     let calls = calls_left.saturating_sub(whole.calls_left);
-    check_picks(alloc, start, list, None, counts)?;
+    let mut volume = check_picks(alloc, start, list, None, counts, whole.volume)?;
     for fuse in 0..=calls {
-        check_picks(alloc, start, list, Some(fuse), counts)?;
+        volume = check_picks(alloc, start, list, Some(fuse), counts, volume)?;
     }
     counts.lists = counts.lists.saturating_add(1);
-    Ok(())
+    Ok(volume)
 }
 
 fn check_picks(
@@ -67,16 +72,20 @@ fn check_picks(
     list: &[Doing],
     fuse: Option<u64>,
     counts: &mut Counts,
-) -> Result<(), Fail> {
+    mut volume: MemDisk,
+) -> Result<MemDisk, Fail> {
     for pick in PICKS {
-        if let Err(trouble) = check_case(alloc, start, list, fuse, pick) {
-            return Err(Fail::new(format_args!(
-                "{trouble:?}: {list:?}, fuse {fuse:?}, pick {pick:?}"
-            )));
-        }
+        volume = match check_case(alloc, start, list, fuse, pick, volume) {
+            Ok(volume) => volume,
+            Err(trouble) => {
+                return Err(Fail::new(format_args!(
+                    "{trouble:?}: {list:?}, fuse {fuse:?}, pick {pick:?}"
+                )));
+            }
+        };
         counts.cases = counts.cases.saturating_add(1);
     }
-    Ok(())
+    Ok(volume)
 }
 
 fn check_case(
@@ -85,9 +94,10 @@ fn check_case(
     list: &[Doing],
     fuse: Option<u64>,
     pick: Pick,
-) -> Result<(), Trouble> {
-    let life = live(alloc, start, list, fuse)?;
+    volume: MemDisk,
+) -> Result<MemDisk, Trouble> {
+    let life = live(alloc, start, list, fuse, volume)?;
     check_history(alloc, &start.ground, &life)?;
-    let left = check_crash(alloc, &start.ground, life, pick)?;
-    check_next_life(alloc, left, pick)
+    let (left, volume) = check_crash(alloc, &start.ground, life, pick)?;
+    check_next_life(alloc, left, pick, volume)
 }

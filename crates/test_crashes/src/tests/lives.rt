@@ -9,7 +9,7 @@ use shore_types::{Geometry, Sequence};
 use shore_world::{World, format};
 use std::alloc::Global;
 
-/// What a manager was opened on: a device's bytes, what they show, and how many records of the log stand there.
+/// What a manager was opened on: the log device's bytes, what they show, and how many records of the log stand there.
 #[derive(Drop)]
 pub(super) struct Ground {
     pub(super) image: Vec<u8>,
@@ -24,26 +24,30 @@ pub(super) struct Start {
     pub(super) before: &'static [Doing],
 }
 
-/// A log device of the least length, formatted.
-pub(super) fn formatted(alloc: Global) -> Result<Ground, Trouble> {
-    let mut disk = MemDisk::new(alloc, Vec::from_elem(alloc, 0u8, 135168)?)?;
+/// A log device of the least length and a volume of two pages, formatted.
+pub(super) fn formatted(alloc: Global) -> Result<(Ground, MemDisk), Trouble> {
+    let mut log = MemDisk::new(alloc, Vec::from_elem(alloc, 0u8, 135168)?)?;
+    let mut volume = MemDisk::new(alloc, Vec::from_elem(alloc, 0u8, 286720)?)?;
     let geometry = Geometry {
         pair: 1,
         max_locks: 1024,
         stores: Sequence::from_vec(Vec::from_slice(alloc, &[2u32])?),
     };
-    if format(alloc, &mut disk, &geometry).is_err() {
+    if format(alloc, &mut log, &mut volume, &geometry).is_err() {
         return Err(Trouble::Wrong("the format was refused"));
     }
-    Ok(Ground {
-        image: disk.bytes().to_vec(alloc)?,
+    let ground = Ground {
+        image: log.bytes().to_vec(alloc)?,
         opening: Opening {
             records: RidMap::new(alloc),
             in_doubt: Sequence::new(alloc),
         },
         opened: 0,
-    })
+    };
+    Ok((ground, volume))
 }
+
+type Manager = World<FuseDisk<MemDisk>, MemDisk>;
 
 /// What a manager leaves when it is cut off.
 #[derive(Drop)]
@@ -54,45 +58,49 @@ pub(super) struct Life {
     pub(super) durable: usize,
     /// How many more writes and syncs the fuse would have let pass.
     pub(super) calls_left: u64,
-    pub(super) device: MemDisk,
+    pub(super) log: MemDisk,
+    /// No call has written on it, so no loss of power changes it.
+    pub(super) volume: MemDisk,
 }
 
-/// Opens a manager on a copy of the ground's image, and makes the events of the start and then these. A fuse lets so many
-/// writes and syncs of these pass.
+/// Opens a manager on a copy of the ground's image and on this volume, and makes the events of the start and then these. A fuse lets so many
+/// writes and syncs of the log device pass in these.
 pub(super) fn live(
     alloc: Global,
     start: &Start,
     doings: &[Doing],
     fuse: Option<u64>,
+    volume: MemDisk,
 ) -> Result<Life, Trouble> {
-    let mut world = opened(alloc, &start.ground.image)?;
+    let mut world = opened(alloc, &start.ground.image, volume)?;
     let mut history = ShortHistory::new(alloc);
     make(alloc, &mut world, &mut history, start.before)?;
     if let Some(calls) = fuse {
-        world.set_fuse(calls);
+        world.set_log_fuse(calls);
     }
     make(alloc, &mut world, &mut history, doings)?;
     let list = copy_of_log(alloc, &world)?;
     let durable = world.durable().0 as usize;
-    let device = world.into_devices();
+    let (log, volume) = world.into_devices();
     Ok(Life {
         entries: history.into_entries(),
         list,
         durable,
-        calls_left: device.calls_left(),
-        device: device.into_inner(),
+        calls_left: log.calls_left(),
+        log: log.into_inner(),
+        volume,
     })
 }
 
-fn opened(alloc: Global, image: &[u8]) -> Result<World<FuseDisk<MemDisk>>, Trouble> {
-    let disk = MemDisk::new(alloc, image.to_vec(alloc)?)?;
-    match World::open(alloc, FuseDisk::new(disk, u64::MAX)) {
+fn opened(alloc: Global, image: &[u8], volume: MemDisk) -> Result<Manager, Trouble> {
+    let log = MemDisk::new(alloc, image.to_vec(alloc)?)?;
+    match World::open(alloc, FuseDisk::new(log, u64::MAX), volume) {
         Ok(world) => Ok(world),
         Err(_) => Err(Trouble::Wrong("no open")),
     }
 }
 
-fn copy_of_log(alloc: Global, world: &World<FuseDisk<MemDisk>>) -> Result<Vec<LogRecord>, Trouble> {
+fn copy_of_log(alloc: Global, world: &Manager) -> Result<Vec<LogRecord>, Trouble> {
     let mut list = Vec::new(alloc);
     let (handed_over, waiting) = world.records();
     push_copies(alloc, &mut list, handed_over)?;
@@ -103,7 +111,7 @@ fn copy_of_log(alloc: Global, world: &World<FuseDisk<MemDisk>>) -> Result<Vec<Lo
 // Makes events and notes what each comes to.
 fn make(
     alloc: Global,
-    world: &mut World<FuseDisk<MemDisk>>,
+    world: &mut Manager,
     history: &mut ShortHistory,
     doings: &[Doing],
 ) -> Result<(), Trouble> {

@@ -24,7 +24,7 @@ returns-in_default-clause-moves g c =
     let old = c.args.self.now in
     let running = sym c.has_failed.ensures ∙ c.if-has_failed.false in
     let unchanged = c.open_staged.ensures.nothing (c.in-Ok.is ∙ ap (λ n. Ok n) c.in_default.is) in
-    let same = ap (λ (l : LogDev g.row.D.Denot g.D.Disk). state_of (records_of_log l) old.core) unchanged in
+    let same = ap (λ (l : LogDev g.row.L.Denot g.L.Disk). state_of (records_of_log l) old.core) unchanged in
     nothing_done old _ ForceOpen _ refl (running, same) unchanged same
 
 pub returns-in-Err-clause-moves : goal.returns-in-Err-clause-moves
@@ -37,7 +37,7 @@ returns-in-Err-clause-moves g c =
       | inl failed ↦
           let last = failed.1 ∙ ap with_failure same in
           opening_gate old new ForceOpen _ c.refuse.ensures.geometry (inr (running, failed.0, last)) running (some_stands old.log.staged c.in-Err.ensures.waited) (ap (λ (s : State). s.log) last)
-          (λ front group s. subst (λ (l : LogDev g.row.D.Denot g.D.Disk). LeavesOnly (g.D.Disk.history old.log.device) (g.D.Disk.history l.device) (GivesWithOrWithout front (stable old.log) group)) (sym c.refuse.ensures.log) (c.open_staged.ensures.any_moment front group s))
+          (λ front group s. subst (λ (l : LogDev g.row.L.Denot g.L.Disk). LeavesOnly (g.L.Disk.history old.log.device) (g.L.Disk.history l.device) (GivesWithOrWithout front (stable old.log) group)) (sym c.refuse.ensures.log) (c.open_staged.ensures.any_moment front group s))
           (λ front group s. inl (ap (λ (s : State). s.durable) last, still_running (state_in old) (state_in new) last))
       | inr other ↦ absurd (other.0 c.in-Err.ensures.only_device)
     ])

@@ -42,10 +42,10 @@ returns-in-Ok-None-clause-moves g c =
     let running = sym c.has_failed.ensures ∙ c.if-has_failed.false in
     let still = c.hand_over.ensures.still in
     let unchanged = c.stage.ensures.nothing (c.in-Ok-None.is ∙ ap (λ n. Ok n) c.in-Ok-None.field-0-is) in
-    let same = ap (λ (l : LogDev g.row.D.Denot g.D.Disk). state_of (records_of_log l) c.hand_over.new.self) unchanged ∙ c.hand_over.ensures.state in
-    handed old _ ForceStage _ c.hand_over.ensures.geometry (running, same) (ap (λ (l : LogDev g.row.D.Denot g.D.Disk). l.device) unchanged ∙ still.0) same none
-    (ap (λ (l : LogDev g.row.D.Denot g.D.Disk). l.staged) unchanged ∙ still.1)
-    (λ front s. subst (λ (l : LogDev g.row.D.Denot g.D.Disk). IsSettled l front) (sym unchanged) (c.hand_over.ensures.settled front s))
+    let same = ap (λ (l : LogDev g.row.L.Denot g.L.Disk). state_of (records_of_log l) c.hand_over.new.self) unchanged ∙ c.hand_over.ensures.state in
+    handed old _ ForceStage _ c.hand_over.ensures.geometry (running, same) (ap (λ (l : LogDev g.row.L.Denot g.L.Disk). l.device) unchanged ∙ still.0) same none
+    (ap (λ (l : LogDev g.row.L.Denot g.L.Disk). l.staged) unchanged ∙ still.1)
+    (λ front s. subst (λ (l : LogDev g.row.L.Denot g.L.Disk). IsSettled l front) (sym unchanged) (c.hand_over.ensures.settled front s))
 
 pub returns-in-Ok-Some-clause-moves : goal.returns-in-Ok-Some-clause-moves
 returns-in-Ok-Some-clause-moves g c =
@@ -79,14 +79,14 @@ returns-in-Err-stage-clause-moves g c =
           let last = failed.1 ∙ ap with_failure same in
           staging old new mid ForceStage _ geometry (inr (inl (running, failed.0, last))) running none still.0 still.1 still.2
           (ap (λ (s : State). s.log) last) (ap (λ (s : State). s.durable) last) c.hand_over.ensures.settled
-          (λ front s waits. subst (λ (l : LogDev g.row.D.Denot g.D.Disk). LeavesOnly (g.D.Disk.history mid.device) (g.D.Disk.history l.device) (GivesBehind front (stable mid))) (sym c.refuse.ensures.log) (c.stage.ensures.any_moment front s waits))
+          (λ front s waits. subst (λ (l : LogDev g.row.L.Denot g.L.Disk). LeavesOnly (g.L.Disk.history mid.device) (g.L.Disk.history l.device) (GivesBehind front (stable mid))) (sym c.refuse.ensures.log) (c.stage.ensures.any_moment front s waits))
           (λ front s run. absurd (still_running (state_in old) (state_in new) last run))
       | inr other ↦
           let unchanged = c.refuse.ensures.log ∙ not_left c.in-Err-stage.ensures.refused other.0 in
           let last = other.1 ∙ same in
-          handed old new ForceStage _ geometry (inr (inr (running, not_left c.in-Err-stage.ensures.others other.0, last))) (ap (λ (l : LogDev g.row.D.Denot g.D.Disk). l.device) unchanged ∙ still.0) last none
-          (ap (λ (l : LogDev g.row.D.Denot g.D.Disk). l.staged) unchanged ∙ still.1)
-          (λ front s. subst (λ (l : LogDev g.row.D.Denot g.D.Disk). IsSettled l front) (sym unchanged) (c.hand_over.ensures.settled front s))
+          handed old new ForceStage _ geometry (inr (inr (running, not_left c.in-Err-stage.ensures.others other.0, last))) (ap (λ (l : LogDev g.row.L.Denot g.L.Disk). l.device) unchanged ∙ still.0) last none
+          (ap (λ (l : LogDev g.row.L.Denot g.L.Disk). l.staged) unchanged ∙ still.1)
+          (λ front s. subst (λ (l : LogDev g.row.L.Denot g.L.Disk). IsSettled l front) (sym unchanged) (c.hand_over.ensures.settled front s))
     ])
 
 pub returns-in-Err-stage-clause-full : goal.returns-in-Err-stage-clause-full
@@ -105,7 +105,7 @@ returns-in-Err-stage-clause-full g c refused has_room =
     let costs = ap cost_of_log list in
     let longer = cost_append (records_of_log mid) (waiting_in (tail_of c.hand_over.new.self)) in
     let long = mid.as_long in
-    omega (arith, room, costs, longer, long, ap (λ d. size (g.D.Disk.history d)) c.hand_over.ensures.still.0, bounded.kept, bounded.fits, bounded.as_long)
+    omega (arith, room, costs, longer, long, ap (λ d. size (g.L.Disk.history d)) c.hand_over.ensures.still.0, bounded.kept, bounded.fits, bounded.as_long)
 
 pub returns-in-Ok-Some-clause-staged : goal.returns-in-Ok-Some-clause-staged
 returns-in-Ok-Some-clause-staged g c n is =

@@ -16,7 +16,7 @@ returns-in-Call g c =
     let step = c.call.ensures.step (records_of_log old.log) old.numbers in
     no_force _ _ _ _ (subst IsOfSession (sym c.in-Call.is) tt) c.call.ensures.geometry (rw c.in-Call.is step)
     (λ is. call_tells_none (geometry_in old) _ c.in-Call.call _ (subst (λ s. CallStep (geometry_in old) (state_in old) c.in-Call.call s (state_of (records_of_log old.log) c.call.new.self)) is step))
-    refl (call_grows (geometry_of old.core) _ c.in-Call.call c.call.result _ served.1 step) (λ front ready. ready)
+    refl refl (call_grows (geometry_of old.core) _ c.in-Call.call c.call.result _ served.1 step) (λ front ready. ready)
 
 pub returns-in-Resume : goal.returns-in-Resume
 returns-in-Resume g c =
@@ -24,12 +24,13 @@ returns-in-Resume g c =
     let step = c.resume.ensures.step (records_of_log old.log) in
     no_force _ _ _ _ (subst IsOfSession (sym c.in-Resume.is) tt) c.resume.ensures.geometry (rw c.in-Resume.is step)
     (λ is. resume_tells_none _ _ (subst (λ s. ResumeStep (state_in old) s (state_of (records_of_log old.log) c.resume.new.self)) is step))
-    refl (resume_grows _ c.resume.result _ step) (λ front ready. ready)
+    refl refl (resume_grows _ c.resume.result _ step) (λ front ready. ready)
 
 pub returns-in-ForceOpen : goal.returns-in-ForceOpen
 returns-in-ForceOpen g c =
     rw c.in-ForceOpen.is (record {
       moves = c.force_open.ensures.moves;
+      volume = c.force_open.ensures.volume;
       still = λ is. absurd is;
       staged = λ n is. absurd (open_is_no_stage is);
       forced = λ n is done. c.force_open.ensures.forced n done;

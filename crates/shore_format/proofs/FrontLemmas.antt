@@ -1,24 +1,24 @@
 -- The front of a log device, in parts.
-use Rattle.std.proofs.Common.{◌≡◌, inl, inr, true, ◌&&◌, ◌==◌, ℕ, ◌+◌, ◌-◌, ◌^◌, ◌<◌, ◌≤◌, List, [], ◌∷◌, ◌++◌, length, take, drop, replicate, slice_index, Result, refl, sym, ◌∙◌, ap, subst, arith, append_assoc, length-append}
+use Rattle.std.proofs.Common.{◌≡◌, inl, inr, true, ◌&&◌, ◌==◌, ℕ, zero, suc, ◌+◌, ◌-◌, ◌^◌, ◌<◌, ◌≤◌, List, [], ◌∷◌, ◌++◌, length, take, drop, replicate, slice_index, Result, refl, sym, ◌∙◌, ap, subst, arith, append_assoc, length-append}
 use Rattle.std.proofs.lemmas.Bool.{cases_eq, and_parts, eqb-true}
-use Rattle.std.proofs.lemmas.List.{take_at, take_all, drop_at, drop-drop, length-replicate}
+use Rattle.std.proofs.lemmas.List.{take_at, take_all, take-take, drop_at, drop-drop, drop-take, length-replicate}
 use Rattle.shore_types.specs.declared.faults.Device.TheVariants.{Log}
 use Rattle.shore_types.specs.declared.layout.Geometry.{Geometry}
 use Rattle.shore_types.specs.Layout.{IsInLimits}
-use Rattle.shore_disk.specs.Device.{History, size, overwritten, Torn, TornFrom, Writes, Stands, LeavesOnly}
+use Rattle.shore_disk.specs.Device.{History, overwritten, Torn, TornFrom, Writes, Stands, LeavesOnly}
 use Rattle.shore_disk.proofs.Images.{overwritten-append}
 use Rattle.shore_disk.proofs.Moments.{at_end, started, joined, widened, write_leaves}
 use Rattle.shore_gate.specs.declared.gates.TheConstants.{OPEN, CLOSED}
 use Rattle.shore_gate.specs.declared.anchors.Anchor.{Anchor}
 use Rattle.shore_gate.specs.declared.anchors.Anchors.{Anchors}
 use Rattle.shore_gate.specs.declared.anchors.Slot.{Slot}
-use Rattle.shore_gate.specs.declared.anchors.Slot.TheVariants.{A}
+use Rattle.shore_gate.specs.declared.anchors.Slot.TheVariants.{A, B}
 use Rattle.shore_gate.specs.declared.labels.Label.{Label}
 use Rattle.shore_gate.specs.Label.{HoldsLabel, label_bytes}
-use Rattle.shore_gate.specs.Anchor.{Counts, MayCount, anchor_bytes, offset_of}
+use Rattle.shore_gate.specs.Anchor.{Counts, HoldsAnchor, IsOlder, MayCount, anchor_bytes, other_of, slot_bytes}
 use Rattle.shore_core.proofs.BoundLemmas.{none_in_bounds}
 use Rattle.shore_gate.proofs.WidthLemmas.{length-label_bytes, length-anchor_bytes}
-use Rattle.shore_world.specs.Fronts.{IsLogLength, log_label, first_anchor, is_first, HasFront, StandsFor, behind_label, IsShut, LeftByFormat}
+use Rattle.shore_format.specs.Fronts.{IsLogLength, log_label, first_anchor, is_first, HasFront, LogStandsFor, behind_label, IsShut, LeftByFormat}
 
 -- zeros up to a length
 pub filled : (bytes : List ℕ) (n m len : ℕ) → length bytes ≡ m → len ≡ m → m ≤ n → take n bytes ++ replicate (n - len) 0 ≡ bytes ++ replicate (n - m) 0
@@ -30,6 +30,12 @@ pub shut : (image rest : List ℕ) → image ≡ CLOSED ∷ rest → IsShut imag
 shut image rest is = (CLOSED, rest, omega arith, is)
 
 -- a write behind the gate, cut short or not, leaves it closed
+pub shut_torn : (at n : ℕ) (d c : List ℕ) → 1 ≤ at → IsShut d → Torn at n d c → IsShut c
+shut_torn zero n d c some s torn = absurd (omega arith)
+shut_torn (suc at) n d c some s (inl same) = subst IsShut (sym same) s
+shut_torn (suc at) n d c some s (inr torn) =
+    (s.0, take at s.1 ++ torn.0 ++ drop (suc at + length torn.0) (s.0 ∷ s.1), s.2, torn.2 ∙ ap (λ (l : List ℕ). overwritten l (suc at) torn.0) s.3)
+
 pub shut_label : (d c : List ℕ) → IsShut d → Torn 1 511 d c → IsShut c
 shut_label d c s (inl same) = subst IsShut (sym same) s
 shut_label d c s (inr torn) = (s.0, torn.0 ++ drop (length torn.0) s.1, s.2, torn.2 ∙ ap (λ (l : List ℕ). overwritten l 1 torn.0) s.3 ∙ overwritten-append (s.0 ∷ []) s.1 1 torn.0 refl)
@@ -87,7 +93,7 @@ module _ (L Z1 N Z2 Z3 tail : List ℕ) (l : length L ≡ 511) (z1 : length Z1 �
 
 -- the log of no record stands behind an open gate
 pub formatted : (g : Geometry) (device_bytes : ℕ) (tail : List ℕ) → g.pair < 2 ^ 64 → IsLogLength device_bytes → IsInLimits g
-    → StandsFor g device_bytes [] (OPEN ∷ (label_bytes Log (log_label g device_bytes) ++ (behind_label ++ tail)))
+    → LogStandsFor g device_bytes [] (OPEN ∷ (label_bytes Log (log_label g device_bytes) ++ (behind_label ++ tail)))
 unfolding behind_label
 formatted g device_bytes tail pair fits limits =
     let L = label_bytes Log (log_label g device_bytes) in
@@ -132,43 +138,48 @@ formatted g device_bytes tail pair fits limits =
     }
 
 pub made : (g : Geometry) (device_bytes : ℕ) (label : Label) (tail : List ℕ) → label ≡ log_label g device_bytes → label.pair < 2 ^ 64 → IsLogLength device_bytes → IsInLimits g
-    → StandsFor g device_bytes [] (OPEN ∷ (label_bytes Log label ++ (behind_label ++ tail)))
+    → LogStandsFor g device_bytes [] (OPEN ∷ (label_bytes Log label ++ (behind_label ++ tail)))
 made g device_bytes label tail is pair fits limits =
-    subst (λ (l : Label). StandsFor g device_bytes [] (OPEN ∷ (label_bytes Log l ++ (behind_label ++ tail)))) (sym is)
+    subst (λ (l : Label). LogStandsFor g device_bytes [] (OPEN ∷ (label_bytes Log l ++ (behind_label ++ tail)))) (sym is)
     (formatted g device_bytes tail (let same : label.pair ≡ g.pair = ap (λ (l : Label). l.pair) is in omega (arith, same, pair)) fits limits)
 
 -- ---- the moments of a format
-
--- before the first call
-pub untouched : (g : Geometry) (h : History) → LeavesOnly h h (LeftByFormat g h)
-untouched g h = started h (LeftByFormat g h) (λ c left. inl (c, left, inl refl))
-
--- while the gate is closed
-pub closing : (g : Geometry) (a b c : History) → LeavesOnly a b (TornFrom 0 1 a) → LeavesOnly b c IsShut → LeavesOnly a c (LeftByFormat g a)
-closing g a b c one two = joined a b c (LeftByFormat g a) (widened a b (TornFrom 0 1 a) (LeftByFormat g a) one (λ i torn. inl torn)) (widened b c IsShut (LeftByFormat g a) two (λ i s. inr (inl s)))
 
 one_byte : (bytes : List ℕ) → length bytes ≡ 1 → (b : ℕ) × (bytes ≡ b ∷ [])
 one_byte [] is = absurd (omega arith)
 one_byte (b ∷ []) is = (b, refl)
 one_byte (b ∷ d ∷ bytes) is = absurd (omega arith)
 
-any_gate : (g : Geometry) (h : History) (gate : ℕ) (rest : List ℕ) → StandsFor g (size h) [] (OPEN ∷ rest) → LeftByFormat g h (gate ∷ rest)
-any_gate g h gate rest stands = elim (cases_eq gate OPEN) [
-  | inl is_open ↦ inr (inr (subst (λ b. StandsFor g (size h) [] (b ∷ rest)) (sym is_open) stands))
-  | inr other ↦ inr (inl (gate, rest, other, refl))
-]
+module _ (Made : List ℕ → Type 0) where
+  -- before the first call
+  pub untouched : (h : History) → LeavesOnly h h (LeftByFormat Made h)
+  untouched h = started h (LeftByFormat Made h) (λ c left. inl (c, left, inl refl))
 
-gate_torn : (g : Geometry) (h : History) (rest c : List ℕ) → StandsFor g (size h) [] (OPEN ∷ rest) → Torn 0 1 (CLOSED ∷ rest) c → LeftByFormat g h c
-gate_torn g h rest c stands (inl same) = subst (LeftByFormat g h) (sym same) (any_gate g h CLOSED rest stands)
-gate_torn g h rest c stands (inr torn) =
-    let b = one_byte torn.0 torn.1 in
-    let is : c ≡ b.0 ∷ rest = torn.2 ∙ ap (λ (l : List ℕ). overwritten (CLOSED ∷ rest) 0 l) b.1 in
-    subst (LeftByFormat g h) (sym is) (any_gate g h b.0 rest stands)
+  -- as the gate is closed
+  pub gate_closing : (a b : History) → LeavesOnly a b (TornFrom 0 1 a) → LeavesOnly a b (LeftByFormat Made a)
+  gate_closing a b one = widened a b (TornFrom 0 1 a) (LeftByFormat Made a) one (λ i torn. inl torn)
 
--- and as it is opened
-pub opening : (g : Geometry) (a b c : History) (rest : List ℕ) → LeavesOnly a b (LeftByFormat g a) → Stands b (CLOSED ∷ rest) → StandsFor g (size a) [] (OPEN ∷ rest) → LeavesOnly b c (TornFrom 0 1 b) → LeavesOnly a c (LeftByFormat g a)
-opening g a b c rest one stands made two =
-    joined a b c (LeftByFormat g a) one (widened b c (TornFrom 0 1 b) (LeftByFormat g a) two (λ i torn. gate_torn g a rest i made (subst (λ d. Torn 0 1 d i) (stands.only torn.0 torn.1) torn.2)))
+  -- while it is closed
+  pub closing : (a b c : History) → LeavesOnly a b (TornFrom 0 1 a) → LeavesOnly b c IsShut → LeavesOnly a c (LeftByFormat Made a)
+  closing a b c one two = joined a b c (LeftByFormat Made a) (gate_closing a b one) (widened b c IsShut (LeftByFormat Made a) two (λ i s. inr (inl s)))
+
+  any_gate : (h : History) (gate : ℕ) (rest : List ℕ) → Made (OPEN ∷ rest) → LeftByFormat Made h (gate ∷ rest)
+  any_gate h gate rest made = elim (cases_eq gate OPEN) [
+    | inl is_open ↦ inr (inr (subst (λ b. Made (b ∷ rest)) (sym is_open) made))
+    | inr other ↦ inr (inl (gate, rest, other, refl))
+  ]
+
+  gate_torn : (h : History) (rest c : List ℕ) → Made (OPEN ∷ rest) → Torn 0 1 (CLOSED ∷ rest) c → LeftByFormat Made h c
+  gate_torn h rest c made (inl same) = subst (LeftByFormat Made h) (sym same) (any_gate h CLOSED rest made)
+  gate_torn h rest c made (inr torn) =
+      let b = one_byte torn.0 torn.1 in
+      let is : c ≡ b.0 ∷ rest = torn.2 ∙ ap (λ (l : List ℕ). overwritten (CLOSED ∷ rest) 0 l) b.1 in
+      subst (LeftByFormat Made h) (sym is) (any_gate h b.0 rest made)
+
+  -- and as it is opened
+  pub opening : (a b c : History) (rest : List ℕ) → LeavesOnly a b (LeftByFormat Made a) → Stands b (CLOSED ∷ rest) → Made (OPEN ∷ rest) → LeavesOnly b c (TornFrom 0 1 b) → LeavesOnly a c (LeftByFormat Made a)
+  opening a b c rest one stands made two =
+      joined a b c (LeftByFormat Made a) one (widened b c (TornFrom 0 1 b) (LeftByFormat Made a) two (λ i torn. gate_torn a rest i made (subst (λ d. Torn 0 1 d i) (stands.only torn.0 torn.1) torn.2)))
 
 -- ---- what is read of a front
 
@@ -183,21 +194,31 @@ the_first anchor limits is =
     let made : (a b c d : ℕ) → Anchor = λ a b c d. record { sequence = a; checkpoint = b; tail = c; tail_place = d } in
     ap (λ n. made n anchor.checkpoint anchor.tail anchor.tail_place) sequence ∙ ap (λ n. made 1 n anchor.tail anchor.tail_place) checkpoint ∙ ap (λ n. made 1 0 n anchor.tail_place) tail ∙ ap (λ n. made 1 0 1 n) offset
 
-abbrev geometry_of : Label → Geometry
-geometry_of label = record { pair = label.pair; max_locks = label.max_locks; stores = label.stores }
-
-pub found_front : (device_bytes : ℕ) (image : List ℕ) (label : Label) (slot : Slot) (anchor : Anchor) (offset : ℕ) → HoldsLabel Log device_bytes (take 512 image) label → Counts image slot anchor → is_first anchor ≡ true → offset ≡ offset_of slot
-    → (x : HasFront (geometry_of label) device_bytes image) × (offset ≡ offset_of x.slot)
-found_front device_bytes bytes_read label slot anchor offset holds counts is at =
-    let made : ℕ → Label = λ n. record { pair = label.pair; length = n; max_locks = label.max_locks; stores = label.stores } in
-    let same : label ≡ log_label (geometry_of label) device_bytes = ap made holds.limits.of_device in (
-      record {
-        label = subst (HoldsLabel Log device_bytes (take 512 bytes_read)) same holds;
-        slot = slot;
-        anchor = subst (Counts bytes_read slot) (the_first anchor counts.limits is) counts;
-      },
-      at,
-    )
+pub counts_first : (image : List ℕ) (slot : Slot) (anchor : Anchor) → Counts image slot anchor → is_first anchor ≡ true → Counts image slot first_anchor
+counts_first image slot anchor counts is = subst (Counts image slot) (the_first anchor counts.limits is) counts
 
 pub first_found : (a : Anchors) (slot : Slot) → a ≡ record { slot = slot; anchor = first_anchor } → is_first a.anchor ≡ true
 first_found a slot is = ap (λ (x : Anchors). is_first x.anchor) is
+
+-- ---- the front of another image
+
+slot_within : (p m : ℕ) (image : List ℕ) → 40 ≤ m → take 40 (drop p image) ≡ take 40 (drop p (take (p + m) image))
+slot_within p m image le = sym (ap (take 40) (drop-take p m image) ∙ take-take 40 m (drop p image) le)
+
+same_slot : (slot : Slot) (image c : List ℕ) → take 4096 c ≡ take 4096 image → slot_bytes slot c ≡ slot_bytes slot image
+same_slot A image c same = slot_within 1024 3072 c (omega arith) ∙ ap (λ (l : List ℕ). take 40 (drop 1024 l)) same ∙ sym (slot_within 1024 3072 image (omega arith))
+same_slot B image c same = slot_within 2048 2048 c (omega arith) ∙ ap (λ (l : List ℕ). take 40 (drop 2048 l)) same ∙ sym (slot_within 2048 2048 image (omega arith))
+
+-- the front is what the first 4,096 bytes say
+pub front_stays : (g : Geometry) (device_bytes : ℕ) (image c : List ℕ) → HasFront g device_bytes image → take 4096 c ≡ take 4096 image → HasFront g device_bytes c
+front_stays g device_bytes image c has same =
+    let label : take 512 c ≡ take 512 image = sym (take-take 512 4096 c (omega arith)) ∙ ap (take 512) same ∙ take-take 512 4096 image (omega arith) in
+    record {
+      label = subst (λ (l : List ℕ). HoldsLabel Log device_bytes l (log_label g device_bytes)) (sym label) has.label;
+      slot = has.slot;
+      anchor = record {
+        here = subst (λ (l : List ℕ). HoldsAnchor l first_anchor) (sym (same_slot has.slot image c same)) has.anchor.here;
+        older = subst (λ (l : List ℕ). IsOlder l first_anchor.sequence) (sym (same_slot (other_of has.slot) image c same)) has.anchor.older;
+        limits = has.anchor.limits;
+      };
+    }

@@ -5,9 +5,9 @@ use Rattle.shore_gate.proofs.WidthLemmas.{length-label_bytes}
 use Rattle.shore_types.specs.declared.faults.Device.TheVariants.{Log}
 use Rattle.shore_gate.specs.Label.{label_bytes}
 use Rattle.shore_gate.specs.declared.gates.TheConstants.{CLOSED}
-use Rattle.shore_world.specs.Fronts.{IsShut, behind_label}
-use Rattle.shore_world.proofs.FrontLemmas.{shut, label_leaves, rest_leaves, written_front}
-use Rattle.shore_world.proofs.front.write_front.Goals as goal
+use Rattle.shore_format.specs.Fronts.{IsShut, behind_label}
+use Rattle.shore_format.proofs.FrontLemmas.{shut, label_leaves, rest_leaves, written_front}
+use Rattle.shore_format.proofs.log.write_log.Goals as goal
 
 pub returns-in_err-rest-clause-any_moment : goal.returns-in_err-rest-clause-any_moment
 returns-in_err-rest-clause-any_moment g c honest rest stands = started _ IsShut (λ i left. shut i rest (stands.only i left))

@@ -1,0 +1,5 @@
+pub mod Causes
+pub mod Faults
+pub mod Fronts
+pub mod Pairs
+pub mod Volumes

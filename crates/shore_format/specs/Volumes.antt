@@ -1,0 +1,46 @@
+-- A volume as a format leaves it: its label, a shut double-write area, and every page empty.
+use Rattle.std.specs.Prelude.{◌≡◌, ℕ, ◌+◌, ◌-◌, ◌*◌, List, [], ◌∷◌, length, take}
+use Rattle.shore_types.specs.declared.faults.Device.TheVariants.{Volume}
+use Rattle.shore_types.specs.declared.ids.PageId.{PageId}
+use Rattle.shore_types.specs.declared.layout.Geometry.{Geometry}
+use Rattle.shore_types.specs.declared.layout.TheConstants.{PAGE_BYTES}
+use Rattle.shore_types.specs.Layout.{HasPage}
+use Rattle.shore_gate.specs.declared.labels.Label.{Label}
+use Rattle.shore_gate.specs.declared.gates.TheConstants.{CLOSED}
+use Rattle.shore_gate.specs.Label.{HoldsLabel, label_bytes}
+use Rattle.shore_page.specs.Text.{IsPageText}
+use Rattle.shore_dwrite.specs.declared.places.TheConstants.{GATE_AT, PAGES_AT}
+use Rattle.shore_dwrite.specs.Shown.{IsShut}
+use Rattle.shore_dwrite.specs.Volumes.{page_at, page_count, page_number, part}
+
+-- how long a volume of this geometry is
+abbrev pub volume_bytes : Geometry → ℕ
+volume_bytes g = PAGES_AT + PAGE_BYTES * page_count g
+
+-- its label
+abbrev pub volume_label : Geometry → Label
+volume_label g = record { pair = g.pair; length = volume_bytes g; max_locks = g.max_locks; stores = g.stores }
+
+-- each page has number 0 and no slot
+abbrev pub AreEmpty : Geometry → (ℕ → List ℕ) → Type 0
+AreEmpty g pages = (id : PageId) → HasPage g id → IsPageText (pages (page_number g id)) id 0 []
+
+-- .. and the bytes before the pages are those of another image
+pub record HasEmptyPages (g : Geometry) (before image : List ℕ) : Type 0 where
+  pub long : length image ≡ length before
+  pub front : take PAGES_AT image ≡ take PAGES_AT before
+  pub empty : AreEmpty g (page_at image)
+
+-- An empty volume behind the gate of its label.
+pub record IsEmptyBehind (g : Geometry) (behind : List ℕ) : Type 0 where
+  pub long : 1 + length behind ≡ volume_bytes g
+  pub label : take 511 behind ≡ label_bytes Volume (volume_label g)
+  pub shut : part (GATE_AT - 1) 1 behind ≡ CLOSED ∷ []
+  pub empty : (gate : ℕ) → AreEmpty g (page_at (gate ∷ behind))
+
+-- The volume's part of Stands for, as long as no page is written back: the label of a device of this length is in order, the
+-- double-write area is shut, and every page is as the format left it.
+pub record VolumeStandsFor (g : Geometry) (device_bytes : ℕ) (image : List ℕ) : Type 0 where
+  pub label : HoldsLabel Volume device_bytes (take 512 image) (volume_label g)
+  pub shut : IsShut image
+  pub empty : AreEmpty g (page_at image)

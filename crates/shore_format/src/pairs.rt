@@ -1,0 +1,83 @@
+//! Formatting a pair of devices.
+ghost use Rattle.std.specs.Prelude.{◌≡◌, ◌≢◌, ℕ, List, [], IsTrue, IfErr, OnOk, Err};
+ghost use Rattle.shore_disk.specs.Device.{size, may_leave, LeavesOnly};
+ghost use Rattle.shore_types.specs.Layout.{IsInLimits, LocksInLimits, StoresInLimits};
+ghost use Rattle.shore_gate.specs.Checks.{IsFromOutside};
+ghost use Rattle.shore_format.specs.Causes.{HasCauseOfPair};
+ghost use Rattle.shore_format.specs.Faults.{bad_setting};
+ghost use Rattle.shore_format.specs.Fronts.{IsLogLength, LeftByFormat, LogStandsFor};
+ghost use Rattle.shore_format.specs.Pairs.{StandsFor};
+ghost use Rattle.shore_format.specs.Volumes.{VolumeStandsFor, volume_bytes};
+
+use crate::log::{is_log_length, log_label, write_log};
+use crate::volume::{volume_bytes, volume_label, write_volume};
+use shore_disk::Disk;
+use shore_gate::{close_gate, open_gate};
+use shore_types::{ConfigPlace, Fault, Geometry, Setting};
+use std::alloc::Global;
+
+// The gate of a label.
+const GATE: u64 = 0;
+
+/// Formats a pair of devices: closes the gates of both labels; writes the log's front, and an empty volume; opens the volume's gate, and
+/// the log's last. Refused by `BadConfig` with the setting if the log device is too short or too long, if the geometry is outside the
+/// limits, or if the volume has another length than the geometry asks; nothing is written then. After `Device` or `Memory` the log's
+/// gate is closed, or the device that failed has the last word on it.
+pub fn format<L: Disk, V: Disk>(
+    alloc: Global,
+    log: &mut L,
+    volume: &mut V,
+    geometry: &Geometry,
+) -> Result<(), Fault>
+    // Devices of other lengths, and a geometry outside the limits, are refused with the setting.
+    ensures log_length { ¬ IsLogLength (size (L.history log.old)) → result ≡ Err (bad_setting Setting.LogBytes) }
+    ensures stores { IsLogLength (size (L.history log.old)) → ¬ StoresInLimits geometry.now → result ≡ Err (bad_setting Setting.Stores) }
+    ensures locks { IsLogLength (size (L.history log.old)) → StoresInLimits geometry.now → ¬ LocksInLimits geometry.now
+        → result ≡ Err (bad_setting Setting.MaxLocks) }
+    ensures volume_length { IsLogLength (size (L.history log.old)) → IsInLimits geometry.now → size (V.history volume.old) ≢ volume_bytes geometry.now
+        → result ≡ Err (bad_setting Setting.VolumeBytes) }
+    ensures others { IsLogLength (size (L.history log.old)) → IsInLimits geometry.now → size (V.history volume.old) ≡ volume_bytes geometry.now
+        → IfErr result IsFromOutside }
+    ensures untouched { (setting : Setting) → result ≡ Err (bad_setting setting) → (log.new ≡ log.old) × (volume.new ≡ volume.old) }
+
+    // Each pair of images that a crash now may leave stands for the empty list.
+    ensures stands { IsTrue (L.is_honest log.old) → IsTrue (V.is_honest volume.old)
+        → OnOk result ((log_image volume_image : List ℕ) → may_leave (L.history log.new) log_image → may_leave (V.history volume.new) volume_image
+        → StandsFor geometry.now (size (L.history log.old)) (size (V.history volume.old)) [] log_image volume_image) }
+
+    // A crash at any moment of the call leaves of each device what it could have left before, a closed gate, or what it has in the end.
+    ensures any_log { IsTrue (L.is_honest log.old)
+        → LeavesOnly (L.history log.old) (L.history log.new) (LeftByFormat (LogStandsFor geometry.now (size (L.history log.old)) []) (L.history log.old)) }
+    ensures any_volume { IsTrue (V.is_honest volume.old)
+        → LeavesOnly (V.history volume.old) (V.history volume.new) (LeftByFormat (VolumeStandsFor geometry.now (size (V.history volume.old))) (V.history volume.old)) }
+
+    ensures honest { (L.is_honest log.new ≡ L.is_honest log.old) × (V.is_honest volume.new ≡ V.is_honest volume.old) }
+    ensures size { (size (L.history log.new) ≡ size (L.history log.old)) × (size (V.history volume.new) ≡ size (V.history volume.old)) }
+    ensures cause { HasCauseOfPair result (L.faults log.old) (L.faults log.new) (V.faults volume.old) (V.faults volume.new) }
+{
+    let length = log.len();
+    if !is_log_length(length) {
+        return Err(bad(Setting::LogBytes));
+    }
+    if let Some(setting) = geometry.outside_limits() {
+        return Err(bad(setting));
+    }
+    if volume.len() != volume_bytes(geometry) {
+        return Err(bad(Setting::VolumeBytes));
+    }
+    let of_log = log_label(alloc, geometry, length)?;
+    let of_volume = volume_label(alloc, geometry)?;
+    close_gate(log, GATE)?;
+    close_gate(volume, GATE)?;
+    write_log(alloc, log, &of_log)?;
+    write_volume(alloc, volume, geometry, &of_volume)?;
+    open_gate(volume, GATE)?;
+    open_gate(log, GATE)?;
+    Ok(())
+}
+
+fn bad(setting: Setting) -> Fault
+    ensures { result ≡ bad_setting setting }
+{
+    Fault::BadConfig(ConfigPlace::Setting(setting))
+}
