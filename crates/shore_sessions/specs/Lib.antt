@@ -1,0 +1,9 @@
+pub mod GranuleLocks
+pub mod LogTells
+pub mod Logged
+pub mod RepliesInPlace
+pub mod SessionSteps
+pub mod Sessions
+pub mod Soundness
+pub mod UndoLists
+pub mod Views
