@@ -5,6 +5,7 @@ pub mod Exchanges
 pub mod GranuleLocks
 pub mod Ids
 pub mod InPlace
+pub mod Isolation
 pub mod Lists
 pub mod LogSteps
 pub mod LogTells

@@ -1,6 +1,6 @@
 //! Laws over the definitions, each stated as the contract of an empty function.
-ghost use Rattle.std.specs.Prelude.{◌≡◌, ◌≢◌, ◌<◌, ◌∷◌, ◌++◌, ℕ, List, [], Result, drop, length, map};
-ghost use Rattle.std.specs.FinMap.{insert};
+ghost use Rattle.std.specs.Prelude.{◌≡◌, ◌≢◌, ◌<◌, ◌∷◌, ◌++◌, ℕ, List, [], IsSome, Result, length, map};
+ghost use Rattle.std.specs.FinMap.{get, insert};
 ghost use Rattle.std.specs.List.{AllByRecursion};
 ghost use Rattle.shore_types.specs.Images.{Image};
 ghost use Rattle.shore_types.specs.declared.faults.Fault.{Fault};
@@ -22,8 +22,8 @@ ghost use Rattle.shore_sessions.specs.GranuleLocks.{HasLocksFor};
 ghost use Rattle.shore_sessions.specs.LogTells.{HasLogged, IsLogAfter, MatchesUndo, records_committed};
 ghost use Rattle.shore_sessions.specs.Logged.{and_compensations, and_record, log_after, next_to_undo};
 ghost use Rattle.shore_sessions.specs.RepliesInPlace.{MayReplyInPlace, Permit};
-ghost use Rattle.shore_sessions.specs.SessionSteps.{SessionEvent, StepsTo, entries_by, exchange};
-ghost use Rattle.shore_sessions.specs.Sessions.{Sessions, txns_of};
+ghost use Rattle.shore_sessions.specs.SessionSteps.{AnswerAbort, GiveReply, SessionEvent, StepsTo, entries_by, exchange};
+ghost use Rattle.shore_sessions.specs.Sessions.{SessionTxn, Sessions, txns_of};
 ghost use Rattle.shore_sessions.specs.Soundness.{IsJustOpened, IsSoundAfter, RunsTo, SessionsAgree, history_from, serial_after, written_by};
 ghost use Rattle.shore_sessions.specs.UndoLists.{CanUndo, UndoList, in_place_after, undo_after};
 ghost use Rattle.shore_sessions.specs.Views.{IsAmong, Sees, Stand, StayRight};
@@ -70,6 +70,17 @@ pub fn sessions_make_sound_histories()
 pub fn records_in_place_are_overlaid()
     ensures { (o : Records) (es : List Entry) (s : Sessions) → IsSoundAfter o es s →
         s.records ≡ overlays (serial_after o es) (map (written_by es) (txns_of s.active)) }
+{}
+
+/// What a transaction under way has written no other may read, or write over; and what one may read, no reply to another and no rollback
+/// of another changes in place.
+pub fn transactions_are_isolated()
+    ensures written { (o : Records) (es : List Entry) (s : Sessions) (t u : ℕ) (id : Rid) → IsSoundAfter o es s →
+        t ≢ u → IsAmong u (txns_of s.active) → IsSome (get (written_by es u) id) → MayRead s.held t id → ⊥ }
+    ensures reply { (o : Records) (es : List Entry) (old new : Sessions) (a : SessionTxn) (c : Call) (reply : Result Answer Fault) (t : ℕ) (id : Rid) →
+        IsSoundAfter o es old → StepsTo old (GiveReply a c reply) new → t ≢ a.txn → MayRead old.held t id → get new.records id ≡ get old.records id }
+    ensures rollback { (o : Records) (es : List Entry) (old new : Sessions) (a : SessionTxn) (t : ℕ) (id : Rid) →
+        IsSoundAfter o es old → StepsTo old (AnswerAbort a) new → t ≢ a.txn → MayRead old.held t id → get new.records id ≡ get old.records id }
 {}
 
 /// The granules and modes that calls are answered under permit the answers.
