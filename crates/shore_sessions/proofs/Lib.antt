@@ -1,5 +1,6 @@
 pub mod BeginSteps
 pub mod EndSteps
+pub mod EndedTxns
 pub mod Entries
 pub mod Exchanges
 pub mod GranuleLocks
@@ -23,3 +24,4 @@ pub mod Turns
 pub mod UnansweredChanges
 pub mod UndoLists
 pub mod Views
+pub mod WorkedRun

@@ -1,5 +1,5 @@
 -- Prefixes and rests of lists, and what holds of each element.
-use Rattle.std.proofs.Common.{◌≡◌, ◌++◌, ◌≤◌, ◌+◌, ℕ, zero, suc, List, [], ◌∷◌, Some, refl, ap, subst, length, drop, take, arith}
+use Rattle.std.proofs.Common.{◌≡◌, ◌++◌, ◌<◌, ◌≤◌, ◌+◌, ℕ, zero, suc, List, [], ◌∷◌, Some, refl, ap, subst, length, drop, take, arith}
 use Rattle.std.specs.Prelude.{slice_get}
 use Rattle.std.specs.List.{AllByRecursion}
 
@@ -64,3 +64,21 @@ drop-between zero (suc m) (x ∷ xs) le within = ap (λ ys. x ∷ ys) (drop-betw
 drop-between (suc n) zero xs le within = absurd (omega arith)
 drop-between (suc n) (suc m) [] le within = absurd (omega arith)
 drop-between (suc n) (suc m) (x ∷ xs) le within = drop-between n m xs (omega arith) (omega arith)
+
+-- a list that grows has the prefixes that it had, and itself
+pub take-push : {A : Type 0} (n : ℕ) (xs : List A) (x : A) → n ≤ length xs → take n (xs ++ x ∷ []) ≡ take n xs
+take-push zero xs x within = refl
+take-push (suc n) [] x within = absurd (omega arith)
+take-push (suc n) (y ∷ xs) x within = ap (λ ys. y ∷ ys) (take-push n xs x (omega arith))
+
+abbrev empty_list : (A : Type 0) → List A
+empty_list A = []
+
+take-empty : {A : Type 0} (n : ℕ) → take n (empty_list A) ≡ empty_list A
+take-empty zero = refl
+take-empty (suc n) = refl
+
+pub take-beyond : {A : Type 0} (n : ℕ) (xs : List A) (x : A) → length xs < n → take n (xs ++ x ∷ []) ≡ xs ++ x ∷ []
+take-beyond zero xs x less = absurd (omega arith)
+take-beyond (suc n) [] x less = ap (λ ys. x ∷ ys) (take-empty n)
+take-beyond (suc n) (y ∷ xs) x less = ap (λ ys. y ∷ ys) (take-beyond n xs x (omega arith))

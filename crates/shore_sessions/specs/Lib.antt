@@ -7,3 +7,4 @@ pub mod Sessions
 pub mod Soundness
 pub mod UndoLists
 pub mod Views
+pub mod WorkedRun

@@ -1,5 +1,5 @@
 //! Laws over the definitions, each stated as the contract of an empty function.
-ghost use Rattle.std.specs.Prelude.{◌≡◌, ◌≢◌, ◌<◌, ◌∷◌, ◌++◌, ℕ, List, [], IsSome, Result, length, map};
+ghost use Rattle.std.specs.Prelude.{◌≡◌, ◌≢◌, ◌<◌, ◌∷◌, ◌++◌, ℕ, List, [], IsSome, Some, Result, length, map};
 ghost use Rattle.std.specs.FinMap.{get, insert};
 ghost use Rattle.std.specs.List.{AllByRecursion};
 ghost use Rattle.shore_types.specs.Images.{Image};
@@ -26,6 +26,7 @@ ghost use Rattle.shore_sessions.specs.SessionSteps.{AnswerAbort, GiveReply, Sess
 ghost use Rattle.shore_sessions.specs.Sessions.{SessionTxn, Sessions, txns_of};
 ghost use Rattle.shore_sessions.specs.Soundness.{IsJustOpened, IsSoundAfter, RunsTo, SessionsAgree, history_from, serial_after, written_by};
 ghost use Rattle.shore_sessions.specs.UndoLists.{CanUndo, UndoList, in_place_after, undo_after};
+ghost use Rattle.shore_sessions.specs.WorkedRun.{interleaved, just_opened};
 ghost use Rattle.shore_sessions.specs.Views.{IsAmong, Sees, Stand, StayRight};
 
 /// Locks may be granted at any time, and those of transactions that are not under way may go.
@@ -119,4 +120,11 @@ pub fn unanswered_changes_match_undo()
         MatchesUndo log t (kept ++ es) → MatchesUndo (and_compensations t log es) t kept }
     ensures answers { (t : ℕ) (log : List LogRecord) (kept es : List (Rid × Image)) (e : Rid × Image) → MatchesUndo log t (kept ++ e ∷ es)
         → Answers (unanswered t (and_compensations t log es)) e.0 e.1 (next_to_undo t (and_compensations t log es)) }
+{}
+
+/// The events of two sessions may come between each other: a worked run with all kinds of events, in which one commits while the other
+/// reads, and what it has committed is in place.
+pub fn two_sessions_interleave()
+    ensures { (o : Records) (a b : Rid) (x y z : List ℕ) → a ≢ b → get o a ≡ Some x → get o b ≡ Some y →
+        (last : Sessions) × (made : List Entry) × RunsTo (just_opened o) (interleaved o a b x z) [] last made × (get last.records b ≡ Some z) }
 {}
