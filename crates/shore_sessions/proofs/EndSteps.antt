@@ -21,9 +21,9 @@ use Rattle.shore_sessions.proofs.Turns.{AreKept, KeepsTurn, kept_by_decided, ser
 use Rattle.shore_sessions.proofs.UndoLists.{undo_kept_by_others, undone_agrees, undone_changes}
 use Rattle.shore_sessions.proofs.Views.{one_ends, overlay_none, some_or_none, writer_excludes}
 use Rattle.shore_sessions.specs.SessionSteps.{exchange}
-use Rattle.shore_sessions.specs.Sessions.{SessionTxn, Sessions, abort_answered, commit_appended, txns_of, without}
+use Rattle.shore_sessions.specs.Sessions.{SessionTxn, Sessions, abort_answered, commit_appended, txns_of, without_txn}
 use Rattle.shore_sessions.specs.Soundness.{IsSoundAfter, decided_txn, serial_after, written_by}
-use Rattle.shore_sessions.specs.UndoLists.{CanUndo, undone}
+use Rattle.shore_sessions.specs.UndoLists.{CanUndo, rolled_back}
 use Rattle.shore_sessions.specs.Views.{IsAmong, Sees, Stand, StayRight}
 use Rattle.shore_sessions.proofs.ReplySteps.{others_called, others_see, reply_decided, reply_now, reply_sound, reply_uncalled, reply_undecided, txn_in, with_reply}
 
@@ -38,7 +38,7 @@ module _ {o : Records} {es : List Entry} {s : Sessions} (k : IsSoundAfter o es s
     aborted = exchange call.Abort (Ok Aborted)
 
     abbrev pub R' : Records
-    R' = undone s.records a.undo.images
+    R' = rolled_back s.records a.undo.images
 
     pub abort_can : CanUndo s.held now s.records a.txn a.undo (after start (calls_of a.txn es))
     abort_can = k.undoes a mem
@@ -49,8 +49,8 @@ module _ {o : Records} {es : List Entry} {s : Sessions} (k : IsSoundAfter o es s
         record {
           sound = reply_sound k a mem aborted;
           stand =
-              subst (λ now. Stand s.held now R' (txns_of (without a.txn s.active)) (written_by more)) (sym (reply_now k a mem aborted))
-              (one_ends k.stand a.txn (txn_in k a mem aborted) now R' (txns_of (without a.txn s.active)) (written_by more) (λ u other. ap writes_of (others_called k a mem aborted u other))
+              subst (λ now. Stand s.held now R' (txns_of (without_txn a.txn s.active)) (written_by more)) (sym (reply_now k a mem aborted))
+              (one_ends k.stand a.txn (txn_in k a mem aborted) now R' (txns_of (without_txn a.txn s.active)) (written_by more) (λ u other. ap writes_of (others_called k a mem aborted u other))
               (λ u b. txn_without a.txn u s.active b) (λ u b other. txn_stays a.txn u s.active b other)
               (λ id. ⊎_elim (λ kept. inl (kept, refl)) (λ w. inr w) (undone_changes abort_can id)) (undone_agrees abort_can));
           replies = λ u b. let there = txn_without a.txn u s.active b in
@@ -100,8 +100,8 @@ module _ {o : Records} {es : List Entry} {s : Sessions} (k : IsSoundAfter o es s
     commit_stays_sound = record {
       sound = sound_commit o es a.txn k.sound (k.replies a.txn (txn_among a s.active mem) now (λ id r. refl));
       stand =
-          subst (λ now. Stand s.held now s.records (txns_of (without a.txn s.active)) (written_by with_commit)) (sym commit_now)
-          (one_ends k.stand a.txn (txn_among a s.active mem) next_now s.records (txns_of (without a.txn s.active)) (written_by with_commit) (λ u other. ap writes_of (commit_called u))
+          subst (λ now. Stand s.held now s.records (txns_of (without_txn a.txn s.active)) (written_by with_commit)) (sym commit_now)
+          (one_ends k.stand a.txn (txn_among a s.active mem) next_now s.records (txns_of (without_txn a.txn s.active)) (written_by with_commit) (λ u other. ap writes_of (commit_called u))
           (λ u b. txn_without a.txn u s.active b) (λ u b other. txn_stays a.txn u s.active b other) commit_changes commit_sees.view);
       replies = λ u b. let there = txn_without a.txn u s.active b in
           subst (λ now. StayRight s.held u now (calls_of u with_commit)) (sym commit_now)

@@ -17,7 +17,7 @@ use Rattle.shore_sessions.proofs.Views.{writer_excludes}
 use Rattle.shore_sessions.specs.SessionSteps.{AnswerAbort, GiveReply, StepsTo}
 use Rattle.shore_sessions.specs.Sessions.{SessionTxn, Sessions, txns_of}
 use Rattle.shore_sessions.specs.Soundness.{IsSoundAfter, written_by}
-use Rattle.shore_sessions.specs.UndoLists.{in_place_after, undone}
+use Rattle.shore_sessions.specs.UndoLists.{in_place_after, rolled_back}
 use Rattle.shore_sessions.specs.Views.{IsAmong}
 
 module _ {o : Records} {es : List Entry} {s : Sessions} (k : IsSoundAfter o es s) where
@@ -37,4 +37,4 @@ module _ {o : Records} {es : List Entry} {s : Sessions} (k : IsSoundAfter o es s
       → StepsTo s (AnswerAbort a) new → t ≢ a.txn → MayRead s.held t id → get new.records id ≡ get s.records id
   abort_is_elsewhere new a t id moves other reads =
       ap (λ (s : Sessions). get s.records id) moves.1
-      ∙ others_see k a moves.0 (aborted k a moves.0) (undone s.records a.undo.images) (undone_changes (abort_can k a moves.0)) t other id reads
+      ∙ others_see k a moves.0 (aborted k a moves.0) (rolled_back s.records a.undo.images) (undone_changes (abort_can k a moves.0)) t other id reads

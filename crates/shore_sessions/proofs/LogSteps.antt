@@ -40,9 +40,9 @@ use Rattle.shore_sessions.specs.LogTells.{records_committed, HasLogged, IsLogAft
 use Rattle.shore_sessions.specs.Logged.{and_compensations, and_record, log_after, log_after_answer, log_after_reply}
 use Rattle.shore_sessions.specs.RepliesInPlace.{MayReplyInPlace, Permit}
 use Rattle.shore_sessions.specs.SessionSteps.{AnswerAbort, AnswerCommit, AppendCommit, BeginTxn, GiveReply, KeepsLocks, MoveLocks, RefuseCall, SessionEvent, StepsTo, entries_by, exchange}
-use Rattle.shore_sessions.specs.Sessions.{SessionTxn, Sessions, abort_answered, commit_appended, locks_moved, reply_given, txn_begun, txns_of, without}
+use Rattle.shore_sessions.specs.Sessions.{SessionTxn, Sessions, abort_answered, commit_appended, locks_moved, reply_given, txn_begun, txns_of, without_txn}
 use Rattle.shore_sessions.specs.Soundness.{IsJustOpened, IsSoundAfter, progress_in, serial_after}
-use Rattle.shore_sessions.specs.UndoLists.{CanUndo, in_place_after, in_place_after_answer, mark_of, undo_after, undone}
+use Rattle.shore_sessions.specs.UndoLists.{CanUndo, in_place_after, in_place_after_answer, mark_of, undo_after, rolled_back}
 use Rattle.shore_sessions.specs.Views.{IsAmong}
 
 -- ---- a transaction comes further
@@ -226,7 +226,7 @@ module _ {o : Records} {es : List Entry} {s : Sessions} {log : List LogRecord} (
     abbrev aborts : List LogRecord
     aborts = and_compensations a.txn log a.undo.images
 
-    abort_undone : TellsSerial aborts s.held (serial_after o es) (undone s.records a.undo.images) (txns_of s.active) (progress_in es)
+    abort_undone : TellsSerial aborts s.held (serial_after o es) (rolled_back s.records a.undo.images) (txns_of s.active) (progress_in es)
     abort_undone = compensations_tell s.held disjoint (serial_after o es) (txns_of s.active) (progress_in es) a.txn t_in s.records log a.undo.images (abort_can k a mem).changed l.tells_serial
 
     pub abort_keeps_log : IsLogAfter o (es ++ entries_by s (AnswerAbort a)) (abort_answered s a) (log_after log s (AnswerAbort a))
@@ -238,8 +238,8 @@ module _ {o : Records} {es : List Entry} {s : Sessions} {log : List LogRecord} (
             tells = tells_same aborts r refl (abort_undone.uncommitted a.txn t_in) ∙ abort_undone.tells ∙ sym (reply_now k a mem (exchange call.Abort (Ok Aborted)));
             uncommitted = λ u b. subst (AllByRecursion (λ v. v ≢ u)) (sym (committed_same aborts r refl)) (abort_undone.uncommitted u (txn_without a.txn u s.active b).0);
             each = λ u b. let there = txn_without a.txn u s.active b in
-                subst (λ p. HasLogged s.held (undone s.records a.undo.images) u p (logged_writes (aborts ++ r ∷ []) u)) (sym (ap (after start) (others_called k a mem (exchange call.Abort (Ok Aborted)) u there.1)))
-                (subst (HasLogged s.held (undone s.records a.undo.images) u (progress_in es u)) (sym (logged_imageless aborts r refl u)) (abort_undone.each u there.0));
+                subst (λ p. HasLogged s.held (rolled_back s.records a.undo.images) u p (logged_writes (aborts ++ r ∷ []) u)) (sym (ap (after start) (others_called k a mem (exchange call.Abort (Ok Aborted)) u there.1)))
+                (subst (HasLogged s.held (rolled_back s.records a.undo.images) u (progress_in es u)) (sym (logged_imageless aborts r refl u)) (abort_undone.each u there.0));
           };
           below = grown a.txn aborts End less (undo_grown a.txn log a.undo.images less l.below);
         }
@@ -294,7 +294,7 @@ event_keeps_log o es old new (BeginTxn session) log k l moves = subst (λ s. IsL
 event_keeps_log o es old new (GiveReply a c reply) log k l moves = subst (λ s. IsLogAfter o (es ++ entries_by old (GiveReply a c reply)) s (log_after_reply log old.records a c reply)) (sym moves.3) (reply_keeps_log k l a moves.0 c reply moves.2)
 event_keeps_log o es old new (AppendCommit a) log k l moves = subst (λ s. IsLogAfter o (es ++ entries_by old (AppendCommit a)) s (log_after log old (AppendCommit a))) (sym moves.1) (commit_keeps_log k l a moves.0)
 event_keeps_log o es old new (AnswerAbort a) log k l moves = subst (λ s. IsLogAfter o (es ++ entries_by old (AnswerAbort a)) s (log_after log old (AnswerAbort a))) (sym moves.1) (abort_keeps_log k l a moves.0)
-event_keeps_log o es old new (AnswerCommit a) log k l moves = subst (λ s. IsLogAfter o (es ++ entries_by old (AnswerCommit a)) s log) (sym moves.1) (quiet_keeps_log k l a.session a.txn (exchange call.Commit (Ok Committed)) (without a.txn old.committing) commit_is_quiet)
+event_keeps_log o es old new (AnswerCommit a) log k l moves = subst (λ s. IsLogAfter o (es ++ entries_by old (AnswerCommit a)) s log) (sym moves.1) (quiet_keeps_log k l a.session a.txn (exchange call.Commit (Ok Committed)) (without_txn a.txn old.committing) commit_is_quiet)
 event_keeps_log o es old new (RefuseCall session t c fault) log k l moves = subst (λ s. IsLogAfter o (es ++ entries_by old (RefuseCall session t c fault)) s log) (sym moves.2) (quiet_keeps_log k l session t (exchange c (Err fault)) old.committing (refusal_is_quiet c fault moves.1))
 
 -- the log that an open found

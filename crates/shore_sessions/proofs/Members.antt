@@ -2,7 +2,7 @@
 use Rattle.std.proofs.Common.{◌≡◌, ◌≢◌, ◌⊎◌, inl, inr, ⊎_elim, ℕ, List, [], ◌∷◌, true, false, cond, refl, sym, ap, subst, ◌∙◌}
 use Rattle.std.specs.Prelude.{◌==◌, not}
 use Rattle.std.proofs.lemmas.Bool.{eqb-true, eqb-false}
-use Rattle.shore_sessions.specs.Sessions.{SessionTxn, txns_of, with_undo, without}
+use Rattle.shore_sessions.specs.Sessions.{SessionTxn, txns_of, with_undo, without_txn}
 use Rattle.shore_sessions.specs.UndoLists.{UndoList}
 use Rattle.shore_sessions.specs.Views.{IsAmong}
 
@@ -12,26 +12,26 @@ txn_among a (x ∷ xs) (inl e) = inl (ap (λ (a : SessionTxn). a.txn) e)
 txn_among a (x ∷ xs) (inr later) = inr (txn_among a xs later)
 
 module _ (t : ℕ) where
-  pub among_without : (a : SessionTxn) (xs : List SessionTxn) → IsAmong a (without t xs) → IsAmong a xs × (a.txn ≢ t)
+  pub among_without : (a : SessionTxn) (xs : List SessionTxn) → IsAmong a (without_txn t xs) → IsAmong a xs × (a.txn ≢ t)
   among_without a [] = λ h. absurd h
   among_without a (x ∷ xs) =
-      elim (x.txn == t) as (λ b. (x.txn == t) ≡ b → IsAmong a (cond (not b) (x ∷ without t xs) (without t xs)) → IsAmong a (x ∷ xs) × (a.txn ≢ t)) [
+      elim (x.txn == t) as (λ b. (x.txn == t) ≡ b → IsAmong a (cond (not b) (x ∷ without_txn t xs) (without_txn t xs)) → IsAmong a (x ∷ xs) × (a.txn ≢ t)) [
         | true ↦ λ e h. let rest = among_without a xs h in (inr rest.0, rest.1)
         | false ↦ λ e h. ⊎_elim (λ same. (inl same, λ is. eqb-false x.txn t e (ap (λ (a : SessionTxn). a.txn) same ∙ is))) (λ later. let rest = among_without a xs later in (inr rest.0, rest.1)) h
       ] refl
 
-  pub txn_without : (u : ℕ) (xs : List SessionTxn) → IsAmong u (txns_of (without t xs)) → IsAmong u (txns_of xs) × (u ≢ t)
+  pub txn_without : (u : ℕ) (xs : List SessionTxn) → IsAmong u (txns_of (without_txn t xs)) → IsAmong u (txns_of xs) × (u ≢ t)
   txn_without u [] = λ h. absurd h
   txn_without u (x ∷ xs) =
-      elim (x.txn == t) as (λ b. (x.txn == t) ≡ b → IsAmong u (txns_of (cond (not b) (x ∷ without t xs) (without t xs))) → IsAmong u (txns_of (x ∷ xs)) × (u ≢ t)) [
+      elim (x.txn == t) as (λ b. (x.txn == t) ≡ b → IsAmong u (txns_of (cond (not b) (x ∷ without_txn t xs) (without_txn t xs))) → IsAmong u (txns_of (x ∷ xs)) × (u ≢ t)) [
         | true ↦ λ e h. let rest = txn_without u xs h in (inr rest.0, rest.1)
         | false ↦ λ e h. ⊎_elim (λ same. (inl same, λ is. eqb-false x.txn t e (same ∙ is))) (λ later. let rest = txn_without u xs later in (inr rest.0, rest.1)) h
       ] refl
 
-  pub txn_stays : (u : ℕ) (xs : List SessionTxn) → IsAmong u (txns_of xs) → u ≢ t → IsAmong u (txns_of (without t xs))
+  pub txn_stays : (u : ℕ) (xs : List SessionTxn) → IsAmong u (txns_of xs) → u ≢ t → IsAmong u (txns_of (without_txn t xs))
   txn_stays u [] h other = absurd h
   txn_stays u (x ∷ xs) h other =
-      elim (x.txn == t) as (λ b. (x.txn == t) ≡ b → IsAmong u (txns_of (cond (not b) (x ∷ without t xs) (without t xs)))) [
+      elim (x.txn == t) as (λ b. (x.txn == t) ≡ b → IsAmong u (txns_of (cond (not b) (x ∷ without_txn t xs) (without_txn t xs)))) [
         | true ↦ λ e. ⊎_elim (λ same. absurd (other (sym same ∙ eqb-true x.txn t e))) (λ later. txn_stays u xs later other) h
         | false ↦ λ e. ⊎_elim (λ same. inl same) (λ later. inr (txn_stays u xs later other)) h
       ] refl
@@ -74,10 +74,10 @@ module _ (t : ℕ) where
         ]
     with_among a (x ∷ xs) (inr later) = let h = with_among a xs later in (h.0, inr h.1, h.2)
 
-  pub member_stays : (a : SessionTxn) (xs : List SessionTxn) → IsAmong a xs → a.txn ≢ t → IsAmong a (without t xs)
+  pub member_stays : (a : SessionTxn) (xs : List SessionTxn) → IsAmong a xs → a.txn ≢ t → IsAmong a (without_txn t xs)
   member_stays a [] h other = absurd h
   member_stays a (x ∷ xs) h other =
-      elim (x.txn == t) as (λ b. (x.txn == t) ≡ b → IsAmong a (cond (not b) (x ∷ without t xs) (without t xs))) [
+      elim (x.txn == t) as (λ b. (x.txn == t) ≡ b → IsAmong a (cond (not b) (x ∷ without_txn t xs) (without_txn t xs))) [
         | true ↦ λ e. ⊎_elim (λ same. absurd (other (ap (λ (a : SessionTxn). a.txn) (sym same) ∙ eqb-true x.txn t e))) (λ later. member_stays a xs later other) h
         | false ↦ λ e. ⊎_elim (λ same. inl same) (λ later. inr (member_stays a xs later other)) h
       ] refl

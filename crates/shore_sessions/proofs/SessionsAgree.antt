@@ -22,7 +22,7 @@ use Rattle.shore_sessions.proofs.Entries.{history-push, session_state-push}
 use Rattle.shore_sessions.proofs.Members.{among_with, among_without, member_stays, with_among}
 use Rattle.shore_sessions.specs.RepliesInPlace.{MayReplyInPlace}
 use Rattle.shore_sessions.specs.SessionSteps.{AnswerAbort, AnswerCommit, AppendCommit, BeginTxn, GiveReply, IsInnerCall, MoveLocks, RefuseCall, SessionEvent, StepsTo, entries_by, exchange}
-use Rattle.shore_sessions.specs.Sessions.{IsCurrent, IsIdle, IsTxnOf, SessionTxn, Sessions, abort_answered, commit_answered, commit_appended, locks_moved, reply_given, txn_begun, without}
+use Rattle.shore_sessions.specs.Sessions.{IsCurrent, IsInNoTxn, IsTxnOf, SessionTxn, Sessions, abort_answered, commit_answered, commit_appended, locks_moved, reply_given, txn_begun, without_txn}
 use Rattle.shore_sessions.specs.Soundness.{IsJustOpened, SessionsAgree, history_from, in_txn, opening_with}
 use Rattle.shore_sessions.specs.UndoLists.{nothing_to_undo, undo_after}
 use Rattle.shore_sessions.specs.Views.{IsAmong}
@@ -169,7 +169,7 @@ module _ {o : Records} {es : List Entry} {s : Sessions} (k : SessionsAgree o es 
       some = subst (λ n. 0 < n) next k.some;
     }
 
-  pub abort_agrees : (a : SessionTxn) → IsAmong a s.active → (new : Sessions) → new.active ≡ without a.txn s.active → new.committing ≡ s.committing → s.next_txn ≡ new.next_txn
+  pub abort_agrees : (a : SessionTxn) → IsAmong a s.active → (new : Sessions) → new.active ≡ without_txn a.txn s.active → new.committing ≡ s.committing → s.next_txn ≡ new.next_txn
       → SessionsAgree o (es ++ Exchanged a.session a.txn (exchange call.Abort (Ok Aborted)) ∷ []) new
   abort_agrees a mem new active committing next =
       let there : (b : SessionTxn) → IsAmong b new.active → IsAmong b s.active × (b.txn ≢ a.txn) = λ b x. among_without a.txn b s.active (subst (IsAmong b) active x) in
@@ -216,7 +216,7 @@ module _ {o : Records} {es : List Entry} {s : Sessions} (k : SessionsAgree o es 
         some = k.some;
       }
 
-  pub begin_agrees : (session : ℕ) → IsIdle s session → SessionsAgree o (es ++ Exchanged session s.next_txn (exchange call.Begin (Ok (Began s.next_txn))) ∷ []) (txn_begun s session)
+  pub begin_agrees : (session : ℕ) → IsInNoTxn s session → SessionsAgree o (es ++ Exchanged session s.next_txn (exchange call.Begin (Ok (Began s.next_txn))) ∷ []) (txn_begun s session)
   begin_agrees session idle =
       let x : Exchange = exchange call.Begin (Ok (Began s.next_txn)) in
       let new : SessionTxn = record { session = session; txn = s.next_txn; undo = nothing_to_undo } in

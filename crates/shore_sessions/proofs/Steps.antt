@@ -13,7 +13,7 @@ use Rattle.shore_model.specs.Records.{Records}
 use Rattle.shore_sessions.proofs.Exchanges.{commit_is_quiet, refusal_is_quiet}
 use Rattle.shore_sessions.proofs.StrongerLocks.{no_locks_in_harmony}
 use Rattle.shore_sessions.specs.SessionSteps.{AnswerAbort, AnswerCommit, AppendCommit, BeginTxn, GiveReply, MoveLocks, RefuseCall, SessionEvent, StepsTo, entries_by, exchange}
-use Rattle.shore_sessions.specs.Sessions.{IsTxnOf, Sessions, locks_moved, txns_of, without}
+use Rattle.shore_sessions.specs.Sessions.{IsTxnOf, Sessions, locks_moved, txns_of, without_txn}
 use Rattle.shore_sessions.specs.Soundness.{IsJustOpened, IsSoundAfter, SessionsAgree, written_by}
 use Rattle.shore_sessions.specs.Views.{IsAmong, Stand}
 use Rattle.shore_sessions.proofs.BeginSteps.{begin_stays_sound}
@@ -35,7 +35,7 @@ event_stays_sound o es old new (BeginTxn session) k agree moves = subst (IsSound
 event_stays_sound o es old new (GiveReply a c reply) k agree moves = subst (IsSoundAfter o _) (sym moves.3) (reply_stays_sound k a moves.0 c reply moves.2)
 event_stays_sound o es old new (AppendCommit a) k agree moves = subst (IsSoundAfter o _) (sym moves.1) (commit_stays_sound k a moves.0)
 event_stays_sound o es old new (AnswerAbort a) k agree moves = subst (IsSoundAfter o _) (sym moves.1) (abort_stays_sound k a moves.0)
-event_stays_sound o es old new (AnswerCommit a) k agree moves = subst (IsSoundAfter o _) (sym moves.1) (quiet_stays_sound k a.session a.txn (exchange call.Commit (Ok Committed)) commit_is_quiet (without a.txn old.committing) (agree.below a (inr moves.0)))
+event_stays_sound o es old new (AnswerCommit a) k agree moves = subst (IsSoundAfter o _) (sym moves.1) (quiet_stays_sound k a.session a.txn (exchange call.Commit (Ok Committed)) commit_is_quiet (without_txn a.txn old.committing) (agree.below a (inr moves.0)))
 event_stays_sound o es old new (RefuseCall session t c fault) k agree moves = subst (IsSoundAfter o _) (sym moves.2) (quiet_stays_sound k session t (exchange c (Err fault)) (refusal_is_quiet c fault moves.1) old.committing (txn_below o es old session t agree moves.0))
 
 -- nothing has happened yet

@@ -15,7 +15,7 @@ use Rattle.shore_types.specs.Images.{Image}
 use Rattle.shore_sessions.proofs.Ids.{overlay_empty, overlays_agree, put_here, put_there, told_apart}
 use Rattle.shore_sessions.proofs.Lists.{drop-between, drop-push, drop-whole, length-push, length-take_within, recursion-drop, recursion-push, recursion-take, recursion-weaker}
 use Rattle.shore_sessions.proofs.Views.{not_some, overlay_none, read_of_write, some_or_none}
-use Rattle.shore_sessions.specs.UndoLists.{AreRising, CanUndo, UndoList, UndoToSavepoints, UndoesTo, mark_of, nothing_to_undo, undone, with_before_image}
+use Rattle.shore_sessions.specs.UndoLists.{AreRising, CanUndo, UndoList, UndoToSavepoints, UndoesTo, mark_of, nothing_to_undo, rolled_back, with_before_image}
 use Rattle.shore_sessions.specs.Views.{Sees}
 
 -- ---- images put back
@@ -139,7 +139,7 @@ module _ {held : List Hold} {now R : Records} {t : ℕ} {undo : UndoList} {p : P
       let images' = undo.images ++ (id, get R id) ∷ [] in
       let keep : (m : ℕ) (V : WriteSet) → Unit {0} → UndoesTo held now R t undo.images m V → UndoesTo held now R' t images' m V =
       λ m V _ g.
-      let same : undone R' (drop m images') ≡ undone R (drop m undo.images) =
+      let same : rolled_back R' (drop m images') ≡ rolled_back R (drop m undo.images) =
       ap (laid_over R') (drop-push m undo.images (id, get R id) g.within) ∙ laid_over-append R' (drop m undo.images) ((id, get R id) ∷ [])
       ∙ ap (λ S. laid_over S (drop m undo.images)) (put_back R id image) in
       let lengths : length images' ≡ length undo.images + 1 = length-push undo.images (id, get R id) in
@@ -180,15 +180,15 @@ module _ {held : List Hold} {now R : Records} {t : ℕ} {undo : UndoList} {p : P
     goes_back : UndoesTo held now R t undo.images back_mark back_writes
     goes_back = marks_at held t now R undo.images n undo.marks p.saved (length undo.images) p.writes less k.savepoints
 
-    pub back_sees : Sees held now (undone R (drop back_mark undo.images)) t back_writes
+    pub back_sees : Sees held now (rolled_back R (drop back_mark undo.images)) t back_writes
     back_sees = record { view = goes_back.view; locked = goes_back.locked }
 
-    pub back_changes : (id : Rid) → (get (undone R (drop back_mark undo.images)) id ≡ get R id) ⊎ MayWrite held t id
+    pub back_changes : (id : Rid) → (get (rolled_back R (drop back_mark undo.images)) id ≡ get R id) ⊎ MayWrite held t id
     back_changes id = laid_or_left (MayWrite held t) R (drop back_mark undo.images) id (recursion-drop (λ e. MayWrite held t e.0) back_mark undo.images k.changed)
 
-    back_keeps : (m : ℕ) (W : WriteSet) → m ≤ back_mark → UndoesTo held now R t undo.images m W → UndoesTo held now (undone R (drop back_mark undo.images)) t (take back_mark undo.images) m W
+    back_keeps : (m : ℕ) (W : WriteSet) → m ≤ back_mark → UndoesTo held now R t undo.images m W → UndoesTo held now (rolled_back R (drop back_mark undo.images)) t (take back_mark undo.images) m W
     back_keeps m W le g =
-        let same : undone (undone R (drop back_mark undo.images)) (drop m (take back_mark undo.images)) ≡ undone R (drop m undo.images) =
+        let same : rolled_back (rolled_back R (drop back_mark undo.images)) (drop m (take back_mark undo.images)) ≡ rolled_back R (drop m undo.images) =
         sym (laid_over-append R (drop m (take back_mark undo.images)) (drop back_mark undo.images)) ∙ ap (laid_over R) (drop-between m back_mark undo.images le goes_back.within) in
         record {
           within = subst (λ l. m ≤ l) (sym (length-take_within back_mark undo.images goes_back.within)) le;
@@ -196,7 +196,7 @@ module _ {held : List Hold} {now R : Records} {t : ℕ} {undo : UndoList} {p : P
           locked = g.locked;
         }
 
-    pub back_undoes : CanUndo held now (undone R (drop back_mark undo.images)) t record { images = take back_mark undo.images; marks = take (n + 1) undo.marks } record { writes = back_writes; saved = take (n + 1) p.saved }
+    pub back_undoes : CanUndo held now (rolled_back R (drop back_mark undo.images)) t record { images = take back_mark undo.images; marks = take (n + 1) undo.marks } record { writes = back_writes; saved = take (n + 1) p.saved }
     back_undoes =
         let alike : length undo.marks ≡ length p.saved = marks_alike held t now R undo.images undo.marks p.saved k.savepoints in
         let few : n < length undo.marks = omega arith in
@@ -208,10 +208,10 @@ module _ {held : List Hold} {now R : Records} {t : ℕ} {undo : UndoList} {p : P
         }
 
   -- it is undone as a whole: where it may read, the records are serial again
-  pub undone_agrees : (id : Rid) → MayRead held t id → get (undone R undo.images) id ≡ get now id
+  pub undone_agrees : (id : Rid) → MayRead held t id → get (rolled_back R undo.images) id ≡ get now id
   undone_agrees id r = k.whole.view id r ∙ ap (λ S. get S id) (overlay_empty now)
 
-  pub undone_changes : (id : Rid) → (get (undone R undo.images) id ≡ get R id) ⊎ MayWrite held t id
+  pub undone_changes : (id : Rid) → (get (rolled_back R undo.images) id ≡ get R id) ⊎ MayWrite held t id
   undone_changes id = laid_or_left (MayWrite held t) R undo.images id k.changed
 
   -- Locks move, and it loses none. At an id that it may read only now neither its changes nor their undo have changed anything.
@@ -222,7 +222,7 @@ module _ {held : List Hold} {now R : Records} {t : ℕ} {undo : UndoList} {p : P
       λ n W _ g. record {
         within = g.within;
         view = λ id r.
-            let old : MayRead held t id → get (undone R (drop n undo.images)) id ≡ get (overlay now W) id = λ r. g.view id r in
+            let old : MayRead held t id → get (rolled_back R (drop n undo.images)) id ≡ get (overlay now W) id = λ r. g.view id r in
             ⊎_elim (λ left.
             ⊎_elim (λ w. old (read_of_write held t id (g.locked id w)))
             (λ none.

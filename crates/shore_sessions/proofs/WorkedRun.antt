@@ -17,7 +17,7 @@ use Rattle.shore_model.specs.Modes.{is_write}
 use Rattle.shore_model.specs.Records.{Records, put_image}
 use Rattle.shore_model.proofs.RecordPaths.{OnPath, at_page, at_record, at_store, at_volume, head_contained, on_path}
 use Rattle.shore_sessions.proofs.Ids.{put_here, put_there, told_apart}
-use Rattle.shore_sessions.specs.Sessions.{IsIdle, SessionTxn, Sessions, abort_answered, commit_answered, commit_appended, locks_moved, reply_given, txn_begun}
+use Rattle.shore_sessions.specs.Sessions.{IsInNoTxn, SessionTxn, Sessions, abort_answered, commit_answered, commit_appended, locks_moved, reply_given, txn_begun}
 use Rattle.shore_sessions.specs.Soundness.{RunsTo}
 use Rattle.shore_sessions.specs.WorkedRun.{interleaved, just_opened, once_deleted, once_saved, once_updated, reader, reads_and_writes, writer}
 use Rattle.shore_sessions.specs.UndoLists.{nothing_to_undo}
@@ -157,7 +157,7 @@ module _ (a b : Rid) (differ : a ≢ b) where
     one_differs_two : (n : ℕ) → 1 ≡ n → n ≡ 2 → ⊥
     one_differs_two n e f = omega arith
 
-    second_is_idle : IsIdle s1 2
+    second_is_idle : IsInNoTxn s1 2
     second_is_idle c current e =
         ⊎_elim (λ h. ⊎_elim (λ same. one_differs_two c.session (ap (λ (c : SessionTxn). c.session) same) e) (λ none. none) h) (λ none. none) current
 

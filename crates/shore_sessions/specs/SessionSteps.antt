@@ -15,7 +15,7 @@ use Rattle.shore_model.specs.declared.histories.Entry.TheVariants.{Exchanged, De
 use Rattle.shore_model.specs.declared.holds.Hold.{Hold}
 use Rattle.shore_model.specs.Locks.{Harmony, HoldsAtLeast}
 use Rattle.shore_sessions.specs.RepliesInPlace.{MayReplyInPlace}
-use Rattle.shore_sessions.specs.Sessions.{IsIdle, IsTxnOf, SessionTxn, Sessions, abort_answered, commit_answered, commit_appended, locks_moved, reply_given, txn_begun, txns_of}
+use Rattle.shore_sessions.specs.Sessions.{IsInNoTxn, IsTxnOf, SessionTxn, Sessions, abort_answered, commit_answered, commit_appended, locks_moved, reply_given, txn_begun, txns_of}
 use Rattle.shore_sessions.specs.Views.{IsAmong}
 
 pub data SessionEvent : Type 0 where
@@ -70,7 +70,7 @@ abbrev pub StepsTo : Sessions → SessionEvent → Sessions → Type 0
 StepsTo s (MoveLocks held) new =
     Harmony held × ((t : ℕ) → IsAmong t (txns_of s.active) → KeepsLocks s.held held t)
     × All (λ h. h.txn < s.next_txn) held × (new ≡ locks_moved s held)
-StepsTo s (BeginTxn session) new = IsIdle s session × (new ≡ txn_begun s session)
+StepsTo s (BeginTxn session) new = IsInNoTxn s session × (new ≡ txn_begun s session)
 StepsTo s (GiveReply a c reply) new =
     IsAmong a s.active × IsInnerCall c × MayReplyInPlace s.held a.txn s.records (length a.undo.marks) c reply
     × (new ≡ reply_given s a c reply)

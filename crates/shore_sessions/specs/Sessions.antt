@@ -5,7 +5,7 @@ use Rattle.shore_model.specs.declared.calls.Answer.{Answer}
 use Rattle.shore_model.specs.declared.calls.Call.{Call}
 use Rattle.shore_model.specs.declared.holds.Hold.{Hold}
 use Rattle.shore_model.specs.Records.{Records}
-use Rattle.shore_sessions.specs.UndoLists.{UndoList, in_place_after, nothing_to_undo, undo_after, undone}
+use Rattle.shore_sessions.specs.UndoLists.{UndoList, in_place_after, nothing_to_undo, undo_after, rolled_back}
 use Rattle.shore_sessions.specs.Views.{IsAmong}
 
 -- a transaction of a session, with its undo list
@@ -31,8 +31,8 @@ abbrev pub txns_of : List SessionTxn → List ℕ
 txns_of xs = map (λ a. a.txn) xs
 
 -- the list with one transaction taken out
-abbrev pub without : ℕ → List SessionTxn → List SessionTxn
-without t xs = filter (λ a. not (a.txn == t)) xs
+abbrev pub without_txn : ℕ → List SessionTxn → List SessionTxn
+without_txn t xs = filter (λ a. not (a.txn == t)) xs
 
 -- the list with another undo list for one transaction
 abbrev pub with_undo : ℕ → UndoList → List SessionTxn → List SessionTxn
@@ -43,12 +43,12 @@ abbrev pub IsCurrent : Sessions → SessionTxn → Type 0
 IsCurrent s a = IsAmong a s.active ⊎ IsAmong a s.committing
 
 -- the session is in no transaction
-abbrev pub IsIdle : Sessions → ℕ → Type 0
-IsIdle s session = (a : SessionTxn) → IsCurrent s a → a.session ≢ session
+abbrev pub IsInNoTxn : Sessions → ℕ → Type 0
+IsInNoTxn s session = (a : SessionTxn) → IsCurrent s a → a.session ≢ session
 
 -- the transaction that a session is in, or 0
 abbrev pub IsTxnOf : Sessions → ℕ → ℕ → Type 0
-IsTxnOf s session t = ((a : SessionTxn) × IsCurrent s a × (a.session ≡ session) × (a.txn ≡ t)) ⊎ (IsIdle s session × (t ≡ 0))
+IsTxnOf s session t = ((a : SessionTxn) × IsCurrent s a × (a.session ≡ session) × (a.txn ≡ t)) ⊎ (IsInNoTxn s session × (t ≡ 0))
 
 -- ---- what an event leaves
 
@@ -68,10 +68,10 @@ reply_given s a c reply = record s {
 }
 
 abbrev pub commit_appended : Sessions → SessionTxn → Sessions
-commit_appended s a = record s { active = without a.txn s.active; committing = a ∷ s.committing }
+commit_appended s a = record s { active = without_txn a.txn s.active; committing = a ∷ s.committing }
 
 abbrev pub abort_answered : Sessions → SessionTxn → Sessions
-abort_answered s a = record s { records = undone s.records a.undo.images; active = without a.txn s.active }
+abort_answered s a = record s { records = rolled_back s.records a.undo.images; active = without_txn a.txn s.active }
 
 abbrev pub commit_answered : Sessions → SessionTxn → Sessions
-commit_answered s a = record s { committing = without a.txn s.committing }
+commit_answered s a = record s { committing = without_txn a.txn s.committing }

@@ -24,8 +24,8 @@ abbrev pub nothing_to_undo : UndoList
 nothing_to_undo = record { images = []; marks = [] }
 
 -- Records with images put back, from the last of the list to the first.
-abbrev pub undone : Records → List (Rid × Image) → Records
-undone R images = laid_over R images
+abbrev pub rolled_back : Records → List (Rid × Image) → Records
+rolled_back R images = laid_over R images
 
 -- the mark of a savepoint; an index that no savepoint has gives the length, so that nothing is undone
 abbrev pub mark_of : UndoList → ℕ → ℕ
@@ -43,7 +43,7 @@ in_place_after_answer R undo (call.Insert s bytes) (Inserted id) = put_image R i
 in_place_after_answer R undo (call.Insert s bytes) _ = R
 in_place_after_answer R undo (call.Update id bytes) answer = put_image R id (Some bytes)
 in_place_after_answer R undo (call.Delete id) answer = put_image R id None
-in_place_after_answer R undo (call.BackTo n) answer = undone R (images_since undo n)
+in_place_after_answer R undo (call.BackTo n) answer = rolled_back R (images_since undo n)
 in_place_after_answer R undo call.Begin answer = R
 in_place_after_answer R undo (call.Get id) answer = R
 in_place_after_answer R undo (call.GetForUpdate id) answer = R
@@ -95,7 +95,7 @@ undo_after R undo c (Err fault) = undo
 -- Once the images beyond the mark are put back, the transaction sees as one that has written W.
 pub record UndoesTo (held : List Hold) (now R : Records) (t : ℕ) (images : List (Rid × Image)) (mark : ℕ) (W : WriteSet) : Type 0 where
   pub within : mark ≤ length images
-  pub view : (id : Rid) → MayRead held t id → get (undone R (drop mark images)) id ≡ get (overlay now W) id
+  pub view : (id : Rid) → MayRead held t id → get (rolled_back R (drop mark images)) id ≡ get (overlay now W) id
   pub locked : (id : Rid) → IsSome (get W id) → MayWrite held t id
 
 -- it is so at the mark of each savepoint, with the write set that was saved there
