@@ -13,12 +13,14 @@ use Rattle.shore_model.specs.declared.sessions.SessionState.{SessionState}
 use Rattle.shore_model.specs.Histories.{IsHistory, MayStand, after_entry, calls_of, decision_of, decisions, exchange_of, session_state}
 use Rattle.shore_model.proofs.Beginnings.{slice_get-push}
 
-pub session_state-push : (s : ℕ) (p : SessionState) (es : List Entry) (e : Entry) → session_state s p (es ++ e ∷ []) ≡ after_entry s (session_state s p es) e
+pub session_state-push : (s : ℕ) (p : SessionState) (es : List Entry) (e : Entry)
+    → session_state s p (es ++ e ∷ []) ≡ after_entry s (session_state s p es) e
 session_state-push s p [] e = refl
 session_state-push s p (x ∷ es) e = session_state-push s (after_entry s p x) es e
 
 module _ (es : List Entry) where
-  pub calls-exchanged : (t u s : ℕ) (x : Exchange) (b : Bool) → (u == t) ≡ b → calls_of t (es ++ Exchanged s u x ∷ []) ≡ calls_of t es ++ cons_option (cond b (Some x) None) []
+  pub calls-exchanged : (t u s : ℕ) (x : Exchange) (b : Bool) → (u == t) ≡ b
+      → calls_of t (es ++ Exchanged s u x ∷ []) ≡ calls_of t es ++ cons_option (cond b (Some x) None) []
   calls-exchanged t u s x b is =
       filter_map-append (exchange_of t) es (Exchanged s u x ∷ []) ∙ ap (λ b. calls_of t es ++ cons_option (cond b (Some x) None) []) is
 

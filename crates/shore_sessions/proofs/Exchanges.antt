@@ -15,7 +15,8 @@ pub after-push : (p : Progress) (xs : List Exchange) (x : Exchange) → after p 
 after-push p [] x = refl
 after-push p (y ∷ ys) x = after-push (after_reply p y.call y.reply) ys x
 
-pub replies-push : (R : Records) (p : Progress) (xs : List Exchange) (x : Exchange) → MayReplyAll R p xs → MayReply R (after p xs) x.call x.reply → MayReplyAll R p (xs ++ x ∷ [])
+pub replies-push : (R : Records) (p : Progress) (xs : List Exchange) (x : Exchange) → MayReplyAll R p xs → MayReply R (after p xs) x.call x.reply
+    → MayReplyAll R p (xs ++ x ∷ [])
 replies-push R p [] x h m = (m, tt)
 replies-push R p (y ∷ ys) x h m = (h.0, replies-push R (after_reply p y.call y.reply) ys x h.1 m)
 

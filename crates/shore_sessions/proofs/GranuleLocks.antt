@@ -51,7 +51,8 @@ module _ (held : List Hold) (t : ℕ) where
   writes_reached : (id : Rid) → HasLock held t (Record id) EX → MayWrite held t id
   writes_reached id h = allowed_by (λ m. IsTrue (is_write m)) id (Record id) EX (λ g c. c) (λ m a. write_up EX m a refl) cover_writes h
 
-  insert_permitted : (s : ℕ) (bytes : List ℕ) (answer : Answer) → HasLocksFor held t (call.Insert s bytes) answer → Permit held t (call.Insert s bytes) answer
+  insert_permitted : (s : ℕ) (bytes : List ℕ) (answer : Answer) → HasLocksFor held t (call.Insert s bytes) answer
+      → Permit held t (call.Insert s bytes) answer
   insert_permitted s bytes (Inserted id) h = writes_reached id h
   insert_permitted s bytes _ h = absurd h
 

@@ -31,7 +31,8 @@ module _ (w : ℕ → WriteSet) (id : Rid) where
       (get-overlay R (w t) id ∙ ⊎_elim (λ none. ap (λ o. unwrap_or o (get R id)) none ∙ at) (λ some. ap (λ o. unwrap_or o (get R id)) some) (one t (inl refl)))
 
   -- an id that one of them has written
-  found : (image : Image) (R : Records) (ts : List ℕ) (t : ℕ) → OneImage image ts → IsAmong t ts → get (w t) id ≡ Some image → get (overlays R (map w ts)) id ≡ image
+  found : (image : Image) (R : Records) (ts : List ℕ) (t : ℕ) → OneImage image ts → IsAmong t ts → get (w t) id ≡ Some image
+      → get (overlays R (map w ts)) id ≡ image
   found image R [] t one a some = absurd a
   found image R (u ∷ ts) t one a some =
       ⊎_elim

@@ -101,11 +101,13 @@ module _ (held : List Hold) (disjoint : (t u : ℕ) (id : Rid) → t ≢ u → M
         still = change_logged id image (ap (λ W. get W id) (logged_own log r a.txn refl) ∙ wrote_here (logged_writes log a.txn) id image);
       }
 
-  insert_tells : (s : ℕ) (bytes : List ℕ) (answer : Answer) → Permit held a.txn (call.Insert s bytes) answer → TellsOn (log_after_answer log R a (call.Insert s bytes) answer) (in_place_after_answer R a.undo (call.Insert s bytes) answer) (after_answer (p a.txn) (call.Insert s bytes) answer)
+  insert_tells : (s : ℕ) (bytes : List ℕ) (answer : Answer) → Permit held a.txn (call.Insert s bytes) answer
+      → TellsOn (log_after_answer log R a (call.Insert s bytes) answer) (in_place_after_answer R a.undo (call.Insert s bytes) answer) (after_answer (p a.txn) (call.Insert s bytes) answer)
   insert_tells s bytes (Inserted id) w = changed id (Some bytes) w
   insert_tells s bytes _ w = log_untouched
 
-  answer_tells : (c : Call) (answer : Answer) → Permit held a.txn c answer → TellsOn (log_after_answer log R a c answer) (in_place_after_answer R a.undo c answer) (after_answer (p a.txn) c answer)
+  answer_tells : (c : Call) (answer : Answer) → Permit held a.txn c answer
+      → TellsOn (log_after_answer log R a c answer) (in_place_after_answer R a.undo c answer) (after_answer (p a.txn) c answer)
   answer_tells (call.Insert s bytes) answer w = insert_tells s bytes answer w
   answer_tells (call.Update id bytes) answer w = changed id (Some bytes) w
   answer_tells (call.Delete id) answer w = changed id None w
@@ -116,7 +118,8 @@ module _ (held : List Hold) (disjoint : (t u : ℕ) (id : Rid) → t ≢ u → M
   answer_tells call.Savepoint answer w = record { tells_serial = l; still = savepoint_logged }
   answer_tells _ answer w = log_untouched
 
-  pub reply_tells : (n : ℕ) (c : Call) (reply : Result Answer Fault) → MayReplyInPlace held a.txn R n c reply → TellsOn (log_after_reply log R a c reply) (in_place_after R a.undo c reply) (after_reply (p a.txn) c reply)
+  pub reply_tells : (n : ℕ) (c : Call) (reply : Result Answer Fault) → MayReplyInPlace held a.txn R n c reply
+      → TellsOn (log_after_reply log R a c reply) (in_place_after R a.undo c reply) (after_reply (p a.txn) c reply)
   reply_tells n c (Ok answer) h = answer_tells c answer h.0
   reply_tells n c (Err fault) h = log_untouched
 
@@ -140,7 +143,9 @@ committed_below t (r ∷ log) h =
 -- ---- events
 
 -- the same list, while transactions come further
-further : {log : List LogRecord} {held : List Hold} {now R : Records} {ts : List ℕ} {p : ℕ → Progress} (ts' : List ℕ) (q : ℕ → Progress) → ((u : ℕ) → IsAmong u ts' → IsAmong u ts × StillLogged held R u (logged_writes log u) (p u) (q u)) → TellsSerial log held now R ts p → TellsSerial log held now R ts' q
+further : {log : List LogRecord} {held : List Hold} {now R : Records} {ts : List ℕ} {p : ℕ → Progress} (ts' : List ℕ) (q : ℕ → Progress)
+    → ((u : ℕ) → IsAmong u ts' → IsAmong u ts × StillLogged held R u (logged_writes log u) (p u) (q u)) → TellsSerial log held now R ts p
+    → TellsSerial log held now R ts' q
 further ts' q still l = record {
   tells = l.tells;
   uncommitted = λ u b. l.uncommitted u (still u b).0;
@@ -153,14 +158,17 @@ module _ {o : Records} {es : List Entry} {s : Sessions} {log : List LogRecord} (
   disjoint t u id other w v = writer_excludes k.stand t u id other w (read_of_write s.held u id v)
 
   -- records of numbers that are given already
-  grown : (t : ℕ) (qs : List LogRecord) (payload : Payload) → t < s.next_txn → AllByRecursion (λ r. r.txn < s.next_txn) qs → AllByRecursion (λ r. r.txn < s.next_txn) (and_record t qs payload)
+  grown : (t : ℕ) (qs : List LogRecord) (payload : Payload) → t < s.next_txn → AllByRecursion (λ r. r.txn < s.next_txn) qs
+      → AllByRecursion (λ r. r.txn < s.next_txn) (and_record t qs payload)
   grown t qs payload less h = recursion-push (λ r. r.txn < s.next_txn) qs record { txn = t; previous = previous_of t qs; payload = payload } h less
 
-  undo_grown : (t : ℕ) (qs : List LogRecord) (images : List (Rid × Image)) → t < s.next_txn → AllByRecursion (λ r. r.txn < s.next_txn) qs → AllByRecursion (λ r. r.txn < s.next_txn) (and_compensations t qs images)
+  undo_grown : (t : ℕ) (qs : List LogRecord) (images : List (Rid × Image)) → t < s.next_txn → AllByRecursion (λ r. r.txn < s.next_txn) qs
+      → AllByRecursion (λ r. r.txn < s.next_txn) (and_compensations t qs images)
   undo_grown t qs [] less h = h
   undo_grown t qs (e ∷ images) less h = grown t (and_compensations t qs images) _ less (undo_grown t qs images less h)
 
-  answer_grown : (a : SessionTxn) (c : Call) (answer : Answer) → a.txn < s.next_txn → AllByRecursion (λ r. r.txn < s.next_txn) (log_after_answer log s.records a c answer)
+  answer_grown : (a : SessionTxn) (c : Call) (answer : Answer) → a.txn < s.next_txn
+      → AllByRecursion (λ r. r.txn < s.next_txn) (log_after_answer log s.records a c answer)
   answer_grown a (call.Insert store bytes) (Inserted id) less = grown a.txn log (Change id (get s.records id) (Some bytes)) less l.below
   answer_grown a (call.Insert store bytes) _ less = l.below
   answer_grown a (call.Update id bytes) answer less = grown a.txn log (Change id (get s.records id) (Some bytes)) less l.below
@@ -168,7 +176,8 @@ module _ {o : Records} {es : List Entry} {s : Sessions} {log : List LogRecord} (
   answer_grown a (call.BackTo n) answer less = undo_grown a.txn log (drop (mark_of a.undo n) a.undo.images) less l.below
   answer_grown a _ answer less = l.below
 
-  reply_grown : (a : SessionTxn) (c : Call) (reply : Result Answer Fault) → a.txn < s.next_txn → AllByRecursion (λ r. r.txn < s.next_txn) (log_after_reply log s.records a c reply)
+  reply_grown : (a : SessionTxn) (c : Call) (reply : Result Answer Fault) → a.txn < s.next_txn
+      → AllByRecursion (λ r. r.txn < s.next_txn) (log_after_reply log s.records a c reply)
   reply_grown a c (Ok answer) less = answer_grown a c answer less
   reply_grown a c (Err fault) less = l.below
 
@@ -263,7 +272,8 @@ module _ {o : Records} {es : List Entry} {s : Sessions} {log : List LogRecord} (
         below = recursion-weaker (λ r. r.txn < s.next_txn) (λ r. r.txn < s.next_txn + 1) (λ r less. omega arith) log l.below;
       }
 
-  pub locks_keep_log : (held : List Hold) → ((t : ℕ) → IsAmong t (txns_of s.active) → KeepsLocks s.held held t) → IsLogAfter o es (locks_moved s held) log
+  pub locks_keep_log : (held : List Hold) → ((t : ℕ) → IsAmong t (txns_of s.active) → KeepsLocks s.held held t)
+      → IsLogAfter o es (locks_moved s held) log
   locks_keep_log held kept = record {
     tells_serial = record {
       tells = l.tells_serial.tells;
@@ -288,7 +298,8 @@ module _ {o : Records} {es : List Entry} {s : Sessions} {log : List LogRecord} (
 
 -- ---- all of them
 
-pub event_keeps_log : (o : Records) (es : List Entry) (old new : Sessions) (e : SessionEvent) (log : List LogRecord) → IsSoundAfter o es old → IsLogAfter o es old log → StepsTo old e new → IsLogAfter o (es ++ entries_by old e) new (log_after log old e)
+pub event_keeps_log : (o : Records) (es : List Entry) (old new : Sessions) (e : SessionEvent) (log : List LogRecord) → IsSoundAfter o es old
+    → IsLogAfter o es old log → StepsTo old e new → IsLogAfter o (es ++ entries_by old e) new (log_after log old e)
 event_keeps_log o es old new (MoveLocks held) log k l moves = subst (λ s. IsLogAfter o (es ++ []) s log) (sym moves.3) (subst (λ es. IsLogAfter o es (locks_moved old held) log) (sym (append-nil es)) (locks_keep_log k l held moves.1))
 event_keeps_log o es old new (BeginTxn session) log k l moves = subst (λ s. IsLogAfter o (es ++ entries_by old (BeginTxn session)) s log) (sym moves.1) (begin_keeps_log k l session)
 event_keeps_log o es old new (GiveReply a c reply) log k l moves = subst (λ s. IsLogAfter o (es ++ entries_by old (GiveReply a c reply)) s (log_after_reply log old.records a c reply)) (sym moves.3) (reply_keeps_log k l a moves.0 c reply moves.2)
@@ -298,7 +309,8 @@ event_keeps_log o es old new (AnswerCommit a) log k l moves = subst (λ s. IsLog
 event_keeps_log o es old new (RefuseCall session t c fault) log k l moves = subst (λ s. IsLogAfter o (es ++ entries_by old (RefuseCall session t c fault)) s log) (sym moves.2) (quiet_keeps_log k l session t (exchange c (Err fault)) old.committing (refusal_is_quiet c fault moves.1))
 
 -- the log that an open found
-pub open_has_log : (o : Records) (s : Sessions) (log : List LogRecord) → IsJustOpened o s → records_committed log ≡ o → AllByRecursion (λ r. r.txn < s.next_txn) log → IsLogAfter o [] s log
+pub open_has_log : (o : Records) (s : Sessions) (log : List LogRecord) → IsJustOpened o s → records_committed log ≡ o
+    → AllByRecursion (λ r. r.txn < s.next_txn) log → IsLogAfter o [] s log
 open_has_log o s log opened tells below =
     let nobody : (t : ℕ) → IsAmong t (txns_of s.active) → ⊥ = λ t a. subst (λ xs. IsAmong t (txns_of xs)) opened.active a in
     record {
@@ -307,5 +319,6 @@ open_has_log o s log opened tells below =
     }
 
 -- a list with no Prepare tells what its committed transactions leave
-pub tells_if_none_prepared : (o : Records) (es : List Entry) (s : Sessions) (log : List LogRecord) → IsLogAfter o es s log → in_doubt_in log ≡ [] → records_told log ≡ serial_after o es
+pub tells_if_none_prepared : (o : Records) (es : List Entry) (s : Sessions) (log : List LogRecord) → IsLogAfter o es s log → in_doubt_in log ≡ []
+    → records_told log ≡ serial_after o es
 tells_if_none_prepared o es s log l none = ap (λ ts. overlays (records_committed log) (map (logged_writes log) ts)) none ∙ l.tells_serial.tells

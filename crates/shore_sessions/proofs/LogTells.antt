@@ -29,7 +29,8 @@ use Rattle.shore_sessions.specs.Views.{IsAmong, Sees}
 -- ---- images and commits
 
 module _ (log : List LogRecord) (r : LogRecord) where
-  logged_if : (t : ℕ) (b : Bool) → (r.txn == t) ≡ b → logged_writes (log ++ r ∷ []) t ≡ last_images (filter (λ r. r.txn == t) log ++ cond b (r ∷ []) [])
+  logged_if : (t : ℕ) (b : Bool) → (r.txn == t) ≡ b
+      → logged_writes (log ++ r ∷ []) t ≡ last_images (filter (λ r. r.txn == t) log ++ cond b (r ∷ []) [])
   logged_if t b is = logged_writes-one_more t log r ∙ ap (λ b. last_images (filter (λ r. r.txn == t) log ++ cond b (r ∷ []) [])) is
 
   pub logged_own : (t : ℕ) → r.txn ≡ t → logged_writes (log ++ r ∷ []) t ≡ with_image (logged_writes log t) (image_in r.payload)
@@ -60,14 +61,16 @@ map-push w [] t = refl
 map-push w (u ∷ ts) t = ap (λ Ws. w u ∷ Ws) (map-push w ts t)
 
 -- a record that is no Commit tells nothing, if its transaction is not committed
-pub tells_same : (log : List LogRecord) (r : LogRecord) → is_commit r.payload ≡ false → AllByRecursion (λ u. u ≢ r.txn) (committed_in log) → records_committed (log ++ r ∷ []) ≡ records_committed log
+pub tells_same : (log : List LogRecord) (r : LogRecord) → is_commit r.payload ≡ false → AllByRecursion (λ u. u ≢ r.txn) (committed_in log)
+    → records_committed (log ++ r ∷ []) ≡ records_committed log
 tells_same log r no_commit apart =
     ap (λ us. overlays empty (map (logged_writes (log ++ r ∷ [])) us)) (committed_same log r no_commit)
     ∙ overlays_same (logged_writes (log ++ r ∷ [])) (logged_writes log) empty (committed_in log)
     (recursion-weaker (λ u. u ≢ r.txn) (λ u. logged_writes (log ++ r ∷ []) u ≡ logged_writes log u) (λ u other. logged_other log r u (λ same. other (sym same))) (committed_in log) apart)
 
 -- a Commit lets the list tell what its transaction has logged
-pub tells_commit : (log : List LogRecord) (r : LogRecord) → r.payload ≡ Commit → records_committed (log ++ r ∷ []) ≡ overlay (records_committed log) (logged_writes log r.txn)
+pub tells_commit : (log : List LogRecord) (r : LogRecord) → r.payload ≡ Commit
+    → records_committed (log ++ r ∷ []) ≡ overlay (records_committed log) (logged_writes log r.txn)
 tells_commit log r is =
     let same : (t : ℕ) → logged_writes (log ++ r ∷ []) t ≡ logged_writes log t = logged_imageless log r (ap image_in is) in
     ap (λ us. overlays empty (map (logged_writes (log ++ r ∷ [])) us)) (committed_one log r (ap is_commit is))
@@ -79,7 +82,8 @@ tells_commit log r is =
 
 -- The serial records overlaid by the one are those overlaid by the other: where an image is logged it stands in place, and its transaction
 -- sees the write set there.
-pub logged_as_written : {held : List Hold} {now R : Records} {t : ℕ} {p : Progress} {L : WriteSet} → Sees held now R t p.writes → HasLogged held R t p L → overlay now L ≡ overlay now p.writes
+pub logged_as_written : {held : List Hold} {now R : Records} {t : ℕ} {p : Progress} {L : WriteSet} → Sees held now R t p.writes
+    → HasLogged held R t p L → overlay now L ≡ overlay now p.writes
 logged_as_written {held} {now} {R} {t} {p} {L} m g = same_map rids_total exact_rids _ _ (λ id.
     ⊎_elim
     (λ some.
@@ -98,7 +102,8 @@ some_same x y e = cc
 -- ---- one image more
 
 module _ {held : List Hold} {R : Records} where
-  image_logged : {t : ℕ} {p : Progress} {L : WriteSet} (id : Rid) (image : Image) → MayWrite held t id → HasLogged held R t p L → HasLogged held (put_image R id image) t p (insert L id image)
+  image_logged : {t : ℕ} {p : Progress} {L : WriteSet} (id : Rid) (image : Image) → MayWrite held t id → HasLogged held R t p L
+      → HasLogged held (put_image R id image) t p (insert L id image)
   image_logged {t} {p} {L} id image w g =
       let fewer : (q : Rid) → get (insert L id image) q ≡ None → get L q ≡ None =
       λ q none. ⊎_elim
@@ -116,7 +121,8 @@ module _ {held : List Hold} {R : Records} where
       }
 
   -- another transaction has changed something elsewhere
-  logged_elsewhere : {t : ℕ} {p : Progress} {L : WriteSet} (R' : Records) → ((id : Rid) → MayWrite held t id → get R' id ≡ get R id) → HasLogged held R t p L → HasLogged held R' t p L
+  logged_elsewhere : {t : ℕ} {p : Progress} {L : WriteSet} (R' : Records) → ((id : Rid) → MayWrite held t id → get R' id ≡ get R id)
+      → HasLogged held R t p L → HasLogged held R' t p L
   logged_elsewhere R' same g = record {
     in_place = λ id image at. let was = g.in_place id image at in (same id was.1 ∙ was.0, was.1);
     unwritten = g.unwritten;
@@ -125,7 +131,8 @@ module _ {held : List Hold} {R : Records} where
 
 -- A transaction under way logs an image and puts it in place, or several one after another.
 module _ (held : List Hold) (disjoint : (t u : ℕ) (id : Rid) → t ≢ u → MayWrite held t id → MayWrite held u id → ⊥) (now : Records) (ts : List ℕ) (p : ℕ → Progress) (t : ℕ) (a : IsAmong t ts) where
-  pub image_tells : (R : Records) (log : List LogRecord) (id : Rid) (image : Image) (payload : Payload) → image_in payload ≡ Some (id, image) → is_commit payload ≡ false → MayWrite held t id
+  pub image_tells : (R : Records) (log : List LogRecord) (id : Rid) (image : Image) (payload : Payload) → image_in payload ≡ Some (id, image)
+      → is_commit payload ≡ false → MayWrite held t id
       → TellsSerial log held now R ts p → TellsSerial (and_record t log payload) held now (put_image R id image) ts p
   image_tells R log id image payload is no_commit w k =
       let r : LogRecord = record { txn = t; previous = previous_of t log; payload = payload } in

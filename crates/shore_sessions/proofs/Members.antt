@@ -65,7 +65,8 @@ module _ (t : ℕ) where
         ] refl
 
     -- no session is lost by it
-    pub with_among : (a : SessionTxn) (xs : List SessionTxn) → IsAmong a xs → (b : SessionTxn) × IsAmong b (with_undo t undo xs) × (b.session ≡ a.session)
+    pub with_among : (a : SessionTxn) (xs : List SessionTxn) → IsAmong a xs
+        → (b : SessionTxn) × IsAmong b (with_undo t undo xs) × (b.session ≡ a.session)
     with_among a [] h = absurd h
     with_among a (x ∷ xs) (inl same) =
         elim (x.txn == t) as (λ c. (b : SessionTxn) × IsAmong b (cond c (record { session = x.session; txn = x.txn; undo = undo }) x ∷ with_undo t undo xs) × (b.session ≡ a.session)) [

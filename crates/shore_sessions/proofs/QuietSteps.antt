@@ -27,7 +27,8 @@ use Rattle.shore_sessions.specs.Soundness.{IsSoundAfter, decided_txn, serial_aft
 use Rattle.shore_sessions.specs.UndoLists.{CanUndo}
 use Rattle.shore_sessions.specs.Views.{IsAmong, Stand}
 
-same_writes : {held : List Hold} {now R : Records} {ts : List ℕ} (v w : ℕ → WriteSet) → ((t : ℕ) → v t ≡ w t) → Stand held now R ts v → Stand held now R ts w
+same_writes : {held : List Hold} {now R : Records} {ts : List ℕ} (v w : ℕ → WriteSet) → ((t : ℕ) → v t ≡ w t) → Stand held now R ts v
+    → Stand held now R ts w
 same_writes {held} {now} {R} {ts} v w same k = let e : v ≡ w = λ i t. same t i in subst (Stand held now R ts) e k
 
 module _ {o : Records} {es : List Entry} {s : Sessions} (k : IsSoundAfter o es s) where

@@ -35,7 +35,8 @@ module _ (held : List Hold) (t : ℕ) (R V : Records) (agree : (id : Rid) → Ma
   there : (id : Rid) (P : Image → Type 0) → MayRead held t id → P (get R id) → P (get V id)
   there id P r h = subst P (sym (agree id r)) h
 
-  insert_there : (n s : ℕ) (bytes : List ℕ) (answer : Answer) → Permit held t (call.Insert s bytes) answer → IsRight R n (call.Insert s bytes) answer → IsRight V n (call.Insert s bytes) answer
+  insert_there : (n s : ℕ) (bytes : List ℕ) (answer : Answer) → Permit held t (call.Insert s bytes) answer → IsRight R n (call.Insert s bytes) answer
+      → IsRight V n (call.Insert s bytes) answer
   insert_there n s bytes (Inserted id) permits h =
       let same : h.0 ≡ id = cc in
       (h.0, h.1, h.2, agree h.0 (read_of_write held t h.0 (subst (MayWrite held t) (sym same) permits)) ∙ h.3)
@@ -102,16 +103,19 @@ module _ {held : List Hold} {now R : Records} {t : ℕ} (es : List Exchange) (m 
   seen : (S : Records) → AgreeWhere (MayRead held t) now S → (id : Rid) → MayRead held t id → get (overlay S (writes_of es)) id ≡ get R id
   seen S agree id r = overlays_agree now S (writes_of es) id (agree id r) ∙ sym (m.view id r)
 
-  may_reply : (c : Call) (reply : Result Answer Fault) → MayReplyInPlace held t R (length progress.saved) c reply → (S : Records) → AgreeWhere (MayRead held t) now S → MayReply S progress c reply
+  may_reply : (c : Call) (reply : Result Answer Fault) → MayReplyInPlace held t R (length progress.saved) c reply → (S : Records)
+      → AgreeWhere (MayRead held t) now S → MayReply S progress c reply
   may_reply c (Ok answer) h S agree = right_there held t R (overlay S progress.writes) (seen S agree) (length progress.saved) c answer h.0 h.1
   may_reply c (Err fault) h S agree = refused_there held t R (overlay S progress.writes) (seen S agree) c fault h
 
   module _ (undo : UndoList) (k : CanUndo held now R t undo progress) where
-    insert_sees : (s : ℕ) (bytes : List ℕ) (answer : Answer) → Permit held t (call.Insert s bytes) answer → StillSees progress.writes m (in_place_after_answer R undo (call.Insert s bytes) answer) (after_answer progress (call.Insert s bytes) answer).writes
+    insert_sees : (s : ℕ) (bytes : List ℕ) (answer : Answer) → Permit held t (call.Insert s bytes) answer
+        → StillSees progress.writes m (in_place_after_answer R undo (call.Insert s bytes) answer) (after_answer progress (call.Insert s bytes) answer).writes
     insert_sees s bytes (Inserted id) permits = one_written progress.writes m id (Some bytes) permits
     insert_sees s bytes _ permits = nothing_written progress.writes m
 
-    answer_sees : (c : Call) (answer : Answer) → Permit held t c answer → IsRight R (length progress.saved) c answer → StillSees progress.writes m (in_place_after_answer R undo c answer) (after_answer progress c answer).writes
+    answer_sees : (c : Call) (answer : Answer) → Permit held t c answer → IsRight R (length progress.saved) c answer
+        → StillSees progress.writes m (in_place_after_answer R undo c answer) (after_answer progress c answer).writes
     answer_sees (call.Insert s bytes) answer permits h = insert_sees s bytes answer permits
     answer_sees (call.Update id bytes) answer permits h = one_written progress.writes m id (Some bytes) permits
     answer_sees (call.Delete id) answer permits h = one_written progress.writes m id None permits
@@ -133,11 +137,13 @@ module _ {held : List Hold} {now R : Records} {t : ℕ} (es : List Exchange) (m 
     answer_undoes call.Savepoint answer permits h = savepoint_undoes k m
     answer_undoes _ answer permits h = k
 
-    pub reply_sees : (c : Call) (reply : Result Answer Fault) → MayReplyInPlace held t R (length progress.saved) c reply → StillSees progress.writes m (in_place_after R undo c reply) (after_reply progress c reply).writes
+    pub reply_sees : (c : Call) (reply : Result Answer Fault) → MayReplyInPlace held t R (length progress.saved) c reply
+        → StillSees progress.writes m (in_place_after R undo c reply) (after_reply progress c reply).writes
     reply_sees c (Ok answer) h = answer_sees c answer h.0 h.1
     reply_sees c (Err fault) h = nothing_written progress.writes m
 
-    reply_undoes : (c : Call) (reply : Result Answer Fault) → MayReplyInPlace held t R (length progress.saved) c reply → CanUndo held now (in_place_after R undo c reply) t (undo_after R undo c reply) (after_reply progress c reply)
+    reply_undoes : (c : Call) (reply : Result Answer Fault) → MayReplyInPlace held t R (length progress.saved) c reply
+        → CanUndo held now (in_place_after R undo c reply) t (undo_after R undo c reply) (after_reply progress c reply)
     reply_undoes c (Ok answer) h = answer_undoes c answer h.0 h.1
     reply_undoes c (Err fault) h = k
 

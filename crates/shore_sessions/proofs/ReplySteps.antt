@@ -72,7 +72,8 @@ module _ {o : Records} {es : List Entry} {s : Sessions} (k : IsSoundAfter o es s
     reply_decided = subst (AllByRecursion (λ d. decided_txn d < s.next_txn)) (sym (decisions-exchanged es t a.session x)) k.decided
 
     -- what it may write nobody else may read
-    pub others_see : (R' : Records) → ((id : Rid) → (get R' id ≡ get s.records id) ⊎ MayWrite s.held t id) → (u : ℕ) → u ≢ t → (id : Rid) → MayRead s.held u id → get R' id ≡ get s.records id
+    pub others_see : (R' : Records) → ((id : Rid) → (get R' id ≡ get s.records id) ⊎ MayWrite s.held t id) → (u : ℕ) → u ≢ t → (id : Rid)
+        → MayRead s.held u id → get R' id ≡ get s.records id
     others_see R' changes u other id r = ⊎_elim (λ kept. kept) (λ w. absurd (writer_excludes k.stand t u id (λ same. other (sym same)) w r)) (changes id)
 
   -- a reply, judged on the records in place

@@ -24,7 +24,8 @@ module _ {held : List Hold} {now R : Records} {t : ℕ} where
     locked = λ id some. let image = has_image (get L id) some in (g.in_place id image.0 image.1).1;
   }
 
-  pub step_sees : {L : WriteSet} (id : Rid) (image : Image) → MayWrite held t id → Sees held now R t L → Sees held now (put_image R id image) t (insert L id image)
+  pub step_sees : {L : WriteSet} (id : Rid) (image : Image) → MayWrite held t id → Sees held now R t L
+      → Sees held now (put_image R id image) t (insert L id image)
   step_sees {L} id image w m = let moved = one_written L m id image w in record { view = moved.view; locked = moved.locked }
 
   -- the last image is put back; the rest is left to undo

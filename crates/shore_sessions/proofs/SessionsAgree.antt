@@ -56,7 +56,8 @@ answer_leaves R n _ answer own h = absurd own
 refusal_leaves : (fault : Fault) → LeavesSession (Err fault)
 refusal_leaves fault = record { stays = λ p. refl; begins_none = refl }
 
-reply_leaves : (held : List Hold) (t : ℕ) (R : Records) (n : ℕ) (c : Call) (reply : Result Answer Fault) → IsInnerCall c → MayReplyInPlace held t R n c reply → LeavesSession reply
+reply_leaves : (held : List Hold) (t : ℕ) (R : Records) (n : ℕ) (c : Call) (reply : Result Answer Fault) → IsInnerCall c
+    → MayReplyInPlace held t R n c reply → LeavesSession reply
 reply_leaves held t R n c (Ok answer) own h = answer_leaves R n c answer own h.1
 reply_leaves held t R n c (Err fault) own h = refusal_leaves fault
 
@@ -65,7 +66,8 @@ if_begun o P e = subst (λ o. IfSome o P) (sym e) tt
 
 -- ---- the transaction of a call
 
-own_of_txn : (p : SessionState) (pairs : List (ℕ × List ℕ)) (t : ℕ) (c : Call) (reply : Result Answer Fault) → IsInnerCall c → t ≡ p.txn → IsOfTxn p pairs t c reply
+own_of_txn : (p : SessionState) (pairs : List (ℕ × List ℕ)) (t : ℕ) (c : Call) (reply : Result Answer Fault) → IsInnerCall c → t ≡ p.txn
+    → IsOfTxn p pairs t c reply
 own_of_txn p pairs t call.Begin reply own e = absurd own
 own_of_txn p pairs t (call.Resolve global outcome) reply own e = absurd own
 own_of_txn p pairs t _ reply own e = e
@@ -98,7 +100,8 @@ module _ {o : Records} {es : List Entry} {s : Sessions} (k : SessionsAgree o es 
   after_other : (n session t : ℕ) (x : Exchange) → session ≢ n → session_state n free (es ++ Exchanged session t x ∷ []) ≡ session_state n free es
   after_other n session t x other = session_state-push n free es (Exchanged session t x) ∙ ap (λ b. cond b (after_own_reply (session_state n free es) x.reply) (session_state n free es)) (ne_eqb session n other)
 
-  after_own : (session t : ℕ) (x : Exchange) → session_state session free (es ++ Exchanged session t x ∷ []) ≡ after_own_reply (session_state session free es) x.reply
+  after_own : (session t : ℕ) (x : Exchange)
+      → session_state session free (es ++ Exchanged session t x ∷ []) ≡ after_own_reply (session_state session free es) x.reply
   after_own session t x = session_state-push session free es (Exchanged session t x) ∙ ap (λ b. cond b (after_own_reply (session_state session free es) x.reply) (session_state session free es)) (eq-eqb session session refl)
 
   begun_push : (e : Entry) → IfSome (began e) (λ u. u < s.next_txn) → All (λ e. IfSome (began e) (λ u. u < s.next_txn)) (es ++ e ∷ [])
@@ -111,7 +114,11 @@ module _ {o : Records} {es : List Entry} {s : Sessions} (k : SessionsAgree o es 
         session_state-push n free es (Exchanged session t x)
         ∙ elim (session == n) as (λ b. cond b (after_own_reply (session_state n free es) x.reply) (session_state n free es) ≡ session_state n free es) [ true ↦ reply.stays (session_state n free es) | false ↦ refl ]
 
-    pub sessions_stay : (new : Sessions) → s.next_txn ≡ new.next_txn → ((a : SessionTxn) → IsCurrent new a → (b : SessionTxn) × IsCurrent s b × (a.session ≡ b.session) × (a.txn ≡ b.txn)) → ((a : SessionTxn) → IsCurrent s a → (b : SessionTxn) × IsCurrent new b × (b.session ≡ a.session)) → ((a b : SessionTxn) → IsAmong a new.active → IsAmong b new.committing → a.txn ≢ b.txn) → SessionsAgree o (es ++ Exchanged session t x ∷ []) new
+    pub sessions_stay : (new : Sessions) → s.next_txn ≡ new.next_txn
+        → ((a : SessionTxn) → IsCurrent new a → (b : SessionTxn) × IsCurrent s b × (a.session ≡ b.session) × (a.txn ≡ b.txn))
+        → ((a : SessionTxn) → IsCurrent s a → (b : SessionTxn) × IsCurrent new b × (b.session ≡ a.session))
+        → ((a b : SessionTxn) → IsAmong a new.active → IsAmong b new.committing → a.txn ≢ b.txn)
+        → SessionsAgree o (es ++ Exchanged session t x ∷ []) new
     sessions_stay new next was still apart = record {
       history = history-push es (opening_with o) (Exchanged session t x) k.history (if_begun (begun_by x.reply) (IsNewNumber (opening_with o) es) reply.begins_none, may);
       current = λ a y. let b = was a y in
@@ -128,7 +135,9 @@ module _ {o : Records} {es : List Entry} {s : Sessions} (k : SessionsAgree o es 
   own_txn : (a : SessionTxn) → IsCurrent s a → a.txn ≡ (session_state a.session free es).txn
   own_txn a y = ap (λ (p : SessionState). p.txn) (sym (k.current a y))
 
-  pub reply_agrees : (a : SessionTxn) (c : Call) (reply : Result Answer Fault) → IsAmong a s.active → IsInnerCall c → MayReplyInPlace s.held a.txn s.records (length a.undo.marks) c reply → SessionsAgree o (es ++ Exchanged a.session a.txn (exchange c reply) ∷ []) (reply_given s a c reply)
+  pub reply_agrees : (a : SessionTxn) (c : Call) (reply : Result Answer Fault) → IsAmong a s.active → IsInnerCall c
+      → MayReplyInPlace s.held a.txn s.records (length a.undo.marks) c reply
+      → SessionsAgree o (es ++ Exchanged a.session a.txn (exchange c reply) ∷ []) (reply_given s a c reply)
   reply_agrees a c reply mem own served =
       let undo = undo_after s.records a.undo c reply in
       sessions_stay a.session a.txn (exchange c reply) (reply_leaves s.held a.txn s.records (length a.undo.marks) c reply own served) (own_of_txn (session_state a.session free es) pairs a.txn c reply own (own_txn a (inl mem)))
@@ -137,7 +146,8 @@ module _ {o : Records} {es : List Entry} {s : Sessions} (k : SessionsAgree o es 
       (λ b y. ⊎_elim (λ x. let w = with_among a.txn undo b s.active x in (w.0, inl w.1, w.2)) (λ x. (b, inr x, refl)) y)
       (λ b d x y same. let one = among_with a.txn undo b s.active x in k.apart one.was d one.there y (sym one.txn ∙ same))
 
-  pub refusal_agrees : (session t : ℕ) (c : Call) (fault : Fault) → IsTxnOf s session t → SessionsAgree o (es ++ Exchanged session t (exchange c (Err fault)) ∷ []) s
+  pub refusal_agrees : (session t : ℕ) (c : Call) (fault : Fault) → IsTxnOf s session t
+      → SessionsAgree o (es ++ Exchanged session t (exchange c (Err fault)) ∷ []) s
   refusal_agrees session t c fault of =
       let stands : t ≡ (session_state session free es).txn =
       ⊎_elim (λ h. sym h.3 ∙ own_txn h.0 h.1 ∙ ap (λ n. (session_state n free es).txn) h.2) (λ h. h.1 ∙ sym (ap (λ (p : SessionState). p.txn) (k.idle session h.0))) of in
@@ -146,7 +156,10 @@ module _ {o : Records} {es : List Entry} {s : Sessions} (k : SessionsAgree o es 
 
   -- a reply that frees its session
   module _ (a : SessionTxn) (is_current : IsCurrent s a) (x : Exchange) (frees : (p : SessionState) → after_own_reply p x.reply ≡ free) (none : begun_by x.reply ≡ None) (may : IsOfTxn (session_state a.session free es) pairs a.txn x.call x.reply) where
-    pub session_freed : (new : Sessions) → s.next_txn ≡ new.next_txn → ((b : SessionTxn) → IsCurrent new b → IsCurrent s b × (b.txn ≢ a.txn)) → ((b : SessionTxn) → IsCurrent s b → b.txn ≢ a.txn → IsCurrent new b) → ((b c : SessionTxn) → IsAmong b new.active → IsAmong c new.committing → b.txn ≢ c.txn) → SessionsAgree o (es ++ Exchanged a.session a.txn x ∷ []) new
+    pub session_freed : (new : Sessions) → s.next_txn ≡ new.next_txn → ((b : SessionTxn) → IsCurrent new b → IsCurrent s b × (b.txn ≢ a.txn))
+        → ((b : SessionTxn) → IsCurrent s b → b.txn ≢ a.txn → IsCurrent new b)
+        → ((b c : SessionTxn) → IsAmong b new.active → IsAmong c new.committing → b.txn ≢ c.txn)
+        → SessionsAgree o (es ++ Exchanged a.session a.txn x ∷ []) new
     session_freed new next was still apart = record {
       history = history-push es (opening_with o) (Exchanged a.session a.txn x) k.history (if_begun (begun_by x.reply) (IsNewNumber (opening_with o) es) none, may);
       current = λ b y. let w = was b y in
@@ -169,7 +182,8 @@ module _ {o : Records} {es : List Entry} {s : Sessions} (k : SessionsAgree o es 
       some = subst (λ n. 0 < n) next k.some;
     }
 
-  pub abort_agrees : (a : SessionTxn) → IsAmong a s.active → (new : Sessions) → new.active ≡ without_txn a.txn s.active → new.committing ≡ s.committing → s.next_txn ≡ new.next_txn
+  pub abort_agrees : (a : SessionTxn) → IsAmong a s.active → (new : Sessions) → new.active ≡ without_txn a.txn s.active
+      → new.committing ≡ s.committing → s.next_txn ≡ new.next_txn
       → SessionsAgree o (es ++ Exchanged a.session a.txn (exchange call.Abort (Ok Aborted)) ∷ []) new
   abort_agrees a mem new active committing next =
       let there : (b : SessionTxn) → IsAmong b new.active → IsAmong b s.active × (b.txn ≢ a.txn) = λ b x. among_without a.txn b s.active (subst (IsAmong b) active x) in
@@ -179,7 +193,8 @@ module _ {o : Records} {es : List Entry} {s : Sessions} (k : SessionsAgree o es 
       (λ b y other. ⊎_elim (λ x. inl (subst (IsAmong b) (sym active) (member_stays a.txn b s.active x other))) (λ x. inr (subst (IsAmong b) (sym committing) x)) y)
       (λ b c x y. k.apart b c (there b x).0 (waits c y))
 
-  pub answer_agrees : (a : SessionTxn) → IsAmong a s.committing → SessionsAgree o (es ++ Exchanged a.session a.txn (exchange call.Commit (Ok Committed)) ∷ []) (commit_answered s a)
+  pub answer_agrees : (a : SessionTxn) → IsAmong a s.committing
+      → SessionsAgree o (es ++ Exchanged a.session a.txn (exchange call.Commit (Ok Committed)) ∷ []) (commit_answered s a)
   answer_agrees a mem =
       session_freed a (inr mem) (exchange call.Commit (Ok Committed)) (λ p. refl) refl (own_txn a (inr mem)) (commit_answered s a) refl
       (λ b y. ⊎_elim (λ x. (inl x, k.apart b a x mem)) (λ x. let w = among_without a.txn b s.committing x in (inr w.0, w.1)) y)
@@ -216,7 +231,8 @@ module _ {o : Records} {es : List Entry} {s : Sessions} (k : SessionsAgree o es 
         some = k.some;
       }
 
-  pub begin_agrees : (session : ℕ) → IsInNoTxn s session → SessionsAgree o (es ++ Exchanged session s.next_txn (exchange call.Begin (Ok (Began s.next_txn))) ∷ []) (txn_begun s session)
+  pub begin_agrees : (session : ℕ) → IsInNoTxn s session
+      → SessionsAgree o (es ++ Exchanged session s.next_txn (exchange call.Begin (Ok (Began s.next_txn))) ∷ []) (txn_begun s session)
   begin_agrees session idle =
       let x : Exchange = exchange call.Begin (Ok (Began s.next_txn)) in
       let new : SessionTxn = record { session = session; txn = s.next_txn; undo = nothing_to_undo } in
@@ -245,7 +261,8 @@ module _ {o : Records} {es : List Entry} {s : Sessions} (k : SessionsAgree o es 
 
 -- ---- all of them
 
-pub event_agrees : (o : Records) (es : List Entry) (old new : Sessions) (e : SessionEvent) → SessionsAgree o es old → StepsTo old e new → SessionsAgree o (es ++ entries_by old e) new
+pub event_agrees : (o : Records) (es : List Entry) (old new : Sessions) (e : SessionEvent) → SessionsAgree o es old → StepsTo old e new
+    → SessionsAgree o (es ++ entries_by old e) new
 event_agrees o es old new (MoveLocks held) k moves = subst (SessionsAgree o (es ++ [])) (sym moves.3) (subst (λ es. SessionsAgree o es (locks_moved old held)) (sym (append-nil es))
     (record { history = k.history; current = k.current; idle = k.idle; one = k.one; apart = k.apart; above = k.above; below = k.below; begun = k.begun; some = k.some }))
 event_agrees o es old new (BeginTxn session) k moves = subst (SessionsAgree o _) (sym moves.1) (begin_agrees k session moves.0)

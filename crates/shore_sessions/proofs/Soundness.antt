@@ -24,15 +24,18 @@ if_none_or false t P p = p
 
 module _ (o : Records) (es more : List Entry) where
   -- a transaction that keeps its turn runs alone as it did, on the same serial records
-  runs_kept : (before : List Decision) (t : ℕ) → AreKept es more before → KeepsTurn es more t → RunsAloneAfter (history_from o es) before t → RunsAloneAfter (history_from o more) before t
+  runs_kept : (before : List Decision) (t : ℕ) → AreKept es more before → KeepsTurn es more t → RunsAloneAfter (history_from o es) before t
+      → RunsAloneAfter (history_from o more) before t
   runs_kept before t kept own runs = (subst (λ R. MayReplyAll R start (calls_of t more)) (sym (serial-kept es more o before kept)) (own.replies _ runs.0), refl)
 
-  turn_kept : (before : List Decision) (d : Decision) → AreKept es more before → KeepsTurn es more (decided_txn d) → TakesTurn (history_from o es) before d → TakesTurn (history_from o more) before d
+  turn_kept : (before : List Decision) (d : Decision) → AreKept es more before → KeepsTurn es more (decided_txn d)
+      → TakesTurn (history_from o es) before d → TakesTurn (history_from o more) before d
   turn_kept before (Commit t) kept own = if_turn (has_prepared [] before t) t (RunsAloneAfter (history_from o es) before) (RunsAloneAfter (history_from o more) before) (runs_kept before t kept own)
   turn_kept before (Prepare t g) kept own = if_turn (has_prepared [] before t) t (RunsAloneAfter (history_from o es) before) (RunsAloneAfter (history_from o more) before) (runs_kept before t kept own)
   turn_kept before (RollBack t) kept own = λ h. h
 
-  turn_stays : AreKept es more (decisions es) → Sound (history_from o es) → (n : ℕ) (d : Decision) → slice_get (decisions es) n ≡ Some d → TakesTurn (history_from o more) (take n (decisions es)) d
+  turn_stays : AreKept es more (decisions es) → Sound (history_from o es) → (n : ℕ) (d : Decision) → slice_get (decisions es) n ≡ Some d
+      → TakesTurn (history_from o more) (take n (decisions es)) d
   turn_stays kept sound n d at =
       turn_kept (take n (decisions es)) d (recursion-take (λ d. KeepsTurn es more (decided_txn d)) n (decisions es) kept)
       (recursion-at (λ d. KeepsTurn es more (decided_txn d)) (decisions es) n d kept at) (sound n d at)
@@ -44,7 +47,8 @@ module _ (o : Records) (es more : List Entry) where
       (turn_stays kept sound n d (sym (ap (λ ds. slice_get ds n) same) ∙ at))
 
 -- the commit of a transaction whose replies are right on the serial records
-pub sound_commit : (o : Records) (es : List Entry) (t : ℕ) → Sound (history_from o es) → MayReplyAll (serial_after o es) start (calls_of t es) → Sound (history_from o (es ++ Decided (Commit t) ∷ []))
+pub sound_commit : (o : Records) (es : List Entry) (t : ℕ) → Sound (history_from o es) → MayReplyAll (serial_after o es) start (calls_of t es)
+    → Sound (history_from o (es ++ Decided (Commit t) ∷ []))
 sound_commit o es t sound replies n d at =
     let more = es ++ Decided (Commit t) ∷ [] in
     let ds = decisions es in

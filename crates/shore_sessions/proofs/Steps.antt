@@ -29,7 +29,8 @@ txn_below o es s session t k (inl h) = subst (λ t. t < s.next_txn) h.3 (k.below
 txn_below o es s session t k (inr h) = subst (λ t. t < s.next_txn) (sym h.1) k.some
 
 -- each of them
-pub event_stays_sound : (o : Records) (es : List Entry) (old new : Sessions) (e : SessionEvent) → IsSoundAfter o es old → SessionsAgree o es old → StepsTo old e new → IsSoundAfter o (es ++ entries_by old e) new
+pub event_stays_sound : (o : Records) (es : List Entry) (old new : Sessions) (e : SessionEvent) → IsSoundAfter o es old → SessionsAgree o es old
+    → StepsTo old e new → IsSoundAfter o (es ++ entries_by old e) new
 event_stays_sound o es old new (MoveLocks held) k agree moves = subst (IsSoundAfter o (es ++ [])) (sym moves.3) (subst (λ es. IsSoundAfter o es (locks_moved old held)) (sym (append-nil es)) (locks_stay_sound k held moves.0 moves.1 moves.2))
 event_stays_sound o es old new (BeginTxn session) k agree moves = subst (IsSoundAfter o _) (sym moves.1) (begin_stays_sound k session)
 event_stays_sound o es old new (GiveReply a c reply) k agree moves = subst (IsSoundAfter o _) (sym moves.3) (reply_stays_sound k a moves.0 c reply moves.2)

@@ -45,7 +45,8 @@ kept_by_quiet es t u s x quiet =
 
 -- ---- serial records
 
-serial-same : (v w : ℕ → WriteSet) (R : Records) (ds : List Decision) → AllByRecursion (λ d. v (decided_txn d) ≡ w (decided_txn d)) ds → serial v R ds ≡ serial w R ds
+serial-same : (v w : ℕ → WriteSet) (R : Records) (ds : List Decision) → AllByRecursion (λ d. v (decided_txn d) ≡ w (decided_txn d)) ds
+    → serial v R ds ≡ serial w R ds
 serial-same v w R [] h = refl
 serial-same v w R (Commit t ∷ ds) h = ap (λ W. serial v (overlay R W) ds) h.0 ∙ serial-same v w (overlay R (w t)) ds h.1
 serial-same v w R (Prepare t g ∷ ds) h = serial-same v w R ds h.1
@@ -61,7 +62,8 @@ serial-push w R (RollBack u ∷ ds) t = serial-push w R ds t
 abbrev pub AreKept : List Entry → List Entry → List Decision → Type 0
 AreKept es more ds = AllByRecursion (λ d. KeepsTurn es more (decided_txn d)) ds
 
-pub serial-kept : (es more : List Entry) (R : Records) (ds : List Decision) → AreKept es more ds → serial (written_by more) R ds ≡ serial (written_by es) R ds
+pub serial-kept : (es more : List Entry) (R : Records) (ds : List Decision) → AreKept es more ds
+    → serial (written_by more) R ds ≡ serial (written_by es) R ds
 serial-kept es more R ds kept =
     serial-same (written_by more) (written_by es) R ds
     (recursion-weaker (λ d. KeepsTurn es more (decided_txn d)) _ (λ d k. ap (λ p. p.writes) k.progress) ds kept)

@@ -15,7 +15,8 @@ use Rattle.shore_sessions.specs.LogTells.{MatchesUndo}
 use Rattle.shore_sessions.specs.Logged.{and_compensations, and_record, next_to_undo}
 
 -- a record of its own, and one of another
-pub unanswered_own : (t : ℕ) (log : List LogRecord) (r : LogRecord) → r.txn ≡ t → unanswered t (log ++ r ∷ []) ≡ answered_by (1 + length log) r.payload (unanswered t log)
+pub unanswered_own : (t : ℕ) (log : List LogRecord) (r : LogRecord) → r.txn ≡ t
+    → unanswered t (log ++ r ∷ []) ≡ answered_by (1 + length log) r.payload (unanswered t log)
 unanswered_own t log r own = ap unanswered_in (newest-push t log r ∙ ap (λ b. cond b ((1 + length log, r) ∷ reverse (records_of t log)) (reverse (records_of t log))) (eq-eqb r.txn t own))
 
 pub unanswered_other : (t : ℕ) (log : List LogRecord) (r : LogRecord) → r.txn ≢ t → unanswered t (log ++ r ∷ []) ≡ unanswered t log
@@ -25,7 +26,8 @@ reverse_last : (xs : List (Rid × Image)) (e : Rid × Image) → reverse (xs ++ 
 reverse_last xs e = reverse-append xs (e ∷ [])
 
 -- a change
-pub change_matches : (t : ℕ) (log : List LogRecord) (images : List (Rid × Image)) (id : Rid) (before image : Image) → MatchesUndo log t images → MatchesUndo (and_record t log (Change id before image)) t (images ++ (id, before) ∷ [])
+pub change_matches : (t : ℕ) (log : List LogRecord) (images : List (Rid × Image)) (id : Rid) (before image : Image) → MatchesUndo log t images
+    → MatchesUndo (and_record t log (Change id before image)) t (images ++ (id, before) ∷ [])
 change_matches t log images id before image h =
     ap (map (λ c. (c.id, c.before))) (unanswered_own t log record { txn = t; previous = previous_of t log; payload = Change id before image } refl)
     ∙ ap (λ es. (id, before) ∷ es) h ∙ sym (reverse_last images (id, before))
@@ -39,7 +41,8 @@ first_image image [] = image
 first_image image (e ∷ es) = e.1
 
 -- the newest of the Changes is the last image of the undo list
-answers_last : (cs : List UnansweredChange) (id : Rid) (image : Image) (es : List (Rid × Image)) → map (λ c. (c.id, c.before)) cs ≡ (id, image) ∷ es → Answers cs id image (undo_next_of (drop 1 cs)) × (map (λ c. (c.id, c.before)) (drop 1 cs) ≡ es)
+answers_last : (cs : List UnansweredChange) (id : Rid) (image : Image) (es : List (Rid × Image)) → map (λ c. (c.id, c.before)) cs ≡ (id, image) ∷ es
+    → Answers cs id image (undo_next_of (drop 1 cs)) × (map (λ c. (c.id, c.before)) (drop 1 cs) ≡ es)
 answers_last [] id image es h = cc
 answers_last (c ∷ cs) id image es h =
     let same_id : id ≡ c.id = sym (ap (first_id id) h) in
@@ -49,7 +52,8 @@ answers_last (c ∷ cs) id image es h =
 -- ---- a rollback
 
 -- its Compensations take its images off
-pub compensations_match : (t : ℕ) (log : List LogRecord) (kept es : List (Rid × Image)) → MatchesUndo log t (kept ++ es) → MatchesUndo (and_compensations t log es) t kept
+pub compensations_match : (t : ℕ) (log : List LogRecord) (kept es : List (Rid × Image)) → MatchesUndo log t (kept ++ es)
+    → MatchesUndo (and_compensations t log es) t kept
 compensations_match t log kept [] h = h ∙ ap reverse (append-nil kept)
 compensations_match t log kept (e ∷ es) h =
     let before : MatchesUndo (and_compensations t log es) t (kept ++ e ∷ []) = compensations_match t log (kept ++ e ∷ []) es (h ∙ ap reverse (sym (append_assoc kept (e ∷ []) es))) in

@@ -29,7 +29,8 @@ laid_over-agree : (R S : Records) (es : List (Rid × Image)) (id : Rid) → get 
 laid_over-agree R S es id e = get-laid_over S es id ∙ ap (unwrap_or (find rid_cmp id es)) e ∙ sym (get-laid_over R es id)
 
 -- if images change an id, it is one of theirs
-pub laid_or_left : (P : Rid → Type 0) (R : Records) (es : List (Rid × Image)) (id : Rid) → AllByRecursion (λ e. P e.0) es → (get (laid_over R es) id ≡ get R id) ⊎ P id
+pub laid_or_left : (P : Rid → Type 0) (R : Records) (es : List (Rid × Image)) (id : Rid) → AllByRecursion (λ e. P e.0) es
+    → (get (laid_over R es) id ≡ get R id) ⊎ P id
 laid_or_left P R [] id h = inl refl
 laid_or_left P R (e ∷ es) id h =
     ⊎_elim (λ same. inr (subst P (sym same) h.0))
@@ -59,33 +60,38 @@ anything [] = tt
 anything (m ∷ ms) = (tt, anything ms)
 
 module _ (held : List Hold) (t : ℕ) (now R : Records) where
-  marks_within : (images : List (Rid × Image)) (ms : List ℕ) (Ws : List WriteSet) → UndoToSavepoints held now R t images ms Ws → AllByRecursion (λ m. m ≤ length images) ms
+  marks_within : (images : List (Rid × Image)) (ms : List ℕ) (Ws : List WriteSet) → UndoToSavepoints held now R t images ms Ws
+      → AllByRecursion (λ m. m ≤ length images) ms
   marks_within images [] [] h = tt
   marks_within images (m ∷ ms) (W ∷ Ws) h = (h.0.within, marks_within images ms Ws h.1)
   marks_within images [] (W ∷ Ws) h = absurd h
   marks_within images (m ∷ ms) [] h = absurd h
 
-  marks_push : (images : List (Rid × Image)) (ms : List ℕ) (Ws : List WriteSet) (m : ℕ) (W : WriteSet) → UndoToSavepoints held now R t images ms Ws → UndoesTo held now R t images m W → UndoToSavepoints held now R t images (ms ++ m ∷ []) (Ws ++ W ∷ [])
+  marks_push : (images : List (Rid × Image)) (ms : List ℕ) (Ws : List WriteSet) (m : ℕ) (W : WriteSet) → UndoToSavepoints held now R t images ms Ws
+      → UndoesTo held now R t images m W → UndoToSavepoints held now R t images (ms ++ m ∷ []) (Ws ++ W ∷ [])
   marks_push images [] [] m W h g = (g, tt)
   marks_push images (n ∷ ms) (V ∷ Ws) m W h g = (h.0, marks_push images ms Ws m W h.1 g)
   marks_push images [] (V ∷ Ws) m W h g = absurd h
   marks_push images (n ∷ ms) [] m W h g = absurd h
 
-  marks_take : (images : List (Rid × Image)) (n : ℕ) (ms : List ℕ) (Ws : List WriteSet) → UndoToSavepoints held now R t images ms Ws → UndoToSavepoints held now R t images (take n ms) (take n Ws)
+  marks_take : (images : List (Rid × Image)) (n : ℕ) (ms : List ℕ) (Ws : List WriteSet) → UndoToSavepoints held now R t images ms Ws
+      → UndoToSavepoints held now R t images (take n ms) (take n Ws)
   marks_take images zero ms Ws h = tt
   marks_take images (suc n) [] [] h = tt
   marks_take images (suc n) (m ∷ ms) (W ∷ Ws) h = (h.0, marks_take images n ms Ws h.1)
   marks_take images (suc n) [] (W ∷ Ws) h = absurd h
   marks_take images (suc n) (m ∷ ms) [] h = absurd h
 
-  pub marks_alike : (images : List (Rid × Image)) (ms : List ℕ) (Ws : List WriteSet) → UndoToSavepoints held now R t images ms Ws → length ms ≡ length Ws
+  pub marks_alike : (images : List (Rid × Image)) (ms : List ℕ) (Ws : List WriteSet) → UndoToSavepoints held now R t images ms Ws
+      → length ms ≡ length Ws
   marks_alike images [] [] h = refl
   marks_alike images (m ∷ ms) (W ∷ Ws) h = ap suc (marks_alike images ms Ws h.1)
   marks_alike images [] (W ∷ Ws) h = absurd h
   marks_alike images (m ∷ ms) [] h = absurd h
 
   -- the savepoint with the index n
-  marks_at : (images : List (Rid × Image)) (n : ℕ) (ms : List ℕ) (Ws : List WriteSet) (m : ℕ) (W : WriteSet) → n < length Ws → UndoToSavepoints held now R t images ms Ws → UndoesTo held now R t images (unwrap_or (slice_get ms n) m) (unwrap_or (slice_get Ws n) W)
+  marks_at : (images : List (Rid × Image)) (n : ℕ) (ms : List ℕ) (Ws : List WriteSet) (m : ℕ) (W : WriteSet) → n < length Ws
+      → UndoToSavepoints held now R t images ms Ws → UndoesTo held now R t images (unwrap_or (slice_get ms n) m) (unwrap_or (slice_get Ws n) W)
   marks_at images zero (m ∷ ms) (W ∷ Ws) d D less h = h.0
   marks_at images (suc n) (m ∷ ms) (W ∷ Ws) d D less h = marks_at images n ms Ws d D (omega arith) h.1
   marks_at images n [] [] d D less h = absurd (omega arith)
@@ -117,7 +123,8 @@ rise_below n d [] less h = absurd (omega arith)
 
 module _ {held : List Hold} {now R : Records} {t : ℕ} {undo : UndoList} {p : Progress} (k : CanUndo held now R t undo p) where
   -- others change nothing that it may read, in place or in the serial records
-  pub undo_kept_by_others : (now' R' : Records) → ((id : Rid) → MayRead held t id → (get R' id ≡ get R id) × (get now' id ≡ get now id)) → CanUndo held now' R' t undo p
+  pub undo_kept_by_others : (now' R' : Records) → ((id : Rid) → MayRead held t id → (get R' id ≡ get R id) × (get now' id ≡ get now id))
+      → CanUndo held now' R' t undo p
   undo_kept_by_others now' R' same =
       let keep : (m : ℕ) (W : WriteSet) → Unit {0} → UndoesTo held now R t undo.images m W → UndoesTo held now' R' t undo.images m W =
       λ m W _ g. record {
@@ -186,7 +193,8 @@ module _ {held : List Hold} {now R : Records} {t : ℕ} {undo : UndoList} {p : P
     pub back_changes : (id : Rid) → (get (rolled_back R (drop back_mark undo.images)) id ≡ get R id) ⊎ MayWrite held t id
     back_changes id = laid_or_left (MayWrite held t) R (drop back_mark undo.images) id (recursion-drop (λ e. MayWrite held t e.0) back_mark undo.images k.changed)
 
-    back_keeps : (m : ℕ) (W : WriteSet) → m ≤ back_mark → UndoesTo held now R t undo.images m W → UndoesTo held now (rolled_back R (drop back_mark undo.images)) t (take back_mark undo.images) m W
+    back_keeps : (m : ℕ) (W : WriteSet) → m ≤ back_mark → UndoesTo held now R t undo.images m W
+        → UndoesTo held now (rolled_back R (drop back_mark undo.images)) t (take back_mark undo.images) m W
     back_keeps m W le g =
         let same : rolled_back (rolled_back R (drop back_mark undo.images)) (drop m (take back_mark undo.images)) ≡ rolled_back R (drop m undo.images) =
         sym (laid_over-append R (drop m (take back_mark undo.images)) (drop back_mark undo.images)) ∙ ap (laid_over R) (drop-between m back_mark undo.images le goes_back.within) in
@@ -215,7 +223,8 @@ module _ {held : List Hold} {now R : Records} {t : ℕ} {undo : UndoList} {p : P
   undone_changes id = laid_or_left (MayWrite held t) R undo.images id k.changed
 
   -- Locks move, and it loses none. At an id that it may read only now neither its changes nor their undo have changed anything.
-  pub undo_kept_by_locks : (new : List Hold) → ((id : Rid) → MayRead held t id → MayRead new t id) → ((id : Rid) → MayWrite held t id → MayWrite new t id)
+  pub undo_kept_by_locks : (new : List Hold) → ((id : Rid) → MayRead held t id → MayRead new t id)
+      → ((id : Rid) → MayWrite held t id → MayWrite new t id)
       → Sees held now R t p.writes → Sees new now R t p.writes → CanUndo new now R t undo p
   undo_kept_by_locks new reads writes m m' =
       let keep : (n : ℕ) (W : WriteSet) → Unit {0} → UndoesTo held now R t undo.images n W → UndoesTo new now R t undo.images n W =

@@ -32,7 +32,8 @@ NoWriter writes id ts = (t : ℕ) → IsAmong t ts → get (writes t) id ≡ Non
 none_more : (writes : ℕ → WriteSet) (id : Rid) (u : ℕ) (us : List ℕ) → get (writes u) id ≡ None → NoWriter writes id us → NoWriter writes id (u ∷ us)
 none_more writes id u us e none t a = ⊎_elim (λ same. subst (λ v. get (writes v) id ≡ None) same e) (λ later. none t later) a
 
-or_later : (writes : ℕ → WriteSet) (id : Rid) (u : ℕ) (us : List ℕ) → get (writes u) id ≡ None → Writer writes id us ⊎ NoWriter writes id us → Writer writes id (u ∷ us) ⊎ NoWriter writes id (u ∷ us)
+or_later : (writes : ℕ → WriteSet) (id : Rid) (u : ℕ) (us : List ℕ) → get (writes u) id ≡ None → Writer writes id us ⊎ NoWriter writes id us
+    → Writer writes id (u ∷ us) ⊎ NoWriter writes id (u ∷ us)
 or_later writes id u us e (inl w) = inl (w.0, inr w.1, w.2)
 or_later writes id u us e (inr none) = inr (none_more writes id u us e none)
 
