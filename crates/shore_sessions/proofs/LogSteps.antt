@@ -132,6 +132,13 @@ filtered_none t (r ∷ log) h = ap (λ b. cond b (r ∷ filter (λ r. r.txn == t
 none_logged : (t : ℕ) (log : List LogRecord) → AllByRecursion (λ r. r.txn ≢ t) log → logged_writes log t ≡ empty
 none_logged t log h = ap last_images (filtered_none t log h)
 
+nothing_logged : (held : List Hold) (R : Records) (t : ℕ) → HasLogged held R t start empty
+nothing_logged held R t = record {
+  in_place = λ id image at. absurd (none_some image (sym (get-empty rid_cmp id) ∙ at));
+  unwritten = λ id e. get-empty rid_cmp id;
+  unsaved = λ id e. tt;
+}
+
 committed_below : (t : ℕ) (log : List LogRecord) → AllByRecursion (λ r. r.txn < t) log → AllByRecursion (λ u. u ≢ t) (committed_in log)
 committed_below t [] h = tt
 committed_below t (r ∷ log) h =
@@ -153,6 +160,9 @@ further ts' q still l = record {
 }
 
 module _ {o : Records} {es : List Entry} {s : Sessions} {log : List LogRecord} (k : IsSoundAfter o es s) (l : IsLogAfter o es s log) where
+  abbrev now : Records
+  now = serial_after o es
+
   -- no two may write one id
   pub disjoint : (t u : ℕ) (id : Rid) → t ≢ u → MayWrite s.held t id → MayWrite s.held u id → ⊥
   disjoint t u id other w v = writer_excludes k.stand t u id other w (read_of_write s.held u id v)
@@ -182,28 +192,43 @@ module _ {o : Records} {es : List Entry} {s : Sessions} {log : List LogRecord} (
   reply_grown a c (Err fault) less = l.below
 
   module _ (a : SessionTxn) (mem : IsAmong a s.active) (c : Call) (reply : Result Answer Fault) (served : MayReplyInPlace s.held a.txn s.records (length a.undo.marks) c reply) where
-    abbrev after_it : List Entry
-    after_it = es ++ Exchanged a.session a.txn (exchange c reply) ∷ []
+    abbrev more : List Entry
+    more = es ++ Exchanged a.session a.txn (exchange c reply) ∷ []
 
-    reply_on : TellsOn s.held disjoint (serial_after o es) s.records log (txns_of s.active) (progress_in es) a (txn_among a s.active mem) (k.undoes a mem) l.tells_serial (log_after_reply log s.records a c reply) (in_place_after s.records a.undo c reply) (after_reply (progress_in es a.txn) c reply)
-    reply_on = reply_tells s.held disjoint (serial_after o es) s.records log (txns_of s.active) (progress_in es) a (txn_among a s.active mem) (k.undoes a mem) l.tells_serial (length a.undo.marks) c reply served
+    abbrev R' : Records
+    R' = in_place_after s.records a.undo c reply
 
-    pub reply_keeps_log : IsLogAfter o after_it (reply_given s a c reply) (log_after_reply log s.records a c reply)
+    abbrev log' : List LogRecord
+    log' = log_after_reply log s.records a c reply
+
+    reply_on : TellsOn s.held disjoint now s.records log (txns_of s.active) (progress_in es) a (txn_among a s.active mem) (k.undoes a mem)
+        l.tells_serial log' R' (after_reply (progress_in es a.txn) c reply)
+    reply_on =
+        reply_tells s.held disjoint now s.records log (txns_of s.active) (progress_in es) a (txn_among a s.active mem) (k.undoes a mem)
+        l.tells_serial (length a.undo.marks) c reply served
+
+    own_progress : progress_in more a.txn ≡ after_reply (progress_in es a.txn) c reply
+    own_progress = ap (after start) (own_called k a mem c reply served) ∙ after-push start (calls_of a.txn es) (exchange c reply)
+
+    other_progress : (u : ℕ) → u ≢ a.txn → progress_in more u ≡ progress_in es u
+    other_progress u other = ap (after start) (others_called k a mem (exchange c reply) u other)
+
+    still_logged : (u : ℕ) → StillLogged s.held R' u (logged_writes log' u) (progress_in es u) (progress_in more u)
+    still_logged u =
+        elim (u == a.txn) as (λ x. (u == a.txn) ≡ x → StillLogged s.held R' u (logged_writes log' u) (progress_in es u) (progress_in more u)) [
+          | true ↦ λ e.
+              subst (λ v. StillLogged s.held R' v (logged_writes log' v) (progress_in es v) (progress_in more v)) (sym (eqb-true u a.txn e))
+              (subst (StillLogged s.held R' a.txn (logged_writes log' a.txn) (progress_in es a.txn)) (sym own_progress) reply_on.still)
+          | false ↦ λ e.
+              subst (StillLogged s.held R' u (logged_writes log' u) (progress_in es u)) (sym (other_progress u (eqb-false u a.txn e))) (λ g. g)
+        ] refl
+
+    pub reply_keeps_log : IsLogAfter o more (reply_given s a c reply) log'
     reply_keeps_log = record {
       tells_serial =
-          subst (λ ts. TellsSerial (log_after_reply log s.records a c reply) s.held (serial_after o after_it) (in_place_after s.records a.undo c reply) ts (progress_in after_it)) (sym (txns_with a.txn (undo_after s.records a.undo c reply) s.active))
-          (subst (λ now. TellsSerial (log_after_reply log s.records a c reply) s.held now (in_place_after s.records a.undo c reply) (txns_of s.active) (progress_in after_it)) (sym (reply_now k a mem (exchange c reply)))
-          (further (txns_of s.active) (progress_in after_it)
-          (λ u b. (
-            b,
-            elim (u == a.txn) as (λ x. (u == a.txn) ≡ x → StillLogged s.held (in_place_after s.records a.undo c reply) u (logged_writes (log_after_reply log s.records a c reply) u) (progress_in es u) (progress_in after_it u)) [
-              | true ↦ λ e. subst (λ v. StillLogged s.held (in_place_after s.records a.undo c reply) v (logged_writes (log_after_reply log s.records a c reply) v) (progress_in es v) (progress_in after_it v)) (sym (eqb-true u a.txn e))
-                  (subst (StillLogged s.held (in_place_after s.records a.undo c reply) a.txn (logged_writes (log_after_reply log s.records a c reply) a.txn) (progress_in es a.txn))
-                  (sym (ap (after start) (own_called k a mem c reply served) ∙ after-push start (calls_of a.txn es) (exchange c reply))) reply_on.still)
-              | false ↦ λ e. subst (StillLogged s.held (in_place_after s.records a.undo c reply) u (logged_writes (log_after_reply log s.records a c reply) u) (progress_in es u))
-                  (sym (ap (after start) (others_called k a mem (exchange c reply) u (eqb-false u a.txn e)))) (λ g. g)
-            ] refl,
-          )) reply_on.tells_serial));
+          subst (λ ts. TellsSerial log' s.held (serial_after o more) R' ts (progress_in more)) (sym (txns_with a.txn (undo_after s.records a.undo c reply) s.active))
+          (subst (λ now. TellsSerial log' s.held now R' (txns_of s.active) (progress_in more)) (sym (reply_now k a mem (exchange c reply)))
+          (further (txns_of s.active) (progress_in more) (λ u b. (b, still_logged u)) reply_on.tells_serial));
       below = reply_grown a c reply (t_below k a mem (exchange c reply));
     }
 
@@ -223,10 +248,12 @@ module _ {o : Records} {es : List Entry} {s : Sessions} {log : List LogRecord} (
                 tells_commit log r refl ∙ ap (λ R. overlay R (logged_writes log a.txn)) l.tells_serial.tells
                 ∙ logged_as_written (commit_sees k a mem) (l.tells_serial.each a.txn t_in) ∙ sym (commit_now k a mem);
             uncommitted = λ u b. let there = txn_without a.txn u s.active b in
-                subst (AllByRecursion (λ v. v ≢ u)) (sym (committed_one log r refl)) (recursion-push (λ v. v ≢ u) (committed_in log) a.txn (l.tells_serial.uncommitted u there.0) (λ same. there.1 (sym same)));
+                subst (AllByRecursion (λ v. v ≢ u)) (sym (committed_one log r refl))
+                (recursion-push (λ v. v ≢ u) (committed_in log) a.txn (l.tells_serial.uncommitted u there.0) (λ same. there.1 (sym same)));
             each = λ u b.
                 subst (λ p. HasLogged s.held s.records u p (logged_writes (log ++ r ∷ []) u)) (sym (ap (after start) (commit_called k a mem u)))
-                (subst (HasLogged s.held s.records u (progress_in es u)) (sym (logged_imageless log r refl u)) (l.tells_serial.each u (txn_without a.txn u s.active b).0));
+                (subst (HasLogged s.held s.records u (progress_in es u)) (sym (logged_imageless log r refl u))
+                (l.tells_serial.each u (txn_without a.txn u s.active b).0));
           };
           below = grown a.txn log Commit less l.below;
         }
@@ -235,20 +262,26 @@ module _ {o : Records} {es : List Entry} {s : Sessions} {log : List LogRecord} (
     abbrev aborts : List LogRecord
     aborts = and_compensations a.txn log a.undo.images
 
-    abort_undone : TellsSerial aborts s.held (serial_after o es) (rolled_back s.records a.undo.images) (txns_of s.active) (progress_in es)
-    abort_undone = compensations_tell s.held disjoint (serial_after o es) (txns_of s.active) (progress_in es) a.txn t_in s.records log a.undo.images (abort_can k a mem).changed l.tells_serial
+    abbrev left : Records
+    left = rolled_back s.records a.undo.images
+
+    abort_undone : TellsSerial aborts s.held now left (txns_of s.active) (progress_in es)
+    abort_undone =
+        compensations_tell s.held disjoint now (txns_of s.active) (progress_in es) a.txn t_in s.records log a.undo.images (abort_can k a mem).changed
+        l.tells_serial
 
     pub abort_keeps_log : IsLogAfter o (es ++ entries_by s (AnswerAbort a)) (abort_answered s a) (log_after log s (AnswerAbort a))
     abort_keeps_log =
         let r : LogRecord = record { txn = a.txn; previous = previous_of a.txn aborts; payload = End } in
-        let more = es ++ entries_by s (AnswerAbort a) in
+        let aborted : Exchange = exchange call.Abort (Ok Aborted) in
         record {
           tells_serial = record {
-            tells = tells_same aborts r refl (abort_undone.uncommitted a.txn t_in) ∙ abort_undone.tells ∙ sym (reply_now k a mem (exchange call.Abort (Ok Aborted)));
-            uncommitted = λ u b. subst (AllByRecursion (λ v. v ≢ u)) (sym (committed_same aborts r refl)) (abort_undone.uncommitted u (txn_without a.txn u s.active b).0);
+            tells = tells_same aborts r refl (abort_undone.uncommitted a.txn t_in) ∙ abort_undone.tells ∙ sym (reply_now k a mem aborted);
+            uncommitted = λ u b. let there = txn_without a.txn u s.active b in
+                subst (AllByRecursion (λ v. v ≢ u)) (sym (committed_same aborts r refl)) (abort_undone.uncommitted u there.0);
             each = λ u b. let there = txn_without a.txn u s.active b in
-                subst (λ p. HasLogged s.held (rolled_back s.records a.undo.images) u p (logged_writes (aborts ++ r ∷ []) u)) (sym (ap (after start) (others_called k a mem (exchange call.Abort (Ok Aborted)) u there.1)))
-                (subst (HasLogged s.held (rolled_back s.records a.undo.images) u (progress_in es u)) (sym (logged_imageless aborts r refl u)) (abort_undone.each u there.0));
+                subst (λ p. HasLogged s.held left u p (logged_writes (aborts ++ r ∷ []) u)) (sym (ap (after start) (others_called k a mem aborted u there.1)))
+                (subst (HasLogged s.held left u (progress_in es u)) (sym (logged_imageless aborts r refl u)) (abort_undone.each u there.0));
           };
           below = grown a.txn aborts End less (undo_grown a.txn log a.undo.images less l.below);
         }
@@ -256,17 +289,21 @@ module _ {o : Records} {es : List Entry} {s : Sessions} {log : List LogRecord} (
   pub begin_keeps_log : (session : ℕ) → IsLogAfter o (es ++ entries_by s (BeginTxn session)) (txn_begun s session) log
   begin_keeps_log session =
       let more = es ++ entries_by s (BeginTxn session) in
-      let none : logged_writes log s.next_txn ≡ empty = none_logged s.next_txn log (recursion-weaker (λ r. r.txn < s.next_txn) (λ r. r.txn ≢ s.next_txn) (λ r less same. omega arith) log l.below) in
+      let unseen = recursion-weaker (λ r. r.txn < s.next_txn) (λ r. r.txn ≢ s.next_txn) (λ r less same. omega arith) log l.below in
       record {
         tells_serial = subst (λ now. TellsSerial log s.held now s.records (s.next_txn ∷ txns_of s.active) (progress_in more)) (sym (begin_now k session)) (record {
           tells = l.tells_serial.tells;
-          uncommitted = λ u b. ⊎_elim (λ same. subst (λ u. AllByRecursion (λ v. v ≢ u) (committed_in log)) same (committed_below s.next_txn log l.below)) (λ later. l.tells_serial.uncommitted u later) b;
+          uncommitted = λ u b. ⊎_elim
+              (λ same. subst (λ u. AllByRecursion (λ v. v ≢ u) (committed_in log)) same (committed_below s.next_txn log l.below))
+              (λ later. l.tells_serial.uncommitted u later)
+              b;
           each = λ u b. ⊎_elim
               (λ same. subst (λ u. HasLogged s.held s.records u (progress_in more u) (logged_writes log u)) same
               (subst (λ p. HasLogged s.held s.records s.next_txn p (logged_writes log s.next_txn)) (sym (ap (after start) (begin_called k session)))
-              (subst (HasLogged s.held s.records s.next_txn start) (sym none)
-              (record { in_place = λ id image at. absurd (none_some image (sym (get-empty rid_cmp id) ∙ at)); unwritten = λ id e. get-empty rid_cmp id; unsaved = λ id e. tt }))))
-              (λ later. subst (λ p. HasLogged s.held s.records u p (logged_writes log u)) (sym (ap (after start) (begin_others k session u (λ same. not_yet k session (subst (λ v. IsAmong v (txns_of s.active)) same later))))) (l.tells_serial.each u later))
+              (subst (HasLogged s.held s.records s.next_txn start) (sym (none_logged s.next_txn log unseen)) (nothing_logged s.held s.records s.next_txn))))
+              (λ later.
+              let other : u ≢ s.next_txn = λ same. not_yet k session (subst (λ v. IsAmong v (txns_of s.active)) same later) in
+              subst (λ p. HasLogged s.held s.records u p (logged_writes log u)) (sym (ap (after start) (begin_others k session u other))) (l.tells_serial.each u later))
               b;
         });
         below = recursion-weaker (λ r. r.txn < s.next_txn) (λ r. r.txn < s.next_txn + 1) (λ r less. omega arith) log l.below;
@@ -290,23 +327,36 @@ module _ {o : Records} {es : List Entry} {s : Sessions} {log : List LogRecord} (
   pub quiet_keeps_log : (session u : ℕ) (x : Exchange) (committing : List SessionTxn) → IsQuiet x → IsLogAfter o (es ++ Exchanged session u x ∷ []) record s { committing = committing } log
   quiet_keeps_log session u x committing quiet =
       let more = es ++ Exchanged session u x ∷ [] in
+      let still : (v : ℕ) → StillLogged s.held s.records v (logged_writes log v) (progress_in es v) (progress_in more v) =
+      λ v. subst (StillLogged s.held s.records v (logged_writes log v) (progress_in es v)) (sym (all_kept k session u x quiet v).progress) (λ g. g) in
       record {
-        tells_serial = subst (λ now. TellsSerial log s.held now s.records (txns_of s.active) (progress_in more)) (sym (quiet_now k session u x quiet))
-            (further (txns_of s.active) (progress_in more) (λ v b. (b, subst (StillLogged s.held s.records v (logged_writes log v) (progress_in es v)) (sym (all_kept k session u x quiet v).progress) (λ g. g))) l.tells_serial);
+        tells_serial =
+            subst (λ now. TellsSerial log s.held now s.records (txns_of s.active) (progress_in more)) (sym (quiet_now k session u x quiet))
+            (further (txns_of s.active) (progress_in more) (λ v b. (b, still v)) l.tells_serial);
         below = l.below;
       }
 
 -- ---- all of them
 
+at_new : (o : Records) (more : List Entry) (log : List LogRecord) (left new : Sessions) → new ≡ left → IsLogAfter o more left log → IsLogAfter o more new log
+at_new o more log left new e h = subst (λ s. IsLogAfter o more s log) (sym e) h
+
 pub event_keeps_log : (o : Records) (es : List Entry) (old new : Sessions) (e : SessionEvent) (log : List LogRecord) → IsSoundAfter o es old
     → IsLogAfter o es old log → StepsTo old e new → IsLogAfter o (es ++ entries_by old e) new (log_after log old e)
-event_keeps_log o es old new (MoveLocks held) log k l moves = subst (λ s. IsLogAfter o (es ++ []) s log) (sym moves.3) (subst (λ es. IsLogAfter o es (locks_moved old held) log) (sym (append-nil es)) (locks_keep_log k l held moves.1))
-event_keeps_log o es old new (BeginTxn session) log k l moves = subst (λ s. IsLogAfter o (es ++ entries_by old (BeginTxn session)) s log) (sym moves.1) (begin_keeps_log k l session)
-event_keeps_log o es old new (GiveReply a c reply) log k l moves = subst (λ s. IsLogAfter o (es ++ entries_by old (GiveReply a c reply)) s (log_after_reply log old.records a c reply)) (sym moves.3) (reply_keeps_log k l a moves.0 c reply moves.2)
-event_keeps_log o es old new (AppendCommit a) log k l moves = subst (λ s. IsLogAfter o (es ++ entries_by old (AppendCommit a)) s (log_after log old (AppendCommit a))) (sym moves.1) (commit_keeps_log k l a moves.0)
-event_keeps_log o es old new (AnswerAbort a) log k l moves = subst (λ s. IsLogAfter o (es ++ entries_by old (AnswerAbort a)) s (log_after log old (AnswerAbort a))) (sym moves.1) (abort_keeps_log k l a moves.0)
-event_keeps_log o es old new (AnswerCommit a) log k l moves = subst (λ s. IsLogAfter o (es ++ entries_by old (AnswerCommit a)) s log) (sym moves.1) (quiet_keeps_log k l a.session a.txn (exchange call.Commit (Ok Committed)) (without_txn a.txn old.committing) commit_is_quiet)
-event_keeps_log o es old new (RefuseCall session t c fault) log k l moves = subst (λ s. IsLogAfter o (es ++ entries_by old (RefuseCall session t c fault)) s log) (sym moves.2) (quiet_keeps_log k l session t (exchange c (Err fault)) old.committing (refusal_is_quiet c fault moves.1))
+event_keeps_log o es old new (MoveLocks held) log k l moves =
+    at_new o _ _ _ new moves.3
+    (subst (λ es. IsLogAfter o es (locks_moved old held) log) (sym (append-nil es)) (locks_keep_log k l held moves.1))
+event_keeps_log o es old new (BeginTxn session) log k l moves = at_new o _ _ _ new moves.1 (begin_keeps_log k l session)
+event_keeps_log o es old new (GiveReply a c reply) log k l moves =
+    at_new o _ _ _ new moves.3 (reply_keeps_log k l a moves.0 c reply moves.2)
+event_keeps_log o es old new (AppendCommit a) log k l moves = at_new o _ _ _ new moves.1 (commit_keeps_log k l a moves.0)
+event_keeps_log o es old new (AnswerAbort a) log k l moves = at_new o _ _ _ new moves.1 (abort_keeps_log k l a moves.0)
+event_keeps_log o es old new (AnswerCommit a) log k l moves =
+    at_new o _ _ _ new moves.1
+    (quiet_keeps_log k l a.session a.txn (exchange call.Commit (Ok Committed)) (without_txn a.txn old.committing) commit_is_quiet)
+event_keeps_log o es old new (RefuseCall session t c fault) log k l moves =
+    at_new o _ _ _ new moves.2
+    (quiet_keeps_log k l session t (exchange c (Err fault)) old.committing (refusal_is_quiet c fault moves.1))
 
 -- the log that an open found
 pub open_has_log : (o : Records) (s : Sessions) (log : List LogRecord) → IsJustOpened o s → records_committed log ≡ o
