@@ -73,7 +73,8 @@ module _ {o : Records} {es : List Entry} {s : Sessions} (k : IsSoundAfter o es s
     with_commit = es ++ Decided (decision.Commit a.txn) ∷ []
 
     pub commit_kept : AreKept es with_commit (decisions es)
-    commit_kept = recursion-each (λ d. KeepsTurn es with_commit (decided_txn d)) (λ d. kept_by_decided es (decided_txn d) (decision.Commit a.txn)) (decisions es)
+    commit_kept =
+        recursion-each (λ d. KeepsTurn es with_commit (decided_txn d)) (λ d. kept_by_decided es (decided_txn d) (decision.Commit a.txn)) (decisions es)
 
     abbrev pub next_now : Records
     next_now = overlay now (written_by es a.txn)
@@ -91,7 +92,9 @@ module _ {o : Records} {es : List Entry} {s : Sessions} (k : IsSoundAfter o es s
     commit_sees = k.stand.each a.txn (txn_among a s.active mem)
 
     commit_changes : (id : Rid) → ((get s.records id ≡ get s.records id) × (get next_now id ≡ get now id)) ⊎ MayWrite s.held a.txn id
-    commit_changes id = ⊎_elim (λ w. inr (commit_sees.locked id w)) (λ none. inl (refl, overlay_none now (written_by es a.txn) id none)) (some_or_none (get (written_by es a.txn) id))
+    commit_changes id =
+        ⊎_elim (λ w. inr (commit_sees.locked id w)) (λ none. inl (refl, overlay_none now (written_by es a.txn) id none))
+        (some_or_none (get (written_by es a.txn) id))
 
     commit_elsewhere : (u : ℕ) → u ≢ a.txn → (id : Rid) → MayRead s.held u id → (get s.records id ≡ get s.records id) × (get next_now id ≡ get now id)
     commit_elsewhere u other id r = ⊎_elim (λ kept. kept) (λ w. absurd (writer_excludes k.stand a.txn u id (λ same. other (sym same)) w r)) (commit_changes id)

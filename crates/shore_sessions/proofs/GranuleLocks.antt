@@ -36,7 +36,8 @@ cover_writes _ c = cc
 
 -- all above a store is above its records
 store_of_record : (id : Rid) (g : Granule) → Contains (path (Store id.page.store)) g → Contains (path (Record id)) g
-store_of_record id g h = rest_contained (Record id) (Page id.page ∷ path (Store id.page.store)) g (rest_contained (Page id.page) (path (Store id.page.store)) g h)
+store_of_record id g h =
+    rest_contained (Record id) (Page id.page ∷ path (Store id.page.store)) g (rest_contained (Page id.page) (path (Store id.page.store)) g h)
 
 -- ---- granules
 
@@ -58,7 +59,8 @@ module _ (held : List Hold) (t : ℕ) where
 
   pub permitted : (c : Call) (answer : Answer) → HasLocksFor held t c answer → Permit held t c answer
   permitted (call.Get id) answer h = allowed_by (λ m. IsTrue (is_read m)) id (Record id) SH (λ g c. c) (λ m a. read_up SH m a refl) cover_reads h
-  permitted (call.GetForUpdate id) answer h = allowed_by (λ m. IsTrue (is_read m)) id (Record id) UD (λ g c. c) (λ m a. read_up UD m a refl) cover_reads_update h
+  permitted (call.GetForUpdate id) answer h =
+      allowed_by (λ m. IsTrue (is_read m)) id (Record id) UD (λ g c. c) (λ m a. read_up UD m a refl) cover_reads_update h
   permitted (call.Insert s bytes) answer h = insert_permitted s bytes answer h
   permitted (call.Update id bytes) answer h = writes_reached id h
   permitted (call.Delete id) answer h = writes_reached id h

@@ -112,7 +112,9 @@ module _ (held : List Hold) (disjoint : (t u : ℕ) (id : Rid) → t ≢ u → M
   answer_tells (call.Update id bytes) answer w = changed id (Some bytes) w
   answer_tells (call.Delete id) answer w = changed id None w
   answer_tells (call.BackTo n) answer w = record {
-    tells_serial = compensations_tell held disjoint now ts p a.txn mem R log (drop (mark_of a.undo n) a.undo.images) (recursion-drop (λ e. MayWrite held a.txn e.0) (mark_of a.undo n) a.undo.images k.changed) l;
+    tells_serial =
+        compensations_tell held disjoint now ts p a.txn mem R log (drop (mark_of a.undo n) a.undo.images)
+        (recursion-drop (λ e. MayWrite held a.txn e.0) (mark_of a.undo n) a.undo.images k.changed) l;
     still = back_logged n;
   }
   answer_tells call.Savepoint answer w = record { tells_serial = l; still = savepoint_logged }
@@ -291,21 +293,22 @@ module _ {o : Records} {es : List Entry} {s : Sessions} {log : List LogRecord} (
       let more = es ++ entries_by s (BeginTxn session) in
       let unseen = recursion-weaker (λ r. r.txn < s.next_txn) (λ r. r.txn ≢ s.next_txn) (λ r less same. omega arith) log l.below in
       record {
-        tells_serial = subst (λ now. TellsSerial log s.held now s.records (s.next_txn ∷ txns_of s.active) (progress_in more)) (sym (begin_now k session)) (record {
-          tells = l.tells_serial.tells;
-          uncommitted = λ u b. ⊎_elim
-              (λ same. subst (λ u. AllByRecursion (λ v. v ≢ u) (committed_in log)) same (committed_below s.next_txn log l.below))
-              (λ later. l.tells_serial.uncommitted u later)
-              b;
-          each = λ u b. ⊎_elim
-              (λ same. subst (λ u. HasLogged s.held s.records u (progress_in more u) (logged_writes log u)) same
-              (subst (λ p. HasLogged s.held s.records s.next_txn p (logged_writes log s.next_txn)) (sym (ap (after start) (begin_called k session)))
-              (subst (HasLogged s.held s.records s.next_txn start) (sym (none_logged s.next_txn log unseen)) (nothing_logged s.held s.records s.next_txn))))
-              (λ later.
-              let other : u ≢ s.next_txn = λ same. not_yet k session (subst (λ v. IsAmong v (txns_of s.active)) same later) in
-              subst (λ p. HasLogged s.held s.records u p (logged_writes log u)) (sym (ap (after start) (begin_others k session u other))) (l.tells_serial.each u later))
-              b;
-        });
+        tells_serial =
+            subst (λ now. TellsSerial log s.held now s.records (s.next_txn ∷ txns_of s.active) (progress_in more)) (sym (begin_now k session)) (record {
+              tells = l.tells_serial.tells;
+              uncommitted = λ u b. ⊎_elim
+                  (λ same. subst (λ u. AllByRecursion (λ v. v ≢ u) (committed_in log)) same (committed_below s.next_txn log l.below))
+                  (λ later. l.tells_serial.uncommitted u later)
+                  b;
+              each = λ u b. ⊎_elim
+                  (λ same. subst (λ u. HasLogged s.held s.records u (progress_in more u) (logged_writes log u)) same
+                  (subst (λ p. HasLogged s.held s.records s.next_txn p (logged_writes log s.next_txn)) (sym (ap (after start) (begin_called k session)))
+                  (subst (HasLogged s.held s.records s.next_txn start) (sym (none_logged s.next_txn log unseen)) (nothing_logged s.held s.records s.next_txn))))
+                  (λ later.
+                  let other : u ≢ s.next_txn = λ same. not_yet k session (subst (λ v. IsAmong v (txns_of s.active)) same later) in
+                  subst (λ p. HasLogged s.held s.records u p (logged_writes log u)) (sym (ap (after start) (begin_others k session u other))) (l.tells_serial.each u later))
+                  b;
+            });
         below = recursion-weaker (λ r. r.txn < s.next_txn) (λ r. r.txn < s.next_txn + 1) (λ r less. omega arith) log l.below;
       }
 

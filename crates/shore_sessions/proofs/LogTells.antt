@@ -47,7 +47,8 @@ module _ (log : List LogRecord) (r : LogRecord) where
       ] refl
 
   pub committed_same : is_commit r.payload ≡ false → committed_in (log ++ r ∷ []) ≡ committed_in log
-  committed_same e = filter_map-append commit_of log (r ∷ []) ∙ ap (λ b. committed_in log ++ cons_option (cond b (Some r.txn) None) []) e ∙ append-nil (committed_in log)
+  committed_same e =
+      filter_map-append commit_of log (r ∷ []) ∙ ap (λ b. committed_in log ++ cons_option (cond b (Some r.txn) None) []) e ∙ append-nil (committed_in log)
 
   pub committed_one : is_commit r.payload ≡ true → committed_in (log ++ r ∷ []) ≡ committed_in log ++ r.txn ∷ []
   committed_one e = filter_map-append commit_of log (r ∷ []) ∙ ap (λ b. committed_in log ++ cons_option (cond b (Some r.txn) None) []) e
@@ -74,7 +75,8 @@ pub tells_commit : (log : List LogRecord) (r : LogRecord) → r.payload ≡ Comm
 tells_commit log r is =
     let same : (t : ℕ) → logged_writes (log ++ r ∷ []) t ≡ logged_writes log t = logged_imageless log r (ap image_in is) in
     ap (λ us. overlays empty (map (logged_writes (log ++ r ∷ [])) us)) (committed_one log r (ap is_commit is))
-    ∙ overlays_same (logged_writes (log ++ r ∷ [])) (logged_writes log) empty (committed_in log ++ r.txn ∷ []) (recursion-each (λ u. logged_writes (log ++ r ∷ []) u ≡ logged_writes log u) same (committed_in log ++ r.txn ∷ []))
+    ∙ overlays_same (logged_writes (log ++ r ∷ [])) (logged_writes log) empty (committed_in log ++ r.txn ∷ [])
+    (recursion-each (λ u. logged_writes (log ++ r ∷ []) u ≡ logged_writes log u) same (committed_in log ++ r.txn ∷ []))
     ∙ ap (overlays empty) (map-push (logged_writes log) (committed_in log) r.txn)
     ∙ overlays-append empty (map (logged_writes log) (committed_in log)) (logged_writes log r.txn ∷ [])
 
@@ -151,4 +153,6 @@ module _ (held : List Hold) (disjoint : (t u : ℕ) (id : Rid) → t ≢ u → M
   pub compensations_tell : (R : Records) (log : List LogRecord) (es : List (Rid × Image)) → AllByRecursion (λ e. MayWrite held t e.0) es
       → TellsSerial log held now R ts p → TellsSerial (and_compensations t log es) held now (laid_over R es) ts p
   compensations_tell R log [] h k = k
-  compensations_tell R log (e ∷ es) h k = image_tells (laid_over R es) (and_compensations t log es) e.0 e.1 (Compensation e.0 e.1 (next_to_undo t (and_compensations t log es))) refl refl h.0 (compensations_tell R log es h.1 k)
+  compensations_tell R log (e ∷ es) h k =
+      image_tells (laid_over R es) (and_compensations t log es) e.0 e.1 (Compensation e.0 e.1 (next_to_undo t (and_compensations t log es))) refl refl h.0
+      (compensations_tell R log es h.1 k)

@@ -46,11 +46,14 @@ module _ {o : Records} {es : List Entry} {s : Sessions} (k : IsSoundAfter o es s
     pub quiet_now : serial_after o with_quiet ≡ now
     quiet_now =
         ap (serial (written_by with_quiet) o) (decisions-exchanged es u session x)
-        ∙ serial-kept es with_quiet o (decisions es) (recursion-each (λ d. KeepsTurn es with_quiet (decided_txn d)) (λ d. all_kept (decided_txn d)) (decisions es))
+        ∙ serial-kept es with_quiet o (decisions es)
+        (recursion-each (λ d. KeepsTurn es with_quiet (decided_txn d)) (λ d. all_kept (decided_txn d)) (decisions es))
 
     pub quiet_stays_sound : (committing : List SessionTxn) → u < s.next_txn → IsSoundAfter o with_quiet record s { committing = committing }
     quiet_stays_sound committing below = record {
-      sound = sound_stays o es with_quiet (decisions-exchanged es u session x) (recursion-each (λ d. KeepsTurn es with_quiet (decided_txn d)) (λ d. all_kept (decided_txn d)) (decisions es)) k.sound;
+      sound =
+          sound_stays o es with_quiet (decisions-exchanged es u session x)
+          (recursion-each (λ d. KeepsTurn es with_quiet (decided_txn d)) (λ d. all_kept (decided_txn d)) (decisions es)) k.sound;
       stand = subst (λ now. Stand s.held now s.records (txns_of s.active) (written_by with_quiet)) (sym quiet_now)
           (same_writes (written_by es) (written_by with_quiet) (λ t. ap (λ p. p.writes) (sym (all_kept t).progress)) k.stand);
       replies = λ t a S agree. (all_kept t).replies S (k.replies t a S (λ id r. agree id r ∙ ap (λ R. get R id) quiet_now));

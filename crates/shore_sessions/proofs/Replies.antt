@@ -161,7 +161,9 @@ module _ {held : List Hold} {now R : Records} {t : ℕ} (es : List Exchange) (m 
     -- .. it can still be undone ..
     pub undoes_after : (c : Call) (reply : Result Answer Fault) → MayReplyInPlace held t R (length progress.saved) c reply
         → CanUndo held now (in_place_after R undo c reply) t (undo_after R undo c reply) (after start (es ++ exchange c reply ∷ []))
-    undoes_after c reply h = subst (CanUndo held now (in_place_after R undo c reply) t (undo_after R undo c reply)) (sym (after-push start es (exchange c reply))) (reply_undoes c reply h)
+    undoes_after c reply h =
+        subst (CanUndo held now (in_place_after R undo c reply) t (undo_after R undo c reply)) (sym (after-push start es (exchange c reply)))
+        (reply_undoes c reply h)
 
   -- .. and all its replies stay right.
   pub right_after : (c : Call) (reply : Result Answer Fault) → MayReplyInPlace held t R (length progress.saved) c reply → StayRight held t now es

@@ -101,7 +101,9 @@ module _ {o : Records} {es : List Entry} {s : Sessions} (k : IsSoundAfter o es s
 
     -- it has as many marks as savepoints
     pub judged : MayReplyInPlace s.held a.txn s.records (length (after start own).saved) c reply
-    judged = subst (λ n. MayReplyInPlace s.held a.txn s.records n c reply) (marks_alike s.held a.txn now s.records a.undo.images a.undo.marks (after start own).saved undoable.savepoints) served
+    judged =
+        subst (λ n. MayReplyInPlace s.held a.txn s.records n c reply)
+        (marks_alike s.held a.txn now s.records a.undo.images a.undo.marks (after start own).saved undoable.savepoints) served
 
     pub own_called : calls_of a.txn more ≡ own ++ x ∷ []
     own_called = calls-own es a.txn a.session x

@@ -98,11 +98,15 @@ module _ {o : Records} {es : List Entry} {s : Sessions} (k : SessionsAgree o es 
   one_txn a b x y same = ap (λ (p : SessionState). p.txn) (sym (k.current a x) ∙ ap (λ n. session_state n free es) same ∙ k.current b y)
 
   after_other : (n session t : ℕ) (x : Exchange) → session ≢ n → session_state n free (es ++ Exchanged session t x ∷ []) ≡ session_state n free es
-  after_other n session t x other = session_state-push n free es (Exchanged session t x) ∙ ap (λ b. cond b (after_own_reply (session_state n free es) x.reply) (session_state n free es)) (ne_eqb session n other)
+  after_other n session t x other =
+      session_state-push n free es (Exchanged session t x)
+      ∙ ap (λ b. cond b (after_own_reply (session_state n free es) x.reply) (session_state n free es)) (ne_eqb session n other)
 
   after_own : (session t : ℕ) (x : Exchange)
       → session_state session free (es ++ Exchanged session t x ∷ []) ≡ after_own_reply (session_state session free es) x.reply
-  after_own session t x = session_state-push session free es (Exchanged session t x) ∙ ap (λ b. cond b (after_own_reply (session_state session free es) x.reply) (session_state session free es)) (eq-eqb session session refl)
+  after_own session t x =
+      session_state-push session free es (Exchanged session t x)
+      ∙ ap (λ b. cond b (after_own_reply (session_state session free es) x.reply) (session_state session free es)) (eq-eqb session session refl)
 
   begun_push : (e : Entry) → IfSome (began e) (λ u. u < s.next_txn) → All (λ e. IfSome (began e) (λ u. u < s.next_txn)) (es ++ e ∷ [])
   begun_push e h = All-push (λ e. IfSome (began e) (λ u. u < s.next_txn)) es e k.begun h
@@ -120,7 +124,9 @@ module _ {o : Records} {es : List Entry} {s : Sessions} (k : SessionsAgree o es 
         → ((a b : SessionTxn) → IsAmong a new.active → IsAmong b new.committing → a.txn ≢ b.txn)
         → SessionsAgree o (es ++ Exchanged session t x ∷ []) new
     sessions_stay new next was still apart = record {
-      history = history-push es (opening_with o) (Exchanged session t x) k.history (if_begun (begun_by x.reply) (IsNewNumber (opening_with o) es) reply.begins_none, may);
+      history =
+          history-push es (opening_with o) (Exchanged session t x) k.history
+          (if_begun (begun_by x.reply) (IsNewNumber (opening_with o) es) reply.begins_none, may);
       current = λ a y. let b = was a y in
           stays_all a.session ∙ ap (λ n. session_state n free es) b.2 ∙ k.current b.0 b.1 ∙ ap in_txn (sym b.3);
       idle = λ n idle. stays_all n ∙ k.idle n (λ a y same. let b = still a y in idle b.0 b.1 (b.2 ∙ same));
@@ -128,7 +134,9 @@ module _ {o : Records} {es : List Entry} {s : Sessions} (k : SessionsAgree o es 
       apart = apart;
       above = λ a y. let b = was a y in subst (λ t. 0 < t) (sym b.3) (k.above b.0 b.1);
       below = λ a y. let b = was a y in subst (λ t. t < new.next_txn) (sym b.3) (subst (λ n. b.0.txn < n) next (k.below b.0 b.1));
-      begun = subst (λ n. All (λ e. IfSome (began e) (λ u. u < n)) (es ++ Exchanged session t x ∷ [])) next (begun_push (Exchanged session t x) (if_begun (begun_by x.reply) (λ u. u < s.next_txn) reply.begins_none));
+      begun =
+          subst (λ n. All (λ e. IfSome (began e) (λ u. u < n)) (es ++ Exchanged session t x ∷ [])) next
+          (begun_push (Exchanged session t x) (if_begun (begun_by x.reply) (λ u. u < s.next_txn) reply.begins_none));
       some = subst (λ n. 0 < n) next k.some;
     }
 
@@ -161,7 +169,8 @@ module _ {o : Records} {es : List Entry} {s : Sessions} (k : SessionsAgree o es 
         → ((b c : SessionTxn) → IsAmong b new.active → IsAmong c new.committing → b.txn ≢ c.txn)
         → SessionsAgree o (es ++ Exchanged a.session a.txn x ∷ []) new
     session_freed new next was still apart = record {
-      history = history-push es (opening_with o) (Exchanged a.session a.txn x) k.history (if_begun (begun_by x.reply) (IsNewNumber (opening_with o) es) none, may);
+      history =
+          history-push es (opening_with o) (Exchanged a.session a.txn x) k.history (if_begun (begun_by x.reply) (IsNewNumber (opening_with o) es) none, may);
       current = λ b y. let w = was b y in
           after_other b.session a.session a.txn x (λ same. w.1 (one_txn b a w.0 is_current (sym same))) ∙ k.current b w.0;
       idle = λ n idle.
@@ -178,7 +187,9 @@ module _ {o : Records} {es : List Entry} {s : Sessions} (k : SessionsAgree o es 
       apart = apart;
       above = λ b y. k.above b (was b y).0;
       below = λ b y. subst (λ n. b.txn < n) next (k.below b (was b y).0);
-      begun = subst (λ n. All (λ e. IfSome (began e) (λ u. u < n)) (es ++ Exchanged a.session a.txn x ∷ [])) next (begun_push (Exchanged a.session a.txn x) (if_begun (begun_by x.reply) (λ u. u < s.next_txn) none));
+      begun =
+          subst (λ n. All (λ e. IfSome (began e) (λ u. u < n)) (es ++ Exchanged a.session a.txn x ∷ [])) next
+          (begun_push (Exchanged a.session a.txn x) (if_begun (begun_by x.reply) (λ u. u < s.next_txn) none));
       some = subst (λ n. 0 < n) next k.some;
     }
 
@@ -240,7 +251,9 @@ module _ {o : Records} {es : List Entry} {s : Sessions} (k : SessionsAgree o es 
       λ b y. ⊎_elim (λ x. ⊎_elim (λ same. inl same) (λ later. inr (inl later)) x) (λ x. inr (inr x)) y in
       let new_number : (b : SessionTxn) → IsCurrent s b → b.txn ≢ s.next_txn = λ b y same. let less = k.below b y in omega arith in
       record {
-        history = history-push es (opening_with o) (Exchanged session s.next_txn x) k.history (record { above_none = k.some; above_doubts = All-nil _; above_begun = k.begun }, refl);
+        history =
+            history-push es (opening_with o) (Exchanged session s.next_txn x) k.history
+            (record { above_none = k.some; above_doubts = All-nil _; above_begun = k.begun }, refl);
         current = λ b y. ⊎_elim
             (λ same. subst (λ (b : SessionTxn). session_state b.session free (es ++ Exchanged session s.next_txn x ∷ []) ≡ in_txn b.txn) same (after_own session s.next_txn x))
             (λ z. after_other b.session session s.next_txn x (λ same. idle b z (sym same)) ∙ k.current b z)
@@ -255,7 +268,10 @@ module _ {o : Records} {es : List Entry} {s : Sessions} (k : SessionsAgree o es 
         apart = λ b c x y. ⊎_elim (λ same. λ is. new_number c (inr y) (sym is ∙ ap (λ (a : SessionTxn). a.txn) (sym same))) (λ later. k.apart b c later y) x;
         above = λ b y. ⊎_elim (λ same. subst (λ (b : SessionTxn). 0 < b.txn) same k.some) (λ z. k.above b z) (was b y);
         below = λ b y. ⊎_elim (λ same. subst (λ (b : SessionTxn). b.txn < s.next_txn + 1) same (omega arith)) (λ z. let less = k.below b z in omega arith) (was b y);
-        begun = All-push (λ e. IfSome (began e) (λ u. u < s.next_txn + 1)) es (Exchanged session s.next_txn x) (All-weaker (λ e. IfSome (began e) (λ u. u < s.next_txn)) (λ e. IfSome (began e) (λ u. u < s.next_txn + 1)) (λ e h. weaker s.next_txn (began e) h) es k.begun) (omega arith);
+        begun =
+            All-push (λ e. IfSome (began e) (λ u. u < s.next_txn + 1)) es (Exchanged session s.next_txn x)
+            (All-weaker (λ e. IfSome (began e) (λ u. u < s.next_txn)) (λ e. IfSome (began e) (λ u. u < s.next_txn + 1)) (λ e h. weaker s.next_txn (began e) h) es k.begun)
+            (omega arith);
         some = omega arith;
       }
 
@@ -263,7 +279,8 @@ module _ {o : Records} {es : List Entry} {s : Sessions} (k : SessionsAgree o es 
 
 pub event_agrees : (o : Records) (es : List Entry) (old new : Sessions) (e : SessionEvent) → SessionsAgree o es old → StepsTo old e new
     → SessionsAgree o (es ++ entries_by old e) new
-event_agrees o es old new (MoveLocks held) k moves = subst (SessionsAgree o (es ++ [])) (sym moves.3) (subst (λ es. SessionsAgree o es (locks_moved old held)) (sym (append-nil es))
+event_agrees o es old new (MoveLocks held) k moves =
+    subst (SessionsAgree o (es ++ [])) (sym moves.3) (subst (λ es. SessionsAgree o es (locks_moved old held)) (sym (append-nil es))
     (record { history = k.history; current = k.current; idle = k.idle; one = k.one; apart = k.apart; above = k.above; below = k.below; begun = k.begun; some = k.some }))
 event_agrees o es old new (BeginTxn session) k moves = subst (SessionsAgree o _) (sym moves.1) (begin_agrees k session moves.0)
 event_agrees o es old new (GiveReply a c reply) k moves = subst (SessionsAgree o _) (sym moves.3) (reply_agrees k a c reply moves.0 moves.1 moves.2)

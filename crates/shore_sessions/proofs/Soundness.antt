@@ -30,8 +30,12 @@ module _ (o : Records) (es more : List Entry) where
 
   turn_kept : (before : List Decision) (d : Decision) → AreKept es more before → KeepsTurn es more (decided_txn d)
       → TakesTurn (history_from o es) before d → TakesTurn (history_from o more) before d
-  turn_kept before (Commit t) kept own = if_turn (has_prepared [] before t) t (RunsAloneAfter (history_from o es) before) (RunsAloneAfter (history_from o more) before) (runs_kept before t kept own)
-  turn_kept before (Prepare t g) kept own = if_turn (has_prepared [] before t) t (RunsAloneAfter (history_from o es) before) (RunsAloneAfter (history_from o more) before) (runs_kept before t kept own)
+  turn_kept before (Commit t) kept own =
+      if_turn (has_prepared [] before t) t (RunsAloneAfter (history_from o es) before) (RunsAloneAfter (history_from o more) before)
+      (runs_kept before t kept own)
+  turn_kept before (Prepare t g) kept own =
+      if_turn (has_prepared [] before t) t (RunsAloneAfter (history_from o es) before) (RunsAloneAfter (history_from o more) before)
+      (runs_kept before t kept own)
   turn_kept before (RollBack t) kept own = λ h. h
 
   turn_stays : AreKept es more (decisions es) → Sound (history_from o es) → (n : ℕ) (d : Decision) → slice_get (decisions es) n ≡ Some d

@@ -31,13 +31,19 @@ txn_below o es s session t k (inr h) = subst (λ t. t < s.next_txn) (sym h.1) k.
 -- each of them
 pub event_stays_sound : (o : Records) (es : List Entry) (old new : Sessions) (e : SessionEvent) → IsSoundAfter o es old → SessionsAgree o es old
     → StepsTo old e new → IsSoundAfter o (es ++ entries_by old e) new
-event_stays_sound o es old new (MoveLocks held) k agree moves = subst (IsSoundAfter o (es ++ [])) (sym moves.3) (subst (λ es. IsSoundAfter o es (locks_moved old held)) (sym (append-nil es)) (locks_stay_sound k held moves.0 moves.1 moves.2))
+event_stays_sound o es old new (MoveLocks held) k agree moves =
+    subst (IsSoundAfter o (es ++ [])) (sym moves.3)
+    (subst (λ es. IsSoundAfter o es (locks_moved old held)) (sym (append-nil es)) (locks_stay_sound k held moves.0 moves.1 moves.2))
 event_stays_sound o es old new (BeginTxn session) k agree moves = subst (IsSoundAfter o _) (sym moves.1) (begin_stays_sound k session)
 event_stays_sound o es old new (GiveReply a c reply) k agree moves = subst (IsSoundAfter o _) (sym moves.3) (reply_stays_sound k a moves.0 c reply moves.2)
 event_stays_sound o es old new (AppendCommit a) k agree moves = subst (IsSoundAfter o _) (sym moves.1) (commit_stays_sound k a moves.0)
 event_stays_sound o es old new (AnswerAbort a) k agree moves = subst (IsSoundAfter o _) (sym moves.1) (abort_stays_sound k a moves.0)
-event_stays_sound o es old new (AnswerCommit a) k agree moves = subst (IsSoundAfter o _) (sym moves.1) (quiet_stays_sound k a.session a.txn (exchange call.Commit (Ok Committed)) commit_is_quiet (without_txn a.txn old.committing) (agree.below a (inr moves.0)))
-event_stays_sound o es old new (RefuseCall session t c fault) k agree moves = subst (IsSoundAfter o _) (sym moves.2) (quiet_stays_sound k session t (exchange c (Err fault)) (refusal_is_quiet c fault moves.1) old.committing (txn_below o es old session t agree moves.0))
+event_stays_sound o es old new (AnswerCommit a) k agree moves =
+    subst (IsSoundAfter o _) (sym moves.1)
+    (quiet_stays_sound k a.session a.txn (exchange call.Commit (Ok Committed)) commit_is_quiet (without_txn a.txn old.committing) (agree.below a (inr moves.0)))
+event_stays_sound o es old new (RefuseCall session t c fault) k agree moves =
+    subst (IsSoundAfter o _) (sym moves.2)
+    (quiet_stays_sound k session t (exchange c (Err fault)) (refusal_is_quiet c fault moves.1) old.committing (txn_below o es old session t agree moves.0))
 
 -- nothing has happened yet
 pub open_is_sound : (o : Records) (s : Sessions) → IsJustOpened o s → IsSoundAfter o [] s

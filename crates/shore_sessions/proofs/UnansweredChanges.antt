@@ -17,10 +17,14 @@ use Rattle.shore_sessions.specs.Logged.{and_compensations, and_record, next_to_u
 -- a record of its own, and one of another
 pub unanswered_own : (t : ℕ) (log : List LogRecord) (r : LogRecord) → r.txn ≡ t
     → unanswered t (log ++ r ∷ []) ≡ answered_by (1 + length log) r.payload (unanswered t log)
-unanswered_own t log r own = ap unanswered_in (newest-push t log r ∙ ap (λ b. cond b ((1 + length log, r) ∷ reverse (records_of t log)) (reverse (records_of t log))) (eq-eqb r.txn t own))
+unanswered_own t log r own =
+    ap unanswered_in
+    (newest-push t log r ∙ ap (λ b. cond b ((1 + length log, r) ∷ reverse (records_of t log)) (reverse (records_of t log))) (eq-eqb r.txn t own))
 
 pub unanswered_other : (t : ℕ) (log : List LogRecord) (r : LogRecord) → r.txn ≢ t → unanswered t (log ++ r ∷ []) ≡ unanswered t log
-unanswered_other t log r other = ap unanswered_in (newest-push t log r ∙ ap (λ b. cond b ((1 + length log, r) ∷ reverse (records_of t log)) (reverse (records_of t log))) (ne_eqb r.txn t other))
+unanswered_other t log r other =
+    ap unanswered_in
+    (newest-push t log r ∙ ap (λ b. cond b ((1 + length log, r) ∷ reverse (records_of t log)) (reverse (records_of t log))) (ne_eqb r.txn t other))
 
 reverse_last : (xs : List (Rid × Image)) (e : Rid × Image) → reverse (xs ++ e ∷ []) ≡ e ∷ reverse xs
 reverse_last xs e = reverse-append xs (e ∷ [])

@@ -191,7 +191,8 @@ module _ {held : List Hold} {now R : Records} {t : ℕ} {undo : UndoList} {p : P
     back_sees = record { view = goes_back.view; locked = goes_back.locked }
 
     pub back_changes : (id : Rid) → (get (rolled_back R (drop back_mark undo.images)) id ≡ get R id) ⊎ MayWrite held t id
-    back_changes id = laid_or_left (MayWrite held t) R (drop back_mark undo.images) id (recursion-drop (λ e. MayWrite held t e.0) back_mark undo.images k.changed)
+    back_changes id =
+        laid_or_left (MayWrite held t) R (drop back_mark undo.images) id (recursion-drop (λ e. MayWrite held t e.0) back_mark undo.images k.changed)
 
     back_keeps : (m : ℕ) (W : WriteSet) → m ≤ back_mark → UndoesTo held now R t undo.images m W
         → UndoesTo held now (rolled_back R (drop back_mark undo.images)) t (take back_mark undo.images) m W
@@ -211,7 +212,10 @@ module _ {held : List Hold} {now R : Records} {t : ℕ} {undo : UndoList} {p : P
         record {
           changed = recursion-take (λ e. MayWrite held t e.0) back_mark undo.images k.changed;
           whole = back_keeps 0 empty (omega arith) k.whole;
-          savepoints = each_mark (λ m. m ≤ back_mark) back_keeps (take (n + 1) undo.marks) (take (n + 1) p.saved) (subst (λ j. AllByRecursion (λ m. m ≤ back_mark) (take j undo.marks)) (sym (add-one n)) (rise_below n (length undo.images) undo.marks few k.rise)) (marks_take held t now R undo.images (n + 1) undo.marks p.saved k.savepoints);
+          savepoints =
+              each_mark (λ m. m ≤ back_mark) back_keeps (take (n + 1) undo.marks) (take (n + 1) p.saved)
+              (subst (λ j. AllByRecursion (λ m. m ≤ back_mark) (take j undo.marks)) (sym (add-one n)) (rise_below n (length undo.images) undo.marks few k.rise))
+              (marks_take held t now R undo.images (n + 1) undo.marks p.saved k.savepoints);
           rise = rise_take (n + 1) undo.marks k.rise;
         }
 

@@ -57,7 +57,8 @@ module _ (a b : Rid) (differ : a ≢ b) where
   write_lock = record { txn = 2; granule = Record b; mode = EX }
 
   one_or_other : (h : Hold) → Contains (reads_and_writes a b) h → (read_lock ≡ h) ⊎ (write_lock ≡ h)
-  one_or_other h c = ⊎_elim (λ l. inl (only_one read_lock h l)) (λ l. inr (only_one write_lock h l)) (Contains-append_cases (read_lock ∷ []) (write_lock ∷ []) h c)
+  one_or_other h c =
+      ⊎_elim (λ l. inl (only_one read_lock h l)) (λ l. inr (only_one write_lock h l)) (Contains-append_cases (read_lock ∷ []) (write_lock ∷ []) h c)
 
   writes_b : (t : ℕ) (r : Rid) → MayWrite (reads_and_writes a b) t r → (2 ≡ t) × (r ≡ b)
   writes_b t r w =
@@ -96,7 +97,9 @@ module _ (a b : Rid) (differ : a ≢ b) where
   writes = (1, write_lock, omega arith, refl, (refl, head_contained (Record b) (ancestors (Record b)), refl))
 
   given : All (λ (h : Hold). h.txn < 3) (reads_and_writes a b)
-  given = All-cons (λ (h : Hold). h.txn < 3) read_lock (write_lock ∷ []) (omega arith) (All-cons (λ (h : Hold). h.txn < 3) write_lock [] (omega arith) (All-nil (λ (h : Hold). h.txn < 3)))
+  given =
+      All-cons (λ (h : Hold). h.txn < 3) read_lock (write_lock ∷ []) (omega arith)
+      (All-cons (λ (h : Hold). h.txn < 3) write_lock [] (omega arith) (All-nil (λ (h : Hold). h.txn < 3)))
 
   -- ---- records
 
