@@ -14,13 +14,13 @@ use Rattle.shore_sessions.specs.Views.{IsAmong, Stand}
 
 module _ (w : ℕ → WriteSet) (id : Rid) where
   -- an id that none of them has written
-  unwritten : (R : Records) (ts : List ℕ) → ((t : ℕ) → IsAmong t ts → get (w t) id ≡ None) → get (overlays R (map w ts)) id ≡ get R id
+  pub unwritten : (R : Records) (ts : List ℕ) → ((t : ℕ) → IsAmong t ts → get (w t) id ≡ None) → get (overlays R (map w ts)) id ≡ get R id
   unwritten R [] none = refl
   unwritten R (t ∷ ts) none =
       unwritten (overlay R (w t)) ts (λ u a. none u (inr a)) ∙ get-overlay R (w t) id ∙ ap (λ o. unwrap_or o (get R id)) (none t (inl refl))
 
   -- those that have written the id have written this image
-  abbrev OneImage : Image → List ℕ → Type 0
+  abbrev pub OneImage : Image → List ℕ → Type 0
   OneImage image ts = (t : ℕ) → IsAmong t ts → (get (w t) id ≡ None) ⊎ (get (w t) id ≡ Some image)
 
   -- from the records that have it already
@@ -31,7 +31,7 @@ module _ (w : ℕ → WriteSet) (id : Rid) where
       (get-overlay R (w t) id ∙ ⊎_elim (λ none. ap (λ o. unwrap_or o (get R id)) none ∙ at) (λ some. ap (λ o. unwrap_or o (get R id)) some) (one t (inl refl)))
 
   -- an id that one of them has written
-  found : (image : Image) (R : Records) (ts : List ℕ) (t : ℕ) → OneImage image ts → IsAmong t ts → get (w t) id ≡ Some image
+  pub found : (image : Image) (R : Records) (ts : List ℕ) (t : ℕ) → OneImage image ts → IsAmong t ts → get (w t) id ≡ Some image
       → get (overlays R (map w ts)) id ≡ image
   found image R [] t one a some = absurd a
   found image R (u ∷ ts) t one a some =
@@ -47,7 +47,7 @@ has_image (Some image) h = (image, refl)
 
 module _ {held : List Hold} {now R : Records} {ts : List ℕ} {w : ℕ → WriteSet} (k : Stand held now R ts w) where
   -- by harmony nobody else has written what one has
-  one_image : (id : Rid) (t : ℕ) (image : Image) → IsAmong t ts → get (w t) id ≡ Some image → OneImage w id image ts
+  pub one_image : (id : Rid) (t : ℕ) (image : Image) → IsAmong t ts → get (w t) id ≡ Some image → OneImage w id image ts
   one_image id t image a some u b =
       ⊎_elim
       (λ one_written. inr (elim (t == u) as (λ x. (t == u) ≡ x → get (w u) id ≡ Some image) [

@@ -170,11 +170,11 @@ module _ {o : Records} {es : List Entry} {s : Sessions} {log : List LogRecord} (
   disjoint t u id other w v = writer_excludes k.stand t u id other w (read_of_write s.held u id v)
 
   -- records of numbers that are given already
-  grown : (t : ℕ) (qs : List LogRecord) (payload : Payload) → t < s.next_txn → AllByRecursion (λ r. r.txn < s.next_txn) qs
+  pub grown : (t : ℕ) (qs : List LogRecord) (payload : Payload) → t < s.next_txn → AllByRecursion (λ r. r.txn < s.next_txn) qs
       → AllByRecursion (λ r. r.txn < s.next_txn) (and_record t qs payload)
   grown t qs payload less h = recursion-push (λ r. r.txn < s.next_txn) qs record { txn = t; previous = previous_of t qs; payload = payload } h less
 
-  undo_grown : (t : ℕ) (qs : List LogRecord) (images : List (Rid × Image)) → t < s.next_txn → AllByRecursion (λ r. r.txn < s.next_txn) qs
+  pub undo_grown : (t : ℕ) (qs : List LogRecord) (images : List (Rid × Image)) → t < s.next_txn → AllByRecursion (λ r. r.txn < s.next_txn) qs
       → AllByRecursion (λ r. r.txn < s.next_txn) (and_compensations t qs images)
   undo_grown t qs [] less h = h
   undo_grown t qs (e ∷ images) less h = grown t (and_compensations t qs images) _ less (undo_grown t qs images less h)

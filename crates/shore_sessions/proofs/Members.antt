@@ -2,7 +2,7 @@
 use Rattle.std.proofs.Common.{◌≡◌, ◌≢◌, ◌⊎◌, inl, inr, ⊎_elim, ℕ, List, [], ◌∷◌, true, false, cond, refl, sym, ap, subst, ◌∙◌}
 use Rattle.std.specs.Prelude.{◌==◌, not}
 use Rattle.std.proofs.lemmas.Bool.{eqb-true, eqb-false}
-use Rattle.shore_sessions.specs.Sessions.{SessionTxn, txns_of, with_undo, without_txn}
+use Rattle.shore_sessions.specs.Sessions.{EachOnce, SessionTxn, txns_of, with_undo, without_txn}
 use Rattle.shore_sessions.specs.UndoLists.{UndoList}
 use Rattle.shore_sessions.specs.Views.{IsAmong}
 
@@ -82,3 +82,19 @@ module _ (t : ℕ) where
         | true ↦ λ e. ⊎_elim (λ same. absurd (other (ap (λ (a : SessionTxn). a.txn) (sym same) ∙ eqb-true x.txn t e))) (λ later. member_stays a xs later other) h
         | false ↦ λ e. ⊎_elim (λ same. inl same) (λ later. inr (member_stays a xs later other)) h
       ] refl
+
+-- ---- each once
+
+-- a number among theirs is one's
+pub txn_of_one : (t : ℕ) (xs : List SessionTxn) → IsAmong t (txns_of xs) → (a : SessionTxn) × IsAmong a xs × (a.txn ≡ t)
+txn_of_one t [] h = absurd h
+txn_of_one t (x ∷ xs) (inl same) = (x, inl refl, same)
+txn_of_one t (x ∷ xs) (inr later) = let rest = txn_of_one t xs later in (rest.0, inr rest.1, rest.2)
+
+pub once_without : (t : ℕ) (xs : List SessionTxn) → EachOnce (txns_of xs) → EachOnce (txns_of (without_txn t xs))
+once_without t [] h = tt
+once_without t (x ∷ xs) h =
+    elim (x.txn == t) as (λ b. EachOnce (txns_of (cond (not b) (x ∷ without_txn t xs) (without_txn t xs)))) [
+      | true ↦ once_without t xs h.1
+      | false ↦ (λ later. h.0 (txn_without t x.txn xs later).0, once_without t xs h.1)
+    ]

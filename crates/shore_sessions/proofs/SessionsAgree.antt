@@ -19,10 +19,10 @@ use Rattle.shore_model.specs.Alone.{IsRight}
 use Rattle.shore_model.specs.Histories.{IsHistory, IsNewNumber, IsOfTxn, after_entry, after_own_reply, all_prepared, began, begun_by, decisions, free, session_state}
 use Rattle.shore_model.specs.Records.{Records, scan_of}
 use Rattle.shore_sessions.proofs.Entries.{history-push, session_state-push}
-use Rattle.shore_sessions.proofs.Members.{among_with, among_without, member_stays, with_among}
+use Rattle.shore_sessions.proofs.Members.{among_with, among_without, member_stays, once_without, txn_of_one, txns_with, with_among}
 use Rattle.shore_sessions.specs.RepliesInPlace.{MayReplyInPlace}
 use Rattle.shore_sessions.specs.SessionSteps.{AnswerAbort, AnswerCommit, AppendCommit, BeginTxn, GiveReply, IsInnerCall, MoveLocks, RefuseCall, SessionEvent, StepsTo, entries_by, exchange}
-use Rattle.shore_sessions.specs.Sessions.{IsCurrent, IsInNoTxn, IsTxnOf, SessionTxn, Sessions, abort_answered, commit_answered, commit_appended, locks_moved, reply_given, txn_begun, without_txn}
+use Rattle.shore_sessions.specs.Sessions.{EachOnce, IsCurrent, IsInNoTxn, IsTxnOf, SessionTxn, Sessions, abort_answered, commit_answered, commit_appended, locks_moved, reply_given, txn_begun, txns_of}
 use Rattle.shore_sessions.specs.Soundness.{IsJustOpened, SessionsAgree, history_from, in_txn, opening_with}
 use Rattle.shore_sessions.specs.UndoLists.{nothing_to_undo, undo_after}
 use Rattle.shore_sessions.specs.Views.{IsAmong}
@@ -40,7 +40,7 @@ pub record LeavesSession (reply : Result Answer Fault) : Type 0 where
 leaves : (answer answer' : Answer) → answer ≡ answer' → LeavesSession (Ok answer') → LeavesSession (Ok answer)
 leaves answer answer' e h = subst (λ a. LeavesSession (Ok a)) (sym e) h
 
-answer_leaves : (R : Records) (n : ℕ) (c : Call) (answer : Answer) → IsInnerCall c → IsRight R n c answer → LeavesSession (Ok answer)
+pub answer_leaves : (R : Records) (n : ℕ) (c : Call) (answer : Answer) → IsInnerCall c → IsRight R n c answer → LeavesSession (Ok answer)
 answer_leaves R n (call.Get id) answer own h = let x = some_and (get R id) (λ bytes. answer ≡ Got bytes) h in leaves answer (Got x.0) x.2 record { stays = λ p. refl; begins_none = refl }
 answer_leaves R n (call.GetForUpdate id) answer own h = let x = some_and (get R id) (λ bytes. answer ≡ Got bytes) h in leaves answer (Got x.0) x.2 record { stays = λ p. refl; begins_none = refl }
 answer_leaves R n (call.Insert s bytes) answer own h = leaves answer (Inserted h.0) h.1 record { stays = λ p. refl; begins_none = refl }
@@ -53,10 +53,10 @@ answer_leaves R n call.Savepoint answer own h = leaves answer (Saved n) h record
 answer_leaves R n (call.BackTo k) answer own h = leaves answer WentBack h.1 record { stays = λ p. refl; begins_none = refl }
 answer_leaves R n _ answer own h = absurd own
 
-refusal_leaves : (fault : Fault) → LeavesSession (Err fault)
+pub refusal_leaves : (fault : Fault) → LeavesSession (Err fault)
 refusal_leaves fault = record { stays = λ p. refl; begins_none = refl }
 
-reply_leaves : (held : List Hold) (t : ℕ) (R : Records) (n : ℕ) (c : Call) (reply : Result Answer Fault) → IsInnerCall c
+pub reply_leaves : (held : List Hold) (t : ℕ) (R : Records) (n : ℕ) (c : Call) (reply : Result Answer Fault) → IsInnerCall c
     → MayReplyInPlace held t R n c reply → LeavesSession reply
 reply_leaves held t R n c (Ok answer) own h = answer_leaves R n c answer own h.1
 reply_leaves held t R n c (Err fault) own h = refusal_leaves fault
@@ -66,13 +66,13 @@ if_begun o P e = subst (λ o. IfSome o P) (sym e) tt
 
 -- ---- the transaction of a call
 
-own_of_txn : (p : SessionState) (pairs : List (ℕ × List ℕ)) (t : ℕ) (c : Call) (reply : Result Answer Fault) → IsInnerCall c → t ≡ p.txn
+pub own_of_txn : (p : SessionState) (pairs : List (ℕ × List ℕ)) (t : ℕ) (c : Call) (reply : Result Answer Fault) → IsInnerCall c → t ≡ p.txn
     → IsOfTxn p pairs t c reply
 own_of_txn p pairs t call.Begin reply own e = absurd own
 own_of_txn p pairs t (call.Resolve global outcome) reply own e = absurd own
 own_of_txn p pairs t _ reply own e = e
 
-refused_of_txn : (p : SessionState) (pairs : List (ℕ × List ℕ)) (t : ℕ) (c : Call) (fault : Fault) → t ≡ p.txn → IsOfTxn p pairs t c (Err fault)
+pub refused_of_txn : (p : SessionState) (pairs : List (ℕ × List ℕ)) (t : ℕ) (c : Call) (fault : Fault) → t ≡ p.txn → IsOfTxn p pairs t c (Err fault)
 refused_of_txn p pairs t (call.Resolve global outcome) fault e = tt
 refused_of_txn p pairs t call.Begin fault e = e
 refused_of_txn p pairs t _ fault e = e
@@ -121,9 +121,9 @@ module _ {o : Records} {es : List Entry} {s : Sessions} (k : SessionsAgree o es 
     pub sessions_stay : (new : Sessions) → s.next_txn ≡ new.next_txn
         → ((a : SessionTxn) → IsCurrent new a → (b : SessionTxn) × IsCurrent s b × (a.session ≡ b.session) × (a.txn ≡ b.txn))
         → ((a : SessionTxn) → IsCurrent s a → (b : SessionTxn) × IsCurrent new b × (b.session ≡ a.session))
-        → ((a b : SessionTxn) → IsAmong a new.active → IsAmong b new.committing → a.txn ≢ b.txn)
+        → ((a b : SessionTxn) → IsAmong a new.active → IsAmong b new.committing → a.txn ≢ b.txn) → EachOnce (txns_of new.active)
         → SessionsAgree o (es ++ Exchanged session t x ∷ []) new
-    sessions_stay new next was still apart = record {
+    sessions_stay new next was still apart once = record {
       history =
           history-push es (opening_with o) (Exchanged session t x) k.history
           (if_begun (begun_by x.reply) (IsNewNumber (opening_with o) es) reply.begins_none, may);
@@ -131,6 +131,7 @@ module _ {o : Records} {es : List Entry} {s : Sessions} (k : SessionsAgree o es 
           stays_all a.session ∙ ap (λ n. session_state n free es) b.2 ∙ k.current b.0 b.1 ∙ ap in_txn (sym b.3);
       idle = λ n idle. stays_all n ∙ k.idle n (λ a y same. let b = still a y in idle b.0 b.1 (b.2 ∙ same));
       one = λ a b y z same. let c = was a y in let d = was b z in c.2 ∙ k.one c.0 d.0 c.1 d.1 (sym c.3 ∙ same ∙ d.3) ∙ sym d.2;
+      once = once;
       apart = apart;
       above = λ a y. let b = was a y in subst (λ t. 0 < t) (sym b.3) (k.above b.0 b.1);
       below = λ a y. let b = was a y in subst (λ t. t < new.next_txn) (sym b.3) (subst (λ n. b.0.txn < n) next (k.below b.0 b.1));
@@ -153,6 +154,7 @@ module _ {o : Records} {es : List Entry} {s : Sessions} (k : SessionsAgree o es 
       (λ b y. ⊎_elim (λ x. let one = among_with a.txn undo b s.active x in (one.was, inl one.there, one.session, one.txn)) (λ x. (b, inr x, refl, refl)) y)
       (λ b y. ⊎_elim (λ x. let w = with_among a.txn undo b s.active x in (w.0, inl w.1, w.2)) (λ x. (b, inr x, refl)) y)
       (λ b d x y same. let one = among_with a.txn undo b s.active x in k.apart one.was d one.there y (sym one.txn ∙ same))
+      (subst EachOnce (sym (txns_with a.txn undo s.active)) k.once)
 
   pub refusal_agrees : (session t : ℕ) (c : Call) (fault : Fault) → IsTxnOf s session t
       → SessionsAgree o (es ++ Exchanged session t (exchange c (Err fault)) ∷ []) s
@@ -160,15 +162,15 @@ module _ {o : Records} {es : List Entry} {s : Sessions} (k : SessionsAgree o es 
       let stands : t ≡ (session_state session free es).txn =
       ⊎_elim (λ h. sym h.3 ∙ own_txn h.0 h.1 ∙ ap (λ n. (session_state n free es).txn) h.2) (λ h. h.1 ∙ sym (ap (λ (p : SessionState). p.txn) (k.idle session h.0))) of in
       sessions_stay session t (exchange c (Err fault)) (refusal_leaves fault) (refused_of_txn (session_state session free es) pairs t c fault stands) s refl
-      (λ b y. (b, y, refl, refl)) (λ b y. (b, y, refl)) k.apart
+      (λ b y. (b, y, refl, refl)) (λ b y. (b, y, refl)) k.apart k.once
 
   -- a reply that frees its session
   module _ (a : SessionTxn) (is_current : IsCurrent s a) (x : Exchange) (frees : (p : SessionState) → after_own_reply p x.reply ≡ free) (none : begun_by x.reply ≡ None) (may : IsOfTxn (session_state a.session free es) pairs a.txn x.call x.reply) where
     pub session_freed : (new : Sessions) → s.next_txn ≡ new.next_txn → ((b : SessionTxn) → IsCurrent new b → IsCurrent s b × (b.txn ≢ a.txn))
         → ((b : SessionTxn) → IsCurrent s b → b.txn ≢ a.txn → IsCurrent new b)
-        → ((b c : SessionTxn) → IsAmong b new.active → IsAmong c new.committing → b.txn ≢ c.txn)
+        → ((b c : SessionTxn) → IsAmong b new.active → IsAmong c new.committing → b.txn ≢ c.txn) → EachOnce (txns_of new.active)
         → SessionsAgree o (es ++ Exchanged a.session a.txn x ∷ []) new
-    session_freed new next was still apart = record {
+    session_freed new next was still apart once = record {
       history =
           history-push es (opening_with o) (Exchanged a.session a.txn x) k.history (if_begun (begun_by x.reply) (IsNewNumber (opening_with o) es) none, may);
       current = λ b y. let w = was b y in
@@ -184,6 +186,7 @@ module _ {o : Records} {es : List Entry} {s : Sessions} (k : SessionsAgree o es 
                 ] refl)
           ] refl;
       one = λ b c y z same. k.one b c (was b y).0 (was c z).0 same;
+      once = once;
       apart = apart;
       above = λ b y. k.above b (was b y).0;
       below = λ b y. subst (λ n. b.txn < n) next (k.below b (was b y).0);
@@ -193,16 +196,13 @@ module _ {o : Records} {es : List Entry} {s : Sessions} (k : SessionsAgree o es 
       some = subst (λ n. 0 < n) next k.some;
     }
 
-  pub abort_agrees : (a : SessionTxn) → IsAmong a s.active → (new : Sessions) → new.active ≡ without_txn a.txn s.active
-      → new.committing ≡ s.committing → s.next_txn ≡ new.next_txn
-      → SessionsAgree o (es ++ Exchanged a.session a.txn (exchange call.Abort (Ok Aborted)) ∷ []) new
-  abort_agrees a mem new active committing next =
-      let there : (b : SessionTxn) → IsAmong b new.active → IsAmong b s.active × (b.txn ≢ a.txn) = λ b x. among_without a.txn b s.active (subst (IsAmong b) active x) in
-      let waits : (b : SessionTxn) → IsAmong b new.committing → IsAmong b s.committing = λ b x. subst (IsAmong b) committing x in
-      session_freed a (inl mem) (exchange call.Abort (Ok Aborted)) (λ p. refl) refl (own_txn a (inl mem)) new next
-      (λ b y. ⊎_elim (λ x. (inl (there b x).0, (there b x).1)) (λ x. (inr (waits b x), λ same. k.apart a b mem (waits b x) (sym same))) y)
-      (λ b y other. ⊎_elim (λ x. inl (subst (IsAmong b) (sym active) (member_stays a.txn b s.active x other))) (λ x. inr (subst (IsAmong b) (sym committing) x)) y)
-      (λ b c x y. k.apart b c (there b x).0 (waits c y))
+  pub abort_agrees : (a : SessionTxn) → IsAmong a s.active
+      → SessionsAgree o (es ++ Exchanged a.session a.txn (exchange call.Abort (Ok Aborted)) ∷ []) (abort_answered s a)
+  abort_agrees a mem =
+      session_freed a (inl mem) (exchange call.Abort (Ok Aborted)) (λ p. refl) refl (own_txn a (inl mem)) (abort_answered s a) refl
+      (λ b y. ⊎_elim (λ x. let w = among_without a.txn b s.active x in (inl w.0, w.1)) (λ x. (inr x, λ same. k.apart a b mem x (sym same))) y)
+      (λ b y other. ⊎_elim (λ x. inl (member_stays a.txn b s.active x other)) (λ x. inr x) y)
+      (λ b c x y. k.apart b c (among_without a.txn b s.active x).0 y) (once_without a.txn s.active k.once)
 
   pub answer_agrees : (a : SessionTxn) → IsAmong a s.committing
       → SessionsAgree o (es ++ Exchanged a.session a.txn (exchange call.Commit (Ok Committed)) ∷ []) (commit_answered s a)
@@ -210,7 +210,7 @@ module _ {o : Records} {es : List Entry} {s : Sessions} (k : SessionsAgree o es 
       session_freed a (inr mem) (exchange call.Commit (Ok Committed)) (λ p. refl) refl (own_txn a (inr mem)) (commit_answered s a) refl
       (λ b y. ⊎_elim (λ x. (inl x, k.apart b a x mem)) (λ x. let w = among_without a.txn b s.committing x in (inr w.0, w.1)) y)
       (λ b y other. ⊎_elim (λ x. inl x) (λ x. inr (member_stays a.txn b s.committing x other)) y)
-      (λ b c x y. k.apart b c x (among_without a.txn c s.committing y).0)
+      (λ b c x y. k.apart b c x (among_without a.txn c s.committing y).0) k.once
 
   -- a commit is no prepare: its session goes on in the transaction until it is answered
   decided_stays : (n t : ℕ) (u : ℕ) → session_state n free es ≡ in_txn u → session_state n free (es ++ Decided (decision.Commit t) ∷ []) ≡ in_txn u
@@ -235,6 +235,7 @@ module _ {o : Records} {es : List Entry} {s : Sessions} (k : SessionsAgree o es 
             (λ x. idle b (inr (inr x)) same)
             y));
         one = λ b c y z same. k.one b c (was b y) (was c z) same;
+        once = once_without a.txn s.active k.once;
         apart = λ b c x y. let w = among_without a.txn b s.active x in ⊎_elim (λ same. λ is. w.1 (is ∙ sym (ap (λ (a : SessionTxn). a.txn) same))) (λ later. k.apart b c w.0 later) y;
         above = λ b y. k.above b (was b y);
         below = λ b y. k.below b (was b y);
@@ -265,6 +266,7 @@ module _ {o : Records} {es : List Entry} {s : Sessions} (k : SessionsAgree o es 
             (λ v. ⊎_elim (λ w. ap (λ (a : SessionTxn). a.session) (sym v ∙ w)) (λ w. absurd (new_number c w (sym same ∙ ap (λ (a : SessionTxn). a.txn) (sym v)))) (was c z))
             (λ v. ⊎_elim (λ w. absurd (new_number b v (same ∙ ap (λ (a : SessionTxn). a.txn) (sym w)))) (λ w. k.one b c v w same) (was c z))
             (was b y);
+        once = (λ among. let b = txn_of_one s.next_txn s.active among in new_number b.0 (inl b.1) b.2, k.once);
         apart = λ b c x y. ⊎_elim (λ same. λ is. new_number c (inr y) (sym is ∙ ap (λ (a : SessionTxn). a.txn) (sym same))) (λ later. k.apart b c later y) x;
         above = λ b y. ⊎_elim (λ same. subst (λ (b : SessionTxn). 0 < b.txn) same k.some) (λ z. k.above b z) (was b y);
         below = λ b y. ⊎_elim (λ same. subst (λ (b : SessionTxn). b.txn < s.next_txn + 1) same (omega arith)) (λ z. let less = k.below b z in omega arith) (was b y);
@@ -281,11 +283,11 @@ pub event_agrees : (o : Records) (es : List Entry) (old new : Sessions) (e : Ses
     → SessionsAgree o (es ++ entries_by old e) new
 event_agrees o es old new (MoveLocks held) k moves =
     subst (SessionsAgree o (es ++ [])) (sym moves.3) (subst (λ es. SessionsAgree o es (locks_moved old held)) (sym (append-nil es))
-    (record { history = k.history; current = k.current; idle = k.idle; one = k.one; apart = k.apart; above = k.above; below = k.below; begun = k.begun; some = k.some }))
+    (record { history = k.history; current = k.current; idle = k.idle; one = k.one; once = k.once; apart = k.apart; above = k.above; below = k.below; begun = k.begun; some = k.some }))
 event_agrees o es old new (BeginTxn session) k moves = subst (SessionsAgree o _) (sym moves.1) (begin_agrees k session moves.0)
 event_agrees o es old new (GiveReply a c reply) k moves = subst (SessionsAgree o _) (sym moves.3) (reply_agrees k a c reply moves.0 moves.1 moves.2)
 event_agrees o es old new (AppendCommit a) k moves = subst (SessionsAgree o _) (sym moves.1) (commit_agrees k a moves.0)
-event_agrees o es old new (AnswerAbort a) k moves = subst (SessionsAgree o _) (sym moves.1) (abort_agrees k a moves.0 (abort_answered old a) refl refl refl)
+event_agrees o es old new (AnswerAbort a) k moves = subst (SessionsAgree o _) (sym moves.1) (abort_agrees k a moves.0)
 event_agrees o es old new (AnswerCommit a) k moves = subst (SessionsAgree o _) (sym moves.1) (answer_agrees k a moves.0)
 event_agrees o es old new (RefuseCall session t c fault) k moves = subst (SessionsAgree o _) (sym moves.2) (refusal_agrees k session t c fault moves.0)
 
@@ -300,6 +302,7 @@ open_agrees o s h =
       current = λ a y. absurd (nobody a y);
       idle = λ n idle. refl;
       one = λ a b y z same. absurd (nobody a y);
+      once = subst (λ xs. EachOnce (txns_of xs)) (sym h.active) tt;
       apart = λ a b x y. absurd (nobody a (inl x));
       above = λ a y. absurd (nobody a y);
       below = λ a y. absurd (nobody a y);

@@ -28,7 +28,7 @@ module _ (o : Records) (es more : List Entry) where
       → RunsAloneAfter (history_from o more) before t
   runs_kept before t kept own runs = (subst (λ R. MayReplyAll R start (calls_of t more)) (sym (serial-kept es more o before kept)) (own.replies _ runs.0), refl)
 
-  turn_kept : (before : List Decision) (d : Decision) → AreKept es more before → KeepsTurn es more (decided_txn d)
+  pub turn_kept : (before : List Decision) (d : Decision) → AreKept es more before → KeepsTurn es more (decided_txn d)
       → TakesTurn (history_from o es) before d → TakesTurn (history_from o more) before d
   turn_kept before (Commit t) kept own =
       if_turn (has_prepared [] before t) t (RunsAloneAfter (history_from o es) before) (RunsAloneAfter (history_from o more) before)
@@ -50,19 +50,27 @@ module _ (o : Records) (es more : List Entry) where
       subst (λ ds. TakesTurn (history_from o more) (take n ds) d) (sym same)
       (turn_stays kept sound n d (sym (ap (λ ds. slice_get ds n) same) ∙ at))
 
+-- a decision that takes its turn, if it has one
+pub sound_decided : (o : Records) (es : List Entry) (d : Decision) → Sound (history_from o es)
+    → TakesTurn (history_from o (es ++ Decided d ∷ [])) (decisions es) d → Sound (history_from o (es ++ Decided d ∷ []))
+sound_decided o es d sound turn n e at =
+    let more = es ++ Decided d ∷ [] in
+    let ds = decisions es in
+    let kept : AreKept es more ds = recursion-each (λ c. KeepsTurn es more (decided_txn c)) (λ c. kept_by_decided es (decided_txn c) d) ds in
+    let same : decisions more ≡ ds ++ d ∷ [] = decisions-decided es d in
+    subst (λ ds. TakesTurn (history_from o more) (take n ds) e) (sym same)
+    (⊎_elim
+    (λ old. subst (λ before. TakesTurn (history_from o more) before e) (sym old.1) (turn_stays o es more kept sound n e old.0))
+    (λ new. subst (λ before. TakesTurn (history_from o more) before e) (sym new.1) (subst (TakesTurn (history_from o more) ds) new.0 turn))
+    (slice_get-push ds d n e (sym (ap (λ ds. slice_get ds n) same) ∙ at)))
+
 -- the commit of a transaction whose replies are right on the serial records
 pub sound_commit : (o : Records) (es : List Entry) (t : ℕ) → Sound (history_from o es) → MayReplyAll (serial_after o es) start (calls_of t es)
     → Sound (history_from o (es ++ Decided (Commit t) ∷ []))
-sound_commit o es t sound replies n d at =
+sound_commit o es t sound replies =
     let more = es ++ Decided (Commit t) ∷ [] in
     let ds = decisions es in
     let kept : AreKept es more ds = recursion-each (λ d. KeepsTurn es more (decided_txn d)) (λ d. kept_by_decided es (decided_txn d) (Commit t)) ds in
-    let same : decisions more ≡ ds ++ Commit t ∷ [] = decisions-decided es (Commit t) in
-    let now : RunsAloneAfter (history_from o more) ds t =
+    let alone : RunsAloneAfter (history_from o more) ds t =
     (subst (λ R. MayReplyAll R start (calls_of t more)) (sym (serial-kept es more o ds kept)) ((kept_by_decided es t (Commit t)).replies _ replies), refl) in
-    subst (λ ds. TakesTurn (history_from o more) (take n ds) d) (sym same)
-    (⊎_elim
-    (λ old. subst (λ before. TakesTurn (history_from o more) before d) (sym old.1) (turn_stays o es more kept sound n d old.0))
-    (λ new. subst (λ before. TakesTurn (history_from o more) before d) (sym new.1)
-    (subst (TakesTurn (history_from o more) ds) new.0 (if_none_or (has_prepared [] ds t) t (RunsAloneAfter (history_from o more) ds) now)))
-    (slice_get-push ds (Commit t) n d (sym (ap (λ ds. slice_get ds n) same) ∙ at)))
+    sound_decided o es (Commit t) sound (if_none_or (has_prepared [] ds t) t (RunsAloneAfter (history_from o more) ds) alone)

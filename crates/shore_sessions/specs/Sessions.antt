@@ -1,5 +1,5 @@
 -- Many sessions over one volume, under locks, as plain data: the state, and what is left of it after each event.
-use Rattle.std.specs.Prelude.{◌≡◌, ◌≢◌, ◌⊎◌, ◌==◌, ◌+◌, ℕ, List, ◌∷◌, not, if◌then◌else◌, Result, filter, map}
+use Rattle.std.specs.Prelude.{◌≡◌, ◌≢◌, ◌⊎◌, ◌==◌, ◌+◌, ℕ, List, [], ◌∷◌, not, if◌then◌else◌, Result, filter, map}
 use Rattle.shore_types.specs.declared.faults.Fault.{Fault}
 use Rattle.shore_model.specs.declared.calls.Answer.{Answer}
 use Rattle.shore_model.specs.declared.calls.Call.{Call}
@@ -29,6 +29,11 @@ pub record Sessions : Type 0 where
 
 abbrev pub txns_of : List SessionTxn → List ℕ
 txns_of xs = map (λ a. a.txn) xs
+
+-- no element comes twice
+abbrev pub EachOnce : {A : Type 0} → List A → Type 0
+EachOnce [] = Unit {0}
+EachOnce (x ∷ xs) = (IsAmong x xs → ⊥) × EachOnce xs
 
 -- the list with one transaction taken out
 abbrev pub without_txn : ℕ → List SessionTxn → List SessionTxn

@@ -12,7 +12,7 @@ use Rattle.shore_model.specs.Alone.{after, start, writes_of}
 use Rattle.shore_model.specs.Histories.{History, IsHistory, Sound, began, calls_of, decisions, free, serial, session_state}
 use Rattle.shore_model.specs.Records.{Records, WriteSet}
 use Rattle.shore_sessions.specs.SessionSteps.{SessionEvent, StepsTo, entries_by}
-use Rattle.shore_sessions.specs.Sessions.{IsCurrent, IsInNoTxn, SessionTxn, Sessions, txns_of}
+use Rattle.shore_sessions.specs.Sessions.{EachOnce, IsCurrent, IsInNoTxn, SessionTxn, Sessions, txns_of}
 use Rattle.shore_sessions.specs.UndoLists.{CanUndo}
 use Rattle.shore_sessions.specs.Views.{IsAmong, Stand, StayRight}
 
@@ -69,8 +69,9 @@ pub record SessionsAgree (o : Records) (es : List Entry) (s : Sessions) : Type 0
   pub history : IsHistory (history_from o es)
   pub current : (a : SessionTxn) → IsCurrent s a → session_state a.session free es ≡ in_txn a.txn
   pub idle : (session : ℕ) → IsInNoTxn s session → session_state session free es ≡ free
-  -- a transaction is of one session, and is not both under way and committed
+  -- a transaction is of one session, comes once among those under way, and is not committed as well
   pub one : (a b : SessionTxn) → IsCurrent s a → IsCurrent s b → a.txn ≡ b.txn → a.session ≡ b.session
+  pub once : EachOnce (txns_of s.active)
   pub apart : (a b : SessionTxn) → IsAmong a s.active → IsAmong b s.committing → a.txn ≢ b.txn
   -- its number is above 0, and below the next one, as all are that ever began
   pub above : (a : SessionTxn) → IsCurrent s a → 0 < a.txn
