@@ -25,3 +25,4 @@ pub mod UnansweredChanges
 pub mod UndoLists
 pub mod Views
 pub mod WorkedRun
+pub mod WrongEvents

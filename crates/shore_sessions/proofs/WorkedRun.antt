@@ -7,7 +7,6 @@ use Rattle.shore_types.specs.Images.{Image}
 use Rattle.shore_types.specs.declared.ids.Rid.{Rid}
 use Rattle.shore_types.specs.declared.locking.Granule.{Granule}
 use Rattle.shore_types.specs.declared.locking.Granule.TheVariants.{Page, Record, Store, Volume}
-use Rattle.shore_types.specs.declared.locking.Mode.TheVariants.{SH, EX}
 use Rattle.shore_model.specs.declared.calls.Answer.TheVariants.{Deleted, Got, Saved, Updated, WentBack}
 use Rattle.shore_model.specs.declared.calls.Call.TheVariants as call
 use Rattle.shore_model.specs.declared.histories.Entry.{Entry}
@@ -19,7 +18,7 @@ use Rattle.shore_model.proofs.RecordPaths.{OnPath, at_page, at_record, at_store,
 use Rattle.shore_sessions.proofs.Ids.{put_here, put_there, told_apart}
 use Rattle.shore_sessions.specs.Sessions.{IsInNoTxn, SessionTxn, Sessions, abort_answered, commit_answered, commit_appended, locks_moved, reply_given, txn_begun}
 use Rattle.shore_sessions.specs.Soundness.{RunsTo}
-use Rattle.shore_sessions.specs.WorkedRun.{interleaved, just_opened, once_deleted, once_saved, once_updated, reader, reads_and_writes, writer}
+use Rattle.shore_sessions.specs.WorkedRun.{interleaved, just_opened, once_deleted, once_saved, once_updated, read_lock, reader, reads_and_writes, write_lock, writer}
 use Rattle.shore_sessions.specs.UndoLists.{nothing_to_undo}
 
 -- ---- locks
@@ -41,24 +40,24 @@ same_record r _ b at_store e = cc
 same_record r _ b at_volume e = cc
 
 -- a record is on the path of no other
-record_on_path : (r b : Rid) → Contains (path (Record r)) (Record b) → r ≡ b
+pub record_on_path : (r b : Rid) → Contains (path (Record r)) (Record b) → r ≡ b
 record_on_path r b h = same_record r (Record b) b (on_path r (Record b) h) refl
 
-only_one : {A : Type 0} (y x : A) → Contains (y ∷ []) x → y ≡ x
+pub only_one : {A : Type 0} (y x : A) → Contains (y ∷ []) x → y ≡ x
 only_one y x h =
-    let first : h.0 ≡ 0 = omega (arith, h.1) in
-    ap (λ k. get_or (y ∷ []) k x) (sym first) ∙ h.2
+    let at_first : h.0 ≡ 0 = omega (arith, h.1) in
+    ap (λ k. get_or (y ∷ []) k x) (sym at_first) ∙ h.2
 
 module _ (a b : Rid) (differ : a ≢ b) where
-  abbrev read_lock : Hold
-  read_lock = record { txn = 1; granule = Record a; mode = SH }
+  abbrev first : Hold
+  first = read_lock 1 a
 
-  abbrev write_lock : Hold
-  write_lock = record { txn = 2; granule = Record b; mode = EX }
+  abbrev second : Hold
+  second = write_lock 2 b
 
-  one_or_other : (h : Hold) → Contains (reads_and_writes a b) h → (read_lock ≡ h) ⊎ (write_lock ≡ h)
+  one_or_other : (h : Hold) → Contains (reads_and_writes a b) h → (first ≡ h) ⊎ (second ≡ h)
   one_or_other h c =
-      ⊎_elim (λ l. inl (only_one read_lock h l)) (λ l. inr (only_one write_lock h l)) (Contains-append_cases (read_lock ∷ []) (write_lock ∷ []) h c)
+      ⊎_elim (λ l. inl (only_one first h l)) (λ l. inr (only_one second h l)) (Contains-append_cases (first ∷ []) (second ∷ []) h c)
 
   writes_b : (t : ℕ) (r : Rid) → MayWrite (reads_and_writes a b) t r → (2 ≡ t) × (r ≡ b)
   writes_b t r w =
@@ -80,10 +79,10 @@ module _ (a b : Rid) (differ : a ≢ b) where
   harmony : Harmony (reads_and_writes a b)
   harmony = record {
     stand_together =
-        All-cons (λ h. All (Agree h) (reads_and_writes a b)) read_lock (write_lock ∷ [])
-        (All-cons (Agree read_lock) read_lock (write_lock ∷ []) (λ e other. absurd (other refl)) (All-cons (Agree read_lock) write_lock [] (λ e other. absurd (granules_differ e)) (All-nil (Agree read_lock))))
-        (All-cons (λ h. All (Agree h) (reads_and_writes a b)) write_lock []
-        (All-cons (Agree write_lock) read_lock (write_lock ∷ []) (λ e other. absurd (granules_differ (sym e))) (All-cons (Agree write_lock) write_lock [] (λ e other. absurd (other refl)) (All-nil (Agree write_lock))))
+        All-cons (λ h. All (Agree h) (reads_and_writes a b)) first (second ∷ [])
+        (All-cons (Agree first) first (second ∷ []) (λ e other. absurd (other refl)) (All-cons (Agree first) second [] (λ e other. absurd (granules_differ e)) (All-nil (Agree first))))
+        (All-cons (λ h. All (Agree h) (reads_and_writes a b)) second []
+        (All-cons (Agree second) first (second ∷ []) (λ e other. absurd (granules_differ (sym e))) (All-cons (Agree second) second [] (λ e other. absurd (other refl)) (All-nil (Agree second))))
         (All-nil (λ h. All (Agree h) (reads_and_writes a b))));
     none_interferes = λ r t u other w d.
         let v = writes_b t r w in
@@ -91,15 +90,15 @@ module _ (a b : Rid) (differ : a ≢ b) where
   }
 
   reads : MayRead (reads_and_writes a b) 1 a
-  reads = (0, read_lock, omega arith, refl, (refl, head_contained (Record a) (ancestors (Record a)), refl))
+  reads = (0, first, omega arith, refl, (refl, head_contained (Record a) (ancestors (Record a)), refl))
 
   writes : MayWrite (reads_and_writes a b) 2 b
-  writes = (1, write_lock, omega arith, refl, (refl, head_contained (Record b) (ancestors (Record b)), refl))
+  writes = (1, second, omega arith, refl, (refl, head_contained (Record b) (ancestors (Record b)), refl))
 
   given : All (λ (h : Hold). h.txn < 3) (reads_and_writes a b)
   given =
-      All-cons (λ (h : Hold). h.txn < 3) read_lock (write_lock ∷ []) (omega arith)
-      (All-cons (λ (h : Hold). h.txn < 3) write_lock [] (omega arith) (All-nil (λ (h : Hold). h.txn < 3)))
+      All-cons (λ (h : Hold). h.txn < 3) first (second ∷ []) (omega arith)
+      (All-cons (λ (h : Hold). h.txn < 3) second [] (omega arith) (All-nil (λ (h : Hold). h.txn < 3)))
 
   -- ---- records
 

@@ -23,8 +23,14 @@ reader = record { session = 1; txn = 1; undo = nothing_to_undo }
 abbrev pub writer : UndoList → SessionTxn
 writer undo = record { session = 2; txn = 2; undo = undo }
 
+abbrev pub read_lock : ℕ → Rid → Hold
+read_lock t id = record { txn = t; granule = Record id; mode = SH }
+
+abbrev pub write_lock : ℕ → Rid → Hold
+write_lock t id = record { txn = t; granule = Record id; mode = EX }
+
 abbrev pub reads_and_writes : Rid → Rid → List Hold
-reads_and_writes a b = record { txn = 1; granule = Record a; mode = SH } ∷ record { txn = 2; granule = Record b; mode = EX } ∷ []
+reads_and_writes a b = read_lock 1 a ∷ write_lock 2 b ∷ []
 
 -- the undo list of the writer after its update, at its savepoint, and after its delete
 abbrev pub once_updated : Records → Rid → UndoList

@@ -1,12 +1,18 @@
 //! Laws over the definitions, each stated as the contract of an empty function.
-ghost use Rattle.std.specs.Prelude.{◌≡◌, ◌≢◌, ◌<◌, ◌∷◌, ◌++◌, ℕ, List, [], IsSome, Some, Result, length, map};
+ghost use Rattle.std.specs.Prelude.{◌≡◌, ◌≢◌, ◌<◌, ◌≤◌, ◌∷◌, ◌++◌, ℕ, List, [], Contains, Err, IsSome, Ok, Some, Result, length, map};
 ghost use Rattle.std.specs.FinMap.{get, insert};
 ghost use Rattle.std.specs.List.{AllByRecursion};
 ghost use Rattle.shore_types.specs.Images.{Image};
 ghost use Rattle.shore_types.specs.declared.faults.Fault.{Fault};
+ghost use Rattle.shore_types.specs.declared.faults.Fault.TheVariants.{NoRecord};
 ghost use Rattle.shore_types.specs.declared.ids.Rid.{Rid};
+ghost use Rattle.shore_types.specs.declared.layout.TheConstants.{MAX_SLOTS};
+ghost use Rattle.shore_types.specs.declared.locking.Granule.{Granule};
+ghost use Rattle.shore_types.specs.declared.locking.Mode.{Mode};
 ghost use Rattle.shore_model.specs.declared.calls.Answer.{Answer};
+ghost use Rattle.shore_model.specs.declared.calls.Answer.TheVariants.{Inserted};
 ghost use Rattle.shore_model.specs.declared.calls.Call.{Call};
+ghost use Rattle.shore_model.specs.declared.calls.Call.TheVariants.{Get, Insert, Scan};
 ghost use Rattle.shore_model.specs.declared.calls.Exchange.{Exchange};
 ghost use Rattle.shore_model.specs.declared.histories.Entry.{Entry};
 ghost use Rattle.shore_model.specs.declared.holds.Hold.{Hold};
@@ -15,18 +21,18 @@ ghost use Rattle.shore_model.specs.declared.log_records.Payload.TheVariants.{Cha
 ghost use Rattle.shore_model.specs.declared.progress.Progress.{Progress};
 ghost use Rattle.shore_model.specs.Alone.{after, start, writes_of};
 ghost use Rattle.shore_model.specs.Histories.{IsHistory, Sound};
-ghost use Rattle.shore_model.specs.Locks.{Harmony, MayRead, MayWrite};
+ghost use Rattle.shore_model.specs.Locks.{Harmony, HoldsAtLeast, MayRead, MayWrite};
 ghost use Rattle.shore_model.specs.Logs.{Answers, in_doubt_in, records_told, unanswered};
 ghost use Rattle.shore_model.specs.Records.{Records, WriteSet, overlays, put_image};
 ghost use Rattle.shore_sessions.specs.GranuleLocks.{HasLocksFor};
 ghost use Rattle.shore_sessions.specs.LogTells.{HasLogged, IsLogAfter, MatchesUndo, records_committed};
 ghost use Rattle.shore_sessions.specs.Logged.{and_compensations, and_record, log_after, next_to_undo};
 ghost use Rattle.shore_sessions.specs.RepliesInPlace.{MayReplyInPlace, Permit};
-ghost use Rattle.shore_sessions.specs.SessionSteps.{AnswerAbort, GiveReply, SessionEvent, StepsTo, entries_by, exchange};
-ghost use Rattle.shore_sessions.specs.Sessions.{SessionTxn, Sessions, txns_of};
+ghost use Rattle.shore_sessions.specs.SessionSteps.{AnswerAbort, BeginTxn, GiveReply, MoveLocks, SessionEvent, StepsTo, entries_by, exchange};
+ghost use Rattle.shore_sessions.specs.Sessions.{IsCurrent, SessionTxn, Sessions, txns_of};
 ghost use Rattle.shore_sessions.specs.Soundness.{IsJustOpened, IsSoundAfter, RunsTo, SessionsAgree, history_from, serial_after, written_by};
 ghost use Rattle.shore_sessions.specs.UndoLists.{CanUndo, UndoList, in_place_after, undo_after};
-ghost use Rattle.shore_sessions.specs.WorkedRun.{interleaved, just_opened};
+ghost use Rattle.shore_sessions.specs.WorkedRun.{interleaved, just_opened, read_lock};
 ghost use Rattle.shore_sessions.specs.Views.{IsAmong, Sees, Stand, StayRight};
 
 /// Locks may be granted at any time, and those of transactions that are not under way may go.
@@ -127,4 +133,22 @@ pub fn unanswered_changes_match_undo()
 pub fn two_sessions_interleave()
     ensures { (o : Records) (a b : Rid) (x y z : List ℕ) → a ≢ b → get o a ≡ Some x → get o b ≡ Some y →
         (last : Sessions) × (made : List Entry) × RunsTo (just_opened o) (interleaved o a b x z) [] last made × (get last.records b ≡ Some z) }
+{}
+
+/// What must not come, though each other condition of it may hold: a get and its refusal without a lock, an insert where only a read lock
+/// is held, a scan under a lock of a record; a second transaction of a session; locks that a transaction under way loses, that clash, or
+/// that are of no transaction yet.
+pub fn wrong_events_do_not_come()
+    ensures get_unlocked { (t n : ℕ) (R : Records) (id : Rid) (answer : Answer) → MayReplyInPlace [] t R n (Get id) (Ok answer) → ⊥ }
+    ensures absent_unlocked { (t n : ℕ) (R : Records) (id : Rid) → id.slot < MAX_SLOTS → MayReplyInPlace [] t R n (Get id) (Err NoRecord) → ⊥ }
+    ensures insert_under_read_lock { (t n : ℕ) (R : Records) (id : Rid) (s : ℕ) (bytes : List ℕ) →
+        MayReplyInPlace (read_lock t id ∷ []) t R n (Insert s bytes) (Ok (Inserted id)) → ⊥ }
+    ensures scan_under_record_lock { (t n : ℕ) (R : Records) (a b : Rid) (answer : Answer) → a ≢ b →
+        MayReplyInPlace (read_lock t a ∷ []) t R n (Scan b.page.store) (Ok answer) → ⊥ }
+    ensures second_txn { (s new : Sessions) (a : SessionTxn) → IsCurrent s a → StepsTo s (BeginTxn a.session) new → ⊥ }
+    ensures lock_lost { (s new : Sessions) (t : ℕ) (m : Mode) (g : Granule) →
+        IsAmong t (txns_of s.active) → HoldsAtLeast s.held t m g → StepsTo s (MoveLocks []) new → ⊥ }
+    ensures locks_clash { (s new : Sessions) (held : List Hold) (t u : ℕ) (id : Rid) →
+        t ≢ u → MayWrite held t id → MayRead held u id → StepsTo s (MoveLocks held) new → ⊥ }
+    ensures lock_of_nobody { (s new : Sessions) (h : Hold) (held : List Hold) → Contains held h → s.next_txn ≤ h.txn → StepsTo s (MoveLocks held) new → ⊥ }
 {}
