@@ -1,4 +1,4 @@
--- The records in place are the serial ones overlaid with the write sets of the transactions under way, in any order of these.
+-- Harmony makes the write sets of transactions under way disjoint, so that their overlay is the same in any order.
 use Rattle.std.proofs.Common.{◌≡◌, ◌⊎◌, inl, inr, ⊎_elim, ℕ, List, [], ◌∷◌, true, false, Option, Some, None, refl, sym, ap, subst, ◌∙◌, map}
 use Rattle.std.specs.Prelude.{◌==◌, IsSome, unwrap_or}
 use Rattle.std.specs.FinMap.{get, same_map}

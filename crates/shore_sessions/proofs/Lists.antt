@@ -65,7 +65,7 @@ drop-between (suc n) zero xs le within = absurd (omega arith)
 drop-between (suc n) (suc m) [] le within = absurd (omega arith)
 drop-between (suc n) (suc m) (x ∷ xs) le within = drop-between n m xs (omega arith) (omega arith)
 
--- a list that grows has the prefixes that it had, and itself
+-- prefixes of a list with one element more
 pub take-push : {A : Type 0} (n : ℕ) (xs : List A) (x : A) → n ≤ length xs → take n (xs ++ x ∷ []) ≡ take n xs
 take-push zero xs x within = refl
 take-push (suc n) [] x within = absurd (omega arith)

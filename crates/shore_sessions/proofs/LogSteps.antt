@@ -371,7 +371,7 @@ open_has_log o s log opened tells below =
       below = below;
     }
 
--- a list with no Prepare tells what its committed transactions leave
+-- nobody is in doubt
 pub tells_if_none_prepared : (o : Records) (es : List Entry) (s : Sessions) (log : List LogRecord) → IsLogAfter o es s log → in_doubt_in log ≡ []
     → records_told log ≡ serial_after o es
 tells_if_none_prepared o es s log l none = ap (λ ts. overlays (records_committed log) (map (logged_writes log) ts)) none ∙ l.tells_serial.tells

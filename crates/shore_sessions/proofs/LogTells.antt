@@ -61,7 +61,7 @@ map-push : (w : ℕ → WriteSet) (ts : List ℕ) (t : ℕ) → map w (ts ++ t �
 map-push w [] t = refl
 map-push w (u ∷ ts) t = ap (λ Ws. w u ∷ Ws) (map-push w ts t)
 
--- a record that is no Commit tells nothing, if its transaction is not committed
+-- nothing is told by the records of a transaction before its Commit
 pub tells_same : (log : List LogRecord) (r : LogRecord) → is_commit r.payload ≡ false → AllByRecursion (λ u. u ≢ r.txn) (committed_in log)
     → records_committed (log ++ r ∷ []) ≡ records_committed log
 tells_same log r no_commit apart =
@@ -69,7 +69,7 @@ tells_same log r no_commit apart =
     ∙ overlays_same (logged_writes (log ++ r ∷ [])) (logged_writes log) empty (committed_in log)
     (recursion-weaker (λ u. u ≢ r.txn) (λ u. logged_writes (log ++ r ∷ []) u ≡ logged_writes log u) (λ u other. logged_other log r u (λ same. other (sym same))) (committed_in log) apart)
 
--- a Commit lets the list tell what its transaction has logged
+-- its Commit lets the list tell them all
 pub tells_commit : (log : List LogRecord) (r : LogRecord) → r.payload ≡ Commit
     → records_committed (log ++ r ∷ []) ≡ overlay (records_committed log) (logged_writes log r.txn)
 tells_commit log r is =

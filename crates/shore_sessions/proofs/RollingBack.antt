@@ -1,4 +1,4 @@
--- A rollback in steps: an image is put back and logged, one after another.
+-- A rollback that goes image by image.
 use Rattle.std.proofs.Common.{◌≡◌, ◌++◌, ℕ, List, [], ◌∷◌, sym, ap, subst, ◌∙◌, arith}
 use Rattle.std.specs.FinMap.{get, insert}
 use Rattle.shore_types.specs.declared.ids.Rid.{Rid}

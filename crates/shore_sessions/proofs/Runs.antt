@@ -1,4 +1,4 @@
--- Events one after another, from an open on.
+-- Runs: what each event keeps is kept by any number of them.
 use Rattle.std.proofs.Common.{◌++◌, List, [], ◌∷◌, sym, subst}
 use Rattle.shore_model.specs.declared.histories.Entry.{Entry}
 use Rattle.shore_model.specs.Records.{Records}

@@ -64,7 +64,7 @@ sound_decided o es d sound turn n e at =
     (λ new. subst (λ before. TakesTurn (history_from o more) before e) (sym new.1) (subst (TakesTurn (history_from o more) ds) new.0 turn))
     (slice_get-push ds d n e (sym (ap (λ ds. slice_get ds n) same) ∙ at)))
 
--- the commit of a transaction whose replies are right on the serial records
+-- a commit, if its transaction could have run alone just now
 pub sound_commit : (o : Records) (es : List Entry) (t : ℕ) → Sound (history_from o es) → MayReplyAll (serial_after o es) start (calls_of t es)
     → Sound (history_from o (es ++ Decided (Commit t) ∷ []))
 sound_commit o es t sound replies =

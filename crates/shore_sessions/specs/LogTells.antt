@@ -16,13 +16,13 @@ use Rattle.shore_sessions.specs.Sessions.{Sessions, txns_of}
 use Rattle.shore_sessions.specs.Soundness.{progress_in, serial_after}
 use Rattle.shore_sessions.specs.Views.{IsAmong}
 
--- the records that the committed transactions of a list leave; a list with no Prepare tells just these
+-- what is left by those that have a Commit in the list, and all that it tells while nobody is in doubt
 abbrev pub records_committed : List LogRecord → Records
 records_committed log = overlays empty (map (logged_writes log) (committed_in log))
 
--- A transaction that has come so far has logged the images L. They are not its write set: after a rollback they still have each id that
--- was put back. But they are what stands in place, at ids that it may write; and an id without one is in no write set of it, neither
--- in that of now nor in one that a savepoint saved.
+-- The last images that a transaction has logged, L, are enough for one that has come so far. Its write set may be smaller, since a
+-- rollback logs images and takes ids out of the write set. But each image is in place, at an id that it may write; and an id without one
+-- is in no write set of it, neither in that of now nor in one that a savepoint saved.
 pub record HasLogged (held : List Hold) (R : Records) (t : ℕ) (p : Progress) (L : WriteSet) : Type 0 where
   pub in_place : (id : Rid) (image : Image) → get L id ≡ Some image → (get R id ≡ image) × MayWrite held t id
   pub unwritten : (id : Rid) → get L id ≡ None → get p.writes id ≡ None

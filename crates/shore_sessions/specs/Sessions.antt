@@ -22,7 +22,7 @@ pub record Sessions : Type 0 where
   -- those that are committed, while their calls wait for the answer
   pub committing : List SessionTxn
   pub held : List Hold
-  -- the number of the next transaction
+  -- what the next begin answers
   pub next_txn : ℕ
 
 -- ---- transactions in a list
@@ -51,7 +51,7 @@ IsCurrent s a = IsAmong a s.active ⊎ IsAmong a s.committing
 abbrev pub IsInNoTxn : Sessions → ℕ → Type 0
 IsInNoTxn s session = (a : SessionTxn) → IsCurrent s a → a.session ≢ session
 
--- the transaction that a session is in, or 0
+-- the number that a session's calls go under: its transaction's, or 0
 abbrev pub IsTxnOf : Sessions → ℕ → ℕ → Type 0
 IsTxnOf s session t = ((a : SessionTxn) × IsCurrent s a × (a.session ≡ session) × (a.txn ≡ t)) ⊎ (IsInNoTxn s session × (t ≡ 0))
 

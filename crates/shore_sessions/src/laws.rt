@@ -1,4 +1,4 @@
-//! Laws over the definitions, each stated as the contract of an empty function.
+//! The laws of sessions under locks, each stated as the contract of an empty function.
 ghost use Rattle.std.specs.Prelude.{◌≡◌, ◌≢◌, ◌<◌, ◌≤◌, ◌∷◌, ◌++◌, ℕ, List, [], Contains, Err, IsSome, Ok, Some, Result, length, map};
 ghost use Rattle.std.specs.FinMap.{get, insert};
 ghost use Rattle.std.specs.List.{AllByRecursion};
@@ -35,7 +35,7 @@ ghost use Rattle.shore_sessions.specs.UndoLists.{CanUndo, UndoList, in_place_aft
 ghost use Rattle.shore_sessions.specs.WorkedRun.{interleaved, just_opened, read_lock};
 ghost use Rattle.shore_sessions.specs.Views.{IsAmong, Sees, Stand, StayRight};
 
-/// Locks may be granted at any time, and those of transactions that are not under way may go.
+/// New locks never harm what transactions under way see, nor does it if others lose theirs.
 pub fn moved_locks_keep_views()
     ensures { (held new : List Hold) (now R : Records) (ts : List ℕ) (writes : ℕ → WriteSet) →
         Stand held now R ts writes → Harmony new
@@ -73,7 +73,7 @@ pub fn sessions_make_sound_histories()
         IsJustOpened o first → RunsTo first events [] last made → IsSoundAfter o made last × SessionsAgree o made last }
 {}
 
-/// The records in place are the serial records, overlaid with the write sets of all transactions under way.
+/// In place are the serial records, overlaid with the write sets of all transactions under way.
 pub fn records_in_place_are_overlaid()
     ensures { (o : Records) (es : List Entry) (s : Sessions) → IsSoundAfter o es s →
         s.records ≡ overlays (serial_after o es) (map (written_by es) (txns_of s.active)) }
