@@ -8,6 +8,8 @@ pub mod Ids
 pub mod InPlace
 pub mod Isolation
 pub mod Lists
+pub mod LogDecisions
+pub mod LogPrefixes
 pub mod LogSteps
 pub mod LogTells
 pub mod Members

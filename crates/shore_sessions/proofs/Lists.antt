@@ -1,5 +1,5 @@
 -- Prefixes and rests of lists, and what holds of each element.
-use Rattle.std.proofs.Common.{◌≡◌, ◌++◌, ◌<◌, ◌≤◌, ◌+◌, ℕ, zero, suc, List, [], ◌∷◌, Some, refl, ap, subst, length, drop, take, arith}
+use Rattle.std.proofs.Common.{◌≡◌, ◌⊎◌, inl, inr, ⊎_elim, ◌++◌, ◌<◌, ◌≤◌, ◌+◌, ℕ, zero, suc, List, [], ◌∷◌, Some, refl, ap, subst, length, drop, map, take, arith}
 use Rattle.std.specs.Prelude.{slice_get}
 use Rattle.std.specs.List.{AllByRecursion}
 
@@ -82,3 +82,19 @@ pub take-beyond : {A : Type 0} (n : ℕ) (xs : List A) (x : A) → length xs < n
 take-beyond zero xs x less = absurd (omega arith)
 take-beyond (suc n) [] x less = ap (λ ys. x ∷ ys) (take-empty n)
 take-beyond (suc n) (y ∷ xs) x less = ap (λ ys. y ∷ ys) (take-beyond n xs x (omega arith))
+
+pub within_or_beyond : (n m : ℕ) → (n ≤ m) ⊎ (m < n)
+within_or_beyond zero m = inl (omega arith)
+within_or_beyond (suc n) zero = inr (omega arith)
+within_or_beyond (suc n) (suc m) = ⊎_elim (λ within. inl (omega arith)) (λ beyond. inr (omega arith)) (within_or_beyond n m)
+
+-- ---- lists made of lists
+
+pub map-take : {A B : Type 0} (f : A → B) (n : ℕ) (xs : List A) → map f (take n xs) ≡ take n (map f xs)
+map-take f zero xs = refl
+map-take f (suc n) [] = refl
+map-take f (suc n) (x ∷ xs) = ap (λ ys. f x ∷ ys) (map-take f n xs)
+
+pub map-push : {A B : Type 0} (f : A → B) (xs : List A) (x : A) → map f (xs ++ x ∷ []) ≡ map f xs ++ f x ∷ []
+map-push f [] x = refl
+map-push f (y ∷ xs) x = ap (λ ys. f y ∷ ys) (map-push f xs x)

@@ -341,7 +341,8 @@ module _ {o : Records} {es : List Entry} {s : Sessions} {log : List LogRecord} (
 
 -- ---- all of them
 
-at_new : (o : Records) (more : List Entry) (log : List LogRecord) (left new : Sessions) → new ≡ left → IsLogAfter o more left log → IsLogAfter o more new log
+at_new : (o : Records) (more : List Entry) (log : List LogRecord) (left new : Sessions) → new ≡ left → IsLogAfter o more left log
+    → IsLogAfter o more new log
 at_new o more log left new e h = subst (λ s. IsLogAfter o more s log) (sym e) h
 
 pub event_keeps_log : (o : Records) (es : List Entry) (old new : Sessions) (e : SessionEvent) (log : List LogRecord) → IsSoundAfter o es old

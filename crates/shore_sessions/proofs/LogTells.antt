@@ -20,7 +20,7 @@ use Rattle.shore_model.proofs.Overlays.{get-overlay, overlays-append}
 use Rattle.shore_types.specs.Images.{Image}
 use Rattle.shore_sessions.proofs.Ids.{put_here, put_there, told_apart, wrote_here, wrote_there}
 use Rattle.shore_sessions.proofs.InPlace.{has_image}
-use Rattle.shore_sessions.proofs.Lists.{recursion-each, recursion-weaker}
+use Rattle.shore_sessions.proofs.Lists.{map-push, recursion-each, recursion-weaker}
 use Rattle.shore_sessions.proofs.Views.{overlay_none, read_of_write, some_or_none}
 use Rattle.shore_sessions.specs.LogTells.{HasLogged, TellsSerial, records_committed}
 use Rattle.shore_sessions.specs.Logged.{and_compensations, and_record, next_to_undo}
@@ -56,10 +56,6 @@ module _ (log : List LogRecord) (r : LogRecord) where
 overlays_same : (v w : ℕ → WriteSet) (R : Records) (ts : List ℕ) → AllByRecursion (λ t. v t ≡ w t) ts → overlays R (map v ts) ≡ overlays R (map w ts)
 overlays_same v w R [] h = refl
 overlays_same v w R (t ∷ ts) h = ap (λ W. overlays (overlay R W) (map v ts)) h.0 ∙ overlays_same v w (overlay R (w t)) ts h.1
-
-map-push : (w : ℕ → WriteSet) (ts : List ℕ) (t : ℕ) → map w (ts ++ t ∷ []) ≡ map w ts ++ w t ∷ []
-map-push w [] t = refl
-map-push w (u ∷ ts) t = ap (λ Ws. w u ∷ Ws) (map-push w ts t)
 
 -- nothing is told by the records of a transaction before its Commit
 pub tells_same : (log : List LogRecord) (r : LogRecord) → is_commit r.payload ≡ false → AllByRecursion (λ u. u ≢ r.txn) (committed_in log)

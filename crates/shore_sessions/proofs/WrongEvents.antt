@@ -33,14 +33,16 @@ module _ (t : ℕ) (R : Records) (n : ℕ) where
   absent_unlocked id less (inl h) = no_lock_reads id h.0
   absent_unlocked id less (inr beyond) = omega arith
 
-  pub insert_under_read_lock : (id : Rid) (s : ℕ) (bytes : List ℕ) → MayReplyInPlace (read_lock t id ∷ []) t R n (call.Insert s bytes) (Ok (Inserted id)) → ⊥
+  pub insert_under_read_lock : (id : Rid) (s : ℕ) (bytes : List ℕ)
+      → MayReplyInPlace (read_lock t id ∷ []) t R n (call.Insert s bytes) (Ok (Inserted id)) → ⊥
   insert_under_read_lock id s bytes h =
       let w = h.0 in
       let same = only_one (read_lock t id) w.1 (w.0, w.2, w.3) in
       let no : IsTrue false = subst (λ (h : Hold). IsTrue (is_write h.mode)) (sym same) w.4.2 in
       cc
 
-  pub scan_under_record_lock : (a b : Rid) (answer : Answer) → a ≢ b → MayReplyInPlace (read_lock t a ∷ []) t R n (call.Scan b.page.store) (Ok answer) → ⊥
+  pub scan_under_record_lock : (a b : Rid) (answer : Answer) → a ≢ b → MayReplyInPlace (read_lock t a ∷ []) t R n (call.Scan b.page.store) (Ok answer)
+      → ⊥
   scan_under_record_lock a b answer differ h =
       let r = h.0 b (λ i. b.page.store) in
       let same = only_one (read_lock t a) r.1 (r.0, r.2, r.3) in

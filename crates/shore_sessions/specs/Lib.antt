@@ -1,4 +1,5 @@
 pub mod GranuleLocks
+pub mod LogPrefixes
 pub mod LogTells
 pub mod Logged
 pub mod RepliesInPlace

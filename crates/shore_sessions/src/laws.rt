@@ -1,5 +1,5 @@
 //! The laws of sessions under locks, each stated as the contract of an empty function.
-ghost use Rattle.std.specs.Prelude.{◌≡◌, ◌≢◌, ◌<◌, ◌≤◌, ◌∷◌, ◌++◌, ℕ, List, [], Contains, Err, IsSome, Ok, Some, Result, length, map};
+ghost use Rattle.std.specs.Prelude.{◌≡◌, ◌≢◌, ◌<◌, ◌≤◌, ◌∷◌, ◌++◌, ℕ, List, [], Contains, Err, IsSome, Ok, Some, Result, length, map, take};
 ghost use Rattle.std.specs.FinMap.{get, insert};
 ghost use Rattle.std.specs.List.{AllByRecursion};
 ghost use Rattle.shore_types.specs.Images.{Image};
@@ -20,11 +20,12 @@ ghost use Rattle.shore_model.specs.declared.log_records.LogRecord.{LogRecord};
 ghost use Rattle.shore_model.specs.declared.log_records.Payload.TheVariants.{Change};
 ghost use Rattle.shore_model.specs.declared.progress.Progress.{Progress};
 ghost use Rattle.shore_model.specs.Alone.{after, start, writes_of};
-ghost use Rattle.shore_model.specs.Histories.{IsHistory, Sound};
+ghost use Rattle.shore_model.specs.Histories.{IsHistory, Sound, decisions, serial};
 ghost use Rattle.shore_model.specs.Locks.{Harmony, HoldsAtLeast, MayRead, MayWrite};
 ghost use Rattle.shore_model.specs.Logs.{Answers, in_doubt_in, records_told, unanswered};
 ghost use Rattle.shore_model.specs.Records.{Records, WriteSet, overlays, put_image};
 ghost use Rattle.shore_sessions.specs.GranuleLocks.{HasLocksFor};
+ghost use Rattle.shore_sessions.specs.LogPrefixes.{DecidesNothing, LogDecides, decisions_in};
 ghost use Rattle.shore_sessions.specs.LogTells.{HasLogged, IsLogAfter, MatchesUndo, records_committed};
 ghost use Rattle.shore_sessions.specs.Logged.{and_compensations, and_record, log_after, next_to_undo};
 ghost use Rattle.shore_sessions.specs.RepliesInPlace.{MayReplyInPlace, Permit};
@@ -103,6 +104,18 @@ pub fn log_tells_serial_records()
         IsSoundAfter o es old → IsLogAfter o es old log → StepsTo old e new → IsLogAfter o (es ++ entries_by old e) new (log_after log old e) }
     ensures tells { (o : Records) (es : List Entry) (s : Sessions) (log : List LogRecord) →
         IsLogAfter o es s log → in_doubt_in log ≡ [] → records_told log ≡ serial_after o es }
+{}
+
+/// A prefix of the log, as a crash may keep it, tells the serial records of a prefix of the decisions: of those whose Commits it has. It is so
+/// in the midst of an event too, while its records are appended and its entry is not made.
+pub fn log_prefixes_tell_decision_prefixes()
+    ensures open { (o : Records) (log : List LogRecord) → records_committed log ≡ o → LogDecides (length log) o [] log }
+    ensures each { (base : ℕ) (o : Records) (es : List Entry) (old new : Sessions) (e : SessionEvent) (log : List LogRecord) →
+        IsSoundAfter o es old → IsLogAfter o es old log → LogDecides base o es log → StepsTo old e new → LogDecides base o (es ++ entries_by old e) (log_after log old e) }
+    ensures midst { (base : ℕ) (o : Records) (es : List Entry) (old new : Sessions) (e : SessionEvent) (log : List LogRecord) →
+        IsSoundAfter o es old → IsLogAfter o es old log → LogDecides base o es log → StepsTo old e new → DecidesNothing e → LogDecides base o es (log_after log old e) }
+    ensures prefix { (base : ℕ) (o : Records) (es : List Entry) (log : List LogRecord) (n : ℕ) → LogDecides base o es log → base ≤ n → n ≤ length log →
+        (m : ℕ) × (decisions_in base (take n log) ≡ take m (decisions es)) × (records_committed (take n log) ≡ serial (written_by es) o (take m (decisions es))) }
 {}
 
 /// A rollback may be made of steps, with other events between them. What its transaction has logged stands for its write set: each
