@@ -32,7 +32,7 @@ module _ {o : Records} {es : List Entry} {s : Sessions} (k : IsSoundAfter o es s
   now = serial_after o es
 
   module _ (a : SessionTxn) (mem : IsAmong a s.active) where
-    -- ---- an abort: the undo list leaves the serial records wherever its transaction may read
+    -- ---- an abort: the undo list leaves the serial records at each id that its transaction may read
 
     abbrev pub aborted : Exchange
     aborted = exchange call.Abort (Ok Aborted)

@@ -78,8 +78,8 @@ tells_commit log r is =
 
 -- ---- what is logged, and what is written
 
--- The serial records overlaid by the one are those overlaid by the other: where an image is logged it stands in place, and its transaction
--- sees the write set there.
+-- The serial records overlaid by the one are those overlaid by the other: an image that is logged is in place, and its transaction sees
+-- its write set there.
 pub logged_as_written : {held : List Hold} {now R : Records} {t : ℕ} {p : Progress} {L : WriteSet} → Sees held now R t p.writes
     → HasLogged held R t p L → overlay now L ≡ overlay now p.writes
 logged_as_written {held} {now} {R} {t} {p} {L} m g = same_map rids_total exact_rids _ _ (λ id.

@@ -30,7 +30,7 @@ if_some : {A : Type 0} (o : Option A) (P Q : A → Type 0) → ((x : A) → P x 
 if_some None P Q f h = h
 if_some (Some x) P Q f h = f x h
 
--- What is right on the records in place is so on each map V that has the same where the transaction may read.
+-- What is right on the records in place is so on each map V that has the same at each id that the transaction may read.
 module _ (held : List Hold) (t : ℕ) (R V : Records) (agree : (id : Rid) → MayRead held t id → get V id ≡ get R id) where
   there : (id : Rid) (P : Image → Type 0) → MayRead held t id → P (get R id) → P (get V id)
   there id P r h = subst P (sym (agree id r)) h

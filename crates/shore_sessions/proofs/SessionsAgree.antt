@@ -27,7 +27,7 @@ use Rattle.shore_sessions.specs.Soundness.{IsJustOpened, SessionsAgree, history_
 use Rattle.shore_sessions.specs.UndoLists.{nothing_to_undo, undo_after}
 use Rattle.shore_sessions.specs.Views.{IsAmong}
 
--- ---- replies that leave their sessions where they are
+-- ---- replies that leave their sessions as they are
 
 some_and : {A : Type 0} (o : Option A) (P : A → Type 0) → IsSomeAnd o P → (x : A) × (o ≡ Some x) × P x
 some_and None P h = absurd h

@@ -15,7 +15,7 @@ use Rattle.shore_sessions.proofs.Exchanges.{IsQuiet, after-push, replies-push}
 use Rattle.shore_sessions.proofs.Lists.{recursion-weaker}
 use Rattle.shore_sessions.specs.Soundness.{decided_txn, progress_in, written_by}
 
--- the entries are more now; the transaction has come as far as before, and its replies are right wherever they were
+-- the entries are more now; the transaction has come as far as before, and its replies are right on all records on which they were
 pub record KeepsTurn (es more : List Entry) (t : ℕ) : Type 0 where
   pub progress : progress_in more t ≡ progress_in es t
   pub replies : (R : Records) → MayReplyAll R start (calls_of t es) → MayReplyAll R start (calls_of t more)

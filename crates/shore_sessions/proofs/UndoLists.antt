@@ -219,7 +219,7 @@ module _ {held : List Hold} {now R : Records} {t : ℕ} {undo : UndoList} {p : P
           rise = rise_take (n + 1) undo.marks k.rise;
         }
 
-  -- it is undone as a whole: where it may read, the records are serial again
+  -- it is undone as a whole: the records that it may read are serial again
   pub undone_agrees : (id : Rid) → MayRead held t id → get (rolled_back R undo.images) id ≡ get now id
   undone_agrees id r = k.whole.view id r ∙ ap (λ S. get S id) (overlay_empty now)
 

@@ -122,8 +122,8 @@ module _ {held : List Hold} {now R : Records} {ts : List ℕ} {writes : ℕ → 
             (changes id);
       }
 
-  -- A transaction is under way no more. Its end changes ids that it may write alone, in place or in the serial records; and where it may
-  -- read, the one is as the other then.
+  -- A transaction is under way no more. Its end changes ids that it may write alone, in place or in the serial records; at each id that
+  -- it may read, the one is as the other then.
   pub one_ends : (t : ℕ) → IsAmong t ts → (now' R' : Records) (ts' : List ℕ) (writes' : ℕ → WriteSet)
       → ((u : ℕ) → u ≢ t → writes' u ≡ writes u)
       → ((u : ℕ) → IsAmong u ts' → IsAmong u ts × (u ≢ t))

@@ -19,9 +19,9 @@ IsAmong x (y ∷ ys) = (y ≡ x) ⊎ IsAmong x ys
 abbrev pub AgreeWhere : (Rid → Type 0) → Records → Records → Type 0
 AgreeWhere P R S = (id : Rid) → P id → get S id ≡ get R id
 
--- The replies stay right: a transaction that runs alone may have them on every map that agrees with the serial records where the
--- transaction may read. By harmony no other transaction changes anything there, so its commit leaves them right. What the calls
--- have read need not be listed for this.
+-- The replies stay right: a transaction that runs alone may have them on every map that agrees with the serial records at each id that
+-- the transaction may read. By harmony no other transaction changes anything there, so its commit leaves them right. What the calls have
+-- read need not be listed for this.
 abbrev pub StayRight : List Hold → ℕ → Records → List Exchange → Type 0
 StayRight held t now es = (S : Records) → AgreeWhere (MayRead held t) now S → MayReplyAll S start es
 

@@ -148,7 +148,7 @@ pub fn two_sessions_interleave()
         (last : Sessions) × (made : List Entry) × RunsTo (just_opened o) (interleaved o a b x z) [] last made × (get last.records b ≡ Some z) }
 {}
 
-/// What must not come, though each other condition of it may hold: a get and its refusal without a lock, an insert where only a read lock
+/// What must not come, though each other condition of it may hold: a get and its refusal without a lock, an insert if only a read lock
 /// is held, a scan under a lock of a record; a second transaction of a session; locks that a transaction under way loses, that clash, or
 /// that are of no transaction yet.
 pub fn wrong_events_do_not_come()
