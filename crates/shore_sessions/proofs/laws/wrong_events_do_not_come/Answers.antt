@@ -1,0 +1,26 @@
+use Rattle.shore_sessions.proofs.WrongEvents.{absent_unlocked, get_unlocked, insert_under_read_lock, lock_lost, lock_of_nobody, locks_clash, scan_under_record_lock, second_txn}
+use Rattle.shore_sessions.proofs.laws.wrong_events_do_not_come.Goals as goal
+
+pub returns-clause-get_unlocked : goal.returns-clause-get_unlocked
+returns-clause-get_unlocked c t n R id answer h = get_unlocked t R n id answer h
+
+pub returns-clause-absent_unlocked : goal.returns-clause-absent_unlocked
+returns-clause-absent_unlocked c t n R id less h = absent_unlocked t R n id less h
+
+pub returns-clause-insert_under_read_lock : goal.returns-clause-insert_under_read_lock
+returns-clause-insert_under_read_lock c t n R id s bytes h = insert_under_read_lock t R n id s bytes h
+
+pub returns-clause-scan_under_record_lock : goal.returns-clause-scan_under_record_lock
+returns-clause-scan_under_record_lock c t n R a b answer differ h = scan_under_record_lock t R n a b answer differ h
+
+pub returns-clause-second_txn : goal.returns-clause-second_txn
+returns-clause-second_txn c s new a current step = second_txn s new a current step
+
+pub returns-clause-lock_lost : goal.returns-clause-lock_lost
+returns-clause-lock_lost c s new t m g among holds step = lock_lost s new t m g among holds step
+
+pub returns-clause-locks_clash : goal.returns-clause-locks_clash
+returns-clause-locks_clash c s new held t u id other w r step = locks_clash s new held t u id other w r step
+
+pub returns-clause-lock_of_nobody : goal.returns-clause-lock_of_nobody
+returns-clause-lock_of_nobody c s new h held among beyond step = lock_of_nobody s new h held among beyond step

@@ -1,0 +1,11 @@
+pub mod GranuleLocks
+pub mod LogPrefixes
+pub mod LogTells
+pub mod Logged
+pub mod RepliesInPlace
+pub mod SessionSteps
+pub mod Sessions
+pub mod Soundness
+pub mod UndoLists
+pub mod Views
+pub mod WorkedRun
