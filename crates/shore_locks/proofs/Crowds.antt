@@ -9,7 +9,7 @@ use Rattle.slab.specs.Slab.{Slab, slab_len}
 use Rattle.shore_types.specs.declared.locking.Granule.{Granule}
 use Rattle.shore_types.specs.declared.locking.Mode.{Mode}
 use Rattle.shore_model.specs.declared.requests.Request.{Request}
-use Rattle.shore_model.specs.Requests.{are_alike, placed_last, requests_at, is_in_group}
+use Rattle.shore_model.specs.Requests.{are_alike, is_conversion, placed_last, requests_at, is_in_group}
 use Rattle.shore_types.specs.Locking.{same_granule}
 use Rattle.shore_model.specs.declared.requests.Group.TheVariants.{Conversions, NewWaiters}
 use Rattle.shore_locks.specs.Granting.{new_waiters}
@@ -71,6 +71,9 @@ own_pushed heads b r rs at =
 pub other_placed : (heads b : ℕ) (r : Request) (rs : List Request) → (queue_head heads r.granule ≡ b → ⊥) → crowd heads b (placed_last r rs) ≡ crowd heads b rs
 other_placed heads b r rs other = other_pushed heads b r (removed r rs) other ∙ other_removed heads b r rs other
 
+pub own_placed : (heads b : ℕ) (r : Request) (rs : List Request) → queue_head heads r.granule ≡ b → crowd heads b (placed_last r rs) ≡ placed_last r (crowd heads b rs)
+own_placed heads b r rs at = own_pushed heads b r (removed r rs) at ∙ ap (λ xs. xs ++ r ∷ []) (crowd_removed heads b r rs)
+
 pub other_granted : (heads b : ℕ) (g : Granule) → (queue_head heads g ≡ b → ⊥) → (ws rs : List Request) → ((w : Request) → In w ws → w.granule ≡ g) → crowd heads b (granted_in_turn ws rs) ≡ crowd heads b rs
 other_granted heads b g other [] rs at = refl
 other_granted heads b g other (w ∷ ws) rs at =
@@ -118,6 +121,10 @@ nobody_waits heads head tally g rs at counts none =
     none_counted (λ r. is_some r.wanted) (crowd heads head rs) (sym counts.waiting ∙ none) q (in_crowd_of heads head g rs q at h) in
     ap (λ xs. xs ++ filter (is_in_group NewWaiters) (requests_at g rs)) (filter-none (is_in_group Conversions) (requests_at g rs) (λ q h. none_waits_here q.wanted q.held (quiet q h)))
     ∙ filter-none (is_in_group NewWaiters) (requests_at g rs) (λ q h. none_new_here q.wanted q.held (quiet q h))
+
+pub nobody_converts : (heads head : ℕ) (tally : Tally) (g : Granule) (rs : List Request) → head ≡ queue_head heads g → Counts tally (crowd heads head rs) → tally.converting ≡ 0 → filter (is_in_group Conversions) (requests_at g rs) ≡ []
+nobody_converts heads head tally g rs at counts none =
+    filter-none (is_in_group Conversions) (requests_at g rs) (λ q h. none_counted is_conversion (crowd heads head rs) (sym counts.converting ∙ none) q (in_crowd_of heads head g rs q at h))
 
 find_none : (p : Request → Bool) (xs : List Request) → ((q : Request) → In q xs → p q ≡ false) → find p xs ≡ None
 find_none p [] none = refl

@@ -24,11 +24,11 @@ pub fn pass(nodes: &mut Counted, granule: &Granule)
         return;
     }
     while let Some(waiter) = first_waiter(nodes, granule) {
-        if waiter.held.is_none() {
-            nodes.grant_new(granule);
+        if !can_be_granted(nodes, &waiter) {
             return;
         }
-        if !can_be_granted(nodes, &waiter) {
+        if waiter.held.is_none() {
+            nodes.grant_new(granule);
             return;
         }
         let granted = granted(&waiter);
@@ -36,10 +36,15 @@ pub fn pass(nodes: &mut Counted, granule: &Granule)
     }
 }
 
+// Behind the first new waiter only a conversion could come first.
 fn first_waiter(nodes: &Counted, granule: &Granule) -> Option<Request>
     ensures { result ≡ slice_get (waiters_at granule.now nodes.now.requests) 0 }
 {
-    searches::first_waiter(nodes.nodes(), granule)
+    if nodes.may_have_conversions(granule) {
+        searches::first_waiter(nodes.nodes(), granule)
+    } else {
+        searches::first_new(nodes.nodes(), granule)
+    }
 }
 
 fn can_be_granted(nodes: &Counted, waiter: &Request) -> bool

@@ -1,8 +1,9 @@
 //! Nodes, and for each head how many hold in each mode and how many wait: most often nobody is in the way, and that is seen at once.
-ghost use Rattle.std.specs.Prelude.{◌≡◌, ◌<◌, ◌≤◌, ◌+◌, ◌++◌, ◌∷◌, [], IfOk, IfSome, IsTrue, IsFalse, MatchBool, MatchOption, None, Some, false, length, nat_lt, not, slice_get, true};
+ghost use Rattle.std.specs.Prelude.{◌≡◌, ◌<◌, ◌≤◌, ◌+◌, ◌++◌, ◌∷◌, [], IfOk, IfSome, IsTrue, IsFalse, MatchBool, MatchOption, None, Some, false, filter, length, nat_lt, not, slice_get, true};
 ghost use Rattle.std.specs.List.{list_any};
 ghost use Rattle.std.specs.List.Sorted.{IsPermutation};
-ghost use Rattle.shore_model.specs.Requests.{AreRequests, are_alike, placed_last, requests_by};
+ghost use Rattle.shore_model.specs.declared.requests.Group.TheVariants.{Conversions};
+ghost use Rattle.shore_model.specs.Requests.{AreRequests, are_alike, is_in_group, placed_last, requests_at, requests_by};
 ghost use Rattle.shore_locks.specs.Grants.{granted_in_turn, obstacle, removed, replaced};
 ghost use Rattle.shore_locks.specs.Granting.{new_waiters};
 ghost use Rattle.shore_locks.specs.Tables.{waiters_at};
@@ -81,6 +82,14 @@ impl Counted {
         self.tallies[head].has_waiters()
     }
 
+    /// Whether somebody who holds a granule may wait for a stronger mode: nobody does if not.
+    pub fn may_have_conversions(&self, granule: &Granule) -> bool
+        ensures { IsFalse result → filter (is_in_group Conversions) (requests_at granule.now self.now.requests) ≡ [] }
+    {
+        let head = queue_head(granule, self.nodes.heads());
+        self.tallies[head].has_conversions()
+    }
+
     /// Whether it is seen at once that nobody is in the way of a request.
     pub fn lets_in(&self, request: &Request) -> bool
         ensures { IsTrue result → obstacle request.now self.now.requests ≡ None }
@@ -147,9 +156,11 @@ impl Counted {
         ensures items { self.new.requests ≡ removed request.now self.old.requests }
         ensures limit { self.new.limit ≡ self.old.limit }
     {
-        let head = queue_head(&request.granule, self.nodes.heads());
-        self.nodes.remove(request);
-        self.tallies[head] = recount(&self.nodes, head);
+        if let Some(old) = request_for(&self.nodes, request.txn, &request.granule) {
+            let head = queue_head(&request.granule, self.nodes.heads());
+            self.nodes.remove(request);
+            self.tallies[head].take_out(&old);
+        }
     }
 
     /// Moves the request of its transaction for its granule last, as this one. The answer is whether it was there.
@@ -160,9 +171,15 @@ impl Counted {
             ((list_any (λ q. are_alike q request.now) self.old.requests ≡ false) × (self.new.requests ≡ self.old.requests)) }
         ensures limit { self.new.limit ≡ self.old.limit }
     {
+        let Some(old) = request_for(&self.nodes, request.txn, &request.granule) else {
+            return false;
+        };
         let head = queue_head(&request.granule, self.nodes.heads());
+        self.nodes.len();
         let was_there = self.nodes.move_last(request);
-        self.tallies[head] = recount(&self.nodes, head);
+        let tally = &mut self.tallies[head];
+        tally.take_out(&old);
+        tally.add(request);
         was_there
     }
 

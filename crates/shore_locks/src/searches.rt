@@ -2,12 +2,14 @@
 ghost use Rattle.std.specs.Prelude.{◌≡◌, None, Some, cond, is_some, slice_get};
 ghost use Rattle.shore_model.specs.Requests.{requests_at};
 ghost use Rattle.shore_locks.specs.Tables as tables;
+ghost use Rattle.shore_locks.specs.Granting.{new_waiters};
 ghost use Rattle.shore_locks.specs.Grants as steps;
 ghost use Rattle.shore_locks.specs.Orderly.{WaitsLast};
 
-use crate::judgements::{is_for, is_stopped_by, refuses};
+use crate::judgements::{is_at, is_for, is_in, is_stopped_by, refuses};
 use crate::nodes::Nodes;
 use shore_model::Request;
+use shore_model::requests::Group;
 use shore_types::{Granule, Mode, TxnId};
 
 /// The request of a transaction for a granule.
@@ -75,6 +77,19 @@ pub fn first_waiter(nodes: &Nodes, granule: &Granule) -> Option<Request>
         }
     }
     first_new
+}
+
+/// The first new waiter of a granule's queue. No node behind it is looked at.
+pub fn first_new(nodes: &Nodes, granule: &Granule) -> Option<Request>
+    ensures { result ≡ slice_get (new_waiters granule.now nodes.now.requests) 0 }
+{
+    let mut walk = nodes.queue(granule);
+    while let Some((_, request)) = walk.advance() {
+        if is_at(&request, granule) && is_in(&request, Group::NewWaiters) {
+            return Some(request);
+        }
+    }
+    None
 }
 
 /// Whether each other holder of its granule grants what a waiter wants.
