@@ -1,5 +1,5 @@
 -- The requests for granules of a head: what a change makes of them, and of those of other heads.
-use Rattle.std.proofs.Common.{◌≡◌, ◌++◌, ◌<◌, inl, inr, ⊎_elim, ℕ, List, [], ◌∷◌, Bool, true, false, Option, None, Some, refl, ap, sym, subst, ◌∙◌, map}
+use Rattle.std.proofs.Common.{◌≡◌, ◌++◌, ◌<◌, inl, inr, ⊎_elim, ℕ, zero, suc, List, [], ◌∷◌, Bool, true, false, Option, None, Some, refl, ap, sym, subst, ◌∙◌, map}
 use Rattle.std.specs.Prelude.{filter, not, ◌&&◌, ◌||◌, ◌==◌, is_some, find, MatchBool}
 use Rattle.std.specs.List.{list_any}
 use Rattle.std.proofs.lemmas.List.{append-nil, nil_from_length}
@@ -35,6 +35,15 @@ crowd_requests heads slots queues lists owners ks b are_linked small =
     ap (map (λ (p : ℕ × Request). p.1)) (queue_walk heads slots queues lists owners ks b are_linked small)
     ∙ seconds heads slots (in_bucket (queue_of heads slots) b ks)
     ∙ sym (filter_mapped (λ r. queue_head heads r.granule == b) (request_at slots) (λ k. queue_of heads slots k == b) ks (λ k h. refl))
+
+no_pairs : (n : ℕ) (slots : Slab Request) (links : List Link) (heads head node : ℕ) → node ≡ head → pairs_from n slots links heads head node ≡ []
+no_pairs zero slots links heads head node e = refl
+no_pairs (suc n) slots links heads head node e = let same = (Decides-eqb node head).1 e in rw same refl
+
+-- a ring that ends where it begins has none
+pub nobody_stands : (heads : ℕ) (slots : Slab Request) (queues lists owners : List Link) (ks : List ℕ) (b : ℕ) → IsLinked heads slots queues lists owners ks → b < heads → after_at queues b ≡ b → crowd heads b (requests_in slots ks) ≡ []
+nobody_stands heads slots queues lists owners ks b are_linked small ends =
+    sym (crowd_requests heads slots queues lists owners ks b are_linked small) ∙ ap (map (λ (p : ℕ × Request). p.1)) (no_pairs (slab_len slots) slots queues heads b (after_at queues b) ends)
 
 -- a change for a granule of one head leaves the others as they were
 not_that : (heads b : ℕ) (g : Granule) → (queue_head heads g ≡ b → ⊥) → (queue_head heads g == b) ≡ false
@@ -105,6 +114,15 @@ in_crowd_of heads head g rs q at h =
     filter-In (λ r. queue_head heads r.granule == head) rs q x.0
     ((Decides-eqb (queue_head heads q.granule) head).1 (ap (queue_head heads) ((same_granule-Decides q.granule g).0 x.1) ∙ sym at))
 
+-- no node stands at the head, so none is for the granule
+pub nobody_at : (heads head : ℕ) (g : Granule) (rs : List Request) → head ≡ queue_head heads g → crowd heads head rs ≡ [] → requests_at g rs ≡ []
+nobody_at heads head g rs at none =
+    filter-none (λ r. same_granule r.granule g) rs (λ q h.
+    ⊎_elim
+    (λ here. absurd (subst (In q) none (in_crowd_of heads head g rs q at (filter-In (λ r. same_granule r.granule g) rs q h here))))
+    (λ apart. apart)
+    (either (same_granule q.granule g)))
+
 none_waits_here : (wanted held : Option Mode) → is_some wanted ≡ false → (is_some held && is_some wanted) ≡ false
 none_waits_here None None e = refl
 none_waits_here None (Some h) e = refl
@@ -126,7 +144,7 @@ pub nobody_converts : (heads head : ℕ) (tally : Tally) (g : Granule) (rs : Lis
 nobody_converts heads head tally g rs at counts none =
     filter-none (is_in_group Conversions) (requests_at g rs) (λ q h. none_counted is_conversion (crowd heads head rs) (sym counts.converting ∙ none) q (in_crowd_of heads head g rs q at h))
 
-find_none : (p : Request → Bool) (xs : List Request) → ((q : Request) → In q xs → p q ≡ false) → find p xs ≡ None
+pub find_none : (p : Request → Bool) (xs : List Request) → ((q : Request) → In q xs → p q ≡ false) → find p xs ≡ None
 find_none p [] none = refl
 find_none p (x ∷ xs) none = find_step p x xs (none x (inl refl)) ∙ find_none p xs (λ q h. none q (inr h))
 

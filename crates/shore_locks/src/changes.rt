@@ -7,7 +7,7 @@ ghost use Rattle.shore_locks.specs.Findings.{FindsNode, IsFree};
 ghost use Rattle.shore_locks.specs.Grants as steps;
 ghost use Rattle.shore_locks.specs.Tables.{waiters_at};
 
-use crate::counted::Counted;
+use crate::counted::{Counted, Popped};
 use crate::judgements::{granted, holds_is, withdrawn};
 use crate::searches;
 use shore_model::Request;
@@ -86,11 +86,10 @@ pub fn release(nodes: &mut Counted, txn: TxnId) -> usize
 {
     let most = nodes.len();
     for count in 0..most {
-        let Some(popped) = nodes.pop_first(txn) else {
-            return count;
-        };
-        if popped.may_wait {
-            pass(nodes, &popped.request.granule);
+        match nodes.pop_first(txn) {
+            Popped::Nothing => return count,
+            Popped::Quiet => {}
+            Popped::Awaited(granule) => pass(nodes, &granule),
         }
     }
     most

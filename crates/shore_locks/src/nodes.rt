@@ -1,6 +1,6 @@
 //! Requests as nodes of a slab. Each has six links: two in the ring of its granule's head, which is its queue, two in that of its
 //! transaction's, and two in that of both, so that each is found in constant expected time.
-ghost use Rattle.std.specs.Prelude.{◌≡◌, ◌<◌, ◌≤◌, ◌+◌, ◌*◌, ◌^◌, ◌%◌, ◌==◌, ◌++◌, ◌∷◌, [], ℕ, List, None, Some, IfOk, IfSome, OnOk, OnErr, MatchBool, MatchOption, false, filter, find, is_some, length, map, nat_lt, not, true, slice_get};
+ghost use Rattle.std.specs.Prelude.{◌≡◌, ◌<◌, ◌≤◌, ◌+◌, ◌*◌, ◌^◌, ◌%◌, ◌==◌, ◌++◌, ◌∷◌, [], ℕ, List, None, Some, IfOk, IfSome, IsTrue, OnOk, OnErr, MatchBool, MatchOption, false, filter, find, is_some, length, map, nat_lt, not, true, slice_get};
 ghost use Rattle.std.specs.List.{list_any};
 ghost use Rattle.std.specs.Option.{option_map};
 ghost use Rattle.shore_model.specs.Requests.{AreRequests, are_alike, placed_last, requests_at, requests_by};
@@ -94,6 +94,14 @@ impl Nodes {
         ensures { map (λ (p : ℕ × Request). p.1) result ≡ crowd self.now.heads head self.now.requests }
     {
         Walk::new(&self.slots, &self.queues, self.heads, head)
+    }
+
+    /// Whether a head has no node.
+    pub fn is_deserted(&self, head: usize) -> bool
+        requires { head < self.now.heads }
+        ensures { IsTrue result → crowd self.now.heads head self.now.requests ≡ [] }
+    {
+        self.queues.after(head) == head
     }
 
     /// How many heads there are.

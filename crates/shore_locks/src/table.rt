@@ -111,7 +111,19 @@ impl LockTable {
         ensures answer { result ≡ answer_to self.old txn granule mode }
         ensures table { self.new ≡ record { limit = self.old.limit; requests = after_request self.old txn granule mode } }
     {
-        match check_request(&self.nodes, txn, &granule, mode) {
+        if self.nodes.grant_alone(txn, &granule, mode) {
+            return Requested::Granted;
+        }
+        self.request_beside(txn, &granule, mode)
+    }
+
+    // As `request`, if others may stand in the queue, or the transaction itself.
+    fn request_beside(&mut self, txn: TxnId, granule: &Granule, mode: Mode) -> Requested
+        requires { is_waiting txn self.old.requests ≡ false }
+        ensures answer { result ≡ answer_to self.old txn granule.now mode }
+        ensures table { self.new ≡ record { limit = self.old.limit; requests = after_request self.old txn granule.now mode } }
+    {
+        match check_request(&self.nodes, txn, granule, mode) {
             Finding::Enough => Requested::Granted,
             Finding::Full => Requested::Full,
             Finding::Stopped { request, .. } => {
@@ -131,7 +143,19 @@ impl LockTable {
         ensures answer { result ≡ answer_to_try self.old txn granule mode }
         ensures table { self.new ≡ record { limit = self.old.limit; requests = after_try self.old txn granule mode } }
     {
-        match check_request(&self.nodes, txn, &granule, mode) {
+        if self.nodes.grant_alone(txn, &granule, mode) {
+            return Tried::Granted;
+        }
+        self.try_beside(txn, &granule, mode)
+    }
+
+    // As `try_request`, if others may stand in the queue, or the transaction itself.
+    fn try_beside(&mut self, txn: TxnId, granule: &Granule, mode: Mode) -> Tried
+        requires { is_waiting txn self.old.requests ≡ false }
+        ensures answer { result ≡ answer_to_try self.old txn granule.now mode }
+        ensures table { self.new ≡ record { limit = self.old.limit; requests = after_try self.old txn granule.now mode } }
+    {
+        match check_request(&self.nodes, txn, granule, mode) {
             Finding::Enough => Tried::Granted,
             Finding::Full => Tried::Full,
             Finding::Stopped { other, .. } => Tried::Blocked(other),

@@ -1,4 +1,4 @@
-use Rattle.std.proofs.Common.{◌<◌, [], ap, subst, sym, ◌∙◌}
+use Rattle.std.proofs.Common.{◌<◌, ap, subst, sym, ◌∙◌}
 use Rattle.std.specs.Prelude.{filter}
 use Rattle.shore_model.specs.declared.requests.Group.TheVariants.{Conversions}
 use Rattle.shore_model.specs.Requests.{is_in_group, requests_at}
