@@ -6,6 +6,7 @@ pub mod Walks
 pub mod Steps
 pub mod LawLemmas
 pub mod Fewer
+mod Idle
 pub mod ReachedLemmas
 pub mod Ahead
 pub mod Searches

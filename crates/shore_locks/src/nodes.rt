@@ -88,6 +88,13 @@ impl Nodes {
         Walk::new(&self.slots, &self.queues, self.heads, head)
     }
 
+    /// No nodes.
+    pub fn nobody(&self) -> Walk<'_>
+        ensures { result ≡ [] }
+    {
+        Walk::ended(&self.slots, &self.queues, self.heads, 0)
+    }
+
     /// The nodes of a head, in their order.
     pub fn crowd(&self, head: usize) -> Walk<'_>
         requires { head < self.now.heads }

@@ -1,5 +1,6 @@
 //! Searches among the nodes of a granule's queue, and of a transaction.
 ghost use Rattle.std.specs.Prelude.{◌≡◌, None, Some, cond, is_some, slice_get};
+ghost use Rattle.std.specs.Option.{option_map};
 ghost use Rattle.shore_model.specs.Requests.{requests_at};
 ghost use Rattle.shore_locks.specs.Tables as tables;
 ghost use Rattle.shore_locks.specs.Granting.{new_waiters};
@@ -20,6 +21,19 @@ pub fn request_for(nodes: &Nodes, txn: TxnId, granule: &Granule) -> Option<Reque
     while let Some((_, request)) = walk.advance() {
         if is_for(&request, txn, granule) {
             return Some(request);
+        }
+    }
+    None
+}
+
+/// What a transaction's request for a granule holds, if it has one.
+pub fn own_hold(nodes: &Nodes, txn: TxnId, granule: &Granule) -> Option<Option<Mode>>
+    ensures { result ≡ option_map (λ r. r.held) (tables.request_for txn granule.now nodes.now.requests) }
+{
+    let mut walk = nodes.owned(txn, granule);
+    while let Some((_, request)) = walk.advance() {
+        if is_for(&request, txn, granule) {
+            return Some(request.held);
         }
     }
     None

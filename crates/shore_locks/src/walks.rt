@@ -49,6 +49,21 @@ impl<'a> Walk<'a> {
         }
     }
 
+    /// A walk that is at its end.
+    pub fn ended(slots: &'a Slab<Request>, rings: &'a Rings, heads: usize, head: usize) -> Walk<'a>
+        requires { head < length rings.now }
+        ensures { result ≡ [] }
+    {
+        Walk {
+            slots,
+            rings,
+            heads,
+            head,
+            node: head,
+            left: 0,
+        }
+    }
+
     /// The next node.
     pub fn advance(&mut self) -> Option<(usize, Request)>
         ensures { MatchOption result ((self.old ≡ []) × (self.new ≡ [])) (λ node. self.old ≡ node ∷ self.new) }
