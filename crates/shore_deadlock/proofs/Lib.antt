@@ -15,4 +15,6 @@ pub mod AcquireLemmas
 pub mod Counting
 pub mod Lockings
 pub mod Rounds
+pub mod Sparing
+pub mod SparedRounds
 pub mod Wakings
