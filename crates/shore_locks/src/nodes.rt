@@ -135,8 +135,8 @@ impl Nodes {
     }
 
     /// The newest request of a transaction, unless a newer one of another is in its bucket. It takes no search.
-    pub fn newest(&self, txn: TxnId) -> Option<Request>
-        ensures { IfSome result (λ r. IsNewest txn self.now.requests r) }
+    pub fn newest(&self, txn: TxnId) -> Option<&Request>
+        ensures { IfSome result (λ r. IsNewest txn self.now.requests r.now) }
     {
         let head = list_head(txn, self.heads);
         let node = self.lists.before(head);
@@ -306,11 +306,11 @@ impl Nodes {
     }
 }
 
-fn only_of(request: &Request, txn: TxnId) -> Option<Request>
-    ensures { IfSome result (λ r. (r ≡ request.now) × (r.txn ≡ txn)) }
+fn only_of(request: &Request, txn: TxnId) -> Option<&Request>
+    ensures { IfSome result (λ r. (r.now ≡ request.now) × (r.now.txn ≡ txn)) }
 {
     if request.txn == txn {
-        Some(*request)
+        Some(request)
     } else {
         None
     }
@@ -425,7 +425,7 @@ fn first_of(mut walk: Walk<'_>, txn: TxnId) -> Option<(usize, Request)>
 {
     while let Some((node, request)) = walk.advance() {
         if request.txn == txn {
-            return Some((node, request));
+            return Some((node, *request));
         }
     }
     None

@@ -59,8 +59,8 @@ impl<'a> InGroup<'a> {
         ensures { MatchOption result ((self.old ≡ []) × (self.new ≡ [])) (λ r. self.old ≡ r ∷ self.new) }
     {
         while let Some((_, request)) = self.walk.advance() {
-            if is_for_group(&request, &self.granule, self.group) {
-                return Some(request);
+            if is_for_group(request, &self.granule, self.group) {
+                return Some(*request);
             }
         }
         None

@@ -19,8 +19,8 @@ pub fn request_for(nodes: &Nodes, txn: TxnId, granule: &Granule) -> Option<Reque
 {
     let mut walk = nodes.owned(txn, granule);
     while let Some((_, request)) = walk.advance() {
-        if is_for(&request, txn, granule) {
-            return Some(request);
+        if is_for(request, txn, granule) {
+            return Some(*request);
         }
     }
     None
@@ -32,7 +32,7 @@ pub fn own_hold(nodes: &Nodes, txn: TxnId, granule: &Granule) -> Option<Option<M
 {
     let mut walk = nodes.owned(txn, granule);
     while let Some((_, request)) = walk.advance() {
-        if is_for(&request, txn, granule) {
+        if is_for(request, txn, granule) {
             return Some(request.held);
         }
     }
@@ -58,17 +58,17 @@ pub fn waiting_request(nodes: &Nodes, txn: TxnId) -> Option<Request>
     let mut walk = nodes.list(txn);
     while let Some((_, request)) = walk.advance() {
         if request.txn == txn && request.wanted.is_some() {
-            return Some(request);
+            return Some(*request);
         }
     }
     None
 }
 
-fn if_waiting(request: Request) -> Option<Request>
-    ensures { result ≡ cond (is_some request.wanted) (Some request) None }
+fn if_waiting(request: &Request) -> Option<Request>
+    ensures { result ≡ cond (is_some request.now.wanted) (Some request.now) None }
 {
     if request.wanted.is_some() {
-        Some(request)
+        Some(*request)
     } else {
         None
     }
@@ -83,10 +83,10 @@ pub fn first_waiter(nodes: &Nodes, granule: &Granule) -> Option<Request>
     while let Some((_, request)) = walk.advance() {
         if request.granule == *granule && request.wanted.is_some() {
             if request.held.is_some() {
-                return Some(request);
+                return Some(*request);
             }
             if first_new.is_none() {
-                first_new = Some(request);
+                first_new = Some(*request);
             }
         }
     }
@@ -99,8 +99,8 @@ pub fn first_new(nodes: &Nodes, granule: &Granule) -> Option<Request>
 {
     let mut walk = nodes.queue(granule);
     while let Some((_, request)) = walk.advance() {
-        if is_at(&request, granule) && is_in(&request, Group::NewWaiters) {
-            return Some(request);
+        if is_at(request, granule) && is_in(request, Group::NewWaiters) {
+            return Some(*request);
         }
     }
     None
@@ -112,7 +112,7 @@ pub fn can_be_granted(nodes: &Nodes, waiter: &Request) -> bool
 {
     let mut walk = nodes.queue(&waiter.granule);
     while let Some((_, other)) = walk.advance() {
-        if other.granule == waiter.granule && refuses(waiter, &other) {
+        if other.granule == waiter.granule && refuses(waiter, other) {
             return false;
         }
     }
@@ -125,8 +125,8 @@ pub fn obstacle(nodes: &Nodes, waiter: &Request) -> Option<Request>
 {
     let mut walk = nodes.queue(&waiter.granule);
     while let Some((_, other)) = walk.advance() {
-        if other.granule == waiter.granule && is_stopped_by(waiter, &other) {
-            return Some(other);
+        if other.granule == waiter.granule && is_stopped_by(waiter, other) {
+            return Some(*other);
         }
     }
     None

@@ -123,7 +123,7 @@ pub fn tally_of(mut walk: Walk<'_>) -> Tally
 {
     let mut tally = Tally::none();
     while let Some((_, request)) = walk.advance() {
-        tally.add(&request);
+        tally.add(request);
     }
     tally
 }
