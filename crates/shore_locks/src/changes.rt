@@ -14,7 +14,8 @@ use shore_model::Request;
 use shore_types::{Granule, TxnId};
 
 /// A grant pass: waiters of a granule's queue are granted in turn, up to the first that another holder refuses. Behind the last
-/// conversion the new waiters are granted together. If the counts show that nobody waits, that is all.
+/// conversion the new waiters are granted together; mostly the first of them is refused, and a walk ends there. If the counts show that
+/// nobody waits, that is all.
 pub fn pass(nodes: &mut Counted, granule: &Granule)
     requires { AreRequests nodes.old.requests }
     ensures items { nodes.new.requests ≡ steps.passed granule.now nodes.old.requests }

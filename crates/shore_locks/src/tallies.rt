@@ -98,7 +98,8 @@ impl Tally {
 
     /// Whether somebody who holds something wants more.
     pub fn has_conversions(self) -> bool
-        ensures { IsFalse result → self.converting ≡ 0 }
+        ensures none { IsFalse result → self.converting ≡ 0 }
+        ensures some { IsTrue result → 0 < self.converting }
     {
         self.converting > 0
     }
