@@ -6,6 +6,7 @@ pub mod Walks
 pub mod Steps
 pub mod LawLemmas
 pub mod Fewer
+mod Idle
 pub mod ReachedLemmas
 pub mod Ahead
 pub mod Searches
@@ -14,4 +15,6 @@ pub mod AcquireLemmas
 pub mod Counting
 pub mod Lockings
 pub mod Rounds
+pub mod Sparing
+pub mod SparedRounds
 pub mod Wakings

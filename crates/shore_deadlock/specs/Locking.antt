@@ -1,12 +1,12 @@
 -- A lock that is taken along a path, waited for, and what becomes of the cycles that its wait closes.
-use Rattle.std.specs.Prelude.{◌≡◌, ◌⊎◌, ◌++◌, ℕ, List, [], ◌∷◌, true, false, Some, Result, Ok, Err, filter, not, is_some, length, ◌&&◌, ◌==◌}
+use Rattle.std.specs.Prelude.{◌≡◌, ◌⊎◌, ◌++◌, ℕ, List, [], ◌∷◌, true, false, Some, Any, Contains, Result, Ok, Err, filter, not, is_some, length, ◌&&◌, ◌==◌}
 use Rattle.shore_types.specs.declared.faults.Fault.{Fault}
 use Rattle.shore_types.specs.declared.faults.Fault.TheVariants.{Memory}
 use Rattle.shore_types.specs.declared.locking.Granule.{Granule}
 use Rattle.shore_types.specs.declared.locking.Mode.{Mode}
 use Rattle.shore_model.specs.declared.requests.Request.{Request}
 use Rattle.shore_model.specs.Requests.{HasNoCycle}
-use Rattle.shore_locks.specs.Grants.{cancelled}
+use Rattle.shore_locks.specs.Grants.{cancelled, granted, withdrawn}
 use Rattle.shore_locks.specs.Tables.{Table, is_waiting, waiting_request}
 use Rattle.shore_path.specs.Acquires.{NoneWeaker}
 use Rattle.shore_path.specs.Rooted.{AreRooted}
@@ -86,6 +86,20 @@ pub record Keeps (t : ℕ) (old new : List Request) : Type 0 where
   pub none_weaker : NoneWeaker old new
   pub rooted : AreRooted old → AreRooted new
   pub others : (u : ℕ) → (u ≡ t → ⊥) → is_waiting u old ≡ false → is_waiting u new ≡ false
+
+-- a request stays as it was or, if it waited, holds what it wanted: it was granted
+abbrev pub StaysOrIsGranted : List Request → Request → Type 0
+StaysOrIsGranted new r = Contains new r ⊎ ((is_some r.wanted ≡ true) × Contains new (granted r))
+
+-- a request stood there before, or it waited and holds what it wanted, or it is a victim's and wants no more than it holds
+abbrev pub CameFrom : List Victim → List Request → Request → Type 0
+CameFrom vs old r =
+    Contains old r ⊎ (Any (λ q. (is_some q.wanted ≡ true) × (r ≡ granted q)) old ⊎ ((is_victim vs r.txn ≡ true) × Any (λ q. r ≡ withdrawn q) old))
+
+-- no request of others is weakened, only granted: each but those of victims stays or is granted, and none comes from elsewhere
+pub record OnlyGrantsOthers (t : ℕ) (vs : List Victim) (old new : List Request) : Type 0 where
+  pub stays : (r : Request) → Contains old r → (r.txn ≡ t → ⊥) → is_victim vs r.txn ≡ false → StaysOrIsGranted new r
+  pub comes : (r : Request) → Contains new r → (r.txn ≡ t → ⊥) → CameFrom vs old r
 
 -- how many requests of others wait
 abbrev pub others_waiting : ℕ → List Request → ℕ

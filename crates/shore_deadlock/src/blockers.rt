@@ -54,7 +54,7 @@ fn list_holders(
     Ok(false)
 }
 
-// Conversions hold what they wait for already, so they refuse too.
+// Conversions hold something already, so they refuse too; new waiters hold nothing.
 fn list_waiters(
     out: &mut Vec<TxnId>,
     table: &LockTable,
@@ -64,6 +64,9 @@ fn list_waiters(
     ensures met { IfOk result (λ met. met ≡ is_among (refusing waiter.now (waiters_at waiter.now.granule table.now.requests)) sought) }
     ensures listed { IfOk result (λ met. IsFalse met → out.new.items ≡ out.old.items ++ refusing waiter.now (waiters_at waiter.now.granule table.now.requests)) }
 {
+    if !table.may_have_conversions(waiter.granule) {
+        return Ok(false);
+    }
     for other in table.waiters(waiter.granule) {
         if refuses(waiter, &other) {
             if other.txn == sought {

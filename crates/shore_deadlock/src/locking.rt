@@ -8,7 +8,7 @@ ghost use Rattle.shore_locks.specs.Tables.{is_waiting, waiting_request};
 ghost use Rattle.shore_path.specs.Acquires.{IsReached};
 ghost use Rattle.shore_deadlock.specs.Blockers as blockers;
 ghost use Rattle.shore_deadlock.specs.Cycles.{IsOnEachCycle};
-ghost use Rattle.shore_deadlock.specs.Locking.{AnswersBroken, Ends, IsBroken, IsLetThrough, Keeps, Settles, others_waiting};
+ghost use Rattle.shore_deadlock.specs.Locking.{AnswersBroken, Ends, IsBroken, IsLetThrough, Keeps, OnlyGrantsOthers, Settles, others_waiting};
 ghost use Rattle.shore_deadlock.specs.declared.victims.Victim.{Victim as VictimData};
 
 use crate::victims::{Victim, choose, is_victim, take_back};
@@ -46,7 +46,9 @@ pub fn lock(alloc: Global, table: &mut LockTable, txn: TxnId, target: Granule, m
     ensures done { result.answer ≡ Ok Locked.Done → IsReached table.new.requests txn target mode }
     ensures quiet { ((g : Granule) → result.answer ≡ Ok (Locked.Waiting g) → ⊥) → is_waiting txn table.new.requests ≡ false }
     ensures keeps { Keeps txn table.old.requests table.new.requests }
+    ensures others { OnlyGrantsOthers txn result.victims.items table.old.requests table.new.requests }
 {
+    tables_are_orderly(table);
     let target = &target;
     let mut victims = Vec::new(alloc);
     loop {

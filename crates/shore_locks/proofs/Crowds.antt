@@ -1,5 +1,5 @@
 -- The requests for granules of a head: what a change makes of them, and of those of other heads.
-use Rattle.std.proofs.Common.{◌≡◌, ◌++◌, ◌<◌, inl, inr, ⊎_elim, ℕ, List, [], ◌∷◌, Bool, true, false, Option, None, Some, refl, ap, sym, subst, ◌∙◌, map}
+use Rattle.std.proofs.Common.{◌≡◌, ◌++◌, ◌<◌, inl, inr, ⊎_elim, ℕ, zero, suc, List, [], ◌∷◌, Bool, true, false, Option, None, Some, refl, ap, sym, subst, ◌∙◌, map}
 use Rattle.std.specs.Prelude.{filter, not, ◌&&◌, ◌||◌, ◌==◌, is_some, find, MatchBool}
 use Rattle.std.specs.List.{list_any}
 use Rattle.std.proofs.lemmas.List.{append-nil, nil_from_length}
@@ -9,7 +9,7 @@ use Rattle.slab.specs.Slab.{Slab, slab_len}
 use Rattle.shore_types.specs.declared.locking.Granule.{Granule}
 use Rattle.shore_types.specs.declared.locking.Mode.{Mode}
 use Rattle.shore_model.specs.declared.requests.Request.{Request}
-use Rattle.shore_model.specs.Requests.{are_alike, placed_last, requests_at, is_in_group}
+use Rattle.shore_model.specs.Requests.{are_alike, is_conversion, placed_last, requests_at, is_in_group}
 use Rattle.shore_types.specs.Locking.{same_granule}
 use Rattle.shore_model.specs.declared.requests.Group.TheVariants.{Conversions, NewWaiters}
 use Rattle.shore_locks.specs.Granting.{new_waiters}
@@ -35,6 +35,15 @@ crowd_requests heads slots queues lists owners ks b are_linked small =
     ap (map (λ (p : ℕ × Request). p.1)) (queue_walk heads slots queues lists owners ks b are_linked small)
     ∙ seconds heads slots (in_bucket (queue_of heads slots) b ks)
     ∙ sym (filter_mapped (λ r. queue_head heads r.granule == b) (request_at slots) (λ k. queue_of heads slots k == b) ks (λ k h. refl))
+
+no_pairs : (n : ℕ) (slots : Slab Request) (links : List Link) (heads head node : ℕ) → node ≡ head → pairs_from n slots links heads head node ≡ []
+no_pairs zero slots links heads head node e = refl
+no_pairs (suc n) slots links heads head node e = let same = (Decides-eqb node head).1 e in rw same refl
+
+-- a ring that ends where it begins has none
+pub nobody_stands : (heads : ℕ) (slots : Slab Request) (queues lists owners : List Link) (ks : List ℕ) (b : ℕ) → IsLinked heads slots queues lists owners ks → b < heads → after_at queues b ≡ b → crowd heads b (requests_in slots ks) ≡ []
+nobody_stands heads slots queues lists owners ks b are_linked small ends =
+    sym (crowd_requests heads slots queues lists owners ks b are_linked small) ∙ ap (map (λ (p : ℕ × Request). p.1)) (no_pairs (slab_len slots) slots queues heads b (after_at queues b) ends)
 
 -- a change for a granule of one head leaves the others as they were
 not_that : (heads b : ℕ) (g : Granule) → (queue_head heads g ≡ b → ⊥) → (queue_head heads g == b) ≡ false
@@ -71,6 +80,9 @@ own_pushed heads b r rs at =
 pub other_placed : (heads b : ℕ) (r : Request) (rs : List Request) → (queue_head heads r.granule ≡ b → ⊥) → crowd heads b (placed_last r rs) ≡ crowd heads b rs
 other_placed heads b r rs other = other_pushed heads b r (removed r rs) other ∙ other_removed heads b r rs other
 
+pub own_placed : (heads b : ℕ) (r : Request) (rs : List Request) → queue_head heads r.granule ≡ b → crowd heads b (placed_last r rs) ≡ placed_last r (crowd heads b rs)
+own_placed heads b r rs at = own_pushed heads b r (removed r rs) at ∙ ap (λ xs. xs ++ r ∷ []) (crowd_removed heads b r rs)
+
 pub other_granted : (heads b : ℕ) (g : Granule) → (queue_head heads g ≡ b → ⊥) → (ws rs : List Request) → ((w : Request) → In w ws → w.granule ≡ g) → crowd heads b (granted_in_turn ws rs) ≡ crowd heads b rs
 other_granted heads b g other [] rs at = refl
 other_granted heads b g other (w ∷ ws) rs at =
@@ -102,6 +114,15 @@ in_crowd_of heads head g rs q at h =
     filter-In (λ r. queue_head heads r.granule == head) rs q x.0
     ((Decides-eqb (queue_head heads q.granule) head).1 (ap (queue_head heads) ((same_granule-Decides q.granule g).0 x.1) ∙ sym at))
 
+-- no node stands at the head, so none is for the granule
+pub nobody_at : (heads head : ℕ) (g : Granule) (rs : List Request) → head ≡ queue_head heads g → crowd heads head rs ≡ [] → requests_at g rs ≡ []
+nobody_at heads head g rs at none =
+    filter-none (λ r. same_granule r.granule g) rs (λ q h.
+    ⊎_elim
+    (λ here. absurd (subst (In q) none (in_crowd_of heads head g rs q at (filter-In (λ r. same_granule r.granule g) rs q h here))))
+    (λ apart. apart)
+    (either (same_granule q.granule g)))
+
 none_waits_here : (wanted held : Option Mode) → is_some wanted ≡ false → (is_some held && is_some wanted) ≡ false
 none_waits_here None None e = refl
 none_waits_here None (Some h) e = refl
@@ -119,7 +140,11 @@ nobody_waits heads head tally g rs at counts none =
     ap (λ xs. xs ++ filter (is_in_group NewWaiters) (requests_at g rs)) (filter-none (is_in_group Conversions) (requests_at g rs) (λ q h. none_waits_here q.wanted q.held (quiet q h)))
     ∙ filter-none (is_in_group NewWaiters) (requests_at g rs) (λ q h. none_new_here q.wanted q.held (quiet q h))
 
-find_none : (p : Request → Bool) (xs : List Request) → ((q : Request) → In q xs → p q ≡ false) → find p xs ≡ None
+pub nobody_converts : (heads head : ℕ) (tally : Tally) (g : Granule) (rs : List Request) → head ≡ queue_head heads g → Counts tally (crowd heads head rs) → tally.converting ≡ 0 → filter (is_in_group Conversions) (requests_at g rs) ≡ []
+nobody_converts heads head tally g rs at counts none =
+    filter-none (is_in_group Conversions) (requests_at g rs) (λ q h. none_counted is_conversion (crowd heads head rs) (sym counts.converting ∙ none) q (in_crowd_of heads head g rs q at h))
+
+pub find_none : (p : Request → Bool) (xs : List Request) → ((q : Request) → In q xs → p q ≡ false) → find p xs ≡ None
 find_none p [] none = refl
 find_none p (x ∷ xs) none = find_step p x xs (none x (inl refl)) ∙ find_none p xs (λ q h. none q (inr h))
 

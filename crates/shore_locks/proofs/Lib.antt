@@ -1,4 +1,5 @@
 mod AlikeNodes
+mod Alone
 pub mod AtOnce
 pub mod Answered
 pub mod Buckets

@@ -137,11 +137,11 @@ orderly_withdrawn r rs orderly in_r holds =
     (none_left_passed r.granule (replaced (withdrawn r) rs) fit.one (λ h other. none_left_as h (replaced (withdrawn r) rs) rs (at_other_replaced h (withdrawn r) rs other) (orderly.none_left h)))
     (last_passed r.granule (replaced (withdrawn r) rs) (last_replaced (withdrawn r) rs refl orderly.waits_last))
 
-cond_true : {A : Type 0} (b : Bool) (x y : A) → b ≡ true → cond b x y ≡ x
+pub cond_true : {A : Type 0} (b : Bool) (x y : A) → b ≡ true → cond b x y ≡ x
 cond_true true x y e = refl
 cond_true false x y e = cc
 
-cond_false : {A : Type 0} (b : Bool) (x y : A) → b ≡ false → cond b x y ≡ y
+pub cond_false : {A : Type 0} (b : Bool) (x y : A) → b ≡ false → cond b x y ≡ y
 cond_false true x y e = cc
 cond_false false x y e = refl
 

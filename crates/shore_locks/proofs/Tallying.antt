@@ -1,21 +1,24 @@
 -- What changes make of a tally.
 use Rattle.std.proofs.Common.{◌≡◌, ◌++◌, ◌<◌, ◌≤◌, ◌+◌, ◌-◌, inl, ⊎_elim, ℕ, List, [], ◌∷◌, Bool, true, false, None, Some, refl, ap, sym, subst, ◌∙◌, length, map, arith, get_or-set_same, get_or-set_other}
-use Rattle.std.specs.Prelude.{not, ◌==◌, ◌^◌, is_some, slice_get, slice_index_or, slice_set}
+use Rattle.std.specs.Prelude.{MatchBool, not, ◌==◌, ◌^◌, is_some, slice_get, slice_index_or, slice_set}
+use Rattle.std.specs.List.{list_any}
 use Rattle.std.proofs.lemmas.List.{append-nil, append_assoc, length-map, get_or_default, length-append, length-set}
 use Rattle.std.proofs.lemmas.Bool.Decides.{Decides-eqb}
 use Rattle.shore_types.specs.declared.locking.Mode.{Mode}
 use Rattle.shore_model.specs.declared.requests.Request.{Request}
-use Rattle.shore_model.specs.Requests.{are_alike, AreRequests, requests_by}
+use Rattle.shore_model.specs.Requests.{are_alike, AreRequests, is_conversion, placed_last, requests_by}
 use Rattle.shore_locks.specs.Grants.{removed, replaced}
 use Rattle.shore_locks.specs.Nodes.{queue_head}
 use Rattle.shore_locks.specs.Tallies.{AreCounted, Counts, Stored, count_in, crowd, how_many, is_just, one_if, tally_at}
 use Rattle.shore_locks.specs.declared.tallies.Tally.{Tally}
 use Rattle.shore_locks.proofs.Counts.{length-filter_most}
-use Rattle.shore_locks.proofs.Crowds.{crowd_removed, crowd_replaced, other_pushed, other_removed, other_replaced, own_pushed}
+use Rattle.shore_locks.proofs.Crowds.{crowd_removed, crowd_replaced, other_placed, other_pushed, other_removed, other_replaced, own_placed, own_pushed}
 use Rattle.shore_locks.proofs.Keys.{alike-Decides, in_place-no, in_place-yes, AreRequests-filter}
 use Rattle.shore_locks.proofs.Members.{In, In-All, either, filter-no, filter-yes, In-filter, filter-In, filter-all}
 use Rattle.shore_locks.specs.Tables.{is_for, request_for}
 use Rattle.shore_locks.proofs.Entering.{found_in, found_none}
+use Rattle.shore_locks.proofs.Fits.{any_of}
+use Rattle.shore_locks.proofs.NodeSteps.{none_of_any}
 use Rattle.shore_locks.proofs.Passes.{first_of}
 use Rattle.shore_locks.proofs.Others.{removed_none, replaced_none}
 
@@ -79,25 +82,33 @@ WaitingMore tally new r = tally.waiting + 1 < 2 ^ 64 → new.waiting ≡ tally.w
 abbrev pub WaitingLess : Tally → Tally → Request → Type 0
 WaitingLess tally new r = new.waiting ≡ tally.waiting - one_if (is_some r.wanted)
 
+abbrev pub ConvertingMore : Tally → Tally → Request → Type 0
+ConvertingMore tally new r = tally.converting + 1 < 2 ^ 64 → new.converting ≡ tally.converting + one_if (is_conversion r)
+
+abbrev pub ConvertingLess : Tally → Tally → Request → Type 0
+ConvertingLess tally new r = new.converting ≡ tally.converting - one_if (is_conversion r)
+
 more : (p : Request → Bool) (a b : ℕ) (r : Request) (xs : List Request) → (a + 1 < 2 ^ 64 → b ≡ a + one_if (p r)) → a ≡ how_many p xs → length xs + 1 < 2 ^ 64 → b ≡ how_many p (xs ++ r ∷ [])
 more p a b r xs grows is few =
     let most = length-filter_most p xs in
     let e = grows (omega (arith, most, is, few)) in
     let f = count_pushed p xs r in omega (arith, e, f, is)
 
-pub counts_with : (tally new : Tally) (r : Request) (xs : List Request) → HoldingMore tally new r → WaitingMore tally new r → Counts tally xs → length xs + 1 < 2 ^ 64 → Counts new (xs ++ r ∷ [])
-counts_with tally new r xs holding waiting counts few = record {
+pub counts_with : (tally new : Tally) (r : Request) (xs : List Request) → HoldingMore tally new r → WaitingMore tally new r → ConvertingMore tally new r → Counts tally xs → length xs + 1 < 2 ^ 64 → Counts new (xs ++ r ∷ [])
+counts_with tally new r xs holding waiting converting counts few = record {
   holding = λ m. more (λ x. is_just m x.held) (count_in tally m) (count_in new m) r xs (holding m) (counts.holding m) few;
   waiting = more (λ x. is_some x.wanted) tally.waiting new.waiting r xs waiting counts.waiting few;
+  converting = more is_conversion tally.converting new.converting r xs converting counts.converting few;
 }
 
 less : (p : Request → Bool) (a b : ℕ) (r q : Request) (xs : List Request) → AreRequests xs → In q xs → are_alike q r ≡ true → b ≡ a - one_if (p q) → a ≡ how_many p xs → b ≡ how_many p (removed r xs)
 less p a b r q xs one h same shrinks is = let e = count_removed p r q xs one h same in omega (arith, e, shrinks, is)
 
-pub counts_without : (tally new : Tally) (r q : Request) (xs : List Request) → HoldingLess tally new q → WaitingLess tally new q → Counts tally xs → AreRequests xs → In q xs → are_alike q r ≡ true → Counts new (removed r xs)
-counts_without tally new r q xs holding waiting counts one h same = record {
+pub counts_without : (tally new : Tally) (r q : Request) (xs : List Request) → HoldingLess tally new q → WaitingLess tally new q → ConvertingLess tally new q → Counts tally xs → AreRequests xs → In q xs → are_alike q r ≡ true → Counts new (removed r xs)
+counts_without tally new r q xs holding waiting converting counts one h same = record {
   holding = λ m. less (λ x. is_just m x.held) (count_in tally m) (count_in new m) r q xs one h same (holding m) (counts.holding m);
   waiting = less (λ x. is_some x.wanted) tally.waiting new.waiting r q xs one h same waiting counts.waiting;
+  converting = less is_conversion tally.converting new.converting r q xs one h same converting counts.converting;
 }
 
 count_all : (xs : List Request) → how_many (λ _. true) xs ≡ length xs
@@ -114,12 +125,22 @@ exchanged p a b d r q xs one h same shrinks grows is few =
     let f = count_removed p r q xs one h same in
     let g = count_replaced p r q xs one h same in omega (arith, e, f, g, gone)
 
-pub counts_exchanged : (tally gone new : Tally) (r q : Request) (xs : List Request) → HoldingLess tally gone q → WaitingLess tally gone q → HoldingMore gone new r → WaitingMore gone new r → Counts tally xs → AreRequests xs → In q xs → are_alike q r ≡ true → length xs < 2 ^ 64
+pub counts_exchanged : (tally gone new : Tally) (r q : Request) (xs : List Request) → HoldingLess tally gone q → WaitingLess tally gone q → ConvertingLess tally gone q → HoldingMore gone new r → WaitingMore gone new r → ConvertingMore gone new r → Counts tally xs → AreRequests xs → In q xs → are_alike q r ≡ true → length xs < 2 ^ 64
     → Counts new (replaced r xs)
-counts_exchanged tally gone new r q xs less_holding less_waiting more_holding more_waiting counts one h same few = record {
+counts_exchanged tally gone new r q xs less_holding less_waiting less_converting more_holding more_waiting more_converting counts one h same few = record {
   holding = λ m. exchanged (λ x. is_just m x.held) (count_in tally m) (count_in gone m) (count_in new m) r q xs one h same (less_holding m) (more_holding m) (counts.holding m) few;
   waiting = exchanged (λ x. is_some x.wanted) tally.waiting gone.waiting new.waiting r q xs one h same less_waiting more_waiting counts.waiting few;
+  converting = exchanged is_conversion tally.converting gone.converting new.converting r q xs one h same less_converting more_converting counts.converting few;
 }
+
+pub counts_moved : (tally gone new : Tally) (r q : Request) (xs : List Request) → HoldingLess tally gone q → WaitingLess tally gone q → ConvertingLess tally gone q → HoldingMore gone new r → WaitingMore gone new r → ConvertingMore gone new r → Counts tally xs → AreRequests xs → In q xs → are_alike q r ≡ true → length xs < 2 ^ 64
+    → Counts new (placed_last r xs)
+counts_moved tally gone new r q xs less_holding less_waiting less_converting more_holding more_waiting more_converting counts one h same few =
+    let shorter = count_removed (λ _. true) r q xs one h same in
+    let all = count_all xs in
+    let all_left = count_all (removed r xs) in
+    counts_with gone new r (removed r xs) more_holding more_waiting more_converting
+    (counts_without tally gone r q xs less_holding less_waiting less_converting counts one h same) (omega (arith, shorter, all, all_left, few))
 
 -- one head's tally is set, and the others count what they did
 pub counted_set : (tallies : List Tally) (old new : Stored) (head : ℕ) (tally : Tally) → AreCounted tallies old → new.heads ≡ old.heads → head < old.heads → Counts tally (crowd old.heads head new.requests)
@@ -133,60 +154,70 @@ counted_set tallies old new head tally are same small counts others = record {
       (⊎_elim
       (λ is_head. let e = (Decides-eqb head b).0 is_head in
       subst (λ z. Counts (tally_at (slice_set tallies head tally) z) (crowd old.heads z new.requests)) e
-      (subst (λ t. Counts t (crowd old.heads head new.requests)) (sym (get_or-set_same tallies head tally (record { is = 0; ix = 0; sh = 0; six = 0; ex = 0; ud = 0; waiting = 0 }) (subst (λ n. head < n) (sym are.each) small))) counts))
+      (subst (λ t. Counts t (crowd old.heads head new.requests)) (sym (get_or-set_same tallies head tally (record { is = 0; ix = 0; sh = 0; six = 0; ex = 0; ud = 0; waiting = 0; converting = 0 }) (subst (λ n. head < n) (sym are.each) small))) counts))
       (λ apart. let other : (head ≡ b → ⊥) = λ e. let y = (Decides-eqb head b).1 e in let f : (head == b) ≡ false = apart in cc in
-      subst (λ t. Counts t (crowd old.heads b new.requests)) (sym (get_or-set_other tallies head b tally (record { is = 0; ix = 0; sh = 0; six = 0; ex = 0; ud = 0; waiting = 0 }) (λ e. other (sym e))))
+      subst (λ t. Counts t (crowd old.heads b new.requests)) (sym (get_or-set_other tallies head b tally (record { is = 0; ix = 0; sh = 0; six = 0; ex = 0; ud = 0; waiting = 0; converting = 0 }) (λ e. other (sym e))))
       (subst (Counts (tally_at tallies b)) (sym (others b other)) (are.counted b (subst (λ n. b < n) same h))))
       (either (head == b)));
 }
 
 module _ (tallies : List Tally) (old new : Stored) (r : Request) (head : ℕ) (at : head ≡ queue_head old.heads r.granule) (are : AreCounted tallies old) (small : head < old.heads) (same : new.heads ≡ old.heads) where
   read_at : (tally : Tally) → tally ≡ slice_index_or tallies head tally → tally ≡ tally_at tallies head
-  read_at tally is = is ∙ get_or_default tallies head tally (record { is = 0; ix = 0; sh = 0; six = 0; ex = 0; ud = 0; waiting = 0 }) (subst (λ n. head < n) (sym are.each) small)
+  read_at tally is = is ∙ get_or_default tallies head tally (record { is = 0; ix = 0; sh = 0; six = 0; ex = 0; ud = 0; waiting = 0; converting = 0 }) (subst (λ n. head < n) (sym are.each) small)
 
   other_head : (b : ℕ) → (head ≡ b → ⊥) → queue_head old.heads r.granule ≡ b → ⊥
   other_head b other e = other (at ∙ e)
 
-  pub pushed_counted : (tally now : Tally) → tally ≡ slice_index_or tallies head tally → HoldingMore tally now r → WaitingMore tally now r → new.requests ≡ old.requests ++ r ∷ [] → length new.requests < 2 ^ 64 → AreCounted (slice_set tallies head now) new
-  pushed_counted tally now is holding waiting comes few =
+  pub pushed_counted : (tally now : Tally) → tally ≡ slice_index_or tallies head tally → HoldingMore tally now r → WaitingMore tally now r → ConvertingMore tally now r → new.requests ≡ old.requests ++ r ∷ [] → length new.requests < 2 ^ 64 → AreCounted (slice_set tallies head now) new
+  pushed_counted tally now is holding waiting converting comes few =
       counted_set tallies old new head now are same small
       (subst (Counts now) (sym (ap (crowd old.heads head) comes ∙ own_pushed old.heads head r old.requests (sym at)))
-      (counts_with tally now r (crowd old.heads head old.requests) holding waiting (subst (λ t. Counts t (crowd old.heads head old.requests)) (sym (read_at tally is)) (are.counted head small))
+      (counts_with tally now r (crowd old.heads head old.requests) holding waiting converting (subst (λ t. Counts t (crowd old.heads head old.requests)) (sym (read_at tally is)) (are.counted head small))
       (let most = length-filter_most (λ q. queue_head old.heads q.granule == head) old.requests in let long = ap length comes ∙ length-append old.requests (r ∷ []) in omega (arith, most, long, few))))
       (λ b other. ap (crowd old.heads b) comes ∙ other_pushed old.heads b r old.requests (other_head b other))
 
   in_crowd : (q : Request) → In q old.requests → are_alike q r ≡ true → In q (crowd old.heads head old.requests)
   in_crowd q h alike = filter-In (λ x. queue_head old.heads x.granule == head) old.requests q h ((Decides-eqb (queue_head old.heads q.granule) head).1 (ap (queue_head old.heads) ((alike-Decides q r).0 alike).1 ∙ sym at))
 
-  pub removed_counted : (tally now : Tally) (q : Request) → tally ≡ slice_index_or tallies head tally → AreRequests old.requests → In q old.requests → are_alike q r ≡ true → HoldingLess tally now q → WaitingLess tally now q → new.requests ≡ removed r old.requests
+  pub removed_counted : (tally now : Tally) (q : Request) → tally ≡ slice_index_or tallies head tally → AreRequests old.requests → In q old.requests → are_alike q r ≡ true → HoldingLess tally now q → WaitingLess tally now q → ConvertingLess tally now q → new.requests ≡ removed r old.requests
       → AreCounted (slice_set tallies head now) new
-  removed_counted tally now q is one h alike holding waiting goes =
+  removed_counted tally now q is one h alike holding waiting converting goes =
       counted_set tallies old new head now are same small
       (subst (Counts now) (sym (ap (crowd old.heads head) goes ∙ crowd_removed old.heads head r old.requests))
-      (counts_without tally now r q (crowd old.heads head old.requests) holding waiting (subst (λ t. Counts t (crowd old.heads head old.requests)) (sym (read_at tally is)) (are.counted head small))
+      (counts_without tally now r q (crowd old.heads head old.requests) holding waiting converting (subst (λ t. Counts t (crowd old.heads head old.requests)) (sym (read_at tally is)) (are.counted head small))
       (AreRequests-filter (λ x. queue_head old.heads x.granule == head) old.requests one) (in_crowd q h alike) alike))
       (λ b other. ap (crowd old.heads b) goes ∙ other_removed old.heads b r old.requests (other_head b other))
 
-  pub replaced_counted : (tally gone now : Tally) (q : Request) → tally ≡ slice_index_or tallies head tally → AreRequests old.requests → In q old.requests → are_alike q r ≡ true → HoldingLess tally gone q → WaitingLess tally gone q → HoldingMore gone now r → WaitingMore gone now r
+  pub replaced_counted : (tally gone now : Tally) (q : Request) → tally ≡ slice_index_or tallies head tally → AreRequests old.requests → In q old.requests → are_alike q r ≡ true → HoldingLess tally gone q → WaitingLess tally gone q → ConvertingLess tally gone q → HoldingMore gone now r → WaitingMore gone now r → ConvertingMore gone now r
       → new.requests ≡ replaced r old.requests → length old.requests < 2 ^ 64 → AreCounted (slice_set tallies head now) new
-  replaced_counted tally gone now q is one h alike less_holding less_waiting more_holding more_waiting changes few =
+  replaced_counted tally gone now q is one h alike less_holding less_waiting less_converting more_holding more_waiting more_converting changes few =
       counted_set tallies old new head now are same small
       (subst (Counts now) (sym (ap (crowd old.heads head) changes ∙ crowd_replaced old.heads head r old.requests))
-      (counts_exchanged tally gone now r q (crowd old.heads head old.requests) less_holding less_waiting more_holding more_waiting (subst (λ t. Counts t (crowd old.heads head old.requests)) (sym (read_at tally is)) (are.counted head small))
+      (counts_exchanged tally gone now r q (crowd old.heads head old.requests) less_holding less_waiting less_converting more_holding more_waiting more_converting (subst (λ t. Counts t (crowd old.heads head old.requests)) (sym (read_at tally is)) (are.counted head small))
       (AreRequests-filter (λ x. queue_head old.heads x.granule == head) old.requests one) (in_crowd q h alike) alike
       (let most = length-filter_most (λ q. queue_head old.heads q.granule == head) old.requests in omega (arith, most, few))))
       (λ b other. ap (crowd old.heads b) changes ∙ other_replaced old.heads b r old.requests (other_head b other))
 
+  pub moved_counted : (tally gone now : Tally) (q : Request) → tally ≡ slice_index_or tallies head tally → AreRequests old.requests → In q old.requests → are_alike q r ≡ true → HoldingLess tally gone q → WaitingLess tally gone q → ConvertingLess tally gone q → HoldingMore gone now r → WaitingMore gone now r → ConvertingMore gone now r
+      → new.requests ≡ placed_last r old.requests → length old.requests < 2 ^ 64 → AreCounted (slice_set tallies head now) new
+  moved_counted tally gone now q is one h alike less_holding less_waiting less_converting more_holding more_waiting more_converting moves few =
+      counted_set tallies old new head now are same small
+      (subst (Counts now) (sym (ap (crowd old.heads head) moves ∙ own_placed old.heads head r old.requests (sym at)))
+      (counts_moved tally gone now r q (crowd old.heads head old.requests) less_holding less_waiting less_converting more_holding more_waiting more_converting (subst (λ t. Counts t (crowd old.heads head old.requests)) (sym (read_at tally is)) (are.counted head small))
+      (AreRequests-filter (λ x. queue_head old.heads x.granule == head) old.requests one) (in_crowd q h alike) alike
+      (let most = length-filter_most (λ q. queue_head old.heads q.granule == head) old.requests in omega (arith, most, few))))
+      (λ b other. ap (crowd old.heads b) moves ∙ other_placed old.heads b r old.requests (other_head b other))
+
 -- a walk is counted node by node
-pub tally_goes_on : (tally new : Tally) (n : ℕ) (r : Request) (entry walk rest : List (ℕ × Request)) (done : List Request) → HoldingMore tally new r → WaitingMore tally new r → Counts tally done
+pub tally_goes_on : (tally new : Tally) (n : ℕ) (r : Request) (entry walk rest : List (ℕ × Request)) (done : List Request) → HoldingMore tally new r → WaitingMore tally new r → ConvertingMore tally new r → Counts tally done
     → done ++ map (λ (p : ℕ × Request). p.1) walk ≡ map (λ (p : ℕ × Request). p.1) entry → walk ≡ (n, r) ∷ rest → length entry < 2 ^ 64
     → (after : List Request) × Counts new after × (after ++ map (λ (p : ℕ × Request). p.1) rest ≡ map (λ (p : ℕ × Request). p.1) entry)
-tally_goes_on tally new n r entry walk rest done holding waiting counts so_far is few =
+tally_goes_on tally new n r entry walk rest done holding waiting converting counts so_far is few =
     let there = ap (λ w. done ++ map (λ (p : ℕ × Request). p.1) w) (sym is) ∙ so_far in
     let long = ap length there in
     let parts = length-append done (r ∷ map (λ (p : ℕ × Request). p.1) rest) in
     let all = length-map entry (λ (p : ℕ × Request). p.1) in
-    (done ++ r ∷ [], counts_with tally new r done holding waiting counts (omega (arith, long, parts, all, few)), append_assoc done (r ∷ []) (map (λ (p : ℕ × Request). p.1) rest) ∙ there)
+    (done ++ r ∷ [], counts_with tally new r done holding waiting converting counts (omega (arith, long, parts, all, few)), append_assoc done (r ∷ []) (map (λ (p : ℕ × Request). p.1) rest) ∙ there)
 
 pub tally_ends : (tally : Tally) (entry walk : List (ℕ × Request)) (done : List Request) → Counts tally done → done ++ map (λ (p : ℕ × Request). p.1) walk ≡ map (λ (p : ℕ × Request). p.1) entry → walk ≡ [] → Counts tally (map (λ (p : ℕ × Request). p.1) entry)
 tally_ends tally entry walk done counts so_far is =
@@ -210,7 +241,23 @@ known_in r q rs is = found_in (is_for r.txn r.granule) rs q (sym is)
 pub unknown_replaced : (r : Request) (rs : List Request) → None ≡ request_for r.txn r.granule rs → replaced r rs ≡ rs
 unknown_replaced r rs is = replaced_none r rs (λ q h. found_none (is_for r.txn r.granule) rs (sym is) q h)
 
+pub unknown_removed : (r : Request) (rs : List Request) → None ≡ request_for r.txn r.granule rs → removed r rs ≡ rs
+unknown_removed r rs is = removed_none r rs (λ q h. found_none (is_for r.txn r.granule) rs (sym is) q h)
+
+-- one that is found is among those that are alike, and so is none that is not
+pub known_any : (r q : Request) (rs : List Request) → Some q ≡ request_for r.txn r.granule rs → list_any (λ x. are_alike x r) rs ≡ true
+known_any r q rs is = let k = known_in r q rs is in any_of (λ x. are_alike x r) rs q k.0 k.1
+
+-- one that is there is moved
+pub moved_if : (r : Request) (rs new : List Request) (there : Bool) → list_any (λ q. are_alike q r) rs ≡ true
+    → MatchBool there ((list_any (λ q. are_alike q r) rs ≡ true) × (new ≡ placed_last r rs)) ((list_any (λ q. are_alike q r) rs ≡ false) × (new ≡ rs)) → new ≡ placed_last r rs
+moved_if r rs new true known moves = moves.1
+moved_if r rs new false known moves = absurd (let clash : true ≡ false = sym known ∙ moves.0 in cc)
+
+pub unknown_any : (r : Request) (rs : List Request) → None ≡ request_for r.txn r.granule rs → list_any (λ x. are_alike x r) rs ≡ false
+unknown_any r rs is = none_of_any (λ x. are_alike x r) rs (λ q h. found_none (is_for r.txn r.granule) rs (sym is) q h)
+
 pub tally_read : (tallies : List Tally) (stored : Stored) (head : ℕ) (tally : Tally) → AreCounted tallies stored → head < stored.heads → tally ≡ slice_index_or tallies head tally → Counts tally (crowd stored.heads head stored.requests)
 tally_read tallies stored head tally are small is =
     subst (λ t. Counts t (crowd stored.heads head stored.requests))
-    (sym (is ∙ get_or_default tallies head tally (record { is = 0; ix = 0; sh = 0; six = 0; ex = 0; ud = 0; waiting = 0 }) (subst (λ n. head < n) (sym are.each) small))) (are.counted head small)
+    (sym (is ∙ get_or_default tallies head tally (record { is = 0; ix = 0; sh = 0; six = 0; ex = 0; ud = 0; waiting = 0; converting = 0 }) (subst (λ n. head < n) (sym are.each) small))) (are.counted head small)

@@ -69,6 +69,10 @@ wanted_mode (Some held) mode = sup held mode
 abbrev pub asking : ℕ → Granule → Mode → List Request → Request
 asking t g mode rs = record { txn = t; granule = g; held = mode_held t g rs; wanted = Some (wanted_mode (mode_held t g rs) mode) }
 
+-- what a transaction has that is granted a mode of a granule of which it had nothing
+abbrev pub first_hold : ℕ → Granule → Mode → Request
+first_hold t g mode = record { txn = t; granule = g; held = Some mode; wanted = None }
+
 -- one who already waits is ahead of one who begins to: conversions go before new waiters
 abbrev pub is_ahead : Request → Request → Bool
 is_ahead waiter other = is_some other.wanted && (is_some other.held || not (is_some waiter.held))

@@ -5,5 +5,6 @@ pub mod Laws
 pub mod Listing
 pub mod Nodes
 pub mod Orderly
+pub mod Popping
 pub mod Tables
 pub mod Tallies

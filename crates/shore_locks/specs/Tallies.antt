@@ -1,8 +1,9 @@
--- How many of a queue hold in each mode, and how many wait.
+-- How many of a queue hold in each mode, how many wait, and how many of these are conversions.
 use Rattle.std.specs.Prelude.{◌≡◌, ◌==◌, ◌<◌, ◌≤◌, ◌^◌, ℕ, List, Bool, false, cond, Option, None, Some, is_some, filter, length, slice_index_or}
 use Rattle.shore_types.specs.declared.locking.Mode.{Mode}
 use Rattle.shore_types.specs.declared.locking.Mode.TheVariants.{IS, IX, SH, SIX, EX, UD}
 use Rattle.shore_model.specs.declared.requests.Request.{Request}
+use Rattle.shore_model.specs.Requests.{is_conversion}
 use Rattle.shore_locks.specs.declared.tallies.Tally.{Tally}
 use Rattle.shore_locks.specs.Nodes.{queue_head}
 
@@ -43,13 +44,14 @@ how_many p rs = length (filter p rs)
 pub record Counts (tally : Tally) (rs : List Request) : Type 0 where
   pub holding : (m : Mode) → count_in tally m ≡ how_many (λ r. is_just m r.held) rs
   pub waiting : tally.waiting ≡ how_many (λ r. is_some r.wanted) rs
+  pub converting : tally.converting ≡ how_many is_conversion rs
 
 -- the requests for granules of a head
 abbrev pub crowd : ℕ → ℕ → List Request → List Request
 crowd heads b rs = filter (λ r. queue_head heads r.granule == b) rs
 
 abbrev pub tally_at : List Tally → ℕ → Tally
-tally_at tallies b = slice_index_or tallies b (record { is = 0; ix = 0; sh = 0; six = 0; ex = 0; ud = 0; waiting = 0 })
+tally_at tallies b = slice_index_or tallies b (record { is = 0; ix = 0; sh = 0; six = 0; ex = 0; ud = 0; waiting = 0; converting = 0 })
 
 -- there is a tally for each head, and it counts the requests for its granules
 pub record AreCounted (tallies : List Tally) (stored : Stored) : Type 0 where

@@ -7,14 +7,15 @@ ghost use Rattle.shore_locks.specs.Findings.{FindsNode, IsFree};
 ghost use Rattle.shore_locks.specs.Grants as steps;
 ghost use Rattle.shore_locks.specs.Tables.{waiters_at};
 
-use crate::counted::Counted;
+use crate::counted::{Counted, Popped};
 use crate::judgements::{granted, holds_is, withdrawn};
 use crate::searches;
 use shore_model::Request;
 use shore_types::{Granule, TxnId};
 
 /// A grant pass: waiters of a granule's queue are granted in turn, up to the first that another holder refuses. Behind the last
-/// conversion the new waiters are granted together. If the counts show that nobody waits, that is all.
+/// conversion the new waiters are granted together; mostly the first of them is refused, and a walk ends there. If the counts show that
+/// nobody waits, that is all.
 pub fn pass(nodes: &mut Counted, granule: &Granule)
     requires { AreRequests nodes.old.requests }
     ensures items { nodes.new.requests ≡ steps.passed granule.now nodes.old.requests }
@@ -24,11 +25,11 @@ pub fn pass(nodes: &mut Counted, granule: &Granule)
         return;
     }
     while let Some(waiter) = first_waiter(nodes, granule) {
-        if waiter.held.is_none() {
-            nodes.grant_new(granule);
+        if !can_be_granted(nodes, &waiter) {
             return;
         }
-        if !can_be_granted(nodes, &waiter) {
+        if waiter.held.is_none() {
+            nodes.grant_new(granule);
             return;
         }
         let granted = granted(&waiter);
@@ -36,10 +37,15 @@ pub fn pass(nodes: &mut Counted, granule: &Granule)
     }
 }
 
+// Behind the first new waiter only a conversion could come first.
 fn first_waiter(nodes: &Counted, granule: &Granule) -> Option<Request>
     ensures { result ≡ slice_get (waiters_at granule.now nodes.now.requests) 0 }
 {
-    searches::first_waiter(nodes.nodes(), granule)
+    if nodes.may_have_conversions(granule) {
+        searches::first_waiter(nodes.nodes(), granule)
+    } else {
+        searches::first_new(nodes.nodes(), granule)
+    }
 }
 
 fn can_be_granted(nodes: &Counted, waiter: &Request) -> bool
@@ -81,11 +87,10 @@ pub fn release(nodes: &mut Counted, txn: TxnId) -> usize
 {
     let most = nodes.len();
     for count in 0..most {
-        let Some(popped) = nodes.pop_first(txn) else {
-            return count;
-        };
-        if popped.may_wait {
-            pass(nodes, &popped.request.granule);
+        match nodes.pop_first(txn) {
+            Popped::Nothing => return count,
+            Popped::Quiet => {}
+            Popped::Awaited(granule) => pass(nodes, &granule),
         }
     }
     most

@@ -1,10 +1,12 @@
 //! Nodes, and for each head how many hold in each mode and how many wait: most often nobody is in the way, and that is seen at once.
-ghost use Rattle.std.specs.Prelude.{◌≡◌, ◌<◌, ◌≤◌, ◌+◌, ◌++◌, ◌∷◌, [], IfOk, IfSome, IsTrue, IsFalse, MatchBool, MatchOption, None, Some, false, length, nat_lt, not, slice_get, true};
+ghost use Rattle.std.specs.Prelude.{◌≡◌, ◌<◌, ◌≤◌, ◌+◌, ◌++◌, ◌∷◌, [], IfOk, IfSome, IsTrue, IsFalse, MatchBool, MatchOption, None, Some, false, filter, length, nat_lt, not, slice_get, true};
 ghost use Rattle.std.specs.List.{list_any};
 ghost use Rattle.std.specs.List.Sorted.{IsPermutation};
-ghost use Rattle.shore_model.specs.Requests.{AreRequests, are_alike, placed_last, requests_by};
-ghost use Rattle.shore_locks.specs.Grants.{granted_in_turn, obstacle, removed, replaced};
+ghost use Rattle.shore_model.specs.declared.requests.Group.TheVariants.{Conversions};
+ghost use Rattle.shore_model.specs.Requests.{AreRequests, are_alike, is_in_group, placed_last, requests_at, requests_by};
+ghost use Rattle.shore_locks.specs.Grants.{first_hold, granted_in_turn, obstacle, removed, replaced};
 ghost use Rattle.shore_locks.specs.Granting.{new_waiters};
+ghost use Rattle.shore_locks.specs.Popping.{Pops};
 ghost use Rattle.shore_locks.specs.Tables.{waiters_at};
 ghost use Rattle.shore_locks.specs.Tallies.{Counts, crowd};
 
@@ -14,15 +16,19 @@ use crate::nodes::Nodes;
 use crate::searches::request_for;
 use crate::tallies::{Tally, tally_of};
 use shore_model::Request;
-use shore_types::{Granule, TxnId};
+use shore_types::{Granule, Mode, TxnId};
 use std::alloc::{AllocError, Global};
 use std::marker::Model;
 
-/// A request that was taken out, and whether somebody may wait for its granule.
+/// What came of taking out a transaction's first request.
 #[derive(Drop)]
-pub struct Popped {
-    pub request: Request,
-    pub may_wait: bool,
+pub enum Popped {
+    /// It has none.
+    Nothing,
+    /// Nobody waits for its granule.
+    Quiet,
+    /// Somebody may wait for this granule, which was its.
+    Awaited(Granule),
 }
 
 /// A list of requests, and how many there may be.
@@ -81,6 +87,14 @@ impl Counted {
         self.tallies[head].has_waiters()
     }
 
+    /// Whether somebody who holds a granule may wait for a stronger mode: nobody does if not.
+    pub fn may_have_conversions(&self, granule: &Granule) -> bool
+        ensures { IsFalse result → filter (is_in_group Conversions) (requests_at granule.now self.now.requests) ≡ [] }
+    {
+        let head = queue_head(granule, self.nodes.heads());
+        self.tallies[head].has_conversions()
+    }
+
     /// Whether it is seen at once that nobody is in the way of a request.
     pub fn lets_in(&self, request: &Request) -> bool
         ensures { IsTrue result → obstacle request.now self.now.requests ≡ None }
@@ -104,6 +118,30 @@ impl Counted {
         self.tallies[head].add(request);
     }
 
+    /// Grants a mode at once if the granule's head has no node and there is one left: then the transaction has nothing of the granule,
+    /// and nobody is in its way. The answer is whether it is so; if not, nothing has changed.
+    pub fn grant_alone(&mut self, txn: TxnId, granule: &Granule, mode: Mode) -> bool
+        ensures alone { IsTrue result → requests_at granule.now self.old.requests ≡ [] }
+        ensures room { IsTrue result → length self.old.requests < self.old.limit }
+        ensures granted { IsTrue result → self.new ≡ record { limit = self.old.limit; requests = self.old.requests ++ first_hold txn granule.now mode ∷ [] } }
+        ensures same { IsFalse result → self.new ≡ self.old }
+    {
+        let head = queue_head(granule, self.nodes.heads());
+        if self.nodes.is_full() || !self.nodes.is_deserted(head) {
+            return false;
+        }
+        let request = Request {
+            txn,
+            granule: *granule,
+            held: Some(mode),
+            wanted: None,
+        };
+        self.nodes.push(&request, head);
+        self.nodes.len();
+        self.tallies[head].add(&request);
+        true
+    }
+
     /// Puts a request in the place of the one of its transaction for its granule.
     pub fn replace(&mut self, request: &Request)
         requires { AreRequests self.old.requests }
@@ -121,12 +159,9 @@ impl Counted {
     }
 
     /// Takes out the first request of a transaction.
-    pub fn pop_first(&mut self, txn: TxnId) -> Option<Popped>
+    pub fn pop_first(&mut self, txn: TxnId) -> Popped
         requires { AreRequests self.old.requests }
-        ensures items { MatchOption result
-            ((None ≡ slice_get (requests_by txn self.old.requests) 0) × (self.new.requests ≡ self.old.requests))
-            (λ p. (Some p.request ≡ slice_get (requests_by txn self.old.requests) 0) × (self.new.requests ≡ removed p.request self.old.requests)) }
-        ensures waits { IfSome result (λ p. p.may_wait ≡ false → waiters_at p.request.granule self.new.requests ≡ []) }
+        ensures items { Pops txn self.old.requests result self.new.requests }
         ensures limit { self.new.limit ≡ self.old.limit }
     {
         let heads = self.nodes.heads();
@@ -134,10 +169,13 @@ impl Counted {
             Some(request) => {
                 let head = queue_head(&request.granule, heads);
                 self.tallies[head].take_out(&request);
-                let may_wait = self.tallies[head].has_waiters();
-                Some(Popped { request, may_wait })
+                if self.tallies[head].has_waiters() {
+                    Popped::Awaited(request.granule)
+                } else {
+                    Popped::Quiet
+                }
             }
-            None => None,
+            None => Popped::Nothing,
         }
     }
 
@@ -147,9 +185,11 @@ impl Counted {
         ensures items { self.new.requests ≡ removed request.now self.old.requests }
         ensures limit { self.new.limit ≡ self.old.limit }
     {
-        let head = queue_head(&request.granule, self.nodes.heads());
-        self.nodes.remove(request);
-        self.tallies[head] = recount(&self.nodes, head);
+        if let Some(old) = request_for(&self.nodes, request.txn, &request.granule) {
+            let head = queue_head(&request.granule, self.nodes.heads());
+            self.nodes.remove(request);
+            self.tallies[head].take_out(&old);
+        }
     }
 
     /// Moves the request of its transaction for its granule last, as this one. The answer is whether it was there.
@@ -160,9 +200,15 @@ impl Counted {
             ((list_any (λ q. are_alike q request.now) self.old.requests ≡ false) × (self.new.requests ≡ self.old.requests)) }
         ensures limit { self.new.limit ≡ self.old.limit }
     {
+        let Some(old) = request_for(&self.nodes, request.txn, &request.granule) else {
+            return false;
+        };
         let head = queue_head(&request.granule, self.nodes.heads());
+        self.nodes.len();
         let was_there = self.nodes.move_last(request);
-        self.tallies[head] = recount(&self.nodes, head);
+        let tally = &mut self.tallies[head];
+        tally.take_out(&old);
+        tally.add(request);
         was_there
     }
 

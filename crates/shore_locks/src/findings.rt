@@ -1,12 +1,14 @@
 //! What a request meets: enough that is held already, no node, somebody in the way, or nobody.
-ghost use Rattle.std.specs.Prelude.{◌≡◌, is_some, option_and_then};
+ghost use Rattle.std.specs.Prelude.{◌≡◌, Option, is_some, option_and_then};
+ghost use Rattle.std.specs.Option.{option_map};
+ghost use Rattle.shore_model.specs.declared.requests.Request.{Request};
 ghost use Rattle.shore_locks.specs.Findings.{Finds};
 ghost use Rattle.shore_locks.specs.Grants as steps;
 ghost use Rattle.shore_locks.specs.Tables as tables;
 
 use crate::counted::Counted;
 use crate::judgements::{is_enough, wanted_mode};
-use crate::searches::{obstacle, request_for};
+use crate::searches::{obstacle, own_hold};
 use shore_model::Request;
 use shore_types::{Granule, Mode, TxnId};
 
@@ -27,8 +29,8 @@ pub enum Finding {
 pub fn check_request(nodes: &Counted, txn: TxnId, granule: &Granule, mode: Mode) -> Finding
     ensures { Finds nodes.now txn granule.now mode result }
 {
-    let own = request_for(nodes.nodes(), txn, granule);
-    let held = mode_of(&own);
+    let own = own_hold(nodes.nodes(), txn, granule);
+    let held = mode_of(own);
     if is_enough(mode, held) {
         return Finding::Enough;
     }
@@ -61,8 +63,8 @@ fn first_in_the_way(nodes: &Counted, request: &Request) -> Option<Request>
     obstacle(nodes.nodes(), request)
 }
 
-fn mode_of(own: &Option<Request>) -> Option<Mode>
-    ensures { result ≡ option_and_then (λ r. r.held) own.now }
+fn mode_of(own: Option<Option<Mode>>) -> Option<Mode>
+    ensures { (request : Option Request) → own ≡ option_map (λ r. r.held) request → result ≡ option_and_then (λ r. r.held) request }
 {
-    own.as_ref()?.held
+    own?
 }

@@ -24,7 +24,7 @@ pub fn openings_among(mut walk: Walk<'_>, granule: &Granule) -> Openings
 {
     let mut openings = Openings::all();
     while let Some((_, request)) = walk.advance() {
-        if is_at(&request, granule) {
+        if is_at(request, granule) {
             openings = openings.beside(request.held);
         }
     }

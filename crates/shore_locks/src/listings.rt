@@ -45,7 +45,7 @@ impl<'a> Requests<'a> {
     {
         while let Some((_, request)) = self.walk.advance() {
             if request.txn == self.txn {
-                return Some(request);
+                return Some(*request);
             }
         }
         None
@@ -77,7 +77,7 @@ pub fn append_walk(requests: &mut Vec<Request>, mut walk: Walk<'_>) -> Result<()
     ensures { OnOk result (requests.new.items ≡ requests.old.items ++ map (λ (p : ℕ × RequestData). p.1) walk.entry) }
 {
     while let Some((_, request)) = walk.advance() {
-        requests.push(request)?;
+        requests.push(*request)?;
     }
     Ok(())
 }

@@ -1,6 +1,6 @@
 //! Requests as nodes of a slab. Each has six links: two in the ring of its granule's head, which is its queue, two in that of its
 //! transaction's, and two in that of both, so that each is found in constant expected time.
-ghost use Rattle.std.specs.Prelude.{◌≡◌, ◌<◌, ◌≤◌, ◌+◌, ◌*◌, ◌^◌, ◌%◌, ◌==◌, ◌++◌, ◌∷◌, [], ℕ, List, None, Some, IfOk, IfSome, OnOk, OnErr, MatchBool, MatchOption, false, filter, find, is_some, length, map, nat_lt, not, true, slice_get};
+ghost use Rattle.std.specs.Prelude.{◌≡◌, ◌<◌, ◌≤◌, ◌+◌, ◌*◌, ◌^◌, ◌%◌, ◌==◌, ◌++◌, ◌∷◌, [], ℕ, List, None, Some, IfOk, IfSome, IsTrue, OnOk, OnErr, MatchBool, MatchOption, false, filter, find, is_some, length, map, nat_lt, not, true, slice_get};
 ghost use Rattle.std.specs.List.{list_any};
 ghost use Rattle.std.specs.Option.{option_map};
 ghost use Rattle.shore_model.specs.Requests.{AreRequests, are_alike, placed_last, requests_at, requests_by};
@@ -88,12 +88,27 @@ impl Nodes {
         Walk::new(&self.slots, &self.queues, self.heads, head)
     }
 
+    /// No nodes.
+    pub fn nobody(&self) -> Walk<'_>
+        ensures { result ≡ [] }
+    {
+        Walk::ended(&self.slots, &self.queues, self.heads, 0)
+    }
+
     /// The nodes of a head, in their order.
     pub fn crowd(&self, head: usize) -> Walk<'_>
         requires { head < self.now.heads }
         ensures { map (λ (p : ℕ × Request). p.1) result ≡ crowd self.now.heads head self.now.requests }
     {
         Walk::new(&self.slots, &self.queues, self.heads, head)
+    }
+
+    /// Whether a head has no node.
+    pub fn is_deserted(&self, head: usize) -> bool
+        requires { head < self.now.heads }
+        ensures { IsTrue result → crowd self.now.heads head self.now.requests ≡ [] }
+    {
+        self.queues.after(head) == head
     }
 
     /// How many heads there are.
@@ -120,8 +135,8 @@ impl Nodes {
     }
 
     /// The newest request of a transaction, unless a newer one of another is in its bucket. It takes no search.
-    pub fn newest(&self, txn: TxnId) -> Option<Request>
-        ensures { IfSome result (λ r. IsNewest txn self.now.requests r) }
+    pub fn newest(&self, txn: TxnId) -> Option<&Request>
+        ensures { IfSome result (λ r. IsNewest txn self.now.requests r.now) }
     {
         let head = list_head(txn, self.heads);
         let node = self.lists.before(head);
@@ -291,11 +306,11 @@ impl Nodes {
     }
 }
 
-fn only_of(request: &Request, txn: TxnId) -> Option<Request>
-    ensures { IfSome result (λ r. (r ≡ request.now) × (r.txn ≡ txn)) }
+fn only_of(request: &Request, txn: TxnId) -> Option<&Request>
+    ensures { IfSome result (λ r. (r.now ≡ request.now) × (r.now.txn ≡ txn)) }
 {
     if request.txn == txn {
-        Some(*request)
+        Some(request)
     } else {
         None
     }
@@ -410,7 +425,7 @@ fn first_of(mut walk: Walk<'_>, txn: TxnId) -> Option<(usize, Request)>
 {
     while let Some((node, request)) = walk.advance() {
         if request.txn == txn {
-            return Some((node, request));
+            return Some((node, *request));
         }
     }
     None

@@ -6,6 +6,7 @@ ghost use Rattle.shore_model.specs.Requests.{is_in_group, requests_at};
 ghost use Rattle.shore_model.specs.declared.requests.Group.TheVariants.{Holders as HoldersGroup, Conversions, NewWaiters};
 ghost use Rattle.shore_locks.specs.Tables.{holders_at, waiters_at};
 
+use crate::counted::Counted;
 use crate::judgements::is_in;
 use crate::nodes::Nodes;
 use crate::walks::Walk;
@@ -43,12 +44,23 @@ impl<'a> InGroup<'a> {
         }
     }
 
+    // Of a group of which nobody is in the queue.
+    fn none(nodes: &'a Nodes, granule: &Granule, group: Group) -> InGroup<'a>
+        ensures { result ≡ [] }
+    {
+        InGroup {
+            walk: nodes.nobody(),
+            granule: *granule,
+            group,
+        }
+    }
+
     fn advance(&mut self) -> Option<Request>
         ensures { MatchOption result ((self.old ≡ []) × (self.new ≡ [])) (λ r. self.old ≡ r ∷ self.new) }
     {
         while let Some((_, request)) = self.walk.advance() {
-            if is_for_group(&request, &self.granule, self.group) {
-                return Some(request);
+            if is_for_group(request, &self.granule, self.group) {
+                return Some(*request);
             }
         }
         None
@@ -115,13 +127,24 @@ impl<'a> Model for Waiters<'a> {
 }
 
 impl<'a> Waiters<'a> {
-    pub(crate) fn new(nodes: &'a Nodes, granule: Granule) -> Waiters<'a>
-        ensures { result ≡ waiters_at granule nodes.now.requests }
+    pub(crate) fn new(counted: &'a Counted, granule: Granule) -> Waiters<'a>
+        ensures { result ≡ waiters_at granule counted.now.requests }
     {
         Waiters {
-            conversions: InGroup::new(nodes, &granule, Group::Conversions),
-            new: InGroup::new(nodes, &granule, Group::NewWaiters),
+            conversions: conversions_of(counted, &granule),
+            new: InGroup::new(counted.nodes(), &granule, Group::NewWaiters),
         }
+    }
+}
+
+// Mostly nobody converts, and no node is looked at.
+fn conversions_of<'a>(counted: &'a Counted, granule: &Granule) -> InGroup<'a>
+    ensures { result ≡ filter (is_in_group Conversions) (requests_at granule.now counted.now.requests) }
+{
+    if counted.may_have_conversions(granule) {
+        InGroup::new(counted.nodes(), granule, Group::Conversions)
+    } else {
+        InGroup::none(counted.nodes(), granule, Group::Conversions)
     }
 }
 

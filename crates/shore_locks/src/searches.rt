@@ -1,13 +1,16 @@
 //! Searches among the nodes of a granule's queue, and of a transaction.
 ghost use Rattle.std.specs.Prelude.{◌≡◌, None, Some, cond, is_some, slice_get};
+ghost use Rattle.std.specs.Option.{option_map};
 ghost use Rattle.shore_model.specs.Requests.{requests_at};
 ghost use Rattle.shore_locks.specs.Tables as tables;
+ghost use Rattle.shore_locks.specs.Granting.{new_waiters};
 ghost use Rattle.shore_locks.specs.Grants as steps;
 ghost use Rattle.shore_locks.specs.Orderly.{WaitsLast};
 
-use crate::judgements::{is_for, is_stopped_by, refuses};
+use crate::judgements::{is_at, is_for, is_in, is_stopped_by, refuses};
 use crate::nodes::Nodes;
 use shore_model::Request;
+use shore_model::requests::Group;
 use shore_types::{Granule, Mode, TxnId};
 
 /// The request of a transaction for a granule.
@@ -16,8 +19,21 @@ pub fn request_for(nodes: &Nodes, txn: TxnId, granule: &Granule) -> Option<Reque
 {
     let mut walk = nodes.owned(txn, granule);
     while let Some((_, request)) = walk.advance() {
-        if is_for(&request, txn, granule) {
-            return Some(request);
+        if is_for(request, txn, granule) {
+            return Some(*request);
+        }
+    }
+    None
+}
+
+/// What a transaction's request for a granule holds, if it has one.
+pub fn own_hold(nodes: &Nodes, txn: TxnId, granule: &Granule) -> Option<Option<Mode>>
+    ensures { result ≡ option_map (λ r. r.held) (tables.request_for txn granule.now nodes.now.requests) }
+{
+    let mut walk = nodes.owned(txn, granule);
+    while let Some((_, request)) = walk.advance() {
+        if is_for(request, txn, granule) {
+            return Some(request.held);
         }
     }
     None
@@ -42,17 +58,17 @@ pub fn waiting_request(nodes: &Nodes, txn: TxnId) -> Option<Request>
     let mut walk = nodes.list(txn);
     while let Some((_, request)) = walk.advance() {
         if request.txn == txn && request.wanted.is_some() {
-            return Some(request);
+            return Some(*request);
         }
     }
     None
 }
 
-fn if_waiting(request: Request) -> Option<Request>
-    ensures { result ≡ cond (is_some request.wanted) (Some request) None }
+fn if_waiting(request: &Request) -> Option<Request>
+    ensures { result ≡ cond (is_some request.now.wanted) (Some request.now) None }
 {
     if request.wanted.is_some() {
-        Some(request)
+        Some(*request)
     } else {
         None
     }
@@ -67,14 +83,27 @@ pub fn first_waiter(nodes: &Nodes, granule: &Granule) -> Option<Request>
     while let Some((_, request)) = walk.advance() {
         if request.granule == *granule && request.wanted.is_some() {
             if request.held.is_some() {
-                return Some(request);
+                return Some(*request);
             }
             if first_new.is_none() {
-                first_new = Some(request);
+                first_new = Some(*request);
             }
         }
     }
     first_new
+}
+
+/// The first new waiter of a granule's queue. No node behind it is looked at.
+pub fn first_new(nodes: &Nodes, granule: &Granule) -> Option<Request>
+    ensures { result ≡ slice_get (new_waiters granule.now nodes.now.requests) 0 }
+{
+    let mut walk = nodes.queue(granule);
+    while let Some((_, request)) = walk.advance() {
+        if is_at(request, granule) && is_in(request, Group::NewWaiters) {
+            return Some(*request);
+        }
+    }
+    None
 }
 
 /// Whether each other holder of its granule grants what a waiter wants.
@@ -83,7 +112,7 @@ pub fn can_be_granted(nodes: &Nodes, waiter: &Request) -> bool
 {
     let mut walk = nodes.queue(&waiter.granule);
     while let Some((_, other)) = walk.advance() {
-        if other.granule == waiter.granule && refuses(waiter, &other) {
+        if other.granule == waiter.granule && refuses(waiter, other) {
             return false;
         }
     }
@@ -96,8 +125,8 @@ pub fn obstacle(nodes: &Nodes, waiter: &Request) -> Option<Request>
 {
     let mut walk = nodes.queue(&waiter.granule);
     while let Some((_, other)) = walk.advance() {
-        if other.granule == waiter.granule && is_stopped_by(waiter, &other) {
-            return Some(other);
+        if other.granule == waiter.granule && is_stopped_by(waiter, other) {
+            return Some(*other);
         }
     }
     None

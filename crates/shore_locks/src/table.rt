@@ -1,7 +1,8 @@
 //! The lock table.
-ghost use Rattle.std.specs.Prelude.{◌≡◌, ◌≤◌, ◌+◌, [], length, IfOk, false};
+ghost use Rattle.std.specs.Prelude.{◌≡◌, ◌≤◌, ◌+◌, [], filter, length, IfOk, IsFalse, false};
 ghost use Rattle.std.specs.List.Sorted.{IsPermutation, IsSorted};
-ghost use Rattle.shore_model.specs.Requests.{requests_by};
+ghost use Rattle.shore_model.specs.declared.requests.Group.TheVariants.{Conversions};
+ghost use Rattle.shore_model.specs.Requests.{is_in_group, requests_at, requests_by};
 ghost use Rattle.shore_locks.specs.Grants.{after_request, after_try, answer_to, answer_to_try, cancelled, released};
 ghost use Rattle.shore_locks.specs.Tables.{holders_at, is_waiting, mode_held, request_for, waiters_at, waiting_request};
 ghost use Rattle.shore_locks.specs.Listing.{request_cmp};
@@ -101,7 +102,14 @@ impl LockTable {
     pub fn waiters(&self, granule: Granule) -> Waiters<'_>
         ensures { result ≡ waiters_at granule self.now.requests }
     {
-        Waiters::new(self.nodes.nodes(), granule)
+        Waiters::new(&self.nodes, granule)
+    }
+
+    /// Whether somebody who holds a granule may wait for more of it: nobody does if not. It takes no search.
+    pub fn may_have_conversions(&self, granule: Granule) -> bool
+        ensures { IsFalse result → filter (is_in_group Conversions) (requests_at granule self.now.requests) ≡ [] }
+    {
+        self.nodes.may_have_conversions(&granule)
     }
 
     /// Asks for a granule in a mode, with what the transaction holds of it already. It is granted at once where the transaction
@@ -111,7 +119,19 @@ impl LockTable {
         ensures answer { result ≡ answer_to self.old txn granule mode }
         ensures table { self.new ≡ record { limit = self.old.limit; requests = after_request self.old txn granule mode } }
     {
-        match check_request(&self.nodes, txn, &granule, mode) {
+        if self.nodes.grant_alone(txn, &granule, mode) {
+            return Requested::Granted;
+        }
+        self.request_beside(txn, &granule, mode)
+    }
+
+    // As `request`, if others may stand in the queue, or the transaction itself.
+    fn request_beside(&mut self, txn: TxnId, granule: &Granule, mode: Mode) -> Requested
+        requires { is_waiting txn self.old.requests ≡ false }
+        ensures answer { result ≡ answer_to self.old txn granule.now mode }
+        ensures table { self.new ≡ record { limit = self.old.limit; requests = after_request self.old txn granule.now mode } }
+    {
+        match check_request(&self.nodes, txn, granule, mode) {
             Finding::Enough => Requested::Granted,
             Finding::Full => Requested::Full,
             Finding::Stopped { request, .. } => {
@@ -131,7 +151,19 @@ impl LockTable {
         ensures answer { result ≡ answer_to_try self.old txn granule mode }
         ensures table { self.new ≡ record { limit = self.old.limit; requests = after_try self.old txn granule mode } }
     {
-        match check_request(&self.nodes, txn, &granule, mode) {
+        if self.nodes.grant_alone(txn, &granule, mode) {
+            return Tried::Granted;
+        }
+        self.try_beside(txn, &granule, mode)
+    }
+
+    // As `try_request`, if others may stand in the queue, or the transaction itself.
+    fn try_beside(&mut self, txn: TxnId, granule: &Granule, mode: Mode) -> Tried
+        requires { is_waiting txn self.old.requests ≡ false }
+        ensures answer { result ≡ answer_to_try self.old txn granule.now mode }
+        ensures table { self.new ≡ record { limit = self.old.limit; requests = after_try self.old txn granule.now mode } }
+    {
+        match check_request(&self.nodes, txn, granule, mode) {
             Finding::Enough => Tried::Granted,
             Finding::Full => Tried::Full,
             Finding::Stopped { other, .. } => Tried::Blocked(other),

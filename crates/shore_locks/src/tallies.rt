@@ -1,8 +1,9 @@
-//! How many of a queue hold in each mode, and how many wait.
+//! How many of a queue hold in each mode, how many wait, and how many of these are conversions.
 ghost use Rattle.std.specs.Prelude.{◌≡◌, ◌<◌, ◌+◌, ◌-◌, ◌^◌, [], ℕ, Some, IsFalse, IsTrue, is_some, length, map, true};
 ghost use Rattle.shore_types.specs.declared.locking.Mode.{Mode};
 ghost use Rattle.shore_locks.specs.Grants as steps;
 ghost use Rattle.shore_model.specs.declared.requests.Request.{Request};
+ghost use Rattle.shore_model.specs.Requests.{is_conversion};
 ghost use Rattle.shore_locks.specs.Tallies as counts;
 ghost use Rattle.shore_locks.specs.Tallies.{count_in, is_just, one_if};
 
@@ -11,7 +12,7 @@ use shore_model::Request;
 use shore_modes::grants;
 use shore_types::Mode;
 
-/// How many requests hold in each mode, and how many want something.
+/// How many requests hold in each mode, how many want something, and how many of these hold something too.
 #[derive(Clone, Copy)]
 pub struct Tally {
     is: usize,
@@ -21,6 +22,7 @@ pub struct Tally {
     ex: usize,
     ud: usize,
     waiting: usize,
+    converting: usize,
 }
 
 impl Tally {
@@ -36,6 +38,7 @@ impl Tally {
             ex: 0,
             ud: 0,
             waiting: 0,
+            converting: 0,
         }
     }
 
@@ -43,6 +46,7 @@ impl Tally {
     pub fn add(&mut self, request: &Request)
         ensures holding { (m : Mode) → count_in self.old m + 1 < 2 ^ 64 → count_in self.new m ≡ count_in self.old m + one_if (is_just m request.now.held) }
         ensures waiting { self.old.waiting + 1 < 2 ^ 64 → self.new.waiting ≡ self.old.waiting + one_if (is_some request.now.wanted) }
+        ensures converting { self.old.converting + 1 < 2 ^ 64 → self.new.converting ≡ self.old.converting + one_if (is_conversion request.now) }
     {
         match request.held {
             None => {}
@@ -55,6 +59,9 @@ impl Tally {
         }
         if request.wanted.is_some() {
             self.waiting = self.waiting.saturating_add(1);
+            if request.held.is_some() {
+                self.converting = self.converting.saturating_add(1);
+            }
         }
     }
 
@@ -62,6 +69,7 @@ impl Tally {
     pub fn take_out(&mut self, request: &Request)
         ensures holding { (m : Mode) → count_in self.new m ≡ count_in self.old m - one_if (is_just m request.now.held) }
         ensures waiting { self.new.waiting ≡ self.old.waiting - one_if (is_some request.now.wanted) }
+        ensures converting { self.new.converting ≡ self.old.converting - one_if (is_conversion request.now) }
     {
         match request.held {
             None => {}
@@ -74,6 +82,9 @@ impl Tally {
         }
         if request.wanted.is_some() {
             self.waiting = self.waiting.saturating_sub(1);
+            if request.held.is_some() {
+                self.converting = self.converting.saturating_sub(1);
+            }
         }
     }
 
@@ -83,6 +94,14 @@ impl Tally {
         ensures some { IsTrue result → 0 < self.waiting }
     {
         self.waiting > 0
+    }
+
+    /// Whether somebody who holds something wants more.
+    pub fn has_conversions(self) -> bool
+        ensures none { IsFalse result → self.converting ≡ 0 }
+        ensures some { IsTrue result → 0 < self.converting }
+    {
+        self.converting > 0
     }
 
     /// Whether nobody wants something, and no mode is held that refuses this one.
@@ -105,7 +124,7 @@ pub fn tally_of(mut walk: Walk<'_>) -> Tally
 {
     let mut tally = Tally::none();
     while let Some((_, request)) = walk.advance() {
-        tally.add(&request);
+        tally.add(request);
     }
     tally
 }

@@ -49,22 +49,34 @@ impl<'a> Walk<'a> {
         }
     }
 
+    /// A walk that is at its end.
+    pub fn ended(slots: &'a Slab<Request>, rings: &'a Rings, heads: usize, head: usize) -> Walk<'a>
+        requires { head < length rings.now }
+        ensures { result ≡ [] }
+    {
+        Walk {
+            slots,
+            rings,
+            heads,
+            head,
+            node: head,
+            left: 0,
+        }
+    }
+
     /// The next node.
-    pub fn advance(&mut self) -> Option<(usize, Request)>
-        ensures { MatchOption result ((self.old ≡ []) × (self.new ≡ [])) (λ node. self.old ≡ node ∷ self.new) }
+    pub fn advance(&mut self) -> Option<(usize, &'a Request)>
+        ensures { MatchOption result ((self.old ≡ []) × (self.new ≡ [])) (λ node. self.old ≡ (node.0, node.1.now) ∷ self.new) }
     {
         if self.left == 0 || self.node == self.head {
             return None;
         }
         let key = self.node.saturating_sub(self.heads);
-        match self.slots.get(key) {
-            Some(request) => {
-                let node = self.node;
-                self.node = self.rings.after(node);
-                self.left -= 1;
-                Some((node, *request))
-            }
-            None => None,
-        }
+        let slots = self.slots;
+        let request = slots.get(key)?;
+        let node = self.node;
+        self.node = self.rings.after(node);
+        self.left -= 1;
+        Some((node, request))
     }
 }

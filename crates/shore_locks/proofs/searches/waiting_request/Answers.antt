@@ -9,4 +9,4 @@ pub loop-request-init : goal.loop-request-init
 loop-request-init c = waiting_same c.args.txn (map (λ (p : ℕ × Request). p.1) c.list-walk.result) c.args.nodes.now.requests c.list-walk.ensures
 
 pub returns-in-Some : goal.returns-in-Some
-returns-in-Some c = c.if_waiting.ensures ∙ sym (newest_tells c.args.txn c.args.nodes.now.requests c.in-Some.newest c.requires c.in-Some.ensures)
+returns-in-Some c = c.if_waiting.ensures ∙ sym (newest_tells c.args.txn c.args.nodes.now.requests c.in-Some.newest.now c.requires c.in-Some.ensures)

@@ -1,15 +1,18 @@
 use Rattle.std.proofs.Common.{◌<◌, ap, subst, sym, ◌∙◌}
 use Rattle.shore_locks.specs.Nodes.{queue_head}
-use Rattle.shore_locks.specs.Tallies.{Counts, crowd}
-use Rattle.shore_locks.proofs.Crowds.{other_removed}
-use Rattle.shore_locks.proofs.Tallying.{counted_set}
+use Rattle.shore_model.specs.Requests.{AreRequests}
+use Rattle.shore_locks.specs.Tables.{Table, request_for}
+use Rattle.shore_locks.proofs.Tallying.{known_in, removed_counted, unknown_removed}
 use Rattle.shore_locks.proofs.counted.Counted.remove.Goals as goal
-
-pub recount-requires : goal.recount-requires
-recount-requires c = subst (λ n. c.queue_head-head.result < n) (sym c.remove.ensures.heads) (subst (λ n. c.queue_head-head.result < n) c.heads.ensures c.queue_head-head.ensures.small)
 
 pub invariant_of-self : goal.invariant_of-self
 invariant_of-self c =
-    counted_set c.self.inside.tallies.items c.self.inside.nodes c.remove.new.self c.queue_head-head.result c.recount.result c.self.invariant c.remove.ensures.heads (subst (λ n. c.queue_head-head.result < n) c.heads.ensures c.queue_head-head.ensures.small)
-    (subst (λ n. Counts c.recount.result (crowd n c.queue_head-head.result c.remove.new.self.requests)) c.remove.ensures.heads c.recount.ensures)
-    (λ b other. ap (crowd c.self.inside.nodes.heads b) c.remove.ensures.items ∙ other_removed c.self.inside.nodes.heads b c.args.request.now c.self.inside.nodes.requests (λ e. other ((c.queue_head-head.ensures.is ∙ ap (λ n. queue_head n c.args.request.now.granule) c.heads.ensures) ∙ e)))
+    let known = known_in c.args.request.now c.in-Some.old c.self.inside.nodes.requests c.in-Some.ensures in
+    removed_counted c.self.inside.tallies.items c.self.inside.nodes c.remove.new.self c.args.request.now c.queue_head-head.result (c.queue_head-head.ensures.is ∙ ap (λ n. queue_head n c.args.request.now.granule) c.heads.ensures) c.self.invariant
+    (subst (λ n. c.queue_head-head.result < n) c.heads.ensures c.queue_head-head.ensures.small) c.remove.ensures.heads
+    c.index_mut.result.now c.take_out.new.self c.in-Some.old c.index_mut.ensures.value (subst (λ (t : Table). AreRequests t.requests) (sym c.self.view_is) c.requires) known.0 known.1
+    c.take_out.ensures.holding c.take_out.ensures.waiting c.take_out.ensures.converting c.remove.ensures.items
+
+pub returns-in_default-clause-items : goal.returns-in_default-clause-items
+returns-in_default-clause-items c =
+    sym (unknown_removed c.args.request.now c.args.self.now.requests (sym c.in_default.is ∙ c.request_for.ensures ∙ ap (λ (t : Table). request_for c.args.request.now.txn c.args.request.now.granule t.requests) c.self.view_is))

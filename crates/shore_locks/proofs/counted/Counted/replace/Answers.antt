@@ -11,7 +11,7 @@ invariant_of-self c =
     replaced_counted c.self.inside.tallies.items c.self.inside.nodes c.replace.new.self c.args.request.now c.queue_head-head.result (c.queue_head-head.ensures.is ∙ ap (λ n. queue_head n c.args.request.now.granule) c.heads.ensures) c.self.invariant
     (subst (λ n. c.queue_head-head.result < n) c.heads.ensures c.queue_head-head.ensures.small) c.replace.ensures.heads
     c.index_mut-tally.result.now c.take_out.new.self c.add.new.self c.in-Some.old c.index_mut-tally.ensures.value (subst (λ (t : Table). AreRequests t.requests) (sym c.self.view_is) c.requires) known.0 known.1
-    c.take_out.ensures.holding c.take_out.ensures.waiting c.add.ensures.holding c.add.ensures.waiting c.replace.ensures.items c.len.ensures.fits
+    c.take_out.ensures.holding c.take_out.ensures.waiting c.take_out.ensures.converting c.add.ensures.holding c.add.ensures.waiting c.add.ensures.converting c.replace.ensures.items c.len.ensures.fits
 
 pub returns-in_default-clause-items : goal.returns-in_default-clause-items
 returns-in_default-clause-items c =

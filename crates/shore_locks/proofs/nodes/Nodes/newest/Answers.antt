@@ -1,4 +1,4 @@
-use Rattle.std.proofs.Common.{◌≡◌, Some, ap, sym, subst, ◌∙◌}
+use Rattle.std.proofs.Common.{◌≡◌, Bor, Some, ap, sym, subst, ◌∙◌}
 use Rattle.shore_model.specs.declared.requests.Request.{Request}
 use Rattle.shore_locks.specs.Nodes.{alive}
 use Rattle.shore_locks.specs.Orderly.{IsNewest}
@@ -8,7 +8,7 @@ use Rattle.shore_locks.proofs.nodes.Nodes.newest.Goals as goal
 
 pub returns-in-Some : goal.returns-in-Some
 returns-in-Some c =
-    if_some_all (λ (r : Request). (r ≡ c.in-Some.request.now) × (r.txn ≡ c.args.txn)) (λ (r : Request). IsNewest c.args.txn c.args.self.now.requests r) c.only_of.result
-    (λ r h. subst (λ rs. IsNewest c.args.txn rs r) (ap (λ (t : Stored). t.requests) c.self.view_is)
-    (newest_there c.self.inside.heads c.self.inside.slots c.self.inside.queues c.self.inside.lists c.self.inside.owners (alive c.self.inside.history.items) c.args.txn c.list_head-head.result c.before-node.result c.saturating_sub.result r
+    if_some_all (λ (r : Bor Request). (r.now ≡ c.in-Some.request.now) × (r.now.txn ≡ c.args.txn)) (λ (r : Bor Request). IsNewest c.args.txn c.args.self.now.requests r.now) c.only_of.result
+    (λ r h. subst (λ rs. IsNewest c.args.txn rs r.now) (ap (λ (t : Stored). t.requests) c.self.view_is)
+    (newest_there c.self.inside.heads c.self.inside.slots c.self.inside.queues c.self.inside.lists c.self.inside.owners (alive c.self.inside.history.items) c.args.txn c.list_head-head.result c.before-node.result c.saturating_sub.result r.now
     c.self.invariant.0 c.list_head-head.ensures.is c.before-node.ensures.previous c.if-node-head.false c.saturating_sub.ensures (sym c.in-Some.ensures ∙ ap Some (sym h.0)) h.1)) c.only_of.ensures

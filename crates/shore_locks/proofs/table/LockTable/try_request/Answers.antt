@@ -1,19 +1,19 @@
-use Rattle.std.proofs.Common.{ap, ◌∙◌}
-use Rattle.shore_locks.specs.Grants.{after_grant, granted, passed, put}
+use Rattle.std.proofs.Common.{ap, subst, sym, ◌∙◌}
+use Rattle.shore_locks.specs.Grants.{after_try}
+use Rattle.shore_locks.specs.Orderly.{IsOrderlyWithin}
 use Rattle.shore_locks.specs.Tables.{Table, is_waiting}
-use Rattle.shore_locks.proofs.Entering.{known_as}
-use Rattle.shore_locks.proofs.Tables.{free_of, kept_as, kept_granted}
+use Rattle.shore_locks.proofs.Alone.{alone_kept, alone_try_leaves}
 use Rattle.shore_locks.proofs.table.LockTable.try_request.Goals as goal
-
-pub grant-requires-clause-free : goal.grant-requires-clause-free
-grant-requires-clause-free c =
-    free_of c.self.inside.nodes c.args.txn c.args.granule c.args.mode c.in-Free.request c.self.invariant (ap (λ (t : Table). is_waiting c.args.txn t.requests) c.self.view_is ∙ c.requires) c.in-Free.ensures.0 c.in-Free.ensures.1 c.in-Free.ensures.2
-
-pub grant-requires-clause-known : goal.grant-requires-clause-known
-grant-requires-clause-known c = known_as c.args.txn c.args.granule c.args.mode c.self.inside.nodes.requests c.in-Free.request c.in-Free.known c.in-Free.ensures.1 c.in-Free.ensures.3
 
 pub invariant_of-self : goal.invariant_of-self
 invariant_of-self c =
-    kept_as c.self.inside.nodes c.grant.new.nodes (after_grant c.args.txn c.args.granule c.args.mode c.self.inside.nodes.requests) c.grant.ensures.limit
-    (c.grant.ensures.items ∙ ap (λ x. passed x.granule (put (granted x) c.self.inside.nodes.requests)) c.in-Free.ensures.1)
-    (kept_granted c.self.inside.nodes.limit c.args.txn c.args.granule c.args.mode c.self.inside.nodes.requests c.self.invariant (ap (λ (t : Table). is_waiting c.args.txn t.requests) c.self.view_is ∙ c.requires) c.in-Free.ensures.0.1 c.in-Free.ensures.2)
+    let yes = c.if-grant_alone.true in
+    subst (λ (t : Table). IsOrderlyWithin t.limit t.requests) (sym (c.grant_alone.ensures.granted yes))
+    (alone_kept c.self.inside.nodes c.args.txn c.args.granule c.args.mode (c.grant_alone.ensures.alone yes) (c.grant_alone.ensures.room yes) c.self.invariant (ap (λ (t : Table). is_waiting c.args.txn t.requests) c.self.view_is ∙ c.requires))
+
+pub returns-then-grant_alone-clause-table : goal.returns-then-grant_alone-clause-table
+returns-then-grant_alone-clause-table c =
+    let yes = c.if-grant_alone.true in
+    c.grant_alone.ensures.granted yes
+    ∙ ap (λ rs. record { limit = c.self.inside.nodes.limit; requests = rs }) (sym (alone_try_leaves c.self.inside.nodes c.args.txn c.args.granule c.args.mode (c.grant_alone.ensures.alone yes) (c.grant_alone.ensures.room yes)))
+    ∙ ap (λ (t : Table). record { limit = t.limit; requests = after_try t c.args.txn c.args.granule c.args.mode }) c.self.view_is

@@ -1,0 +1,15 @@
+use Rattle.std.proofs.Common.{◌<◌, ap, subst, sym, ◌∙◌}
+use Rattle.std.specs.Prelude.{filter}
+use Rattle.shore_model.specs.declared.requests.Group.TheVariants.{Conversions}
+use Rattle.shore_model.specs.Requests.{is_in_group, requests_at}
+use Rattle.shore_locks.specs.Nodes.{queue_head}
+use Rattle.shore_locks.specs.Tables.{Table}
+use Rattle.shore_locks.proofs.Crowds.{nobody_converts}
+use Rattle.shore_locks.proofs.Tallying.{tally_read}
+use Rattle.shore_locks.proofs.counted.Counted.may_have_conversions.Goals as goal
+
+pub returns : goal.returns
+returns c = λ none.
+    ap (λ (t : Table). filter (is_in_group Conversions) (requests_at c.args.granule.now t.requests)) (sym c.self.view_is)
+    ∙ nobody_converts c.self.inside.nodes.heads c.queue_head-head.result c.index.result.now c.args.granule.now c.self.inside.nodes.requests
+    (c.queue_head-head.ensures.is ∙ ap (λ n. queue_head n c.args.granule.now) c.heads.ensures) (tally_read c.self.inside.tallies.items c.self.inside.nodes c.queue_head-head.result c.index.result.now c.self.invariant (subst (λ n. c.queue_head-head.result < n) c.heads.ensures c.queue_head-head.ensures.small) c.index.ensures) (c.has_conversions.ensures.none none)
