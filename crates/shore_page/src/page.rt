@@ -74,7 +74,10 @@ impl Page {
     pub fn get(&self, slot: u16) -> Option<&[u8]>
         ensures { option_map (λ bytes. bytes.now) result ≡ image_at_slot self.now.slots slot }
     {
-        self.text.get(slot as usize)
+        if slot >= self.slot_count() {
+            return None;
+        }
+        self.text.image(slot as usize)
     }
 
     /// The bytes that are neither in the slot table nor claimed by a slot.

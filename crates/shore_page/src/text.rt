@@ -82,13 +82,11 @@ impl PageBytes {
         self.slots
     }
 
-    /// The record in a slot.
-    pub fn get(&self, slot: usize) -> Option<&[u8]>
-        ensures { option_map (λ bytes. bytes.now) result ≡ option_and_then (λ image. image) (slice_get self.now.images slot) }
+    /// The record in a slot that is there.
+    pub fn image(&self, slot: usize) -> Option<&[u8]>
+        requires { slot < length self.now.images }
+        ensures { option_map (λ bytes. bytes.now) result ≡ slice_index_or self.now.images slot None }
     {
-        if slot >= self.slots {
-            return None;
-        }
         image_at(&self.bytes, slot)
     }
 
