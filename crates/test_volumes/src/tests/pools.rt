@@ -21,7 +21,7 @@ const USED: u64 = 12;
 /// The slots of a page that runs use.
 const SLOTS: u64 = 5;
 
-/// The runs: three with each number of calls before the device fails.
+/// The runs: one with each pick for each number of calls before the device fails.
 const RUNS: u64 = 360;
 
 /// The calls of a pool in a run, at most.
@@ -434,19 +434,19 @@ fn recover(
     Ok(())
 }
 
-/// A run on a device that passes so many writes and syncs, and its crash. It answers what is left.
+/// A run on a device that passes a third as many writes and syncs as rounds went by, and its crash. It answers what is left.
 fn run(
     alloc: Global,
     disk: MemDisk,
     twin: &mut Twin,
     chance: &mut Chance,
-    calls: u64,
+    round: u64,
     counts: &mut Counts,
 ) -> Result<MemDisk, Trouble> {
-    let mut pool = pool_on(alloc, FuseDisk::new(disk, calls))?;
+    let mut pool = pool_on(alloc, FuseDisk::new(disk, round / 3))?;
     let cut = play_all(alloc, &mut pool, twin, chance, counts)?;
     let mut left = pool.into_device().into_device().into_inner();
-    left.crash([Pick::Old, Pick::New, Pick::Noise][(calls % 3) as usize]);
+    left.crash([Pick::Old, Pick::New, Pick::Noise][(round % 3) as usize]);
     let mut dev = pages_on(alloc, left)?;
     recover(alloc, &mut dev, twin, cut, counts)?;
     Ok(dev.into_device())
@@ -475,14 +475,7 @@ fn random_runs_of_a_pool(rt: HostRuntime) -> Result<(), Trouble> {
     let mut twin = Twin::new(rt.alloc())?;
     let mut disk = disk_of(rt.alloc(), &first_image(rt.alloc())?)?;
     for round in 0..RUNS {
-        disk = run(
-            rt.alloc(),
-            disk,
-            &mut twin,
-            &mut chance,
-            round / 3,
-            &mut counts,
-        )?;
+        disk = run(rt.alloc(), disk, &mut twin, &mut chance, round, &mut counts)?;
     }
     println!(rt; "a pool: {counts:?}")?;
     check_counts(&rt, &counts);
