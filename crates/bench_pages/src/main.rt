@@ -36,7 +36,7 @@ fn measure(rt: &HostRuntime, name: &str, rounds: u64) -> io::Result<()> {
 
 fn print_usage(rt: &HostRuntime) -> io::Result<()> {
     println!(rt;
-        "bench_pages fill|get|write|read|compact|copy|batch|load|hit|miss|steal|force|crash ROUNDS"
+        "bench_pages new|fill|get|write|read|compact|copy|batch|load|hit|miss|steal|force|crash ROUNDS"
     )
 }
 

@@ -19,7 +19,9 @@ const RECORD: [u8; 100] = [0xaa; 100];
 /// What a round does with one page.
 #[derive(Clone, Copy)]
 pub enum Work {
-    /// Puts as many records as fit into a page that is empty.
+    /// Makes an empty page, in new memory.
+    New,
+    /// Makes one, and puts as many records into it as fit.
     Fill,
     /// Gets each record.
     Get,
@@ -34,6 +36,7 @@ pub enum Work {
 impl Work {
     pub fn of(name: &str) -> Option<Work> {
         match name {
+            "new" => Some(Work::New),
             "fill" => Some(Work::Fill),
             "get" => Some(Work::Get),
             "write" => Some(Work::Write),
@@ -72,6 +75,7 @@ fn round(alloc: Global, work: Work, page: &mut Page, text: &mut [u8]) -> Result<
     ensures { length text.new ≡ PAGE_BYTES }
 {
     match work {
+        Work::New => Ok(Page::new(alloc, ID)?.free_bytes() as u64),
         Work::Fill => Ok(filled(alloc)?.free_bytes() as u64),
         Work::Get => Ok(bytes_of(page)),
         Work::Write => {

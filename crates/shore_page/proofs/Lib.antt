@@ -6,3 +6,5 @@ pub mod SlotsWritten
 pub mod SlotsRead
 pub mod MarkLemmas
 pub mod PageLemmas
+pub mod RisingLemmas
+pub mod AppendLemmas

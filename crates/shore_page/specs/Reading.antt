@@ -16,6 +16,14 @@ pub record Lies (table offset bytes : ℕ) : Type 0 where
 abbrev pub IsEntry : ℕ → ℕ → ℕ → Type 0
 IsEntry table offset bytes = ((offset ≡ 0) × (bytes ≡ 0)) ⊎ Lies table offset bytes
 
+-- an entry whose record begins at an end of records or behind it, and where the records end with it
+pub record Follows (table end offset bytes new : ℕ) : Type 0 where
+  pub entry : IsEntry table offset bytes
+  pub behind : (position : ℕ) → offset ≤ position → position < offset + bytes → end ≤ position
+  pub room : end + bytes ≤ new
+  pub ends : offset + bytes ≤ new
+  pub back : end ≤ table → new ≤ table
+
 -- each entry of the slot table is one, and no byte belongs to two records
 pub record IsTable (bytes : List ℕ) (slots : ℕ) : Type 0 where
   pub each : (slot : ℕ) → slot < slots → IsEntry (table_of slots) (offset_at bytes slot) (length_at bytes slot)

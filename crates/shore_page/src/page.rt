@@ -1,5 +1,5 @@
 //! A page as a map of its slots.
-ghost use Rattle.std.specs.Prelude.{◌≡◌, ◌≢◌, ◌+◌, ◌-◌, ◌*◌, ◌<◌, ◌≤◌, ◌++◌, ◌↔◌, ℕ, [], length, replicate, slice_get, Some, None, option_map, IsTrue, IfOk, IfSome, List, vec_capacity};
+ghost use Rattle.std.specs.Prelude.{◌≡◌, ◌≢◌, ◌+◌, ◌-◌, ◌*◌, ◌<◌, ◌≤◌, ◌++◌, ◌∷◌, ◌↔◌, ℕ, [], length, replicate, slice_get, Some, None, option_map, IsTrue, IfOk, IfSome, List, vec_capacity};
 ghost use Rattle.shore_page.specs.Slots.{image_len, image_at_slot, with_change, with_slot, with_image};
 ghost use Rattle.shore_types.specs.Images.{Image};
 ghost use Rattle.shore_page.specs.Room.{free_bytes, need, Fits, HasRoom, ChangesOne, raised, lowered};
@@ -74,7 +74,10 @@ impl Page {
     pub fn get(&self, slot: u16) -> Option<&[u8]>
         ensures { option_map (λ bytes. bytes.now) result ≡ image_at_slot self.now.slots slot }
     {
-        self.text.get(slot as usize)
+        if slot >= self.slot_count() {
+            return None;
+        }
+        self.text.image(slot as usize)
     }
 
     /// The bytes that are neither in the slot table nor claimed by a slot.
@@ -104,13 +107,17 @@ impl Page {
 
     /// Puts a record into a slot. What was kept for the slot stays so. If the slot is new, so are those between the last one and it,
     /// and they are empty.
+    #[inline]
     pub fn put(&mut self, slot: u16, bytes: &[u8])
         requires { Fits self.old.slots slot (length bytes.now) }
         ensures put { self.new ≡ record self.old { slots = with_image self.old.slots slot (Some bytes.now) } }
         ensures one { ChangesOne self.old.slots self.new.slots slot (Some bytes.now) }
     {
-        self.raise(slot as usize, bytes.len());
-        self.text.put(slot as usize, bytes);
+        if slot == self.slot_count() {
+            self.append(bytes);
+        } else {
+            self.replace(slot, bytes);
+        }
     }
 
     /// Takes the record of a slot away. What it claimed stays kept for the slot.
@@ -194,6 +201,28 @@ impl Page {
             claims,
             claimed,
         }))
+    }
+
+    // Puts a record into the slot behind the last one.
+    fn append(&mut self, bytes: &[u8])
+        requires { Fits self.old.slots (length self.old.slots) (length bytes.now) }
+        ensures put { self.new ≡ record self.old { slots = with_image self.old.slots (length self.old.slots) (Some bytes.now) } }
+        ensures one { ChangesOne self.old.slots self.new.slots (length self.old.slots) (Some bytes.now) }
+    {
+        self.claims.push_reserved(bytes.len() as u16);
+        self.claimed += bytes.len();
+        self.text.append(bytes);
+    }
+
+    // Puts a record into any slot.
+    #[inline(never)]
+    fn replace(&mut self, slot: u16, bytes: &[u8])
+        requires { Fits self.old.slots slot (length bytes.now) }
+        ensures put { self.new ≡ record self.old { slots = with_image self.old.slots slot (Some bytes.now) } }
+        ensures one { ChangesOne self.old.slots self.new.slots slot (Some bytes.now) }
+    {
+        self.raise(slot as usize, bytes.len());
+        self.text.put(slot as usize, bytes);
     }
 
     // The slots up to this one are there, and this one claims at least so many bytes.

@@ -1,5 +1,5 @@
 //! Changes to the bytes of a page: where a record goes, an empty slot, more slots.
-ghost use Rattle.std.specs.Prelude.{◌≡◌, ◌+◌, ◌-◌, ◌<◌, ◌≤◌, ◌++◌, ℕ, length, replicate, set, Some, None};
+ghost use Rattle.std.specs.Prelude.{◌≡◌, ◌+◌, ◌-◌, ◌<◌, ◌≤◌, ◌++◌, ◌∷◌, [], ℕ, length, replicate, set, Some, None};
 ghost use Rattle.shore_types.specs.declared.ids.PageId.{PageId};
 ghost use Rattle.shore_types.specs.declared.layout.TheConstants.{MAX_RECORD_BYTES, MAX_SLOTS};
 ghost use Rattle.shore_page.specs.Text.{HasHeader, table_of};
@@ -56,6 +56,29 @@ pub fn put_image(bytes: &mut [u8], slots: usize, end: usize, slot: usize, image:
     let place = place_for(bytes, slots, end, slot, image.len());
     put_record(bytes, slots, slot, place.offset, image);
     place.end.max(place.offset + image.len())
+}
+
+/// Puts a record into the slot behind the last one; answers where the last record ends. The records are moved together if the gap below the
+/// longer slot table is too small.
+pub fn append_image(bytes: &mut [u8], slots: usize, end: usize, image: &[u8]) -> usize
+    requires laid_out { IsLaidOut bytes.old slots end }
+    requires few { slots < MAX_SLOTS }
+    requires most { length image.now ≤ MAX_RECORD_BYTES }
+    requires room { 24 + record_bytes (images_in bytes.old slots) + length image.now ≤ table_of (slots + 1) }
+    ensures laid_out { IsLaidOut bytes.new (slots + 1) result }
+    ensures images { images_in bytes.new (slots + 1) ≡ images_in bytes.old slots ++ Some image.now ∷ [] }
+    ensures header { (id : PageId) (number : ℕ) → HasHeader bytes.old id number slots → HasHeader bytes.new id number (slots + 1) }
+{
+    let more = slots + 1;
+    let end = make_way(
+        bytes,
+        slots,
+        end,
+        PAGE_BYTES - SLOT_ENTRY_BYTES * more - image.len(),
+    );
+    put_table(bytes, slots, more);
+    put_record(bytes, more, slots, end, image);
+    end + image.len()
 }
 
 /// Takes the record of a slot away: its entry is zeros, and its bytes are a hole.

@@ -3,7 +3,7 @@ ghost use Rattle.std.specs.Prelude.{◌≡◌, ◌+◌, ◌-◌, ◌*◌, ◌<�
 ghost use Rattle.shore_types.specs.declared.layout.TheConstants.{MAX_SLOTS};
 ghost use Rattle.shore_page.specs.Layout.{IsLaidOut, record_bytes};
 ghost use Rattle.shore_page.specs.Text.{HasHeader};
-ghost use Rattle.shore_page.specs.Reading.{Lies, IsEntry, IsTable, images_in, marks_of, Marks, IsTaken};
+ghost use Rattle.shore_page.specs.Reading.{Lies, Follows, IsEntry, IsTable, images_in, marks_of, Marks, IsTaken};
 
 use crate::entries::{Entry, entry_at, u16_at, u32_at, u64_at};
 use crate::marks::{MARK_WORDS, mark};
@@ -76,9 +76,41 @@ fn take_entry(entry: Entry, table: usize, marks: &mut [u64]) -> bool
     mark(marks, from, from + entry.bytes)
 }
 
-/// Where the last record ends; None if the slot table has an entry that is none, or if two records overlap. A byte that belongs to a
-/// record is marked by a bit.
-pub fn check_slots(bytes: &[u8], slots: usize) -> Option<usize>
+// Where the records end with that of an entry, if it begins where they end or behind; None if it does not, or if the entry is none.
+fn end_behind(entry: Entry, table: usize, end: usize) -> Option<usize>
+    requires { (entry.offset < 65536) × (entry.bytes < 65536) }
+    ensures { IfSome result (λ new. Follows table end entry.offset entry.bytes new) }
+{
+    if entry.offset == 0 && entry.bytes == 0 {
+        return Some(end);
+    }
+    if entry.offset < end || !lies(entry, table) {
+        return None;
+    }
+    Some(entry.offset + entry.bytes)
+}
+
+// Where the last record ends, if the records lie in the order of their slots, as they do in a page that was filled or compacted; None if they
+// do not. No byte needs a mark then.
+fn rising_end(bytes: &[u8], slots: usize) -> Option<usize>
+    requires whole { length bytes.now ≡ 8192 }
+    requires few { slots ≤ MAX_SLOTS }
+    ensures laid_out { IfSome result (λ end. IsLaidOut bytes.now slots end) }
+    ensures room { IfSome result (λ _. 4 * slots + record_bytes (images_in bytes.now slots) ≤ 8168) }
+{
+    let table = PAGE_BYTES - SLOT_ENTRY_BYTES * slots;
+    let mut end = PAGE_HEADER_BYTES;
+    for slot in 0..slots {
+        let Some(behind) = end_behind(entry_at(bytes, slot), table, end) else {
+            return None;
+        };
+        end = behind;
+    }
+    Some(end)
+}
+
+// Where the last record ends, if no two records overlap: a byte that belongs to a record is marked by a bit.
+fn marked_end(bytes: &[u8], slots: usize) -> Option<usize>
     requires whole { length bytes.now ≡ 8192 }
     requires few { slots ≤ MAX_SLOTS }
     ensures laid_out { IfSome result (λ end. IsLaidOut bytes.now slots end) }
@@ -96,4 +128,19 @@ pub fn check_slots(bytes: &[u8], slots: usize) -> Option<usize>
         end = end.max(entry.offset + entry.bytes);
     }
     Some(end)
+}
+
+/// Where the last record ends; None if the slot table has an entry that is none, or if two records overlap.
+pub fn check_slots(bytes: &[u8], slots: usize) -> Option<usize>
+    requires whole { length bytes.now ≡ 8192 }
+    requires few { slots ≤ MAX_SLOTS }
+    ensures laid_out { IfSome result (λ end. IsLaidOut bytes.now slots end) }
+    ensures room { IfSome result (λ _. 4 * slots + record_bytes (images_in bytes.now slots) ≤ 8168) }
+    ensures only { IsTable bytes.now slots → IsSome result }
+{
+    let rising = rising_end(bytes, slots);
+    if rising.is_some() {
+        return rising;
+    }
+    marked_end(bytes, slots)
 }

@@ -1,5 +1,5 @@
 //! A page's text with its records: the bytes are a text at all times, and only they are kept.
-ghost use Rattle.std.specs.Prelude.{◌≡◌, ◌+◌, ◌-◌, ◌*◌, ◌<◌, ◌≤◌, ◌++◌, ℕ, [], length, replicate, set, slice_get, slice_index_or, Some, None, option_map, IfOk, IfSome, List};
+ghost use Rattle.std.specs.Prelude.{◌≡◌, ◌+◌, ◌-◌, ◌*◌, ◌<◌, ◌≤◌, ◌++◌, ◌∷◌, ℕ, [], length, replicate, set, slice_get, slice_index_or, Some, None, option_map, IfOk, IfSome, List};
 ghost use Rattle.std.specs.Option.{option_and_then};
 ghost use Rattle.shore_types.specs.Images.{Image};
 ghost use Rattle.shore_types.specs.declared.layout.TheConstants.{PAGE_BYTES, MAX_RECORD_BYTES, MAX_SLOTS};
@@ -8,7 +8,7 @@ ghost use Rattle.shore_page.specs.Text.{IsPageText};
 ghost use Rattle.shore_page.specs.Layout.{record_bytes};
 
 use crate::entries::{entry_at, image_at};
-use crate::placing::{clear_slot, grow_table, put_image};
+use crate::placing::{append_image, clear_slot, grow_table, put_image};
 use crate::reading::{check_slots, read_header};
 use crate::writing::{put_header, put_number};
 use shore_types::layout::{PAGE_BYTES, PAGE_HEADER_BYTES, SLOT_ENTRY_BYTES};
@@ -82,13 +82,11 @@ impl PageBytes {
         self.slots
     }
 
-    /// The record in a slot.
-    pub fn get(&self, slot: usize) -> Option<&[u8]>
-        ensures { option_map (λ bytes. bytes.now) result ≡ option_and_then (λ image. image) (slice_get self.now.images slot) }
+    /// The record in a slot that is there.
+    pub fn image(&self, slot: usize) -> Option<&[u8]>
+        requires { slot < length self.now.images }
+        ensures { option_map (λ bytes. bytes.now) result ≡ slice_index_or self.now.images slot None }
     {
-        if slot >= self.slots {
-            return None;
-        }
         image_at(&self.bytes, slot)
     }
 
@@ -119,6 +117,17 @@ impl PageBytes {
         ensures { self.new ≡ record self.old { images = set self.old.images slot (Some bytes.now) } }
     {
         self.end = put_image(&mut self.bytes, self.slots, self.end, slot, bytes);
+    }
+
+    /// Puts a record into the slot behind the last one.
+    pub fn append(&mut self, bytes: &[u8])
+        requires few { length self.old.images < MAX_SLOTS }
+        requires most { length bytes.now ≤ MAX_RECORD_BYTES }
+        requires room { 4 * (length self.old.images + 1) + record_bytes self.old.images + length bytes.now ≤ 8168 }
+        ensures { self.new ≡ record self.old { images = self.old.images ++ Some bytes.now ∷ [] } }
+    {
+        self.end = append_image(&mut self.bytes, self.slots, self.end, bytes);
+        self.slots += 1;
     }
 
     /// Takes the record of a slot away.

@@ -1,3 +1,4 @@
+pub mod Contents
 pub mod Indexes
 pub mod Settling
 pub mod Orders

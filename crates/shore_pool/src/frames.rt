@@ -205,6 +205,7 @@ impl Frames {
         ensures same { SameFrames self.old self.new }
         ensures shape { KeepsShape self.old self.new }
     {
+        let first = self.first_clean()?;
         for _ in 0..2 * self.limit {
             if let Some(key) = self.clock.pass() {
                 if let Some(number) = self.clean_at(key) {
@@ -212,7 +213,7 @@ impl Frames {
                 }
             }
         }
-        self.first_clean()
+        Some(first)
     }
 
     // The page of the first clean frame.

@@ -1,8 +1,11 @@
 mod areas;
 mod batches;
 mod calls;
+mod chance;
 mod crashes;
 mod noting;
+mod pools;
 mod random;
 mod trouble;
+mod twins;
 mod volumes;

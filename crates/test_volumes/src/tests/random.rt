@@ -1,29 +1,11 @@
 //! Random batches, one after another, each crashed at each device call, beside the bytes that a slow twin makes of them.
-ghost use Rattle.std.specs.Prelude.{◌<◌};
-
 use super::batches::{Change, with_change};
+use super::chance::Chance;
 use super::crashes::{Counts, check_change};
 use super::trouble::Trouble;
 use super::volumes::{PAGES, first_image};
 use std::alloc::{AllocError, Global};
 use std::process::Abort;
-
-/// A fixed run of numbers that look like chance.
-#[derive(Drop)]
-struct Chance(u64);
-
-impl Chance {
-    fn below(&mut self, bound: u64) -> u64
-        requires { 0 < bound }
-        ensures { result < bound }
-    {
-        self.0 = self
-            .0
-            .wrapping_mul(6_364_136_223_846_793_005)
-            .wrapping_add(1_442_695_040_888_963_407);
-        (self.0 >> 33) % bound
-    }
-}
 
 /// Some pages, rising, of which there are about so many. There is at least one.
 fn some_pages(alloc: Global, chance: &mut Chance, about: u64) -> Result<Vec<u32>, AllocError> {
@@ -62,7 +44,7 @@ fn check_some(
 
 #[test]
 fn random_batches(rt: HostRuntime) -> Result<(), Trouble> {
-    let mut chance = Chance(5);
+    let mut chance = Chance::new(5);
     let mut image = first_image(rt.alloc())?;
     let mut all = Counts {
         batches: 0,

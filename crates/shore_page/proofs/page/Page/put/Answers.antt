@@ -1,34 +1,19 @@
-use Rattle.std.proofs.Common.{length, Some, sym, ap, subst, ◌∙◌, vec_capacity}
-use Rattle.shore_page.specs.Slots.{PageState}
-use Rattle.shore_page.specs.Room.{ChangesOne}
-use Rattle.shore_page.specs.Layout.{PageImages, slots_of, HasClaims}
-use Rattle.shore_page.proofs.PageLemmas.{page_of, raised_facts, raised_put, raised_kept, raised_room, raised_one, same_but_slots}
+use Rattle.std.proofs.Common.{ℕ, length, Some, sym, ap, subst, ◌∙◌}
+use Rattle.shore_page.specs.Slots.{with_image}
+use Rattle.shore_page.specs.Room.{ChangesOne, Fits}
 use Rattle.shore_page.proofs.page.Page.put.Goals as goal
 
-pub put-requires : goal.put-requires
-put-requires c =
-    let has = c.self.invariant in
-    let is = ap (λ (p : PageState). p.slots) (c.self.view_is ∙ c.raise.ensures.raised) in
-    record {
-      there = (raised_facts c.self.inside.text.images c.self.inside.claims.items c.args.self.now.slots c.args.slot (length c.args.bytes.now) has.same is).0;
-      most = c.requires.most;
-      room = raised_room c.self.inside.text.images c.self.inside.claims.items (vec_capacity c.self.inside.claims) c.self.inside.claimed c.args.self.now.slots c.args.slot c.args.bytes.now has is;
-    }
+pub append-requires : goal.append-requires
+append-requires c =
+    let is = c.if-slot-slot_count.true ∙ c.slot_count.ensures.count in
+    subst (λ (k : ℕ). Fits c.args.self.now.slots k (length c.args.bytes.now)) is c.requires
 
-pub invariant_of-self : goal.invariant_of-self
-invariant_of-self c =
-    let is = ap (λ (p : PageState). p.slots) (c.self.view_is ∙ c.raise.ensures.raised) in
-    subst (λ (t : PageImages). HasClaims t.images c.self.inside.claims.items (vec_capacity c.self.inside.claims) c.self.inside.claimed) (sym c.put.ensures)
-    (raised_kept c.self.inside.text.images c.self.inside.claims.items (vec_capacity c.self.inside.claims) c.self.inside.claimed c.args.self.now.slots c.args.slot (Some c.args.bytes.now) c.self.invariant is)
+pub returns-then-slot-slot_count-clause-put : goal.returns-then-slot-slot_count-clause-put
+returns-then-slot-slot_count-clause-put c =
+    let is = c.if-slot-slot_count.true ∙ c.slot_count.ensures.count in
+    c.append.ensures.put ∙ ap (λ (k : ℕ). record { id = c.args.self.now.id; number = c.args.self.now.number; slots = with_image c.args.self.now.slots k (Some c.args.bytes.now) }) (sym is)
 
-pub returns-clause-put : goal.returns-clause-put
-returns-clause-put c =
-    let view = c.self.view_is ∙ c.raise.ensures.raised in
-    ap (λ (t : PageImages). page_of t c.self.inside.claims.items) c.put.ensures
-    ∙ same_but_slots _ _ _ _ view (raised_put c.self.inside.text.images c.self.inside.claims.items c.args.self.now.slots c.args.slot (Some c.args.bytes.now) c.self.invariant.same (ap (λ (p : PageState). p.slots) view))
-
-pub returns-clause-one : goal.returns-clause-one
-returns-clause-one c =
-    let is = ap (λ (p : PageState). p.slots) (c.self.view_is ∙ c.raise.ensures.raised) in
-    subst (λ (t : PageImages). ChangesOne c.args.self.now.slots (slots_of t.images c.self.inside.claims.items) c.args.slot (Some c.args.bytes.now)) (sym c.put.ensures)
-    (raised_one c.self.inside.text.images c.self.inside.claims.items c.args.self.now.slots c.args.slot (Some c.args.bytes.now) c.self.invariant.same is c.raise.ensures.room c.requires)
+pub returns-then-slot-slot_count-clause-one : goal.returns-then-slot-slot_count-clause-one
+returns-then-slot-slot_count-clause-one c =
+    let is = c.if-slot-slot_count.true ∙ c.slot_count.ensures.count in
+    subst (λ (k : ℕ). ChangesOne c.args.self.now.slots c.append.new.self.slots k (Some c.args.bytes.now)) (sym is) c.append.ensures.one

@@ -1,4 +1,4 @@
-use Rattle.std.proofs.Common.{◌≡◌, ℕ, List, sym, subst}
+use Rattle.std.proofs.Common.{ℕ, List, sym, subst}
 use Rattle.shore_page.specs.Text.{IsPageText}
 use Rattle.shore_page.specs.Reading.{images_in}
 use Rattle.shore_page.specs.Layout.{PageImages}

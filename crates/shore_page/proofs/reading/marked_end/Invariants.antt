@@ -1,7 +1,7 @@
 use Rattle.std.proofs.Common.{◌≡◌, ◌-◌, length}
 use Rattle.shore_page.specs.Reading.{marks_of}
 use Rattle.shore_page.proofs.SlotsRead.{Checked}
-use Rattle.shore_page.proofs.reading.check_slots.Given as goal
+use Rattle.shore_page.proofs.reading.marked_end.Given as goal
 
 abbrev pub invariant-loop-slot : goal.invariant-loop-slot
 invariant-loop-slot l = record {

@@ -6,7 +6,7 @@ use Rattle.shore_page.proofs.MarkLemmas.{marks_clear}
 use Rattle.shore_page.specs.Text.{table_of, offset_at, length_at}
 use Rattle.shore_page.specs.Reading.{IsEntry, marks_of, Marks, IsTaken}
 use Rattle.shore_page.proofs.SlotsRead.{Checked, checked_more, checked_refused, checked_none, checked_all, checked_room}
-use Rattle.shore_page.proofs.reading.check_slots.Goals as goal
+use Rattle.shore_page.proofs.reading.marked_end.Goals as goal
 
 pub returns-then-not-take_entry-clause-only : goal.returns-then-not-take_entry-clause-only
 returns-then-not-take_entry-clause-only c table =

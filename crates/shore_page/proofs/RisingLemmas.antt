@@ -1,0 +1,79 @@
+-- Slots whose records lie one behind another, as far as they were read.
+use Rattle.std.proofs.Common.{◌≡◌, ℕ, ◌+◌, ◌*◌, ◌<◌, ◌≤◌, inl, inr, List, length, sym, subst, arith}
+use Rattle.std.proofs.lemmas.List.FromFn.{sum_by-map-range_with_len_more}
+use Rattle.std.proofs.lemmas.Bool.{cases_lt}
+use Rattle.shore_page.specs.Slots.{image_len}
+use Rattle.shore_page.specs.Text.{table_of, offset_at, length_at, Covers}
+use Rattle.shore_page.specs.Reading.{Follows, IsEntry, slot_image, images_in}
+use Rattle.shore_page.specs.Layout.{IsLaidOut, record_bytes}
+use Rattle.shore_page.proofs.SlotsRead.{slot_bytes}
+
+-- The first slots are in order, and their records lie one behind another, up to an end.
+pub record Rising (bytes : List ℕ) (slots i end : ℕ) : Type 0 where
+  pub each : (j : ℕ) → j < i → IsEntry (table_of slots) (offset_at bytes j) (length_at bytes j)
+  pub apart : (a b position : ℕ) → a < i → b < i → Covers bytes a position → Covers bytes b position → a ≡ b
+  pub room : 24 + record_bytes (images_in bytes i) ≤ end
+  pub back : end ≤ table_of slots
+  pub ends : (j : ℕ) → j < i → offset_at bytes j + length_at bytes j ≤ end
+
+pub rising_none : (bytes : List ℕ) (slots : ℕ) → slots ≤ 2042 → Rising bytes slots 0 24
+rising_none bytes slots few = record {
+  each = λ j none. absurd (omega arith);
+  apart = λ a b position none. absurd (omega arith);
+  room = omega arith;
+  back = omega arith;
+  ends = λ j none. absurd (omega arith);
+}
+
+-- one slot more
+pub rising_more : (bytes : List ℕ) (slots i end new : ℕ) → length bytes ≡ 8192 → slots ≤ 2042 → Rising bytes slots i end
+    → Follows (table_of slots) end (offset_at bytes i) (length_at bytes i) new → Rising bytes slots (i + 1) new
+rising_more bytes slots i end new whole few so_far follows = record {
+  each = λ j before. elim (cases_lt j i) [
+    | inl earlier ↦ so_far.each j earlier
+    | inr late ↦ (let same : j ≡ i = omega arith in rw same follows.entry)
+  ];
+  apart = λ a b position before_a before_b covers_a covers_b. elim (cases_lt a i) [
+    | inl a_earlier ↦ elim (cases_lt b i) [
+      | inl b_earlier ↦ so_far.apart a b position a_earlier b_earlier covers_a covers_b
+      | inr b_late ↦ absurd (clash a b position a_earlier (omega arith) covers_a covers_b)
+    ]
+    | inr a_late ↦ elim (cases_lt b i) [
+      | inl b_earlier ↦ absurd (clash b a position b_earlier (omega arith) covers_b covers_a)
+      | inr b_late ↦ (let same : a ≡ b = omega arith in same)
+    ]
+  ];
+  room = omega (arith, so_far.room, follows.room, more, slot_bytes bytes (table_of slots) i whole (omega arith) follows.entry);
+  back = follows.back so_far.back;
+  ends = λ j before. elim (cases_lt j i) [
+    | inl earlier ↦ omega (arith, so_far.ends j earlier, follows.room)
+    | inr late ↦ (let same : j ≡ i = omega arith in subst (λ (k : ℕ). offset_at bytes k + length_at bytes k ≤ new) (sym same) follows.ends)
+  ];
+}
+  where
+    more : record_bytes (images_in bytes (i + 1)) ≡ record_bytes (images_in bytes i) + image_len (slot_image bytes i)
+    more = sum_by-map-range_with_len_more image_len (slot_image bytes) 0 i i (omega arith)
+
+    -- a byte of an earlier record and of this one
+    clash : (a b position : ℕ) → a < i → b ≡ i → Covers bytes a position → Covers bytes b position → ⊥
+    clash a b position earlier same covers_a covers_b =
+        let here = subst (λ (k : ℕ). Covers bytes k position) same covers_b in
+        omega (arith, follows.behind position here.0 here.1, so_far.ends a earlier, covers_a.1)
+
+pub rising_all : (bytes : List ℕ) (slots i end : ℕ) → Rising bytes slots i end → slots ≤ i → i ≤ slots → length bytes ≡ 8192 → slots ≤ 2042 → IsLaidOut bytes slots end
+rising_all bytes slots i end so_far reached inside whole few = record {
+  whole = whole;
+  few = few;
+  table = record {
+    each = λ slot before. so_far.each slot (omega arith);
+    apart = λ a b position before_a before_b. so_far.apart a b position (omega arith) (omega arith);
+  };
+  front = omega (arith, so_far.room);
+  back = so_far.back;
+  ends = λ slot before. so_far.ends slot (omega arith);
+}
+
+pub rising_room : (bytes : List ℕ) (slots i end : ℕ) → Rising bytes slots i end → slots ≤ i → i ≤ slots → slots ≤ 2042 → 4 * slots + record_bytes (images_in bytes slots) ≤ 8168
+rising_room bytes slots i end so_far reached inside few =
+    let same : i ≡ slots = omega arith in
+    subst (λ (n : ℕ). 4 * slots + record_bytes (images_in bytes n) ≤ 8168) same (omega (arith, so_far.room, so_far.back))

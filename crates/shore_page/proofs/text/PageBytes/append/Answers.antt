@@ -1,0 +1,46 @@
+use Rattle.std.proofs.Common.{◌≡◌, ◌+◌, ◌++◌, ◌∷◌, [], ℕ, List, length, Some, sym, ap, subst, ◌∙◌, arith}
+use Rattle.std.proofs.lemmas.List.{with_items_is}
+use Rattle.shore_page.specs.Reading.{images_in}
+use Rattle.shore_page.specs.Layout.{PageImages, IsPageBytes, IsLaidOut, record_bytes}
+use Rattle.shore_page.proofs.LayoutLemmas.{length-images, same_but_images}
+use Rattle.shore_page.proofs.text.PageBytes.append.Goals as goal
+
+pub append_image-self-inside-requires : goal.append_image-self-inside-requires
+append_image-self-inside-requires c =
+    let kept = c.self.invariant in
+    let slots = c.self.inside.slots in
+    let count : length c.args.self.now.images ≡ slots = sym (ap (λ (p : PageImages). length p.images) c.self.view_is) ∙ length-images c.self.inside.bytes.items slots in
+    let images : images_in c.deref_mut.result.now slots ≡ c.args.self.now.images = ap (λ (b : List ℕ). images_in b slots) c.deref_mut.ensures.value ∙ ap (λ (p : PageImages). p.images) c.self.view_is in
+    let total : record_bytes (images_in c.deref_mut.result.now slots) ≡ record_bytes c.args.self.now.images = ap record_bytes images in
+    record {
+      laid_out = subst (λ (b : List ℕ). IsLaidOut b slots c.self.inside.end) (sym c.deref_mut.ensures.value) kept.laid_out;
+      few = omega (arith, c.requires.few);
+      most = c.requires.most;
+      room = omega (arith, c.requires.room);
+    }
+
+pub invariant_of-self : goal.invariant_of-self
+invariant_of-self c =
+    let kept = c.self.invariant in
+    let new = c.append_image-self-inside.new.bytes in
+    let more = c.self.inside.slots + 1 in
+    let old = subst (λ (b : List ℕ). IsPageBytes b c.self.inside.id c.self.inside.number c.self.inside.slots c.self.inside.end) (sym c.deref_mut.ensures.value) kept in
+    let laid_out = c.append_image-self-inside.ensures.laid_out in
+    let after = with_items_is c.self.inside.bytes new (omega (arith, laid_out.whole, old.laid_out.whole, c.deref_mut.ensures.len)) in
+    subst (λ (b : List ℕ). IsPageBytes b c.self.inside.id c.self.inside.number more c.append_image-self-inside.result) (sym after) record {
+      header = c.append_image-self-inside.ensures.header c.self.inside.id c.self.inside.number old.header;
+      laid_out = laid_out;
+    }
+
+pub returns : goal.returns
+returns c =
+    let kept = c.self.invariant in
+    let new = c.append_image-self-inside.new.bytes in
+    let slots = c.self.inside.slots in
+    let old = subst (λ (b : List ℕ). IsLaidOut b slots c.self.inside.end) (sym c.deref_mut.ensures.value) kept.laid_out in
+    let laid_out = c.append_image-self-inside.ensures.laid_out in
+    let after = with_items_is c.self.inside.bytes new (omega (arith, laid_out.whole, old.whole, c.deref_mut.ensures.len)) in
+    same_but_images _ c.args.self.now _ _ c.self.view_is
+    (ap (λ (b : List ℕ). images_in b (slots + 1)) after ∙ c.append_image-self-inside.ensures.images
+    ∙ ap (λ (b : List ℕ). images_in b slots ++ Some c.args.bytes.now ∷ []) c.deref_mut.ensures.value
+    ∙ ap (λ (p : PageImages). p.images ++ Some c.args.bytes.now ∷ []) c.self.view_is)
