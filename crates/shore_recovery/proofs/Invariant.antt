@@ -13,14 +13,10 @@ use Rattle.shore_model.specs.Logs.{image_of_record}
 use Rattle.shore_recovery.specs.Pages.{LoggedPage, LoggedPages, IsAsOfOwnNumber, AreAsOfOwnNumbers, PagesLackNone, rid_on}
 use Rattle.shore_recovery.specs.Recovery.{RecoveryState, RecoveryEvent, AppendRecord, RedoRecord, ForceLog, FlushPage, LosePower, LeadsTo, LeadTo, IsRecoverable, CrashMayLeave, MayCrash, with_page_written, after_append, after_redo, after_force, after_flush, after_crash}
 use Rattle.shore_recovery.proofs.Redo.{as_of_longer, as_of_cut, redo_one, slice_get_last, own_number, whole, lacks_longer, lacks_none_yet}
+use Rattle.shore_recovery.proofs.Booleans.{is_equal}
 
 pub equal_pages : (p q : PageId) → eq_by_cmp page_cmp p q ≡ true → p ≡ q
 equal_pages p q e = exact_pages p q (is_equal (page_cmp p q) e)
-  where
-    is_equal : (o : Ordering) → is_eq o ≡ true → o ≡ Equal
-    is_equal Less h = cc
-    is_equal Equal h = refl
-    is_equal Greater h = cc
 
 -- as of its own number, and that is durable
 abbrev pub IsWritten : List LogRecord → ℕ → PageId → LoggedPage → Type 0

@@ -1,2 +1,12 @@
+pub mod Booleans
+pub mod CommittedRecords
 pub mod Invariant
+pub mod Numbers
+pub mod OneMore
+pub mod RecordsTold
 pub mod Redo
+pub mod Restarts
+pub mod UndoEnds
+pub mod UndoRecords
+pub mod Writers
+pub mod WritersTold

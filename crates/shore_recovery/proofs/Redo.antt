@@ -17,6 +17,8 @@ use Rattle.shore_types.specs.Images.{Image}
 use Rattle.shore_model.specs.Logs.{image_in, image_of_record, last_images, with_image}
 use Rattle.shore_model.proofs.LogSteps.{last_images-push}
 use Rattle.shore_recovery.specs.Pages.{LoggedPage, IsAsOf, IsAsOfOwnNumber, LacksNone, rid_on, slots_with, needs_redo, redone_on}
+use Rattle.shore_recovery.proofs.Booleans.{and_true}
+use Rattle.shore_sessions.proofs.Lists.{within_or_beyond}
 
 -- ---- what one more record leaves at an id
 
@@ -34,8 +36,8 @@ get-with_image images None q = refl
 get-with_image images (Some e) q =
     ap (λ o. unwrap_or o None) (get-insert rids_total images e.0 e.1 q) ∙ unwrap_cond (eq_by_cmp rid_cmp q e.0) e.1 (get images q)
 
-pub image_at-push : (log : List LogRecord) (r : LogRecord) (q : Rid) → image_of_record (log ++ r ∷ []) q ≡ or_image (image_in r.payload) q (image_of_record log q)
-image_at-push log r q = ap (λ images. unwrap_or (get images q) None) (last_images-push log r) ∙ get-with_image (last_images log) (image_in r.payload) q
+pub image_of_record-push : (log : List LogRecord) (r : LogRecord) (q : Rid) → image_of_record (log ++ r ∷ []) q ≡ or_image (image_in r.payload) q (image_of_record log q)
+image_of_record-push log r q = ap (λ images. unwrap_or (get images q) None) (last_images-push log r) ∙ get-with_image (last_images log) (image_in r.payload) q
 
 -- ---- prefixes of the log
 
@@ -69,18 +71,10 @@ module _ (log : List LogRecord) (p : PageId) (n : ℕ) (page : LoggedPage) (h : 
 
 -- ---- redo
 
-le_or_gt : (a b : ℕ) → (a ≤ b) ⊎ (b + 1 ≤ a)
-le_or_gt a b = ⊎_elim (λ yes. let l = ltb-true a (b + 1) yes in inl (omega arith)) (λ no. let l = ltb-false a (b + 1) no in inr (omega arith)) (cases_Bool (nat_lt a (b + 1)))
-
 other_page : (o u : Ordering) → is_eq o ≡ false → is_eq (ordering_then o u) ≡ false
 other_page Less u h = refl
 other_page Equal u h = cc
 other_page Greater u h = refl
-
-and_true : (a b : Bool) → (a && b) ≡ true → (a ≡ true) × (b ≡ true)
-and_true true true h = (refl, refl)
-and_true true false h = cc
-and_true false b h = cc
 
 and_with : (a b : Bool) → b ≡ true → (a && b) ≡ false → a ≡ false
 and_with true true t h = cc
@@ -91,7 +85,7 @@ module _ (log : List LogRecord) (p : PageId) (n : ℕ) (r : LogRecord) (at : sli
   next_slots : (slots : ℕ → Image) → ((i : ℕ) → slots i ≡ image_of_record (take n log) (rid_on p i))
       → (i : ℕ) → image_of_record (take (n + 1) log) (rid_on p i) ≡ or_image (image_in r.payload) (rid_on p i) (slots i)
   next_slots slots h i =
-      ap (λ xs. image_of_record xs (rid_on p i)) (take_next log n r at) ∙ image_at-push (take n log) r (rid_on p i)
+      ap (λ xs. image_of_record xs (rid_on p i)) (take_next log n r at) ∙ image_of_record-push (take n log) r (rid_on p i)
       ∙ ap (or_image (image_in r.payload) (rid_on p i)) (sym (h i))
 
   module _ (page : LoggedPage) (h : IsAsOf log p n page) where
@@ -123,7 +117,7 @@ module _ (log : List LogRecord) (p : PageId) (n : ℕ) (r : LogRecord) (at : sli
         ] refl
 
   -- the page has the record already
-  left_alone : (page : LoggedPage) → n + 1 ≤ page.number → (o : Option (Rid × Image)) → redone_on (n + 1) o p page ≡ page
+  left_alone : (page : LoggedPage) → n < page.number → (o : Option (Rid × Image)) → redone_on (n + 1) o p page ≡ page
   left_alone page later None = refl
   left_alone page later (Some c) =
       elim (needs_redo (n + 1) p page c.0) as (λ b. needs_redo (n + 1) p page c.0 ≡ b
@@ -159,11 +153,11 @@ module _ (log : List LogRecord) (p : PageId) (n : ℕ) (r : LogRecord) (at : sli
             (λ gt.
             let same : n + 1 ≡ m = omega arith in
             subst (λ k. IsAsOf log p k page) same (subst (IsAsOf log p (n + 1)) not_so now))
-            (le_or_gt m n);
+            (within_or_beyond m n);
       }))
       (applied_or_not page low (image_in r.payload)))
       (λ high. subst (LacksNone log p (n + 1)) (sym (left_alone page high (image_in r.payload))) (record { each = λ m least most. h.each m least (omega arith) }))
-      (le_or_gt page.number n)
+      (within_or_beyond page.number n)
 
 module _ (log : List LogRecord) (p : PageId) (n : ℕ) (page : LoggedPage) (h : LacksNone log p n page) where
   pub own_number : IsAsOfOwnNumber log p page

@@ -1,2 +1,5 @@
 pub mod Pages
 pub mod Recovery
+pub mod Restarts
+pub mod Undo
+pub mod Writers

@@ -1,10 +1,19 @@
 //! The laws of recovery, each stated as the contract of an empty function.
-ghost use Rattle.std.specs.Prelude.{◌≡◌, ◌≤◌, ◌+◌, ℕ, List, Some, length, take, slice_get};
+ghost use Rattle.std.specs.Prelude.{◌≡◌, ◌≤◌, ◌+◌, ℕ, List, Some, false, length, map, take, true, slice_get};
+ghost use Rattle.std.specs.FinMap.{get};
+ghost use Rattle.std.specs.List.{AllByRecursion};
 ghost use Rattle.shore_types.specs.declared.ids.PageId.{PageId};
+ghost use Rattle.shore_types.specs.declared.ids.Rid.{Rid};
 ghost use Rattle.shore_model.specs.declared.log_records.LogRecord.{LogRecord};
-ghost use Rattle.shore_model.specs.Logs.{image_in, image_of_record};
+ghost use Rattle.shore_model.specs.Logs.{Lawful, has, image_in, image_of_record, in_doubt_in, is_over, logged_writes, records_told};
+ghost use Rattle.shore_model.specs.Records.{overlays};
+ghost use Rattle.shore_sessions.specs.LogTells.{records_committed};
+ghost use Rattle.shore_sessions.specs.Views.{IsAmong};
 ghost use Rattle.shore_recovery.specs.Pages.{LoggedPage, LoggedPages, LacksNone, AreAsOfOwnNumbers, PagesLackNone, redone_on, rid_on};
-ghost use Rattle.shore_recovery.specs.Recovery.{RecoveryState, RecoveryEvent, IsRecoverable, CrashMayLeave, LeadTo};
+ghost use Rattle.shore_recovery.specs.Recovery.{RecoveryState, RecoveryEvent, IsRecoverable, CrashMayLeave, LeadTo, MayCrash, after_crash};
+ghost use Rattle.shore_recovery.specs.Restarts.{IsRestartOf, RestartsTo};
+ghost use Rattle.shore_recovery.specs.Undo.{HasNoLosers, IsUndoneTo};
+ghost use Rattle.shore_recovery.specs.Writers.{HasOneWriterAtMost, changes_id};
 
 /// A page that lacks none of the first n records lacks none of the first n + 1, once the next is redone on it.
 pub fn redo_goes_on()
@@ -28,4 +37,35 @@ pub fn crash_leaves_pages_that_stand()
 pub fn redo_is_whole()
     ensures { (s : RecoveryState) → IsRecoverable s → s.redone ≡ length s.log →
         (p : PageId) (i : ℕ) → (s.in_place p).slots i ≡ image_of_record s.log (rid_on p i) }
+{}
+
+/// In a lawful log each id has one writer at most. The log leaves what is committed, overlaid by the writes of those that have not ended;
+/// once no loser is left, that is what it tells.
+pub fn lawful_lists_leave()
+    ensures writer { (log : List LogRecord) (id : Rid) → Lawful log → HasOneWriterAtMost log id }
+    ensures running { (log : List LogRecord) (id : Rid) (ts : List ℕ) → Lawful log → AllByRecursion (λ t. is_over t log ≡ false) ts →
+        ((t : ℕ) → has (changes_id id) t log ≡ true → is_over t log ≡ false → IsAmong t ts) →
+        image_of_record log id ≡ get (overlays (records_committed log) (map (logged_writes log) ts)) id }
+    ensures told { (log : List LogRecord) (id : Rid) → Lawful log → HasNoLosers log → image_of_record log id ≡ get (records_told log) id }
+{}
+
+/// A restart may be cut off at any moment, any number of times, and begun again: its log stays lawful, tells what the first one found, and
+/// has the same transactions in doubt. Once all is redone and no loser is left, the pages in place show what was found.
+pub fn restart_is_repeatable()
+    ensures goes_on { (found : List LogRecord) (s : RecoveryState) (events : List RecoveryEvent) (last : RecoveryState) → IsRecoverable s →
+        IsRestartOf found s → RestartsTo s events last → IsRecoverable last × IsRestartOf found last }
+    ensures same { (found : List LogRecord) (s : RecoveryState) → Lawful found → IsRestartOf found s →
+        Lawful s.log × (records_told s.log ≡ records_told found) × (in_doubt_in s.log ≡ in_doubt_in found) }
+    ensures shows { (found : List LogRecord) (s : RecoveryState) → Lawful found → IsRecoverable s → IsRestartOf found s →
+        s.redone ≡ length s.log → HasNoLosers s.log →
+        (p : PageId) (i : ℕ) → (s.in_place p).slots i ≡ get (records_told found) (rid_on p i) }
+    ensures after_a_crash { (s : RecoveryState) (n : ℕ) (left : LoggedPages) (begin : ℕ) (events : List RecoveryEvent) (last : RecoveryState) →
+        IsRecoverable s → Lawful s.log → MayCrash s n left begin → RestartsTo (after_crash s n left begin) events last →
+        last.redone ≡ length last.log → HasNoLosers last.log →
+        (p : PageId) (i : ℕ) → (last.in_place p).slots i ≡ get (records_told (take n s.log)) (rid_on p i) }
+{}
+
+/// From every lawful log there are turns of undo that leave no loser.
+pub fn undo_ends()
+    ensures { (log : List LogRecord) → Lawful log → (ts : List ℕ) × (last : List LogRecord) × IsUndoneTo log ts last × HasNoLosers last }
 {}
