@@ -6,6 +6,8 @@ pub mod OneMore
 pub mod RecordsTold
 pub mod Redo
 pub mod Restarts
+pub mod Savepoints
+pub mod UndoChains
 pub mod UndoEnds
 pub mod UndoRecords
 pub mod Writers

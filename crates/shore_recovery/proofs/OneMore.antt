@@ -1,10 +1,8 @@
 -- What transactions have in the log, and have written, with one more record.
-use Rattle.std.proofs.Common.{◌≡◌, ◌≢◌, ◌+◌, ◌⊎◌, inl, inr, ⊎_elim, ℕ, List, [], ◌∷◌, ◌++◌, Bool, true, false, cond, Some, None, refl, sym, ap, subst, ◌∙◌, length, drop, append-nil, append_assoc}
-use Rattle.std.specs.Prelude.{filter, reverse, ◌==◌, ◌&&◌, ◌||◌}
+use Rattle.std.proofs.Common.{◌≡◌, ◌≢◌, ◌+◌, ⊎_elim, ℕ, List, [], ◌∷◌, ◌++◌, Bool, true, false, cond, Some, None, refl, sym, ap, subst, ◌∙◌, length, drop, append-nil, append_assoc}
+use Rattle.std.specs.Prelude.{◌==◌, ◌&&◌, ◌||◌}
 use Rattle.std.specs.List.{AllByRecursion}
-use Rattle.std.specs.Ordering.{eq_by_cmp, is_eq}
-use Rattle.std.specs.declared.cmp.Ordering.{Ordering}
-use Rattle.std.specs.declared.cmp.Ordering.TheVariants.{Less, Equal, Greater}
+use Rattle.std.specs.Ordering.{eq_by_cmp}
 use Rattle.std.specs.Cmp.{eq_by_cmp_equiv}
 use Rattle.std.specs.FinMap.{get, get-insert}
 use Rattle.std.proofs.lemmas.Bool.{eq-eqb, ne_eqb, eqb-true, cases_Bool, true≢false}
@@ -18,8 +16,7 @@ use Rattle.shore_model.specs.declared.log_records.Payload.{Payload}
 use Rattle.shore_model.specs.declared.log_records.Payload.TheVariants.{Change, Compensation}
 use Rattle.shore_model.specs.Records.{WriteSet}
 use Rattle.shore_types.specs.Images.{Image}
-use Rattle.shore_model.specs.Logs.{has, is_over, is_commit, is_end, id_in, image_in, with_image, last_images, logged_writes, answered_by, unanswered, unanswered_in, records_of, NoOtherChanged, LeavesFree}
-use Rattle.shore_model.proofs.LogSteps.{logged_writes-one_more, last_images-push, newest-push}
+use Rattle.shore_model.specs.Logs.{has, is_over, is_commit, is_end, id_in, image_in, with_image, logged_writes, answered_by, unanswered, NoOtherChanged, LeavesFree}
 use Rattle.shore_model.proofs.Maps.{get_id}
 use Rattle.shore_sessions.proofs.LogTells.{logged_other, logged_own}
 use Rattle.shore_sessions.proofs.UnansweredChanges.{unanswered_other, unanswered_own}

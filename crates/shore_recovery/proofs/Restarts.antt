@@ -11,7 +11,7 @@ use Rattle.shore_recovery.specs.Restarts.{IsRestartStep, RestartsTo, IsRestartOf
 use Rattle.shore_recovery.specs.Undo.{IsUndoneTo, HasNoLosers}
 use Rattle.shore_recovery.proofs.Invariant.{event_kept, redone_whole}
 use Rattle.shore_recovery.proofs.WritersTold.{leaves_told}
-use Rattle.shore_recovery.proofs.UndoRecords.{undone_lawful, undone_tells, undone_more, undone_front, lawful_next, lawful_front}
+use Rattle.shore_recovery.proofs.UndoRecords.{undone_lawful, undone_tells, undone_more, undone_front, lawful_front}
 
 module _ (found : List LogRecord) where
   same_list : (s new : RecoveryState) → IsRestartOf found s → new.log ≡ s.log → s.durable ≤ new.durable → IsRestartOf found new

@@ -1,6 +1,6 @@
 -- From every lawful log undo comes to an end.
-use Rattle.std.proofs.Common.{◌≡◌, ◌≢◌, ◌⊎◌, inl, inr, ⊎_elim, ◌+◌, ◌<◌, ℕ, zero, suc, List, [], ◌∷◌, ◌++◌, Bool, true, false, cond, map, refl, sym, ap, subst, ◌∙◌, length, drop, arith}
-use Rattle.std.specs.Prelude.{filter, reverse, ◌==◌, ◌&&◌, ◌||◌, not, nat_lt}
+use Rattle.std.proofs.Common.{◌≡◌, ◌≢◌, ◌⊎◌, inl, inr, ⊎_elim, ◌+◌, ◌<◌, ℕ, zero, suc, List, [], ◌∷◌, ◌++◌, true, false, cond, map, refl, sym, ap, subst, ◌∙◌, length, drop, arith}
+use Rattle.std.specs.Prelude.{filter, reverse, ◌==◌, ◌&&◌, not, nat_lt}
 use Rattle.std.specs.List.{enumerate_from}
 use Rattle.std.proofs.lemmas.Bool.{eqb-true, cases_Bool, true≢false, ltb-true, lt-ltb}
 use Rattle.shore_types.specs.declared.ids.Rid.{Rid}
@@ -57,7 +57,7 @@ module _ (log : List LogRecord) (t : ℕ) (loser : IsLoser log t) where
   compensated : (c : UnansweredChange) (cs : List UnansweredChange) → unanswered t log ≡ c ∷ cs → IsLoser after t × (unanswered t after ≡ cs)
   compensated c cs e =
       let is : next.payload ≡ Compensation c.id c.before (undo_next_of cs) = ap undo_payload e in
-      let in_place = last_own log next in (
+      let number = last_own log next in (
         record {
           is_one = loser.is_one;
           known = omega arith;
@@ -145,7 +145,7 @@ has_known q log lawful = by_records (λ xs. (t : ℕ) → has (changes_id q) t x
     one_more : (xs : List LogRecord) (r : LogRecord) → MayFollow xs r → ((t : ℕ) → has (changes_id q) t xs ≡ true → (0 < t) × (0 < last_of t xs)) → (t : ℕ) → has (changes_id q) t (xs ++ r ∷ []) ≡ true → (0 < t) × (0 < last_of t (xs ++ r ∷ []))
     one_more xs r f known t h = ⊎_elim
         (λ own.
-        let in_place = last_own xs r in
+        let number = last_own xs r in
         let last : 0 < last_of r.txn (xs ++ r ∷ []) = omega arith in
         let some : 0 < r.txn = ⊎_elim
         (λ before. (known r.txn before).0)

@@ -11,7 +11,6 @@ use Rattle.shore_model.specs.declared.unanswered_changes.UnansweredChange.{Unans
 use Rattle.shore_model.specs.declared.log_records.LogRecord.{LogRecord}
 use Rattle.shore_model.specs.declared.log_records.Payload.{Payload}
 use Rattle.shore_model.specs.declared.log_records.Payload.TheVariants.{Change, Compensation, Commit, End, Prepare, RollbackDecided, CheckpointBegin, CheckpointEnd, Anchor}
-use Rattle.shore_model.specs.Records.{WriteSet}
 use Rattle.shore_types.specs.Images.{Image}
 use Rattle.shore_model.specs.Logs.{Lawful, MayFollow, MaySay, Answers, has, is_over, is_commit, is_end, image_of_record, logged_writes, answered_by, unanswered}
 use Rattle.shore_model.proofs.Maps.{get_id}

@@ -77,7 +77,7 @@ module _ (t : ℕ) where
   among_prepared (r ∷ log) h =
       one_prepared (r.txn == t) (is_prepare r.payload) (has is_prepare t log) r.txn (filter_map prepare_of log) (eqb-true r.txn t) h (among_prepared log)
 
-in_doubt_parts : (p c r : Bool) → (p && not c && not r) ≡ true → (p ≡ true) × (c ≡ false) × (r ≡ false)
+pub in_doubt_parts : (p c r : Bool) → (p && not c && not r) ≡ true → (p ≡ true) × (c ≡ false) × (r ≡ false)
 in_doubt_parts true false false h = (refl, refl, refl)
 in_doubt_parts true false true h = cc
 in_doubt_parts true true r h = cc

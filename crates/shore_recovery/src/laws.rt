@@ -1,19 +1,21 @@
 //! The laws of recovery, each stated as the contract of an empty function.
-ghost use Rattle.std.specs.Prelude.{◌≡◌, ◌≤◌, ◌+◌, ℕ, List, Some, false, length, map, take, true, slice_get};
+ghost use Rattle.std.specs.Prelude.{◌≡◌, ◌≢◌, ◌≤◌, ◌<◌, ◌+◌, ◌++◌, ◌∷◌, [], ℕ, List, None, Some, false, length, map, take, true, slice_get, unwrap_or};
 ghost use Rattle.std.specs.FinMap.{get};
 ghost use Rattle.std.specs.List.{AllByRecursion};
 ghost use Rattle.shore_types.specs.declared.ids.PageId.{PageId};
 ghost use Rattle.shore_types.specs.declared.ids.Rid.{Rid};
 ghost use Rattle.shore_model.specs.declared.log_records.LogRecord.{LogRecord};
-ghost use Rattle.shore_model.specs.Logs.{Lawful, has, image_in, image_of_record, in_doubt_in, is_over, logged_writes, records_told};
-ghost use Rattle.shore_model.specs.Records.{overlays};
+ghost use Rattle.shore_model.specs.Logs.{Lawful, MayFollow, has, image_in, image_of_record, in_doubt_in, is_commit, is_over, is_prepare, last_of, logged_writes, records_told, unanswered};
+ghost use Rattle.shore_model.specs.Records.{WriteSet, overlays};
 ghost use Rattle.shore_sessions.specs.LogTells.{records_committed};
 ghost use Rattle.shore_sessions.specs.Views.{IsAmong};
 ghost use Rattle.shore_recovery.specs.Pages.{LoggedPage, LoggedPages, LacksNone, AreAsOfOwnNumbers, PagesLackNone, redone_on, rid_on};
 ghost use Rattle.shore_recovery.specs.Recovery.{RecoveryState, RecoveryEvent, IsRecoverable, CrashMayLeave, LeadTo, MayCrash, after_crash};
 ghost use Rattle.shore_recovery.specs.Restarts.{IsRestartOf, RestartsTo};
+ghost use Rattle.shore_recovery.specs.Savepoints.{AnswersAbove, HasNoOtherWriter, IsSavedAt};
 ghost use Rattle.shore_recovery.specs.Undo.{HasNoLosers, IsUndoneTo};
-ghost use Rattle.shore_recovery.specs.Writers.{HasOneWriterAtMost, changes_id};
+ghost use Rattle.shore_recovery.specs.UndoChains.{IsUndoChain, LastNamesNext};
+ghost use Rattle.shore_recovery.specs.Writers.{HasOneWriterAtMost, changes_id, image_committed};
 
 /// A page that lacks none of the first n records lacks none of the first n + 1, once the next is redone on it.
 pub fn redo_goes_on()
@@ -68,4 +70,27 @@ pub fn restart_is_repeatable()
 /// From every lawful log there are turns of undo that leave no loser.
 pub fn undo_ends()
     ensures { (log : List LogRecord) → Lawful log → (ts : List ℕ) × (last : List LogRecord) × IsUndoneTo log ts last × HasNoLosers last }
+{}
+
+/// Each unanswered Change stands at its number, and before it the older ones were the unanswered ones. While a transaction has neither prepared
+/// nor ended, its last record says which is to be undone next.
+pub fn undo_follows_the_chain()
+    ensures chain { (log : List LogRecord) (t : ℕ) → IsUndoChain log t (unanswered t log) }
+    ensures next { (log : List LogRecord) (t : ℕ) → Lawful log → 0 < t → has is_prepare t log ≡ false → is_over t log ≡ false →
+        0 < last_of t log → LastNamesNext log t }
+{}
+
+/// A savepoint may be taken of what a transaction has written. It stays right with every record of others and with its own, as long as
+/// Compensations answer Changes above its depth alone; back at its depth, what it saved stands over what is committed by then.
+pub fn savepoints_come_back()
+    ensures taken { (log : List LogRecord) (t : ℕ) (W : WriteSet) →
+        ((id : Rid) → has (changes_id id) t log ≡ false → get W id ≡ None) →
+        ((id : Rid) → HasNoOtherWriter log t id → image_of_record log id ≡ unwrap_or (get W id) (image_committed log id)) →
+        IsSavedAt log t W (length (unanswered t log)) }
+    ensures others { (log : List LogRecord) (r : LogRecord) (t : ℕ) (W : WriteSet) (depth : ℕ) → Lawful log → MayFollow log r →
+        is_over t log ≡ false → IsSavedAt log t W depth → r.txn ≢ t → IsSavedAt (log ++ r ∷ []) t W depth }
+    ensures own { (log : List LogRecord) (r : LogRecord) (W : WriteSet) (depth : ℕ) → MayFollow log r → IsSavedAt log r.txn W depth →
+        is_commit r.payload ≡ false → AnswersAbove log r.txn depth r.payload → IsSavedAt (log ++ r ∷ []) r.txn W depth }
+    ensures back { (log : List LogRecord) (t : ℕ) (W : WriteSet) (id : Rid) → IsSavedAt log t W (length (unanswered t log)) →
+        HasNoOtherWriter log t id → image_of_record log id ≡ unwrap_or (get W id) (image_committed log id) }
 {}
