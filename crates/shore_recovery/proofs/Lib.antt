@@ -1,0 +1,14 @@
+pub mod Booleans
+pub mod CommittedRecords
+pub mod Invariant
+pub mod Numbers
+pub mod OneMore
+pub mod RecordsTold
+pub mod Redo
+pub mod Restarts
+pub mod Savepoints
+pub mod UndoChains
+pub mod UndoEnds
+pub mod UndoRecords
+pub mod Writers
+pub mod WritersTold

@@ -1,0 +1,7 @@
+pub mod Pages
+pub mod Recovery
+pub mod Restarts
+pub mod Savepoints
+pub mod Undo
+pub mod UndoChains
+pub mod Writers
