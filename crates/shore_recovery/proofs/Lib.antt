@@ -1,5 +1,6 @@
 pub mod Booleans
 pub mod CommittedRecords
+pub mod DirtyPages
 pub mod Invariant
 pub mod Numbers
 pub mod OneMore

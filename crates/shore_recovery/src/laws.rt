@@ -1,16 +1,18 @@
 //! The laws of recovery, each stated as the contract of an empty function.
-ghost use Rattle.std.specs.Prelude.{◌≡◌, ◌≢◌, ◌≤◌, ◌<◌, ◌+◌, ◌++◌, ◌∷◌, [], ℕ, List, None, Some, false, length, map, take, true, slice_get, unwrap_or};
+ghost use Rattle.std.specs.Prelude.{◌≡◌, ◌≢◌, ◌≤◌, ◌<◌, ◌+◌, ◌-◌, ◌++◌, ◌∷◌, [], ℕ, List, None, Some, false, length, map, max, take, true, slice_get, unwrap_or};
 ghost use Rattle.std.specs.FinMap.{get};
 ghost use Rattle.std.specs.List.{AllByRecursion};
 ghost use Rattle.shore_types.specs.declared.ids.PageId.{PageId};
 ghost use Rattle.shore_types.specs.declared.ids.Rid.{Rid};
+ghost use Rattle.shore_model.specs.declared.log_records.DirtyPage.{DirtyPage};
 ghost use Rattle.shore_model.specs.declared.log_records.LogRecord.{LogRecord};
 ghost use Rattle.shore_model.specs.Logs.{Lawful, MayFollow, has, image_in, image_of_record, in_doubt_in, is_commit, is_over, is_prepare, last_of, logged_writes, records_told, unanswered};
 ghost use Rattle.shore_model.specs.Records.{WriteSet, overlays};
 ghost use Rattle.shore_sessions.specs.LogTells.{records_committed};
 ghost use Rattle.shore_sessions.specs.Views.{IsAmong};
-ghost use Rattle.shore_recovery.specs.Pages.{LoggedPage, LoggedPages, LacksNone, AreAsOfOwnNumbers, PagesLackNone, redone_on, rid_on};
-ghost use Rattle.shore_recovery.specs.Recovery.{RecoveryState, RecoveryEvent, IsRecoverable, CrashMayLeave, LeadTo, MayCrash, after_crash};
+ghost use Rattle.shore_recovery.specs.DirtyPages.{HasAllUpTo, TableCovers, redo_begins_behind};
+ghost use Rattle.shore_recovery.specs.Pages.{LoggedPage, LoggedPages, IsAsOfOwnNumber, LacksNone, AreAsOfOwnNumbers, PagesLackNone, empty_page, redone_on, rid_on};
+ghost use Rattle.shore_recovery.specs.Recovery.{RecoveryState, RecoveryEvent, IsRecoverable, CrashMayLeave, LeadTo, MayCrash, after_crash, with_page_written};
 ghost use Rattle.shore_recovery.specs.Restarts.{IsRestartOf, RestartsTo};
 ghost use Rattle.shore_recovery.specs.Savepoints.{AnswersAbove, HasNoOtherWriter, IsSavedAt};
 ghost use Rattle.shore_recovery.specs.Undo.{HasNoLosers, IsUndoneTo};
@@ -93,4 +95,27 @@ pub fn savepoints_come_back()
         is_commit r.payload ≡ false → AnswersAbove log r.txn depth r.payload → IsSavedAt (log ++ r ∷ []) r.txn W depth }
     ensures back { (log : List LogRecord) (t : ℕ) (W : WriteSet) (id : Rid) → IsSavedAt log t W (length (unanswered t log)) →
         HasNoOtherWriter log t id → image_of_record log id ≡ unwrap_or (get W id) (image_committed log id) }
+{}
+
+/// By a table of dirty pages that is right, redo may begin behind the record that it gives, and may pass over a page up to the records that it
+/// surely has. The table stays right as the log grows, as pages are flushed, and as a crash cuts the log behind the checkpoint's begin. A page
+/// lacks none of the first n records if none of them that changes it has a number above the page's.
+pub fn redo_may_begin_late()
+    ensures begins { (log : List LogRecord) (begin : ℕ) (dirty : List DirtyPage) (pages : LoggedPages) → TableCovers log begin dirty pages →
+        PagesLackNone log (redo_begins_behind begin dirty) pages }
+    ensures skips { (log : List LogRecord) (p : PageId) (n sure : ℕ) (page : LoggedPage) → n + 1 ≤ sure →
+        LacksNone log p (max n sure) page → LacksNone log p (max (n + 1) sure) page }
+    ensures longer { (log more : List LogRecord) (begin : ℕ) (dirty : List DirtyPage) (pages : LoggedPages) →
+        TableCovers log begin dirty pages → TableCovers (log ++ more) begin dirty pages }
+    ensures flushed { (log : List LogRecord) (begin : ℕ) (dirty : List DirtyPage) (pages : LoggedPages) (p : PageId) (page : LoggedPage) (n : ℕ) →
+        TableCovers log begin dirty pages → begin - 1 ≤ n → LacksNone log p n page → TableCovers log begin dirty (with_page_written pages p page) }
+    ensures cut { (log : List LogRecord) (begin : ℕ) (dirty : List DirtyPage) (pages : LoggedPages) (n : ℕ) → TableCovers log begin dirty pages →
+        begin - 1 ≤ n → ((p : PageId) → (pages p).number ≤ n) → n ≤ length log → TableCovers (take n log) begin dirty pages }
+    ensures one_by_one { (log : List LogRecord) (p : PageId) (page : LoggedPage) (n : ℕ) → n ≤ length log → IsAsOfOwnNumber log p page →
+        HasAllUpTo log p page n → LacksNone log p n page }
+{}
+
+/// The invariant holds of an empty log and empty pages that carry 0.
+pub fn format_is_recoverable()
+    ensures { IsRecoverable (record { log = []; durable = 0; redone = 0; volume = λ p. empty_page; in_place = λ p. empty_page }) }
 {}
