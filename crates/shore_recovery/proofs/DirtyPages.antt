@@ -1,4 +1,4 @@
--- Redo that begins where the table of dirty pages says comes to the same, and the table stays right as the log and the volume go on.
+-- No page lacks a record before the place where redo begins by a table of dirty pages; and what keeps such a table right.
 use Rattle.std.proofs.Common.{◌≡◌, ⊎_elim, ◌≤◌, ◌+◌, ◌-◌, ◌++◌, ℕ, zero, suc, List, [], ◌∷◌, true, false, cond, Option, Some, None, refl, sym, ap, subst, ◌∙◌, arith, length, take, max, min}
 use Rattle.std.specs.Prelude.{slice_get, nat_lt, ◌&&◌}
 use Rattle.std.specs.Ordering.{eq_by_cmp}

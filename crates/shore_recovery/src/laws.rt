@@ -53,8 +53,8 @@ pub fn lawful_lists_leave()
     ensures told { (log : List LogRecord) (id : Rid) → Lawful log → HasNoLosers log → image_of_record log id ≡ get (records_told log) id }
 {}
 
-/// A restart may be cut off at any moment, any number of times, and begun again: its log stays lawful, tells what the first one found, and
-/// has the same transactions in doubt. Once all is redone and no loser is left, the pages in place show what was found.
+/// However often a restart loses power, the log that it works on stays lawful, tells just what that log told which was found at first, and has
+/// the same transactions in doubt. Once all is redone and no loser is left, the pages in place show what was found.
 pub fn restart_is_repeatable()
     ensures goes_on { (found : List LogRecord) (s : RecoveryState) (events : List RecoveryEvent) (last : RecoveryState) → IsRecoverable s →
         IsRestartOf found s → RestartsTo s events last → IsRecoverable last × IsRestartOf found last }
@@ -97,9 +97,9 @@ pub fn savepoints_come_back()
         HasNoOtherWriter log t id → image_of_record log id ≡ unwrap_or (get W id) (image_committed log id) }
 {}
 
-/// By a table of dirty pages that is right, redo may begin behind the record that it gives, and may pass over a page up to the records that it
-/// surely has. The table stays right as the log grows, as pages are flushed, and as a crash cuts the log behind the checkpoint's begin. A page
-/// lacks none of the first n records if none of them that changes it has a number above the page's.
+/// By a right table of dirty pages, redo may begin behind the record that it gives, and may pass over a page up to the records that it surely
+/// has. A longer log, a flush, and a crash that cuts the log behind the checkpoint's begin leave it right. Whether a page lacks a record can be
+/// seen one by one: it lacks none of the first n if all of them that change it have numbers up to its own.
 pub fn redo_may_begin_late()
     ensures begins { (log : List LogRecord) (begin : ℕ) (dirty : List DirtyPage) (pages : LoggedPages) → TableCovers log begin dirty pages →
         PagesLackNone log (redo_begins_behind begin dirty) pages }
