@@ -1,4 +1,5 @@
 pub mod Booleans
+pub mod ComesThrough
 pub mod CommittedRecords
 pub mod DirtyPages
 pub mod Invariant

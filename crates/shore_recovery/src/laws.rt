@@ -119,3 +119,9 @@ pub fn redo_may_begin_late()
 pub fn format_is_recoverable()
     ensures { IsRecoverable (record { log = []; durable = 0; redone = 0; volume = λ p. empty_page; in_place = λ p. empty_page }) }
 {}
+
+/// From every state of a lawful log there are steps of a restart after which all is redone and no loser is left.
+pub fn restarts_can_come_through()
+    ensures { (s : RecoveryState) → IsRecoverable s → Lawful s.log →
+        (events : List RecoveryEvent) × (last : RecoveryState) × RestartsTo s events last × (last.redone ≡ length last.log) × HasNoLosers last.log }
+{}
