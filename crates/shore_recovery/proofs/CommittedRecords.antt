@@ -1,4 +1,4 @@
--- What the committed transactions leave, with one more record.
+-- One more record that is no Commit leaves the committed records as they are.
 use Rattle.std.proofs.Common.{◌≡◌, ◌≢◌, ℕ, List, [], ◌∷◌, ◌++◌, Bool, true, false, cond, Some, None, sym, ap, ◌∙◌}
 use Rattle.std.specs.Prelude.{◌==◌, ◌&&◌}
 use Rattle.std.specs.List.{AllByRecursion, cons_option}
@@ -18,7 +18,7 @@ other_first true t u us h rest =
     (λ e. let yes : (u == t) ≡ true = eq-eqb u t e in let clash : true ≡ false = ap (λ b. b && true) (sym yes) ∙ h in cc, rest)
 other_first false t u us h rest = rest
 
--- who has no Commit is not among the committed
+-- the committed are others than one without a Commit
 uncommitted_apart : (t : ℕ) (log : List LogRecord) → has is_commit t log ≡ false → AreOthers t (committed_in log)
 uncommitted_apart t [] h = tt
 uncommitted_apart t (r ∷ log) h =

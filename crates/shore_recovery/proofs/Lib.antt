@@ -1,5 +1,7 @@
 pub mod Booleans
+pub mod ComesThrough
 pub mod CommittedRecords
+pub mod DirtyPages
 pub mod Invariant
 pub mod Numbers
 pub mod OneMore

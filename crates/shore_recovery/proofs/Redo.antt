@@ -15,8 +15,9 @@ use Rattle.shore_model.specs.declared.log_records.LogRecord.{LogRecord}
 use Rattle.shore_model.specs.Records.{WriteSet}
 use Rattle.shore_types.specs.Images.{Image}
 use Rattle.shore_model.specs.Logs.{image_in, image_of_record, last_images, with_image}
+use Rattle.shore_model.proofs.Maps.{get_id}
 use Rattle.shore_model.proofs.LogSteps.{last_images-push}
-use Rattle.shore_recovery.specs.Pages.{LoggedPage, IsAsOf, IsAsOfOwnNumber, LacksNone, rid_on, slots_with, needs_redo, redone_on}
+use Rattle.shore_recovery.specs.Pages.{LoggedPage, IsAsOf, IsAsOfOwnNumber, LacksNone, empty_page, rid_on, slots_with, needs_redo, redone_on}
 use Rattle.shore_recovery.proofs.Booleans.{and_true}
 use Rattle.shore_sessions.proofs.Lists.{within_or_beyond}
 
@@ -177,3 +178,12 @@ module _ (log : List LogRecord) (p : PageId) (n : ℕ) (page : LoggedPage) (h : 
 
 pub lacks_none_yet : (log : List LogRecord) (p : PageId) (page : LoggedPage) → IsAsOfOwnNumber log p page → LacksNone log p 0 page
 lacks_none_yet log p page h = record { each = λ m least most. let same : page.number ≡ m = omega arith in subst (λ k. IsAsOf log p k page) same h }
+
+-- ---- a format
+
+pub empty_page_stands : (p : PageId) → IsAsOfOwnNumber [] p empty_page
+empty_page_stands p = record {
+  number = omega arith;
+  within = omega arith;
+  slots = λ i. sym (ap (λ o. unwrap_or o None) (get_id [] (rid_on p i)));
+}

@@ -1,4 +1,4 @@
--- A restart that is cut off any number of times and begun again, and what it shows once it is through.
+-- Each step of a restart, a crash too, leaves a restart of what was found first; and what the pages show once it is through.
 use Rattle.std.proofs.Common.{◌≡◌, ◌≤◌, take, length-take, ℕ, List, [], ◌∷◌, ◌++◌, refl, sym, ap, subst, ◌∙◌, length, arith}
 use Rattle.std.specs.Prelude.{slice_get, Option, Some, None, IsSomeAnd}
 use Rattle.std.specs.FinMap.{get}

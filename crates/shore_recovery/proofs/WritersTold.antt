@@ -83,7 +83,7 @@ in_doubt_parts true false true h = cc
 in_doubt_parts true true r h = cc
 in_doubt_parts false c r h = cc
 
--- ---- who is in doubt has not ended
+-- ---- in doubt is not ended
 
 abbrev EndsUndone : List LogRecord → Type 0
 EndsUndone log = (t : ℕ) → has is_end t log ≡ true → is_undoable t log ≡ true

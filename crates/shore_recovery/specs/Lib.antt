@@ -1,3 +1,4 @@
+pub mod DirtyPages
 pub mod Pages
 pub mod Recovery
 pub mod Restarts

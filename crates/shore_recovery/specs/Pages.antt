@@ -16,6 +16,9 @@ pub record LoggedPage : Type 0 where
 abbrev pub LoggedPages : Type 0
 LoggedPages = PageId → LoggedPage
 
+abbrev pub empty_page : LoggedPage
+empty_page = record { number = 0; slots = λ i. None }
+
 -- the id of a slot of the page
 abbrev pub rid_on : PageId → ℕ → Rid
 rid_on p i = record { page = p; slot = i }

@@ -1,4 +1,4 @@
--- A log and pages as a machine over plain data. A page may be written back while the transactions that changed it run (ARIES: steal),
+-- A log, a volume and the pages in place, step by step. A page may be written back while the transactions that changed it run (ARIES: steal),
 -- and none has to be at a commit (no-force); the write-ahead rule alone says when. Power may be lost after any step.
 use Rattle.std.specs.Prelude.{◌≡◌, ◌≤◌, ◌⊎◌, ◌+◌, ℕ, List, [], ◌∷◌, ◌++◌, length, take, slice_get, IsSomeAnd, if◌then◌else◌}
 use Rattle.std.specs.Ordering.{eq_by_cmp}

@@ -1,4 +1,4 @@
--- A restart as a run of the machine: redo, undo of the losers, forces and flushes, and loss of power at any moment of it.
+-- What a restart may do: every step of the machine, crashes among them, if the records that it appends are records of undo.
 use Rattle.std.specs.Prelude.{◌≡◌, ◌≤◌, ℕ, List, [], ◌∷◌, length}
 use Rattle.shore_model.specs.declared.log_records.LogRecord.{LogRecord}
 use Rattle.shore_recovery.specs.Recovery.{RecoveryState, RecoveryEvent, AppendRecord, LeadsTo}

@@ -8,7 +8,7 @@ use Rattle.shore_model.specs.declared.log_records.Payload.TheVariants.{Compensat
 use Rattle.shore_model.specs.Logs.{has, is_over, is_in_doubt, last_of, unanswered, undo_next_of}
 use Rattle.shore_recovery.specs.Writers.{changes_id}
 
--- a loser: a transaction that has a record, has not ended, and is not in doubt
+-- a loser (ARIES: loser transaction): it has left a record, and neither ended nor came to be in doubt
 pub record IsLoser (log : List LogRecord) (t : ℕ) : Type 0 where
   pub is_one : 0 < t
   pub known : 0 < last_of t log
@@ -29,6 +29,6 @@ abbrev pub IsUndoneTo : List LogRecord → List ℕ → List LogRecord → Type 
 IsUndoneTo log [] last = last ≡ log
 IsUndoneTo log (t ∷ ts) last = IsLoser log t × IsUndoneTo (log ++ undo_record log t ∷ []) ts last
 
--- each transaction that has changed a record has ended or is in doubt
+-- whoever has changed a record and not ended is in doubt
 abbrev pub HasNoLosers : List LogRecord → Type 0
 HasNoLosers log = (t : ℕ) (id : Rid) → has (changes_id id) t log ≡ true → is_over t log ≡ false → is_in_doubt t log ≡ true

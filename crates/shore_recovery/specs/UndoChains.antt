@@ -1,4 +1,4 @@
--- How a restart finds what to undo next by reading one record at a time (ARIES: PrevLSN and UndoNxtLSN).
+-- Undo needs no table of Changes: each record leads to the next Change to be undone (ARIES: PrevLSN and UndoNxtLSN).
 use Rattle.std.specs.Prelude.{◌≡◌, ◌<◌, ◌-◌, ℕ, List, [], ◌∷◌, Some, slice_get, take}
 use Rattle.shore_types.specs.Images.{Image}
 use Rattle.shore_model.specs.declared.unanswered_changes.UnansweredChange.{UnansweredChange}
@@ -27,7 +27,7 @@ next_named_by n (Change id before image) = n
 next_named_by n (Compensation id image undo_next) = undo_next
 next_named_by n _ = 0
 
--- the transaction's last record says what is to be undone next
+-- of what is left to undo, the transaction's last record gives the next number
 pub record LastNamesNext (log : List LogRecord) (t : ℕ) : Type 0 where
   pub is_one : 0 < last_of t log
   pub found : LogRecord

@@ -1,16 +1,18 @@
 //! The laws of recovery, each stated as the contract of an empty function.
-ghost use Rattle.std.specs.Prelude.{◌≡◌, ◌≢◌, ◌≤◌, ◌<◌, ◌+◌, ◌++◌, ◌∷◌, [], ℕ, List, None, Some, false, length, map, take, true, slice_get, unwrap_or};
+ghost use Rattle.std.specs.Prelude.{◌≡◌, ◌≢◌, ◌≤◌, ◌<◌, ◌+◌, ◌-◌, ◌++◌, ◌∷◌, [], ℕ, List, None, Some, false, length, map, max, take, true, slice_get, unwrap_or};
 ghost use Rattle.std.specs.FinMap.{get};
 ghost use Rattle.std.specs.List.{AllByRecursion};
 ghost use Rattle.shore_types.specs.declared.ids.PageId.{PageId};
 ghost use Rattle.shore_types.specs.declared.ids.Rid.{Rid};
+ghost use Rattle.shore_model.specs.declared.log_records.DirtyPage.{DirtyPage};
 ghost use Rattle.shore_model.specs.declared.log_records.LogRecord.{LogRecord};
 ghost use Rattle.shore_model.specs.Logs.{Lawful, MayFollow, has, image_in, image_of_record, in_doubt_in, is_commit, is_over, is_prepare, last_of, logged_writes, records_told, unanswered};
 ghost use Rattle.shore_model.specs.Records.{WriteSet, overlays};
 ghost use Rattle.shore_sessions.specs.LogTells.{records_committed};
 ghost use Rattle.shore_sessions.specs.Views.{IsAmong};
-ghost use Rattle.shore_recovery.specs.Pages.{LoggedPage, LoggedPages, LacksNone, AreAsOfOwnNumbers, PagesLackNone, redone_on, rid_on};
-ghost use Rattle.shore_recovery.specs.Recovery.{RecoveryState, RecoveryEvent, IsRecoverable, CrashMayLeave, LeadTo, MayCrash, after_crash};
+ghost use Rattle.shore_recovery.specs.DirtyPages.{HasAllUpTo, TableCovers, redo_begins_behind};
+ghost use Rattle.shore_recovery.specs.Pages.{LoggedPage, LoggedPages, IsAsOfOwnNumber, LacksNone, AreAsOfOwnNumbers, PagesLackNone, empty_page, redone_on, rid_on};
+ghost use Rattle.shore_recovery.specs.Recovery.{RecoveryState, RecoveryEvent, IsRecoverable, CrashMayLeave, LeadTo, MayCrash, after_crash, with_page_written};
 ghost use Rattle.shore_recovery.specs.Restarts.{IsRestartOf, RestartsTo};
 ghost use Rattle.shore_recovery.specs.Savepoints.{AnswersAbove, HasNoOtherWriter, IsSavedAt};
 ghost use Rattle.shore_recovery.specs.Undo.{HasNoLosers, IsUndoneTo};
@@ -51,8 +53,8 @@ pub fn lawful_lists_leave()
     ensures told { (log : List LogRecord) (id : Rid) → Lawful log → HasNoLosers log → image_of_record log id ≡ get (records_told log) id }
 {}
 
-/// A restart may be cut off at any moment, any number of times, and begun again: its log stays lawful, tells what the first one found, and
-/// has the same transactions in doubt. Once all is redone and no loser is left, the pages in place show what was found.
+/// However often a restart loses power, the log that it works on stays lawful, tells just what that log told which was found at first, and has
+/// the same transactions in doubt. Once all is redone and no loser is left, the pages in place show what was found.
 pub fn restart_is_repeatable()
     ensures goes_on { (found : List LogRecord) (s : RecoveryState) (events : List RecoveryEvent) (last : RecoveryState) → IsRecoverable s →
         IsRestartOf found s → RestartsTo s events last → IsRecoverable last × IsRestartOf found last }
@@ -93,4 +95,33 @@ pub fn savepoints_come_back()
         is_commit r.payload ≡ false → AnswersAbove log r.txn depth r.payload → IsSavedAt (log ++ r ∷ []) r.txn W depth }
     ensures back { (log : List LogRecord) (t : ℕ) (W : WriteSet) (id : Rid) → IsSavedAt log t W (length (unanswered t log)) →
         HasNoOtherWriter log t id → image_of_record log id ≡ unwrap_or (get W id) (image_committed log id) }
+{}
+
+/// By a right table of dirty pages, redo may begin behind the record that it gives, and may pass over a page up to the records that it surely
+/// has. A longer log, a flush, and a crash that cuts the log behind the checkpoint's begin leave it right. Whether a page lacks a record can be
+/// seen one by one: it lacks none of the first n if all of them that change it have numbers up to its own.
+pub fn redo_may_begin_late()
+    ensures begins { (log : List LogRecord) (begin : ℕ) (dirty : List DirtyPage) (pages : LoggedPages) → TableCovers log begin dirty pages →
+        PagesLackNone log (redo_begins_behind begin dirty) pages }
+    ensures skips { (log : List LogRecord) (p : PageId) (n sure : ℕ) (page : LoggedPage) → n + 1 ≤ sure →
+        LacksNone log p (max n sure) page → LacksNone log p (max (n + 1) sure) page }
+    ensures longer { (log more : List LogRecord) (begin : ℕ) (dirty : List DirtyPage) (pages : LoggedPages) →
+        TableCovers log begin dirty pages → TableCovers (log ++ more) begin dirty pages }
+    ensures flushed { (log : List LogRecord) (begin : ℕ) (dirty : List DirtyPage) (pages : LoggedPages) (p : PageId) (page : LoggedPage) (n : ℕ) →
+        TableCovers log begin dirty pages → begin - 1 ≤ n → LacksNone log p n page → TableCovers log begin dirty (with_page_written pages p page) }
+    ensures cut { (log : List LogRecord) (begin : ℕ) (dirty : List DirtyPage) (pages : LoggedPages) (n : ℕ) → TableCovers log begin dirty pages →
+        begin - 1 ≤ n → ((p : PageId) → (pages p).number ≤ n) → n ≤ length log → TableCovers (take n log) begin dirty pages }
+    ensures one_by_one { (log : List LogRecord) (p : PageId) (page : LoggedPage) (n : ℕ) → n ≤ length log → IsAsOfOwnNumber log p page →
+        HasAllUpTo log p page n → LacksNone log p n page }
+{}
+
+/// The invariant holds of an empty log and empty pages that carry 0.
+pub fn format_is_recoverable()
+    ensures { IsRecoverable (record { log = []; durable = 0; redone = 0; volume = λ p. empty_page; in_place = λ p. empty_page }) }
+{}
+
+/// From every state of a lawful log there are steps of a restart after which all is redone and no loser is left.
+pub fn restarts_can_come_through()
+    ensures { (s : RecoveryState) → IsRecoverable s → Lawful s.log →
+        (events : List RecoveryEvent) × (last : RecoveryState) × RestartsTo s events last × (last.redone ≡ length last.log) × HasNoLosers last.log }
 {}
