@@ -111,14 +111,14 @@ module _ (a b : Rid) (differ : a ≢ b) where
   -- ---- events
 
   module _ (o : Records) (x y z : List ℕ) (at_a : get o a ≡ Some x) (at_b : get o b ≡ Some y) where
-    abbrev R1 : Records
-    R1 = put_image o b (Some z)
+    abbrev after_change : Records
+    after_change = put_image o b (Some z)
 
-    abbrev R2 : Records
-    R2 = put_image R1 b None
+    abbrev after_delete : Records
+    after_delete = put_image after_change b None
 
-    abbrev R3 : Records
-    R3 = put_image R2 b (get R1 b)
+    abbrev after_undo : Records
+    after_undo = put_image after_delete b (get after_change b)
 
     abbrev s1 : Sessions
     s1 = txn_begun (just_opened o) 1
@@ -163,11 +163,11 @@ module _ (a b : Rid) (differ : a ≢ b) where
     second_is_idle c current e =
         ⊎_elim (λ h. ⊎_elim (λ same. one_differs_two c.session (ap (λ (c : SessionTxn). c.session) same) e) (λ none. none) h) (λ none. none) current
 
-    a_stays : get R3 a ≡ Some x
-    a_stays = other_image R2 (get R1 b) ∙ other_image R1 None ∙ other_image o (Some z) ∙ at_a
+    a_stays : get after_undo a ≡ Some x
+    a_stays = other_image after_delete (get after_change b) ∙ other_image after_change None ∙ other_image o (Some z) ∙ at_a
 
-    b_is_new : get R3 b ≡ Some z
-    b_is_new = put_here R2 b (get R1 b) ∙ put_here o b (Some z)
+    b_is_new : get after_undo b ≡ Some z
+    b_is_new = put_here after_delete b (get after_change b) ∙ put_here o b (Some z)
 
     pub interleave : (last : Sessions) × (made : List Entry) × RunsTo (just_opened o) (interleaved o a b x z) [] last made × (get last.records b ≡ Some z)
     interleave =
@@ -202,7 +202,7 @@ module _ (a b : Rid) (differ : a ≢ b) where
                             (inl refl, refl),
                             (
                               s10,
-                              (inl refl, tt, (reads, got R3 x a_stays), refl),
+                              (inl refl, tt, (reads, got after_undo x a_stays), refl),
                               (
                                 s11,
                                 (inl refl, refl),
