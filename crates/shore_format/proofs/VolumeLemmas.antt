@@ -6,9 +6,9 @@ use Rattle.shore_types.specs.declared.faults.Device.TheVariants.{Log, Volume}
 use Rattle.shore_types.specs.declared.ids.PageId.{PageId}
 use Rattle.shore_types.specs.declared.layout.Geometry.{Geometry}
 use Rattle.shore_types.specs.Layout.{HasPage, IsInLimits}
-use Rattle.shore_disk.specs.Device.{History, size, seen, noted, wrote, may_leave, overwritten, Writes, LeavesOnly}
+use Rattle.shore_disk.specs.Device.{History, size, seen, noted, wrote, may_leave, Stands, overwritten, Writes, LeavesOnly}
 use Rattle.shore_disk.proofs.Images.{overwritten-append}
-use Rattle.shore_disk.proofs.Moments.{started}
+use Rattle.shore_disk.proofs.Moments.{at_end, joined, started}
 use Rattle.shore_gate.specs.declared.gates.TheConstants.{OPEN, CLOSED}
 use Rattle.shore_gate.specs.declared.labels.Label.{Label}
 use Rattle.shore_gate.specs.Label.{HasLabel, HoldsLabel, label_bytes}
@@ -22,7 +22,7 @@ use Rattle.shore_dwrite.proofs.PageWrites.{page_here, page_beside}
 use Rattle.shore_format.specs.Fronts.{IsShut, log_label}
 use Rattle.shore_format.specs.Pairs.{ArePaired}
 use Rattle.shore_format.specs.Volumes.{HasEmptyPages, IsEmptyBehind, VolumeStandsFor, volume_bytes, volume_label}
-use Rattle.shore_format.proofs.FrontLemmas.{shut_torn}
+use Rattle.shore_format.proofs.FrontLemmas.{label_leaves, shut_torn}
 
 -- ---- the labels of a pair
 
@@ -40,6 +40,21 @@ paired log volume a b of_log of_volume same =
       subst (HoldsLabel Log (size log) (take 512 (seen log))) log_is of_log,
       subst (HasLabel Volume volume) volume_is of_volume,
     )
+
+-- ---- the label and the gate of the area
+
+-- a crash behind both writes, or in one that failed, leaves the gate of the label closed
+pub gated_moments : {E F : Type 0} (label gate rest : List ℕ) (r : Result Unit E) (s : Result Unit F) (old labelled gated : History) → length label ≡ 511 → Stands old (CLOSED ∷ rest)
+    → Writes 1 label r old labelled → Writes 4096 gate s labelled gated → LeavesOnly old gated IsShut
+gated_moments label gate rest r s old labelled gated long stands one two =
+    write_more old labelled gated IsShut 4096 gate s (label_leaves label r old labelled rest long stands one) two (λ c d shut torn. shut_torn 4096 (length gate) d c (omega arith) shut torn)
+
+-- .. and behind the pages too
+pub paged_moments : {E F : Type 0} (label gate rest : List ℕ) (r : Result Unit E) (s : Result Unit F) (old labelled gated paged : History) → length label ≡ 511 → Stands old (CLOSED ∷ rest)
+    → Writes 1 label r old labelled → Writes 4096 gate s labelled gated → (((c : List ℕ) → may_leave gated c → IsShut c) → LeavesOnly gated paged IsShut) → LeavesOnly old paged IsShut
+paged_moments label gate rest r s old labelled gated paged long stands one two pages =
+    let both = gated_moments label gate rest r s old labelled gated long stands one two in
+    joined old gated paged IsShut both (pages (at_end old gated IsShut both))
 
 -- ---- pages, one after another
 

@@ -1,16 +1,15 @@
 use Rattle.std.proofs.Common.{◌≡◌, ◌≤◌, ◌+◌, ◌*◌, ◌∷◌, [], ℕ, List, IsTrue, length, drop, sym, ◌∙◌, ap, subst, arith}
 use Rattle.shore_types.specs.declared.faults.Device.TheVariants.{Volume}
 use Rattle.shore_disk.specs.Device.{History, Stands, overwritten, seen}
-use Rattle.shore_disk.proofs.Moments.{joined, at_end}
-use Rattle.shore_dwrite.proofs.Moves.{write_more, sync_more, synced_stands}
+use Rattle.shore_dwrite.proofs.Moves.{sync_more, synced_stands}
 use Rattle.shore_gate.specs.declared.gates.TheConstants.{CLOSED}
 use Rattle.shore_gate.specs.declared.labels.Label.{Label}
 use Rattle.shore_gate.specs.Label.{label_bytes}
 use Rattle.shore_gate.proofs.WidthLemmas.{length-label_bytes}
 use Rattle.shore_format.specs.Fronts.{IsShut}
 use Rattle.shore_format.specs.Volumes.{volume_label}
-use Rattle.shore_format.proofs.FrontLemmas.{label_leaves, shut_torn}
-use Rattle.shore_format.proofs.VolumeLemmas.{closed_is, empty_behind}
+use Rattle.shore_format.proofs.FrontLemmas.{label_leaves}
+use Rattle.shore_format.proofs.VolumeLemmas.{closed_is, empty_behind, gated_moments, paged_moments}
 use Rattle.shore_format.proofs.volume.write_volume.Goals as goal
 
 pub returns-in_err-write_label-clause-any_moment : goal.returns-in_err-write_label-clause-any_moment
@@ -21,40 +20,31 @@ returns-in_err-write_label-clause-any_moment g c honest rest stands =
 pub returns-in_err-write_at-clause-any_moment : goal.returns-in_err-write_at-clause-any_moment
 returns-in_err-write_at-clause-any_moment g c honest rest stands =
     let few : length c.args.label.now.stores ≤ 64 = subst (λ (l : Label). length l.stores ≤ 64) (sym c.requires.label) c.requires.limits.0.count in
-    let one = label_leaves _ c.write_label.result _ _ rest (length-label_bytes Volume c.args.label.now few) stands (c.write_label.ensures.written honest) in
     let two = subst IsTrue (sym c.write_label.ensures.honest) honest in
-    write_more _ _ _ IsShut 4096 _ c.write_at.result one (c.write_at.ensures.written two) (λ i d s torn. shut_torn 4096 _ d i (omega arith) s torn)
+    gated_moments _ _ rest c.write_label.result c.write_at.result _ _ _ (length-label_bytes Volume c.args.label.now few) stands (c.write_label.ensures.written honest) (c.write_at.ensures.written two)
 
 pub returns-in_err-write_pages-clause-any_moment : goal.returns-in_err-write_pages-clause-any_moment
 returns-in_err-write_pages-clause-any_moment g c honest rest stands =
     let few : length c.args.label.now.stores ≤ 64 = subst (λ (l : Label). length l.stores ≤ 64) (sym c.requires.label) c.requires.limits.0.count in
-    let one = label_leaves _ c.write_label.result _ _ rest (length-label_bytes Volume c.args.label.now few) stands (c.write_label.ensures.written honest) in
     let two = subst IsTrue (sym c.write_label.ensures.honest) honest in
     let three = subst IsTrue (sym c.write_at.ensures.honest) two in
-    let gated = write_more _ _ _ IsShut 4096 _ c.write_at.result one (c.write_at.ensures.written two) (λ i d s torn. shut_torn 4096 _ d i (omega arith) s torn) in
-    joined _ _ _ IsShut gated (c.write_pages.ensures.any_moment three (at_end _ _ IsShut gated))
+    paged_moments _ _ rest c.write_label.result c.write_at.result _ _ _ _ (length-label_bytes Volume c.args.label.now few) stands (c.write_label.ensures.written honest) (c.write_at.ensures.written two) (c.write_pages.ensures.any_moment three)
 
 pub returns-in_err-sync-clause-any_moment : goal.returns-in_err-sync-clause-any_moment
 returns-in_err-sync-clause-any_moment g c honest rest stands =
     let few : length c.args.label.now.stores ≤ 64 = subst (λ (l : Label). length l.stores ≤ 64) (sym c.requires.label) c.requires.limits.0.count in
-    let one = label_leaves _ c.write_label.result _ _ rest (length-label_bytes Volume c.args.label.now few) stands (c.write_label.ensures.written honest) in
     let two = subst IsTrue (sym c.write_label.ensures.honest) honest in
     let three = subst IsTrue (sym c.write_at.ensures.honest) two in
     let four = subst IsTrue (sym c.write_pages.ensures.honest) three in
-    let gated = write_more _ _ _ IsShut 4096 _ c.write_at.result one (c.write_at.ensures.written two) (λ i d s torn. shut_torn 4096 _ d i (omega arith) s torn) in
-    let all = joined _ _ _ IsShut gated (c.write_pages.ensures.any_moment three (at_end _ _ IsShut gated)) in
-    sync_more _ _ _ IsShut c.sync.result all (c.sync.ensures.synced four)
+    sync_more _ _ _ IsShut c.sync.result (paged_moments _ _ rest c.write_label.result c.write_at.result _ _ _ _ (length-label_bytes Volume c.args.label.now few) stands (c.write_label.ensures.written honest) (c.write_at.ensures.written two) (c.write_pages.ensures.any_moment three)) (c.sync.ensures.synced four)
 
 pub returns-clause-any_moment : goal.returns-clause-any_moment
 returns-clause-any_moment g c honest rest stands =
     let few : length c.args.label.now.stores ≤ 64 = subst (λ (l : Label). length l.stores ≤ 64) (sym c.requires.label) c.requires.limits.0.count in
-    let one = label_leaves _ c.write_label.result _ _ rest (length-label_bytes Volume c.args.label.now few) stands (c.write_label.ensures.written honest) in
     let two = subst IsTrue (sym c.write_label.ensures.honest) honest in
     let three = subst IsTrue (sym c.write_at.ensures.honest) two in
     let four = subst IsTrue (sym c.write_pages.ensures.honest) three in
-    let gated = write_more _ _ _ IsShut 4096 _ c.write_at.result one (c.write_at.ensures.written two) (λ i d s torn. shut_torn 4096 _ d i (omega arith) s torn) in
-    let all = joined _ _ _ IsShut gated (c.write_pages.ensures.any_moment three (at_end _ _ IsShut gated)) in
-    sync_more _ _ _ IsShut c.sync.result all (c.sync.ensures.synced four)
+    sync_more _ _ _ IsShut c.sync.result (paged_moments _ _ rest c.write_label.result c.write_at.result _ _ _ _ (length-label_bytes Volume c.args.label.now few) stands (c.write_label.ensures.written honest) (c.write_at.ensures.written two) (c.write_pages.ensures.any_moment three)) (c.sync.ensures.synced four)
 
 pub returns-clause-stands : goal.returns-clause-stands
 returns-clause-stands g c honest rest stands =
