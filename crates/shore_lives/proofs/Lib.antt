@@ -1,0 +1,3 @@
+pub mod WholeLogs
+pub mod WholeRuns
+pub mod WholeSteps
