@@ -1,3 +1,9 @@
+pub mod Acknowledged
+pub mod AtWork
+pub mod Failing
+pub mod Openings
+pub mod Stretches
 pub mod WholeLogs
 pub mod WholeRuns
 pub mod WholeSteps
+pub mod Works

@@ -1,17 +1,20 @@
 //! The laws of lives, each stated as the contract of an empty function.
-ghost use Rattle.std.specs.Prelude.{◌≡◌, [], ℕ, List, take};
+ghost use Rattle.std.specs.Prelude.{◌≡◌, ◌≤◌, [], ℕ, List, length, take};
 ghost use Rattle.std.specs.FinMap.{get};
 ghost use Rattle.shore_types.specs.declared.ids.Rid.{Rid};
 ghost use Rattle.shore_model.specs.declared.histories.Entry.{Entry};
 ghost use Rattle.shore_model.specs.declared.log_records.LogRecord.{LogRecord};
-ghost use Rattle.shore_model.specs.Histories.{IsHistory, Sound};
+ghost use Rattle.shore_model.specs.Histories.{IsHistory, Kept, Sound, serial};
 ghost use Rattle.shore_model.specs.Logs.{Lawful, image_of_record, records_told};
 ghost use Rattle.shore_model.specs.Records.{Records};
+ghost use Rattle.shore_recovery.specs.Recovery.{IsRecoverable, RecoveryState};
+ghost use Rattle.shore_sessions.specs.LogPrefixes.{decisions_in};
 ghost use Rattle.shore_sessions.specs.LogTells.{IsLogAfter};
 ghost use Rattle.shore_sessions.specs.Logged.{log_after};
 ghost use Rattle.shore_sessions.specs.SessionSteps.{SessionEvent, StepsTo};
 ghost use Rattle.shore_sessions.specs.Sessions.{Sessions};
-ghost use Rattle.shore_sessions.specs.Soundness.{IsSoundAfter, history_from};
+ghost use Rattle.shore_sessions.specs.Soundness.{IsSoundAfter, history_from, written_by};
+ghost use Rattle.shore_lives.specs.Stretches.{IsUpAfter, MayBeFound, MayFailAs, Stretch};
 ghost use Rattle.shore_lives.specs.WholeLogs.{IsOpenOn, IsWholeLog, RunsWithLog};
 
 /// Each event of the sessions keeps the log whole, and a whole log leaves at each id the record in place. So it is after any events from an
@@ -26,4 +29,21 @@ pub fn lists_are_whole()
         Lawful log × ((n : ℕ) → Lawful (take n log)) × IsWholeLog log last × IsLogAfter (records_told found) made last log
         × ((id : Rid) → image_of_record log id ≡ get last.records id)
         × IsHistory (history_from (records_told found) made) × Sound (history_from (records_told found) made) }
+{}
+
+/// A manager that has opened over a restart, with crashes in it or none, and works on, with pages flushed whenever the write-ahead rule lets
+/// them be: the open showed what the found log tells, the history is sound, the log lawful, and the pages have the records in place. Whenever
+/// power is lost, in the midst of an event too, each prefix of the log that has all that is durable keeps every acknowledged decision, and
+/// tells the serial records of the decisions that it has.
+pub fn managers_stay_up()
+    ensures opens { (s : RecoveryState) (l : Stretch) → MayBeFound s → IsUpAfter s l → l.first.records ≡ records_told s.log }
+    ensures sound { (s : RecoveryState) (l : Stretch) → MayBeFound s → IsUpAfter s l →
+        IsHistory (history_from (records_told s.log) l.made) × Sound (history_from (records_told s.log) l.made)
+        × Lawful l.last.store.log × IsRecoverable l.last.store }
+    ensures pages { (s : RecoveryState) (l : Stretch) (id : Rid) → MayBeFound s → IsUpAfter s l →
+        (l.last.store.in_place id.page).slots id.slot ≡ get l.last.sessions.records id }
+    ensures kept { (s : RecoveryState) (l : Stretch) (failing : RecoveryState) (n : ℕ) → MayBeFound s → IsUpAfter s l → MayFailAs l.last failing →
+        failing.durable ≤ n → n ≤ length failing.log →
+        Kept l.made (decisions_in (length s.log) (take n failing.log))
+        × (records_told (take n failing.log) ≡ serial (written_by l.made) (records_told s.log) (decisions_in (length s.log) (take n failing.log))) }
 {}
