@@ -1,6 +1,7 @@
 pub mod Acknowledged
 pub mod AtWork
 pub mod Failing
+pub mod Lives
 pub mod Openings
 pub mod Stretches
 pub mod WholeLogs

@@ -5,6 +5,7 @@ ghost use Rattle.shore_types.specs.declared.ids.Rid.{Rid};
 ghost use Rattle.shore_model.specs.declared.histories.Entry.{Entry};
 ghost use Rattle.shore_model.specs.declared.log_records.LogRecord.{LogRecord};
 ghost use Rattle.shore_model.specs.Histories.{IsHistory, Kept, Sound, serial};
+ghost use Rattle.shore_model.specs.Lives.{IsLife};
 ghost use Rattle.shore_model.specs.Logs.{Lawful, image_of_record, records_told};
 ghost use Rattle.shore_model.specs.Records.{Records};
 ghost use Rattle.shore_recovery.specs.Recovery.{IsRecoverable, RecoveryState};
@@ -14,7 +15,7 @@ ghost use Rattle.shore_sessions.specs.Logged.{log_after};
 ghost use Rattle.shore_sessions.specs.SessionSteps.{SessionEvent, StepsTo};
 ghost use Rattle.shore_sessions.specs.Sessions.{Sessions};
 ghost use Rattle.shore_sessions.specs.Soundness.{IsSoundAfter, history_from, written_by};
-ghost use Rattle.shore_lives.specs.Stretches.{IsUpAfter, MayBeFound, MayFailAs, Stretch};
+ghost use Rattle.shore_lives.specs.Stretches.{AreStretches, IsUpAfter, MayBeFound, MayFailAs, OpensShow, Stretch, just_formatted, left_at_last, opening_told, spans_of};
 ghost use Rattle.shore_lives.specs.WholeLogs.{IsOpenOn, IsWholeLog, RunsWithLog};
 
 /// Each event of the sessions keeps the log whole, and a whole log leaves at each id the record in place. So it is after any events from an
@@ -46,4 +47,15 @@ pub fn managers_stay_up()
         failing.durable ≤ n → n ≤ length failing.log →
         Kept l.made (decisions_in (length s.log) (take n failing.log))
         × (records_told (take n failing.log) ≡ serial (written_by l.made) (records_told s.log) (decisions_in (length s.log) (take n failing.log))) }
+{}
+
+/// Any number of stretches, from a format on or from whatever else may be found, are a life: each history is sound, each crash keeps what was
+/// acknowledged, and the kept decisions make the records of the next opening. Each open shows what the log told that its stretch found; and
+/// what the last crash leaves may be found again.
+pub fn lives_go_on()
+    ensures life { (s : RecoveryState) (ls : List Stretch) → MayBeFound s → AreStretches s ls →
+        IsLife (opening_told s.log) (spans_of s ls) (opening_told (left_at_last s ls).log) }
+    ensures shown { (s : RecoveryState) (ls : List Stretch) → MayBeFound s → AreStretches s ls → OpensShow s ls }
+    ensures left { (s : RecoveryState) (ls : List Stretch) → MayBeFound s → AreStretches s ls → MayBeFound (left_at_last s ls) }
+    ensures first { MayBeFound just_formatted }
 {}
