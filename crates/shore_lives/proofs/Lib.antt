@@ -1,5 +1,6 @@
 pub mod Acknowledged
 pub mod AtWork
+pub mod CanAct
 pub mod Failing
 pub mod Lives
 pub mod Openings

@@ -14,8 +14,8 @@ ghost use Rattle.shore_sessions.specs.LogTells.{IsLogAfter};
 ghost use Rattle.shore_sessions.specs.Logged.{log_after};
 ghost use Rattle.shore_sessions.specs.SessionSteps.{SessionEvent, StepsTo};
 ghost use Rattle.shore_sessions.specs.Sessions.{Sessions};
-ghost use Rattle.shore_sessions.specs.Soundness.{IsSoundAfter, history_from, written_by};
-ghost use Rattle.shore_lives.specs.Stretches.{AreStretches, IsUpAfter, MayBeFound, MayFailAs, OpensShow, Stretch, just_formatted, left_at_last, opening_told, spans_of};
+ghost use Rattle.shore_sessions.specs.Soundness.{IsSoundAfter, RunsTo, history_from, written_by};
+ghost use Rattle.shore_lives.specs.Stretches.{AreStretches, IsStretch, IsUpAfter, MayBeFound, MayFailAs, OpensShow, Stretch, just_formatted, left_at_last, opening_told, spans_of};
 ghost use Rattle.shore_lives.specs.WholeLogs.{IsOpenOn, IsWholeLog, RunsWithLog};
 
 /// Each event of the sessions keeps the log whole, and a whole log leaves at each id the record in place. So it is after any events from an
@@ -58,4 +58,12 @@ pub fn lives_go_on()
     ensures shown { (s : RecoveryState) (ls : List Stretch) → MayBeFound s → AreStretches s ls → OpensShow s ls }
     ensures left { (s : RecoveryState) (ls : List Stretch) → MayBeFound s → AreStretches s ls → MayBeFound (left_at_last s ls) }
     ensures first { MayBeFound just_formatted }
+{}
+
+/// Nothing that the sessions may do is lost by the join: from whatever may be found a restart comes through, and over it sessions open of which
+/// every run can happen, with a crash after it.
+pub fn sessions_can_act()
+    ensures { (s : RecoveryState) → MayBeFound s →
+        (first : Sessions) × ((events : List SessionEvent) (last : Sessions) (made : List Entry) → RunsTo first events [] last made →
+        (l : Stretch) × IsStretch s l × (l.first ≡ first) × (l.made ≡ made) × (l.last.sessions ≡ last)) }
 {}
