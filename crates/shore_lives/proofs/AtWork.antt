@@ -19,14 +19,14 @@ use Rattle.shore_lives.proofs.Acknowledged.{NumbersAreNew, commit_is_own, event_
 use Rattle.shore_lives.proofs.WholeLogs.{image_in_place}
 use Rattle.shore_lives.proofs.WholeRuns.{AllHold, event_keeps_all}
 use Rattle.shore_lives.proofs.Works.{HasWorked, all_work}
-use Rattle.shore_lives.specs.Managers.{AnswersDurable, Manager, ManagerEvent, ManagerRunsTo, ManagerStepsTo, Serve, Tend, entries_made}
+use Rattle.shore_lives.specs.ManagerSteps.{AnswersDurable, ManagerState, ManagerEvent, ManagerRunsTo, ManagerStepsTo, Serve, Tend, entries_made}
 
 -- each decision that is acknowledged is in the durable part of the log
 abbrev pub AcknowledgedAreDurable : ℕ → List Entry → RecoveryState → Type 0
 AcknowledgedAreDurable base es s = AllByRecursion (λ d. IsAmong d (decisions_in base (take s.durable s.log))) (acknowledged es)
 
 -- All that holds of a manager. Its first restart found `base` records, and its sessions opened with `floor` as the next number.
-pub record IsAtWork (base floor : ℕ) (o : Records) (es : List Entry) (m : Manager) : Type 0 where
+pub record IsAtWork (base floor : ℕ) (o : Records) (es : List Entry) (m : ManagerState) : Type 0 where
   pub sessions : AllHold o es m.sessions m.store.log
   pub decides : LogDecides base o es m.store.log
   pub recoverable : IsRecoverable m.store
@@ -44,11 +44,11 @@ durable_after_work base es s new within w h =
     (still_decided base s.durable new.durable s.log w.more d w.durable within there))
     (acknowledged es) h
 
-module _ (base floor : ℕ) (o : Records) (es : List Entry) (m : Manager) (k : IsAtWork base floor o es m) where
+module _ (base floor : ℕ) (o : Records) (es : List Entry) (m : ManagerState) (k : IsAtWork base floor o es m) where
   numbers_after_work : (new : RecoveryState) → HasWorked m.store new → (s : Sessions) → NumbersAreNew base floor s m.store.log → NumbersAreNew base floor s new.log
   numbers_after_work new w s n = subst (NumbersAreNew base floor s) (sym w.grows) (new_in_longer base floor s m.store.log n w.more k.decides.long)
 
-  served : (e : SessionEvent) (new : Manager) → StepsTo m.sessions e new.sessions → AnswersDurable m.store e → HasWorked m.store new.store
+  served : (e : SessionEvent) (new : ManagerState) → StepsTo m.sessions e new.sessions → AnswersDurable m.store e → HasWorked m.store new.store
       → new.store.log ≡ log_after m.store.log m.sessions e → IsAtWork base floor o (es ++ entries_by m.sessions e) new
   served e new steps answers w log =
       let es' = es ++ entries_by m.sessions e in
@@ -70,7 +70,7 @@ module _ (base floor : ℕ) (o : Records) (es : List Entry) (m : Manager) (k : I
             commit_is_own base floor m.store.durable a.txn m.store.log k.durable (k.numbers.each a (inr of_commit.0)) k.numbers.old is_durable));
       }
 
-  tended : (new : Manager) → new.sessions ≡ m.sessions → HasWorked m.store new.store → new.store.log ≡ m.store.log → IsAtWork base floor o es new
+  tended : (new : ManagerState) → new.sessions ≡ m.sessions → HasWorked m.store new.store → new.store.log ≡ m.store.log → IsAtWork base floor o es new
   tended new same w log =
       let least = k.durable in
       let more = w.durable in
@@ -84,7 +84,7 @@ module _ (base floor : ℕ) (o : Records) (es : List Entry) (m : Manager) (k : I
         acknowledged = durable_after_work base es m.store new.store k.recoverable.durable w k.acknowledged;
       }
 
-  pub stays_at_work : (e : ManagerEvent) (new : Manager) → ManagerStepsTo m e new → IsAtWork base floor o (es ++ entries_made m e) new
+  pub stays_at_work : (e : ManagerEvent) (new : ManagerState) → ManagerStepsTo m e new → IsAtWork base floor o (es ++ entries_made m e) new
   stays_at_work (Serve e works) new steps =
       served e new steps.0 steps.1 (all_work m.store works new.store k.recoverable k.redone steps.2) steps.3
   stays_at_work (Tend works) new steps =
@@ -95,7 +95,7 @@ module _ (base floor : ℕ) (o : Records) (es : List Entry) (m : Manager) (k : I
   pages_have_records id =
       redone_whole m.store k.recoverable k.redone id.page id.slot ∙ image_in_place k.sessions.sound k.sessions.logged k.sessions.whole id
 
-pub all_stay_at_work : (base floor : ℕ) (o : Records) (es : List Entry) (m : Manager) (events : List ManagerEvent) (last : Manager) (made : List Entry)
+pub all_stay_at_work : (base floor : ℕ) (o : Records) (es : List Entry) (m : ManagerState) (events : List ManagerEvent) (last : ManagerState) (made : List Entry)
     → IsAtWork base floor o es m → ManagerRunsTo m events es last made → IsAtWork base floor o made last
 all_stay_at_work base floor o es m [] last made k runs =
     subst (λ es. IsAtWork base floor o es last) (sym runs.1) (subst (IsAtWork base floor o es) (sym runs.0) k)

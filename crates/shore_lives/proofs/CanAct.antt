@@ -32,7 +32,7 @@ use Rattle.shore_sessions.specs.Views.{IsAmong}
 use Rattle.shore_lives.proofs.AtWork.{IsAtWork, stays_at_work}
 use Rattle.shore_lives.proofs.Openings.{opens_at_work}
 use Rattle.shore_lives.proofs.Stretches.{up_is_at_work}
-use Rattle.shore_lives.specs.Managers.{AnswersDurable, Manager, ManagerEvent, ManagerRunsTo, ManagerStepsTo, OpensOver, Serve, Tend, WorksTo}
+use Rattle.shore_lives.specs.ManagerSteps.{AnswersDurable, ManagerState, ManagerEvent, ManagerRunsTo, ManagerStepsTo, OpensOver, Serve, Tend, WorksTo}
 use Rattle.shore_lives.specs.Stretches.{IsStretch, IsUpAfter, MayBeFound, Stretch}
 
 record HasNumberAbove (log : List LogRecord) : Type 0 where
@@ -161,26 +161,26 @@ may_answer s old new (AnswerCommit a) durable h m =
 may_answer s old new _ durable h m = tt
 
 module _ (base floor : ℕ) (o : Records) where
-  record CanHappen (es : List Entry) (m : Manager) (last : Sessions) (made : List Entry) : Type 0 where
+  record CanHappen (es : List Entry) (m : ManagerState) (last : Sessions) (made : List Entry) : Type 0 where
     pub events : List ManagerEvent
-    pub new : Manager
+    pub new : ManagerState
     pub runs : ManagerRunsTo m events es new made
     pub sessions : new.sessions ≡ last
 
-  can_happen : (events : List SessionEvent) (es : List Entry) (m : Manager) (last : Sessions) (made : List Entry) → IsAtWork base floor o es m
+  can_happen : (events : List SessionEvent) (es : List Entry) (m : ManagerState) (last : Sessions) (made : List Entry) → IsAtWork base floor o es m
       → HaveCommits m.store.log m.sessions → RunsTo m.sessions events es last made → CanHappen es m last made
   can_happen [] es m last made k h runs = record { events = []; new = m; runs = (refl, runs.1); sessions = sym runs.0 }
   can_happen (e ∷ events) es m last made k h runs =
       let all = length m.store.log in
       let force : ManagerEvent = Tend (ForceLog all ∷ []) in
       let forced : RecoveryState = after_force m.store all in
-      let m1 : Manager = record { sessions = m.sessions; store = forced } in
+      let m1 : ManagerState = record { sessions = m.sessions; store = forced } in
       let most : all ≤ all = omega arith in
       let steps1 : ManagerStepsTo m force m1 = (refl, (tt, forced, (k.recoverable.durable, most, refl), refl), refl) in
       let k1 : IsAtWork base floor o es m1 = subst (λ es. IsAtWork base floor o es m1) (append-nil es) (stays_at_work base floor o es m k force m1 steps1) in
       let gained = event_grows m.store.log m.sessions e in
       let done = append_each gained.0 forced k.redone in
-      let m2 : Manager = record { sessions = runs.0; store = done.new } in
+      let m2 : ManagerState = record { sessions = runs.0; store = done.new } in
       let serve : ManagerEvent = Serve e done.works in
       let steps2 : ManagerStepsTo m1 serve m2 = (runs.1, may_answer forced m.sessions runs.0 e refl h runs.1, done.work, done.log ∙ sym gained.1) in
       let k2 : IsAtWork base floor o (es ++ entries_by m.sessions e) m2 = stays_at_work base floor o es m1 k1 serve m2 steps2 in

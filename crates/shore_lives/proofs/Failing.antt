@@ -22,7 +22,7 @@ use Rattle.shore_lives.proofs.AtWork.{AcknowledgedAreDurable, IsAtWork, durable_
 use Rattle.shore_lives.proofs.WholeLogs.{tells_the_committed}
 use Rattle.shore_lives.proofs.WholeSteps.{event_stays_whole}
 use Rattle.shore_lives.proofs.Works.{all_work}
-use Rattle.shore_lives.specs.Managers.{Manager}
+use Rattle.shore_lives.specs.ManagerSteps.{ManagerState}
 use Rattle.shore_lives.specs.Stretches.{IsInMidst, MayFailAs}
 use Rattle.shore_lives.specs.WholeLogs.{HasNoPrepare}
 
@@ -58,7 +58,7 @@ take_of_take (suc m) zero xs = (0, refl)
 take_of_take (suc m) (suc n) [] = (0, refl)
 take_of_take (suc m) (suc n) (x ∷ xs) = let rest = take_of_take m n xs in (suc rest.0, ap (λ ys. x ∷ ys) rest.1)
 
-module _ (base floor : ℕ) (o : Records) (es : List Entry) (m : Manager) (k : IsAtWork base floor o es m) where
+module _ (base floor : ℕ) (o : Records) (es : List Entry) (m : ManagerState) (k : IsAtWork base floor o es m) where
   pub between_events : MayLosePower base o es m.store
   between_events = record {
     lawful = k.sessions.whole.lawful;

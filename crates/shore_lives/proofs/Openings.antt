@@ -21,7 +21,7 @@ use Rattle.shore_sessions.specs.Views.{IsAmong}
 use Rattle.shore_lives.proofs.AtWork.{IsAtWork}
 use Rattle.shore_lives.proofs.WholeLogs.{tells_the_committed}
 use Rattle.shore_lives.proofs.WholeRuns.{AllHold, open_is_whole}
-use Rattle.shore_lives.specs.Managers.{OpensOver}
+use Rattle.shore_lives.specs.ManagerSteps.{OpensOver}
 use Rattle.shore_lives.specs.Stretches.{MayBeFound}
 use Rattle.shore_lives.specs.WholeLogs.{HasNoPrepare, IsOpenOn}
 

@@ -4,7 +4,7 @@ use Rattle.shore_model.specs.declared.log_records.LogRecord.{LogRecord}
 use Rattle.shore_recovery.proofs.Invariant.{event_kept}
 use Rattle.shore_recovery.specs.Recovery.{AppendRecord, FlushPage, ForceLog, IsRecoverable, LeadsTo, LosePower, RecoveryEvent, RecoveryState, RedoRecord}
 use Rattle.shore_sessions.proofs.Lists.{length-push}
-use Rattle.shore_lives.specs.Managers.{IsWork, WorksTo}
+use Rattle.shore_lives.specs.ManagerSteps.{IsWork, WorksTo}
 
 pub record HasWorked (s new : RecoveryState) : Type 0 where
   pub more : List LogRecord

@@ -1,3 +1,3 @@
-pub mod Managers
+pub mod ManagerSteps
 pub mod Stretches
 pub mod WholeLogs

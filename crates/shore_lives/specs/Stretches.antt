@@ -14,7 +14,7 @@ use Rattle.shore_sessions.specs.Logged.{log_after}
 use Rattle.shore_sessions.specs.SessionSteps.{SessionEvent, StepsTo}
 use Rattle.shore_sessions.specs.Sessions.{Sessions}
 use Rattle.shore_sessions.specs.Soundness.{opening_with}
-use Rattle.shore_lives.specs.Managers.{Manager, ManagerEvent, ManagerRunsTo, OpensOver, WorksTo}
+use Rattle.shore_lives.specs.ManagerSteps.{ManagerState, ManagerEvent, ManagerRunsTo, OpensOver, WorksTo}
 use Rattle.shore_lives.specs.WholeLogs.{HasNoPrepare}
 
 -- What the first restart of a stretch finds. All of its log is durable: a crash leaves no more of it than that.
@@ -36,7 +36,7 @@ pub record Stretch : Type 0 where
   pub ready : RecoveryState
   pub first : Sessions
   pub events : List ManagerEvent
-  pub last : Manager
+  pub last : ManagerState
   pub made : List Entry
   pub failing : RecoveryState
   pub survive : ℕ
@@ -55,7 +55,7 @@ pub record IsUpAfter (s : RecoveryState) (l : Stretch) : Type 0 where
 
 -- An event of the sessions has appended some of its records and not the others; its entry is not made. An event with a Commit has no midst:
 -- it appends nothing else.
-pub record IsInMidst (m : Manager) (failing : RecoveryState) : Type 0 where
+pub record IsInMidst (m : ManagerState) (failing : RecoveryState) : Type 0 where
   pub event : SessionEvent
   pub next : Sessions
   pub steps : StepsTo m.sessions event next
@@ -66,7 +66,7 @@ pub record IsInMidst (m : Manager) (failing : RecoveryState) : Type 0 where
   pub goes_on : log_after m.store.log m.sessions event ≡ failing.log ++ missing
 
 -- power may be lost between two events, or in the midst of one
-abbrev pub MayFailAs : Manager → RecoveryState → Type 0
+abbrev pub MayFailAs : ManagerState → RecoveryState → Type 0
 MayFailAs m failing = (failing ≡ m.store) ⊎ IsInMidst m failing
 
 abbrev pub left_by_crash : Stretch → RecoveryState

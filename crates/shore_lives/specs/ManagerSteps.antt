@@ -12,7 +12,7 @@ use Rattle.shore_sessions.specs.SessionSteps.{AnswerAbort, AnswerCommit, AppendC
 use Rattle.shore_sessions.specs.Sessions.{Sessions}
 use Rattle.shore_sessions.specs.Views.{IsAmong}
 
-pub record Manager : Type 0 where
+pub record ManagerState : Type 0 where
   pub sessions : Sessions
   pub store : RecoveryState
 
@@ -48,18 +48,18 @@ AnswersDurable store (AppendCommit a) = Unit {0}
 AnswersDurable store (AnswerAbort a) = Unit {0}
 AnswersDurable store (RefuseCall session t c fault) = Unit {0}
 
-abbrev pub ManagerStepsTo : Manager → ManagerEvent → Manager → Type 0
+abbrev pub ManagerStepsTo : ManagerState → ManagerEvent → ManagerState → Type 0
 ManagerStepsTo m (Serve e works) new =
     StepsTo m.sessions e new.sessions × AnswersDurable m.store e × WorksTo m.store works new.store × (new.store.log ≡ log_after m.store.log m.sessions e)
 ManagerStepsTo m (Tend works) new = (new.sessions ≡ m.sessions) × WorksTo m.store works new.store × (new.store.log ≡ m.store.log)
 
-abbrev pub entries_made : Manager → ManagerEvent → List Entry
+abbrev pub entries_made : ManagerState → ManagerEvent → List Entry
 entries_made m (Serve e works) = entries_by m.sessions e
 entries_made m (Tend works) = []
 
-abbrev pub ManagerRunsTo : Manager → List ManagerEvent → List Entry → Manager → List Entry → Type 0
+abbrev pub ManagerRunsTo : ManagerState → List ManagerEvent → List Entry → ManagerState → List Entry → Type 0
 ManagerRunsTo m [] es last made = (last ≡ m) × (made ≡ es)
-ManagerRunsTo m (e ∷ events) es last made = (new : Manager) × ManagerStepsTo m e new × ManagerRunsTo new events (es ++ entries_made m e) last made
+ManagerRunsTo m (e ∷ events) es last made = (new : ManagerState) × ManagerStepsTo m e new × ManagerRunsTo new events (es ++ entries_made m e) last made
 
 -- ---- an open
 
