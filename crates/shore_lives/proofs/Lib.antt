@@ -1,0 +1,11 @@
+pub mod Acknowledged
+pub mod AtWork
+pub mod CanAct
+pub mod Failing
+pub mod Lives
+pub mod Openings
+pub mod Stretches
+pub mod WholeLogs
+pub mod WholeRuns
+pub mod WholeSteps
+pub mod Works

@@ -1,0 +1,3 @@
+pub mod ManagerSteps
+pub mod Stretches
+pub mod WholeLogs
