@@ -21,8 +21,8 @@ const GATE: u64 = 0;
 
 /// Formats a pair of devices: closes the gates of both labels; writes the log's front, and an empty volume; opens the volume's gate, and
 /// the log's last. Refused by `BadConfig` with the setting if the log device is too short or too long, if the geometry is outside the
-/// limits, or if the volume has another length than the geometry asks; nothing is written then. After `Device` or `Memory` the log's
-/// gate is closed, or the device that failed has the last word on it.
+/// limits, or if the volume has another length than the geometry asks; nothing is written then. After `Memory` both devices are as they
+/// were, or the log's gate is closed; after `Device` each device may have what it had, a closed gate, or all that it was to have.
 pub fn format<L: Disk, V: Disk>(
     alloc: Global,
     log: &mut L,
