@@ -1,0 +1,8 @@
+use Rattle.shore_room.proofs.Tables.{opens_claimed, page_undos}
+use Rattle.shore_room.proofs.laws.pages_are_claimed.Goals as goal
+
+pub returns-clause-settled : goal.returns-clause-settled
+returns-clause-settled c = opens_claimed
+
+pub returns-clause-each : goal.returns-clause-each
+returns-clause-each c R undos counts p turns k = page_undos R undos counts k p turns
