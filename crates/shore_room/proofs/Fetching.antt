@@ -130,7 +130,7 @@ module _ (p : PageId) (n : ℕ) (F : ℕ → Slot) (room : HasRoom (each_from F 
   abbrev pub AreWithin : List (Rid × Image) → Type 0
   AreWithin es = AllByRecursion (λ e. p ≡ e.0.page → (e.0.slot < n) × (image_len e.1 ≤ (F e.0.slot).claim)) es
 
-  most_claim : (i : ℕ) → i < n → (F i).claim ≤ 4000
+  pub most_claim : (i : ℕ) → i < n → (F i).claim ≤ 4000
   most_claim i less =
       let read : F i ≡ get_or (each_from F 0 n) i (F i) = sym (get_or_from_slice_get (each_from F 0 n) i (F i) (F i) (each_at F n i less)) in
       let holds : HoldsItsImage (F i) = subst HoldsItsImage (sym read) (All-get_or HoldsItsImage (each_from F 0 n) i (F i) (omega (arith, length-each F 0 n)) room.each) in

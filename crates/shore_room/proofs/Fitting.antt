@@ -105,7 +105,7 @@ redo_fits R undos counts k p slot bytes fits =
     least : (a b : ℕ) → a ≤ max a b
     least a b = omega arith
 
-longest_of_some : (q : Rid) (some undos : List SessionTxn) → ((a : SessionTxn) → IsAmong a some → IsAmong a undos)
+pub longest_of_some : (q : Rid) (some undos : List SessionTxn) → ((a : SessionTxn) → IsAmong a some → IsAmong a undos)
     → longest (befores_at q some) ≤ longest (befores_at q undos)
 longest_of_some q [] undos each = omega arith
 longest_of_some q (a ∷ some) undos each =

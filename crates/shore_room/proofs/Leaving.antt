@@ -228,20 +228,25 @@ module _ (R : Records) (undos : List SessionTxn) (counts : SlotCounts) (k : Clai
 
 -- ---- a transaction begins
 
+pub begun_slots : (R : Records) (undos : List SessionTxn) (a : SessionTxn) → a.undo.images ≡ [] → (p : PageId) (n : ℕ)
+    → slots_of R (a ∷ undos) p n ≡ slots_of R undos p n
+begun_slots R undos a empty p n =
+    ap claiming_all (each_alike (λ i. undecided_at R (a ∷ undos) (rid_on p i)) (λ i. undecided_at R undos (rid_on p i)) 0 n
+    (λ i ge less. ap (λ l. of (get R (rid_on p i)) l) (ap (λ es. befores_in (rid_on p i) es ++ befores_at (rid_on p i) undos) empty)))
+  where
+    of : Image → List Image → Undecided
+    of image befores = record { image = image; befores = befores }
+
 pub begun_keeps : (R : Records) (undos : List SessionTxn) (counts : SlotCounts) → Claimed R undos counts → (a : SessionTxn) → a.undo.images ≡ []
     → (IsAmong a.txn (txns_of undos) → ⊥) → Claimed R (a ∷ undos) counts
 begun_keeps R undos counts k a empty fresh =
     let none : (u : ℕ) (q : Rid) → NoOthers undos u q → NoOthers (a ∷ undos) u q =
     λ u q h b there other. ⊎_elim (λ same. subst (λ (c : SessionTxn). befores_in q c.undo.images ≡ []) same (ap (befores_in q) empty)) (λ later. h b later other) there in
     record {
-      room = λ p. subst HasRoom (ap claiming_all (each_alike (λ i. undecided_at R undos (rid_on p i)) (λ i. undecided_at R (a ∷ undos) (rid_on p i)) 0 (counts p)
-          (λ i ge less. ap (λ l. of (get R (rid_on p i)) l) (ap (λ es. befores_in (rid_on p i) es ++ befores_at (rid_on p i) undos) (sym empty))))) (k.room p);
+      room = λ p. subst HasRoom (sym (begun_slots R undos a empty p (counts p))) (k.room p);
       behind = k.behind;
       within = λ b there. ⊎_elim (λ same. subst (λ (c : SessionTxn). AllByRecursion (λ e. e.0.slot < counts e.0.page) c.undo.images) same (subst (AllByRecursion (λ e. e.0.slot < counts e.0.page)) (sym empty) tt)) (λ later. k.within b later) there;
       owned = λ b there. ⊎_elim (λ same. subst (λ (c : SessionTxn). AllByRecursion (λ e. NoOthers (a ∷ undos) c.txn e.0) c.undo.images) same (subst (AllByRecursion (λ e. NoOthers (a ∷ undos) a.txn e.0)) (sym empty) tt))
           (λ later. recursion-weaker (λ e. NoOthers undos b.txn e.0) (λ e. NoOthers (a ∷ undos) b.txn e.0) (λ e h. none b.txn e.0 h) b.undo.images (k.owned b later)) there;
       once = (fresh, k.once);
     }
-  where
-    of : Image → List Image → Undecided
-    of image befores = record { image = image; befores = befores }

@@ -47,9 +47,10 @@ module _ {undos : List SessionTxn} {a : SessionTxn} (s : IsSplit undos a) where
       let old = owed_whole in
       omega arith
 
-module _ (spare : ℕ) (undos : List SessionTxn) (room : LogRoom) (h : HasLogRoom spare undos room) (within : spare ≤ LONGEST_FRAME + GREATEST_CHECKPOINT) where
-  pub begun_has : (a : SessionTxn) → a.undo.images ≡ [] → Admits room ENDING_COST → HasLogRoom spare (a ∷ undos) (begun_room room)
-  begun_has a empty admits =
+module _ (spare : ℕ) (undos : List SessionTxn) (room : LogRoom) (h : HasLogRoom spare undos room) where
+  pub begun_has : spare ≤ LONGEST_FRAME + GREATEST_CHECKPOINT → (a : SessionTxn) → a.undo.images ≡ [] → Admits room ENDING_COST
+      → HasLogRoom spare (a ∷ undos) (begun_room room)
+  begun_has within a empty admits =
       let none : compensation_costs a.undo.images ≡ 0 = ap compensation_costs empty in
       let sum = h.sum in
       let fits = admits.1 in
@@ -61,10 +62,11 @@ module _ (spare : ℕ) (undos : List SessionTxn) (room : LogRoom) (h : HasLogRoo
     s : IsSplit undos a
     s = split undos a once m
 
-    pub changed_has : (undo : UndoList) (id : Rid) (before image : Image) → undo.images ≡ a.undo.images ++ (id, before) ∷ []
+    pub changed_has : spare ≤ LONGEST_FRAME + GREATEST_CHECKPOINT → (undo : UndoList) (id : Rid) (before image : Image)
+        → undo.images ≡ a.undo.images ++ (id, before) ∷ []
         → Admits room (change_cost before image + compensation_cost before)
         → HasLogRoom spare (with_undo a.txn undo undos) (changed_room before image room)
-    changed_has undo id before image is admits =
+    changed_has within undo id before image is admits =
         let one : compensation_costs undo.images ≡ compensation_costs a.undo.images + compensation_cost before = ap compensation_costs is
         ∙ costs_push a.undo.images (id, before) in
         let more = owed_with s undo in
@@ -108,14 +110,14 @@ module _ (spare : ℕ) (undos : List SessionTxn) (room : LogRoom) (h : HasLogRoo
 once_with : (t : ℕ) (undo : UndoList) (undos : List SessionTxn) → EachOnce (txns_of undos) → EachOnce (txns_of (with_undo t undo undos))
 once_with t undo undos once = subst EachOnce (sym (txns_with t undo undos)) once
 
-pub turns_take : (spare : ℕ) (undos : List SessionTxn) (room : LogRoom) (turns : List ℕ) → spare ≤ LONGEST_FRAME + GREATEST_CHECKPOINT
+pub turns_take : (spare : ℕ) (undos : List SessionTxn) (room : LogRoom) (turns : List ℕ)
     → EachOnce (txns_of undos) → HasLogRoom spare undos room → TurnsTake spare undos room turns
-turns_take spare undos room [] within once h = λ a m. (ended_takes spare undos room h within once a m).0
-turns_take spare undos room (t ∷ turns) within once h = λ a kept e marks m txn is.
-    let one = undone_takes spare undos room h within once a m kept e marks is in (
+turns_take spare undos room [] once h = λ a m. (ended_takes spare undos room h once a m).0
+turns_take spare undos room (t ∷ turns) once h = λ a kept e marks m txn is.
+    let one = undone_takes spare undos room h once a m kept e marks is in (
       one.0,
       subst (λ t. TurnsTake spare (with_undo t record { images = kept; marks = marks } undos) (undone_room e.1 room) turns) txn
-          (turns_take spare (with_undo a.txn record { images = kept; marks = marks } undos) (undone_room e.1 room) turns within (once_with a.txn record { images = kept; marks = marks } undos once) one.1),
+          (turns_take spare (with_undo a.txn record { images = kept; marks = marks } undos) (undone_room e.1 room) turns (once_with a.txn record { images = kept; marks = marks } undos once) one.1),
     )
 
 -- ---- events of the sessions
@@ -123,12 +125,12 @@ turns_take spare undos room (t ∷ turns) within once h = λ a kept e marks m tx
 module _ (spare : ℕ) (within : spare ≤ LONGEST_FRAME + GREATEST_CHECKPOINT) where
   undone_has : (undos : List SessionTxn) (room : LogRoom) → HasLogRoom spare undos room → EachOnce (txns_of undos) → (a : SessionTxn) → IsAmong a undos
       → (es kept : List (Rid × Image)) (marks : List ℕ) → a.undo.images ≡ kept ++ es → HasLogRoom spare (with_undo a.txn record { images = kept; marks = marks } undos) (undone_rooms es room)
-  undone_has undos room h once a m [] kept marks is = marked_has spare undos room h within once a m record { images = kept; marks = marks } (sym (is ∙ append-nil kept))
+  undone_has undos room h once a m [] kept marks is = marked_has spare undos room h once a m record { images = kept; marks = marks } (sym (is ∙ append-nil kept))
   undone_has undos room h once a m (e ∷ es) kept marks is =
       let one : UndoList = record { images = kept ++ e ∷ []; marks = marks } in
       let h1 = undone_has undos room h once a m es (kept ++ e ∷ []) marks (is ∙ sym (append_assoc kept (e ∷ []) es)) in
       subst (λ l. HasLogRoom spare l (undone_room e.1 (undone_rooms es room))) (with_twice a.txn one record { images = kept; marks = marks } undos)
-      (undone_takes spare (with_undo a.txn one undos) (undone_rooms es room) h1 within (once_with a.txn one undos once) (with_its a one) (new_among (split undos a once m) one) kept e marks refl).1
+      (undone_takes spare (with_undo a.txn one undos) (undone_rooms es room) h1 (once_with a.txn one undos once) (with_its a one) (new_among (split undos a once m) one) kept e marks refl).1
 
   module _ (s : Sessions) (room : LogRoom) (h : HasLogRoom spare s.active room) (once : EachOnce (txns_of s.active)) where
     same_room : {undos : List SessionTxn} {new room' : LogRoom} → new ≡ room' → HasLogRoom spare undos room' → HasLogRoom spare undos new
@@ -136,11 +138,11 @@ module _ (spare : ℕ) (within : spare ≤ LONGEST_FRAME + GREATEST_CHECKPOINT) 
 
     module _ (a : SessionTxn) (m : IsAmong a s.active) where
       stays : (undo : UndoList) → undo.images ≡ a.undo.images → HasLogRoom spare (with_undo a.txn undo s.active) room
-      stays undo same = marked_has spare s.active room h within once a m undo same
+      stays undo same = marked_has spare s.active room h once a m undo same
 
       change : (id : Rid) (image : Image) → Admits room (change_cost (get s.records id) image + compensation_cost (get s.records id))
           → HasLogRoom spare (with_undo a.txn (with_before_image s.records a.undo id) s.active) (changed_room (get s.records id) image room)
-      change id image admits = changed_has spare s.active room h within once a m (with_before_image s.records a.undo id) id (get s.records id) image refl admits
+      change id image admits = changed_has spare s.active room h once a m within (with_before_image s.records a.undo id) id (get s.records id) image refl admits
 
       inserted : (store : ℕ) (bytes : List ℕ) (answer : Answer) → AnswerAdmits s.records (call.Insert store bytes) answer room
           → HasLogRoom spare (with_undo a.txn (undo_after_answer s.records a.undo (call.Insert store bytes) answer) s.active) (answered_room s.records a (call.Insert store bytes) answer room)
@@ -159,7 +161,7 @@ module _ (spare : ℕ) (within : spare ≤ LONGEST_FRAME + GREATEST_CHECKPOINT) 
       aborted : HasLogRoom spare (without_txn a.txn s.active) (ended_room ENDING_COST (undone_rooms a.undo.images room)) × HasLogRoom spare (without_txn a.txn s.active) (left_room ENDING_COST (undone_rooms a.undo.images room))
       aborted =
           let h1 = undone_has s.active room h once a m a.undo.images [] [] refl in
-          let both = (ended_takes spare (with_undo a.txn nothing_to_undo s.active) (undone_rooms a.undo.images room) h1 within (once_with a.txn nothing_to_undo s.active once) (with_its a nothing_to_undo) (new_among (split s.active a once m) nothing_to_undo)) in (
+          let both = (ended_takes spare (with_undo a.txn nothing_to_undo s.active) (undone_rooms a.undo.images room) h1 (once_with a.txn nothing_to_undo s.active once) (with_its a nothing_to_undo) (new_among (split s.active a once m) nothing_to_undo)) in (
             subst (λ l. HasLogRoom spare l (ended_room ENDING_COST (undone_rooms a.undo.images room))) (without_with a.txn nothing_to_undo s.active) both.1,
             subst (λ l. HasLogRoom spare l (left_room ENDING_COST (undone_rooms a.undo.images room))) (without_with a.txn nothing_to_undo s.active) both.2,
           )
@@ -171,7 +173,7 @@ module _ (spare : ℕ) (within : spare ≤ LONGEST_FRAME + GREATEST_CHECKPOINT) 
         (same_room is (begun_has spare s.active room h within record { session = session; txn = s.next_txn; undo = nothing_to_undo } refl admits))
     event_room (GiveReply a c (Ok answer)) new room' moves admits is = subst (λ (n : Sessions). HasLogRoom spare n.active room') (sym moves.3) (same_room is (answered a moves.0 c answer admits))
     event_room (GiveReply a c (Err fault)) new room' moves admits is = subst (λ (n : Sessions). HasLogRoom spare n.active room') (sym moves.3) (same_room is (stays a moves.0 a.undo refl))
-    event_room (AppendCommit a) new room' moves admits is = subst (λ (n : Sessions). HasLogRoom spare n.active room') (sym moves.1) (same_room is (ended_takes spare s.active room h within once a moves.0).1)
+    event_room (AppendCommit a) new room' moves admits is = subst (λ (n : Sessions). HasLogRoom spare n.active room') (sym moves.1) (same_room is (ended_takes spare s.active room h once a moves.0).1)
     event_room (AnswerAbort a) new room' moves admits is = subst (λ (n : Sessions). HasLogRoom spare n.active room') (sym moves.1)
         (⊎_elim (λ ended. same_room ended (aborted a moves.0).0) (λ left. same_room left (aborted a moves.0).1) is)
     event_room (AnswerCommit a) new room' moves admits is = subst (λ (n : Sessions). HasLogRoom spare n.active room') (sym moves.1) (same_room is h)

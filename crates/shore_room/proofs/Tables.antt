@@ -1,11 +1,9 @@
 -- The table keeps its room, step by step.
-use Rattle.std.proofs.Common.{◌≡◌, ◌+◌, ◌≤◌, ◌++◌, ℕ, max, List, [], ◌∷◌, None, refl, sym, ap, subst, ◌∙◌, arith}
+use Rattle.std.proofs.Common.{◌+◌, ◌≤◌, ◌++◌, ℕ, List, [], ◌∷◌, refl, sym, subst}
 use Rattle.std.specs.FinMap.{get}
 use Rattle.shore_types.specs.declared.ids.PageId.{PageId}
-use Rattle.shore_types.specs.declared.ids.Rid.{Rid}
-use Rattle.shore_room.specs.Claims.{Claimed, SlotCounts, rid_on, undecided_at, undecided_on}
+use Rattle.shore_room.specs.Claims.{Claimed, SlotCounts, undecided_on}
 use Rattle.shore_room.specs.LogRooms.{HasLogRoom, LogRoom, TurnsTake}
-use Rattle.shore_room.specs.Settling.{settled_slots}
 use Rattle.shore_room.specs.Tables.{AllHaveRoom, EndTxn, EnterTxn, HasItsRoom, IsRoomy, LeaveTable, MakeChange, MayStep, MayStepAll, RunsWithRoom, SetMarks, Table, TableStep, UndoOne, stepped, stepped_all}
 use Rattle.shore_room.specs.Turns.{TurnsFit}
 use Rattle.shore_sessions.specs.SessionSteps.{SessionEvent, entries_by}
@@ -13,16 +11,12 @@ use Rattle.shore_sessions.specs.Sessions.{SessionTxn, Sessions}
 use Rattle.shore_sessions.specs.Soundness.{IsJustOpened, IsSoundAfter, SessionsAgree}
 use Rattle.shore_types.specs.declared.layout.TheConstants.{GREATEST_CHECKPOINT, LONGEST_FRAME}
 use Rattle.shore_model.specs.declared.histories.Entry.{Entry}
-use Rattle.shore_types.specs.Images.{Image}
 use Rattle.shore_model.specs.Records.{Records}
-use Rattle.shore_page.specs.Room.{HasRoom}
-use Rattle.shore_page.specs.Slots.{Slot, image_len, settled}
-use Rattle.shore_page.specs.Undo.{UndoFits, claiming}
+use Rattle.shore_page.specs.Undo.{UndoFits}
 use Rattle.shore_page.proofs.UndoLemmas.{undos_fit}
 use Rattle.shore_sessions.proofs.SessionsAgree.{event_agrees, open_agrees}
 use Rattle.shore_sessions.proofs.Steps.{event_stays_sound, open_is_sound}
-use Rattle.shore_room.proofs.Leaving.{begun_keeps, left_keeps, map_each, marked_keeps}
-use Rattle.shore_room.proofs.Lists.{each_alike}
+use Rattle.shore_room.proofs.Leaving.{begun_keeps, left_keeps, marked_keeps}
 use Rattle.shore_room.proofs.LogRooms.{begun_has, changed_has, ended_takes, event_room, marked_has, turns_take, undone_takes}
 use Rattle.shore_room.proofs.Pages.{undo_fits}
 use Rattle.shore_room.proofs.Rooms.{change_keeps, turns_fit, undo_keeps}
@@ -35,20 +29,20 @@ module _ (spare : ℕ) (within : spare ≤ LONGEST_FRAME + GREATEST_CHECKPOINT) 
   step_keeps s (MakeChange a id image new) k may = (
     record {
       pages = change_keeps s.records s.undos s.counts k.pages a may.0 id image may.1 may.2.0 new may.2.1;
-      log = changed_has spare s.undos s.room k.log within k.pages.once a may.0 _ id (get s.records id) image refl may.3;
+      log = changed_has spare s.undos s.room k.log k.pages.once a may.0 within _ id (get s.records id) image refl may.3;
     },
     tt,
   )
   step_keeps s (SetMarks a marks) k may =
-      (record { pages = marked_keeps s.records s.undos s.counts k.pages a may record { images = a.undo.images; marks = marks } refl; log = marked_has spare s.undos s.room k.log within k.pages.once a may record { images = a.undo.images; marks = marks } refl }, tt)
+      (record { pages = marked_keeps s.records s.undos s.counts k.pages a may record { images = a.undo.images; marks = marks } refl; log = marked_has spare s.undos s.room k.log k.pages.once a may record { images = a.undo.images; marks = marks } refl }, tt)
   step_keeps s (UndoOne a kept e marks) k may =
-      let log = undone_takes spare s.undos s.room k.log within k.pages.once a may.0 kept e marks may.1 in
+      let log = undone_takes spare s.undos s.room k.log k.pages.once a may.0 kept e marks may.1 in
       (record { pages = undo_keeps s.records s.undos s.counts k.pages a may.0 kept e marks may.1; log = log.1 }, (undo_fits s.records s.undos s.counts k.pages a may.0 kept e marks may.1, log.0))
   step_keeps s (EndTxn a) k may =
-      let log = ended_takes spare s.undos s.room k.log within k.pages.once a may in
+      let log = ended_takes spare s.undos s.room k.log k.pages.once a may in
       (record { pages = left_keeps s.records s.undos s.counts k.pages a may; log = log.1 }, log.0)
   step_keeps s (LeaveTable a) k may =
-      (record { pages = left_keeps s.records s.undos s.counts k.pages a may; log = (ended_takes spare s.undos s.room k.log within k.pages.once a may).2 }, tt)
+      (record { pages = left_keeps s.records s.undos s.counts k.pages a may; log = (ended_takes spare s.undos s.room k.log k.pages.once a may).2 }, tt)
 
   pub steps_keep : (s : Table) (steps : List TableStep) → IsRoomy spare s → MayStepAll s steps
       → IsRoomy spare (stepped_all s steps) × AllHaveRoom spare s steps
@@ -76,25 +70,7 @@ module _ (spare : ℕ) (within : spare ≤ LONGEST_FRAME + GREATEST_CHECKPOINT) 
       let both = events_keep o [] first counts room events last c r (open_is_sound o first opened) (open_agrees o first opened)
       (subst (λ (undos : List SessionTxn). Claimed first.records undos counts) (sym opened.active) (subst (λ (R : Records). Claimed R [] counts) (sym opened.records) k))
       (subst (λ (undos : List SessionTxn). HasLogRoom spare undos room) (sym opened.active) h) by in
-      (turns_fit last.records last.active c turns both.0, turns_take spare last.active r turns within both.0.once both.1)
-
--- pages with room for their records, while nothing is undecided
-pub opens_claimed : (R : Records) (counts : SlotCounts) → ((p : PageId) → HasRoom (settled_slots R p (counts p)))
-    → ((id : Rid) → counts id.page ≤ id.slot → get R id ≡ None) → Claimed R [] counts
-opens_claimed R counts room behind = record {
-  room = λ p. subst HasRoom (each_alike (λ i. settled (get R (rid_on p i))) (λ i. claiming (undecided_at R [] (rid_on p i))) 0 (counts p) (λ i ge less. ap (slot (get R (rid_on p i))) (bare (image_len (get R (rid_on p i)))))
-      ∙ sym (map_each claiming (λ i. undecided_at R [] (rid_on p i)) 0 (counts p))) (room p);
-  behind = behind;
-  within = λ a m. absurd m;
-  owned = λ a m. absurd m;
-  once = tt;
-}
-  where
-    slot : Image → ℕ → Slot
-    slot image n = record { image = image; claim = n }
-
-    bare : (n : ℕ) → n ≡ max n 0
-    bare n = omega arith
+      (turns_fit last.records last.active c turns both.0, turns_take spare last.active r turns both.0.once both.1)
 
 -- what shore_page says of undecided slots holds of each page
 pub page_undos : (R : Records) (undos : List SessionTxn) (counts : SlotCounts) → Claimed R undos counts → (p : PageId) (turns : List ℕ)

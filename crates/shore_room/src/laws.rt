@@ -4,9 +4,10 @@ ghost use Rattle.std.specs.FinMap.{get};
 ghost use Rattle.shore_types.specs.Images.{Image};
 ghost use Rattle.shore_types.specs.declared.ids.PageId.{PageId};
 ghost use Rattle.shore_types.specs.declared.ids.Rid.{Rid};
-ghost use Rattle.shore_types.specs.declared.layout.TheConstants.{GREATEST_CHECKPOINT, LONGEST_FRAME, MAX_SLOTS, PAGE_ROOM, SLOT_ENTRY_BYTES};
+ghost use Rattle.shore_types.specs.declared.layout.TheConstants.{ENDING_COST, GREATEST_CHECKPOINT, LONGEST_FRAME, MAX_SLOTS, PAGE_ROOM, SLOT_ENTRY_BYTES};
 ghost use Rattle.shore_model.specs.declared.histories.Entry.{Entry};
 ghost use Rattle.shore_model.specs.Records.{Records, put_image};
+ghost use Rattle.shore_page.specs.Layout.{record_bytes};
 ghost use Rattle.shore_page.specs.Room.{Fits, HasRoom, claim_at, claims, lowered};
 ghost use Rattle.shore_page.specs.Slots.{image_len, settled, with_change, with_image};
 ghost use Rattle.shore_page.specs.Undo.{UndoFits, longest};
@@ -17,8 +18,10 @@ ghost use Rattle.shore_sessions.specs.UndoLists.{UndoList, with_before_image};
 ghost use Rattle.shore_sessions.specs.Views.{IsAmong};
 ghost use Rattle.shore_room.specs.Choosing.{IsChoice, Serves, first_of};
 ghost use Rattle.shore_room.specs.Claims.{Claimed, Grows, NoOthers, SlotCounts, befores_at, befores_in, rid_on, slots_of, undecided_on};
+ghost use Rattle.shore_room.specs.Entries.{claim_before, claims_before};
 ghost use Rattle.shore_room.specs.Events.{ChangeFits, EventFits};
-ghost use Rattle.shore_room.specs.LogRooms.{EventAdmits, HasLogRoom, LogRoom, RoomAfter, TurnsTake};
+ghost use Rattle.shore_room.specs.LogRooms.{Admits, ChangeAdmits, EventAdmits, HasLogRoom, LogRoom, RoomAfter, Takes, TurnsTake, begun_room, changed_room, compensation_cost, ended_room, left_room, owed, undone_room};
+ghost use Rattle.shore_room.specs.RolledBack.{all_rolled_back, images_on};
 ghost use Rattle.shore_room.specs.Settling.{AllReservesFit, let_go, reserved_for_all, settled_slots};
 ghost use Rattle.shore_room.specs.Tables.{AllHaveRoom, IsRoomy, MayStepAll, RunsWithRoom, Table, TableStep, stepped_all};
 ghost use Rattle.shore_room.specs.Turns.{TurnsFit};
@@ -34,13 +37,25 @@ pub fn claims_in_numbers()
         → (SLOT_ENTRY_BYTES * counts p + claims (slots_of R undos p (counts p)) ≤ PAGE_ROOM) × (counts p ≤ MAX_SLOTS) }
 {}
 
-/// While nothing is undecided the claims are those of the records. At each time, what `shore_page` says of undecided slots holds of
+/// While nothing is undecided each slot claims what its record takes. At each time, what `shore_page` says of undecided slots holds of
 /// each page.
 pub fn pages_are_claimed()
+    ensures alike { (R : Records) (p : PageId) (n : ℕ) → slots_of R [] p n ≡ settled_slots R p n }
     ensures settled { (R : Records) (counts : SlotCounts) → ((p : PageId) → HasRoom (settled_slots R p (counts p)))
         → ((id : Rid) → counts id.page ≤ id.slot → get R id ≡ None) → Claimed R [] counts }
     ensures each { (R : Records) (undos : List SessionTxn) (counts : SlotCounts) (p : PageId) (turns : List ℕ) →
         Claimed R undos counts → UndoFits (undecided_on R undos p (counts p)) turns }
+{}
+
+/// A transaction that begins, and one whose savepoints change, leave the slots of every page as they were.
+pub fn begins_and_savepoints_keep_claims()
+    ensures begin { (R : Records) (undos : List SessionTxn) (counts : SlotCounts) (a : SessionTxn) → Claimed R undos counts
+        → a.undo.images ≡ [] → (IsAmong a.txn (txns_of undos) → ⊥) →
+        Claimed R (a ∷ undos) counts × ((p : PageId) → slots_of R (a ∷ undos) p (counts p) ≡ slots_of R undos p (counts p)) }
+    ensures marks { (R : Records) (undos : List SessionTxn) (counts : SlotCounts) (a : SessionTxn) (undo : UndoList) → Claimed R undos counts
+        → IsAmong a undos → undo.images ≡ a.undo.images →
+        Claimed R (with_undo a.txn undo undos) counts
+        × ((p : PageId) → slots_of R (with_undo a.txn undo undos) p (counts p) ≡ slots_of R undos p (counts p)) }
 {}
 
 /// A change that fits, to an id that no other transaction has changed, keeps the claims: its page is as `Page::put`, `Page::remove` or
@@ -74,6 +89,44 @@ pub fn endings_let_claims_go()
     ensures { (R : Records) (undos : List SessionTxn) (counts : SlotCounts) (a : SessionTxn) → Claimed R undos counts → IsAmong a undos →
         Claimed R (without_txn a.txn undos) counts
         × ((p : PageId) → slots_of R (without_txn a.txn undos) p (counts p) ≡ let_go p a.undo.images (slots_of R undos p (counts p))) }
+{}
+
+/// An undo list that keeps with each entry the claim that a change has found tells what to lower the claim to when the entry is undone.
+/// It gives the same slots as the longest image that is left, and need not look for that.
+pub fn entries_keep_claims_before()
+    ensures change { (R : Records) (undos : List SessionTxn) (counts : SlotCounts) (a : SessionTxn) (id : Rid) →
+        Claimed R undos counts → IsAmong a undos → NoOthers undos a.txn id →
+        claims_before (with_before_image R a.undo id).images
+        ≡ claims_before a.undo.images ++ claim_at (slots_of R undos id.page (counts id.page)) id.slot ∷ [] }
+    ensures undo { (R : Records) (undos : List SessionTxn) (counts : SlotCounts) (a : SessionTxn) (kept : List (Rid × Image)) (e : Rid × Image) (marks : List ℕ) →
+        Claimed R undos counts → IsAmong a undos → a.undo.images ≡ kept ++ e ∷ [] →
+        (claims_before a.undo.images ≡ claims_before kept ++ claim_before kept e ∷ [])
+        × (slots_of (put_image R e.0 e.1) (with_undo a.txn record { images = kept; marks = marks } undos) e.0.page (counts e.0.page)
+        ≡ with_change (lowered (claim_before kept e)) (with_image (slots_of R undos e.0.page (counts e.0.page)) e.0.slot e.1) e.0.slot)
+        × (claim_at (slots_of (put_image R e.0 e.1) (with_undo a.txn record { images = kept; marks = marks } undos) e.0.page (counts e.0.page)) e.0.slot
+        ≡ claim_before kept e) }
+{}
+
+/// In a table with one transaction no other has changed anything. Once it is decided, `Page::unreserve` with no bytes for each of its
+/// entries leaves each slot with what its record takes.
+pub fn one_transaction_has_no_others()
+    ensures alone { (a : SessionTxn) (id : Rid) → NoOthers (a ∷ []) a.txn id }
+    ensures decided { (R : Records) (counts : SlotCounts) (a : SessionTxn) → Claimed R (a ∷ []) counts →
+        Claimed R [] counts × ((p : PageId) → let_go p a.undo.images (slots_of R (a ∷ []) p (counts p)) ≡ settled_slots R p (counts p)) }
+{}
+
+/// Whatever is in place once some of the transactions are rolled back, or all, or none, has room on the pages: the first n slots with what
+/// they have, for any n that are there.
+pub fn rolled_back_records_fit()
+    ensures room { (R : Records) (undos some : List SessionTxn) (counts : SlotCounts) (p : PageId) (n : ℕ) → Claimed R undos counts
+        → ((a : SessionTxn) → IsAmong a some → IsAmong a undos) → n ≤ counts p → HasRoom (settled_slots (all_rolled_back R some) p n) }
+    ensures bytes { (R : Records) (undos some : List SessionTxn) (counts : SlotCounts) (p : PageId) (n : ℕ) → Claimed R undos counts
+        → ((a : SessionTxn) → IsAmong a some → IsAmong a undos) → n ≤ counts p →
+        SLOT_ENTRY_BYTES * n + record_bytes (images_on (all_rolled_back R some) p n) ≤ PAGE_ROOM }
+    ensures claimed { (R : Records) (undos some : List SessionTxn) (counts : SlotCounts) → Claimed R undos counts
+        → ((a : SessionTxn) → IsAmong a some → IsAmong a undos) → Claimed (all_rolled_back R some) [] counts }
+    ensures in_place { (R : Records) (undos : List SessionTxn) (counts : SlotCounts) (p : PageId) (n : ℕ) → Claimed R undos counts → n ≤ counts p →
+        HasRoom (settled_slots R p n) × (SLOT_ENTRY_BYTES * n + record_bytes (images_on R p n) ≤ PAGE_ROOM) }
 {}
 
 /// Rollbacks of any transactions, in steps that take turns as they like, fit their pages.
@@ -119,10 +172,29 @@ pub fn search_finds_lowest_place()
         Serves R undos counts store pages bytes may_lock id → id.slot < MAX_SLOTS }
 {}
 
+/// Each step keeps the log's room. A begin and a change ask for it; a Compensation and an ending take what was reserved for them.
+pub fn steps_keep_log_room()
+    ensures begin { (spare : ℕ) (undos : List SessionTxn) (room : LogRoom) (a : SessionTxn) → spare ≤ LONGEST_FRAME + GREATEST_CHECKPOINT
+        → HasLogRoom spare undos room → a.undo.images ≡ [] → Admits room ENDING_COST → HasLogRoom spare (a ∷ undos) (begun_room room) }
+    ensures change { (spare : ℕ) (R : Records) (undos : List SessionTxn) (room : LogRoom) (a : SessionTxn) (id : Rid) (image : Image) →
+        spare ≤ LONGEST_FRAME + GREATEST_CHECKPOINT → HasLogRoom spare undos room → EachOnce (txns_of undos) → IsAmong a undos → ChangeAdmits R id image room
+        → HasLogRoom spare (with_undo a.txn (with_before_image R a.undo id) undos) (changed_room (get R id) image room) }
+    ensures marks { (spare : ℕ) (undos : List SessionTxn) (room : LogRoom) (a : SessionTxn) (undo : UndoList) → HasLogRoom spare undos room
+        → EachOnce (txns_of undos) → IsAmong a undos → undo.images ≡ a.undo.images → HasLogRoom spare (with_undo a.txn undo undos) room }
+    ensures compensation { (spare : ℕ) (undos : List SessionTxn) (room : LogRoom) (a : SessionTxn) (kept : List (Rid × Image)) (e : Rid × Image) (marks : List ℕ) →
+        HasLogRoom spare undos room → EachOnce (txns_of undos) → IsAmong a undos → a.undo.images ≡ kept ++ e ∷ [] →
+        Takes spare room (compensation_cost e.1)
+        × HasLogRoom spare (with_undo a.txn record { images = kept; marks = marks } undos) (undone_room e.1 room) }
+    ensures ending { (spare : ℕ) (undos : List SessionTxn) (room : LogRoom) (a : SessionTxn) →
+        HasLogRoom spare undos room → EachOnce (txns_of undos) → IsAmong a undos →
+        Takes spare room ENDING_COST
+        × HasLogRoom spare (without_txn a.txn undos) (ended_room (owed a) room) × HasLogRoom spare (without_txn a.txn undos) (left_room (owed a) room) }
+{}
+
 /// Rollbacks of any transactions, in steps that take turns as they like, and the endings after them, have their room in the log.
 pub fn rollbacks_in_turns_have_log_room()
-    ensures { (spare : ℕ) (undos : List SessionTxn) (room : LogRoom) (turns : List ℕ) → spare ≤ LONGEST_FRAME + GREATEST_CHECKPOINT
-        → EachOnce (txns_of undos) → HasLogRoom spare undos room → TurnsTake spare undos room turns }
+    ensures { (spare : ℕ) (undos : List SessionTxn) (room : LogRoom) (turns : List ℕ) →
+        EachOnce (txns_of undos) → HasLogRoom spare undos room → TurnsTake spare undos room turns }
 {}
 
 /// Steps of any transactions, mingled as they like, keep the room of pages and log; and no Compensation and no ending lacks it.

@@ -1,5 +1,10 @@
-use Rattle.shore_room.proofs.Tables.{opens_claimed, page_undos}
+use Rattle.std.proofs.Common.{sym}
+use Rattle.shore_room.proofs.Settled.{claims_settled, opens_claimed}
+use Rattle.shore_room.proofs.Tables.{page_undos}
 use Rattle.shore_room.proofs.laws.pages_are_claimed.Goals as goal
+
+pub returns-clause-alike : goal.returns-clause-alike
+returns-clause-alike c R p n = sym (claims_settled R p n)
 
 pub returns-clause-settled : goal.returns-clause-settled
 returns-clause-settled c = opens_claimed
