@@ -7,7 +7,7 @@ use Rattle.byteorder.specs.Numbers.{length-bytes_low_first}
 use Rattle.shore_types.specs.declared.ids.Rid.{Rid}
 use Rattle.shore_types.specs.Images.{Image}
 use Rattle.shore_model.specs.declared.log_records.LogRecord.{LogRecord}
-use Rattle.shore_logrec.specs.Text.{rid_text, string_text, image_text, image_text_len, change_text, payload_text, head_text, text}
+use Rattle.shore_logrec.specs.Text.{rid_text, string_text, image_text, image_text_len, change_text, compensation_text, payload_text, head_text, text}
 
 pub length-little_bytes : (n x : ℕ) → length (little_bytes n x) ≡ n
 length-little_bytes n x = length-bytes_low_first 0 n x
@@ -28,6 +28,10 @@ pub length-change_text : (id : Rid) (before after : Image) → length (change_te
 length-change_text id before after =
     omega (arith, length-append (rid_text id ++ image_text before) (image_text after), length-append (rid_text id) (image_text before), length-rid_text id)
 
+pub length-compensation_text : (id : Rid) (after : Image) (undo_next : ℕ) → length (compensation_text id after undo_next) ≡ 18 + length (image_text after)
+length-compensation_text id after undo_next =
+    omega (arith, length-append (rid_text id ++ image_text after) (little_bytes 8 undo_next), length-append (rid_text id) (image_text after), length-rid_text id, length-little_bytes 8 undo_next)
+
 pub length-head_text : (r : LogRecord) → length (head_text r) ≡ 21
 unfolding head_text
 length-head_text r = omega arith
@@ -36,4 +40,4 @@ pub length-text : (r : LogRecord) → length (text r) ≡ 21 + length (payload_t
 unfolding text
 length-text r = omega (arith, length-append (head_text r) (payload_text r.payload), length-head_text r)
 
-pub ruleset lengths = (length-append, length-little_bytes, length-rid_text, length-string_text, length-image_text, length-change_text, length-head_text, length-text)
+pub ruleset lengths = (length-append, length-little_bytes, length-rid_text, length-string_text, length-image_text, length-change_text, length-compensation_text, length-head_text, length-text)

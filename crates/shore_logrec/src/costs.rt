@@ -1,10 +1,10 @@
 //! What records take of the log's room, in bytes, by the lengths of their images.
-ghost use Rattle.std.specs.Prelude.{◌≡◌, ◌≤◌, ◌+◌, length, option_map};
+ghost use Rattle.std.specs.Prelude.{◌≡◌, ◌≤◌, ◌+◌, ℕ, length, option_map};
 ghost use Rattle.std.specs.Option.{ForSome};
 ghost use Rattle.shore_types.specs.declared.ids.Rid.{Rid};
 ghost use Rattle.shore_types.specs.declared.layout.TheConstants.{MAX_RECORD_BYTES};
 ghost use Rattle.shore_types.specs.Images.{Image};
-ghost use Rattle.shore_model.specs.declared.log_records.Payload.TheVariants.{Change};
+ghost use Rattle.shore_model.specs.declared.log_records.Payload.TheVariants.{Change, Compensation};
 ghost use Rattle.shore_logrec.specs.Text.{cost_of, image_text_len};
 
 use crate::lengths::{LSN_BYTES, RID_BYTES, image_len};
@@ -23,9 +23,11 @@ pub fn change_cost(before: Option<usize>, after: Option<usize>) -> u64
 }
 
 /// The cost of a Compensation whose image has this length, None for an absent one.
+#[tactic(auto, using(crate::proofs::TextLengths::lengths))]
 pub fn compensation_cost(image: Option<usize>) -> u64
     requires { ForSome image (λ n. n ≤ MAX_RECORD_BYTES) }
-    ensures { result ≡ 52 + image_text_len image }
+    ensures sum { result ≡ 52 + image_text_len image }
+    ensures cost { (id : Rid) (i : Image) (undo_next : ℕ) → option_map length i ≡ image → result ≡ cost_of (Compensation id i undo_next) }
 {
     ENDING_COST + (RID_BYTES + image_len(image) + LSN_BYTES) as u64
 }
