@@ -13,7 +13,7 @@ use Rattle.shore_page.specs.Slots.{Slot, image_len, settled, with_change, with_i
 use Rattle.shore_page.specs.Undo.{claiming, longest}
 use Rattle.shore_page.proofs.RoomLemmas.{need_inside}
 use Rattle.shore_room.specs.Claims.{Claimed, SlotCounts, befores_at, befores_in, each_from, rid_on, slots_of, undecided_at}
-use Rattle.shore_room.specs.Events.{ChangeFits}
+use Rattle.shore_room.specs.Events.{ChangeFitsPage}
 use Rattle.shore_room.specs.Settling.{settled_slots}
 use Rattle.shore_sessions.specs.Sessions.{SessionTxn}
 use Rattle.shore_sessions.specs.Views.{IsAmong}
@@ -24,7 +24,7 @@ use Rattle.shore_room.proofs.Pages.{length-slots}
 
 -- a delete of a record that is there
 pub delete_fits : (R : Records) (undos : List SessionTxn) (counts : SlotCounts) → Claimed R undos counts → (id : Rid) (bytes : List ℕ) → get R id ≡ Some bytes
-    → ChangeFits R undos counts id None counts
+    → ChangeFitsPage R undos counts id None counts
 delete_fits R undos counts k id bytes here =
     let inside : id.slot < counts id.page = elim (nat_lt id.slot (counts id.page)) as (λ b. nat_lt id.slot (counts id.page) ≡ b → id.slot < counts id.page) [
       | true ↦ λ e. ltb-true id.slot (counts id.page) e

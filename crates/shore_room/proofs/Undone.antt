@@ -12,7 +12,7 @@ use Rattle.shore_model.specs.Locks.{MayWrite}
 use Rattle.shore_types.specs.Images.{Image}
 use Rattle.shore_model.specs.Records.{Records, laid_over, put_image}
 use Rattle.shore_room.specs.Claims.{Claimed, NoOthers, SlotCounts, befores_in}
-use Rattle.shore_room.specs.Events.{AnswerFits, ChangeFits, EventFits}
+use Rattle.shore_room.specs.Events.{AnswerFits, ChangeFitsPage, EventFits}
 use Rattle.shore_sessions.specs.RepliesInPlace.{Permit}
 use Rattle.shore_sessions.specs.SessionSteps.{AnswerAbort, AnswerCommit, AppendCommit, BeginTxn, GiveReply, MoveLocks, RefuseCall, SessionEvent, StepsTo}
 use Rattle.shore_sessions.specs.Sessions.{SessionTxn, Sessions, with_undo, without_txn}
@@ -75,7 +75,7 @@ module _ {o : Records} {es : List Entry} {s : Sessions} (after : IsSoundAfter o 
     same_counts : {R : Records} {undos : List SessionTxn} → new ≡ counts → Claimed R undos counts → Claimed R undos new
     same_counts {R} {undos} same h = subst (Claimed R undos) (sym same) h
 
-    change_on : (id : Rid) (image : Image) → MayWrite s.held a.txn id → ChangeFits s.records s.active counts id image new
+    change_on : (id : Rid) (image : Image) → MayWrite s.held a.txn id → ChangeFitsPage s.records s.active counts id image new
         → Claimed (put_image s.records id image) (with_undo a.txn (with_before_image s.records a.undo id) s.active) new
     change_on id image w h = change_keeps s.records s.active counts k a m id image (alone a m id w) h.0 new h.1
 
