@@ -1,0 +1,13 @@
+pub mod Acknowledged
+pub mod Answering
+pub mod Beginning
+pub mod Committing
+pub mod Crashes
+pub mod Elements
+pub mod Growing
+pub mod Opens
+pub mod Prefixes
+pub mod Refusals
+pub mod Sessions
+pub mod Steps
+pub mod VolumeLock
