@@ -1,5 +1,5 @@
 -- A call of a transaction under way that is answered leaves a state after its entry.
-use Rattle.std.proofs.Common.{◌≡◌, inl, inr, ⊎_elim, ◌++◌, ◌∷◌, ℕ, List, [], Some, Ok, refl, sym, ap, subst, ◌∙◌, length, append-nil}
+use Rattle.std.proofs.Common.{◌≡◌, ◌⊎◌, inl, inr, ⊎_elim, ◌++◌, ◌∷◌, ℕ, List, [], Some, Ok, refl, sym, ap, subst, ◌∙◌, length, append-nil}
 use Rattle.std.specs.Prelude.{IsSomeAnd, Option}
 use Rattle.std.specs.FinMap.{get}
 use Rattle.shore_types.specs.declared.layout.Geometry.{Geometry}
@@ -30,12 +30,17 @@ use Rattle.shore_calls.specs.States.{State, volume_lock}
 
 -- ---- what the answer is
 
+-- the log has a record more at most
+abbrev pub GainsOne : List LogRecord → List LogRecord → Type 0
+GainsOne log log' = (log' ≡ log) ⊎ ((r : LogRecord) × (log' ≡ log ++ r ∷ []))
+
 -- of a call that a transaction makes between its begin and its end
 pub record IsInnerAnswer (s : State) (session : ℕ) (a : SessionTxn) (c : Call) (answer : Answer) : Type 0 where
   pub inner : IsInnerCall c
   pub may : MayReplyInPlace (volume_lock a.txn) a.txn s.sessions.records (length a.undo.marks) c (Ok answer)
   pub under : answered_under s.sessions session c ≡ txn_of s.sessions session
   pub on : IsPrefix s.log (log_after_answer s.log s.sessions.records a c answer)
+  pub one : GainsOne s.log (log_after_answer s.log s.sessions.records a c answer)
 
 is_some_and : {A : Type 0} (o : Option A) (x : A) (P : A → Type 0) → o ≡ Some x → P x → IsSomeAnd o P
 is_some_and o x P e p = subst (λ o. IsSomeAnd o P) (sym e) p
@@ -50,6 +55,7 @@ module _ (g : Geometry) (s : State) (session : ℕ) (a : SessionTxn) (counts : S
     may = (reads_all a.txn id, is_some_and (get s.sessions.records id) h.1.0 (λ bytes. answer ≡ Got bytes) h.1.1 h.1.2);
     under = refl;
     on = unlogged;
+    one = inl refl;
   }
   inner_answer (call.Insert store bytes) answer h =
       let id = h.2.0 in
@@ -59,20 +65,23 @@ module _ (g : Geometry) (s : State) (session : ℕ) (a : SessionTxn) (counts : S
         may = (writes_all a.txn id, (id, refl, h.2.1.serves.of_store, h.2.1.serves.empty));
         under = refl;
         on = (_ ∷ [], refl);
+        one = inr (_, refl);
       })
   inner_answer (call.Update id bytes) answer h = record {
     inner = tt;
     may = (writes_all a.txn id, (h.1.1, h.3));
     under = refl;
     on = (_ ∷ [], refl);
+    one = inr (_, refl);
   }
   inner_answer (call.Delete id) answer h = record {
     inner = tt;
     may = (writes_all a.txn id, (h.0.1, h.2));
     under = refl;
     on = (_ ∷ [], refl);
+    one = inr (_, refl);
   }
-  inner_answer (call.Scan store) answer h = record { inner = tt; may = (λ id of. reads_all a.txn id, h.1); under = refl; on = unlogged }
+  inner_answer (call.Scan store) answer h = record { inner = tt; may = (λ id of. reads_all a.txn id, h.1); under = refl; on = unlogged; one = inl refl }
   inner_answer _ answer h = absurd h
 
 -- ---- the state after it

@@ -48,7 +48,7 @@ module _ (found : List LogRecord) (es : List Entry) (s : State) (k : IsStateAfte
     commit_goes_on : IsPrefix s.log (committed s a).log
     commit_goes_on = (commit_record ∷ [], refl)
 
-    pub commit_moves : StepsTo s.sessions (AppendCommit a) (committed s a).sessions
+    commit_moves : StepsTo s.sessions (AppendCommit a) (committed s a).sessions
     commit_moves = (mem, refl)
 
     sessions_committed : AreSessionsAfter (length found) (records_committed found) (es ++ decided ∷ []) (committed s a).sessions (committed s a).log

@@ -1,6 +1,7 @@
 pub mod Acknowledged
 pub mod Answering
 pub mod Beginning
+pub mod Bounds
 pub mod Committing
 pub mod Crashes
 pub mod Elements
@@ -8,6 +9,8 @@ pub mod Growing
 pub mod Opens
 pub mod Prefixes
 pub mod Refusals
+pub mod Rooms
 pub mod Sessions
 pub mod Steps
 pub mod VolumeLock
+pub mod WrongSteps

@@ -44,7 +44,7 @@ pub record FindsNone (s : State) (session : ℕ) (c : Call) : Type 0 where
 
 no_page_fault : IsPageFault fault.NoRecord → ⊥
 no_page_fault (inl e) = cc
-no_page_fault (inr h) = let e = h.2 in cc
+no_page_fault (inr h) = let e = h.1 in cc
 
 module _ (g : Geometry) (s : State) (session : ℕ) where
   finds_none : (c : Call) → IsRefusal g s session c fault.NoRecord → FindsNone s session c

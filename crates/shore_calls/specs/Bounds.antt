@@ -32,3 +32,4 @@ pub record IsBounded (g : Geometry) (stream_bytes : ℕ) (s : State) : Type 0 wh
   pub as_long : s.stream_bytes ≡ stream_bytes
   pub beginnings : AreInBounds g stream_bytes s.log
   pub inside : AreRecords g s.sessions.records
+  pub txns : s.sessions.next_txn ≤ LAST_TXN

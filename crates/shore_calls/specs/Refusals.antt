@@ -3,7 +3,7 @@ use Rattle.std.specs.Prelude.{◌≡◌, ◌⊎◌, ◌+◌, ◌<◌, ◌≤◌,
 use Rattle.std.specs.FinMap.{get}
 use Rattle.shore_types.specs.Images.{Image}
 use Rattle.shore_types.specs.Layout.{HasStore, HasPage}
-use Rattle.shore_types.specs.declared.faults.Device.{Device}
+use Rattle.shore_types.specs.declared.faults.Device.TheVariants.{Volume}
 use Rattle.shore_types.specs.declared.faults.Fault.{Fault}
 use Rattle.shore_types.specs.declared.faults.Fault.TheVariants as fault
 use Rattle.shore_types.specs.declared.ids.Rid.{Rid}
@@ -58,7 +58,7 @@ FindsRecord g s session id = ReachesPage g s session id × IsSome (get s.session
 
 -- a page could not be read: its device failed, or it is damaged
 abbrev pub IsPageFault : Fault → Type 0
-IsPageFault f = (f ≡ fault.Device) ⊎ ((d : Device) × (offset : ℕ) × (f ≡ fault.Damaged d offset))
+IsPageFault f = (f ≡ fault.Device) ⊎ ((offset : ℕ) × (f ≡ fault.Damaged Volume offset))
 
 -- ---- refusals
 
