@@ -1,5 +1,5 @@
 -- Each step keeps what a crash leaves in bounds.
-use Rattle.std.proofs.Common.{◌≡◌, inl, inr, ⊎_elim, ◌++◌, ◌≤◌, ◌<◌, ℕ, List, [], ◌∷◌, Some, None, Ok, refl, sym, ap, subst, ◌∙◌, length, map, take, arith}
+use Rattle.std.proofs.Common.{◌≡◌, inl, inr, ⊎_elim, ◌++◌, ◌≤◌, ◌<◌, ℕ, List, [], ◌∷◌, Some, None, sym, subst, ◌∙◌, length, take, arith}
 use Rattle.std.specs.Prelude.{All}
 use Rattle.std.specs.FinMap.{get}
 use Rattle.std.specs.List.{AllByRecursion}
@@ -20,32 +20,25 @@ use Rattle.shore_model.specs.declared.calls.Call.TheVariants as call
 use Rattle.shore_model.specs.declared.histories.Entry.{Entry}
 use Rattle.shore_model.specs.declared.log_records.LogRecord.{LogRecord}
 use Rattle.shore_model.specs.declared.log_records.Payload.TheVariants as payload
-use Rattle.shore_model.specs.Histories.{serial}
 use Rattle.shore_model.specs.Logs.{previous_of}
-use Rattle.shore_model.specs.Records.{AreRecords, IsRecord, Records, overlays, put_image}
+use Rattle.shore_model.specs.Records.{AreRecords, IsRecord, Records, put_image}
 use Rattle.shore_machine.specs.declared.step.Step.{Step}
 use Rattle.shore_machine.specs.declared.step.Step.TheVariants.{Done, Waits, Refused, Nothing}
 use Rattle.shore_page.specs.Slots.{image_len}
 use Rattle.shore_room.specs.Claims.{Claimed, SlotCounts, rid_on}
 use Rattle.shore_sessions.proofs.Ids.{put_here, put_there, told_apart}
-use Rattle.shore_sessions.proofs.InPlace.{is_overlaid}
 use Rattle.shore_sessions.proofs.Lists.{take-beyond, within_or_beyond}
-use Rattle.shore_sessions.proofs.LogDecisions.{event_midst}
-use Rattle.shore_sessions.proofs.Members.{among_without}
-use Rattle.shore_sessions.specs.LogPrefixes.{LogDecides, TellsItsDecisions}
 use Rattle.shore_sessions.specs.LogTells.{records_committed}
 use Rattle.shore_sessions.specs.Logged.{log_after_answer}
-use Rattle.shore_sessions.specs.SessionSteps.{GiveReply}
-use Rattle.shore_sessions.specs.Sessions.{SessionTxn, txns_of, without_txn}
-use Rattle.shore_sessions.specs.Soundness.{serial_after, written_by}
+use Rattle.shore_sessions.specs.Sessions.{SessionTxn}
 use Rattle.shore_sessions.specs.UndoLists.{in_place_after_answer}
 use Rattle.shore_sessions.specs.Views.{IsAmong}
-use Rattle.shore_calls.proofs.Answering.{GainsOne, answer_moves, inner_answer}
-use Rattle.shore_calls.proofs.Committing.{only_txn}
+use Rattle.shore_calls.proofs.Answering.{GainsOne, inner_answer}
 use Rattle.shore_calls.proofs.Rooms.{event_roomy}
 use Rattle.shore_calls.proofs.Steps.{event_kept}
+use Rattle.shore_calls.proofs.Telling.{all_in_place, answer_tells_none, none_left}
 use Rattle.shore_calls.specs.Bounds.{AreInBounds, HasPlace, InBounds, IsBounded}
-use Rattle.shore_calls.specs.CallHistories.{IsOpened, IsRoomyState, IsStateAfter, entries_of}
+use Rattle.shore_calls.specs.CallHistories.{IsOpened, IsRoomyState, IsStateAfter, MovesMaking, entries_of}
 use Rattle.shore_calls.specs.CallSteps.{Answers, CallStep, Called, EventMoves, Forced, HasFailed, ManagerEvent, MayAnswer, ResumeStep, Resumed, after_refusal, answered, begun, committed}
 use Rattle.shore_calls.specs.Refusals.{FitsAt}
 use Rattle.shore_calls.specs.States.{State}
@@ -62,25 +55,6 @@ all_below n m rs le h = each_of (λ (r : LogRecord). r.txn < m) rs (raised rs h)
     raised : (rs : List LogRecord) → AllByRecursion (λ r. r.txn < n) rs → AllByRecursion (λ r. r.txn < m) rs
     raised [] h = tt
     raised (r ∷ rs) h = let less = h.0 in (omega arith, raised rs h.1)
-
--- ---- what a list tells
-
--- a log that has just the decisions of the entries tells their serial records
-whole_told : (base : ℕ) (o : Records) (es : List Entry) (log : List LogRecord) → LogDecides base o es log → records_committed log ≡ serial_after o es
-whole_told base o es log d =
-    subst (TellsItsDecisions base o (written_by es)) (take-length log) (d.prefixes (length log) d.long (omega arith)) ∙ ap (serial (written_by es) o) (sym d.all)
-
--- the record of a change tells nothing yet
-change_tells_none : (found : List LogRecord) (es : List Entry) (s : State) → IsStateAfter found es s → (log' : List LogRecord)
-    → LogDecides (length found) (records_committed found) es log' → records_committed log' ≡ records_committed s.log
-change_tells_none found es s k log' d =
-    whole_told (length found) (records_committed found) es log' d ∙ sym (whole_told (length found) (records_committed found) es s.log k.decides)
-
--- if nobody is under way, all that is in place is told
-all_in_place : (found : List LogRecord) (es : List Entry) (s : State) → IsStateAfter found es s → s.sessions.active ≡ [] → s.sessions.records ≡ records_committed s.log
-all_in_place found es s k none =
-    let over = ap (λ (xs : List SessionTxn). overlays (serial_after (records_committed found) es) (map (written_by es) (txns_of xs))) none in
-    is_overlaid k.sound.stand ∙ over ∙ sym (whole_told (length found) (records_committed found) es s.log k.decides)
 
 -- ---- lists in bounds
 
@@ -170,8 +144,7 @@ module _ (g : Geometry) (stream_bytes : ℕ) (found : List LogRecord) (es : List
     answer_bounded later c answer counts may new_state new_roomy =
         let inner = inner_answer g s session a counts c answer may in
         let log' = log_after_answer s.log s.sessions.records a c answer in
-        let midst = event_midst (length found) (records_committed found) es s.sessions (answered s a c answer counts).sessions (GiveReply a c (Ok answer)) s.log k.sound k.log k.decides (answer_moves found es s k session a mem of c answer counts inner) tt in
-        let same : records_committed log' ≡ records_committed s.log = change_tells_none found es s k log' midst in
+        let same : records_committed log' ≡ records_committed s.log = answer_tells_none found es s k session a mem of c answer counts inner in
         let was = whole_in_bounds g stream_bytes s.log h.beginnings in
         record {
           as_long = h.as_long;
@@ -186,9 +159,7 @@ module _ (g : Geometry) (stream_bytes : ℕ) (found : List LogRecord) (es : List
     -- a Commit: the log tells all that is in place
     commit_bounded : (later : List Entry) → IsStateAfter found later (committed s a) → IsRoomyState (committed s a) → IsBounded g stream_bytes (committed s a)
     commit_bounded later new_state new_roomy =
-        let none : without_txn a.txn s.sessions.active ≡ [] =
-        nobody_left (without_txn a.txn s.sessions.active)
-        (λ b m. let w = among_without a.txn b s.sessions.active m in w.1 (only_txn found es s k b a (inl w.0) (inl mem))) in
+        let none = none_left found es s k a mem in
         let told : s.sessions.records ≡ records_committed (committed s a).log = all_in_place found later (committed s a) new_state none in
         let pages : Claimed s.sessions.records [] s.counts = subst (λ undos. Claimed s.sessions.records undos s.counts) none new_roomy.pages in
         record {
@@ -200,10 +171,6 @@ module _ (g : Geometry) (stream_bytes : ℕ) (found : List LogRecord) (es : List
           inside = h.inside;
           txns = h.txns;
         }
-      where
-        nobody_left : (xs : List SessionTxn) → ((b : SessionTxn) → IsAmong b xs → ⊥) → xs ≡ []
-        nobody_left [] none = refl
-        nobody_left (x ∷ xs) none = absurd (none x (inl refl))
 
   refusal_bounded : (f : Fault) → IsBounded g stream_bytes (after_refusal f s)
   refusal_bounded fault.Device = record { as_long = h.as_long; beginnings = h.beginnings; inside = h.inside; txns = h.txns }
@@ -245,6 +212,14 @@ event_bounded g stream_bytes found es s new (Forced n) k roomy h x =
     subst (IsBounded g stream_bytes) (sym x.2) (record { as_long = h.as_long; beginnings = h.beginnings; inside = h.inside; txns = h.txns })
 event_bounded g stream_bytes found es s new HasFailed k roomy h x =
     subst (IsBounded g stream_bytes) (sym x) (record { as_long = h.as_long; beginnings = h.beginnings; inside = h.inside; txns = h.txns })
+
+pub events_bounded : (g : Geometry) (stream_bytes : ℕ) (found : List LogRecord) (es : List Entry) (s : State) (events : List ManagerEvent) (last : State)
+    (made : List Entry) → IsStateAfter found es s → IsRoomyState s → IsBounded g stream_bytes s → MovesMaking g s events last made
+    → IsRoomyState last × IsBounded g stream_bytes last
+events_bounded g stream_bytes found es s [] last made k roomy h x = (subst IsRoomyState (sym x.0) roomy, subst (IsBounded g stream_bytes) (sym x.0) h)
+events_bounded g stream_bytes found es s (e ∷ events) last made k roomy h x =
+    events_bounded g stream_bytes found (es ++ entries_of s e) x.0 events last x.1 (event_kept g found es s x.0 e k x.2) (event_roomy g found es s x.0 e k roomy x.2)
+    (event_bounded g stream_bytes found es s x.0 e k roomy h x.2) x.3
 
 -- ---- an open
 

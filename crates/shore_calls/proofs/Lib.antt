@@ -7,10 +7,13 @@ pub mod Crashes
 pub mod Elements
 pub mod Growing
 pub mod Opens
+pub mod Places
 pub mod Prefixes
 pub mod Refusals
 pub mod Rooms
 pub mod Sessions
 pub mod Steps
+pub mod Telling
 pub mod VolumeLock
+pub mod WorkedRun
 pub mod WrongSteps

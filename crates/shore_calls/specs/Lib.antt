@@ -3,3 +3,4 @@ pub mod Refusals
 pub mod CallSteps
 pub mod CallHistories
 pub mod Bounds
+pub mod WorkedRun

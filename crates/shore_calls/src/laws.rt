@@ -1,20 +1,21 @@
 //! The laws of calls, each stated as the contract of an empty function.
-ghost use Rattle.std.specs.Prelude.{◌≡◌, ◌≢◌, ◌<◌, ◌≤◌, ◌+◌, ◌++◌, ℕ, IsSome, IsTrue, List, [], None, Some, false, length, take};
+ghost use Rattle.std.specs.Prelude.{◌≡◌, ◌≢◌, ◌<◌, ◌≤◌, ◌+◌, ◌∷◌, ◌++◌, ℕ, IsSome, IsTrue, List, [], None, Some, false, length, take};
 ghost use Rattle.std.specs.FinMap.{empty, get};
-ghost use Rattle.shore_types.specs.Layout.{HasStore};
+ghost use Rattle.shore_types.specs.Layout.{HasPage, HasStore};
 ghost use Rattle.shore_types.specs.declared.faults.Fault.{Fault};
 ghost use Rattle.shore_types.specs.declared.faults.Fault.TheVariants.{LogFull, Memory, NoPage, NoRecord, StoreFull, TooLong};
 ghost use Rattle.shore_types.specs.declared.ids.PageId.{PageId};
 ghost use Rattle.shore_types.specs.declared.ids.Rid.{Rid};
 ghost use Rattle.shore_types.specs.declared.layout.Geometry.{Geometry};
-ghost use Rattle.shore_types.specs.declared.layout.TheConstants.{LAST_OPENED, LONGEST_FRAME, MAX_LOG_BYTES};
+ghost use Rattle.shore_types.specs.declared.layout.TheConstants.{LAST_OPENED, LONGEST_FRAME, MAX_LOG_BYTES, MAX_RECORD_BYTES};
 ghost use Rattle.shore_model.specs.declared.calls.Answer.{Answer};
 ghost use Rattle.shore_model.specs.declared.calls.Answer.TheVariants.{Got, Inserted, Scanned};
 ghost use Rattle.shore_model.specs.declared.calls.Call.{Call};
 ghost use Rattle.shore_model.specs.declared.calls.Call.TheVariants.{Begin, Commit, Delete, Get, Insert, Scan, Update};
+ghost use Rattle.shore_model.specs.declared.histories.Decision.TheVariants as decision;
 ghost use Rattle.shore_model.specs.declared.histories.Entry.{Entry};
 ghost use Rattle.shore_model.specs.declared.log_records.LogRecord.{LogRecord};
-ghost use Rattle.shore_model.specs.Histories.{IsHistory, Kept, Sound, serial};
+ghost use Rattle.shore_model.specs.Histories.{IsHistory, Kept, RunsAloneAfter, Sound, acknowledged, decisions, serial};
 ghost use Rattle.shore_model.specs.Lives.{IsLife};
 ghost use Rattle.shore_model.specs.Records.{scan_of};
 ghost use Rattle.shore_machine.specs.declared.step.Step.{Step};
@@ -24,13 +25,15 @@ ghost use Rattle.shore_page.specs.Room.{HasRoom};
 ghost use Rattle.shore_room.specs.Claims.{slots_of};
 ghost use Rattle.shore_sessions.specs.LogPrefixes.{decisions_in};
 ghost use Rattle.shore_sessions.specs.LogTells.{records_committed};
-ghost use Rattle.shore_sessions.specs.Soundness.{history_from, opening_with, written_by};
+ghost use Rattle.shore_sessions.specs.Soundness.{history_from, opening_with, serial_after, written_by};
+ghost use Rattle.shore_sessions.specs.Sessions.{SessionTxn};
 ghost use Rattle.shore_sessions.specs.Views.{IsAmong};
 ghost use Rattle.shore_calls.specs.Bounds.{AreInBounds, IsBounded};
 ghost use Rattle.shore_calls.specs.CallHistories.{AreFixed, AreRuns, IsOpened, IsRoomyState, IsStateAfter, KeepsDurable, MovesMaking, OpensShow, Run, entries_of_call, entries_of_resume, lists_found, spans_of};
 ghost use Rattle.shore_calls.specs.CallSteps.{CallStep, EventMoves, IsServed, ManagerEvent, ResumeStep, commit_waiting, with_durable, with_failure};
-ghost use Rattle.shore_calls.specs.Refusals.{CanLog, FitsAt, IsBefore, Serves};
+ghost use Rattle.shore_calls.specs.Refusals.{CanLog, FitsAt, IsBefore, IsPlaceFor, NoneServes, Serves};
 ghost use Rattle.shore_calls.specs.States.{DoesNotWait, HasNoTxn, IsInTxn, State, Waiting, cost_of_log};
+ghost use Rattle.shore_calls.specs.WorkedRun.{first_id, first_page, one_insert, opened_empty};
 
 /// What an open leaves is a state after no entries.
 pub fn open_begins_a_state()
@@ -103,8 +106,44 @@ pub fn steps_keep_bounds()
         IsStateAfter found es old → IsRoomyState old → IsBounded g stream_bytes old → EventMoves g old e new → IsBounded g stream_bytes new }
     ensures open { (g : Geometry) (stream_bytes : ℕ) (found : List LogRecord) (s : State) →
         IsOpened found s → AreInBounds g stream_bytes found → s.stream_bytes ≡ stream_bytes → IsBounded g stream_bytes s }
+    ensures runs { (g : Geometry) (stream_bytes : ℕ) (found : List LogRecord) (first last : State) (events : List ManagerEvent) (made : List Entry) →
+        IsOpened found first → IsRoomyState first → IsBounded g stream_bytes first → MovesMaking g first events last made →
+        IsRoomyState last × IsBounded g stream_bytes last }
     ensures crash { (g : Geometry) (stream_bytes : ℕ) (s : State) (n : ℕ) →
         IsBounded g stream_bytes s → KeepsDurable s n → AreInBounds g stream_bytes (take n s.log) }
+{}
+
+/// The log tells the serial records of all decisions. An answered call adds nothing to what it tells, and a Commit all that is in place.
+pub fn log_tells_what_is_decided()
+    ensures decided { (found : List LogRecord) (es : List Entry) (s : State) →
+        IsStateAfter found es s → records_committed s.log ≡ serial_after (records_committed found) es }
+    ensures in_place { (found : List LogRecord) (es : List Entry) (s : State) →
+        IsStateAfter found es s → s.sessions.active ≡ [] → s.sessions.records ≡ records_committed s.log }
+    ensures answer { (g : Geometry) (found : List LogRecord) (es : List Entry) (old new : State) (session : ℕ) (c : Call) (answer : Answer) →
+        IsStateAfter found es old → CallStep g old session c (Done answer) new → records_committed new.log ≡ records_committed old.log }
+    ensures commit { (g : Geometry) (found : List LogRecord) (es : List Entry) (old new : State) (session : ℕ) (c : Call) (wait : Wait) →
+        IsStateAfter found es old → CallStep g old session c (Waits wait) new → records_committed new.log ≡ old.sessions.records }
+{}
+
+/// A transaction under way runs alone on the serial records of now.
+pub fn undecided_transactions_run_alone()
+    ensures { (found : List LogRecord) (es : List Entry) (s : State) (a : SessionTxn) → IsStateAfter found es s → IsAmong a s.sessions.active →
+        RunsAloneAfter (history_from (records_committed found) es) (decisions es) a.txn }
+{}
+
+/// Who looks for the place of an insert need look at the slots that a page has, and at the one behind the last.
+pub fn reached_slots_are_enough()
+    ensures place { (g : Geometry) (s : State) (store : ℕ) (bytes : List ℕ) (id : Rid) → IsRoomyState s → Serves g s store bytes id
+        → ((other : Rid) → other.slot ≤ s.counts other.page → IsBefore other id → Serves g s store bytes other → ⊥) → IsPlaceFor g s store bytes id }
+    ensures none { (g : Geometry) (s : State) (store : ℕ) (bytes : List ℕ) → IsRoomyState s
+        → ((id : Rid) → id.slot ≤ s.counts id.page → Serves g s store bytes id → ⊥) → NoneServes g s store bytes }
+{}
+
+/// The conditions of steps can be met: over an empty volume, a transaction inserts a record and commits, and the commit is answered.
+pub fn one_insert_comes_through()
+    ensures { (g : Geometry) (stream_bytes : ℕ) (bytes : List ℕ) → HasStore g 0 → HasPage g first_page → length bytes ≤ MAX_RECORD_BYTES → 100000 ≤ stream_bytes →
+        (last : State) × (made : List Entry) × IsOpened [] (opened_empty stream_bytes) × MovesMaking g (opened_empty stream_bytes) (one_insert bytes) last made
+        × (get last.sessions.records first_id ≡ Some bytes) × (acknowledged made ≡ decision.Commit 1 ∷ []) }
 {}
 
 /// Answers that must not come, though each other condition of theirs may hold.
