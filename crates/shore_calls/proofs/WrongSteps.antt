@@ -1,0 +1,195 @@
+-- Steps that must not come.
+use Rattle.std.proofs.Common.{◌≡◌, ◌≢◌, inl, inr, ⊎_elim, ◌<◌, ℕ, List, Bool, false, Option, Some, None, sym, subst, ◌∙◌, arith}
+use Rattle.std.specs.Prelude.{IsSome, IsTrue}
+use Rattle.std.specs.FinMap.{get}
+use Rattle.shore_types.specs.Layout.{HasStore}
+use Rattle.shore_types.specs.declared.faults.Fault.{Fault}
+use Rattle.shore_types.specs.declared.faults.Fault.TheVariants as fault
+use Rattle.shore_types.specs.declared.ids.Rid.{Rid}
+use Rattle.shore_types.specs.declared.layout.Geometry.{Geometry}
+use Rattle.shore_model.specs.declared.calls.Answer.{Answer}
+use Rattle.shore_model.specs.declared.calls.Answer.TheVariants.{Got, Inserted, Scanned}
+use Rattle.shore_model.specs.declared.calls.Call.{Call}
+use Rattle.shore_model.specs.declared.calls.Call.TheVariants as call
+use Rattle.shore_model.specs.Records.{scan_of}
+use Rattle.shore_machine.specs.declared.step.Wait.{Wait}
+use Rattle.shore_machine.specs.declared.step.Step.TheVariants.{Done, Waits, Refused}
+use Rattle.shore_sessions.specs.Sessions.{SessionTxn}
+use Rattle.shore_sessions.specs.Views.{IsAmong}
+use Rattle.shore_room.specs.Claims.{SlotCounts}
+use Rattle.shore_calls.specs.CallSteps.{CallStep, MayAnswer, ResumeStep, commit_waiting}
+use Rattle.shore_calls.specs.Refusals.{CanLog, FitsAt, IsBefore, Refuses, Serves}
+use Rattle.shore_calls.specs.States.{HasNoTxn, IsInTxn, IsOfSession, State, Waiting}
+
+no_record_both : (o : Option (List ℕ)) → IsSome o → o ≡ None → ⊥
+no_record_both None h e = cc
+no_record_both (Some x) h e = cc
+
+both_ways : (b : Bool) → IsTrue b → b ≡ false → ⊥
+both_ways b h e = cc
+
+-- ---- resumes
+
+module _ (s new : State) (session : ℕ) (answer : Answer) where
+  pub answer_not_durable : ((n : ℕ) → IsAmong (commit_waiting session n) s.waiting → s.durable < n) → ResumeStep s session (Done answer) new → ⊥
+  answer_not_durable above h = let less = above h.1.0 h.1.1 in let le = h.1.2 in omega arith
+
+  pub resume_after_failure : IsTrue s.failed → ResumeStep s session (Done answer) new → ⊥
+  resume_after_failure failed h = both_ways s.failed failed h.0
+
+-- ---- calls
+
+module _ (g : Geometry) (s new : State) (session : ℕ) where
+  -- a call that is no begin is answered within its transaction
+  abbrev InTxn : Call → Answer → Type 0
+  InTxn c answer = (a : SessionTxn) × (counts : SlotCounts) × IsOfSession s session a × MayAnswer g s session c answer counts
+
+  in_txn : (c : Call) (answer : Answer) → (c ≡ call.Begin → ⊥) → CallStep g s session c (Done answer) new → InTxn c answer
+  in_txn c answer other h = ⊎_elim (λ x. absurd (other x.0)) (λ x. (x.0, x.1, x.2, x.3)) h.2
+
+  no_begin : (id : Rid) → call.Get id ≡ call.Begin → ⊥
+  no_begin id e = cc
+
+  no_insert_begin : (store : ℕ) (bytes : List ℕ) → call.Insert store bytes ≡ call.Begin → ⊥
+  no_insert_begin store bytes e = cc
+
+  no_update_begin : (id : Rid) (bytes : List ℕ) → call.Update id bytes ≡ call.Begin → ⊥
+  no_update_begin id bytes e = cc
+
+  no_delete_begin : (id : Rid) → call.Delete id ≡ call.Begin → ⊥
+  no_delete_begin id e = cc
+
+  no_scan_begin : (store : ℕ) → call.Scan store ≡ call.Begin → ⊥
+  no_scan_begin store e = cc
+
+  no_commit_begin : call.Commit ≡ call.Begin → ⊥
+  no_commit_begin e = cc
+
+  same_bytes : (x y : List ℕ) → Got x ≡ Got y → x ≡ y
+  same_bytes x y e = cc
+
+  same_image : (x y : List ℕ) (o : Option (List ℕ)) → o ≡ Some x → o ≡ Some y → x ≡ y
+  same_image x y o d e = cc
+
+  same_id : (a b : Rid) → Inserted a ≡ Inserted b → a ≡ b
+  same_id a b e = cc
+
+  -- ---- answers
+
+  pub other_bytes : (id : Rid) (x y : List ℕ) → get s.sessions.records id ≡ Some x → x ≢ y → CallStep g s session (call.Get id) (Done (Got y)) new → ⊥
+  other_bytes id x y at other h =
+      let t = in_txn (call.Get id) (Got y) (no_begin id) h in
+      other (same_image x t.3.1.0 (get s.sessions.records id) at t.3.1.1 ∙ sym (same_bytes y t.3.1.0 t.3.1.2))
+
+  pub update_of_none : (id : Rid) (bytes : List ℕ) (answer : Answer) → get s.sessions.records id ≡ None → CallStep g s session (call.Update id bytes) (Done answer) new → ⊥
+  update_of_none id bytes answer none h =
+      let t = in_txn (call.Update id bytes) answer (no_update_begin id bytes) h in
+      no_record_both (get s.sessions.records id) t.3.1.1 none
+
+  pub delete_of_none : (id : Rid) (answer : Answer) → get s.sessions.records id ≡ None → CallStep g s session (call.Delete id) (Done answer) new → ⊥
+  delete_of_none id answer none h =
+      let t = in_txn (call.Delete id) answer (no_delete_begin id) h in no_record_both (get s.sessions.records id) t.3.0.1 none
+
+  pub insert_above : (store : ℕ) (bytes : List ℕ) (id lower : Rid) → IsBefore lower id → Serves g s store bytes lower
+      → CallStep g s session (call.Insert store bytes) (Done (Inserted id)) new → ⊥
+  insert_above store bytes id lower before serves h =
+      let t = in_txn (call.Insert store bytes) (Inserted id) (no_insert_begin store bytes) h in
+      t.3.2.1.lowest lower (subst (IsBefore lower) (same_id id t.3.2.0 t.3.2.3) before) serves
+
+  pub insert_over : (store : ℕ) (bytes : List ℕ) (id : Rid) → IsSome (get s.sessions.records id)
+      → CallStep g s session (call.Insert store bytes) (Done (Inserted id)) new → ⊥
+  insert_over store bytes id there h =
+      let t = in_txn (call.Insert store bytes) (Inserted id) (no_insert_begin store bytes) h in
+      no_record_both (get s.sessions.records id) there (subst (λ id. get s.sessions.records id ≡ None) (sym (same_id id t.3.2.0 t.3.2.3)) t.3.2.1.serves.empty)
+
+  pub insert_without_room : (store : ℕ) (bytes : List ℕ) (id : Rid) → (CanLog s id (Some bytes) → ⊥)
+      → CallStep g s session (call.Insert store bytes) (Done (Inserted id)) new → ⊥
+  insert_without_room store bytes id none h =
+      let t = in_txn (call.Insert store bytes) (Inserted id) (no_insert_begin store bytes) h in
+      none (subst (λ id. CanLog s id (Some bytes)) (sym (same_id id t.3.2.0 t.3.2.3)) t.3.2.2.logs)
+
+  pub update_without_place : (id : Rid) (bytes : List ℕ) (answer : Answer) → (FitsAt s id (Some bytes) → ⊥)
+      → CallStep g s session (call.Update id bytes) (Done answer) new → ⊥
+  update_without_place id bytes answer none h =
+      let t = in_txn (call.Update id bytes) answer (no_update_begin id bytes) h in none t.3.2.fits
+
+  pub other_scan : (store : ℕ) (answer : Answer) → answer ≢ Scanned (scan_of store s.sessions.records) → CallStep g s session (call.Scan store) (Done answer) new → ⊥
+  other_scan store answer other h = let t = in_txn (call.Scan store) answer (no_scan_begin store) h in other t.3.1
+
+  pub commit_at_once : (answer : Answer) → CallStep g s session call.Commit (Done answer) new → ⊥
+  commit_at_once answer h = let t = in_txn call.Commit answer no_commit_begin h in absurd t.3
+
+  pub answer_in_no_txn : (c : Call) (answer : Answer) → c ≢ call.Begin → HasNoTxn s session → CallStep g s session c (Done answer) new → ⊥
+  answer_in_no_txn c answer other none h = let t = in_txn c answer other h in none t.0 (inl t.2.0) t.2.1
+
+  pub second_begin : (answer : Answer) → IsInTxn s session → CallStep g s session call.Begin (Done answer) new → ⊥
+  second_begin answer h step = ⊎_elim (λ x. x.1 h.0 (inl h.1.0) h.1.1) (λ x. absurd x.3) step.2
+
+  pub answer_while_waiting : (c : Call) (answer : Answer) (w : Waiting) → IsAmong w s.waiting → w.session ≡ session → CallStep g s session c (Done answer) new → ⊥
+  answer_while_waiting c answer w m of h = h.1 w m of
+
+  pub answer_after_failure : (c : Call) (answer : Answer) → IsTrue s.failed → CallStep g s session c (Done answer) new → ⊥
+  answer_after_failure c answer failed h = both_ways s.failed failed h.0
+
+  pub commit_after_failure : (c : Call) (wait : Wait) → IsTrue s.failed → CallStep g s session c (Waits wait) new → ⊥
+  commit_after_failure c wait failed h = both_ways s.failed failed h.0
+
+  -- ---- refusals
+
+  pub full_though_served : (store : ℕ) (bytes : List ℕ) (id : Rid) → Serves g s store bytes id → CallStep g s session (call.Insert store bytes) (Refused fault.StoreFull) new → ⊥
+  full_though_served store bytes id serves h = own h.0
+    where
+      own : Refuses g s session (call.Insert store bytes) fault.StoreFull → ⊥
+      own (inl e) = cc
+      own (inr (inl x)) = let e = x.1 in cc
+      own (inr (inr (inl x))) = let e = x.2 in cc
+      own (inr (inr (inr x))) = x.2.3 id serves
+
+  pub no_page_of_no_store : (id : Rid) → (HasStore g id.page.store → ⊥) → CallStep g s session (call.Get id) (Refused fault.NoPage) new → ⊥
+  no_page_of_no_store id none h = own h.0
+    where
+      own : Refuses g s session (call.Get id) fault.NoPage → ⊥
+      own (inl e) = cc
+      own (inr (inl x)) = let e = x.1 in cc
+      own (inr (inr (inl x))) = let e = x.2 in cc
+      own (inr (inr (inr x))) = none x.2.1
+
+  pub no_record_though_there : (id : Rid) → IsSome (get s.sessions.records id) → CallStep g s session (call.Get id) (Refused fault.NoRecord) new → ⊥
+  no_record_though_there id there h = own h.0
+    where
+      own : Refuses g s session (call.Get id) fault.NoRecord → ⊥
+      own (inl e) = cc
+      own (inr (inl x)) = let e = x.1 in cc
+      own (inr (inr (inl x))) = let e = x.2 in cc
+      own (inr (inr (inr x))) = no_record_both (get s.sessions.records id) there x.2.1
+
+  pub log_before_page : (id : Rid) (bytes : List ℕ) → (FitsAt s id (Some bytes) → ⊥) → CallStep g s session (call.Update id bytes) (Refused fault.LogFull) new → ⊥
+  log_before_page id bytes none h = own h.0
+    where
+      own : Refuses g s session (call.Update id bytes) fault.LogFull → ⊥
+      own (inl e) = cc
+      own (inr (inl x)) = let e = x.1 in cc
+      own (inr (inr (inl x))) = let e = x.2 in cc
+      own (inr (inr (inr x))) = none x.2.2
+
+  pub too_long_in_no_txn : (id : Rid) (bytes : List ℕ) → HasNoTxn s session → CallStep g s session (call.Update id bytes) (Refused fault.TooLong) new → ⊥
+  too_long_in_no_txn id bytes none h = own h.0
+    where
+      own : Refuses g s session (call.Update id bytes) fault.TooLong → ⊥
+      own (inl e) = cc
+      own (inr (inl x)) = let e = x.1 in cc
+      own (inr (inr (inl x))) = let e = x.2 in cc
+      own (inr (inr (inr x))) = none x.2.0.0 (inl x.2.0.1.0) x.2.0.1.1
+
+  pub commit_refused_in_txn : (f : Fault) → IsInTxn s session → f ≢ fault.Memory → s.failed ≡ false → ((w : Waiting) → IsAmong w s.waiting → w.session ≢ session)
+      → CallStep g s session call.Commit (Refused f) new → ⊥
+  commit_refused_in_txn f mine other running idle h = own h.0
+    where
+      own : Refuses g s session call.Commit f → ⊥
+      own (inl e) = other e
+      own (inr (inl x)) = both_ways s.failed x.0 running
+      own (inr (inr (inl x))) = x.1 idle
+      own (inr (inr (inr x))) = x.2.1 mine.0 (inl mine.1.0) mine.1.1
+
+  pub refusal_that_changes : (c : Call) → new ≢ s → CallStep g s session c (Refused fault.NoRecord) new → ⊥
+  refusal_that_changes c changed h = changed h.1

@@ -1,0 +1,4 @@
+//! The calls of a manager over plain data: what each is answered and leaves, and the laws of the histories that they make.
+#![tactic(auto)]
+
+pub mod laws;
