@@ -113,14 +113,17 @@ impl Page {
         if bytes > MAX_RECORD_BYTES {
             return None;
         }
-        let free = self.free_bytes();
         let slots = self.slot_count();
-        for slot in from..slots {
+        if from > slots {
+            return None;
+        }
+        let free = self.free_bytes();
+        for slot in self.text.full_until(from as usize) as u16..slots {
             if self.takes(slot, bytes, free) {
                 return Some(slot);
             }
         }
-        if from > slots || slots >= MAX_SLOTS || bytes + SLOT_ENTRY_BYTES > free {
+        if slots >= MAX_SLOTS || bytes + SLOT_ENTRY_BYTES > free {
             return None;
         }
         Some(slots)
