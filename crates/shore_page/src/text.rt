@@ -1,5 +1,5 @@
 //! A page's text with its records: the bytes are a text at all times, and only they are kept.
-ghost use Rattle.std.specs.Prelude.{◌≡◌, ◌+◌, ◌-◌, ◌*◌, ◌<◌, ◌≤◌, ◌++◌, ◌∷◌, ℕ, [], length, replicate, set, slice_get, slice_index_or, Some, None, option_map, IfOk, IfSome, List};
+ghost use Rattle.std.specs.Prelude.{◌≡◌, ◌≢◌, ◌↔◌, ◌+◌, ◌-◌, ◌*◌, ◌<◌, ◌≤◌, ◌++◌, ◌∷◌, ℕ, [], length, replicate, set, slice_get, slice_index_or, Some, None, option_map, IsTrue, IfOk, IfSome, List};
 ghost use Rattle.std.specs.Option.{option_and_then};
 ghost use Rattle.shore_types.specs.Images.{Image};
 ghost use Rattle.shore_types.specs.declared.layout.TheConstants.{PAGE_BYTES, MAX_RECORD_BYTES, MAX_SLOTS};
@@ -88,6 +88,42 @@ impl PageBytes {
         ensures { option_map (λ bytes. bytes.now) result ≡ slice_index_or self.now.images slot None }
     {
         image_at(&self.bytes, slot)
+    }
+
+    /// Whether a slot that is there has no record.
+    pub fn is_empty(&self, slot: usize) -> bool
+        requires { slot < length self.now.images }
+        ensures { IsTrue result ↔ (slice_index_or self.now.images slot None ≡ None) }
+    {
+        entry_at(&self.bytes, slot).offset == 0
+    }
+
+    /// A slot so that all from one on up to it have a record: the first that has none, or one shortly before it. Slots are looked at four at a time, since a
+    /// page may have many, and mostly each of them has a record.
+    pub fn full_until(&self, from: usize) -> usize
+        requires { from ≤ length self.now.images }
+        ensures from { from ≤ result }
+        ensures there { result ≤ length self.now.images }
+        ensures full { (slot : ℕ) → from ≤ slot → slot < result → slice_index_or self.now.images slot None ≢ None }
+    {
+        let slots = self.slot_count();
+        let mut slot = from;
+        while slot + 4 <= slots && self.are_full(slot) {
+            slot += 4;
+        }
+        slot
+    }
+
+    // Whether four slots have a record.
+    fn are_full(&self, first: usize) -> bool
+        requires there { first + 4 ≤ length self.now.images }
+        requires few { first < MAX_SLOTS }
+        ensures { IsTrue result → (slot : ℕ) → first ≤ slot → slot < first + 4 → slice_index_or self.now.images slot None ≢ None }
+    {
+        if self.is_empty(first) || self.is_empty(first + 1) {
+            return false;
+        }
+        !self.is_empty(first + 2) && !self.is_empty(first + 3)
     }
 
     /// How many bytes the record in a slot has, 0 in an empty one.
