@@ -12,7 +12,6 @@ use Rattle.shore_model.specs.declared.requests.Request.{Request}
 use Rattle.shore_model.specs.Requests.{are_alike, is_conversion, placed_last, requests_at, is_in_group}
 use Rattle.shore_types.specs.Locking.{same_granule}
 use Rattle.shore_model.specs.declared.requests.Group.TheVariants.{Conversions, NewWaiters}
-use Rattle.shore_locks.specs.Granting.{new_waiters}
 use Rattle.shore_rings.specs.declared.ring.Link.{Link}
 use Rattle.shore_rings.specs.Rings.{after_at}
 use Rattle.shore_locks.specs.Grants.{is_refused, is_stopped_by, obstacle, granted, granted_in_turn, removed, replaced, can_be_granted}
@@ -91,17 +90,13 @@ other_granted heads b g other (w ∷ ws) rs at =
     (λ none. rw none refl)
     (either (can_be_granted w (requests_at w.granule rs)))
 
-pub new_at : (g : Granule) (rs : List Request) (w : Request) → In w (new_waiters g rs) → w.granule ≡ g
-new_at g rs w h =
-    (same_granule-Decides w.granule g).0 (In-filter (λ r. same_granule r.granule g) rs w (In-filter (is_in_group NewWaiters) (requests_at g rs) w h).0).1
-
 pub others_moved : (heads b : ℕ) (r : Request) (rs new : List Request) (there : Bool) → (queue_head heads r.granule ≡ b → ⊥)
     → MatchBool there ((list_any (λ q. are_alike q r) rs ≡ true) × (new ≡ placed_last r rs)) ((list_any (λ q. are_alike q r) rs ≡ false) × (new ≡ rs)) → crowd heads b new ≡ crowd heads b rs
 others_moved heads b r rs new true other moves = ap (crowd heads b) moves.1 ∙ other_placed heads b r rs other
 others_moved heads b r rs new false other moves = ap (crowd heads b) moves.1
 
 -- nobody is counted, so nobody is there
-none_counted : (p : Request → Bool) (rs : List Request) → how_many p rs ≡ 0 → (q : Request) → In q rs → p q ≡ false
+pub none_counted : (p : Request → Bool) (rs : List Request) → how_many p rs ≡ 0 → (q : Request) → In q rs → p q ≡ false
 none_counted p rs none q h =
     ⊎_elim
     (λ yes. absurd (let there = subst (In q) (nil_from_length (filter p rs) none) (filter-In p rs q h yes) in there))
@@ -128,7 +123,7 @@ none_waits_here None None e = refl
 none_waits_here None (Some h) e = refl
 none_waits_here (Some w) held e = cc
 
-none_new_here : (wanted held : Option Mode) → is_some wanted ≡ false → (not (is_some held) && is_some wanted) ≡ false
+pub none_new_here : (wanted held : Option Mode) → is_some wanted ≡ false → (not (is_some held) && is_some wanted) ≡ false
 none_new_here None None e = refl
 none_new_here None (Some h) e = refl
 none_new_here (Some w) held e = cc
@@ -154,7 +149,7 @@ mild false false None held mine e f = refl
 mild false true wanted held mine e f = cc
 mild false false (Some w) held mine e f = cc
 
-not_refused : (asked : Mode) (held : Option Mode) → ((m : Mode) → is_refused (Some asked) (Some m) ≡ true → is_just m held ≡ false) → is_refused (Some asked) held ≡ false
+pub not_refused : (asked : Mode) (held : Option Mode) → ((m : Mode) → is_refused (Some asked) (Some m) ≡ true → is_just m held ≡ false) → is_refused (Some asked) held ≡ false
 not_refused asked None none = refl
 not_refused asked (Some h) none =
     ⊎_elim

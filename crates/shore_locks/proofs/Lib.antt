@@ -11,6 +11,7 @@ pub mod Fits
 pub mod Keys
 mod Lasts
 mod GrantWalks
+mod Judged
 mod Spreads
 pub mod LawLemmas
 pub mod Members

@@ -1,5 +1,5 @@
 -- Grant passes: the waiters that are left, and what a pass keeps.
-use Rattle.std.proofs.Common.{◌≡◌, ◌++◌, ⊎_elim, suc, List, [], ◌∷◌, Bool, true, false, Option, None, Some, refl, ap, sym, subst, ◌∙◌, length, drop}
+use Rattle.std.proofs.Common.{◌≡◌, ◌++◌, ⊎_elim, List, [], ◌∷◌, Bool, true, false, Option, None, Some, refl, ap, sym, subst, ◌∙◌, drop}
 use Rattle.std.specs.Prelude.{filter, not, ◌&&◌, is_some, slice_get}
 use Rattle.std.proofs.lemmas.List.Elements.{filter-append}
 use Rattle.shore_types.specs.declared.locking.Granule.{Granule}
@@ -59,7 +59,7 @@ still : (held wanted : Option Mode) → wanted ≡ None → (not (is_some held) 
 still (Some m) wanted e = refl
 still None wanted e = ap is_some e
 
-no_both : (held wanted : Option Mode) → (is_some held && is_some wanted) ≡ true → (not (is_some held) && is_some wanted) ≡ true → ⊥
+pub no_both : (held wanted : Option Mode) → (is_some held && is_some wanted) ≡ true → (not (is_some held) && is_some wanted) ≡ true → ⊥
 no_both None wanted a b = cc
 no_both (Some m) wanted a b = cc
 
@@ -137,8 +137,3 @@ pass_stops g rs w is cannot =
 
 pub pass_ends : (g : Granule) (rs : List Request) → None ≡ slice_get (waiters_at g rs) 0 → passed g rs ≡ rs
 pass_ends g rs is = ap (λ ws. granted_in_turn ws rs) (none_of (waiters_at g rs) is)
-
-pub fewer_wait : (g : Granule) (rs : List Request) (w : Request) → AreRequests rs → Some w ≡ slice_get (waiters_at g rs) 0 → length (waiters_at g rs) ≡ suc (length (waiters_at g (replaced (granted w) rs)))
-fewer_wait g rs w one is =
-    let are = first_of (waiters_at g rs) w is in
-    ap length are ∙ ap (λ ws. suc (length ws)) (sym (first_granted g rs w (drop 1 (waiters_at g rs)) one are))

@@ -4,9 +4,11 @@ use Rattle.std.specs.Prelude.{MatchBool, not, ◌==◌, ◌^◌, is_some, slice_
 use Rattle.std.specs.List.{list_any}
 use Rattle.std.proofs.lemmas.List.{append-nil, append_assoc, length-map, get_or_default, length-append, length-set}
 use Rattle.std.proofs.lemmas.Bool.Decides.{Decides-eqb}
+use Rattle.shore_types.specs.declared.locking.Granule.{Granule}
 use Rattle.shore_types.specs.declared.locking.Mode.{Mode}
+use Rattle.shore_types.specs.Locking.{same_granule}
 use Rattle.shore_model.specs.declared.requests.Request.{Request}
-use Rattle.shore_model.specs.Requests.{are_alike, AreRequests, is_conversion, placed_last, requests_by}
+use Rattle.shore_model.specs.Requests.{are_alike, AreRequests, is_conversion, placed_last, requests_at, requests_by}
 use Rattle.shore_locks.specs.Grants.{removed, replaced}
 use Rattle.shore_locks.specs.Nodes.{queue_head}
 use Rattle.shore_locks.specs.Tallies.{AreCounted, Counts, Stored, count_in, crowd, how_many, is_just, one_if, tally_at}
@@ -218,6 +220,16 @@ tally_goes_on tally new n r entry walk rest done holding waiting converting coun
     let parts = length-append done (r ∷ map (λ (p : ℕ × Request). p.1) rest) in
     let all = length-map entry (λ (p : ℕ × Request). p.1) in
     (done ++ r ∷ [], counts_with tally new r done holding waiting converting counts (omega (arith, long, parts, all, few)), append_assoc done (r ∷ []) (map (λ (p : ℕ × Request). p.1) rest) ∙ there)
+
+-- .. and so is one of those for a granule
+pub queue_goes_on : (tally new : Tally) (g : Granule) (n : ℕ) (r : Request) (entry : List Request) (walk rest : List (ℕ × Request)) (done : List Request) → HoldingMore tally new r → WaitingMore tally new r → ConvertingMore tally new r → Counts tally done
+    → done ++ requests_at g (map (λ (p : ℕ × Request). p.1) walk) ≡ requests_at g entry → walk ≡ (n, r) ∷ rest → same_granule r.granule g ≡ true → length (requests_at g entry) < 2 ^ 64
+    → (after : List Request) × Counts new after × (after ++ requests_at g (map (λ (p : ℕ × Request). p.1) rest) ≡ requests_at g entry)
+queue_goes_on tally new g n r entry walk rest done holding waiting converting counts so_far is at few =
+    let there = ap (λ xs. done ++ xs) (sym (ap (λ w. requests_at g (map (λ (p : ℕ × Request). p.1) w)) is ∙ filter-yes (λ q. same_granule q.granule g) r (map (λ (p : ℕ × Request). p.1) rest) at)) ∙ so_far in
+    let long = ap length there in
+    let parts = length-append done (r ∷ requests_at g (map (λ (p : ℕ × Request). p.1) rest)) in
+    (done ++ r ∷ [], counts_with tally new r done holding waiting converting counts (omega (arith, long, parts, few)), append_assoc done (r ∷ []) (requests_at g (map (λ (p : ℕ × Request). p.1) rest)) ∙ there)
 
 pub tally_ends : (tally : Tally) (entry walk : List (ℕ × Request)) (done : List Request) → Counts tally done → done ++ map (λ (p : ℕ × Request). p.1) walk ≡ map (λ (p : ℕ × Request). p.1) entry → walk ≡ [] → Counts tally (map (λ (p : ℕ × Request). p.1) entry)
 tally_ends tally entry walk done counts so_far is =

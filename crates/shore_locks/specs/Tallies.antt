@@ -1,8 +1,9 @@
 -- How many of a queue hold in each mode, how many wait, and how many of these are conversions.
-use Rattle.std.specs.Prelude.{◌≡◌, ◌==◌, ◌<◌, ◌≤◌, ◌^◌, ℕ, List, Bool, false, cond, Option, None, Some, is_some, filter, length, slice_index_or}
+use Rattle.std.specs.Prelude.{◌≡◌, ◌==◌, ◌<◌, ◌≤◌, ◌^◌, ◌&&◌, ◌||◌, ℕ, List, Bool, false, true, cond, Option, None, Some, is_some, filter, length, slice_index_or}
 use Rattle.shore_types.specs.declared.locking.Mode.{Mode}
 use Rattle.shore_types.specs.declared.locking.Mode.TheVariants.{IS, IX, SH, SIX, EX, UD}
 use Rattle.shore_model.specs.declared.requests.Request.{Request}
+use Rattle.shore_model.specs.Modes.{grants}
 use Rattle.shore_model.specs.Requests.{is_conversion}
 use Rattle.shore_locks.specs.declared.tallies.Tally.{Tally}
 use Rattle.shore_locks.specs.Nodes.{queue_head}
@@ -33,6 +34,21 @@ count_in tally SH = tally.sh
 count_in tally SIX = tally.six
 count_in tally EX = tally.ex
 count_in tally UD = tally.ud
+
+-- so many hold a mode: they grant the one that is asked
+abbrev pub counted_allow : ℕ → Mode → Mode → Bool
+counted_allow count held asked = (count == 0) || grants held asked
+
+-- each mode that is held grants the one that is asked
+abbrev pub counted_grant : Tally → Mode → Bool
+counted_grant tally asked =
+    ((((counted_allow tally.is IS asked && counted_allow tally.ix IX asked) && counted_allow tally.sh SH asked) && counted_allow tally.six SIX asked)
+    && counted_allow tally.ex EX asked) && counted_allow tally.ud UD asked
+
+-- .. and what is wanted, if anything
+abbrev pub allow : Tally → Option Mode → Bool
+allow tally None = true
+allow tally (Some asked) = counted_grant tally asked
 
 abbrev pub one_if : Bool → ℕ
 one_if b = cond b 1 0

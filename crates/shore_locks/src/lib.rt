@@ -11,7 +11,6 @@ mod judgements;
 pub mod laws;
 pub mod listings;
 mod nodes;
-mod openings;
 pub mod queues;
 mod searches;
 pub mod table;

@@ -7,16 +7,16 @@ ghost use Rattle.shore_model.specs.Requests.{AreRequests, are_alike, placed_last
 ghost use Rattle.shore_model.specs.declared.requests.Request.{Request};
 ghost use Rattle.shore_rings.specs.Rings.{In, IsRing, after_at};
 ghost use Rattle.slab.specs.Slab.{HasRoomFor, Updates, get, slab_len};
-ghost use Rattle.shore_locks.specs.Grants.{granted_in_turn, removed, replaced};
-ghost use Rattle.shore_locks.specs.Granting.{new_waiters};
+ghost use Rattle.shore_locks.specs.Grants.{passed, removed, replaced};
 ghost use Rattle.shore_locks.specs.Nodes as spec;
 ghost use Rattle.shore_locks.specs.Orderly.{IsNewest};
 ghost use Rattle.shore_locks.specs.Tables.{is_for};
 ghost use Rattle.shore_locks.specs.Tallies.{crowd};
 ghost use Rattle.shore_locks.specs.Nodes.{IsLinked, LinksIn, LinksOut, pairs_from, request_at, without};
 
-use crate::granting::{grant_new_waiters, openings_among};
+use crate::granting::grant_waiters;
 use crate::heads::{heads_for, list_head, owner_head, queue_head};
+use crate::tallies::tally_at;
 use crate::walks::Walk;
 use http_server::Log;
 use shore_model::Request;
@@ -284,24 +284,24 @@ impl Nodes {
         }
     }
 
-    /// Grants the new waiters of a granule in their order, up to the first whom a holder refuses: one walk over the queue sees what
-    /// is held, and a second grants, however many they are.
-    pub fn grant_new(&mut self, granule: &Granule)
+    /// Grants the waiters of a granule in their order, conversions first, up to the first whom another holder refuses: one walk over the
+    /// queue counts what is held, and one for each group grants, however many they are.
+    pub fn grant_waiters(&mut self, granule: &Granule)
         requires { AreRequests self.old.requests }
-        ensures items { self.new.requests ≡ granted_in_turn (new_waiters granule.now self.old.requests) self.old.requests }
+        ensures items { self.new.requests ≡ passed granule.now self.old.requests }
         ensures limit { self.new.limit ≡ self.old.limit }
         ensures heads { self.new.heads ≡ self.old.heads }
     {
+        self.len();
         let head = queue_head(granule, self.heads);
-        let walk = Walk::new(&self.slots, &self.queues, self.heads, head);
-        let openings = openings_among(walk, granule);
-        grant_new_waiters(
+        let tally = tally_at(self.queue(granule), granule);
+        grant_waiters(
             &mut self.slots,
             &self.queues,
             self.heads,
             head,
             granule,
-            openings,
+            tally,
         );
     }
 }

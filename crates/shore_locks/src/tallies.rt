@@ -1,16 +1,18 @@
 //! How many of a queue hold in each mode, how many wait, and how many of these are conversions.
-ghost use Rattle.std.specs.Prelude.{◌≡◌, ◌<◌, ◌+◌, ◌-◌, ◌^◌, [], ℕ, Some, IsFalse, IsTrue, is_some, length, map, true};
+ghost use Rattle.std.specs.Prelude.{◌≡◌, ◌<◌, ◌+◌, ◌-◌, ◌^◌, [], ℕ, List, Some, IsFalse, IsTrue, filter, is_some, length, map, true};
 ghost use Rattle.shore_types.specs.declared.locking.Mode.{Mode};
 ghost use Rattle.shore_locks.specs.Grants as steps;
 ghost use Rattle.shore_model.specs.declared.requests.Request.{Request};
-ghost use Rattle.shore_model.specs.Requests.{is_conversion};
+ghost use Rattle.shore_model.specs.Requests.{is_conversion, is_in_group, requests_at};
 ghost use Rattle.shore_locks.specs.Tallies as counts;
 ghost use Rattle.shore_locks.specs.Tallies.{count_in, is_just, one_if};
 
+use crate::judgements::is_at;
 use crate::walks::Walk;
 use shore_model::Request;
+use shore_model::requests::Group;
 use shore_modes::grants;
-use shore_types::Mode;
+use shore_types::{Granule, Mode};
 
 /// How many requests hold in each mode, how many want something, and how many of these hold something too.
 #[derive(Clone, Copy)]
@@ -104,18 +106,57 @@ impl Tally {
         self.converting > 0
     }
 
+    /// Whether somebody of a group may be counted: nobody is if not.
+    pub fn may_have(self, group: Group) -> bool
+        ensures { IsFalse result → (rs : List Request) → counts.Counts self rs → filter (is_in_group group) rs ≡ [] }
+    {
+        match group {
+            Group::Holders => true,
+            Group::Conversions => self.has_conversions(),
+            Group::NewWaiters => self.has_waiters(),
+        }
+    }
+
     /// Whether nobody wants something, and no mode is held that refuses this one.
     pub fn lets_in(self, asked: Mode) -> bool
         ensures { IsTrue result → (self.waiting ≡ 0) × ((m : Mode) → steps.is_refused (Some asked) (Some m) ≡ true → count_in self m ≡ 0) }
     {
-        self.waiting == 0
-            && (self.is == 0 || grants(Mode::IS, asked))
+        self.waiting == 0 && self.all_grant(asked)
+    }
+
+    /// Whether all that is held grants what is wanted, if anything.
+    pub fn allow(self, wanted: Option<Mode>) -> bool
+        ensures { result ≡ counts.allow self wanted }
+    {
+        match wanted {
+            None => true,
+            Some(asked) => self.all_grant(asked),
+        }
+    }
+
+    fn all_grant(self, asked: Mode) -> bool
+        ensures { result ≡ counts.counted_grant self asked }
+    {
+        (self.is == 0 || grants(Mode::IS, asked))
             && (self.ix == 0 || grants(Mode::IX, asked))
             && (self.sh == 0 || grants(Mode::SH, asked))
             && (self.six == 0 || grants(Mode::SIX, asked))
             && (self.ex == 0 || grants(Mode::EX, asked))
             && (self.ud == 0 || grants(Mode::UD, asked))
     }
+}
+
+/// Of the requests for a granule among those of a walk.
+pub fn tally_at(mut walk: Walk<'_>, granule: &Granule) -> Tally
+    ensures { length (requests_at granule.now (map (λ (p : ℕ × Request). p.1) walk.entry)) < 2 ^ 64 → counts.Counts result (requests_at granule.now (map (λ (p : ℕ × Request). p.1) walk.entry)) }
+{
+    let mut tally = Tally::none();
+    while let Some((_, one)) = walk.advance() {
+        if is_at(one, granule) {
+            tally.add(one);
+        }
+    }
+    tally
 }
 
 /// Of the requests of a walk.
