@@ -5,12 +5,12 @@ ghost use Rattle.shore_model.specs.Requests as asked;
 ghost use Rattle.shore_model.specs.Requests.{AreRequests};
 ghost use Rattle.shore_locks.specs.Findings.{FindsNode, IsFree};
 ghost use Rattle.shore_locks.specs.Grants as steps;
-ghost use Rattle.shore_locks.specs.Tables.{waiters_at};
+ghost use Rattle.shore_nodes.specs.Tables.{waiters_at};
 
 use crate::counted::{Counted, Popped};
-use crate::judgements::{granted, holds_is, withdrawn};
 use crate::searches::{self, can_be_granted};
 use shore_model::Request;
+use shore_nodes::judgements::{granted, holds_is, withdrawn};
 use shore_types::{Granule, TxnId};
 
 /// A grant pass: waiters of a granule's queue are granted in turn, up to the first that another holder refuses. Mostly that is the

@@ -6,15 +6,15 @@ ghost use Rattle.shore_model.specs.declared.requests.Group.TheVariants.{Conversi
 ghost use Rattle.shore_model.specs.Requests.{AreRequests, are_alike, is_in_group, placed_last, requests_at, requests_by};
 ghost use Rattle.shore_locks.specs.Grants.{first_hold, obstacle, passed, removed, replaced};
 ghost use Rattle.shore_locks.specs.Popping.{Pops};
-ghost use Rattle.shore_locks.specs.Tables.{waiters_at};
-ghost use Rattle.shore_locks.specs.Tallies.{Counts, crowd};
+ghost use Rattle.shore_nodes.specs.Tables.{waiters_at};
+ghost use Rattle.shore_nodes.specs.Tallies.{Counts, crowd};
 
-use crate::heads::queue_head;
 use crate::listings::append_walk;
-use crate::nodes::Nodes;
 use crate::searches::request_for;
-use crate::tallies::{Tally, tally_of};
 use shore_model::Request;
+use shore_nodes::heads::queue_head;
+use shore_nodes::nodes::Nodes;
+use shore_nodes::tallies::{Tally, tally_of};
 use shore_types::{Granule, Mode, TxnId};
 use std::alloc::{AllocError, Global};
 use std::marker::Model;
@@ -38,11 +38,11 @@ pub struct Counted {
 }
 
 impl Model for Counted {
-    ghost use Rattle.shore_locks.specs.Tables.{Table};
+    ghost use Rattle.shore_nodes.specs.Tables.{Table};
 
     ghost Value = { Table };
 
-    ghost use Rattle.shore_locks.specs.Tallies.{AreCounted};
+    ghost use Rattle.shore_nodes.specs.Tallies.{AreCounted};
 
     ghost view = { λ c. record { limit = c.nodes.limit; requests = c.nodes.requests } };
 

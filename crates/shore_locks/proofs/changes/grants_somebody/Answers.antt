@@ -2,7 +2,7 @@ use Rattle.std.proofs.Common.{◌≡◌, ap, subst, sym, true, ◌∙◌}
 use Rattle.std.specs.Prelude.{IsSomeAnd}
 use Rattle.shore_locks.specs.Grants.{can_be_granted}
 use Rattle.shore_model.specs.Requests.{requests_at}
-use Rattle.shore_locks.proofs.Passes.{pass_ends, pass_stops}
+use Rattle.shore_nodes.proofs.Passes.{pass_ends, pass_stops}
 use Rattle.shore_locks.proofs.changes.grants_somebody.Goals as goal
 
 pub returns-in-Some-clause-none : goal.returns-in-Some-clause-none

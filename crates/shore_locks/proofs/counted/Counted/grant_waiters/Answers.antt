@@ -1,10 +1,10 @@
 use Rattle.std.proofs.Common.{◌<◌, ap, subst, sym, ◌∙◌}
-use Rattle.shore_locks.specs.Nodes.{queue_head}
-use Rattle.shore_locks.specs.Tables.{waiters_at}
-use Rattle.shore_locks.specs.Tallies.{Counts, crowd}
-use Rattle.shore_locks.proofs.Crowds.{other_granted}
-use Rattle.shore_locks.proofs.Passes.{In-waiters}
-use Rattle.shore_locks.proofs.Tallying.{counted_set}
+use Rattle.shore_nodes.specs.Nodes.{queue_head}
+use Rattle.shore_nodes.specs.Tables.{waiters_at}
+use Rattle.shore_nodes.specs.Tallies.{Counts, crowd}
+use Rattle.shore_nodes.proofs.Crowds.{other_granted}
+use Rattle.shore_nodes.proofs.Passes.{In-waiters}
+use Rattle.shore_nodes.proofs.Tallying.{counted_set}
 use Rattle.shore_locks.proofs.counted.Counted.grant_waiters.Goals as goal
 
 pub recount-requires : goal.recount-requires

@@ -1,9 +1,9 @@
 use Rattle.std.proofs.Common.{◌<◌, ap, subst, sym, ◌∙◌}
-use Rattle.shore_locks.specs.Nodes.{queue_head}
+use Rattle.shore_nodes.specs.Nodes.{queue_head}
 use Rattle.shore_locks.specs.Grants.{obstacle}
-use Rattle.shore_locks.specs.Tables.{Table}
-use Rattle.shore_locks.proofs.Crowds.{nobody_in_the_way}
-use Rattle.shore_locks.proofs.Tallying.{tally_read}
+use Rattle.shore_nodes.specs.Tables.{Table}
+use Rattle.shore_nodes.proofs.Crowds.{nobody_in_the_way}
+use Rattle.shore_nodes.proofs.Tallying.{tally_read}
 use Rattle.shore_locks.proofs.counted.Counted.lets_in.Goals as goal
 
 pub returns-in-Some : goal.returns-in-Some
