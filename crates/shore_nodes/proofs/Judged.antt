@@ -1,20 +1,22 @@
 -- What a tally says of a waiter: those that it counts without the waiter's own hold grant what is wanted, or one of them does not.
-use Rattle.std.proofs.Common.{◌≡◌, ⊎_elim, inl, inr, ℕ, List, [], ◌∷◌, Bool, true, false, Option, None, Some, refl, ap, sym, ◌∙◌, length}
-use Rattle.std.specs.Prelude.{filter, not, ◌==◌, ◌&&◌, ◌||◌, is_some}
+use Rattle.std.proofs.Common.{◌≡◌, ⊎_elim, inl, inr, ℕ, List, [], ◌∷◌, Bool, true, false, Option, None, Some, refl, ap, sym, ◌∙◌, length, arith}
+use Rattle.std.specs.Prelude.{filter, not, ◌==◌, ◌&&◌, ◌||◌, is_some, nat_lt}
 use Rattle.std.specs.List.{list_any}
+use Rattle.std.proofs.lemmas.Bool.{ltb-false}
 use Rattle.std.proofs.lemmas.Bool.Decides.{Decides-eqb}
 use Rattle.shore_types.specs.declared.locking.Granule.{Granule}
 use Rattle.shore_types.specs.declared.locking.Mode.{Mode}
 use Rattle.shore_types.specs.declared.locking.Mode.TheVariants.{IS, IX, SH, SIX, EX, UD}
 use Rattle.shore_types.specs.Locking.{same_granule}
 use Rattle.shore_model.specs.declared.requests.Request.{Request}
-use Rattle.shore_model.specs.declared.requests.Group.TheVariants.{Conversions, NewWaiters}
+use Rattle.shore_model.specs.declared.requests.Group.{Group}
+use Rattle.shore_model.specs.declared.requests.Group.TheVariants.{Holders, Conversions, NewWaiters}
 use Rattle.shore_model.specs.Modes.{grants}
 use Rattle.shore_model.specs.Requests.{AreRequests, are_alike, is_conversion, is_in_group, requests_at}
 use Rattle.shore_nodes.specs.declared.tallies.Tally.{Tally}
 use Rattle.shore_nodes.specs.Granting.{all_grant}
 use Rattle.shore_nodes.specs.Grants.{can_be_granted, is_refused, refuses, removed}
-use Rattle.shore_nodes.specs.Tallies.{Counts, allow, count_in, counted_allow, counted_grant, is_just, mode_number}
+use Rattle.shore_nodes.specs.Tallies.{Counts, allow, count_in, counted_allow, counted_grant, is_just, may_have, mode_number}
 use Rattle.shore_nodes.proofs.Crowds.{none_counted, none_new_here, not_refused}
 use Rattle.shore_nodes.proofs.Entering.{both_true}
 use Rattle.shore_nodes.proofs.Fits.{no_of, none_any}
@@ -25,12 +27,15 @@ use Rattle.shore_nodes.proofs.Tallying.{ConvertingLess, HoldingLess, WaitingLess
 use Rattle.shore_nodes.proofs.Waiting.{some_one}
 
 -- nobody of a group is counted
-pub no_conversion : (tally : Tally) (rs : List Request) → Counts tally rs → tally.converting ≡ 0 → filter (is_in_group Conversions) rs ≡ []
-no_conversion tally rs counts none = filter-none (is_in_group Conversions) rs (λ q h. none_counted is_conversion rs (sym counts.converting ∙ none) q h)
+none_more : (n : ℕ) → nat_lt 0 n ≡ false → n ≡ 0
+none_more n e = let most = ltb-false 0 n e in omega (arith, most)
 
-pub no_new : (tally : Tally) (rs : List Request) → Counts tally rs → tally.waiting ≡ 0 → filter (is_in_group NewWaiters) rs ≡ []
-no_new tally rs counts none =
-    filter-none (is_in_group NewWaiters) rs (λ q h. none_new_here q.wanted q.held (none_counted (λ r. is_some r.wanted) rs (sym counts.waiting ∙ none) q h))
+pub nobody_of : (group : Group) (tally : Tally) (rs : List Request) → Counts tally rs → may_have tally group ≡ false → filter (is_in_group group) rs ≡ []
+nobody_of Holders tally rs counts none = cc
+nobody_of Conversions tally rs counts none =
+    filter-none (is_in_group Conversions) rs (λ q h. none_counted is_conversion rs (sym counts.converting ∙ none_more tally.converting none) q h)
+nobody_of NewWaiters tally rs counts none =
+    filter-none (is_in_group NewWaiters) rs (λ q h. none_new_here q.wanted q.held (none_counted (λ r. is_some r.wanted) rs (sym counts.waiting ∙ none_more tally.waiting none) q h))
 
 zero_of : (a b : Bool) → (a || b) ≡ true → not b ≡ true → a ≡ true
 zero_of true b e f = refl

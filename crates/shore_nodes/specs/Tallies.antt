@@ -1,7 +1,9 @@
 -- How many of a queue hold in each mode, how many wait, and how many of these are conversions.
-use Rattle.std.specs.Prelude.{◌≡◌, ◌==◌, ◌<◌, ◌≤◌, ◌^◌, ◌&&◌, ◌||◌, ℕ, List, Bool, false, true, cond, Option, None, Some, is_some, filter, length, slice_index_or}
+use Rattle.std.specs.Prelude.{◌≡◌, ◌==◌, ◌<◌, ◌≤◌, ◌^◌, ◌&&◌, ◌||◌, ℕ, List, Bool, false, true, cond, Option, None, Some, is_some, filter, length, nat_lt, slice_index_or}
 use Rattle.shore_types.specs.declared.locking.Mode.{Mode}
 use Rattle.shore_types.specs.declared.locking.Mode.TheVariants.{IS, IX, SH, SIX, EX, UD}
+use Rattle.shore_model.specs.declared.requests.Group.{Group}
+use Rattle.shore_model.specs.declared.requests.Group.TheVariants.{Holders, Conversions, NewWaiters}
 use Rattle.shore_model.specs.declared.requests.Request.{Request}
 use Rattle.shore_model.specs.Modes.{grants}
 use Rattle.shore_model.specs.Requests.{is_conversion}
@@ -49,6 +51,12 @@ counted_grant tally asked =
 abbrev pub allow : Tally → Option Mode → Bool
 allow tally None = true
 allow tally (Some asked) = counted_grant tally asked
+
+-- whether somebody of a group may be counted: a conversion, or, of new waiters, anybody who waits
+abbrev pub may_have : Tally → Group → Bool
+may_have tally Holders = true
+may_have tally Conversions = nat_lt 0 tally.converting
+may_have tally NewWaiters = nat_lt 0 tally.waiting
 
 abbrev pub one_if : Bool → ℕ
 one_if b = cond b 1 0

@@ -1,9 +1,9 @@
 //! How many of a queue hold in each mode, how many wait, and how many of these are conversions.
-ghost use Rattle.std.specs.Prelude.{◌≡◌, ◌<◌, ◌+◌, ◌-◌, ◌^◌, [], ℕ, List, Some, IsFalse, IsTrue, filter, is_some, length, map, true};
+ghost use Rattle.std.specs.Prelude.{◌≡◌, ◌<◌, ◌+◌, ◌-◌, ◌^◌, ◌==◌, ◌&&◌, [], ℕ, Some, IsFalse, IsTrue, is_some, length, map, true};
 ghost use Rattle.shore_types.specs.declared.locking.Mode.{Mode};
 ghost use Rattle.shore_nodes.specs.Grants as steps;
 ghost use Rattle.shore_model.specs.declared.requests.Request.{Request};
-ghost use Rattle.shore_model.specs.Requests.{is_conversion, is_in_group, requests_at};
+ghost use Rattle.shore_model.specs.Requests.{is_conversion, requests_at};
 ghost use Rattle.shore_nodes.specs.Tallies as counts;
 ghost use Rattle.shore_nodes.specs.Tallies.{count_in, is_just, one_if};
 
@@ -108,18 +108,19 @@ impl Tally {
 
     /// Whether somebody of a group may be counted: nobody is if not.
     pub fn may_have(self, group: Group) -> bool
-        ensures { IsFalse result → (rs : List Request) → counts.Counts self rs → filter (is_in_group group) rs ≡ [] }
+        ensures { result ≡ counts.may_have self group }
     {
         match group {
             Group::Holders => true,
-            Group::Conversions => self.has_conversions(),
-            Group::NewWaiters => self.has_waiters(),
+            Group::Conversions => self.converting > 0,
+            Group::NewWaiters => self.waiting > 0,
         }
     }
 
     /// Whether nobody wants something, and no mode is held that refuses this one.
     pub fn lets_in(self, asked: Mode) -> bool
-        ensures { IsTrue result → (self.waiting ≡ 0) × ((m : Mode) → steps.is_refused (Some asked) (Some m) ≡ true → count_in self m ≡ 0) }
+        ensures is { result ≡ ((self.waiting == 0) && counts.counted_grant self asked) }
+        ensures free { IsTrue result → (self.waiting ≡ 0) × ((m : Mode) → steps.is_refused (Some asked) (Some m) ≡ true → count_in self m ≡ 0) }
     {
         self.waiting == 0 && self.all_grant(asked)
     }

@@ -2,13 +2,14 @@ use Rattle.std.proofs.Common.{◌<◌, ◌-◌, Some, ap, refl, inl, inr, sym, s
 use Rattle.slab.specs.Slab.{Updates}
 use Rattle.shore_nodes.proofs.Spreads.{queue_small}
 use Rattle.shore_nodes.proofs.GrantWalks.{nobody_walks, walk_begins, walk_ends, walk_grants, walk_passes, walk_stops, GrantWalk}
+use Rattle.shore_nodes.proofs.Judged.{nobody_of}
 use Rattle.shore_nodes.proofs.Tallying.{ConvertingMore, HoldingMore, WaitingMore}
 use Rattle.shore_nodes.proofs.granting.grant_group.Goals as goal
 use Rattle.shore_nodes.proofs.granting.grant_group.Goals.{in-Some+else-not-allow, in_default}
 
 pub returns-then-not-may_have-clause-walked : goal.returns-then-not-may_have-clause-walked
 returns-then-not-may_have-clause-walked c = λ lists owners ks behind can.
-    nobody_walks c.args.heads c.args.slots.now c.args.queues.now lists owners c.args.head c.args.granule.now c.args.group behind c.args.tally.now ks can (c.may_have.ensures c.if-not-may_have.true)
+    nobody_walks c.args.heads c.args.slots.now c.args.queues.now lists owners c.args.head c.args.granule.now c.args.group behind c.args.tally.now ks can (λ rs counts. nobody_of c.args.group c.args.tally.now rs counts (sym c.may_have.ensures ∙ c.if-not-may_have.true))
 
 pub loop-left-init : goal.loop-left-init
 loop-left-init c = (
