@@ -9,7 +9,8 @@ use Rattle.shore_locks.specs.declared.answers.Requested.TheVariants.{Granted, Wa
 use Rattle.shore_locks.specs.declared.answers.Tried.{Tried}
 use Rattle.shore_locks.specs.declared.answers.Tried.TheVariants.{Blocked, Granted as TryGranted, Full as TryFull}
 use Rattle.shore_nodes.specs.Tables.{Table, mode_held, request_for}
-pub use Rattle.shore_nodes.specs.Grants.{is_refused, refuses, can_be_granted, granted, withdrawn, replaced, put, removed, granted_in_turn, passed, is_enough, wanted_mode, asking, first_hold, is_ahead, is_stopped_by, obstacle, taken_back, taken_back_if, cancelled, given_up, released}
+pub use Rattle.shore_nodes.specs.Grants.{is_refused, refuses, can_be_granted, granted, withdrawn, replaced, put, removed, granted_in_turn, passed, is_enough}
+pub use Rattle.shore_nodes.specs.Grants.{wanted_mode, asking, first_hold, is_ahead, is_stopped_by, obstacle, taken_back, taken_back_if, cancelled, given_up, released}
 
 -- a new node is needed, and the table is at its limit
 abbrev pub is_full : Table → ℕ → Granule → Bool

@@ -27,7 +27,8 @@ abbrev pub all_grant : List Request → Mode → Bool
 all_grant rs mode = not (list_any (λ q. is_refused (Some mode) q.held) rs)
 
 -- nodes in order, the head of a granule's ring, a tally of its queue, and who waits behind those of the group
-pub record CanWalk (heads : ℕ) (slots : Slab Request) (queues lists owners : List Link) (head : ℕ) (g : Granule) (group : Group) (behind : List Request) (tally : Tally) (ks : List ℕ) : Type 0 where
+pub record CanWalk (heads : ℕ) (slots : Slab Request) (queues lists owners : List Link) (head : ℕ) (g : Granule) (group : Group)
+    (behind : List Request) (tally : Tally) (ks : List ℕ) : Type 0 where
   pub are_linked : IsLinked heads slots queues lists owners ks
   pub at : head ≡ queue_head heads g
   pub one : AreRequests (requests_in slots ks)
@@ -41,7 +42,8 @@ IsGranted g behind tally true old new = (passed g new ≡ passed g old) × (wait
 IsGranted g behind tally false old new = new ≡ passed g old
 
 -- .. and the nodes are in order
-pub record IsWalked (heads : ℕ) (old new : Slab Request) (queues lists owners : List Link) (g : Granule) (behind : List Request) (tally : Tally) (result : Bool) (ks : List ℕ) : Type 0 where
+pub record IsWalked (heads : ℕ) (old new : Slab Request) (queues lists owners : List Link) (g : Granule) (behind : List Request)
+    (tally : Tally) (result : Bool) (ks : List ℕ) : Type 0 where
   pub are_linked : IsLinked heads new queues lists owners ks
   pub one : AreRequests (requests_in new ks)
   pub is_granted : IsGranted g behind tally result (requests_in old ks) (requests_in new ks)
