@@ -26,8 +26,8 @@ const NODES: usize = 4096;
 
 const WAITERS: u64 = 64;
 
-/// The last transaction of `Work::Conversions`.
-const LAST: u64 = 255;
+/// How many convert at most in `Work::Conversions`.
+const CONVERTING: u64 = 254;
 
 const FIRST: TxnId = TxnId(1);
 
@@ -46,9 +46,8 @@ enum Work {
     Bucket,
     /// 64 transactions wait for a record that another holds; it releases, and so do they.
     Waiters,
-    /// 254 transactions hold IS and wait for IX, for one that holds SH; it releases, and all are granted, one by one: the worst release of
-    /// a queue.
-    Conversions,
+    /// So many transactions hold IS and wait for IX, for one that holds SH; it releases, and all are granted: the worst release of a queue.
+    Conversions(u64),
     /// One transaction takes a record with the intentions above it, and releases them.
     Record,
     /// It asks for all that again, and has it already.
@@ -64,7 +63,9 @@ fn work_of(name: &str) -> Option<(Work, u64)> {
         "remainders" => Some((Work::Remainders, 0)),
         "bucket" => Some((Work::Bucket, 0)),
         "waiters" => Some((Work::Waiters, 0)),
-        "conversions" => Some((Work::Conversions, 0)),
+        "conversions" => Some((Work::Conversions(CONVERTING), 0)),
+        "conversions_64" => Some((Work::Conversions(64), 0)),
+        "conversions_128" => Some((Work::Conversions(128), 0)),
         "record" => Some((Work::Record, 0)),
         "record_16" => Some((Work::Record, 16)),
         "record_64" => Some((Work::Record, 64)),
@@ -195,12 +196,12 @@ fn wait_all(table: &mut LockTable) -> usize {
 }
 
 /// The number of nodes that stand once all but the first have asked for a conversion.
-fn convert_all(table: &mut LockTable) -> usize {
-    for txn in 1..LAST + 1 {
+fn convert_all(table: &mut LockTable, last: u64) -> usize {
+    for txn in 1..last.saturating_add(1) {
         let mode = if txn == 1 { Mode::SH } else { Mode::IS };
         ask(table, txn, mode);
     }
-    for txn in 2..LAST + 1 {
+    for txn in 2..last.saturating_add(1) {
         ask(table, txn, Mode::IX);
     }
     table.nodes()
@@ -231,9 +232,10 @@ fn round(table: &mut LockTable, work: Work) -> usize {
             release_to(table, WAITERS + 1);
             nodes
         }
-        Work::Conversions => {
-            let nodes = convert_all(table);
-            release_to(table, LAST);
+        Work::Conversions(count) => {
+            let last = count.saturating_add(1);
+            let nodes = convert_all(table, last);
+            release_to(table, last);
             nodes
         }
         _ => round_of_first(table, work),
@@ -309,7 +311,7 @@ fn counts(table: &mut LockTable) -> [usize; 6] {
     let pages = round(table, Work::Pages);
     let chosen = round(table, Work::Bucket);
     let waiters = round(table, Work::Waiters);
-    let conversions = round(table, Work::Conversions);
+    let conversions = round(table, Work::Conversions(CONVERTING));
     place_others(table, 255);
     let path = round(table, Work::Record);
     [locks, pages, chosen, waiters, conversions, path]

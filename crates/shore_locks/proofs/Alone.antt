@@ -14,13 +14,13 @@ use Rattle.shore_model.specs.Requests.{are_alike, is_in_group, requests_at}
 use Rattle.shore_locks.specs.declared.answers.Requested.TheVariants.{Granted}
 use Rattle.shore_locks.specs.declared.answers.Tried.TheVariants.{Granted as TryGranted}
 use Rattle.shore_locks.specs.Grants.{after_grant, after_request, after_try, answer_to, answer_to_try, asking, blocked_by, first_hold, granted, granted_in_turn, is_enough, is_full, is_stopped_by, obstacle, passed, put, wanted_mode}
-use Rattle.shore_locks.specs.Orderly.{IsOrderlyWithin}
-use Rattle.shore_locks.specs.Tables.{Table, is_for, is_waiting, mode_held, request_for}
-use Rattle.shore_locks.proofs.Crowds.{find_none}
-use Rattle.shore_locks.proofs.Keys.{same_granule-Decides}
-use Rattle.shore_locks.proofs.Members.{In, either, filter-In, filter-yes}
-use Rattle.shore_locks.proofs.NodeSteps.{none_of_any}
-use Rattle.shore_locks.proofs.Others.{put_last}
+use Rattle.shore_nodes.specs.Orderly.{IsOrderlyWithin}
+use Rattle.shore_nodes.specs.Tables.{Table, is_for, is_waiting, mode_held, request_for}
+use Rattle.shore_nodes.proofs.Crowds.{find_none}
+use Rattle.shore_nodes.proofs.Keys.{same_granule-Decides}
+use Rattle.shore_nodes.proofs.Members.{In, either, filter-In, filter-yes}
+use Rattle.shore_nodes.proofs.NodeSteps.{none_of_any}
+use Rattle.shore_nodes.proofs.Others.{put_last}
 use Rattle.shore_locks.proofs.Tables.{cond_false, kept_granted}
 
 abbrev waiters_among : List Request → List Request

@@ -9,12 +9,12 @@ use Rattle.shore_locks.specs.declared.answers.Requested.{Requested}
 use Rattle.shore_locks.specs.declared.answers.Requested.TheVariants.{Granted, Waiting, Full}
 use Rattle.shore_locks.specs.declared.answers.Tried.{Tried}
 use Rattle.shore_locks.specs.declared.answers.Tried.TheVariants.{Blocked, Granted as TryGranted, Full as TryFull}
-use Rattle.shore_locks.specs.Tables.{Table, is_waiting, mode_held}
+use Rattle.shore_nodes.specs.Tables.{Table, is_waiting, mode_held}
 use Rattle.shore_locks.specs.Grants.{after_grant, asking, blocked_by, granted, is_enough, is_full, obstacle, passed, put}
 use Rattle.shore_locks.specs.Laws.{BlockedByOneInTheWay, GrantedIsHeld, OnlyGrants, RefusedChangesNothing, StaysQuiet, WaitsForSomebody}
-use Rattle.shore_locks.proofs.Entering.{AreRequests-put, In-put, none_waits}
-use Rattle.shore_locks.proofs.Fits.{wants_nothing}
-use Rattle.shore_locks.proofs.Members.{All-In, In-Contains}
+use Rattle.shore_nodes.proofs.Entering.{AreRequests-put, In-put, none_waits}
+use Rattle.shore_nodes.proofs.Fits.{wants_nothing}
+use Rattle.shore_nodes.proofs.Members.{All-In, In-Contains}
 use Rattle.shore_locks.proofs.Outcomes.{any_from, held_after_grant, nobody_wants, grant_pass_only_grants, waits_for_obstacle}
 
 pub only_grants : (rs : List Request) (g : Granule) → AreRequests rs → OnlyGrants rs (passed g rs)

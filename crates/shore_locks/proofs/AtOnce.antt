@@ -11,15 +11,15 @@ use Rattle.shore_model.specs.declared.requests.Request.{Request}
 use Rattle.shore_model.specs.Modes.{grants, is_at_most}
 use Rattle.shore_model.specs.Requests.{are_alike, requests_at}
 use Rattle.shore_locks.specs.Findings.{IsFree}
-use Rattle.shore_locks.specs.Tables.{is_waiting, mode_held, Table, request_for, is_for, waiters_at}
+use Rattle.shore_nodes.specs.Tables.{is_waiting, mode_held, Table, request_for, is_for, waiters_at}
 use Rattle.shore_locks.specs.Grants.{asking, can_be_granted, obstacle, granted, is_ahead, is_refused, is_stopped_by, passed, put, refuses, replaced}
-use Rattle.shore_locks.specs.Orderly.{IsOrderly, IsStopped, Rises}
-use Rattle.shore_locks.proofs.Members.{In, either, In-filter, filter-In}
-use Rattle.shore_locks.proofs.Keys.{alike-Decides, in_place, in_place-no, in_place-yes, only_one, same_granule-Decides}
-use Rattle.shore_locks.proofs.Passes.{In-waiters, pass_ends, pass_stops, requests_at-replaced, waiters_without, first_of}
-use Rattle.shore_locks.proofs.Fits.{any_of, found_any}
-use Rattle.shore_locks.proofs.Others.{put_in_place, removed_none}
-use Rattle.shore_locks.proofs.Entering.{In-put, found_in, found_none, held_in, none_waits, rises_to_wanted}
+use Rattle.shore_nodes.specs.Orderly.{IsOrderly, IsStopped, Rises}
+use Rattle.shore_nodes.proofs.Members.{In, either, In-filter, filter-In}
+use Rattle.shore_nodes.proofs.Keys.{alike-Decides, in_place, in_place-no, in_place-yes, only_one, same_granule-Decides}
+use Rattle.shore_nodes.proofs.Passes.{In-waiters, pass_ends, pass_stops, requests_at-replaced, waiters_without, first_of}
+use Rattle.shore_nodes.proofs.Fits.{any_of, found_any}
+use Rattle.shore_nodes.proofs.Others.{put_in_place, removed_none}
+use Rattle.shore_nodes.proofs.Entering.{In-put, found_in, found_none, held_in, none_waits, rises_to_wanted}
 
 none_meets_ex : (a : Mode) → grants EX a ≡ false
 none_meets_ex IS = refl

@@ -4,9 +4,9 @@ use Rattle.std.specs.Prelude.{filter, find, is_some, ◌&&◌, ◌==◌}
 use Rattle.shore_types.specs.declared.locking.Granule.{Granule}
 use Rattle.shore_model.specs.declared.requests.Request.{Request}
 use Rattle.shore_model.specs.Requests.{requests_by}
-use Rattle.shore_locks.specs.Tables.{is_for, request_for, waiting_request}
-use Rattle.shore_locks.proofs.Entering.{both_true, find_here, find_step}
-use Rattle.shore_locks.proofs.Members.{either, filter-no, filter-yes}
+use Rattle.shore_nodes.specs.Tables.{is_for, request_for, waiting_request}
+use Rattle.shore_nodes.proofs.Entering.{both_true, find_here, find_step}
+use Rattle.shore_nodes.proofs.Members.{either, filter-no, filter-yes}
 
 pub find_filtered : (p q : Request → Bool) → ((x : Request) → p x ≡ true → q x ≡ true) → (xs : List Request) → find p (filter q xs) ≡ find p xs
 find_filtered p q inside [] = refl

@@ -4,10 +4,10 @@ use Rattle.std.specs.Prelude.{◌==◌, ◌&&◌, not, filter, nat_lt}
 use Rattle.std.proofs.lemmas.Bool.Decides.{Decides-eqb, Decides-ltb}
 use Rattle.std.proofs.lemmas.List.Sorted.{IsPermutation-append_left, IsPermutation-filter_both, IsPermutation-refl, IsPermutation-trans}
 use Rattle.shore_model.specs.declared.requests.Request.{Request}
-use Rattle.shore_locks.specs.Nodes.{queue_head}
-use Rattle.shore_locks.specs.Tallies.{crowd}
-use Rattle.shore_locks.proofs.Members.{either, filter-all, filter-no, filter-none, filter-yes}
-use Rattle.shore_locks.proofs.Spreads.{queue_small}
+use Rattle.shore_nodes.specs.Nodes.{queue_head}
+use Rattle.shore_nodes.specs.Tallies.{crowd}
+use Rattle.shore_nodes.proofs.Members.{either, filter-all, filter-no, filter-none, filter-yes}
+use Rattle.shore_nodes.proofs.Spreads.{queue_small}
 
 -- a filter of a filter
 filter_twice : {A : Type 0} (p q both : A → Bool) → ((x : A) → (q x && p x) ≡ both x) → (xs : List A) → filter p (filter q xs) ≡ filter both xs

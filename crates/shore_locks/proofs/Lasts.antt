@@ -9,13 +9,13 @@ use Rattle.shore_types.specs.declared.locking.Mode.{Mode}
 use Rattle.shore_model.specs.declared.requests.Request.{Request}
 use Rattle.shore_model.specs.Requests.{are_alike, placed_last, requests_at, requests_by}
 use Rattle.shore_locks.specs.Grants.{can_be_granted, granted, granted_in_turn, passed, put, removed, replaced}
-use Rattle.shore_locks.specs.Orderly.{IsNewest, WaitsLast}
-use Rattle.shore_locks.specs.Tables.{is_waiting, waiters_at, waiting_request}
-use Rattle.shore_locks.proofs.Members.{In, either, All-In, In-All, In-append, In-filter, In-left, In-right, filter-no, filter-yes}
-use Rattle.shore_locks.proofs.Keys.{in_place, in_place-keys, in_place-no, in_place-yes}
-use Rattle.shore_locks.proofs.Fits.{granted_first, granted_none}
-use Rattle.shore_locks.proofs.Entering.{both_true, find_step, none_waits, nothing}
-use Rattle.shore_locks.proofs.Others.{put_in_place, put_last}
+use Rattle.shore_nodes.specs.Orderly.{IsNewest, WaitsLast}
+use Rattle.shore_nodes.specs.Tables.{is_waiting, waiters_at, waiting_request}
+use Rattle.shore_nodes.proofs.Members.{In, either, All-In, In-All, In-append, In-filter, In-left, In-right, filter-no, filter-yes}
+use Rattle.shore_nodes.proofs.Keys.{in_place, in_place-keys, in_place-no, in_place-yes}
+use Rattle.shore_nodes.proofs.Fits.{granted_first, granted_none}
+use Rattle.shore_nodes.proofs.Entering.{both_true, find_step, none_waits, nothing}
+use Rattle.shore_nodes.proofs.Others.{put_in_place, put_last}
 use Rattle.shore_locks.proofs.Buckets.{find_filtered}
 
 -- a transaction whose requests all want nothing

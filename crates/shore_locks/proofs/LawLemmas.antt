@@ -8,16 +8,16 @@ use Rattle.shore_types.specs.declared.locking.Mode.{Mode}
 use Rattle.shore_model.specs.declared.requests.Request.{Request}
 use Rattle.shore_model.specs.Modes.{grants}
 use Rattle.shore_model.specs.Requests.{are_alike, AreRequests, requests_at, requests_by}
-use Rattle.shore_locks.specs.Tables.{waiters_at}
+use Rattle.shore_nodes.specs.Tables.{waiters_at}
 use Rattle.shore_locks.specs.Grants.{can_be_granted, given_up, granted, granted_in_turn, is_refused, passed, refuses, released, removed, replaced}
 use Rattle.shore_locks.specs.Laws.{FirstWaitersAreRefused, GrantsABeginning, of_others, owners}
-use Rattle.shore_locks.specs.Orderly.{IsOrderly, IsStopped}
-use Rattle.shore_locks.proofs.Members.{In, either, In-filter, filter-In, In-Contains, filter-yes, filter-no, filter-all, filter-swap}
-use Rattle.shore_locks.proofs.Keys.{in_place-keys, alike-Decides, AreRequests-replaced}
-use Rattle.shore_locks.proofs.Passes.{first_granted}
-use Rattle.shore_locks.proofs.Fits.{found_any, pass_keeps, granted_first, granted_none}
-use Rattle.shore_locks.proofs.Counts.{AreRequests-passed, AreRequests-removed, first_gone, not_of}
-use Rattle.shore_locks.proofs.Entering.{both_true}
+use Rattle.shore_nodes.specs.Orderly.{IsOrderly, IsStopped}
+use Rattle.shore_nodes.proofs.Members.{In, either, In-filter, filter-In, In-Contains, filter-yes, filter-no, filter-all, filter-swap}
+use Rattle.shore_nodes.proofs.Keys.{in_place-keys, alike-Decides, AreRequests-replaced}
+use Rattle.shore_nodes.proofs.Passes.{first_granted}
+use Rattle.shore_nodes.proofs.Fits.{found_any, pass_keeps, granted_first, granted_none}
+use Rattle.shore_nodes.proofs.Counts.{AreRequests-passed, AreRequests-removed, first_gone, not_of}
+use Rattle.shore_nodes.proofs.Entering.{both_true}
 
 no_from : (b : Bool) → not b ≡ true → b ≡ false
 no_from true e = cc

@@ -1,26 +1,17 @@
-mod AlikeNodes
 mod Alone
 pub mod AtOnce
 pub mod Answered
 pub mod Buckets
-pub mod Counts
-mod Crowds
-pub mod Entering
 mod Firsts
-pub mod Fits
-pub mod Keys
 mod Lasts
-mod GrantWalks
-mod Spreads
 pub mod LawLemmas
-pub mod Members
-mod NodeLemmas
-mod NodeSteps
-pub mod Others
 pub mod Outcomes
-pub mod Passes
 pub mod Tables
-mod Tallying
 mod Inventories
-mod Links
-pub mod Waiting
+pub use Rattle.shore_nodes.proofs.Counts
+pub use Rattle.shore_nodes.proofs.Entering
+pub use Rattle.shore_nodes.proofs.Fits
+pub use Rattle.shore_nodes.proofs.Keys
+pub use Rattle.shore_nodes.proofs.Members
+pub use Rattle.shore_nodes.proofs.Others
+pub use Rattle.shore_nodes.proofs.Passes

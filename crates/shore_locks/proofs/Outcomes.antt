@@ -14,18 +14,18 @@ use Rattle.shore_model.specs.declared.requests.Group.TheVariants.{Holders, Conve
 use Rattle.shore_model.specs.Modes.{is_at_most}
 use Rattle.shore_model.specs.Requests.{are_alike, AreRequests, Before, IsBehind, IsRefusedBy, WaitsFor, WaitsIn, is_in_group, placed_last, queue_at, requests_at}
 use Rattle.shore_modes.proofs.ModeTables.{sup_least}
-use Rattle.shore_locks.specs.Tables.{is_waiting, mode_held, request_for, waiters_at, waiting_request}
+use Rattle.shore_nodes.specs.Tables.{is_waiting, mode_held, request_for, waiters_at, waiting_request}
 use Rattle.shore_locks.specs.Grants.{after_grant, wanted_mode, asking, cancelled, granted, is_ahead, is_enough, is_refused, is_stopped_by, obstacle, passed, put, removed, replaced, taken_back, taken_back_if, withdrawn}
-use Rattle.shore_locks.specs.Orderly.{IsOrderly}
-use Rattle.shore_locks.proofs.Members.{In, either, In-filter, filter-In, Contains-In, In-Contains, In-left, In-right, filter-yes}
-use Rattle.shore_locks.proofs.Keys.{in_place-no, in_place-yes, alike-Decides, alike-self, only_one, same_granule-Decides}
-use Rattle.shore_locks.proofs.Fits.{In-replaced, pass_keeps, wants_nothing}
-use Rattle.shore_locks.proofs.Counts.{AreRequests-passed, AreRequests-stopped}
-use Rattle.shore_locks.proofs.Entering.{AreRequests-put, both_true, found_in, find_step, request_in}
+use Rattle.shore_nodes.specs.Orderly.{IsOrderly}
+use Rattle.shore_nodes.proofs.Members.{In, either, In-filter, filter-In, Contains-In, In-Contains, In-left, In-right, filter-yes}
+use Rattle.shore_nodes.proofs.Keys.{in_place-no, in_place-yes, alike-Decides, alike-self, only_one, same_granule-Decides}
+use Rattle.shore_nodes.proofs.Fits.{In-replaced, pass_keeps, wants_nothing}
+use Rattle.shore_nodes.proofs.Counts.{AreRequests-passed, AreRequests-stopped}
+use Rattle.shore_nodes.proofs.Entering.{AreRequests-put, both_true, found_in, find_step, request_in}
 use Rattle.shore_locks.proofs.LawLemmas.{refused_means}
-use Rattle.shore_locks.proofs.Others.{put_in_place, put_last}
+use Rattle.shore_nodes.proofs.Others.{put_in_place, put_last}
 use Rattle.shore_locks.proofs.Tables.{fit_of}
-use Rattle.shore_locks.proofs.Waiting.{refused_or_ahead}
+use Rattle.shore_nodes.proofs.Waiting.{refused_or_ahead}
 
 first_of_two : {A : Type 0} (b : Bool) (x y : A) → b ≡ true → cond b x y ≡ x
 first_of_two true x y e = refl

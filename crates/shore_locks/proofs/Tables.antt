@@ -1,5 +1,5 @@
 -- The requests of a table stay orderly.
-use Rattle.std.proofs.Common.{◌≡◌, inl, inr, ⊎_elim, ℕ, List, [], ◌∷◌, Bool, true, false, Option, None, Some, refl, ap, sym, subst, ◌∙◌, arith}
+use Rattle.std.proofs.Common.{◌≡◌, ◌≤◌, length, inl, inr, ⊎_elim, ℕ, List, [], ◌∷◌, Bool, true, false, Option, None, Some, refl, ap, sym, subst, ◌∙◌, arith}
 use Rattle.std.specs.Prelude.{not, cond, All, ◌&&◌, ◌==◌, is_some, IsSome, IsTrue}
 use Rattle.std.specs.List.{cons_option}
 use Rattle.shore_types.specs.declared.locking.Granule.{Granule}
@@ -9,17 +9,25 @@ use Rattle.shore_model.specs.declared.requests.Request.{Request}
 use Rattle.shore_model.specs.Modes.{coexist}
 use Rattle.shore_model.specs.Locks.{Agree, StandTogether}
 use Rattle.shore_model.specs.Requests.{are_alike, requests_by, placed_last, held_by_all, hold_in}
-use Rattle.shore_locks.specs.Findings.{IsFree, MayAsk}
-use Rattle.shore_locks.specs.Tables.{Table, mode_held, is_waiting, waiting_request}
+use Rattle.shore_locks.specs.Findings.{FindsNode, IsFree, MayAsk}
+use Rattle.shore_nodes.specs.Tables.{Table, mode_held, is_waiting, request_for, waiting_request}
 use Rattle.shore_locks.specs.Grants.{removed, replaced, put, granted, withdrawn, asking, obstacle, passed, taken_back, taken_back_if, cancelled, given_up, released, is_full, after_grant}
-use Rattle.shore_locks.specs.Orderly.{IsOrderlyWithin, IsOrderly, IsOfUse, Rises, WaitsLast}
-use Rattle.shore_locks.proofs.Members.{In, either, In-All, All-In, In-Contains, Contains-In}
-use Rattle.shore_locks.proofs.Fits.{Fit, Fit-filter, Fit-withdrawn, Fit-passed, StandBoth}
-use Rattle.shore_locks.proofs.Others.{NoneLeftAt, none_left_as, none_left_passed, at_other_removed, at_other_replaced, at_other_put}
-use Rattle.shore_locks.proofs.Entering.{AreRequests-put, Fit-placed, Fit-put, found_in, rises_to_wanted}
-use Rattle.shore_locks.proofs.Counts.{node_found, length-given_up, length-passed, length-placed_within, length-put_within, length-taken_back}
-use Rattle.shore_locks.proofs.Waiting.{none_left_placed}
+use Rattle.shore_nodes.specs.Orderly.{IsOrderlyWithin, IsOrderly, IsOfUse, Rises, WaitsLast}
+use Rattle.shore_nodes.proofs.Members.{In, either, In-All, All-In, In-Contains, Contains-In}
+use Rattle.shore_nodes.proofs.Fits.{Fit, Fit-filter, Fit-withdrawn, Fit-passed, StandBoth}
+use Rattle.shore_nodes.proofs.Others.{NoneLeftAt, none_left_as, none_left_passed, at_other_removed, at_other_replaced, at_other_put}
+use Rattle.shore_nodes.proofs.Entering.{AreRequests-put, Fit-placed, Fit-put, found_in, rises_to_wanted}
+use Rattle.shore_nodes.proofs.Counts.{has_one, short_of, length-given_up, length-passed, length-placed_within, length-put_within, length-taken_back}
+use Rattle.shore_nodes.proofs.Waiting.{none_left_placed}
 use Rattle.shore_locks.proofs.Lasts.{last_filter, last_passed, last_placed, last_put, last_replaced, quiet_of}
+
+-- if the table is not full for a transaction and a granule, its request has a node or one is left
+pub node_found : (table : Table) (r : Request) → length table.requests ≤ table.limit → is_full table r.txn r.granule ≡ false → FindsNode table r
+node_found table r most room none =
+    ⊎_elim
+    (λ has. absurd (let yes = has_one r table.requests has in cc))
+    (λ short. short)
+    (short_of (is_some (request_for r.txn r.granule table.requests)) (length table.requests) table.limit most room)
 
 -- a lock is held by a request
 record HeldBy (rs : List Request) (h : Hold) : Type 0 where

@@ -9,8 +9,8 @@ use Rattle.shore_locks.specs.declared.findings.Finding.TheVariants.{Enough, Full
 use Rattle.shore_locks.specs.Grants.{asking, is_enough, is_full, obstacle}
 use Rattle.shore_model.specs.declared.requests.Request.{Request}
 use Rattle.shore_model.specs.Requests.{are_alike}
-use Rattle.shore_locks.specs.Orderly.{IsOrderly, Rises}
-use Rattle.shore_locks.specs.Tables.{Table, is_waiting, mode_held, request_for}
+use Rattle.shore_nodes.specs.Orderly.{IsOrderly, Rises}
+use Rattle.shore_nodes.specs.Tables.{Table, is_waiting, mode_held, request_for}
 
 -- less than what is asked is held, and there is a node for it
 abbrev pub MayAsk : Table → ℕ → Granule → Mode → Type 0

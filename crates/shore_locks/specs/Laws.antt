@@ -4,7 +4,7 @@ use Rattle.shore_types.specs.declared.locking.Granule.{Granule}
 use Rattle.shore_types.specs.declared.locking.Mode.{Mode}
 use Rattle.shore_model.specs.declared.requests.Request.{Request}
 use Rattle.shore_model.specs.Requests.{IsRefusedBy, WaitsFor, placed_last, requests_at}
-use Rattle.shore_locks.specs.Tables.{Table, is_waiting, mode_held, waiters_at}
+use Rattle.shore_nodes.specs.Tables.{Table, is_waiting, mode_held, waiters_at}
 use Rattle.shore_locks.specs.Grants.{after_request, after_try, answer_to, answer_to_try, asking, granted, is_enough, passed}
 use Rattle.shore_locks.specs.declared.answers.Requested.TheVariants.{Granted, Waiting, Full}
 use Rattle.shore_locks.specs.declared.answers.Tried.TheVariants.{Blocked, Granted as TryGranted, Full as TryFull}

@@ -1,10 +1,7 @@
 pub mod Findings
-pub mod Granting
 pub mod Grants
 pub mod Laws
 pub mod Listing
-pub mod Nodes
-pub mod Orderly
 pub mod Popping
-pub mod Tables
-pub mod Tallies
+pub use Rattle.shore_nodes.specs.Orderly
+pub use Rattle.shore_nodes.specs.Tables

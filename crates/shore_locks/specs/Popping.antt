@@ -5,7 +5,7 @@ use Rattle.shore_model.specs.Requests.{requests_by}
 use Rattle.shore_locks.specs.declared.counted.Popped.{Popped}
 use Rattle.shore_locks.specs.declared.counted.Popped.TheVariants.{Nothing, Quiet, Awaited}
 use Rattle.shore_locks.specs.Grants.{removed}
-use Rattle.shore_locks.specs.Tables.{waiters_at}
+use Rattle.shore_nodes.specs.Tables.{waiters_at}
 
 -- the first request of a transaction is out, if it has one
 abbrev pub IsOut : ℕ → List Request → Request → List Request → Type 0

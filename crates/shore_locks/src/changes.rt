@@ -1,39 +1,37 @@
 //! Changes to the list of requests.
-ghost use Rattle.std.specs.Prelude.{◌≡◌, cond, is_some, length, slice_get};
+ghost use Rattle.std.specs.Prelude.{◌≡◌, IsFalse, IsSomeAnd, IsTrue, cond, is_some, length, slice_get, true};
 ghost use Rattle.std.specs.List.{list_any};
 ghost use Rattle.shore_model.specs.Requests as asked;
 ghost use Rattle.shore_model.specs.Requests.{AreRequests};
 ghost use Rattle.shore_locks.specs.Findings.{FindsNode, IsFree};
 ghost use Rattle.shore_locks.specs.Grants as steps;
-ghost use Rattle.shore_locks.specs.Tables.{waiters_at};
+ghost use Rattle.shore_nodes.specs.Tables.{waiters_at};
 
 use crate::counted::{Counted, Popped};
-use crate::judgements::{granted, holds_is, withdrawn};
-use crate::searches;
+use crate::searches::{self, can_be_granted};
 use shore_model::Request;
+use shore_nodes::judgements::{granted, holds_is, withdrawn};
 use shore_types::{Granule, TxnId};
 
-/// A grant pass: waiters of a granule's queue are granted in turn, up to the first that another holder refuses. Behind the last
-/// conversion the new waiters are granted together; mostly the first of them is refused, and a walk ends there. If the counts show that
-/// nobody waits, that is all.
+/// A grant pass: waiters of a granule's queue are granted in turn, up to the first that another holder refuses. Mostly that is the
+/// first of them, and a walk ends there. If the counts show that nobody waits, that is all.
 pub fn pass(nodes: &mut Counted, granule: &Granule)
     requires { AreRequests nodes.old.requests }
     ensures items { nodes.new.requests ≡ steps.passed granule.now nodes.old.requests }
     ensures limit { nodes.new.limit ≡ nodes.old.limit }
 {
-    if !nodes.may_have_waiters(granule) {
-        return;
+    if nodes.may_have_waiters(granule) && grants_somebody(nodes, granule) {
+        nodes.grant_waiters(granule);
     }
-    while let Some(waiter) = first_waiter(nodes, granule) {
-        if !can_be_granted(nodes, &waiter) {
-            return;
-        }
-        if waiter.held.is_none() {
-            nodes.grant_new(granule);
-            return;
-        }
-        let granted = granted(&waiter);
-        nodes.replace(&granted);
+}
+
+fn grants_somebody(nodes: &Counted, granule: &Granule) -> bool
+    ensures none { IsFalse result → steps.passed granule.now nodes.now.requests ≡ nodes.now.requests }
+    ensures some { IsTrue result → IsSomeAnd (slice_get (waiters_at granule.now nodes.now.requests) 0) (λ w. steps.can_be_granted w (asked.requests_at w.granule nodes.now.requests) ≡ true) }
+{
+    match first_waiter(nodes, granule) {
+        Some(waiter) => can_be_granted(nodes.nodes(), &waiter),
+        None => false,
     }
 }
 
@@ -46,12 +44,6 @@ fn first_waiter(nodes: &Counted, granule: &Granule) -> Option<Request>
     } else {
         searches::first_new(nodes.nodes(), granule)
     }
-}
-
-fn can_be_granted(nodes: &Counted, waiter: &Request) -> bool
-    ensures { result ≡ steps.can_be_granted waiter.now (asked.requests_at waiter.now.granule nodes.now.requests) }
-{
-    searches::can_be_granted(nodes.nodes(), waiter)
 }
 
 /// A waiting request is taken back, with a grant pass over its queue.

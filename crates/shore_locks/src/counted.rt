@@ -4,18 +4,17 @@ ghost use Rattle.std.specs.List.{list_any};
 ghost use Rattle.std.specs.List.Sorted.{IsPermutation};
 ghost use Rattle.shore_model.specs.declared.requests.Group.TheVariants.{Conversions};
 ghost use Rattle.shore_model.specs.Requests.{AreRequests, are_alike, is_in_group, placed_last, requests_at, requests_by};
-ghost use Rattle.shore_locks.specs.Grants.{first_hold, granted_in_turn, obstacle, removed, replaced};
-ghost use Rattle.shore_locks.specs.Granting.{new_waiters};
+ghost use Rattle.shore_locks.specs.Grants.{first_hold, obstacle, passed, removed, replaced};
 ghost use Rattle.shore_locks.specs.Popping.{Pops};
-ghost use Rattle.shore_locks.specs.Tables.{waiters_at};
-ghost use Rattle.shore_locks.specs.Tallies.{Counts, crowd};
+ghost use Rattle.shore_nodes.specs.Tables.{waiters_at};
+ghost use Rattle.shore_nodes.specs.Tallies.{Counts, crowd};
 
-use crate::heads::queue_head;
 use crate::listings::append_walk;
-use crate::nodes::Nodes;
 use crate::searches::request_for;
-use crate::tallies::{Tally, tally_of};
 use shore_model::Request;
+use shore_nodes::heads::queue_head;
+use shore_nodes::nodes::Nodes;
+use shore_nodes::tallies::{Tally, tally_of};
 use shore_types::{Granule, Mode, TxnId};
 use std::alloc::{AllocError, Global};
 use std::marker::Model;
@@ -39,11 +38,11 @@ pub struct Counted {
 }
 
 impl Model for Counted {
-    ghost use Rattle.shore_locks.specs.Tables.{Table};
+    ghost use Rattle.shore_nodes.specs.Tables.{Table};
 
     ghost Value = { Table };
 
-    ghost use Rattle.shore_locks.specs.Tallies.{AreCounted};
+    ghost use Rattle.shore_nodes.specs.Tallies.{AreCounted};
 
     ghost view = { λ c. record { limit = c.nodes.limit; requests = c.nodes.requests } };
 
@@ -212,14 +211,14 @@ impl Counted {
         was_there
     }
 
-    /// Grants the new waiters of a granule in their order, up to the first whom a holder refuses.
-    pub fn grant_new(&mut self, granule: &Granule)
+    /// Grants the waiters of a granule in their order, conversions first, up to the first whom another holder refuses.
+    pub fn grant_waiters(&mut self, granule: &Granule)
         requires { AreRequests self.old.requests }
-        ensures items { self.new.requests ≡ granted_in_turn (new_waiters granule.now self.old.requests) self.old.requests }
+        ensures items { self.new.requests ≡ passed granule.now self.old.requests }
         ensures limit { self.new.limit ≡ self.old.limit }
     {
         let head = queue_head(granule, self.nodes.heads());
-        self.nodes.grant_new(granule);
+        self.nodes.grant_waiters(granule);
         self.tallies[head] = recount(&self.nodes, head);
     }
 

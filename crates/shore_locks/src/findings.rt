@@ -4,12 +4,12 @@ ghost use Rattle.std.specs.Option.{option_map};
 ghost use Rattle.shore_model.specs.declared.requests.Request.{Request};
 ghost use Rattle.shore_locks.specs.Findings.{Finds};
 ghost use Rattle.shore_locks.specs.Grants as steps;
-ghost use Rattle.shore_locks.specs.Tables as tables;
+ghost use Rattle.shore_nodes.specs.Tables as tables;
 
 use crate::counted::Counted;
-use crate::judgements::{is_enough, wanted_mode};
 use crate::searches::{obstacle, own_hold};
 use shore_model::Request;
+use shore_nodes::judgements::{is_enough, wanted_mode};
 use shore_types::{Granule, Mode, TxnId};
 
 /// What a transaction meets that asks for a granule in a mode.

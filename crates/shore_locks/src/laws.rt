@@ -4,9 +4,9 @@ ghost use Rattle.shore_types.specs.declared.locking.Granule.{Granule};
 ghost use Rattle.shore_types.specs.declared.locking.Mode.{Mode};
 ghost use Rattle.shore_model.specs.declared.requests.Request.{Request};
 ghost use Rattle.shore_model.specs.Requests.{AreRequests};
-ghost use Rattle.shore_locks.specs.Orderly.{IsOrderly};
+ghost use Rattle.shore_nodes.specs.Orderly.{IsOrderly};
 ghost use Rattle.shore_locks.specs.Grants.{after_grant, asking, cancelled, granted, obstacle, passed, put, released};
-ghost use Rattle.shore_locks.specs.Tables.{Table, is_waiting, mode_held};
+ghost use Rattle.shore_nodes.specs.Tables.{Table, is_waiting, mode_held};
 ghost use Rattle.shore_locks.specs.Laws.{BlockedByOneInTheWay, FirstWaitersAreRefused, GrantedIsHeld, GrantsABeginning, OnlyGrants, RefusedChangesNothing, StaysQuiet, WaitsForSomebody, of_others, owners};
 
 use crate::table::LockTable;

@@ -6,9 +6,9 @@ ghost use Rattle.shore_model.specs.declared.requests.Request.{Request as Request
 ghost use Rattle.shore_model.specs.Requests.{requests_by};
 ghost use Rattle.shore_locks.specs.Listing.{request_cmp};
 
-use crate::nodes::Nodes;
-use crate::walks::Walk;
 use shore_model::Request;
+use shore_nodes::nodes::Nodes;
+use shore_nodes::walks::Walk;
 use shore_types::TxnId;
 use std::alloc::AllocError;
 use std::marker::Model;

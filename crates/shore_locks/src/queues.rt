@@ -4,14 +4,14 @@ ghost use Rattle.std.specs.Iterator.{YieldsFirst, item_count};
 ghost use Rattle.shore_types.specs.Locking.{same_granule};
 ghost use Rattle.shore_model.specs.Requests.{is_in_group, requests_at};
 ghost use Rattle.shore_model.specs.declared.requests.Group.TheVariants.{Holders as HoldersGroup, Conversions, NewWaiters};
-ghost use Rattle.shore_locks.specs.Tables.{holders_at, waiters_at};
+ghost use Rattle.shore_nodes.specs.Tables.{holders_at, waiters_at};
 
 use crate::counted::Counted;
-use crate::judgements::is_in;
-use crate::nodes::Nodes;
-use crate::walks::Walk;
 use shore_model::Request;
 use shore_model::requests::Group;
+use shore_nodes::judgements::is_in;
+use shore_nodes::nodes::Nodes;
+use shore_nodes::walks::Walk;
 use shore_types::Granule;
 use std::marker::Model;
 

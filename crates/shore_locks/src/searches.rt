@@ -2,15 +2,15 @@
 ghost use Rattle.std.specs.Prelude.{◌≡◌, None, Some, cond, is_some, slice_get};
 ghost use Rattle.std.specs.Option.{option_map};
 ghost use Rattle.shore_model.specs.Requests.{requests_at};
-ghost use Rattle.shore_locks.specs.Tables as tables;
-ghost use Rattle.shore_locks.specs.Granting.{new_waiters};
+ghost use Rattle.shore_nodes.specs.Tables as tables;
+ghost use Rattle.shore_nodes.specs.Granting.{new_waiters};
 ghost use Rattle.shore_locks.specs.Grants as steps;
-ghost use Rattle.shore_locks.specs.Orderly.{WaitsLast};
+ghost use Rattle.shore_nodes.specs.Orderly.{WaitsLast};
 
-use crate::judgements::{is_at, is_for, is_in, is_stopped_by, refuses};
-use crate::nodes::Nodes;
 use shore_model::Request;
 use shore_model::requests::Group;
+use shore_nodes::judgements::{is_at, is_for, is_in, is_stopped_by, refuses};
+use shore_nodes::nodes::Nodes;
 use shore_types::{Granule, Mode, TxnId};
 
 /// The request of a transaction for a granule.

@@ -4,9 +4,9 @@ ghost use Rattle.std.specs.List.Sorted.{IsPermutation, IsSorted};
 ghost use Rattle.shore_model.specs.declared.requests.Group.TheVariants.{Conversions};
 ghost use Rattle.shore_model.specs.Requests.{is_in_group, requests_at, requests_by};
 ghost use Rattle.shore_locks.specs.Grants.{after_request, after_try, answer_to, answer_to_try, cancelled, released};
-ghost use Rattle.shore_locks.specs.Tables.{holders_at, is_waiting, mode_held, request_for, waiters_at, waiting_request};
+ghost use Rattle.shore_nodes.specs.Tables.{holders_at, is_waiting, mode_held, request_for, waiters_at, waiting_request};
 ghost use Rattle.shore_locks.specs.Listing.{request_cmp};
-ghost use Rattle.shore_locks.specs.Orderly.{IsOrderly};
+ghost use Rattle.shore_nodes.specs.Orderly.{IsOrderly};
 
 use crate::answers::{Requested, Tried};
 use crate::counted::Counted;
@@ -27,11 +27,11 @@ pub struct LockTable {
 
 impl Model for LockTable {
     ghost use Rattle.std.specs.Prelude.{◌≤◌, length};
-    ghost use Rattle.shore_locks.specs.Tables.{Table};
+    ghost use Rattle.shore_nodes.specs.Tables.{Table};
 
     ghost Value = { Table };
 
-    ghost use Rattle.shore_locks.specs.Orderly.{IsOrderlyWithin};
+    ghost use Rattle.shore_nodes.specs.Orderly.{IsOrderlyWithin};
 
     ghost view = { λ t. t.nodes };
 

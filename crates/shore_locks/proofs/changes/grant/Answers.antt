@@ -4,7 +4,7 @@ use Rattle.shore_model.specs.Requests.{AreRequests}
 use Rattle.shore_locks.specs.Findings.{FindsNode}
 use Rattle.shore_locks.specs.Grants.{granted, put}
 use Rattle.shore_locks.proofs.AtOnce.{grants_nobody}
-use Rattle.shore_locks.proofs.Entering.{AreRequests-put}
+use Rattle.shore_nodes.proofs.Entering.{AreRequests-put}
 use Rattle.shore_locks.proofs.changes.grant.Goals as goal
 
 pub put-requires-clause-room : goal.put-requires-clause-room

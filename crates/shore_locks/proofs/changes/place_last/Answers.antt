@@ -1,5 +1,5 @@
 use Rattle.std.proofs.Common.{◌++◌, ◌∷◌, [], ap, ◌∙◌}
-use Rattle.shore_locks.proofs.Entering.{placed_new}
+use Rattle.shore_nodes.proofs.Entering.{placed_new}
 use Rattle.shore_locks.proofs.changes.place_last.Goals as goal
 
 pub returns-then-not-move_last-clause-items : goal.returns-then-not-move_last-clause-items

@@ -5,9 +5,9 @@ use Rattle.shore_types.specs.declared.locking.Granule.{Granule}
 use Rattle.shore_model.specs.declared.requests.Request.{Request}
 use Rattle.shore_model.specs.Requests.{AreRequests, requests_by}
 use Rattle.shore_locks.specs.Grants.{given_up, granted_in_turn, passed, released, removed}
-use Rattle.shore_locks.specs.Tables.{Table, waiters_at}
-use Rattle.shore_locks.proofs.Passes.{none_of}
-use Rattle.shore_locks.proofs.Counts.{AreRequests-passed, AreRequests-removed, fewer_by, length-filter_most, release_on}
+use Rattle.shore_nodes.specs.Tables.{Table, waiters_at}
+use Rattle.shore_nodes.proofs.Passes.{none_of}
+use Rattle.shore_nodes.proofs.Counts.{AreRequests-passed, AreRequests-removed, fewer_by, length-filter_most, release_on}
 use Rattle.shore_locks.proofs.changes.release.Goals as goal
 use Rattle.shore_locks.proofs.changes.release.Goals.{in-Quiet, in-Awaited}
 

@@ -1,6 +1,6 @@
 use Rattle.std.proofs.Common.{sym, subst}
 use Rattle.shore_model.specs.Requests.{AreRequests}
-use Rattle.shore_locks.proofs.Counts.{AreRequests-stopped}
+use Rattle.shore_nodes.proofs.Counts.{AreRequests-stopped}
 use Rattle.shore_locks.proofs.changes.take_back.Goals as goal
 
 pub pass-requires : goal.pass-requires

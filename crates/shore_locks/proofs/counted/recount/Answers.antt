@@ -2,9 +2,9 @@ use Rattle.std.proofs.Common.{ℕ, ap, arith, length, subst}
 use Rattle.std.specs.Prelude.{◌==◌}
 use Rattle.std.proofs.lemmas.List.{length-map}
 use Rattle.shore_model.specs.declared.requests.Request.{Request}
-use Rattle.shore_locks.specs.Nodes.{queue_head}
-use Rattle.shore_locks.specs.Tallies.{Counts}
-use Rattle.shore_locks.proofs.Counts.{length-filter_most}
+use Rattle.shore_nodes.specs.Nodes.{queue_head}
+use Rattle.shore_nodes.specs.Tallies.{Counts}
+use Rattle.shore_nodes.proofs.Counts.{length-filter_most}
 use Rattle.shore_locks.proofs.counted.recount.Goals as goal
 
 pub returns : goal.returns

@@ -1,7 +1,7 @@
 use Rattle.std.proofs.Common.{◌≡◌, ℕ, length, map}
 use Rattle.std.specs.Prelude.{slice_get}
 use Rattle.shore_model.specs.declared.requests.Request.{Request}
-use Rattle.shore_locks.specs.Granting.{new_waiters}
+use Rattle.shore_nodes.specs.Granting.{new_waiters}
 use Rattle.shore_locks.proofs.searches.first_new.Given as goal
 
 abbrev pub invariant-loop-request : goal.invariant-loop-request

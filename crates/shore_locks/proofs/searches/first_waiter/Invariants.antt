@@ -2,7 +2,7 @@ use Rattle.std.proofs.Common.{◌≡◌, ℕ, length, map}
 use Rattle.std.specs.Prelude.{slice_get}
 use Rattle.shore_model.specs.declared.requests.Request.{Request}
 use Rattle.shore_model.specs.Requests.{requests_at}
-use Rattle.shore_locks.specs.Tables.{waiters_at}
+use Rattle.shore_nodes.specs.Tables.{waiters_at}
 use Rattle.shore_locks.proofs.Firsts.{first_after}
 use Rattle.shore_locks.proofs.searches.first_waiter.Given as goal
 

@@ -1,6 +1,6 @@
 use Rattle.std.proofs.Common.{◌≡◌, ℕ, length, map}
 use Rattle.shore_model.specs.declared.requests.Request.{Request}
-use Rattle.shore_locks.specs.Tables.{request_for}
+use Rattle.shore_nodes.specs.Tables.{request_for}
 use Rattle.shore_locks.proofs.searches.request_for.Given as goal
 
 abbrev pub invariant-loop-request : goal.invariant-loop-request

@@ -1,6 +1,6 @@
 use Rattle.std.proofs.Common.{◌≡◌, ℕ, length, map}
 use Rattle.shore_model.specs.declared.requests.Request.{Request}
-use Rattle.shore_locks.specs.Tables.{waiting_request}
+use Rattle.shore_nodes.specs.Tables.{waiting_request}
 use Rattle.shore_locks.proofs.searches.waiting_request.Given as goal
 
 abbrev pub invariant-loop-request : goal.invariant-loop-request

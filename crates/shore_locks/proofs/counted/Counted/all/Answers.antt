@@ -1,5 +1,5 @@
 use Rattle.std.proofs.Common.{◌≡◌, ◌++◌, ap, sym, subst, ◌∙◌, arith, IsPermutation}
-use Rattle.shore_locks.specs.Tables.{Table}
+use Rattle.shore_nodes.specs.Tables.{Table}
 use Rattle.shore_locks.proofs.Inventories.{all_below, below, more_below, none_below}
 use Rattle.shore_locks.proofs.counted.Counted.all.Goals as goal
 

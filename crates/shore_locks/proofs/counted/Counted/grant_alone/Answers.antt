@@ -1,11 +1,11 @@
 use Rattle.std.proofs.Common.{◌≡◌, ◌<◌, [], refl, ap, subst, sym, ◌∙◌}
 use Rattle.shore_model.specs.Requests.{requests_at}
 use Rattle.shore_locks.specs.Grants.{first_hold}
-use Rattle.shore_locks.specs.Nodes.{queue_head}
-use Rattle.shore_locks.specs.Tables.{Table}
-use Rattle.shore_locks.specs.Tallies.{crowd}
-use Rattle.shore_locks.proofs.Crowds.{nobody_at}
-use Rattle.shore_locks.proofs.Tallying.{pushed_counted}
+use Rattle.shore_nodes.specs.Nodes.{queue_head}
+use Rattle.shore_nodes.specs.Tables.{Table}
+use Rattle.shore_nodes.specs.Tallies.{crowd}
+use Rattle.shore_nodes.proofs.Crowds.{nobody_at}
+use Rattle.shore_nodes.proofs.Tallying.{pushed_counted}
 use Rattle.shore_locks.proofs.counted.Counted.grant_alone.Goals as goal
 
 pub invariant_of-self : goal.invariant_of-self

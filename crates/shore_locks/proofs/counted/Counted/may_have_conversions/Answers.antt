@@ -2,10 +2,10 @@ use Rattle.std.proofs.Common.{◌<◌, ap, subst, sym, ◌∙◌}
 use Rattle.std.specs.Prelude.{filter}
 use Rattle.shore_model.specs.declared.requests.Group.TheVariants.{Conversions}
 use Rattle.shore_model.specs.Requests.{is_in_group, requests_at}
-use Rattle.shore_locks.specs.Nodes.{queue_head}
-use Rattle.shore_locks.specs.Tables.{Table}
-use Rattle.shore_locks.proofs.Crowds.{nobody_converts}
-use Rattle.shore_locks.proofs.Tallying.{tally_read}
+use Rattle.shore_nodes.specs.Nodes.{queue_head}
+use Rattle.shore_nodes.specs.Tables.{Table}
+use Rattle.shore_nodes.proofs.Crowds.{nobody_converts}
+use Rattle.shore_nodes.proofs.Tallying.{tally_read}
 use Rattle.shore_locks.proofs.counted.Counted.may_have_conversions.Goals as goal
 
 pub returns : goal.returns

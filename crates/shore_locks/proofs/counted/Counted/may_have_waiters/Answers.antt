@@ -1,8 +1,8 @@
 use Rattle.std.proofs.Common.{◌<◌, ap, subst, sym, ◌∙◌}
-use Rattle.shore_locks.specs.Nodes.{queue_head}
-use Rattle.shore_locks.specs.Tables.{Table, waiters_at}
-use Rattle.shore_locks.proofs.Crowds.{nobody_waits}
-use Rattle.shore_locks.proofs.Tallying.{tally_read}
+use Rattle.shore_nodes.specs.Nodes.{queue_head}
+use Rattle.shore_nodes.specs.Tables.{Table, waiters_at}
+use Rattle.shore_nodes.proofs.Crowds.{nobody_waits}
+use Rattle.shore_nodes.proofs.Tallying.{tally_read}
 use Rattle.shore_locks.proofs.counted.Counted.may_have_waiters.Goals as goal
 
 pub returns : goal.returns

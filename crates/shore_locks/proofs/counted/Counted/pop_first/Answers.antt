@@ -1,12 +1,12 @@
 use Rattle.std.proofs.Common.{◌≡◌, ◌<◌, refl, ap, subst, sym, ◌∙◌, slice_set}
-use Rattle.shore_locks.specs.Nodes.{queue_head}
-use Rattle.shore_locks.specs.Tallies.{AreCounted}
+use Rattle.shore_nodes.specs.Nodes.{queue_head}
+use Rattle.shore_nodes.specs.Tallies.{AreCounted}
 use Rattle.shore_model.specs.Requests.{AreRequests}
 use Rattle.shore_locks.specs.Popping.{Pops}
-use Rattle.shore_locks.specs.Tables.{Table}
-use Rattle.shore_locks.proofs.Crowds.{nobody_waits}
-use Rattle.shore_locks.proofs.Keys.{alike-self}
-use Rattle.shore_locks.proofs.Tallying.{counted_same, first_in, removed_counted, tally_read}
+use Rattle.shore_nodes.specs.Tables.{Table}
+use Rattle.shore_nodes.proofs.Crowds.{nobody_waits}
+use Rattle.shore_nodes.proofs.Keys.{alike-self}
+use Rattle.shore_nodes.proofs.Tallying.{counted_same, first_in, removed_counted, tally_read}
 use Rattle.shore_locks.proofs.counted.Counted.pop_first.Goals as goal
 use Rattle.shore_locks.proofs.counted.Counted.pop_first.Goals.{then-has_waiters, else-has_waiters}
 

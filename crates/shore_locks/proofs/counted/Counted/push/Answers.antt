@@ -1,6 +1,6 @@
 use Rattle.std.proofs.Common.{◌<◌, ap, subst, ◌∙◌}
-use Rattle.shore_locks.specs.Nodes.{queue_head}
-use Rattle.shore_locks.proofs.Tallying.{pushed_counted}
+use Rattle.shore_nodes.specs.Nodes.{queue_head}
+use Rattle.shore_nodes.proofs.Tallying.{pushed_counted}
 use Rattle.shore_locks.proofs.counted.Counted.push.Goals as goal
 
 pub invariant_of-self : goal.invariant_of-self

@@ -1,8 +1,8 @@
 use Rattle.std.proofs.Common.{◌<◌, ap, subst, sym, ◌∙◌}
-use Rattle.shore_locks.specs.Nodes.{queue_head}
+use Rattle.shore_nodes.specs.Nodes.{queue_head}
 use Rattle.shore_model.specs.Requests.{AreRequests}
-use Rattle.shore_locks.specs.Tables.{Table, request_for}
-use Rattle.shore_locks.proofs.Tallying.{known_in, replaced_counted, unknown_replaced}
+use Rattle.shore_nodes.specs.Tables.{Table, request_for}
+use Rattle.shore_nodes.proofs.Tallying.{known_in, replaced_counted, unknown_replaced}
 use Rattle.shore_locks.proofs.counted.Counted.replace.Goals as goal
 
 pub invariant_of-self : goal.invariant_of-self

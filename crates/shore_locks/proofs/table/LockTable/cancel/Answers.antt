@@ -1,5 +1,5 @@
 use Rattle.std.proofs.Common.{ap, sym, ◌∙◌}
-use Rattle.shore_locks.specs.Tables.{waiting_request}
+use Rattle.shore_nodes.specs.Tables.{waiting_request}
 use Rattle.shore_locks.specs.Grants.{taken_back}
 use Rattle.shore_locks.proofs.Tables.{kept_as, kept_taken_back}
 use Rattle.shore_locks.proofs.table.LockTable.cancel.Goals as goal

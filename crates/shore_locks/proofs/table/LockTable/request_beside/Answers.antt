@@ -2,9 +2,9 @@ use Rattle.std.proofs.Common.{sym, subst, ap, ◌∙◌}
 use Rattle.shore_model.specs.Requests.{placed_last}
 use Rattle.shore_locks.specs.Findings.{FindsNode}
 use Rattle.shore_locks.specs.Grants.{after_grant, asking, granted, passed, put}
-use Rattle.shore_locks.specs.Tables.{Table, is_waiting}
-use Rattle.shore_locks.proofs.Counts.{node_found}
-use Rattle.shore_locks.proofs.Entering.{known_as, some_from}
+use Rattle.shore_nodes.specs.Tables.{Table, is_waiting}
+use Rattle.shore_locks.proofs.Tables.{node_found}
+use Rattle.shore_nodes.proofs.Entering.{known_as, some_from}
 use Rattle.shore_locks.proofs.Tables.{free_of, kept_as, kept_granted, kept_placed}
 use Rattle.shore_locks.proofs.table.LockTable.request_beside.Goals as goal
 

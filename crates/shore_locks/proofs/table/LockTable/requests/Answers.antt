@@ -1,6 +1,6 @@
 use Rattle.std.proofs.Common.{subst, IsPermutation}
 use Rattle.std.proofs.lemmas.List.Sorted.{IsPermutation-trans}
-use Rattle.shore_locks.specs.Tables.{Table}
+use Rattle.shore_nodes.specs.Tables.{Table}
 use Rattle.shore_locks.proofs.table.LockTable.requests.Goals as goal
 
 pub returns-clause-all : goal.returns-clause-all

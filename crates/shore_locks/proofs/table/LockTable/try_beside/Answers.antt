@@ -1,7 +1,7 @@
 use Rattle.std.proofs.Common.{ap, ◌∙◌}
 use Rattle.shore_locks.specs.Grants.{after_grant, granted, passed, put}
-use Rattle.shore_locks.specs.Tables.{Table, is_waiting}
-use Rattle.shore_locks.proofs.Entering.{known_as}
+use Rattle.shore_nodes.specs.Tables.{Table, is_waiting}
+use Rattle.shore_nodes.proofs.Entering.{known_as}
 use Rattle.shore_locks.proofs.Tables.{free_of, kept_as, kept_granted}
 use Rattle.shore_locks.proofs.table.LockTable.try_beside.Goals as goal
 

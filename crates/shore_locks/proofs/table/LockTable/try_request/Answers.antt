@@ -1,7 +1,7 @@
 use Rattle.std.proofs.Common.{ap, subst, sym, ◌∙◌}
 use Rattle.shore_locks.specs.Grants.{after_try}
-use Rattle.shore_locks.specs.Orderly.{IsOrderlyWithin}
-use Rattle.shore_locks.specs.Tables.{Table, is_waiting}
+use Rattle.shore_nodes.specs.Orderly.{IsOrderlyWithin}
+use Rattle.shore_nodes.specs.Tables.{Table, is_waiting}
 use Rattle.shore_locks.proofs.Alone.{alone_kept, alone_try_leaves}
 use Rattle.shore_locks.proofs.table.LockTable.try_request.Goals as goal
 

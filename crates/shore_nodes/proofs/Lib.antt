@@ -1,0 +1,17 @@
+pub mod AlikeNodes
+pub mod Counts
+pub mod Crowds
+pub mod Entering
+pub mod Fits
+pub mod GrantWalks
+pub mod Judged
+pub mod Keys
+pub mod Links
+pub mod Members
+pub mod NodeLemmas
+pub mod NodeSteps
+pub mod Others
+pub mod Passes
+pub mod Spreads
+pub mod Tallying
+pub mod Waiting

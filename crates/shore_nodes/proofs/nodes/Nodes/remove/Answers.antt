@@ -1,0 +1,50 @@
+use Rattle.std.proofs.Common.{◌≡◌, ◌+◌, true, sym, ap, subst, ◌∙◌}
+use Rattle.slab.specs.Slab.{slab_len}
+use Rattle.shore_model.specs.Requests.{AreRequests}
+use Rattle.shore_nodes.specs.Grants.{removed}
+use Rattle.shore_nodes.specs.Nodes.{alive, requests_in}
+use Rattle.shore_nodes.proofs.NodeSteps.{found_there, found_within, less_requests, less_linked, on_some, search_found, search_none, room_same}
+use Rattle.shore_nodes.proofs.Others.{removed_none}
+use Rattle.std.specs.Prelude.{is_some}
+use Rattle.shore_nodes.specs.Tallies.{Stored}
+use Rattle.shore_nodes.proofs.nodes.Nodes.remove.Goals as goal
+
+pub unlink_node-requires-clause-queue_node : goal.unlink_node-requires-clause-queue_node
+unlink_node-requires-clause-queue_node c =
+    (found_within c.self.inside.heads c.self.inside.slots c.self.inside.queues c.self.inside.lists c.self.inside.owners (alive c.self.inside.history.items) c.args.request.now c.in-Some.node c.self.invariant.0
+    (search_found c.self.inside.heads c.self.inside.slots c.self.inside.queues c.self.inside.lists c.self.inside.owners (alive c.self.inside.history.items) c.args.request.now c.owner_head-head.result c.in-Some.node c.new-walk.result c.self.invariant.0 c.owner_head-head.ensures.is c.new-walk.ensures c.in-Some.ensures)).0
+
+pub unlink_node-requires-clause-list_node : goal.unlink_node-requires-clause-list_node
+unlink_node-requires-clause-list_node c =
+    (found_within c.self.inside.heads c.self.inside.slots c.self.inside.queues c.self.inside.lists c.self.inside.owners (alive c.self.inside.history.items) c.args.request.now c.in-Some.node c.self.invariant.0
+    (search_found c.self.inside.heads c.self.inside.slots c.self.inside.queues c.self.inside.lists c.self.inside.owners (alive c.self.inside.history.items) c.args.request.now c.owner_head-head.result c.in-Some.node c.new-walk.result c.self.invariant.0 c.owner_head-head.ensures.is c.new-walk.ensures c.in-Some.ensures)).1
+
+pub unlink_node-requires-clause-owner_node : goal.unlink_node-requires-clause-owner_node
+unlink_node-requires-clause-owner_node c =
+    (found_within c.self.inside.heads c.self.inside.slots c.self.inside.queues c.self.inside.lists c.self.inside.owners (alive c.self.inside.history.items) c.args.request.now c.in-Some.node c.self.invariant.0
+    (search_found c.self.inside.heads c.self.inside.slots c.self.inside.queues c.self.inside.lists c.self.inside.owners (alive c.self.inside.history.items) c.args.request.now c.owner_head-head.result c.in-Some.node c.new-walk.result c.self.invariant.0 c.owner_head-head.ensures.is c.new-walk.ensures c.in-Some.ensures)).2
+
+pub invariant_of-self : goal.invariant_of-self
+invariant_of-self c =
+    let alike_node = search_found c.self.inside.heads c.self.inside.slots c.self.inside.queues c.self.inside.lists c.self.inside.owners (alive c.self.inside.history.items) c.args.request.now c.owner_head-head.result c.in-Some.node c.new-walk.result c.self.invariant.0 c.owner_head-head.ensures.is c.new-walk.ensures c.in-Some.ensures in
+    let there : is_some c.try_remove.result ≡ true = ap is_some c.try_remove.ensures.value ∙ found_there c.self.inside.heads c.self.inside.slots c.self.inside.queues c.self.inside.lists c.self.inside.owners c.self.inside.history.items c.args.request.now c.in-Some.node c.saturating_sub-key.result c.self.invariant.0 alike_node c.saturating_sub-key.ensures in (
+      less_linked c.self.inside.heads c.self.inside.slots c.self.inside.queues c.self.inside.lists c.self.inside.owners c.self.inside.history.items c.args.request.now c.in-Some.node c.saturating_sub-key.result
+          c.try_remove.new.self c.unlink_node.new.queues c.unlink_node.new.lists c.unlink_node.new.owners c.and-self-inside.result.items c.self.invariant.0 alike_node c.saturating_sub-key.ensures c.try_remove.ensures.updates
+          (on_some (slab_len c.try_remove.new.self + 1 ≡ slab_len c.self.inside.slots) c.try_remove.result there c.try_remove.ensures.len)
+          c.unlink_node.ensures.queues c.unlink_node.ensures.lists c.unlink_node.ensures.owners c.unlink_node.ensures.queue_nodes c.unlink_node.ensures.list_nodes c.unlink_node.ensures.owner_nodes c.and-self-inside.ensures,
+      room_same c.self.invariant.1 c.try_remove.ensures.capacity c.unlink_node.ensures.queue_nodes c.unlink_node.ensures.list_nodes c.unlink_node.ensures.owner_nodes,
+    )
+
+pub returns-in-Some-clause-items : goal.returns-in-Some-clause-items
+returns-in-Some-clause-items c =
+    let alike_node = search_found c.self.inside.heads c.self.inside.slots c.self.inside.queues c.self.inside.lists c.self.inside.owners (alive c.self.inside.history.items) c.args.request.now c.owner_head-head.result c.in-Some.node c.new-walk.result c.self.invariant.0 c.owner_head-head.ensures.is c.new-walk.ensures c.in-Some.ensures in
+    less_requests c.self.inside.heads c.self.inside.slots c.self.inside.queues c.self.inside.lists c.self.inside.owners c.self.inside.history.items c.args.request.now c.in-Some.node c.saturating_sub-key.result
+    c.try_remove.new.self c.and-self-inside.result.items (subst AreRequests (sym (ap (λ (t : Stored). t.requests) c.self.view_is)) c.requires) alike_node c.saturating_sub-key.ensures c.try_remove.ensures.updates c.and-self-inside.ensures
+    ∙ ap (removed c.args.request.now) (ap (λ (t : Stored). t.requests) c.self.view_is)
+
+pub returns-in_default-clause-items : goal.returns-in_default-clause-items
+returns-in_default-clause-items c =
+    sym (ap (removed c.args.request.now) (sym (ap (λ (t : Stored). t.requests) c.self.view_is))
+    ∙ removed_none c.args.request.now (requests_in c.self.inside.slots (alive c.self.inside.history.items))
+    (search_none c.self.inside.heads c.self.inside.slots c.self.inside.queues c.self.inside.lists c.self.inside.owners (alive c.self.inside.history.items) c.args.request.now c.owner_head-head.result c.new-walk.result c.self.invariant.0 c.owner_head-head.ensures.is c.new-walk.ensures c.in_default.ensures)
+    ∙ (ap (λ (t : Stored). t.requests) c.self.view_is))
