@@ -1,7 +1,7 @@
 -- The leaves of a tree as the bounds of pages.
-use Rattle.std.proofs.Common.{◌≡◌, ◌≢◌, ◌⊎◌, inl, inr, ℕ, ◌+◌, ◌*◌, ◌<◌, ◌≤◌, List, length, get_or, drop, sym, ap, ◌∙◌, arith}
+use Rattle.std.proofs.Common.{◌≡◌, ◌≢◌, ◌⊎◌, inl, inr, ℕ, ◌+◌, ◌-◌, ◌*◌, ◌<◌, ◌≤◌, List, length, get_or, take, drop, replicate, sym, ap, ◌∙◌, arith}
 use Rattle.std.proofs.Math.ListN.{set}
-use Rattle.std.proofs.lemmas.List.{length-take-le, length-drop, length-set, get_or-take, get_or-drop, get_or-set_same, get_or-set_other, ext_get_or}
+use Rattle.std.proofs.lemmas.List.{length-take-le, length-drop, length-set, get_or-take, get_or-drop, get_or-set_same, get_or-set_other, ext_get_or, drop-replicate, take-replicate}
 use Rattle.std.proofs.lemmas.Bool.{cases_lt}
 use Rattle.shore_freemap.specs.Maxima.{IsMaxima, IsGuarded, leaves_of}
 
@@ -46,3 +46,18 @@ kept-set old new pages page number kept maxima there small here others = record 
   guard = others (2 * pages + 1) (omega arith) (λ (e : 2 * pages + 1 ≡ pages + 1 + page). absurd (omega arith)) ∙ kept.guard;
   few = kept.few;
 }
+
+-- the leaf behind the pages was written
+pub leaves-guard : (old new : List ℕ) (pages : ℕ) → length old ≡ 2 * (pages + 1) → length new ≡ 2 * (pages + 1)
+    → ((other : ℕ) → pages + 1 ≤ other → other ≢ pages + 1 + pages → get_or new other 0 ≡ get_or old other 0) → leaves_of new pages ≡ leaves_of old pages
+leaves-guard old new pages whole whole_new others =
+    let len = length-leaves old pages whole in
+    let len_new = length-leaves new pages whole_new in
+    ext_get_or 0 (leaves_of new pages) (leaves_of old pages) (omega arith) (λ i inside.
+    let low : i < pages = omega arith in
+    get-leaves new pages i low ∙ others (pages + 1 + i) (omega arith) (λ (e : pages + 1 + i ≡ pages + 1 + pages). absurd (omega arith)) ∙ sym (get-leaves old pages i low))
+
+-- a tree that has one number everywhere
+pub leaves-replicate : (pages number : ℕ) → leaves_of (replicate (2 * (pages + 1)) number) pages ≡ replicate pages number
+leaves-replicate pages number =
+    ap (λ (l : List ℕ). take pages l) (drop-replicate (pages + 1) (2 * (pages + 1)) number) ∙ take-replicate pages (2 * (pages + 1) - (pages + 1)) number (omega arith)

@@ -13,8 +13,8 @@ const UNKNOWN: u16 = MAX_RECORD_BYTES as u16 + 1;
 // In the leaf behind the last page: no search goes past it.
 const GUARD: u16 = u16::MAX;
 
-/// For each page of a store a bound: no record of so many bytes, or more, finds room there, as far as is known. It is the caller's to keep that this
-/// is so. Only `new` takes memory; each call looks at a few nodes of a tree of maxima over the bounds.
+/// For each page of a store a bound: no record of so many bytes, or more, finds room there, as far as is known. That this is so is the
+/// caller's to keep. Only `new` takes memory; each call looks at a few nodes of a tree of maxima over the bounds.
 #[derive(Drop)]
 pub struct FreeMap {
     // The bounds are in the leaves, with a guard behind them.

@@ -98,8 +98,8 @@ impl PageBytes {
         entry_at(&self.bytes, slot).offset == 0
     }
 
-    /// A slot so that all from one on up to it have a record: the first that has none, or one shortly before it. Slots are looked at four at a time, since a
-    /// page may have many, and mostly each of them has a record.
+    /// A slot so that all from one on up to it have a record: the first that has none, or one shortly before it. Slots are looked at
+    /// four at a time, since a page may have many, and mostly each of them has a record.
     pub fn full_until(&self, from: usize) -> usize
         requires { from ≤ length self.now.images }
         ensures from { from ≤ result }
