@@ -1,6 +1,7 @@
 //! The laws of calls, each stated as the contract of an empty function.
 ghost use Rattle.std.specs.Prelude.{◌≡◌, ◌≢◌, ◌<◌, ◌≤◌, ◌+◌, ◌∷◌, ◌++◌, ℕ, IsSome, IsTrue, List, [], None, Some, false, length, take};
 ghost use Rattle.std.specs.FinMap.{empty, get};
+ghost use Rattle.std.specs.List.{AllByRecursion};
 ghost use Rattle.shore_types.specs.Layout.{HasPage, HasStore};
 ghost use Rattle.shore_types.specs.declared.faults.Fault.{Fault};
 ghost use Rattle.shore_types.specs.declared.faults.Fault.TheVariants.{LogFull, Memory, NoPage, NoRecord, StoreFull, TooLong};
@@ -9,7 +10,7 @@ ghost use Rattle.shore_types.specs.declared.ids.Rid.{Rid};
 ghost use Rattle.shore_types.specs.declared.layout.Geometry.{Geometry};
 ghost use Rattle.shore_types.specs.declared.layout.TheConstants.{LAST_OPENED, LONGEST_FRAME, MAX_LOG_BYTES, MAX_RECORD_BYTES};
 ghost use Rattle.shore_model.specs.declared.calls.Answer.{Answer};
-ghost use Rattle.shore_model.specs.declared.calls.Answer.TheVariants.{Got, Inserted, Scanned};
+ghost use Rattle.shore_model.specs.declared.calls.Answer.TheVariants.{Began, Got, Inserted, Scanned};
 ghost use Rattle.shore_model.specs.declared.calls.Call.{Call};
 ghost use Rattle.shore_model.specs.declared.calls.Call.TheVariants.{Begin, Commit, Delete, Get, Insert, Scan, Update};
 ghost use Rattle.shore_model.specs.declared.histories.Decision.TheVariants as decision;
@@ -19,7 +20,8 @@ ghost use Rattle.shore_model.specs.Histories.{IsHistory, Kept, RunsAloneAfter, S
 ghost use Rattle.shore_model.specs.Lives.{IsLife};
 ghost use Rattle.shore_model.specs.Records.{scan_of};
 ghost use Rattle.shore_machine.specs.declared.step.Step.{Step};
-ghost use Rattle.shore_machine.specs.declared.step.Step.TheVariants.{Done, Refused, Waits};
+ghost use Rattle.shore_machine.specs.declared.step.Step.TheVariants.{Done, Nothing, Refused, Waits};
+ghost use Rattle.shore_machine.specs.declared.step.Wait.TheVariants.{Durable};
 ghost use Rattle.shore_machine.specs.declared.step.Wait.{Wait};
 ghost use Rattle.shore_page.specs.Room.{HasRoom};
 ghost use Rattle.shore_room.specs.Claims.{slots_of};
@@ -30,9 +32,9 @@ ghost use Rattle.shore_sessions.specs.Sessions.{SessionTxn};
 ghost use Rattle.shore_sessions.specs.Views.{IsAmong};
 ghost use Rattle.shore_calls.specs.Bounds.{AreInBounds, IsBounded};
 ghost use Rattle.shore_calls.specs.CallHistories.{AreFixed, AreRuns, IsOpened, IsRoomyState, IsStateAfter, KeepsDurable, MovesMaking, OpensShow, Run, entries_of_call, entries_of_resume, lists_found, spans_of};
-ghost use Rattle.shore_calls.specs.CallSteps.{CallStep, EventMoves, IsServed, ManagerEvent, ResumeStep, commit_waiting, with_durable, with_failure};
+ghost use Rattle.shore_calls.specs.CallSteps.{CallStep, EventMoves, Forced, IsServed, ManagerEvent, ResumeStep, commit_waiting, with_durable, with_failure};
 ghost use Rattle.shore_calls.specs.Refusals.{CanLog, FitsAt, IsBefore, IsPlaceFor, NoneServes, Serves};
-ghost use Rattle.shore_calls.specs.States.{DoesNotWait, HasNoTxn, IsInTxn, State, Waiting, cost_of_log};
+ghost use Rattle.shore_calls.specs.States.{DoesNotWait, HasNoTxn, IsInTxn, MayBegin, State, Waiting, cost_of_log, next_number};
 ghost use Rattle.shore_calls.specs.WorkedRun.{first_id, first_page, one_insert, opened_empty};
 
 /// What an open leaves is a state after no entries.
@@ -164,6 +166,24 @@ pub fn wrong_answers_do_not_come()
         ¬ FitsAt s id (Some bytes) → CallStep g s session (Update id bytes) (Done answer) new → ⊥ }
     ensures other_scan { (g : Geometry) (s new : State) (session store : ℕ) (answer : Answer) →
         answer ≢ Scanned (scan_of store s.sessions.records) → CallStep g s session (Scan store) (Done answer) new → ⊥ }
+    ensures insert_too_long { (g : Geometry) (s new : State) (session store : ℕ) (bytes : List ℕ) (answer : Answer) →
+        MAX_RECORD_BYTES < length bytes → CallStep g s session (Insert store bytes) (Done answer) new → ⊥ }
+    ensures insert_elsewhere { (g : Geometry) (s new : State) (session store : ℕ) (bytes : List ℕ) (id : Rid) →
+        id.page.store ≢ store → CallStep g s session (Insert store bytes) (Done (Inserted id)) new → ⊥ }
+    ensures insert_left_out { (g : Geometry) (s new : State) (session store : ℕ) (bytes : List ℕ) (id : Rid) →
+        get new.sessions.records id ≢ Some bytes → CallStep g s session (Insert store bytes) (Done (Inserted id)) new → ⊥ }
+    ensures insert_unlogged { (g : Geometry) (s new : State) (session store : ℕ) (bytes : List ℕ) (id : Rid) →
+        new.log ≡ s.log → CallStep g s session (Insert store bytes) (Done (Inserted id)) new → ⊥ }
+    ensures update_without_room { (g : Geometry) (s new : State) (session : ℕ) (id : Rid) (bytes : List ℕ) (answer : Answer) →
+        ¬ CanLog s id (Some bytes) → CallStep g s session (Update id bytes) (Done answer) new → ⊥ }
+    ensures delete_without_room { (g : Geometry) (s new : State) (session : ℕ) (id : Rid) (answer : Answer) →
+        ¬ CanLog s id None → CallStep g s session (Delete id) (Done answer) new → ⊥ }
+    ensures get_that_changes { (g : Geometry) (s new : State) (session : ℕ) (id : Rid) (answer : Answer) →
+        new.sessions.records ≢ s.sessions.records → CallStep g s session (Get id) (Done answer) new → ⊥ }
+    ensures other_number { (g : Geometry) (s new : State) (session : ℕ) (answer : Answer) →
+        answer ≢ Began s.sessions.next_txn → CallStep g s session Begin (Done answer) new → ⊥ }
+    ensures begin_without_room { (g : Geometry) (s new : State) (session : ℕ) (answer : Answer) →
+        ¬ MayBegin s → CallStep g s session Begin (Done answer) new → ⊥ }
     ensures in_no_txn { (g : Geometry) (s new : State) (session : ℕ) (c : Call) (answer : Answer) →
         c ≢ Begin → HasNoTxn s session → CallStep g s session c (Done answer) new → ⊥ }
     ensures second_begin { (g : Geometry) (s new : State) (session : ℕ) (answer : Answer) →
@@ -174,14 +194,40 @@ pub fn wrong_answers_do_not_come()
         IsTrue s.failed → CallStep g s session c (Done answer) new → ⊥ }
 {}
 
-/// A commit is answered by no call, nor by a resume before its record is durable, or after a device has failed.
+/// A commit is answered by no call, nor by a resume before its record is durable, or after a device has failed. It waits for its own record.
 pub fn commits_are_not_answered_early()
     ensures at_once { (g : Geometry) (s new : State) (session : ℕ) (answer : Answer) → CallStep g s session Commit (Done answer) new → ⊥ }
     ensures not_durable { (s new : State) (session : ℕ) (answer : Answer) →
         ((n : ℕ) → IsAmong (commit_waiting session n) s.waiting → s.durable < n) → ResumeStep s session (Done answer) new → ⊥ }
+    ensures none_waiting { (s new : State) (session : ℕ) (answer : Answer) → DoesNotWait s session → ResumeStep s session (Done answer) new → ⊥ }
     ensures resumed_after_failure { (s new : State) (session : ℕ) (answer : Answer) → IsTrue s.failed → ResumeStep s session (Done answer) new → ⊥ }
     ensures begun_after_failure { (g : Geometry) (s new : State) (session : ℕ) (c : Call) (wait : Wait) →
         IsTrue s.failed → CallStep g s session c (Waits wait) new → ⊥ }
+    ensures for_no_commit { (g : Geometry) (s new : State) (session : ℕ) (c : Call) (wait : Wait) → c ≢ Commit → CallStep g s session c (Waits wait) new → ⊥ }
+    ensures for_other_record { (g : Geometry) (s new : State) (session : ℕ) (c : Call) (wait : Wait) →
+        wait ≢ Durable (next_number s) → CallStep g s session c (Waits wait) new → ⊥ }
+    ensures in_no_txn { (g : Geometry) (s new : State) (session : ℕ) (c : Call) (wait : Wait) →
+        HasNoTxn s session → CallStep g s session c (Waits wait) new → ⊥ }
+    ensures unlogged { (g : Geometry) (s new : State) (session : ℕ) (c : Call) (wait : Wait) → new.log ≡ s.log → CallStep g s session c (Waits wait) new → ⊥ }
+{}
+
+/// Other events that must not come: a resume that waits though its record is durable, or for another's, that has nothing to do though its
+/// session waits, or is refused though no device has failed; a force that goes back, or beyond the log; an open that leaves something
+/// undurable, or a number that is taken or too high.
+pub fn wrong_events_do_not_come()
+    ensures waits_though_durable { (s new : State) (session n : ℕ) →
+        ((n : ℕ) → IsAmong (commit_waiting session n) s.waiting → n ≤ s.durable) → ResumeStep s session (Waits (Durable n)) new → ⊥ }
+    ensures waits_for_other { (s new : State) (session n : ℕ) →
+        ((m : ℕ) → IsAmong (commit_waiting session m) s.waiting → m ≢ n) → ResumeStep s session (Waits (Durable n)) new → ⊥ }
+    ensures nothing_though_waiting { (s new : State) (session : ℕ) (w : Waiting) →
+        IsAmong w s.waiting → w.session ≡ session → ResumeStep s session Nothing new → ⊥ }
+    ensures refused_though_running { (s new : State) (session : ℕ) (f : Fault) → s.failed ≡ false → ResumeStep s session (Refused f) new → ⊥ }
+    ensures force_back { (g : Geometry) (s new : State) (n : ℕ) → n < s.durable → EventMoves g s (Forced n) new → ⊥ }
+    ensures force_beyond { (g : Geometry) (s new : State) (n : ℕ) → length s.log < n → EventMoves g s (Forced n) new → ⊥ }
+    ensures opened_undurable { (found : List LogRecord) (s : State) → s.durable ≢ length found → IsOpened found s → ⊥ }
+    ensures opened_too_high { (found : List LogRecord) (s : State) (n : ℕ) →
+        0 < n → AllByRecursion (λ r. r.txn < n) found → n < s.sessions.next_txn → IsOpened found s → ⊥ }
+    ensures opened_too_low { (r : LogRecord) (found : List LogRecord) (s : State) → s.sessions.next_txn ≤ r.txn → IsOpened (r ∷ found) s → ⊥ }
 {}
 
 /// Refusals that must not come: out of order, without their cause, or with a change.
