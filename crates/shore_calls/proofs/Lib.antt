@@ -4,6 +4,7 @@ pub mod Beginning
 pub mod Bounds
 pub mod Committing
 pub mod Crashes
+pub mod Deciding
 pub mod Elements
 pub mod Growing
 pub mod Opens

@@ -32,7 +32,7 @@ ghost use Rattle.shore_sessions.specs.Sessions.{SessionTxn};
 ghost use Rattle.shore_sessions.specs.Views.{IsAmong};
 ghost use Rattle.shore_calls.specs.Bounds.{AreInBounds, IsBounded};
 ghost use Rattle.shore_calls.specs.CallHistories.{AreFixed, AreRuns, IsOpened, IsRoomyState, IsStateAfter, KeepsDurable, MovesMaking, OpensShow, Run, entries_of_call, entries_of_resume, lists_found, spans_of};
-ghost use Rattle.shore_calls.specs.CallSteps.{CallStep, EventMoves, Forced, IsServed, ManagerEvent, ResumeStep, commit_waiting, with_durable, with_failure};
+ghost use Rattle.shore_calls.specs.CallSteps.{CallStep, ComesOfState, EventMoves, Forced, IsServed, ManagerEvent, ResumeStep, commit_waiting, with_durable, with_failure};
 ghost use Rattle.shore_calls.specs.Refusals.{CanLog, FitsAt, IsBefore, IsPlaceFor, NoneServes, Serves};
 ghost use Rattle.shore_calls.specs.States.{DoesNotWait, HasNoTxn, IsInTxn, MayBegin, State, Waiting, cost_of_log, next_number};
 ghost use Rattle.shore_calls.specs.WorkedRun.{first_id, first_page, one_insert, opened_empty};
@@ -139,6 +139,12 @@ pub fn reached_slots_are_enough()
         → ((other : Rid) → other.slot ≤ s.counts other.page → IsBefore other id → Serves g s store bytes other → ⊥) → IsPlaceFor g s store bytes id }
     ensures none { (g : Geometry) (s : State) (store : ℕ) (bytes : List ℕ) → IsRoomyState s
         → ((id : Rid) → id.slot ≤ s.counts id.page → Serves g s store bytes id → ⊥) → NoneServes g s store bytes }
+{}
+
+/// The refusals and their order leave no gap: each call that is served comes to an answer, a wait, or a refusal that comes of the state alone.
+pub fn served_calls_come_to_something()
+    ensures { (g : Geometry) (found : List LogRecord) (es : List Entry) (s : State) (session : ℕ) (c : Call) → IsServed session c
+        → IsStateAfter found es s → IsRoomyState s → (step : Step) × (new : State) × CallStep g s session c step new × ComesOfState step }
 {}
 
 /// The conditions of steps can be met: over an empty volume, a transaction inserts a record and commits, and the commit is answered.
