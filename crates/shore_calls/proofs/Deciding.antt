@@ -85,7 +85,9 @@ image_or_none (Some bytes) = inl (bytes, refl)
 waits_or_not : (session : ℕ) (ws : List Waiting) → ((w : Waiting) × IsAmong w ws × (w.session ≡ session)) ⊎ ((w : Waiting) → IsAmong w ws → w.session ≢ session)
 waits_or_not session [] = inr (λ w m. absurd m)
 waits_or_not session (x ∷ ws) =
-    elim (x.session == session) as (λ b. (x.session == session) ≡ b → ((w : Waiting) × IsAmong w (x ∷ ws) × (w.session ≡ session)) ⊎ ((w : Waiting) → IsAmong w (x ∷ ws) → w.session ≢ session)) [
+    elim (x.session == session) as
+    (λ b. (x.session == session) ≡ b → ((w : Waiting) × IsAmong w (x ∷ ws) × (w.session ≡ session)) ⊎
+    ((w : Waiting) → IsAmong w (x ∷ ws) → w.session ≢ session)) [
       | true ↦ λ e. inl (x, inl refl, eqb-true x.session session e)
       | false ↦ λ e. ⊎_elim
           (λ h. inl (h.0, inr h.1, h.2))
@@ -173,7 +175,11 @@ module _ (g : Geometry) (s : State) (roomy : IsRoomyState s) (store : ℕ) (byte
 
     pub choice_is_place : (o : Option Rid) → IsChoice (Candidate pages) o → PlaceOrNone
     choice_is_place (Some id) h =
-        inl (id, lowest_reached g s roomy store bytes id (serves_as id h.serves) (λ other reached before serves. h.lowest other before (as_serves other reached serves)))
+        inl (
+          id,
+          lowest_reached g s roomy store bytes id (serves_as id h.serves)
+              (λ other reached before serves. h.lowest other before (as_serves other reached serves)),
+        )
     choice_is_place None h = inr (none_reached g s roomy store bytes (λ id reached serves. h id (as_serves id reached serves)))
 
   place_or_none : PlaceOrNone
@@ -182,7 +188,8 @@ module _ (g : Geometry) (s : State) (roomy : IsRoomyState s) (store : ℕ) (byte
         | None ↦ λ none. inr (λ id h. no_page id h.of_store none h.inside)
         | Some pages ↦ λ has.
             choice_is_place pages has (first_of (λ id. is_so (serves_or_not pages id)) s.counts store 0 pages)
-            (chosen s.sessions.records s.sessions.active s.counts store (length bytes) anywhere (λ id. is_so (serves_or_not pages id)) pages (λ id. so (serves_or_not pages id)))
+            (chosen s.sessions.records s.sessions.active s.counts store (length bytes) anywhere (λ id. is_so (serves_or_not pages id)) pages
+            (λ id. so (serves_or_not pages id)))
       ] refl
     where
       no_page : (id : Rid) → id.page.store ≡ store → slice_get g.stores store ≡ None → HasPage g id.page → ⊥

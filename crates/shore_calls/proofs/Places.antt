@@ -65,7 +65,8 @@ module _ (g : Geometry) (s : State) (roomy : IsRoomyState s) (store : ℕ) (byte
     serves = serves;
     lowest = λ other before h.
         let r = reach other h in
-        none r.other r.reached (⊎_elim (λ same. subst (λ o. IsBefore o id) (sym same) before) (λ nearer. before_later r.other other id nearer before) r.nearer) r.serves;
+        none r.other r.reached (⊎_elim (λ same. subst (λ o. IsBefore o id) (sym same) before)
+        (λ nearer. before_later r.other other id nearer before) r.nearer) r.serves;
   }
 
   pub none_reached : ((id : Rid) → id.slot ≤ s.counts id.page → Serves g s store bytes id → ⊥) → NoneServes g s store bytes

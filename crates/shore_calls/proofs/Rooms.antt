@@ -72,7 +72,8 @@ within = omega arith
 module _ (found : List LogRecord) (es : List Entry) (s : State) (k : IsStateAfter found es s) (roomy : IsRoomyState s) where
   begin_roomy : (session : ℕ) → HasNoTxn s session → MayBegin s → IsRoomyState (begun s session)
   begin_roomy session idle may =
-      let room = event_room LONGEST_FRAME within s.sessions (log_room s) roomy.log k.agree.once (BeginTxn session) (txn_begun s.sessions session) (begun_room (log_room s)) (idle, refl) may.0 refl in
+      let room = event_room LONGEST_FRAME within s.sessions (log_room s) roomy.log k.agree.once (BeginTxn session) (txn_begun s.sessions session)
+      (begun_room (log_room s)) (idle, refl) may.0 refl in
       record {
         pages = event_claims k.sound s.counts roomy.pages (BeginTxn session) (txn_begun s.sessions session) s.counts (idle, refl) refl;
         log = as_log_room (begun s session) (begun_room (log_room s)) room refl refl refl;
@@ -83,7 +84,8 @@ module _ (found : List LogRecord) (es : List Entry) (s : State) (k : IsStateAfte
     commit_roomy =
         let moves : StepsTo s.sessions (AppendCommit a) (committed s a).sessions = (mem, refl) in
         let r : LogRecord = record { txn = a.txn; previous = previous_of a.txn s.log; payload = payload.Commit } in
-        let room = event_room LONGEST_FRAME within s.sessions (log_room s) roomy.log k.agree.once (AppendCommit a) (committed s a).sessions (ended_room (owed a) (log_room s)) moves tt refl in
+        let room = event_room LONGEST_FRAME within s.sessions (log_room s) roomy.log k.agree.once (AppendCommit a) (committed s a).sessions
+        (ended_room (owed a) (log_room s)) moves tt refl in
         let cost = cost_pushed s.log r in
         let longer = length-push s.log r in
         record {
@@ -100,7 +102,8 @@ module _ (found : List LogRecord) (es : List Entry) (s : State) (k : IsStateAfte
       last : (answered_room s.sessions.records a c answer (log_room s)).last_lsn ≡ length (log_after_answer s.log s.sessions.records a c answer)
 
     change_costs : (id : Rid) (image : Image) (previous : ℕ)
-        → cost_of_log s.log + change_cost (get s.sessions.records id) image ≡ cost_of_log (s.log ++ record { txn = a.txn; previous = previous; payload = payload.Change id (get s.sessions.records id) image } ∷ [])
+        → cost_of_log s.log + change_cost (get s.sessions.records id) image ≡ cost_of_log
+        (s.log ++ record { txn = a.txn; previous = previous; payload = payload.Change id (get s.sessions.records id) image } ∷ [])
     change_costs id image previous =
         let r : LogRecord = record { txn = a.txn; previous = previous; payload = payload.Change id (get s.sessions.records id) image } in
         let cost = cost_pushed s.log r in
@@ -140,7 +143,8 @@ module _ (found : List LogRecord) (es : List Entry) (s : State) (k : IsStateAfte
       answer_roomy c answer of h =
           let takes = takes_room c answer h in
           let moves = answer_moves found es s k session a mem of c answer counts (inner_answer g s session a counts c answer h) in
-          let room = event_room LONGEST_FRAME within s.sessions (log_room s) roomy.log k.agree.once (GiveReply a c (Ok answer)) (answered s a c answer counts).sessions (answered_room s.sessions.records a c answer (log_room s)) moves takes.admits refl in
+          let room = event_room LONGEST_FRAME within s.sessions (log_room s) roomy.log k.agree.once (GiveReply a c (Ok answer))
+          (answered s a c answer counts).sessions (answered_room s.sessions.records a c answer (log_room s)) moves takes.admits refl in
           record {
             pages = event_claims k.sound s.counts roomy.pages (GiveReply a c (Ok answer)) (answered s a c answer counts).sessions counts moves takes.fits;
             log = as_log_room (answered s a c answer counts) (answered_room s.sessions.records a c answer (log_room s)) room takes.kept takes.stream takes.last;

@@ -77,7 +77,8 @@ force_beyond g s new n less h = let le = h.1 in omega arith
 pub opened_undurable : (found : List LogRecord) (s : State) → s.durable ≢ length found → IsOpened found s → ⊥
 opened_undurable found s other h = other h.durable
 
-pub opened_too_high : (found : List LogRecord) (s : State) (n : ℕ) → 0 < n → AllByRecursion (λ r. r.txn < n) found → n < s.sessions.next_txn → IsOpened found s → ⊥
+pub opened_too_high : (found : List LogRecord) (s : State) (n : ℕ) → 0 < n → AllByRecursion (λ r. r.txn < n) found → n < s.sessions.next_txn → IsOpened found s
+    → ⊥
 opened_too_high found s n some above less h = let le = h.least n some above in omega arith
 
 pub opened_too_low : (r : LogRecord) (found : List LogRecord) (s : State) → s.sessions.next_txn ≤ r.txn → IsOpened (r ∷ found) s → ⊥
@@ -127,7 +128,8 @@ module _ (g : Geometry) (s new : State) (session : ℕ) where
       let t = in_txn (call.Get id) (Got y) (no_begin id) h in
       other (same_image x t.3.1.0 (get s.sessions.records id) at t.3.1.1 ∙ sym (same_bytes y t.3.1.0 t.3.1.2))
 
-  pub update_of_none : (id : Rid) (bytes : List ℕ) (answer : Answer) → get s.sessions.records id ≡ None → CallStep g s session (call.Update id bytes) (Done answer) new → ⊥
+  pub update_of_none : (id : Rid) (bytes : List ℕ) (answer : Answer) → get s.sessions.records id ≡ None
+      → CallStep g s session (call.Update id bytes) (Done answer) new → ⊥
   update_of_none id bytes answer none h =
       let t = in_txn (call.Update id bytes) answer (no_update_begin id bytes) h in
       no_record_both (get s.sessions.records id) t.3.1.1 none
@@ -159,7 +161,8 @@ module _ (g : Geometry) (s new : State) (session : ℕ) where
   update_without_place id bytes answer none h =
       let t = in_txn (call.Update id bytes) answer (no_update_begin id bytes) h in none t.3.2.fits
 
-  pub other_scan : (store : ℕ) (answer : Answer) → answer ≢ Scanned (scan_of store s.sessions.records) → CallStep g s session (call.Scan store) (Done answer) new → ⊥
+  pub other_scan : (store : ℕ) (answer : Answer) → answer ≢ Scanned (scan_of store s.sessions.records)
+      → CallStep g s session (call.Scan store) (Done answer) new → ⊥
   other_scan store answer other h = let t = in_txn (call.Scan store) answer (no_scan_begin store) h in other t.3.1
 
   pub commit_at_once : (answer : Answer) → CallStep g s session call.Commit (Done answer) new → ⊥
@@ -171,7 +174,8 @@ module _ (g : Geometry) (s new : State) (session : ℕ) where
   pub second_begin : (answer : Answer) → IsInTxn s session → CallStep g s session call.Begin (Done answer) new → ⊥
   second_begin answer h step = ⊎_elim (λ x. x.1 h.0 (inl h.1.0) h.1.1) (λ x. absurd x.3) step.2
 
-  pub answer_while_waiting : (c : Call) (answer : Answer) (w : Waiting) → IsAmong w s.waiting → w.session ≡ session → CallStep g s session c (Done answer) new → ⊥
+  pub answer_while_waiting : (c : Call) (answer : Answer) (w : Waiting) → IsAmong w s.waiting → w.session ≡ session → CallStep g s session c (Done answer) new
+      → ⊥
   answer_while_waiting c answer w m of h = h.1 w m of
 
   pub answer_after_failure : (c : Call) (answer : Answer) → IsTrue s.failed → CallStep g s session c (Done answer) new → ⊥
@@ -180,11 +184,13 @@ module _ (g : Geometry) (s new : State) (session : ℕ) where
   pub commit_after_failure : (c : Call) (wait : Wait) → IsTrue s.failed → CallStep g s session c (Waits wait) new → ⊥
   commit_after_failure c wait failed h = both_ways s.failed failed h.0
 
-  pub insert_too_long : (store : ℕ) (bytes : List ℕ) (answer : Answer) → MAX_RECORD_BYTES < length bytes → CallStep g s session (call.Insert store bytes) (Done answer) new → ⊥
+  pub insert_too_long : (store : ℕ) (bytes : List ℕ) (answer : Answer) → MAX_RECORD_BYTES < length bytes
+      → CallStep g s session (call.Insert store bytes) (Done answer) new → ⊥
   insert_too_long store bytes answer long h =
       let t = in_txn (call.Insert store bytes) answer (no_insert_begin store bytes) h in let short = t.3.0 in omega arith
 
-  pub insert_elsewhere : (store : ℕ) (bytes : List ℕ) (id : Rid) → id.page.store ≢ store → CallStep g s session (call.Insert store bytes) (Done (Inserted id)) new → ⊥
+  pub insert_elsewhere : (store : ℕ) (bytes : List ℕ) (id : Rid) → id.page.store ≢ store
+      → CallStep g s session (call.Insert store bytes) (Done (Inserted id)) new → ⊥
   insert_elsewhere store bytes id other h =
       let t = in_txn (call.Insert store bytes) (Inserted id) (no_insert_begin store bytes) h in
       other (ap (λ (id : Rid). id.page.store) (same_id id t.3.2.0 t.3.2.3) ∙ t.3.2.1.serves.of_store)
@@ -247,7 +253,8 @@ module _ (g : Geometry) (s new : State) (session : ℕ) where
 
   -- ---- refusals
 
-  pub full_though_served : (store : ℕ) (bytes : List ℕ) (id : Rid) → Serves g s store bytes id → CallStep g s session (call.Insert store bytes) (Refused fault.StoreFull) new → ⊥
+  pub full_though_served : (store : ℕ) (bytes : List ℕ) (id : Rid) → Serves g s store bytes id
+      → CallStep g s session (call.Insert store bytes) (Refused fault.StoreFull) new → ⊥
   full_though_served store bytes id serves h = own h.0
     where
       own : Refuses g s session (call.Insert store bytes) fault.StoreFull → ⊥
@@ -274,7 +281,8 @@ module _ (g : Geometry) (s new : State) (session : ℕ) where
       own (inr (inr (inl x))) = let e = x.2 in cc
       own (inr (inr (inr x))) = no_record_both (get s.sessions.records id) there x.2.1
 
-  pub log_before_page : (id : Rid) (bytes : List ℕ) → (FitsAt s id (Some bytes) → ⊥) → CallStep g s session (call.Update id bytes) (Refused fault.LogFull) new → ⊥
+  pub log_before_page : (id : Rid) (bytes : List ℕ) → (FitsAt s id (Some bytes) → ⊥) → CallStep g s session (call.Update id bytes) (Refused fault.LogFull) new
+      → ⊥
   log_before_page id bytes none h = own h.0
     where
       own : Refuses g s session (call.Update id bytes) fault.LogFull → ⊥
@@ -292,7 +300,8 @@ module _ (g : Geometry) (s new : State) (session : ℕ) where
       own (inr (inr (inl x))) = let e = x.2 in cc
       own (inr (inr (inr x))) = none x.2.0.0 (inl x.2.0.1.0) x.2.0.1.1
 
-  pub commit_refused_in_txn : (f : Fault) → IsInTxn s session → f ≢ fault.Memory → s.failed ≡ false → ((w : Waiting) → IsAmong w s.waiting → w.session ≢ session)
+  pub commit_refused_in_txn : (f : Fault) → IsInTxn s session → f ≢ fault.Memory → s.failed ≡ false
+      → ((w : Waiting) → IsAmong w s.waiting → w.session ≢ session)
       → CallStep g s session call.Commit (Refused f) new → ⊥
   commit_refused_in_txn f mine other running idle h = own h.0
     where
