@@ -7,6 +7,7 @@ pub mod Crashes
 pub mod Deciding
 pub mod Elements
 pub mod Growing
+pub mod OneStep
 pub mod Opens
 pub mod Places
 pub mod Prefixes

@@ -8,7 +8,8 @@ use Rattle.shore_room.proofs.Pages.{length-slots}
 use Rattle.shore_room.specs.Claims.{rid_on}
 use Rattle.shore_sessions.proofs.Lists.{within_or_beyond}
 use Rattle.shore_calls.specs.CallHistories.{IsRoomyState}
-use Rattle.shore_calls.specs.Refusals.{IsBefore, IsPlaceFor, NoneServes, Serves}
+use Rattle.shore_room.specs.Choosing.{IsBefore}
+use Rattle.shore_calls.specs.Refusals.{IsPlaceFor, NoneServes, Serves}
 use Rattle.shore_calls.specs.States.{State, page_slots}
 
 claim_behind : (slots : List Slot) (i : ℕ) → length slots ≤ i → claim_at slots i ≡ 0

@@ -27,14 +27,15 @@ use Rattle.shore_sessions.specs.Views.{IsAmong}
 use Rattle.shore_room.specs.Claims.{SlotCounts}
 use Rattle.shore_calls.specs.CallHistories.{IsOpened}
 use Rattle.shore_calls.specs.CallSteps.{CallStep, EventMoves, Forced, MayAnswer, ResumeStep, commit_waiting}
-use Rattle.shore_calls.specs.Refusals.{CanLog, FitsAt, IsBefore, Refuses, Serves}
+use Rattle.shore_room.specs.Choosing.{IsBefore}
+use Rattle.shore_calls.specs.Refusals.{CanLog, FitsAt, Refuses, Serves}
 use Rattle.shore_calls.specs.States.{DoesNotWait, HasNoTxn, IsInTxn, IsOfSession, MayBegin, State, Waiting, next_number}
 
-no_record_both : (o : Option (List ℕ)) → IsSome o → o ≡ None → ⊥
+pub no_record_both : (o : Option (List ℕ)) → IsSome o → o ≡ None → ⊥
 no_record_both None h e = cc
 no_record_both (Some x) h e = cc
 
-both_ways : (b : Bool) → IsTrue b → b ≡ false → ⊥
+pub both_ways : (b : Bool) → IsTrue b → b ≡ false → ⊥
 both_ways b h e = cc
 
 -- ---- resumes

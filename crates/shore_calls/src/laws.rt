@@ -33,7 +33,8 @@ ghost use Rattle.shore_sessions.specs.Views.{IsAmong};
 ghost use Rattle.shore_calls.specs.Bounds.{AreInBounds, IsBounded};
 ghost use Rattle.shore_calls.specs.CallHistories.{AreFixed, AreRuns, IsOpened, IsRoomyState, IsStateAfter, KeepsDurable, MovesMaking, OpensShow, Run, entries_of_call, entries_of_resume, lists_found, spans_of};
 ghost use Rattle.shore_calls.specs.CallSteps.{CallStep, ComesOfState, EventMoves, Forced, IsServed, ManagerEvent, ResumeStep, commit_waiting, with_durable, with_failure};
-ghost use Rattle.shore_calls.specs.Refusals.{CanLog, FitsAt, IsBefore, IsPlaceFor, NoneServes, Serves};
+ghost use Rattle.shore_room.specs.Choosing.{IsBefore};
+ghost use Rattle.shore_calls.specs.Refusals.{CanLog, FitsAt, IsPlaceFor, NoneServes, Serves};
 ghost use Rattle.shore_calls.specs.States.{DoesNotWait, HasNoTxn, IsInTxn, MayBegin, State, Waiting, cost_of_log, next_number};
 ghost use Rattle.shore_calls.specs.WorkedRun.{first_id, first_page, one_insert, opened_empty};
 
@@ -145,6 +146,14 @@ pub fn reached_slots_are_enough()
 pub fn served_calls_come_to_something()
     ensures { (g : Geometry) (found : List LogRecord) (es : List Entry) (s : State) (session : ℕ) (c : Call) → IsServed session c
         → IsStateAfter found es s → IsRoomyState s → (step : Step) × (new : State) × CallStep g s session c step new × ComesOfState step }
+{}
+
+/// A state decides what a call comes to, as far as it comes of the state alone, and what that leaves. So no refusal can come before its turn.
+pub fn calls_come_to_one_thing()
+    ensures step { (g : Geometry) (s new later : State) (session : ℕ) (c : Call) (step other : Step) → CallStep g s session c step new
+        → CallStep g s session c other later → ComesOfState step → ComesOfState other → step ≡ other }
+    ensures state { (g : Geometry) (found : List LogRecord) (es : List Entry) (s new later : State) (session : ℕ) (c : Call) (step : Step) →
+        IsStateAfter found es s → CallStep g s session c step new → CallStep g s session c step later → new ≡ later }
 {}
 
 /// The conditions of steps can be met: over an empty volume, a transaction inserts a record and commits, and the commit is answered.
