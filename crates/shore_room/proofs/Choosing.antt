@@ -97,14 +97,18 @@ module _ (R : Records) (undos : List SessionTxn) (counts : SlotCounts) (store by
 
         go : (later : Option Rid) → IsChoice (λ id. (suc page ≤ id.page.page) × Serves R undos counts store pages bytes may_lock id) later
             → IsChoice (λ id. (page ≤ id.page.page) × Serves R undos counts store pages bytes may_lock id) later
-        go (Some id) rest = record { serves = (omega (arith, rest.serves.0), rest.serves.1); lowest = λ other before h. rest.lowest other before (after_it other h, h.1) }
+        go (Some id) rest =
+            record { serves = (omega (arith, rest.serves.0), rest.serves.1); lowest = λ other before h. rest.lowest other before (after_it other h, h.1) }
         go None rest = λ id h. rest id (after_it id h, h.1)
 
     chosen_from : (page n : ℕ) → page + n ≡ pages
         → IsChoice (λ id. (page ≤ id.page.page) × Serves R undos counts store pages bytes may_lock id) (first_of test counts store page n)
     chosen_from page zero is = λ id h. absurd (omega (arith, h.0, h.1.of_page))
-    chosen_from page (suc n) is = chosen_or page n is (first_from (λ i. test (rid_on (record { store = store; page = page }) i)) 0 (counts (record { store = store; page = page }) + 1)) (first_of test counts store (suc page) n)
-        (first_is (λ i. test (rid_on (record { store = store; page = page }) i)) 0 (counts (record { store = store; page = page }) + 1)) (chosen_from (suc page) n (omega arith))
+    chosen_from page (suc n) is =
+        chosen_or page n is (first_from (λ i. test (rid_on (record { store = store; page = page }) i)) 0 (counts (record { store = store; page = page }) + 1))
+        (first_of test counts store (suc page) n)
+        (first_is (λ i. test (rid_on (record { store = store; page = page }) i)) 0 (counts (record { store = store; page = page }) + 1))
+        (chosen_from (suc page) n (omega arith))
 
     pub chosen : IsChoice (Serves R undos counts store pages bytes may_lock) (first_of test counts store 0 pages)
     chosen = all (first_of test counts store 0 pages) (chosen_from 0 pages (omega arith))

@@ -56,7 +56,8 @@ lower_over : (bytes : ℕ) (image : Image) (slots : List Slot) (i : ℕ)
     → with_change (lowered bytes) (with_image slots i image) i ≡ with_change (lowered (max (image_len image) bytes)) (with_image slots i image) i
 lower_over bytes image slots i =
     with_change_twice (lowered bytes) (holding image) (with_slot slots i) i
-    ∙ with_change_alike (λ s. lowered bytes (holding image s)) (λ s. lowered (max (image_len image) bytes) (holding image s)) (lowered_over bytes image) (with_slot slots i) i
+    ∙ with_change_alike (λ s. lowered bytes (holding image s)) (λ s. lowered (max (image_len image) bytes) (holding image s)) (lowered_over bytes image)
+    (with_slot slots i) i
     ∙ sym (with_change_twice (lowered (max (image_len image) bytes)) (holding image) (with_slot slots i) i)
 
 module _ (R : Records) (undos : List SessionTxn) (counts : SlotCounts) (k : Claimed R undos counts) (a : SessionTxn) (m : IsAmong a undos) where
@@ -65,8 +66,10 @@ module _ (R : Records) (undos : List SessionTxn) (counts : SlotCounts) (k : Clai
   found id alone = ⊎_elim
       (λ (behind : counts id.page ≤ id.slot).
       let empty : image_len (get R id) ≡ 0 = ap image_len (k.behind id behind) in
-      let none : longest (befores_in id a.undo.images) ≡ 0 = ap longest (sym (lone_at (split undos a k.once m) id alone) ∙ all_behind counts id undos behind k.within) in
-      ap (λ (o : Option Slot). option_map_or (λ (s : Slot). s.claim) o 0) (slice_get_past (slots_of R undos id.page (counts id.page)) id.slot (omega (arith, length-slots R undos id.page (counts id.page))))
+      let none : longest (befores_in id a.undo.images) ≡ 0 =
+      ap longest (sym (lone_at (split undos a k.once m) id alone) ∙ all_behind counts id undos behind k.within) in
+      ap (λ (o : Option Slot). option_map_or (λ (s : Slot). s.claim) o 0)
+      (slice_get_past (slots_of R undos id.page (counts id.page)) id.slot (omega (arith, length-slots R undos id.page (counts id.page))))
       ∙ nothing (image_len (get R id)) (longest (befores_in id a.undo.images)) empty none)
       (λ (inside : id.slot < counts id.page).
       claim_is R undos id.page (counts id.page) id.slot inside ∙ ap (λ l. max (image_len (get R id)) (longest l)) (lone_at (split undos a k.once m) id alone))

@@ -41,8 +41,10 @@ raised_at id image claim [] = ap (slot_with image) (none claim)
     none n = omega arith
 raised_at id image claim (e ∷ es) =
     let parts = longest_append (befores_in id es) (before_of id e) in
-    elim (eq_by_cmp rid_cmp id e.0) as (λ b. longest (befores_in id es ++ cond b (e.1 ∷ []) []) ≡ max (longest (befores_in id es)) (longest (cond b (e.1 ∷ []) []))
-    → at_all (λ i. raised (image_len i)) id es (cond b (raised (image_len e.1) (slot_with image claim)) (slot_with image claim)) ≡ slot_with image (max claim (longest (befores_in id es ++ cond b (e.1 ∷ []) [])))) [
+    elim (eq_by_cmp rid_cmp id e.0) as
+    (λ b. longest (befores_in id es ++ cond b (e.1 ∷ []) []) ≡ max (longest (befores_in id es)) (longest (cond b (e.1 ∷ []) []))
+    → at_all (λ i. raised (image_len i)) id es (cond b (raised (image_len e.1) (slot_with image claim)) (slot_with image claim))
+    ≡ slot_with image (max claim (longest (befores_in id es ++ cond b (e.1 ∷ []) [])))) [
       | true ↦ λ parts. raised_at id image (max claim (image_len e.1)) es
           ∙ ap (slot_with image) (here claim (image_len e.1) (longest (befores_in id es)) _ parts)
       | false ↦ λ parts. raised_at id image claim es ∙ ap (slot_with image) (there claim (longest (befores_in id es)) _ parts)
@@ -67,7 +69,8 @@ all_raised_at id image claim [] = ap (slot_with image) (none claim)
 all_raised_at id image claim (a ∷ undos) =
     ap (all_at id undos) (raised_at id image claim a.undo.images)
     ∙ all_raised_at id image (max claim (longest (befores_in id a.undo.images))) undos
-    ∙ ap (slot_with image) (both claim (longest (befores_in id a.undo.images)) (longest (befores_at id undos)) _ (longest_append (befores_in id a.undo.images) (befores_at id undos)))
+    ∙ ap (slot_with image)
+    (both claim (longest (befores_in id a.undo.images)) (longest (befores_at id undos)) _ (longest_append (befores_in id a.undo.images) (befores_at id undos)))
   where
     both : (c l m k : ℕ) → k ≡ max l m → max (max c l) m ≡ max c k
     both c l m k e = omega arith
@@ -84,7 +87,8 @@ pub fetched : (R : Records) (undos : List SessionTxn) (counts : SlotCounts) → 
     → reserved_for_all p undos (settled_slots R p (counts p)) ≡ slots_of R undos p (counts p)
 fetched R undos counts k p =
     all_each p (counts p) undos (λ i. settled (get R (rid_on p i))) (λ a m. are_on counts p a.undo.images (k.within a m))
-    ∙ each_alike (λ i. all_at (rid_on p i) undos (settled (get R (rid_on p i)))) (λ i. claiming (undecided_at R undos (rid_on p i))) 0 (counts p) (λ i ge less. all_raised_at (rid_on p i) (get R (rid_on p i)) (image_len (get R (rid_on p i))) undos)
+    ∙ each_alike (λ i. all_at (rid_on p i) undos (settled (get R (rid_on p i)))) (λ i. claiming (undecided_at R undos (rid_on p i))) 0 (counts p)
+    (λ i ge less. all_raised_at (rid_on p i) (get R (rid_on p i)) (image_len (get R (rid_on p i))) undos)
     ∙ sym (map_each claiming (λ i. undecided_at R undos (rid_on p i)) 0 (counts p))
 
 -- ---- each reserve fits
@@ -104,12 +108,15 @@ pub longest_of_all : (q : Rid) (undos : List SessionTxn) (a : SessionTxn) → Is
     → longest (befores_in q a.undo.images) ≤ longest (befores_at q undos)
 longest_of_all q [] a m = absurd m
 longest_of_all q (b ∷ undos) a (inl same) =
-    subst (λ (c : SessionTxn). longest (befores_in q c.undo.images) ≤ longest (befores_at q (b ∷ undos))) same (let h = longest_append (befores_in q b.undo.images) (befores_at q undos) in omega arith)
-longest_of_all q (b ∷ undos) a (inr m) = let h = longest_append (befores_in q b.undo.images) (befores_at q undos) in let rest = longest_of_all q undos a m in omega arith
+    subst (λ (c : SessionTxn). longest (befores_in q c.undo.images) ≤ longest (befores_at q (b ∷ undos))) same
+    (let h = longest_append (befores_in q b.undo.images) (befores_at q undos) in omega arith)
+longest_of_all q (b ∷ undos) a (inr m) =
+    let h = longest_append (befores_in q b.undo.images) (befores_at q undos) in let rest = longest_of_all q undos a m in omega arith
 
 pub claims_less : (f g : ℕ → Slot) (first n : ℕ) → ((i : ℕ) → (f i).claim ≤ (g i).claim) → claims (each_from f first n) ≤ claims (each_from g first n)
 claims_less f g first zero less = omega arith
-claims_less f g first (suc n) less = omega (arith, less first, claims_less f g (suc first) n less, sum_by-cons (λ (s : Slot). s.claim) (f first) (each_from f (suc first) n), sum_by-cons (λ (s : Slot). s.claim) (g first) (each_from g (suc first) n))
+claims_less f g first (suc n) less =
+    omega (arith, less first, claims_less f g (suc first) n less, sum_by-cons (λ (s : Slot). s.claim) (f first) (each_from f (suc first) n), sum_by-cons (λ (s : Slot). s.claim) (g first) (each_from g (suc first) n))
 
 pub claims_raised : (bytes : ℕ) (slots : List Slot) (i : ℕ) (x : Slot) → slice_get slots i ≡ Some x
     → claims (with_change (raised bytes) slots i) ≡ claims slots + (bytes - x.claim)
@@ -123,7 +130,8 @@ claims_raised bytes (s ∷ slots) zero x at =
   where
     some_is : ◌≡◌ {A = Option Slot} (Some s) (Some x) → s ≡ x
     some_is e = cc
-claims_raised bytes (s ∷ slots) (suc i) x at = omega (arith, claims_raised bytes slots i x at, sum_by-cons (λ (s : Slot). s.claim) s slots, sum_by-cons (λ (s : Slot). s.claim) s (with_change (raised bytes) slots i))
+claims_raised bytes (s ∷ slots) (suc i) x at =
+    omega (arith, claims_raised bytes slots i x at, sum_by-cons (λ (s : Slot). s.claim) s slots, sum_by-cons (λ (s : Slot). s.claim) s (with_change (raised bytes) slots i))
 
 module _ (p : PageId) (n : ℕ) (F : ℕ → Slot) (room : HasRoom (each_from F 0 n)) where
   -- the slots of the entries are there, and no image is longer than what its slot claims in the end
@@ -133,14 +141,16 @@ module _ (p : PageId) (n : ℕ) (F : ℕ → Slot) (room : HasRoom (each_from F 
   pub most_claim : (i : ℕ) → i < n → (F i).claim ≤ 4000
   most_claim i less =
       let read : F i ≡ get_or (each_from F 0 n) i (F i) = sym (get_or_from_slice_get (each_from F 0 n) i (F i) (F i) (each_at F n i less)) in
-      let holds : HoldsItsImage (F i) = subst HoldsItsImage (sym read) (All-get_or HoldsItsImage (each_from F 0 n) i (F i) (omega (arith, length-each F 0 n)) room.each) in
+      let holds : HoldsItsImage (F i) =
+      subst HoldsItsImage (sym read) (All-get_or HoldsItsImage (each_from F 0 n) i (F i) (omega (arith, length-each F 0 n)) room.each) in
       holds.1
 
   raised_less : (e : Rid × Image) (f : ℕ → Slot) → (p ≡ e.0.page → (e.0.slot < n) × (image_len e.1 ≤ (F e.0.slot).claim))
       → ((i : ℕ) → (f i).claim ≤ (F i).claim)
       → (i : ℕ) → (cond (eq_by_cmp rid_cmp (rid_on p i) e.0) (raised (image_len e.1) (f i)) (f i)).claim ≤ (F i).claim
   raised_less e f within less i =
-      elim (eq_by_cmp rid_cmp (rid_on p i) e.0) as (λ b. eq_by_cmp rid_cmp (rid_on p i) e.0 ≡ b → (cond b (raised (image_len e.1) (f i)) (f i)).claim ≤ (F i).claim) [
+      elim (eq_by_cmp rid_cmp (rid_on p i) e.0) as
+      (λ b. eq_by_cmp rid_cmp (rid_on p i) e.0 ≡ b → (cond b (raised (image_len e.1) (f i)) (f i)).claim ≤ (F i).claim) [
         | true ↦ λ is.
             let same = tells_apart exact_rids (rid_on p i) e.0 is in
             let w = within (ap (λ (r : Rid). r.page) same) in
@@ -161,11 +171,13 @@ module _ (p : PageId) (n : ℕ) (F : ℕ → Slot) (room : HasRoom (each_from F 
       let at : slice_get slots e.0.slot ≡ Some (f e.0.slot) = each_at f n e.0.slot w.0 in
       let inside : e.0.slot < length slots = omega (arith, w.0) in
       let read : f e.0.slot ≡ get_or slots e.0.slot (f e.0.slot) = sym (get_or_from_slice_get slots e.0.slot (f e.0.slot) (f e.0.slot) at) in
-      let it : with_change (raised (image_len e.1)) slots e.0.slot ≡ each_from (λ i. cond (eq_by_cmp rid_cmp (rid_on p i) e.0) (raised (image_len e.1) (f i)) (f i)) 0 n =
+      let it : with_change (raised (image_len e.1)) slots e.0.slot ≡ each_from
+      (λ i. cond (eq_by_cmp rid_cmp (rid_on p i) e.0) (raised (image_len e.1) (f i)) (f i)) 0 n =
       sym (ap (λ b. cond b (with_change (raised (image_len e.1)) slots e.0.slot) slots) (subst (λ q. eq_by_cmp page_cmp p q ≡ true) same (same_page p)))
       ∙ one_each (λ i. raised (image_len i)) p n e f (λ s. (within s).0) in
       let sum : claims (with_change (raised (image_len e.1)) slots e.0.slot) ≤ claims (each_from F 0 n) =
-      subst (λ l. claims l ≤ claims (each_from F 0 n)) (sym it) (claims_less (λ i. cond (eq_by_cmp rid_cmp (rid_on p i) e.0) (raised (image_len e.1) (f i)) (f i)) F 0 n (raised_less e f within less)) in (
+      subst (λ l. claims l ≤ claims (each_from F 0 n)) (sym it)
+      (claims_less (λ i. cond (eq_by_cmp rid_cmp (rid_on p i) e.0) (raised (image_len e.1) (f i)) (f i)) F 0 n (raised_less e f within less)) in (
         inside,
         record {
           there = omega arith;
@@ -185,14 +197,17 @@ module _ (p : PageId) (n : ℕ) (F : ℕ → Slot) (room : HasRoom (each_from F 
   all_less : (es : List (Rid × Image)) (f : ℕ → Slot) → AreWithin es → ((i : ℕ) → (f i).claim ≤ (F i).claim) → (i : ℕ)
       → (at_all (λ i. raised (image_len i)) (rid_on p i) es (f i)).claim ≤ (F i).claim
   all_less [] f within less i = less i
-  all_less (e ∷ es) f within less i = all_less es (λ i. cond (eq_by_cmp rid_cmp (rid_on p i) e.0) (raised (image_len e.1) (f i)) (f i)) within.1 (raised_less e f within.0 less) i
+  all_less (e ∷ es) f within less i =
+      all_less es (λ i. cond (eq_by_cmp rid_cmp (rid_on p i) e.0) (raised (image_len e.1) (f i)) (f i)) within.1 (raised_less e f within.0 less) i
 
   all_fit : (undos : List SessionTxn) (f : ℕ → Slot) → ((a : SessionTxn) → IsAmong a undos → AreWithin a.undo.images) → ((i : ℕ) → (f i).claim ≤ (F i).claim)
       → AllReservesFit p undos (each_from f 0 n)
   all_fit [] f within less = tt
   all_fit (a ∷ undos) f within less =
       let its = within a (inl refl) in
-      let on : AreOn p n a.undo.images = recursion-weaker (λ e. p ≡ e.0.page → (e.0.slot < n) × (image_len e.1 ≤ (F e.0.slot).claim)) (λ e. p ≡ e.0.page → e.0.slot < n) (λ e w s. (w s).0) a.undo.images its in (
+      let on : AreOn p n a.undo.images =
+      recursion-weaker (λ e. p ≡ e.0.page → (e.0.slot < n) × (image_len e.1 ≤ (F e.0.slot).claim)) (λ e. p ≡ e.0.page → e.0.slot < n)
+      (λ e w s. (w s).0) a.undo.images its in (
         all_kept_fit a.undo.images f its less,
         subst (AllReservesFit p undos) (sym (on_each (λ i. raised (image_len i)) p n a.undo.images f on))
             (all_fit undos (λ i. at_all (λ i. raised (image_len i)) (rid_on p i) a.undo.images (f i)) (λ b m. within b (inr m)) (all_less a.undo.images f its less)),
@@ -201,8 +216,10 @@ module _ (p : PageId) (n : ℕ) (F : ℕ → Slot) (room : HasRoom (each_from F 
 pub fetching_fits : (R : Records) (undos : List SessionTxn) (counts : SlotCounts) → Claimed R undos counts → (p : PageId)
     → AllReservesFit p undos (settled_slots R p (counts p))
 fetching_fits R undos counts k p =
-    all_fit p (counts p) (λ i. claiming (undecided_at R undos (rid_on p i))) (subst HasRoom (map_each claiming (λ i. undecided_at R undos (rid_on p i)) 0 (counts p)) (k.room p)) undos (λ i. settled (get R (rid_on p i)))
-    (λ a m. both a m a.undo.images (k.within a m) (its_longest a.undo.images)) (λ i. least (image_len (get R (rid_on p i))) (longest (befores_at (rid_on p i) undos)))
+    all_fit p (counts p) (λ i. claiming (undecided_at R undos (rid_on p i)))
+    (subst HasRoom (map_each claiming (λ i. undecided_at R undos (rid_on p i)) 0 (counts p)) (k.room p)) undos (λ i. settled (get R (rid_on p i)))
+    (λ a m. both a m a.undo.images (k.within a m) (its_longest a.undo.images))
+    (λ i. least (image_len (get R (rid_on p i))) (longest (befores_at (rid_on p i) undos)))
   where
     least : (a b : ℕ) → a ≤ max a b
     least a b = omega arith

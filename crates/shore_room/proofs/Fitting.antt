@@ -13,7 +13,7 @@ use Rattle.shore_page.specs.Slots.{Slot, image_len, settled, with_change, with_i
 use Rattle.shore_page.specs.Undo.{claiming, longest}
 use Rattle.shore_page.proofs.RoomLemmas.{need_inside}
 use Rattle.shore_room.specs.Claims.{Claimed, SlotCounts, befores_at, befores_in, each_from, rid_on, slots_of, undecided_at}
-use Rattle.shore_room.specs.Events.{ChangeFits}
+use Rattle.shore_room.specs.Events.{ChangeFitsPage}
 use Rattle.shore_room.specs.Settling.{settled_slots}
 use Rattle.shore_sessions.specs.Sessions.{SessionTxn}
 use Rattle.shore_sessions.specs.Views.{IsAmong}
@@ -24,7 +24,7 @@ use Rattle.shore_room.proofs.Pages.{length-slots}
 
 -- a delete of a record that is there
 pub delete_fits : (R : Records) (undos : List SessionTxn) (counts : SlotCounts) → Claimed R undos counts → (id : Rid) (bytes : List ℕ) → get R id ≡ Some bytes
-    → ChangeFits R undos counts id None counts
+    → ChangeFitsPage R undos counts id None counts
 delete_fits R undos counts k id bytes here =
     let inside : id.slot < counts id.page = elim (nat_lt id.slot (counts id.page)) as (λ b. nat_lt id.slot (counts id.page) ≡ b → id.slot < counts id.page) [
       | true ↦ λ e. ltb-true id.slot (counts id.page) e
@@ -32,8 +32,11 @@ delete_fits R undos counts k id bytes here =
     ] refl in
     let len = length-slots R undos id.page (counts id.page) in
     let F : ℕ → Slot = λ i. claiming (undecided_at R undos (rid_on id.page i)) in
-    let at : slice_get (slots_of R undos id.page (counts id.page)) id.slot ≡ Some (F id.slot) = ap (λ l. slice_get l id.slot) (map_each claiming (λ i. undecided_at R undos (rid_on id.page i)) 0 (counts id.page)) ∙ each_at F (counts id.page) id.slot inside in
-    let read : F id.slot ≡ get_or (slots_of R undos id.page (counts id.page)) id.slot (F id.slot) = sym (get_or_from_slice_get (slots_of R undos id.page (counts id.page)) id.slot (F id.slot) (F id.slot) at) in (
+    let at : slice_get (slots_of R undos id.page (counts id.page)) id.slot ≡ Some (F id.slot) =
+    ap (λ l. slice_get l id.slot) (map_each claiming (λ i. undecided_at R undos (rid_on id.page i)) 0 (counts id.page))
+    ∙ each_at F (counts id.page) id.slot inside in
+    let read : F id.slot ≡ get_or (slots_of R undos id.page (counts id.page)) id.slot (F id.slot) =
+    sym (get_or_from_slice_get (slots_of R undos id.page (counts id.page)) id.slot (F id.slot) (F id.slot) at) in (
       record { there = omega (arith, (k.room id.page).room); most = omega arith; room = omega (arith, need_inside (slots_of R undos id.page (counts id.page)) id.slot 0 (F id.slot) (omega arith) read) },
       record { here = omega arith; others = λ p other. refl },
     )
@@ -64,7 +67,8 @@ module _ (f F : ℕ → Slot) (n : ℕ) (less : (i : ℕ) → (f i).claim ≤ (F
 
   one_less : (slot : ℕ) → slot < n → claims (with_change (raised (F slot).claim) (each_from f 0 n) slot) ≤ claims (each_from F 0 n)
   one_less slot inside =
-      subst (λ l. claims l ≤ claims (each_from F 0 n)) (each_changed (raised (F slot).claim) f (raise_at slot) n slot (at_it slot) (λ j other. at_other slot j other) inside)
+      subst (λ l. claims l ≤ claims (each_from F 0 n))
+      (each_changed (raised (F slot).claim) f (raise_at slot) n slot (at_it slot) (λ j other. at_other slot j other) inside)
       (claims_less (raise_at slot) F 0 n (below slot))
 
   pub fewer : (slot bytes : ℕ) → Fits (each_from F 0 n) slot bytes → Fits (each_from f 0 n) slot bytes
@@ -100,7 +104,8 @@ pub redo_fits : (R : Records) (undos : List SessionTxn) (counts : SlotCounts) �
 redo_fits R undos counts k p slot bytes fits =
     let F : ℕ → Slot = λ i. claiming (undecided_at R undos (rid_on p i)) in
     let is = map_each claiming (λ i. undecided_at R undos (rid_on p i)) 0 (counts p) in
-    fewer (λ i. settled (get R (rid_on p i))) F (counts p) (λ i. least (image_len (get R (rid_on p i))) (longest (befores_at (rid_on p i) undos))) (subst HasRoom is (k.room p)) slot bytes (subst (λ l. Fits l slot bytes) is fits)
+    fewer (λ i. settled (get R (rid_on p i))) F (counts p) (λ i. least (image_len (get R (rid_on p i))) (longest (befores_at (rid_on p i) undos)))
+    (subst HasRoom is (k.room p)) slot bytes (subst (λ l. Fits l slot bytes) is fits)
   where
     least : (a b : ℕ) → a ≤ max a b
     least a b = omega arith

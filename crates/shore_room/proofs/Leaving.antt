@@ -52,7 +52,8 @@ AreOn p n es = AllByRecursion (λ e. p ≡ e.0.page → e.0.slot < n) es
 
 -- one entry
 pub one_each : (h : Image → Slot → Slot) (p : PageId) (n : ℕ) (e : Rid × Image) (f : ℕ → Slot) → (p ≡ e.0.page → e.0.slot < n)
-    → cond (eq_by_cmp page_cmp p e.0.page) (with_change (h e.1) (each_from f 0 n) e.0.slot) (each_from f 0 n) ≡ each_from (λ i. cond (eq_by_cmp rid_cmp (rid_on p i) e.0) (h e.1 (f i)) (f i)) 0 n
+    → cond (eq_by_cmp page_cmp p e.0.page) (with_change (h e.1) (each_from f 0 n) e.0.slot) (each_from f 0 n)
+    ≡ each_from (λ i. cond (eq_by_cmp rid_cmp (rid_on p i) e.0) (h e.1 (f i)) (f i)) 0 n
 one_each h p n e f on =
     let g : ℕ → Slot = λ i. cond (eq_by_cmp rid_cmp (rid_on p i) e.0) (h e.1 (f i)) (f i) in
     let left : (i : ℕ) → rid_on p i ≢ e.0 → g i ≡ f i = λ i other. ap (λ b. cond b (h e.1 (f i)) (f i)) (other_id (rid_on p i) e.0 other) in
@@ -77,7 +78,9 @@ on_each h p n (e ∷ es) f on =
     ∙ on_each h p n es (λ i. cond (eq_by_cmp rid_cmp (rid_on p i) e.0) (h e.1 (f i)) (f i)) on.1
 
 pub are_on : (counts : SlotCounts) (p : PageId) (es : List (Rid × Image)) → AllByRecursion (λ e. e.0.slot < counts e.0.page) es → AreOn p (counts p) es
-are_on counts p es all = recursion-weaker (λ e. e.0.slot < counts e.0.page) (λ e. p ≡ e.0.page → e.0.slot < counts p) (λ e less same. subst (λ q. e.0.slot < counts q) (sym same) less) es all
+are_on counts p es all =
+    recursion-weaker (λ e. e.0.slot < counts e.0.page) (λ e. p ≡ e.0.page → e.0.slot < counts p)
+    (λ e less same. subst (λ q. e.0.slot < counts q) (sym same) less) es all
 
 slot_is : (image : Image) (a b : ℕ) → a ≡ b → ◌≡◌ {A = Slot} record { image = image; claim = a } record { image = image; claim = b }
 slot_is image a b same = ap (λ (n : ℕ). slot image n) same
@@ -111,7 +114,8 @@ settled_at : (id : Rid) (image : Image) (claim : ℕ) (es : List (Rid × Image))
     → at_all (λ _. lowered 0) id es record { image = image; claim = claim } ≡ settled image
 settled_at id image claim [] holds some = absurd (some refl)
 settled_at id image claim (e ∷ es) holds some =
-    elim (eq_by_cmp rid_cmp id e.0) as (λ b. befores_in id es ++ cond b (e.1 ∷ []) [] ≢ [] → at_all (λ _. lowered 0) id es (cond b (lowered 0 record { image = image; claim = claim }) record { image = image; claim = claim }) ≡ settled image) [
+    elim (eq_by_cmp rid_cmp id e.0) as
+    (λ b. befores_in id es ++ cond b (e.1 ∷ []) [] ≢ [] → at_all (λ _. lowered 0) id es (cond b (lowered 0 record { image = image; claim = claim }) record { image = image; claim = claim }) ≡ settled image) [
       | true ↦ λ _. ap (at_all (λ _. lowered 0) id es) (slot_is image _ _ (least (image_len image) claim holds)) ∙ stays_settled id image es
       | false ↦ λ more. settled_at id image claim es holds (λ none. more (append-nil (befores_in id es) ∙ none))
     ] some
@@ -132,10 +136,11 @@ found_at P id (e ∷ es) all some = ⊎_elim (λ same. subst P (sym same) all.0)
 
 let_go_room : (p : PageId) (es : List (Rid × Image)) (slots : List Slot) → HasRoom slots → HasRoom (let_go p es slots)
 let_go_room p [] slots room = room
-let_go_room p (e ∷ es) slots room = let_go_room p es _ (elim (eq_by_cmp page_cmp p e.0.page) as (λ b. HasRoom (cond b (with_change (lowered 0) slots e.0.slot) slots)) [
-  | true ↦ lower_room 0 slots e.0.slot room
-  | false ↦ room
-])
+let_go_room p (e ∷ es) slots room =
+    let_go_room p es _ (elim (eq_by_cmp page_cmp p e.0.page) as (λ b. HasRoom (cond b (with_change (lowered 0) slots e.0.slot) slots)) [
+      | true ↦ lower_room 0 slots e.0.slot room
+      | false ↦ room
+    ])
 
 module _ (R : Records) (undos : List SessionTxn) (counts : SlotCounts) (k : Claimed R undos counts) (a : SessionTxn) (m : IsAmong a undos) where
   s : IsSplit undos a
@@ -175,7 +180,8 @@ module _ (R : Records) (undos : List SessionTxn) (counts : SlotCounts) (k : Clai
   left_slots p =
       let f : ℕ → Slot = λ i. claiming (undecided_at R undos (rid_on p i)) in
       map_each claiming (λ i. undecided_at R (without_txn a.txn undos) (rid_on p i)) 0 (counts p)
-      ∙ each_alike (λ i. claiming (undecided_at R (without_txn a.txn undos) (rid_on p i))) (λ i. at_all (λ _. lowered 0) (rid_on p i) a.undo.images (f i)) 0 (counts p) (λ i ge less. left_at (rid_on p i))
+      ∙ each_alike (λ i. claiming (undecided_at R (without_txn a.txn undos) (rid_on p i))) (λ i. at_all (λ _. lowered 0) (rid_on p i) a.undo.images (f i)) 0
+      (counts p) (λ i ge less. left_at (rid_on p i))
       ∙ sym (on_each (λ _. lowered 0) p (counts p) a.undo.images f (are_on counts p a.undo.images (k.within a m)))
       ∙ ap (let_go p a.undo.images) (sym (map_each claiming (λ i. undecided_at R undos (rid_on p i)) 0 (counts p)))
 
@@ -195,7 +201,8 @@ module _ (R : Records) (undos : List SessionTxn) (counts : SlotCounts) (k : Clai
     marked_at id = alike_with s id undo (ap (befores_in id) same)
 
     pub marked_slots : (p : PageId) (n : ℕ) → slots_of R (with_undo a.txn undo undos) p n ≡ slots_of R undos p n
-    marked_slots p n = ap claiming_all (each_alike (λ i. undecided_at R (with_undo a.txn undo undos) (rid_on p i)) (λ i. undecided_at R undos (rid_on p i)) 0 n (λ i ge less. ap (λ l. of (get R (rid_on p i)) l) (marked_at (rid_on p i))))
+    marked_slots p n =
+        ap claiming_all (each_alike (λ i. undecided_at R (with_undo a.txn undo undos) (rid_on p i)) (λ i. undecided_at R undos (rid_on p i)) 0 n (λ i ge less. ap (λ l. of (get R (rid_on p i)) l) (marked_at (rid_on p i))))
       where
         of : Image → List Image → Undecided
         of image befores = record { image = image; befores = befores }
@@ -215,8 +222,10 @@ module _ (R : Records) (undos : List SessionTxn) (counts : SlotCounts) (k : Clai
           o.one;
       owned = λ b among.
           let o = among_with a.txn undo b undos among in
-          let weaker : (u : ℕ) (es : List (Rid × Image)) → AllByRecursion (λ e. NoOthers undos u e.0) es → AllByRecursion (λ e. NoOthers (with_undo a.txn undo undos) u e.0) es =
-          λ u es all. recursion-weaker (λ e. NoOthers undos u e.0) (λ e. NoOthers (with_undo a.txn undo undos) u e.0) (λ e none. none_still u e.0 none) es all in
+          let weaker : (u : ℕ) (es : List (Rid × Image)) → AllByRecursion (λ e. NoOthers undos u e.0) es → AllByRecursion
+          (λ e. NoOthers (with_undo a.txn undo undos) u e.0) es =
+          λ u es all. recursion-weaker (λ e. NoOthers undos u e.0) (λ e. NoOthers (with_undo a.txn undo undos) u e.0)
+          (λ e none. none_still u e.0 none) es all in
           ⊎_elim
           (λ new. subst (λ t. AllByRecursion (λ e. NoOthers (with_undo a.txn undo undos) t e.0) b.undo.images) (sym new.0)
           (subst (λ (tr : UndoList). AllByRecursion (λ e. NoOthers (with_undo a.txn undo undos) a.txn e.0) tr.images) (sym new.1)
@@ -241,12 +250,15 @@ pub begun_keeps : (R : Records) (undos : List SessionTxn) (counts : SlotCounts) 
     → (IsAmong a.txn (txns_of undos) → ⊥) → Claimed R (a ∷ undos) counts
 begun_keeps R undos counts k a empty fresh =
     let none : (u : ℕ) (q : Rid) → NoOthers undos u q → NoOthers (a ∷ undos) u q =
-    λ u q h b there other. ⊎_elim (λ same. subst (λ (c : SessionTxn). befores_in q c.undo.images ≡ []) same (ap (befores_in q) empty)) (λ later. h b later other) there in
+    λ u q h b there other. ⊎_elim (λ same. subst (λ (c : SessionTxn). befores_in q c.undo.images ≡ []) same (ap (befores_in q) empty))
+    (λ later. h b later other) there in
     record {
       room = λ p. subst HasRoom (sym (begun_slots R undos a empty p (counts p))) (k.room p);
       behind = k.behind;
-      within = λ b there. ⊎_elim (λ same. subst (λ (c : SessionTxn). AllByRecursion (λ e. e.0.slot < counts e.0.page) c.undo.images) same (subst (AllByRecursion (λ e. e.0.slot < counts e.0.page)) (sym empty) tt)) (λ later. k.within b later) there;
-      owned = λ b there. ⊎_elim (λ same. subst (λ (c : SessionTxn). AllByRecursion (λ e. NoOthers (a ∷ undos) c.txn e.0) c.undo.images) same (subst (AllByRecursion (λ e. NoOthers (a ∷ undos) a.txn e.0)) (sym empty) tt))
+      within = λ b there. ⊎_elim
+          (λ same. subst (λ (c : SessionTxn). AllByRecursion (λ e. e.0.slot < counts e.0.page) c.undo.images) same (subst (AllByRecursion (λ e. e.0.slot < counts e.0.page)) (sym empty) tt)) (λ later. k.within b later) there;
+      owned =
+          λ b there. ⊎_elim (λ same. subst (λ (c : SessionTxn). AllByRecursion (λ e. NoOthers (a ∷ undos) c.txn e.0) c.undo.images) same (subst (AllByRecursion (λ e. NoOthers (a ∷ undos) a.txn e.0)) (sym empty) tt))
           (λ later. recursion-weaker (λ e. NoOthers undos b.txn e.0) (λ e. NoOthers (a ∷ undos) b.txn e.0) (λ e h. none b.txn e.0 h) b.undo.images (k.owned b later)) there;
       once = (fresh, k.once);
     }

@@ -35,7 +35,8 @@ each_changed_from h f g first (suc n) zero here there less =
 each_changed_from h f g first (suc n) (suc i) here there less =
     let at : first + suc i ≡ suc first + i = omega arith in
     ap (λ x. x ∷ each_from g (suc first) n) (there first (λ e. absurd (omega arith)))
-    ∙ ap (λ xs. f first ∷ xs) (each_changed_from h f g (suc first) n i (subst (λ k. g k ≡ h (f k)) at here) (λ j other. there j (λ e. other (e ∙ at))) (omega arith))
+    ∙ ap (λ xs. f first ∷ xs)
+    (each_changed_from h f g (suc first) n i (subst (λ k. g k ≡ h (f k)) at here) (λ j other. there j (λ e. other (e ∙ at))) (omega arith))
 
 pub each_changed : {A : Type 0} (h : A → A) (f g : ℕ → A) (n i : ℕ) → g i ≡ h (f i) → ((j : ℕ) → j ≢ i → g j ≡ f j) → i < n
     → each_from g 0 n ≡ with_change h (each_from f 0 n) i
@@ -152,5 +153,6 @@ split (x ∷ xs) a once (inr m) =
       whole = ap (λ ys. x ∷ ys) h.whole;
       with_it = λ undo. ap (λ b. cond b (with_its x undo) x ∷ with_undo a.txn undo xs) it ∙ ap (λ ys. x ∷ ys) (h.with_it undo);
       left_out = ap (λ b. cond (not b) (x ∷ without_txn a.txn xs) (without_txn a.txn xs)) it ∙ ap (λ ys. x ∷ ys) h.left_out;
-      others = λ b m. ⊎_elim (λ f. ⊎_elim (λ e. (inl e, subst (λ (y : SessionTxn). y.txn ≢ a.txn) e (λ e. other (sym e)))) (λ later. let g = h.others b (inl later) in (inr g.0, g.1)) f) (λ k. let g = h.others b (inr k) in (inr g.0, g.1)) m;
+      others = λ b m. ⊎_elim
+          (λ f. ⊎_elim (λ e. (inl e, subst (λ (y : SessionTxn). y.txn ≢ a.txn) e (λ e. other (sym e)))) (λ later. let g = h.others b (inl later) in (inr g.0, g.1)) f) (λ k. let g = h.others b (inr k) in (inr g.0, g.1)) m;
     }

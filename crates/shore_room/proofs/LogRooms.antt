@@ -37,7 +37,8 @@ module _ {undos : List SessionTxn} {a : SessionTxn} (s : IsSplit undos a) where
   owed_with : (undo : UndoList)
       → owed_by_all (with_undo a.txn undo undos) + compensation_costs a.undo.images ≡ owed_by_all undos + compensation_costs undo.images
   owed_with undo =
-      let new : owed_by_all (with_undo a.txn undo undos) ≡ owed_by_all s.front + (owed (with_its a undo) + owed_by_all s.back) = ap owed_by_all (s.with_it undo) ∙ owed_append s.front (with_its a undo ∷ s.back) in
+      let new : owed_by_all (with_undo a.txn undo undos) ≡ owed_by_all s.front + (owed (with_its a undo) + owed_by_all s.back) =
+      ap owed_by_all (s.with_it undo) ∙ owed_append s.front (with_its a undo ∷ s.back) in
       let old = owed_whole in
       omega arith
 
@@ -124,8 +125,10 @@ turns_take spare undos room (t ∷ turns) once h = λ a kept e marks m txn is.
 
 module _ (spare : ℕ) (within : spare ≤ LONGEST_FRAME + GREATEST_CHECKPOINT) where
   undone_has : (undos : List SessionTxn) (room : LogRoom) → HasLogRoom spare undos room → EachOnce (txns_of undos) → (a : SessionTxn) → IsAmong a undos
-      → (es kept : List (Rid × Image)) (marks : List ℕ) → a.undo.images ≡ kept ++ es → HasLogRoom spare (with_undo a.txn record { images = kept; marks = marks } undos) (undone_rooms es room)
-  undone_has undos room h once a m [] kept marks is = marked_has spare undos room h once a m record { images = kept; marks = marks } (sym (is ∙ append-nil kept))
+      → (es kept : List (Rid × Image)) (marks : List ℕ) → a.undo.images ≡ kept ++ es
+      → HasLogRoom spare (with_undo a.txn record { images = kept; marks = marks } undos) (undone_rooms es room)
+  undone_has undos room h once a m [] kept marks is =
+      marked_has spare undos room h once a m record { images = kept; marks = marks } (sym (is ∙ append-nil kept))
   undone_has undos room h once a m (e ∷ es) kept marks is =
       let one : UndoList = record { images = kept ++ e ∷ []; marks = marks } in
       let h1 = undone_has undos room h once a m es (kept ++ e ∷ []) marks (is ∙ sym (append_assoc kept (e ∷ []) es)) in
@@ -154,14 +157,17 @@ module _ (spare : ℕ) (within : spare ≤ LONGEST_FRAME + GREATEST_CHECKPOINT) 
       answered (call.Insert store bytes) answer admits = inserted store bytes answer admits
       answered (call.Update id bytes) answer admits = change id (Some bytes) admits
       answered (call.Delete id) answer admits = change id None admits
-      answered (call.BackTo n) answer admits = undone_has s.active room h once a m (drop (mark_of a.undo n) a.undo.images) (take (mark_of a.undo n) a.undo.images) (take (n + 1) a.undo.marks) (sym (take-append-drop (mark_of a.undo n) a.undo.images))
+      answered (call.BackTo n) answer admits =
+          undone_has s.active room h once a m (drop (mark_of a.undo n) a.undo.images) (take (mark_of a.undo n) a.undo.images) (take (n + 1) a.undo.marks)
+          (sym (take-append-drop (mark_of a.undo n) a.undo.images))
       answered call.Savepoint answer admits = stays (undo_after_answer s.records a.undo call.Savepoint answer) refl
       answered _ answer admits = stays a.undo refl
 
       aborted : HasLogRoom spare (without_txn a.txn s.active) (ended_room ENDING_COST (undone_rooms a.undo.images room)) × HasLogRoom spare (without_txn a.txn s.active) (left_room ENDING_COST (undone_rooms a.undo.images room))
       aborted =
           let h1 = undone_has s.active room h once a m a.undo.images [] [] refl in
-          let both = (ended_takes spare (with_undo a.txn nothing_to_undo s.active) (undone_rooms a.undo.images room) h1 (once_with a.txn nothing_to_undo s.active once) (with_its a nothing_to_undo) (new_among (split s.active a once m) nothing_to_undo)) in (
+          let both =
+          (ended_takes spare (with_undo a.txn nothing_to_undo s.active) (undone_rooms a.undo.images room) h1 (once_with a.txn nothing_to_undo s.active once) (with_its a nothing_to_undo) (new_among (split s.active a once m) nothing_to_undo)) in (
             subst (λ l. HasLogRoom spare l (ended_room ENDING_COST (undone_rooms a.undo.images room))) (without_with a.txn nothing_to_undo s.active) both.1,
             subst (λ l. HasLogRoom spare l (left_room ENDING_COST (undone_rooms a.undo.images room))) (without_with a.txn nothing_to_undo s.active) both.2,
           )
@@ -171,10 +177,14 @@ module _ (spare : ℕ) (within : spare ≤ LONGEST_FRAME + GREATEST_CHECKPOINT) 
     event_room (MoveLocks held) new room' moves admits is = subst (λ (n : Sessions). HasLogRoom spare n.active room') (sym moves.3) (same_room is h)
     event_room (BeginTxn session) new room' moves admits is = subst (λ (n : Sessions). HasLogRoom spare n.active room') (sym moves.1)
         (same_room is (begun_has spare s.active room h within record { session = session; txn = s.next_txn; undo = nothing_to_undo } refl admits))
-    event_room (GiveReply a c (Ok answer)) new room' moves admits is = subst (λ (n : Sessions). HasLogRoom spare n.active room') (sym moves.3) (same_room is (answered a moves.0 c answer admits))
-    event_room (GiveReply a c (Err fault)) new room' moves admits is = subst (λ (n : Sessions). HasLogRoom spare n.active room') (sym moves.3) (same_room is (stays a moves.0 a.undo refl))
-    event_room (AppendCommit a) new room' moves admits is = subst (λ (n : Sessions). HasLogRoom spare n.active room') (sym moves.1) (same_room is (ended_takes spare s.active room h once a moves.0).1)
+    event_room (GiveReply a c (Ok answer)) new room' moves admits is =
+        subst (λ (n : Sessions). HasLogRoom spare n.active room') (sym moves.3) (same_room is (answered a moves.0 c answer admits))
+    event_room (GiveReply a c (Err fault)) new room' moves admits is =
+        subst (λ (n : Sessions). HasLogRoom spare n.active room') (sym moves.3) (same_room is (stays a moves.0 a.undo refl))
+    event_room (AppendCommit a) new room' moves admits is =
+        subst (λ (n : Sessions). HasLogRoom spare n.active room') (sym moves.1) (same_room is (ended_takes spare s.active room h once a moves.0).1)
     event_room (AnswerAbort a) new room' moves admits is = subst (λ (n : Sessions). HasLogRoom spare n.active room') (sym moves.1)
         (⊎_elim (λ ended. same_room ended (aborted a moves.0).0) (λ left. same_room left (aborted a moves.0).1) is)
     event_room (AnswerCommit a) new room' moves admits is = subst (λ (n : Sessions). HasLogRoom spare n.active room') (sym moves.1) (same_room is h)
-    event_room (RefuseCall session t c fault) new room' moves admits is = subst (λ (n : Sessions). HasLogRoom spare n.active room') (sym moves.2) (same_room is h)
+    event_room (RefuseCall session t c fault) new room' moves admits is =
+        subst (λ (n : Sessions). HasLogRoom spare n.active room') (sym moves.2) (same_room is h)

@@ -30,7 +30,8 @@ each_of P (y ∷ xs) x all (inr m) = each_of P xs x all.1 m
 
 pub of_one : (R : Records) (undos : List SessionTxn) (counts : SlotCounts) → Claimed R undos counts → (a : SessionTxn) → IsAmong a undos → (e : Rid × Image)
     → IsAmong e a.undo.images → befores_at e.0 undos ≡ befores_in e.0 a.undo.images
-of_one R undos counts k a m e among = lone_at (split undos a k.once m) e.0 (each_of (λ (e : Rid × Image). NoOthers undos a.txn e.0) a.undo.images e (k.owned a m) among)
+of_one R undos counts k a m e among =
+    lone_at (split undos a k.once m) e.0 (each_of (λ (e : Rid × Image). NoOthers undos a.txn e.0) a.undo.images e (k.owned a m) among)
 
 pub in_bounds : (R : Records) (undos : List SessionTxn) (counts : SlotCounts) → Claimed R undos counts → (p : PageId)
     → (4 * counts p + claims (slots_of R undos p (counts p)) ≤ 8168) × (counts p ≤ 2042)

@@ -122,10 +122,14 @@ module _ (R : Records) (undos : List SessionTxn) (counts : SlotCounts) (k : Clai
     changed_records = put_image R id image
 
     change_here : undecided_at changed_records changed_undos id ≡ changing image (undecided_at R undos id)
-    change_here = undecided_is (put_here R id image) (lone_with its id (with_before_image R a.undo id) alone ∙ pushed_here a.undo.images (id, get R id) ∙ ap (λ l. get R id ∷ l) (sym (lone_at its id alone)))
+    change_here =
+        undecided_is (put_here R id image)
+        (lone_with its id (with_before_image R a.undo id) alone ∙ pushed_here a.undo.images (id, get R id) ∙ ap (λ l. get R id ∷ l) (sym (lone_at its id alone)))
 
     change_there : (q : Rid) → q ≢ id → undecided_at changed_records changed_undos q ≡ undecided_at R undos q
-    change_there q other = undecided_is (put_there R id image q (other_id q id other)) (alike_with its q (with_before_image R a.undo id) (pushed_there q a.undo.images (id, get R id) other))
+    change_there q other =
+        undecided_is (put_there R id image q (other_id q id other))
+        (alike_with its q (with_before_image R a.undo id) (pushed_there q a.undo.images (id, get R id) other))
 
     -- the page of the id, as `shore_page` changes it
     pub changed_page : (n : ℕ) → n ≡ max (counts id.page) (id.slot + 1)
@@ -134,7 +138,8 @@ module _ (R : Records) (undos : List SessionTxn) (counts : SlotCounts) (k : Clai
         let now : ℕ → Undecided = λ i. undecided_at R undos (rid_on id.page i) in
         let new : ℕ → Undecided = λ i. undecided_at changed_records changed_undos (rid_on id.page i) in
         let c = counts id.page in
-        each_changed (changing image) now new n id.slot change_here (λ j other. change_there (rid_on id.page j) (λ e. other (ap (λ (r : Rid). r.slot) e))) (omega arith)
+        each_changed (changing image) now new n id.slot change_here (λ j other. change_there (rid_on id.page j) (λ e. other (ap (λ (r : Rid). r.slot) e)))
+        (omega arith)
         ∙ ap (λ (l : List Undecided). with_change (changing image) l id.slot)
         (ap (each_from now 0) (parts n c id.slot is) ∙ each_append now c (id.slot + 1 - c)
         ∙ ap (λ (l : List Undecided). each_from now 0 c ++ l) (each_same now untouched c (id.slot + 1 - c) nothing_there)
@@ -147,7 +152,9 @@ module _ (R : Records) (undos : List SessionTxn) (counts : SlotCounts) (k : Clai
         nothing_there i behind = undecided_is (k.behind (rid_on id.page i) behind) (all_behind counts (rid_on id.page i) undos behind k.within)
 
     pub changed_other : (p : PageId) (n : ℕ) → p ≢ id.page → undecided_on changed_records changed_undos p n ≡ undecided_on R undos p n
-    changed_other p n other = each_alike (λ i. undecided_at changed_records changed_undos (rid_on p i)) (λ i. undecided_at R undos (rid_on p i)) 0 n (λ j ge less. change_there (rid_on p j) (λ e. other (ap (λ (r : Rid). r.page) e)))
+    changed_other p n other =
+        each_alike (λ i. undecided_at changed_records changed_undos (rid_on p i)) (λ i. undecided_at R undos (rid_on p i)) 0 n
+        (λ j ge less. change_there (rid_on p j) (λ e. other (ap (λ (r : Rid). r.page) e)))
 
   -- ---- the newest image put back
 
@@ -182,15 +189,22 @@ module _ (R : Records) (undos : List SessionTxn) (counts : SlotCounts) (k : Clai
     undo_here = undecided_is (put_here R e.0 e.1) (lone_with its e.0 left its_own) ∙ sym (ap (undone (get R e.0)) newest)
 
     undo_there : (q : Rid) → q ≢ e.0 → undecided_at undone_records undone_undos q ≡ undecided_at R undos q
-    undo_there q other = undecided_is (put_there R e.0 e.1 q (other_id q e.0 other)) (alike_with its q left (sym (ap (befores_in q) is ∙ pushed_there q kept e other)))
+    undo_there q other =
+        undecided_is (put_there R e.0 e.1 q (other_id q e.0 other)) (alike_with its q left (sym (ap (befores_in q) is ∙ pushed_there q kept e other)))
 
-    pub undone_page : undecided_on undone_records undone_undos e.0.page (counts e.0.page) ≡ with_change undoing (undecided_on R undos e.0.page (counts e.0.page)) e.0.slot
-    undone_page = each_changed undoing (λ i. undecided_at R undos (rid_on e.0.page i)) (λ i. undecided_at undone_records undone_undos (rid_on e.0.page i)) (counts e.0.page) e.0.slot undo_here (λ j other. undo_there (rid_on e.0.page j) (λ e. other (ap (λ (r : Rid). r.slot) e))) its_slot
+    pub undone_page : undecided_on undone_records undone_undos e.0.page (counts e.0.page)
+        ≡ with_change undoing (undecided_on R undos e.0.page (counts e.0.page)) e.0.slot
+    undone_page =
+        each_changed undoing (λ i. undecided_at R undos (rid_on e.0.page i)) (λ i. undecided_at undone_records undone_undos (rid_on e.0.page i))
+        (counts e.0.page) e.0.slot undo_here (λ j other. undo_there (rid_on e.0.page j) (λ e. other (ap (λ (r : Rid). r.slot) e))) its_slot
 
     pub undone_other : (p : PageId) (n : ℕ) → p ≢ e.0.page → undecided_on undone_records undone_undos p n ≡ undecided_on R undos p n
-    undone_other p n other = each_alike (λ i. undecided_at undone_records undone_undos (rid_on p i)) (λ i. undecided_at R undos (rid_on p i)) 0 n (λ j ge less. undo_there (rid_on p j) (λ e. other (ap (λ (r : Rid). r.page) e)))
+    undone_other p n other =
+        each_alike (λ i. undecided_at undone_records undone_undos (rid_on p i)) (λ i. undecided_at R undos (rid_on p i)) 0 n
+        (λ j ge less. undo_there (rid_on p j) (λ e. other (ap (λ (r : Rid). r.page) e)))
 
-    pub stands_there : slice_get (undecided_on R undos e.0.page (counts e.0.page)) e.0.slot ≡ Some record { image = get R e.0; befores = e.1 ∷ befores_in e.0 kept }
+    pub stands_there : slice_get (undecided_on R undos e.0.page (counts e.0.page)) e.0.slot
+        ≡ Some record { image = get R e.0; befores = e.1 ∷ befores_in e.0 kept }
     stands_there =
         each_at (λ i. undecided_at R undos (rid_on e.0.page i)) (counts e.0.page) e.0.slot its_slot
         ∙ ap (λ (s : Undecided). Some s) (undecided_is refl newest)
@@ -200,4 +214,5 @@ module _ (R : Records) (undos : List SessionTxn) (counts : SlotCounts) (k : Clai
     undo_fits =
         let slots = undecided_on R undos e.0.page (counts e.0.page) in
         let it : undo_image slots e.0.slot ≡ Some e.1 = ap (λ (o : Option Undecided). option_and_then (λ s. slice_get s.befores 0) o) stands_there in
-        subst (λ (o : Option Image). IfSome o (λ before. Fits (claiming_all slots) e.0.slot (image_len before))) it (undos_fit slots (e.0.slot ∷ []) (k.room e.0.page)).0
+        subst (λ (o : Option Image). IfSome o (λ before. Fits (claiming_all slots) e.0.slot (image_len before))) it
+        (undos_fit slots (e.0.slot ∷ []) (k.room e.0.page)).0

@@ -35,11 +35,13 @@ rolled_len R (e ∷ es) q =
     let parts = longest_append (befores_in q es) (before_of q e) in
     ⊎_elim
     (λ same.
-    let it : image_len (get (put_image (laid_over R es) e.0 e.1) q) ≡ image_len e.1 = ap image_len (ap (get (put_image (laid_over R es) e.0 e.1)) same ∙ put_here (laid_over R es) e.0 e.1) in
+    let it : image_len (get (put_image (laid_over R es) e.0 e.1) q) ≡ image_len e.1 =
+    ap image_len (ap (get (put_image (laid_over R es) e.0 e.1)) same ∙ put_here (laid_over R es) e.0 e.1) in
     let own : longest (before_of q e) ≡ max (image_len e.1) 0 = ap longest (ap (λ (r : Rid). before_of r e) same ∙ back_same e.0 e.1) in
     omega arith)
     (λ off.
-    let it : image_len (get (put_image (laid_over R es) e.0 e.1) q) ≡ image_len (get (laid_over R es) q) = ap image_len (put_there (laid_over R es) e.0 e.1 q off) in
+    let it : image_len (get (put_image (laid_over R es) e.0 e.1) q) ≡ image_len (get (laid_over R es) q) =
+    ap image_len (put_there (laid_over R es) e.0 e.1 q off) in
     omega arith)
     (told_apart q e.0)
 
@@ -75,7 +77,8 @@ module _ (counts : SlotCounts) (q : Rid) (behind : counts q.page ≤ q.slot) whe
 each_all : (P : Slot → Type 0) (f : ℕ → Slot) (first n : ℕ) → ((i : ℕ) → first ≤ i → i < first + n → P (f i)) → All P (each_from f first n)
 each_all P f first zero each = All-nil P
 each_all P f first (suc n) each =
-    All-cons P (f first) (each_from f (suc first) n) (each first (omega arith) (omega arith)) (each_all P f (suc first) n (λ i ge less. each i (omega arith) (omega arith)))
+    All-cons P (f first) (each_from f (suc first) n) (each first (omega arith) (omega arith))
+    (each_all P f (suc first) n (λ i ge less. each i (omega arith) (omega arith)))
 
 -- the first slots claim no more than all
 first_claims : (F : ℕ → Slot) (n m : ℕ) → n ≤ m → claims (each_from F 0 n) ≤ claims (each_from F 0 m)
@@ -92,7 +95,8 @@ settled_bytes f first zero = refl
 settled_bytes f first (suc n) =
     omega (arith, settled_bytes f (suc first) n, sum_by-cons (λ (s : Slot). s.claim) (settled (f first)) (each_from (λ i. settled (f i)) (suc first) n), sum_by-cons image_len (f first) (each_from f (suc first) n))
 
-module _ (R : Records) (undos some : List SessionTxn) (counts : SlotCounts) (k : Claimed R undos counts) (each : (a : SessionTxn) → IsAmong a some → IsAmong a undos) where
+module _ (R : Records) (undos some : List SessionTxn) (counts : SlotCounts) (k : Claimed R undos counts)
+    (each : (a : SessionTxn) → IsAmong a some → IsAmong a undos) where
   claimed_by : (q : Rid) → image_len (get (all_rolled_back R some) q) ≤ max (image_len (get R q)) (longest (befores_at q undos))
   claimed_by q = let one = all_rolled_len R some q in let more = longest_of_some q some undos each in omega arith
 
@@ -106,7 +110,8 @@ module _ (R : Records) (undos some : List SessionTxn) (counts : SlotCounts) (k :
       let first = first_claims F n (counts p) le in
       record {
         room = omega (arith, length-each f 0 n, length-each F 0 (counts p), fewer, first, room.room);
-        each = each_all HoldsItsImage f 0 n (λ i ge less. let most = most_claim p (counts p) F room i (omega arith) in let its = claimed_by (rid_on p i) in (omega arith, omega arith));
+        each = each_all HoldsItsImage f 0 n
+            (λ i ge less. let most = most_claim p (counts p) F room i (omega arith) in let its = claimed_by (rid_on p i) in (omega arith, omega arith));
       }
 
   pub rolled_bytes : (p : PageId) (n : ℕ) → n ≤ counts p → SLOT_ENTRY_BYTES * n + record_bytes (images_on (all_rolled_back R some) p n) ≤ PAGE_ROOM

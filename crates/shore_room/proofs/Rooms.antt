@@ -64,18 +64,23 @@ no_others_with undos t undo u id none mine b m other =
 module _ (R : Records) (undos : List SessionTxn) (counts : SlotCounts) (k : Claimed R undos counts) (a : SessionTxn) (m : IsAmong a undos) where
   -- ---- a change
 
-  module _ (id : Rid) (image : Image) (alone : NoOthers undos a.txn id) (fits : Fits (slots_of R undos id.page (counts id.page)) id.slot (image_len image)) (new : SlotCounts) (grows : Grows counts new id) where
-    pub change_slots : slots_of (put_image R id image) (with_undo a.txn (with_before_image R a.undo id) undos) id.page (new id.page) ≡ with_image (slots_of R undos id.page (counts id.page)) id.slot image
+  module _ (id : Rid) (image : Image) (alone : NoOthers undos a.txn id) (fits : Fits (slots_of R undos id.page (counts id.page)) id.slot (image_len image))
+      (new : SlotCounts) (grows : Grows counts new id) where
+    pub change_slots : slots_of (put_image R id image) (with_undo a.txn (with_before_image R a.undo id) undos) id.page (new id.page)
+        ≡ with_image (slots_of R undos id.page (counts id.page)) id.slot image
     change_slots =
         ap claiming_all (changed_page R undos counts k a m id image alone (new id.page) grows.here)
         ∙ sym (change_claims (undecided_on R undos id.page (counts id.page)) id.slot image)
 
     pub change_others : (p : PageId) → p ≢ id.page
         → slots_of (put_image R id image) (with_undo a.txn (with_before_image R a.undo id) undos) p (new p) ≡ slots_of R undos p (counts p)
-    change_others p other = ap claiming_all (ap (undecided_on (put_image R id image) (with_undo a.txn (with_before_image R a.undo id) undos) p) (grows.others p other) ∙ changed_other R undos counts k a m id image alone p (counts p) other)
+    change_others p other =
+        ap claiming_all (ap (undecided_on (put_image R id image) (with_undo a.txn (with_before_image R a.undo id) undos) p) (grows.others p other) ∙ changed_other R undos counts k a m id image alone p (counts p) other)
 
     more : (p : PageId) → counts p ≤ new p
-    more p = ⊎_elim (λ same. subst (λ q. counts q ≤ new q) (sym same) (let h = grows.here in omega arith)) (λ other. let h = grows.others p other in omega arith) (page_or_other p id.page)
+    more p =
+        ⊎_elim (λ same. subst (λ q. counts q ≤ new q) (sym same) (let h = grows.here in omega arith)) (λ other. let h = grows.others p other in omega arith)
+        (page_or_other p id.page)
 
     change_behind : (q : Rid) → new q.page ≤ q.slot → get (put_image R id image) q ≡ None
     change_behind q far =
@@ -100,7 +105,9 @@ module _ (R : Records) (undos : List SessionTxn) (counts : SlotCounts) (k : Clai
 
     -- the others have images of other ids
     change_apart : (u : ℕ) (q : Rid) → NoOthers undos u q → (a.txn ≢ u → q ≢ id) → NoOthers (with_undo a.txn (with_before_image R a.undo id) undos) u q
-    change_apart u q none apart = no_others_with undos a.txn (with_before_image R a.undo id) u q none (λ other. pushed_there q a.undo.images (id, get R id) (apart other) ∙ none a m other)
+    change_apart u q none apart =
+        no_others_with undos a.txn (with_before_image R a.undo id) u q none
+        (λ other. pushed_there q a.undo.images (id, get R id) (apart other) ∙ none a m other)
 
     change_owned : (b : SessionTxn) → IsAmong b (with_undo a.txn (with_before_image R a.undo id) undos)
         → AllByRecursion (λ e. NoOthers (with_undo a.txn (with_before_image R a.undo id) undos) b.txn e.0) b.undo.images
@@ -109,7 +116,8 @@ module _ (R : Records) (undos : List SessionTxn) (counts : SlotCounts) (k : Clai
         ⊎_elim
         (λ is.
         let mine : (q : Rid) → NoOthers undos a.txn q → NoOthers (with_undo a.txn (with_before_image R a.undo id) undos) b.txn q =
-        λ q none. subst (λ t. NoOthers (with_undo a.txn (with_before_image R a.undo id) undos) t q) (sym is.0) (change_apart a.txn q none (λ other. absurd (other refl))) in
+        λ q none. subst (λ t. NoOthers (with_undo a.txn (with_before_image R a.undo id) undos) t q) (sym is.0)
+        (change_apart a.txn q none (λ other. absurd (other refl))) in
         subst (λ (tr : UndoList). AllByRecursion (λ e. NoOthers (with_undo a.txn (with_before_image R a.undo id) undos) b.txn e.0) tr.images) (sym is.1)
         (recursion-push (λ e. NoOthers (with_undo a.txn (with_before_image R a.undo id) undos) b.txn e.0) a.undo.images (id, get R id)
         (recursion-weaker (λ e. NoOthers undos a.txn e.0) (λ e. NoOthers (with_undo a.txn (with_before_image R a.undo id) undos) b.txn e.0) (λ e none. mine e.0 none) a.undo.images (k.owned a m))
@@ -185,8 +193,10 @@ module _ (R : Records) (undos : List SessionTxn) (counts : SlotCounts) (k : Clai
           o.one;
       owned = λ b among.
           let o = among_with a.txn fewer b undos among in
-          let weaker : (u : ℕ) (es : List (Rid × Image)) → AllByRecursion (λ e. NoOthers undos u e.0) es → AllByRecursion (λ e. NoOthers (with_undo a.txn fewer undos) u e.0) es =
-          λ u es all. recursion-weaker (λ e. NoOthers undos u e.0) (λ e. NoOthers (with_undo a.txn fewer undos) u e.0) (λ e none. undo_none u e.0 none) es all in
+          let weaker : (u : ℕ) (es : List (Rid × Image)) → AllByRecursion (λ e. NoOthers undos u e.0) es → AllByRecursion
+          (λ e. NoOthers (with_undo a.txn fewer undos) u e.0) es =
+          λ u es all. recursion-weaker (λ e. NoOthers undos u e.0) (λ e. NoOthers (with_undo a.txn fewer undos) u e.0)
+          (λ e none. undo_none u e.0 none) es all in
           ⊎_elim
           (λ new. subst (λ t. AllByRecursion (λ e. NoOthers (with_undo a.txn fewer undos) t e.0) b.undo.images) (sym new.0)
           (subst (λ (tr : UndoList). AllByRecursion (λ e. NoOthers (with_undo a.txn fewer undos) a.txn e.0) tr.images) (sym new.1)

@@ -19,7 +19,8 @@ use Rattle.shore_room.proofs.Lists.{each_alike}
 -- with nothing undecided each slot claims what its record takes
 pub claims_settled : (R : Records) (p : PageId) (n : ℕ) → settled_slots R p n ≡ slots_of R [] p n
 claims_settled R p n =
-    each_alike (λ i. settled (get R (rid_on p i))) (λ i. claiming (undecided_at R [] (rid_on p i))) 0 n (λ i ge less. ap (slot (get R (rid_on p i))) (bare (image_len (get R (rid_on p i)))))
+    each_alike (λ i. settled (get R (rid_on p i))) (λ i. claiming (undecided_at R [] (rid_on p i))) 0 n
+    (λ i ge less. ap (slot (get R (rid_on p i))) (bare (image_len (get R (rid_on p i)))))
     ∙ sym (map_each claiming (λ i. undecided_at R [] (rid_on p i)) 0 n)
   where
     slot : Image → ℕ → Slot

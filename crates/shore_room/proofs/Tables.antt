@@ -53,14 +53,16 @@ module _ (spare : ℕ) (within : spare ≤ LONGEST_FRAME + GREATEST_CHECKPOINT) 
       (rest.0, (one.1, rest.1))
 
   events_keep : (o : Records) (es : List Entry) (s : Sessions) (counts : SlotCounts) (room : LogRoom) (events : List SessionEvent) (last : Sessions) (c : SlotCounts) (r : LogRoom)
-      → IsSoundAfter o es s → SessionsAgree o es s → Claimed s.records s.active counts → HasLogRoom spare s.active room → RunsWithRoom s counts room events last c r
+      → IsSoundAfter o es s → SessionsAgree o es s → Claimed s.records s.active counts → HasLogRoom spare s.active room
+      → RunsWithRoom s counts room events last c r
       → Claimed last.records last.active c × HasLogRoom spare last.active r
   events_keep o es s counts room [] last c r after seats k h by = (
     subst (λ (l : Sessions). Claimed l.records l.active c) (sym by.0) (subst (Claimed s.records s.active) (sym by.1) k),
     subst (λ (l : Sessions). HasLogRoom spare l.active r) (sym by.0) (subst (HasLogRoom spare s.active) (sym by.2) h),
   )
   events_keep o es s counts room (e ∷ events) last c r after seats k h by =
-      events_keep o (es ++ entries_by s e) by.0 by.1 by.2 events last c r (event_stays_sound o es s by.0 e after seats by.3) (event_agrees o es s by.0 e seats by.3) (event_claims after counts k e by.0 by.1 by.3 by.4)
+      events_keep o (es ++ entries_by s e) by.0 by.1 by.2 events last c r (event_stays_sound o es s by.0 e after seats by.3)
+      (event_agrees o es s by.0 e seats by.3) (event_claims after counts k e by.0 by.1 by.3 by.4)
       (event_room spare within s room h k.once e by.0 by.2 by.3 by.5 by.6) by.7
 
   pub from_open : (o : Records) (first : Sessions) (counts : SlotCounts) (room : LogRoom) (events : List SessionEvent) (last : Sessions) (c : SlotCounts) (r : LogRoom)

@@ -12,7 +12,7 @@ use Rattle.shore_model.specs.Locks.{MayWrite}
 use Rattle.shore_types.specs.Images.{Image}
 use Rattle.shore_model.specs.Records.{Records, laid_over, put_image}
 use Rattle.shore_room.specs.Claims.{Claimed, NoOthers, SlotCounts, befores_in}
-use Rattle.shore_room.specs.Events.{AnswerFits, ChangeFits, EventFits}
+use Rattle.shore_room.specs.Events.{AnswerFits, ChangeFitsPage, EventFits}
 use Rattle.shore_sessions.specs.RepliesInPlace.{Permit}
 use Rattle.shore_sessions.specs.SessionSteps.{AnswerAbort, AnswerCommit, AppendCommit, BeginTxn, GiveReply, MoveLocks, RefuseCall, SessionEvent, StepsTo}
 use Rattle.shore_sessions.specs.Sessions.{SessionTxn, Sessions, with_undo, without_txn}
@@ -75,7 +75,7 @@ module _ {o : Records} {es : List Entry} {s : Sessions} (after : IsSoundAfter o 
     same_counts : {R : Records} {undos : List SessionTxn} → new ≡ counts → Claimed R undos counts → Claimed R undos new
     same_counts {R} {undos} same h = subst (Claimed R undos) (sym same) h
 
-    change_on : (id : Rid) (image : Image) → MayWrite s.held a.txn id → ChangeFits s.records s.active counts id image new
+    change_on : (id : Rid) (image : Image) → MayWrite s.held a.txn id → ChangeFitsPage s.records s.active counts id image new
         → Claimed (put_image s.records id image) (with_undo a.txn (with_before_image s.records a.undo id) s.active) new
     change_on id image w h = change_keeps s.records s.active counts k a m id image (alone a m id w) h.0 new h.1
 
@@ -96,13 +96,15 @@ module _ {o : Records} {es : List Entry} {s : Sessions} (after : IsSoundAfter o 
     answer_on (call.Insert store bytes) answer w h = insert_on store bytes answer w h
     answer_on (call.Update id bytes) answer w h = change_on id (Some bytes) w h
     answer_on (call.Delete id) answer w h = change_on id None w h
-    answer_on (call.BackTo n) answer w h = same_counts h (undone_keeps s.records s.active counts k a m (drop (mark_of a.undo n) a.undo.images) (take (mark_of a.undo n) a.undo.images) (take (n + 1) a.undo.marks) (parts (mark_of a.undo n) a.undo.images))
+    answer_on (call.BackTo n) answer w h =
+        same_counts h (undone_keeps s.records s.active counts k a m (drop (mark_of a.undo n) a.undo.images) (take (mark_of a.undo n) a.undo.images) (take (n + 1) a.undo.marks) (parts (mark_of a.undo n) a.undo.images))
     answer_on call.Savepoint answer w h = stays_on (undo_after_answer s.records a.undo call.Savepoint answer) refl h
     answer_on _ answer w h = stays_on a.undo refl h
 
   pub event_claims : (e : SessionEvent) (new : Sessions) (counts' : SlotCounts) → StepsTo s e new → EventFits s counts e counts'
       → Claimed new.records new.active counts'
-  event_claims (MoveLocks held) new counts' h fits = subst (λ (n : Sessions). Claimed n.records n.active counts') (sym h.3) (subst (Claimed s.records s.active) (sym fits) k)
+  event_claims (MoveLocks held) new counts' h fits =
+      subst (λ (n : Sessions). Claimed n.records n.active counts') (sym h.3) (subst (Claimed s.records s.active) (sym fits) k)
   event_claims (BeginTxn session) new counts' h fits =
       subst (λ (n : Sessions). Claimed n.records n.active counts') (sym h.1)
       (subst (Claimed s.records (record { session = session; txn = s.next_txn; undo = nothing_to_undo } ∷ s.active)) (sym fits)
@@ -110,9 +112,13 @@ module _ {o : Records} {es : List Entry} {s : Sessions} (after : IsSoundAfter o 
     where
       low : s.next_txn < s.next_txn → ⊥
       low less = omega arith
-  event_claims (GiveReply a c (Ok answer)) new counts' h fits = subst (λ (n : Sessions). Claimed n.records n.active counts') (sym h.3) (answer_on a h.0 counts' c answer h.2.0 fits)
-  event_claims (GiveReply a c (Err fault)) new counts' h fits = subst (λ (n : Sessions). Claimed n.records n.active counts') (sym h.3) (stays_on a h.0 counts' a.undo refl fits)
-  event_claims (AppendCommit a) new counts' h fits = subst (λ (n : Sessions). Claimed n.records n.active counts') (sym h.1) (subst (Claimed s.records (without_txn a.txn s.active)) (sym fits) (left_keeps s.records s.active counts k a h.0))
+  event_claims (GiveReply a c (Ok answer)) new counts' h fits =
+      subst (λ (n : Sessions). Claimed n.records n.active counts') (sym h.3) (answer_on a h.0 counts' c answer h.2.0 fits)
+  event_claims (GiveReply a c (Err fault)) new counts' h fits =
+      subst (λ (n : Sessions). Claimed n.records n.active counts') (sym h.3) (stays_on a h.0 counts' a.undo refl fits)
+  event_claims (AppendCommit a) new counts' h fits =
+      subst (λ (n : Sessions). Claimed n.records n.active counts') (sym h.1)
+      (subst (Claimed s.records (without_txn a.txn s.active)) (sym fits) (left_keeps s.records s.active counts k a h.0))
   event_claims (AnswerAbort a) new counts' h fits =
       let k1 = undone_keeps s.records s.active counts k a h.0 a.undo.images [] [] refl in
       let m1 = new_among (split s.active a k.once h.0) nothing_to_undo in
@@ -120,5 +126,7 @@ module _ {o : Records} {es : List Entry} {s : Sessions} (after : IsSoundAfter o 
       (subst (Claimed (laid_over s.records a.undo.images) (without_txn a.txn s.active)) (sym fits)
       (subst (λ l. Claimed (laid_over s.records a.undo.images) l counts) (without_with a.txn nothing_to_undo s.active)
       (left_keeps (laid_over s.records a.undo.images) (with_undo a.txn nothing_to_undo s.active) counts k1 (with_its a nothing_to_undo) m1)))
-  event_claims (AnswerCommit a) new counts' h fits = subst (λ (n : Sessions). Claimed n.records n.active counts') (sym h.1) (subst (Claimed s.records s.active) (sym fits) k)
-  event_claims (RefuseCall session t c fault) new counts' h fits = subst (λ (n : Sessions). Claimed n.records n.active counts') (sym h.2) (subst (Claimed s.records s.active) (sym fits) k)
+  event_claims (AnswerCommit a) new counts' h fits =
+      subst (λ (n : Sessions). Claimed n.records n.active counts') (sym h.1) (subst (Claimed s.records s.active) (sym fits) k)
+  event_claims (RefuseCall session t c fault) new counts' h fits =
+      subst (λ (n : Sessions). Claimed n.records n.active counts') (sym h.2) (subst (Claimed s.records s.active) (sym fits) k)

@@ -14,15 +14,15 @@ use Rattle.shore_sessions.specs.Sessions.{SessionTxn, Sessions}
 use Rattle.shore_room.specs.Claims.{Grows, SlotCounts, slots_of}
 
 -- a change to an id fits its page
-abbrev pub ChangeFits : Records → List SessionTxn → SlotCounts → Rid → Image → SlotCounts → Type 0
-ChangeFits R undos counts id image new = Fits (slots_of R undos id.page (counts id.page)) id.slot (image_len image) × Grows counts new id
+abbrev pub ChangeFitsPage : Records → List SessionTxn → SlotCounts → Rid → Image → SlotCounts → Type 0
+ChangeFitsPage R undos counts id image new = Fits (slots_of R undos id.page (counts id.page)) id.slot (image_len image) × Grows counts new id
 
 -- Insert, update and delete ask for room; an undo down to a savepoint asks for none.
 abbrev pub AnswerFits : Sessions → SlotCounts → Call → Answer → SlotCounts → Type 0
-AnswerFits s counts (call.Insert store bytes) (Inserted id) new = ChangeFits s.records s.active counts id (Some bytes) new
+AnswerFits s counts (call.Insert store bytes) (Inserted id) new = ChangeFitsPage s.records s.active counts id (Some bytes) new
 AnswerFits s counts (call.Insert store bytes) _ new = new ≡ counts
-AnswerFits s counts (call.Update id bytes) answer new = ChangeFits s.records s.active counts id (Some bytes) new
-AnswerFits s counts (call.Delete id) answer new = ChangeFits s.records s.active counts id None new
+AnswerFits s counts (call.Update id bytes) answer new = ChangeFitsPage s.records s.active counts id (Some bytes) new
+AnswerFits s counts (call.Delete id) answer new = ChangeFitsPage s.records s.active counts id None new
 AnswerFits s counts (call.BackTo n) answer new = new ≡ counts
 AnswerFits s counts call.Begin answer new = new ≡ counts
 AnswerFits s counts (call.Get id) answer new = new ≡ counts

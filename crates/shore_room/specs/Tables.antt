@@ -13,7 +13,7 @@ use Rattle.shore_sessions.specs.Sessions.{SessionTxn, Sessions, txns_of, with_un
 use Rattle.shore_sessions.specs.UndoLists.{with_before_image}
 use Rattle.shore_sessions.specs.Views.{IsAmong}
 use Rattle.shore_room.specs.Claims.{Claimed, NoOthers, SlotCounts, slots_of}
-use Rattle.shore_room.specs.Events.{ChangeFits, EventFits}
+use Rattle.shore_room.specs.Events.{ChangeFitsPage, EventFits}
 use Rattle.shore_room.specs.LogRooms.{Admits, ChangeAdmits, EventAdmits, HasLogRoom, LogRoom, RoomAfter, Takes, begun_room, changed_room, compensation_cost, ended_room, left_room, owed, undone_room}
 
 pub record Table : Type 0 where
@@ -45,7 +45,7 @@ pub data TableStep : Type 0 where
 abbrev pub MayStep : Table → TableStep → Type 0
 MayStep s (EnterTxn a) = (a.undo.images ≡ []) × (IsAmong a.txn (txns_of s.undos) → ⊥) × Admits s.room ENDING_COST
 MayStep s (MakeChange a id image new) =
-    IsAmong a s.undos × NoOthers s.undos a.txn id × ChangeFits s.records s.undos s.counts id image new × ChangeAdmits s.records id image s.room
+    IsAmong a s.undos × NoOthers s.undos a.txn id × ChangeFitsPage s.records s.undos s.counts id image new × ChangeAdmits s.records id image s.room
 MayStep s (SetMarks a marks) = IsAmong a s.undos
 MayStep s (UndoOne a kept e marks) = IsAmong a s.undos × (a.undo.images ≡ kept ++ e ∷ [])
 MayStep s (EndTxn a) = IsAmong a s.undos

@@ -6,7 +6,9 @@ ghost use Rattle.shore_types.specs.declared.ids.PageId.{PageId};
 ghost use Rattle.shore_types.specs.declared.ids.Rid.{Rid};
 ghost use Rattle.shore_types.specs.declared.layout.TheConstants.{ENDING_COST, GREATEST_CHECKPOINT, LONGEST_FRAME, MAX_SLOTS, PAGE_ROOM, SLOT_ENTRY_BYTES};
 ghost use Rattle.shore_model.specs.declared.histories.Entry.{Entry};
+ghost use Rattle.shore_model.specs.declared.log_records.Payload.TheVariants.{Change, Commit, Compensation, End};
 ghost use Rattle.shore_model.specs.Records.{Records, put_image};
+ghost use Rattle.shore_logrec.specs.Text.{cost_of};
 ghost use Rattle.shore_page.specs.Layout.{record_bytes};
 ghost use Rattle.shore_page.specs.Room.{Fits, HasRoom, claim_at, claims, lowered};
 ghost use Rattle.shore_page.specs.Slots.{image_len, settled, with_change, with_image};
@@ -19,8 +21,8 @@ ghost use Rattle.shore_sessions.specs.Views.{IsAmong};
 ghost use Rattle.shore_room.specs.Choosing.{IsChoice, Serves, first_of};
 ghost use Rattle.shore_room.specs.Claims.{Claimed, Grows, NoOthers, SlotCounts, befores_at, befores_in, rid_on, slots_of, undecided_on};
 ghost use Rattle.shore_room.specs.Entries.{claim_before, claims_before};
-ghost use Rattle.shore_room.specs.Events.{ChangeFits, EventFits};
-ghost use Rattle.shore_room.specs.LogRooms.{Admits, ChangeAdmits, EventAdmits, HasLogRoom, LogRoom, RoomAfter, Takes, TurnsTake, begun_room, changed_room, compensation_cost, ended_room, left_room, owed, undone_room};
+ghost use Rattle.shore_room.specs.Events.{ChangeFitsPage, EventFits};
+ghost use Rattle.shore_room.specs.LogRooms.{Admits, ChangeAdmits, EventAdmits, HasLogRoom, LogRoom, RoomAfter, Takes, TurnsTake, begun_room, change_cost, changed_room, compensation_cost, ended_room, left_room, owed, undone_room};
 ghost use Rattle.shore_room.specs.RolledBack.{all_rolled_back, images_on};
 ghost use Rattle.shore_room.specs.Settling.{AllReservesFit, let_go, reserved_for_all, settled_slots};
 ghost use Rattle.shore_room.specs.Tables.{AllHaveRoom, IsRoomy, MayStepAll, RunsWithRoom, Table, TableStep, stepped_all};
@@ -145,7 +147,7 @@ pub fn claims_come_back()
 /// and by those of some of the transactions, as an undo of losers will if only transactions in doubt have theirs.
 pub fn deletes_and_fewer_claims_fit()
     ensures delete { (R : Records) (undos : List SessionTxn) (counts : SlotCounts) (id : Rid) (bytes : List ℕ) → Claimed R undos counts
-        → get R id ≡ Some bytes → ChangeFits R undos counts id None counts }
+        → get R id ≡ Some bytes → ChangeFitsPage R undos counts id None counts }
     ensures settled { (R : Records) (undos : List SessionTxn) (counts : SlotCounts) (p : PageId) (slot bytes : ℕ) → Claimed R undos counts
         → Fits (slots_of R undos p (counts p)) slot bytes → Fits (settled_slots R p (counts p)) slot bytes }
     ensures some { (R : Records) (undos some : List SessionTxn) (counts : SlotCounts) (p : PageId) (slot bytes : ℕ) → Claimed R undos counts
@@ -170,6 +172,13 @@ pub fn search_finds_lowest_place()
         → IsChoice (Serves R undos counts store pages bytes may_lock) (first_of test counts store 0 pages) }
     ensures below { (R : Records) (undos : List SessionTxn) (counts : SlotCounts) (store pages bytes : ℕ) (may_lock : Rid → Bool) (id : Rid) →
         Serves R undos counts store pages bytes may_lock id → id.slot < MAX_SLOTS }
+{}
+
+/// What the log's room counts for a record is what its encoding takes.
+pub fn costs_are_those_of_records()
+    ensures change { (id : Rid) (before after : Image) → change_cost before after ≡ cost_of (Change id before after) }
+    ensures compensation { (id : Rid) (image : Image) (undo_next : ℕ) → compensation_cost image ≡ cost_of (Compensation id image undo_next) }
+    ensures ending { (ENDING_COST ≡ cost_of Commit) × (ENDING_COST ≡ cost_of End) }
 {}
 
 /// Each step keeps the log's room. A begin and a change ask for it; a Compensation and an ending take what was reserved for them.
