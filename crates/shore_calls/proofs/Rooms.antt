@@ -16,16 +16,16 @@ use Rattle.shore_model.specs.declared.histories.Entry.{Entry}
 use Rattle.shore_model.specs.declared.log_records.LogRecord.{LogRecord}
 use Rattle.shore_model.specs.declared.log_records.Payload.TheVariants as payload
 use Rattle.shore_model.specs.Logs.{previous_of}
-use Rattle.shore_logrec.proofs.TextLengths.{length-change_text, length-image_text}
-use Rattle.shore_logrec.specs.Text.{cost_of, image_text}
+use Rattle.shore_logrec.specs.Text.{cost_of}
 use Rattle.shore_machine.specs.declared.step.Step.{Step}
 use Rattle.shore_machine.specs.declared.step.Step.TheVariants.{Done, Waits, Refused, Nothing}
 use Rattle.shore_page.specs.Room.{HasRoom}
+use Rattle.shore_room.proofs.Costs.{change_bytes}
 use Rattle.shore_room.proofs.LogRooms.{event_room}
 use Rattle.shore_room.proofs.Undone.{event_claims}
 use Rattle.shore_room.specs.Claims.{Claimed, SlotCounts, slots_of}
 use Rattle.shore_room.specs.Events.{EventFits}
-use Rattle.shore_room.specs.LogRooms.{EventAdmits, HasLogRoom, LogRoom, answered_room, begun_room, change_cost, ended_room, image_cost, owed, owed_by_all}
+use Rattle.shore_room.specs.LogRooms.{EventAdmits, HasLogRoom, LogRoom, answered_room, begun_room, change_cost, ended_room, owed, owed_by_all}
 use Rattle.shore_sessions.proofs.Lists.{length-push}
 use Rattle.shore_sessions.specs.Logged.{log_after_answer}
 use Rattle.shore_sessions.specs.SessionSteps.{AppendCommit, BeginTxn, GiveReply, StepsTo}
@@ -37,17 +37,6 @@ use Rattle.shore_calls.specs.CallSteps.{Answers, CallStep, Called, EventMoves, F
 use Rattle.shore_calls.specs.States.{HasNoTxn, MayBegin, State, cost_of_log, log_room}
 
 -- ---- costs
-
-cost_of_image : (image : Image) → length (image_text image) ≡ image_cost image
-cost_of_image None = length-image_text None
-cost_of_image (Some bytes) = length-image_text (Some bytes)
-
-cost_of_change : (id : Rid) (before image : Image) → cost_of (payload.Change id before image) ≡ change_cost before image
-cost_of_change id before image =
-    let whole = length-change_text id before image in
-    let b = cost_of_image before in
-    let i = cost_of_image image in
-    omega arith
 
 cost_pushed : (log : List LogRecord) (r : LogRecord) → cost_of_log (log ++ r ∷ []) ≡ cost_of_log log + cost_of r.payload
 cost_pushed log r = sum_by_push (λ (r : LogRecord). cost_of r.payload) log r
@@ -107,7 +96,7 @@ module _ (found : List LogRecord) (es : List Entry) (s : State) (k : IsStateAfte
     change_costs id image previous =
         let r : LogRecord = record { txn = a.txn; previous = previous; payload = payload.Change id (get s.sessions.records id) image } in
         let cost = cost_pushed s.log r in
-        let change = cost_of_change id (get s.sessions.records id) image in
+        let change = change_bytes id (get s.sessions.records id) image in
         omega arith
 
     module _ (g : Geometry) (session : ℕ) (counts : SlotCounts) where
