@@ -6,7 +6,9 @@ pub mod Committing
 pub mod Crashes
 pub mod Deciding
 pub mod Elements
+pub mod Endings
 pub mod Growing
+pub mod OneSession
 pub mod OneStep
 pub mod Opens
 pub mod Places

@@ -3,7 +3,9 @@ ghost use Rattle.std.specs.Prelude.{◌≡◌, ◌≢◌, ◌<◌, ◌≤◌, �
 ghost use Rattle.std.specs.FinMap.{empty, get};
 ghost use Rattle.std.specs.List.{AllByRecursion};
 ghost use Rattle.shore_types.specs.Layout.{HasPage, HasStore};
+ghost use Rattle.shore_types.specs.declared.faults.Device.{Device};
 ghost use Rattle.shore_types.specs.declared.faults.Fault.{Fault};
+ghost use Rattle.shore_types.specs.declared.faults.Fault.TheVariants as fault;
 ghost use Rattle.shore_types.specs.declared.faults.Fault.TheVariants.{LogFull, Memory, NoPage, NoRecord, StoreFull, TooLong};
 ghost use Rattle.shore_types.specs.declared.ids.PageId.{PageId};
 ghost use Rattle.shore_types.specs.declared.ids.Rid.{Rid};
@@ -28,14 +30,15 @@ ghost use Rattle.shore_room.specs.Claims.{slots_of};
 ghost use Rattle.shore_sessions.specs.LogPrefixes.{decisions_in};
 ghost use Rattle.shore_sessions.specs.LogTells.{records_committed};
 ghost use Rattle.shore_sessions.specs.Soundness.{history_from, opening_with, serial_after, written_by};
-ghost use Rattle.shore_sessions.specs.Sessions.{SessionTxn};
+ghost use Rattle.shore_sessions.specs.Sessions.{EachOnce, SessionTxn, txns_of, with_undo, without_txn};
+ghost use Rattle.shore_sessions.specs.UndoLists.{UndoList};
 ghost use Rattle.shore_sessions.specs.Views.{IsAmong};
 ghost use Rattle.shore_calls.specs.Bounds.{AreInBounds, IsBounded};
 ghost use Rattle.shore_calls.specs.CallHistories.{AreFixed, AreRuns, IsOpened, IsRoomyState, IsStateAfter, KeepsDurable, MovesMaking, OpensShow, Run, entries_of_call, entries_of_resume, lists_found, spans_of};
-ghost use Rattle.shore_calls.specs.CallSteps.{CallStep, ComesOfState, EventMoves, Forced, IsServed, ManagerEvent, ResumeStep, commit_waiting, with_durable, with_failure};
+ghost use Rattle.shore_calls.specs.CallSteps.{CallStep, ComesOfState, EventMoves, EventsMove, Forced, IsServed, ManagerEvent, ResumeStep, answered, commit_waiting, with_durable, with_failure};
 ghost use Rattle.shore_room.specs.Choosing.{IsBefore};
 ghost use Rattle.shore_calls.specs.Refusals.{CanLog, FitsAt, IsPlaceFor, NoneServes, Serves};
-ghost use Rattle.shore_calls.specs.States.{DoesNotWait, HasNoTxn, IsInTxn, MayBegin, State, Waiting, cost_of_log, next_number};
+ghost use Rattle.shore_calls.specs.States.{DoesNotWait, HasNoTxn, IsInTxn, MayBegin, State, Waiting, cost_of_log, next_number, without_waiting};
 ghost use Rattle.shore_calls.specs.WorkedRun.{first_id, first_page, one_insert, opened_empty};
 
 /// What an open leaves is a state after no entries.
@@ -75,9 +78,13 @@ pub fn crash_keeps_acknowledged_commits()
         × (records_committed (take n s.log) ≡ serial (written_by es) (records_committed found) (decisions_in (length found) (take n s.log))) }
 {}
 
-/// After any events from an open on, the state is what they have come to.
+/// After any events from an open on, the state is what they have come to. Any events make entries.
 pub fn events_keep_state()
-    ensures { (g : Geometry) (found : List LogRecord) (first last : State) (events : List ManagerEvent) (made : List Entry) →
+    ensures entries { (g : Geometry) (s last : State) (events : List ManagerEvent) →
+        EventsMove g s events last → (made : List Entry) × MovesMaking g s events last made }
+    ensures events { (g : Geometry) (s last : State) (events : List ManagerEvent) (made : List Entry) →
+        MovesMaking g s events last made → EventsMove g s events last }
+    ensures keep { (g : Geometry) (found : List LogRecord) (first last : State) (events : List ManagerEvent) (made : List Entry) →
         IsOpened found first → MovesMaking g first events last made → IsStateAfter found made last }
 {}
 
@@ -154,6 +161,29 @@ pub fn calls_come_to_one_thing()
         → CallStep g s session c other later → ComesOfState step → ComesOfState other → step ≡ other }
     ensures state { (g : Geometry) (found : List LogRecord) (es : List Entry) (s new later : State) (session : ℕ) (c : Call) (step : Step) →
         IsStateAfter found es s → CallStep g s session c step new → CallStep g s session c step later → new ≡ later }
+{}
+
+/// A read leaves the state as it was. Of one transaction, or one call that waits, each change of the lists is plain.
+pub fn one_session_has_short_lists()
+    ensures get { (s : State) (a : SessionTxn) (answer : Answer) (id : Rid) →
+        EachOnce (txns_of s.sessions.active) → IsAmong a s.sessions.active → answered s a (Get id) answer s.counts ≡ s }
+    ensures scan { (s : State) (a : SessionTxn) (answer : Answer) (store : ℕ) →
+        EachOnce (txns_of s.sessions.active) → IsAmong a s.sessions.active → answered s a (Scan store) answer s.counts ≡ s }
+    ensures undo { (a : SessionTxn) (undo : UndoList) →
+        with_undo a.txn undo (a ∷ []) ≡ record { session = a.session; txn = a.txn; undo = undo } ∷ [] }
+    ensures ended { (a : SessionTxn) → without_txn a.txn (a ∷ []) ≡ [] }
+    ensures told { (w : Waiting) → without_waiting w.session (w ∷ []) ≡ [] }
+{}
+
+/// A commit waits for its record, and waits no more once it is answered or refused. A fault of a page fails the state, and then all is refused.
+pub fn waits_end_and_faults_fail()
+    ensures begin { (g : Geometry) (s new : State) (session : ℕ) (c : Call) (wait : Wait) →
+        CallStep g s session c (Waits wait) new → IsAmong (commit_waiting session (next_number s)) new.waiting }
+    ensures told { (s new : State) (session : ℕ) (answer : Answer) → ResumeStep s session (Done answer) new → DoesNotWait new session }
+    ensures refused { (s new : State) (session : ℕ) (f : Fault) → ResumeStep s session (Refused f) new → DoesNotWait new session }
+    ensures device { (g : Geometry) (s new : State) (session : ℕ) (c : Call) → CallStep g s session c (Refused fault.Device) new → IsTrue new.failed }
+    ensures damage { (g : Geometry) (s new : State) (session : ℕ) (c : Call) (device : Device) (offset : ℕ) →
+        CallStep g s session c (Refused (fault.Damaged device offset)) new → IsTrue new.failed }
 {}
 
 /// The conditions of steps can be met: over an empty volume, a transaction inserts a record and commits, and the commit is answered.
