@@ -94,17 +94,22 @@ module _ (found : List LogRecord) (es : List Entry) (s : State) (k : IsStateAfte
   answer_moves =
       (mem, h.inner, subst (λ held. MayReplyInPlace held a.txn s.sessions.records (length a.undo.marks) c (Ok answer)) (sym (k.one.holds a mem)) h.may, refl)
 
-  pub sessions_answered : AreSessionsAfter (length found) (records_committed found) (es ++ entry ∷ []) (answered s a c answer counts).sessions (answered s a c answer counts).log
+  pub sessions_answered : AreSessionsAfter (length found) (records_committed found) (es ++ entry ∷ []) (answered s a c answer counts).sessions
+      (answered s a c answer counts).log
   sessions_answered =
-      subst (λ (e : Entry). AreSessionsAfter (length found) (records_committed found) (es ++ e ∷ []) (answered s a c answer counts).sessions (answered s a c answer counts).log)
-      (same_entry a.session session a.txn (answered_under s.sessions session c) (exchange c (Ok answer)) of (sym (h.under ∙ its_txn k.agree a session (inl mem) of)))
-      (event_keeps (length found) (records_committed found) es s.sessions (answered s a c answer counts).sessions (GiveReply a c (Ok answer)) s.log (as_sessions found es s k) answer_moves)
+      subst (λ (e : Entry). AreSessionsAfter (length found) (records_committed found) (es ++ e ∷ []) (answered s a c answer counts).sessions
+      (answered s a c answer counts).log)
+      (same_entry a.session session a.txn (answered_under s.sessions session c) (exchange c (Ok answer)) of
+      (sym (h.under ∙ its_txn k.agree a session (inl mem) of)))
+      (event_keeps (length found) (records_committed found) es s.sessions (answered s a c answer counts).sessions (GiveReply a c (Ok answer)) s.log
+      (as_sessions found es s k) answer_moves)
 
   one_answered : HasOneSession (answered s a c answer counts)
   one_answered =
       let undo = undo_after s.sessions.records a.undo c (Ok answer) in
       record {
-        first = λ b y. ⊎_elim (λ x. let was = among_with a.txn undo b s.sessions.active x in was.session ∙ k.one.first was.was (inl was.there)) (λ x. k.one.first b (inr x)) y;
+        first = λ b y. ⊎_elim (λ x. let was = among_with a.txn undo b s.sessions.active x in was.session ∙ k.one.first was.was (inl was.there))
+            (λ x. k.one.first b (inr x)) y;
         holds = λ b m. let was = among_with a.txn undo b s.sessions.active m in k.one.holds was.was was.there ∙ ap volume_lock (sym was.txn);
         nobody_else = λ h m.
             let of = k.one.nobody_else h m in
@@ -127,6 +132,7 @@ module _ (found : List LogRecord) (es : List Entry) (s : State) (k : IsStateAfte
         log = g.logged;
         decides = g.decides;
         waits = waits_grown (length found) s (answered s a c answer counts) refl refl refl h.on k.waits;
-        forced = forced_grown (length found) es entry s (answered s a c answer counts) refl h.on (inner_asks_none (answered_under s.sessions session c) c h.inner) k.forced;
+        forced = forced_grown (length found) es entry s (answered s a c answer counts) refl h.on
+            (inner_asks_none (answered_under s.sessions session c) c h.inner) k.forced;
         one = one_answered;
       }

@@ -50,8 +50,10 @@ module _ (found : List LogRecord) (es : List Entry) (s : State) (k : IsStateAfte
   pub sessions_begun : AreSessionsAfter (length found) (records_committed found) (es ++ began ∷ []) (begun s session).sessions s.log
   sessions_begun =
       then_quiet (length found) (records_committed found) es (began ∷ []) (begun s session).sessions s.log
-      (event_keeps (length found) (records_committed found) (es ++ began ∷ []) (txn_begun s.sessions session) (begun s session).sessions (MoveLocks (volume_lock next)) s.log
-      (event_keeps (length found) (records_committed found) es s.sessions (txn_begun s.sessions session) (BeginTxn session) s.log (as_sessions found es s k) begin_moves)
+      (event_keeps (length found) (records_committed found) (es ++ began ∷ []) (txn_begun s.sessions session) (begun s session).sessions
+      (MoveLocks (volume_lock next)) s.log
+      (event_keeps (length found) (records_committed found) es s.sessions (txn_begun s.sessions session) (BeginTxn session) s.log
+      (as_sessions found es s k) begin_moves)
       lock_moves)
 
   one_begun : HasOneSession (begun s session)

@@ -84,7 +84,8 @@ module _ (g : Geometry) (stream_bytes : ℕ) where
 
   -- the log of a state with room, if all that it tells lies inside the geometry and has place
   log_in_bounds : (found : List LogRecord) (es : List Entry) (s : State) → IsStateAfter found es s → IsRoomyState s → s.stream_bytes ≡ stream_bytes
-      → s.sessions.next_txn ≤ LAST_TXN → AreRecords g (records_committed s.log) → ((p : PageId) → HasPlace (records_committed s.log) p) → InBounds g stream_bytes s.log
+      → s.sessions.next_txn ≤ LAST_TXN → AreRecords g (records_committed s.log) → ((p : PageId) → HasPlace (records_committed s.log) p)
+      → InBounds g stream_bytes s.log
   log_in_bounds found es s k roomy long numbers inside pages =
       let sum = roomy.log.sum in
       let fits = roomy.log.fits in
@@ -106,7 +107,8 @@ IsInside g id image = (bytes : List ℕ) → image ≡ Some bytes → IsRecord g
 put_inside : (g : Geometry) (R : Records) (id : Rid) (image : Image) → AreRecords g R → IsInside g id image → AreRecords g (put_image R id image)
 put_inside g R id image h new q bytes at =
     ⊎_elim
-    (λ same. subst (λ q. IsRecord g q bytes) (sym same) (new bytes (sym (put_here R id image) ∙ subst (λ q. get (put_image R id image) q ≡ Some bytes) same at)))
+    (λ same. subst (λ q. IsRecord g q bytes) (sym same)
+    (new bytes (sym (put_here R id image) ∙ subst (λ q. get (put_image R id image) q ≡ Some bytes) same at)))
     (λ other. h q bytes (sym (put_there R id image q other) ∙ at))
     (told_apart q id)
 
@@ -140,7 +142,8 @@ module _ (g : Geometry) (stream_bytes : ℕ) (found : List LogRecord) (es : List
   module _ (session : ℕ) (a : SessionTxn) (mem : IsAmong a s.sessions.active) (of : a.session ≡ session) where
     -- a change: the log tells what it told
     answer_bounded : (later : List Entry) (c : Call) (answer : Answer) (counts : SlotCounts) → MayAnswer g s session c answer counts
-        → IsStateAfter found later (answered s a c answer counts) → IsRoomyState (answered s a c answer counts) → IsBounded g stream_bytes (answered s a c answer counts)
+        → IsStateAfter found later (answered s a c answer counts) → IsRoomyState (answered s a c answer counts) → IsBounded g stream_bytes
+        (answered s a c answer counts)
     answer_bounded later c answer counts may new_state new_roomy =
         let inner = inner_answer g s session a counts c answer may in
         let log' = log_after_answer s.log s.sessions.records a c answer in
@@ -204,10 +207,12 @@ pub event_bounded : (g : Geometry) (stream_bytes : ℕ) (found : List LogRecord)
     → IsRoomyState s → IsBounded g stream_bytes s → EventMoves g s e new → IsBounded g stream_bytes new
 event_bounded g stream_bytes found es s new (Called session c step) k roomy h x =
     let e = Called session c step in
-    call_bounded g stream_bytes found es s k roomy h new (es ++ entries_of s e) (event_kept g found es s new e k x) (event_roomy g found es s new e k roomy x) session c step x.1
+    call_bounded g stream_bytes found es s k roomy h new (es ++ entries_of s e) (event_kept g found es s new e k x)
+    (event_roomy g found es s new e k roomy x) session c step x.1
 event_bounded g stream_bytes found es s new (Resumed session step) k roomy h x =
     let e = Resumed session step in
-    resume_bounded g stream_bytes found es s k roomy h new (es ++ entries_of s e) (event_kept g found es s new e k x) (event_roomy g found es s new e k roomy x) session step x.1
+    resume_bounded g stream_bytes found es s k roomy h new (es ++ entries_of s e) (event_kept g found es s new e k x)
+    (event_roomy g found es s new e k roomy x) session step x.1
 event_bounded g stream_bytes found es s new (Forced n) k roomy h x =
     subst (IsBounded g stream_bytes) (sym x.2) (record { as_long = h.as_long; beginnings = h.beginnings; inside = h.inside; txns = h.txns })
 event_bounded g stream_bytes found es s new HasFailed k roomy h x =
@@ -218,7 +223,8 @@ pub events_bounded : (g : Geometry) (stream_bytes : ℕ) (found : List LogRecord
     → IsRoomyState last × IsBounded g stream_bytes last
 events_bounded g stream_bytes found es s [] last made k roomy h x = (subst IsRoomyState (sym x.0) roomy, subst (IsBounded g stream_bytes) (sym x.0) h)
 events_bounded g stream_bytes found es s (e ∷ events) last made k roomy h x =
-    events_bounded g stream_bytes found (es ++ entries_of s e) x.0 events last x.1 (event_kept g found es s x.0 e k x.2) (event_roomy g found es s x.0 e k roomy x.2)
+    events_bounded g stream_bytes found (es ++ entries_of s e) x.0 events last x.1 (event_kept g found es s x.0 e k x.2)
+    (event_roomy g found es s x.0 e k roomy x.2)
     (event_bounded g stream_bytes found es s x.0 e k roomy h x.2) x.3
 
 -- ---- an open

@@ -53,9 +53,11 @@ module _ (found : List LogRecord) (es : List Entry) (s : State) (k : IsStateAfte
 
     sessions_committed : AreSessionsAfter (length found) (records_committed found) (es ++ decided ∷ []) (committed s a).sessions (committed s a).log
     sessions_committed =
-        subst (λ t. AreSessionsAfter (length found) (records_committed found) (es ++ Decided (decision.Commit t) ∷ []) (committed s a).sessions (committed s a).log)
+        subst (λ t. AreSessionsAfter (length found) (records_committed found) (es ++ Decided (decision.Commit t) ∷ []) (committed s a).sessions
+        (committed s a).log)
         (sym (its_txn k.agree a session (inl mem) of))
-        (event_keeps (length found) (records_committed found) es s.sessions (committed s a).sessions (AppendCommit a) s.log (as_sessions found es s k) commit_moves)
+        (event_keeps (length found) (records_committed found) es s.sessions (committed s a).sessions (AppendCommit a) s.log
+        (as_sessions found es s k) commit_moves)
 
     -- the record is the last of the log
     commit_in_log : Contains (decisions_in (length found) (take (next_number s) (committed s a).log)) (decision.Commit a.txn)
@@ -63,7 +65,8 @@ module _ (found : List LogRecord) (es : List Entry) (s : State) (k : IsStateAfte
         let more = decisions_more (length found) s.log commit_record k.decides.long refl in
         subst (λ l. Contains (decisions_in (length found) l) (decision.Commit a.txn)) (sym (take-beyond (next_number s) s.log commit_record (omega arith)))
         (subst (λ ds. Contains ds (decision.Commit a.txn)) (sym more)
-        (among_contained (decision.Commit a.txn) (decisions_in (length found) s.log ++ decision.Commit a.txn ∷ []) (among_last (decisions_in (length found) s.log) (decision.Commit a.txn))))
+        (among_contained (decision.Commit a.txn) (decisions_in (length found) s.log ++ decision.Commit a.txn ∷ [])
+        (among_last (decisions_in (length found) s.log) (decision.Commit a.txn))))
 
     waits_committed : WaitsTruly (length found) (committed s a)
     waits_committed = record {
@@ -139,7 +142,8 @@ module _ (found : List LogRecord) (es : List Entry) (s : State) (k : IsStateAfte
         (same_entry a.session session a.txn (txn_of s.sessions session) (exchange call.Commit (Ok Committed)) of (sym (its_txn k.agree a session (inr mem) of)))
         (then_quiet (length found) (records_committed found) es (own ∷ []) (commit_told s a).sessions s.log
         (event_keeps (length found) (records_committed found) (es ++ own ∷ []) (commit_answered s.sessions a) (commit_told s a).sessions (MoveLocks []) s.log
-        (event_keeps (length found) (records_committed found) es s.sessions (commit_answered s.sessions a) (AnswerCommit a) s.log (as_sessions found es s k) tell_moves)
+        (event_keeps (length found) (records_committed found) es s.sessions (commit_answered s.sessions a) (AnswerCommit a) s.log
+        (as_sessions found es s k) tell_moves)
         unlock_moves))
 
     waits_told : WaitsTruly (length found) (commit_told s a)

@@ -56,7 +56,11 @@ module _ (g : Geometry) (found : List LogRecord) (r : Run) (h : IsRun g found r)
       let life : History = history_of o (span_of found r) in
       ap (λ (R : Records). record { records = R; in_doubt = map (λ p. record { txn = p.0; global = p.1; writes = writes_in life p.0 }) (in_doubt [] kept) })
       (sym (crash_keeps found r.made r.last r.kept run_is_state h.2).1)
-      ∙ ap (λ ps. record { records = records_committed (list_left r); in_doubt = map (λ p. record { txn = p.0; global = p.1; writes = writes_in life p.0 }) (filter (λ p. is_undecided kept p.0) ps) })
+      ∙ ap (λ ps. record {
+        records = records_committed (list_left r);
+        in_doubt = map (λ p. record { txn = p.0; global = p.1; writes = writes_in life p.0 })
+            (filter (λ p. is_undecided kept p.0) ps);
+      })
       (commits_prepare_none (committed_in (drop (length found) (list_left r))))
 
 pub runs_are_a_life : (g : Geometry) (found : List LogRecord) (runs : List Run) (last : List LogRecord) → AreRuns g found runs last

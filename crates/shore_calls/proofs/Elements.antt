@@ -30,18 +30,23 @@ among_last (y ∷ xs) x = inr (among_last xs x)
 pub waits_on : (session : ℕ) (w : Waiting) (ws : List Waiting) → IsAmong w (without_waiting session ws) → IsAmong w ws × (w.session ≢ session)
 waits_on session w [] = λ h. absurd h
 waits_on session w (x ∷ ws) =
-    elim (x.session == session) as (λ b. (x.session == session) ≡ b → IsAmong w (cond (not b) (x ∷ without_waiting session ws) (without_waiting session ws)) → IsAmong w (x ∷ ws) × (w.session ≢ session)) [
+    elim (x.session == session) as
+    (λ b. (x.session == session) ≡ b → IsAmong w (cond (not b) (x ∷ without_waiting session ws) (without_waiting session ws)) → IsAmong w (x ∷ ws) ×
+    (w.session ≢ session)) [
       | true ↦ λ e h. let rest = waits_on session w ws h in (inr rest.0, rest.1)
-      | false ↦ λ e h. ⊎_elim (λ same. (inl same, λ is. eqb-false x.session session e (ap (λ (w : Waiting). w.session) same ∙ is))) (λ later. let rest = waits_on session w ws later in (inr rest.0, rest.1)) h
+      | false ↦ λ e h. ⊎_elim (λ same. (inl same, λ is. eqb-false x.session session e (ap (λ (w : Waiting). w.session) same ∙ is)))
+          (λ later. let rest = waits_on session w ws later in (inr rest.0, rest.1)) h
     ] refl
 
 -- the undo list that a transaction has is put in its place
 pub same_undo : (a : SessionTxn) (xs : List SessionTxn) → EachOnce (txns_of xs) → IsAmong a xs → with_undo a.txn a.undo xs ≡ xs
 same_undo a [] once h = refl
 same_undo a (x ∷ xs) once h =
-    elim (x.txn == a.txn) as (λ b. (x.txn == a.txn) ≡ b → cond b (record { session = x.session; txn = x.txn; undo = a.undo }) x ∷ with_undo a.txn a.undo xs ≡ x ∷ xs) [
+    elim (x.txn == a.txn) as (λ b. (x.txn == a.txn) ≡ b → cond b
+    (record { session = x.session; txn = x.txn; undo = a.undo }) x ∷ with_undo a.txn a.undo xs ≡ x ∷ xs) [
       | true ↦ λ e. ⊎_elim
-          (λ same. ap (λ (u : UndoList). record { session = x.session; txn = x.txn; undo = u } ∷ with_undo a.txn a.undo xs) (ap (λ (a : SessionTxn). a.undo) (sym same))
+          (λ same. ap (λ (u : UndoList). record { session = x.session; txn = x.txn; undo = u } ∷ with_undo a.txn a.undo xs)
+          (ap (λ (a : SessionTxn). a.undo) (sym same))
           ∙ ap (λ ys. x ∷ ys) (nobody a xs (λ among. once.0 (subst (λ t. IsAmong t (txns_of xs)) (sym (eqb-true x.txn a.txn e)) among))))
           (λ later. absurd (once.0 (subst (λ t. IsAmong t (txns_of xs)) (sym (eqb-true x.txn a.txn e)) (txn_among a xs later)))) h
       | false ↦ λ e. ⊎_elim
@@ -52,7 +57,8 @@ same_undo a (x ∷ xs) once h =
     nobody : (a : SessionTxn) (xs : List SessionTxn) → (IsAmong a.txn (txns_of xs) → ⊥) → with_undo a.txn a.undo xs ≡ xs
     nobody a [] none = refl
     nobody a (x ∷ xs) none =
-        elim (x.txn == a.txn) as (λ b. (x.txn == a.txn) ≡ b → cond b (record { session = x.session; txn = x.txn; undo = a.undo }) x ∷ with_undo a.txn a.undo xs ≡ x ∷ xs) [
+        elim (x.txn == a.txn) as (λ b. (x.txn == a.txn) ≡ b → cond b
+        (record { session = x.session; txn = x.txn; undo = a.undo }) x ∷ with_undo a.txn a.undo xs ≡ x ∷ xs) [
           | true ↦ λ e. absurd (none (inl (eqb-true x.txn a.txn e)))
           | false ↦ λ e. ap (λ ys. x ∷ ys) (nobody a xs (λ later. none (inr later)))
         ] refl

@@ -4,8 +4,12 @@ pub mod Beginning
 pub mod Bounds
 pub mod Committing
 pub mod Crashes
+pub mod Deciding
 pub mod Elements
+pub mod Endings
 pub mod Growing
+pub mod OneSession
+pub mod OneStep
 pub mod Opens
 pub mod Places
 pub mod Prefixes

@@ -8,7 +8,8 @@ use Rattle.shore_room.proofs.Pages.{length-slots}
 use Rattle.shore_room.specs.Claims.{rid_on}
 use Rattle.shore_sessions.proofs.Lists.{within_or_beyond}
 use Rattle.shore_calls.specs.CallHistories.{IsRoomyState}
-use Rattle.shore_calls.specs.Refusals.{IsBefore, IsPlaceFor, NoneServes, Serves}
+use Rattle.shore_room.specs.Choosing.{IsBefore}
+use Rattle.shore_calls.specs.Refusals.{IsPlaceFor, NoneServes, Serves}
 use Rattle.shore_calls.specs.States.{State, page_slots}
 
 claim_behind : (slots : List Slot) (i : ℕ) → length slots ≤ i → claim_at slots i ≡ 0
@@ -65,7 +66,8 @@ module _ (g : Geometry) (s : State) (roomy : IsRoomyState s) (store : ℕ) (byte
     serves = serves;
     lowest = λ other before h.
         let r = reach other h in
-        none r.other r.reached (⊎_elim (λ same. subst (λ o. IsBefore o id) (sym same) before) (λ nearer. before_later r.other other id nearer before) r.nearer) r.serves;
+        none r.other r.reached (⊎_elim (λ same. subst (λ o. IsBefore o id) (sym same) before)
+        (λ nearer. before_later r.other other id nearer before) r.nearer) r.serves;
   }
 
   pub none_reached : ((id : Rid) → id.slot ≤ s.counts id.page → Serves g s store bytes id → ⊥) → NoneServes g s store bytes

@@ -91,5 +91,6 @@ pub lists_are_fixed : (g : Geometry) (found : List LogRecord) (runs : List Run) 
     → AreFixed (lists_found runs) last
 lists_are_fixed g found [] last h = tt
 lists_are_fixed g found (r ∷ runs) last h =
-    let later = found_is_prefix g r.first.log (list_left r) runs last (subst (λ log. IsPrefix log (list_left r)) (sym h.0.0.log) (run_goes_on g found r h.0)) h.1 in
+    let later = found_is_prefix g r.first.log (list_left r) runs last
+    (subst (λ log. IsPrefix log (list_left r)) (sym h.0.0.log) (run_goes_on g found r h.0)) h.1 in
     (later.0, later.1, lists_are_fixed g (list_left r) runs last h.1)

@@ -78,7 +78,8 @@ module _ (found : List LogRecord) (es : List Entry) (s : State) (k : IsStateAfte
       → IsStateAfter found (es ++ Exchanged session (txn_of s.sessions session) (exchange c (Err f)) ∷ []) s
   refusal_entered session c f nothing =
       entry_more found es s k (Exchanged session (txn_of s.sessions session) (exchange c (Err f)))
-      (event_keeps (length found) (records_committed found) es s.sessions s.sessions (RefuseCall session (txn_of s.sessions session) c f) s.log (as_sessions found es s k) (is_txn_of s.sessions session, nothing, refl))
+      (event_keeps (length found) (records_committed found) es s.sessions s.sessions (RefuseCall session (txn_of s.sessions session) c f) s.log
+      (as_sessions found es s k) (is_txn_of s.sessions session, nothing, refl))
       refl
 
   -- the record is not there: its transaction has the volume, and may know it
@@ -90,11 +91,13 @@ module _ (found : List LogRecord) (es : List Entry) (s : State) (k : IsStateAfte
       let same : s.sessions ≡ reply_given s.sessions a c (Err fault.NoRecord) =
       sym (ap (λ (xs : List SessionTxn). record s.sessions { active = xs }) (same_undo a s.sessions.active k.agree.once mem)) in
       let may : MayRead s.sessions.held a.txn h.id = subst (λ held. MayRead held a.txn h.id) (sym (k.one.holds a mem)) (reads_all a.txn h.id) in
-      let given = event_keeps (length found) (records_committed found) es s.sessions s.sessions (GiveReply a c (Err fault.NoRecord)) s.log (as_sessions found es s k)
+      let given = event_keeps (length found) (records_committed found) es s.sessions s.sessions (GiveReply a c (Err fault.NoRecord)) s.log
+      (as_sessions found es s k)
       (mem, h.inner, known_absent (record_named_by c) h.id s.sessions.held s a.txn h.named may h.absent, same) in
       entry_more found es s k (Exchanged session (txn_of s.sessions session) (exchange c (Err fault.NoRecord)))
       (subst (λ (e : Entry). AreSessionsAfter (length found) (records_committed found) (es ++ e ∷ []) s.sessions s.log)
-      (same_entry a.session session a.txn (txn_of s.sessions session) (exchange c (Err fault.NoRecord)) h.txn.1.1 (sym (its_txn k.agree a session (inl mem) h.txn.1.1))) given)
+      (same_entry a.session session a.txn (txn_of s.sessions session) (exchange c (Err fault.NoRecord)) h.txn.1.1
+      (sym (its_txn k.agree a session (inl mem) h.txn.1.1))) given)
       refl
 
 pub refused_state : (found : List LogRecord) (es : List Entry) (s : State) (f : Fault) → IsStateAfter found es s → IsStateAfter found es (after_refusal f s)

@@ -16,16 +16,16 @@ use Rattle.shore_model.specs.declared.histories.Entry.{Entry}
 use Rattle.shore_model.specs.declared.log_records.LogRecord.{LogRecord}
 use Rattle.shore_model.specs.declared.log_records.Payload.TheVariants as payload
 use Rattle.shore_model.specs.Logs.{previous_of}
-use Rattle.shore_logrec.proofs.TextLengths.{length-change_text, length-image_text}
-use Rattle.shore_logrec.specs.Text.{cost_of, image_text}
+use Rattle.shore_logrec.specs.Text.{cost_of}
 use Rattle.shore_machine.specs.declared.step.Step.{Step}
 use Rattle.shore_machine.specs.declared.step.Step.TheVariants.{Done, Waits, Refused, Nothing}
 use Rattle.shore_page.specs.Room.{HasRoom}
+use Rattle.shore_room.proofs.Costs.{change_bytes}
 use Rattle.shore_room.proofs.LogRooms.{event_room}
 use Rattle.shore_room.proofs.Undone.{event_claims}
 use Rattle.shore_room.specs.Claims.{Claimed, SlotCounts, slots_of}
 use Rattle.shore_room.specs.Events.{EventFits}
-use Rattle.shore_room.specs.LogRooms.{EventAdmits, HasLogRoom, LogRoom, answered_room, begun_room, change_cost, ended_room, image_cost, owed, owed_by_all}
+use Rattle.shore_room.specs.LogRooms.{EventAdmits, HasLogRoom, LogRoom, answered_room, begun_room, change_cost, ended_room, owed, owed_by_all}
 use Rattle.shore_sessions.proofs.Lists.{length-push}
 use Rattle.shore_sessions.specs.Logged.{log_after_answer}
 use Rattle.shore_sessions.specs.SessionSteps.{AppendCommit, BeginTxn, GiveReply, StepsTo}
@@ -37,17 +37,6 @@ use Rattle.shore_calls.specs.CallSteps.{Answers, CallStep, Called, EventMoves, F
 use Rattle.shore_calls.specs.States.{HasNoTxn, MayBegin, State, cost_of_log, log_room}
 
 -- ---- costs
-
-cost_of_image : (image : Image) → length (image_text image) ≡ image_cost image
-cost_of_image None = length-image_text None
-cost_of_image (Some bytes) = length-image_text (Some bytes)
-
-cost_of_change : (id : Rid) (before image : Image) → cost_of (payload.Change id before image) ≡ change_cost before image
-cost_of_change id before image =
-    let whole = length-change_text id before image in
-    let b = cost_of_image before in
-    let i = cost_of_image image in
-    omega arith
 
 cost_pushed : (log : List LogRecord) (r : LogRecord) → cost_of_log (log ++ r ∷ []) ≡ cost_of_log log + cost_of r.payload
 cost_pushed log r = sum_by_push (λ (r : LogRecord). cost_of r.payload) log r
@@ -72,7 +61,8 @@ within = omega arith
 module _ (found : List LogRecord) (es : List Entry) (s : State) (k : IsStateAfter found es s) (roomy : IsRoomyState s) where
   begin_roomy : (session : ℕ) → HasNoTxn s session → MayBegin s → IsRoomyState (begun s session)
   begin_roomy session idle may =
-      let room = event_room LONGEST_FRAME within s.sessions (log_room s) roomy.log k.agree.once (BeginTxn session) (txn_begun s.sessions session) (begun_room (log_room s)) (idle, refl) may.0 refl in
+      let room = event_room LONGEST_FRAME within s.sessions (log_room s) roomy.log k.agree.once (BeginTxn session) (txn_begun s.sessions session)
+      (begun_room (log_room s)) (idle, refl) may.0 refl in
       record {
         pages = event_claims k.sound s.counts roomy.pages (BeginTxn session) (txn_begun s.sessions session) s.counts (idle, refl) refl;
         log = as_log_room (begun s session) (begun_room (log_room s)) room refl refl refl;
@@ -83,7 +73,8 @@ module _ (found : List LogRecord) (es : List Entry) (s : State) (k : IsStateAfte
     commit_roomy =
         let moves : StepsTo s.sessions (AppendCommit a) (committed s a).sessions = (mem, refl) in
         let r : LogRecord = record { txn = a.txn; previous = previous_of a.txn s.log; payload = payload.Commit } in
-        let room = event_room LONGEST_FRAME within s.sessions (log_room s) roomy.log k.agree.once (AppendCommit a) (committed s a).sessions (ended_room (owed a) (log_room s)) moves tt refl in
+        let room = event_room LONGEST_FRAME within s.sessions (log_room s) roomy.log k.agree.once (AppendCommit a) (committed s a).sessions
+        (ended_room (owed a) (log_room s)) moves tt refl in
         let cost = cost_pushed s.log r in
         let longer = length-push s.log r in
         record {
@@ -100,11 +91,12 @@ module _ (found : List LogRecord) (es : List Entry) (s : State) (k : IsStateAfte
       last : (answered_room s.sessions.records a c answer (log_room s)).last_lsn ≡ length (log_after_answer s.log s.sessions.records a c answer)
 
     change_costs : (id : Rid) (image : Image) (previous : ℕ)
-        → cost_of_log s.log + change_cost (get s.sessions.records id) image ≡ cost_of_log (s.log ++ record { txn = a.txn; previous = previous; payload = payload.Change id (get s.sessions.records id) image } ∷ [])
+        → cost_of_log s.log + change_cost (get s.sessions.records id) image ≡ cost_of_log
+        (s.log ++ record { txn = a.txn; previous = previous; payload = payload.Change id (get s.sessions.records id) image } ∷ [])
     change_costs id image previous =
         let r : LogRecord = record { txn = a.txn; previous = previous; payload = payload.Change id (get s.sessions.records id) image } in
         let cost = cost_pushed s.log r in
-        let change = cost_of_change id (get s.sessions.records id) image in
+        let change = change_bytes id (get s.sessions.records id) image in
         omega arith
 
     module _ (g : Geometry) (session : ℕ) (counts : SlotCounts) where
@@ -140,7 +132,8 @@ module _ (found : List LogRecord) (es : List Entry) (s : State) (k : IsStateAfte
       answer_roomy c answer of h =
           let takes = takes_room c answer h in
           let moves = answer_moves found es s k session a mem of c answer counts (inner_answer g s session a counts c answer h) in
-          let room = event_room LONGEST_FRAME within s.sessions (log_room s) roomy.log k.agree.once (GiveReply a c (Ok answer)) (answered s a c answer counts).sessions (answered_room s.sessions.records a c answer (log_room s)) moves takes.admits refl in
+          let room = event_room LONGEST_FRAME within s.sessions (log_room s) roomy.log k.agree.once (GiveReply a c (Ok answer))
+          (answered s a c answer counts).sessions (answered_room s.sessions.records a c answer (log_room s)) moves takes.admits refl in
           record {
             pages = event_claims k.sound s.counts roomy.pages (GiveReply a c (Ok answer)) (answered s a c answer counts).sessions counts moves takes.fits;
             log = as_log_room (answered s a c answer counts) (answered_room s.sessions.records a c answer (log_room s)) room takes.kept takes.stream takes.last;

@@ -90,7 +90,8 @@ resume_kept found es s new session (Waits wait) k h = subst (IsStateAfter found 
 resume_kept found es s new session (Refused f) k h =
     subst (IsStateAfter found (es ++ entries_of_resume s session (Refused f))) (sym h.3)
     (wait_let_go found (es ++ entries_of_resume s session (Refused f)) s session
-    (subst (λ f. IsStateAfter found (es ++ entries_of_resume s session (Refused f)) s) (sym h.2) (refusal_entered found es s k session call.Commit fault.Failed tt)) h.0)
+    (subst (λ f. IsStateAfter found (es ++ entries_of_resume s session (Refused f)) s) (sym h.2)
+    (refusal_entered found es s k session call.Commit fault.Failed tt)) h.0)
 resume_kept found es s new session Nothing k h = subst (IsStateAfter found (es ++ [])) (sym h.1) (no_entry_more found es s k)
 
 -- ---- forces
@@ -119,7 +120,8 @@ pub event_kept : (g : Geometry) (found : List LogRecord) (es : List Entry) (s ne
     → EventMoves g s e new → IsStateAfter found (es ++ entries_of s e) new
 event_kept g found es s new (Called session c step) k h = call_kept g found es s k new session c step h.0 h.1
 event_kept g found es s new (Resumed session step) k h = resume_kept found es s new session step k h.1
-event_kept g found es s new (Forced n) k h = subst (IsStateAfter found (es ++ [])) (sym h.2) (no_entry_more found es (with_durable n s) (force_kept found es s n k h.0 h.1))
+event_kept g found es s new (Forced n) k h =
+    subst (IsStateAfter found (es ++ [])) (sym h.2) (no_entry_more found es (with_durable n s) (force_kept found es s n k h.0 h.1))
 event_kept g found es s new HasFailed k h = subst (IsStateAfter found (es ++ [])) (sym h) (no_entry_more found es (with_failure s) (failure_kept found es s k))
 
 pub events_kept : (g : Geometry) (found : List LogRecord) (es : List Entry) (s : State) (events : List ManagerEvent) (last : State) (made : List Entry)

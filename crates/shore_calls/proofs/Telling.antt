@@ -34,7 +34,8 @@ use Rattle.shore_calls.specs.States.{State}
 -- a log that has just the decisions of the entries tells their serial records
 pub whole_told : (base : ℕ) (o : Records) (es : List Entry) (log : List LogRecord) → LogDecides base o es log → records_committed log ≡ serial_after o es
 whole_told base o es log d =
-    subst (TellsItsDecisions base o (written_by es)) (take-length log) (d.prefixes (length log) d.long (omega arith)) ∙ ap (serial (written_by es) o) (sym d.all)
+    subst (TellsItsDecisions base o (written_by es)) (take-length log) (d.prefixes (length log) d.long (omega arith)) ∙ ap (serial (written_by es) o)
+    (sym d.all)
 
 -- the record of a change tells nothing yet
 change_tells_none : (found : List LogRecord) (es : List Entry) (s : State) → IsStateAfter found es s → (log' : List LogRecord)
@@ -43,18 +44,21 @@ change_tells_none found es s k log' d =
     whole_told (length found) (records_committed found) es log' d ∙ sym (whole_told (length found) (records_committed found) es s.log k.decides)
 
 -- if nobody is under way, all that is in place is told
-pub all_in_place : (found : List LogRecord) (es : List Entry) (s : State) → IsStateAfter found es s → s.sessions.active ≡ [] → s.sessions.records ≡ records_committed s.log
+pub all_in_place : (found : List LogRecord) (es : List Entry) (s : State) → IsStateAfter found es s → s.sessions.active ≡ []
+    → s.sessions.records ≡ records_committed s.log
 all_in_place found es s k none =
     let over = ap (λ (xs : List SessionTxn). overlays (serial_after (records_committed found) es) (map (written_by es) (txns_of xs))) none in
     is_overlaid k.sound.stand ∙ over ∙ sym (whole_told (length found) (records_committed found) es s.log k.decides)
 
 module _ (found : List LogRecord) (es : List Entry) (s : State) (k : IsStateAfter found es s) where
   -- a call that is answered decides nothing
-  pub answer_tells_none : (session : ℕ) (a : SessionTxn) → IsAmong a s.sessions.active → a.session ≡ session → (c : Call) (answer : Answer) (counts : SlotCounts)
+  pub answer_tells_none : (session : ℕ) (a : SessionTxn) → IsAmong a s.sessions.active → a.session ≡ session
+      → (c : Call) (answer : Answer) (counts : SlotCounts)
       → IsInnerAnswer s session a c answer → records_committed (log_after_answer s.log s.sessions.records a c answer) ≡ records_committed s.log
   answer_tells_none session a mem of c answer counts inner =
       change_tells_none found es s k (log_after_answer s.log s.sessions.records a c answer)
-      (event_midst (length found) (records_committed found) es s.sessions (answered s a c answer counts).sessions (GiveReply a c (Ok answer)) s.log k.sound k.log k.decides
+      (event_midst (length found) (records_committed found) es s.sessions (answered s a c answer counts).sessions
+      (GiveReply a c (Ok answer)) s.log k.sound k.log k.decides
       (answer_moves found es s k session a mem of c answer counts inner) tt)
 
   nobody_left : (xs : List SessionTxn) → ((b : SessionTxn) → IsAmong b xs → ⊥) → xs ≡ []
@@ -82,7 +86,8 @@ module _ (found : List LogRecord) (es : List Entry) (s : State) (k : IsStateAfte
         let a = h.4.0 in
         let mem = h.4.1.0 in
         ap (λ (s : State). records_committed s.log) h.4.2
-        ∙ sym (all_in_place found (es ++ Decided (decision.Commit (txn_of s.sessions session)) ∷ []) (committed s a) (commit_kept found es s k session a mem h.4.1.1 h.1) (none_left a mem))
+        ∙ sym (all_in_place found (es ++ Decided (decision.Commit (txn_of s.sessions session)) ∷ []) (committed s a)
+        (commit_kept found es s k session a mem h.4.1.1 h.1) (none_left a mem))
 
   pub runs_alone : (a : SessionTxn) → IsAmong a s.sessions.active → RunsAloneAfter (history_from (records_committed found) es) (decisions es) a.txn
   runs_alone a mem =

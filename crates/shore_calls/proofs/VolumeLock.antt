@@ -14,7 +14,8 @@ use Rattle.shore_calls.specs.States.{volume_lock}
 volume_above : (id : Rid) → Contains (path (Record id)) Volume
 volume_above id =
     rest_contained (Record id) (Page id.page ∷ Store id.page.store ∷ Volume ∷ []) Volume
-    (rest_contained (Page id.page) (Store id.page.store ∷ Volume ∷ []) Volume (rest_contained (Store id.page.store) (Volume ∷ []) Volume (head_contained Volume [])))
+    (rest_contained (Page id.page) (Store id.page.store ∷ Volume ∷ []) Volume
+    (rest_contained (Store id.page.store) (Volume ∷ []) Volume (head_contained Volume [])))
 
 module _ (t : ℕ) where
   abbrev whole : Hold

@@ -115,6 +115,14 @@ module _ (g : Geometry) (stream_bytes : ℕ) (bytes : List ℕ) (store : HasStor
       entries_of s0 (Called 1 call.Begin (Done (Began 1))) ++ entries_of s1 (Called 1 (call.Insert 0 bytes) (Done (Inserted first_id)))
       ++ entries_of s2 (Called 1 call.Commit (Waits (Durable 2))) ++ entries_of s3 (Forced 2) ++ entries_of s4 (Resumed 1 (Done Committed)) ++ []
 
-  pub comes_through : (last : State) × (made : List Entry) × IsOpened [] (opened_empty stream_bytes) × MovesMaking g (opened_empty stream_bytes) (one_insert bytes) last made
+  pub comes_through : (last : State) × (made : List Entry) × IsOpened [] (opened_empty stream_bytes)
+      × MovesMaking g (opened_empty stream_bytes) (one_insert bytes) last made
       × (get last.sessions.records first_id ≡ Some bytes) × (acknowledged made ≡ decision.Commit 1 ∷ [])
-  comes_through = (s5, made, is_opened, (s1, _, begins, (s2, _, inserts, (s3, _, commits, (s4, _, forces, (s5, _, answers, (refl, refl), refl), refl), refl), refl), refl), put_here empty first_id (Some bytes), refl)
+  comes_through = (
+    s5,
+    made,
+    is_opened,
+    (s1, _, begins, (s2, _, inserts, (s3, _, commits, (s4, _, forces, (s5, _, answers, (refl, refl), refl), refl), refl), refl), refl),
+    put_here empty first_id (Some bytes),
+    refl,
+  )

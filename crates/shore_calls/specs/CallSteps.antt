@@ -1,8 +1,9 @@
 -- What each call and each other event is answered, and what it leaves.
-use Rattle.std.specs.Prelude.{◌≡◌, ◌⊎◌, ◌<◌, ◌≤◌, ℕ, List, [], ◌∷◌, Ok, None, Some, false, true, IsTrue, length}
+use Rattle.std.specs.Prelude.{◌≡◌, ◌≢◌, ◌⊎◌, ◌<◌, ◌≤◌, ℕ, List, [], ◌∷◌, Ok, None, Some, false, true, IsTrue, length}
 use Rattle.std.specs.FinMap.{get}
 use Rattle.shore_types.specs.Images.{Image}
 use Rattle.shore_types.specs.Layout.{HasStore, HasPage}
+use Rattle.shore_types.specs.declared.faults.Device.{Device}
 use Rattle.shore_types.specs.declared.faults.Fault.{Fault}
 use Rattle.shore_types.specs.declared.faults.Fault.TheVariants as fault
 use Rattle.shore_types.specs.declared.ids.Rid.{Rid}
@@ -118,6 +119,13 @@ CallStep g s session c (Waits wait) new =
     × ((a : SessionTxn) × IsOfSession s session a × (new ≡ committed s a))
 CallStep g s session c (Refused fault) new = Refuses g s session c fault × (new ≡ after_refusal fault s)
 CallStep g s session c Nothing new = ⊥
+
+-- an answer, a wait, or a refusal that comes of the state alone: it takes no allocation that failed, and no page that could not be read
+abbrev pub ComesOfState : Step → Type 0
+ComesOfState (Done answer) = Unit {0}
+ComesOfState (Waits wait) = Unit {0}
+ComesOfState (Refused f) = (f ≢ fault.Memory) × (f ≢ fault.Device) × ((device : Device) (offset : ℕ) → f ≢ fault.Damaged device offset)
+ComesOfState Nothing = Unit {0}
 
 -- Going on with the call of a session that waits: it is answered once its record is durable, or refused once a device has failed.
 abbrev pub ResumeStep : State → ℕ → Step → State → Type 0

@@ -1,5 +1,5 @@
 -- What refuses a call, in the order of the refusals: each comes only if none before it does.
-use Rattle.std.specs.Prelude.{◌≡◌, ◌⊎◌, ◌+◌, ◌<◌, ◌≤◌, ℕ, List, false, None, Some, IsSome, IsTrue, length}
+use Rattle.std.specs.Prelude.{◌≡◌, ◌⊎◌, ◌<◌, ◌≤◌, ℕ, List, false, None, Some, IsSome, IsTrue, length}
 use Rattle.std.specs.FinMap.{get}
 use Rattle.shore_types.specs.Images.{Image}
 use Rattle.shore_types.specs.Layout.{HasStore, HasPage}
@@ -13,8 +13,9 @@ use Rattle.shore_model.specs.declared.calls.Call.{Call}
 use Rattle.shore_model.specs.declared.calls.Call.TheVariants as call
 use Rattle.shore_page.specs.Room.{Fits}
 use Rattle.shore_page.specs.Slots.{image_len}
-use Rattle.shore_room.specs.LogRooms.{change_cost, compensation_cost}
-use Rattle.shore_calls.specs.States.{DoesNotWait, HasNoTxn, HasRoomFor, IsInTxn, MayBegin, State, page_slots}
+use Rattle.shore_room.specs.Choosing.{IsLowest}
+use Rattle.shore_room.specs.LogRooms.{ChangeAdmits}
+use Rattle.shore_calls.specs.States.{DoesNotWait, HasNoTxn, IsInTxn, MayBegin, State, log_room, page_slots}
 
 -- ---- conditions of calls
 
@@ -27,7 +28,7 @@ FitsAt s id image = Fits (page_slots s id.page) id.slot (image_len image)
 
 -- the log has room for the Change that puts this image there, and for its undo
 abbrev pub CanLog : State → Rid → Image → Type 0
-CanLog s id image = HasRoomFor s (change_cost (get s.sessions.records id) image + compensation_cost (get s.sessions.records id))
+CanLog s id image = ChangeAdmits s.sessions.records id image (log_room s)
 
 -- a new record of so many bytes may go to the id: it lies in the store, no record is there, and it fits
 pub record Serves (g : Geometry) (s : State) (store : ℕ) (bytes : List ℕ) (id : Rid) : Type 0 where
@@ -36,14 +37,9 @@ pub record Serves (g : Geometry) (s : State) (store : ℕ) (bytes : List ℕ) (i
   pub empty : get s.sessions.records id ≡ None
   pub fits : FitsAt s id (Some bytes)
 
--- in place order, of two ids of one store
-abbrev pub IsBefore : Rid → Rid → Type 0
-IsBefore a b = (a.page.page < b.page.page) ⊎ ((a.page.page ≡ b.page.page) × (a.slot < b.slot))
-
 -- of all ids that serve, the first in place order
-pub record IsPlaceFor (g : Geometry) (s : State) (store : ℕ) (bytes : List ℕ) (id : Rid) : Type 0 where
-  pub serves : Serves g s store bytes id
-  pub lowest : (other : Rid) → IsBefore other id → Serves g s store bytes other → ⊥
+abbrev pub IsPlaceFor : Geometry → State → ℕ → List ℕ → Rid → Type 0
+IsPlaceFor g s store bytes id = IsLowest (Serves g s store bytes) id
 
 abbrev pub NoneServes : Geometry → State → ℕ → List ℕ → Type 0
 NoneServes g s store bytes = (id : Rid) → Serves g s store bytes id → ⊥

@@ -1,15 +1,18 @@
 //! The laws of calls, each stated as the contract of an empty function.
 ghost use Rattle.std.specs.Prelude.{◌≡◌, ◌≢◌, ◌<◌, ◌≤◌, ◌+◌, ◌∷◌, ◌++◌, ℕ, IsSome, IsTrue, List, [], None, Some, false, length, take};
 ghost use Rattle.std.specs.FinMap.{empty, get};
+ghost use Rattle.std.specs.List.{AllByRecursion};
 ghost use Rattle.shore_types.specs.Layout.{HasPage, HasStore};
+ghost use Rattle.shore_types.specs.declared.faults.Device.{Device};
 ghost use Rattle.shore_types.specs.declared.faults.Fault.{Fault};
+ghost use Rattle.shore_types.specs.declared.faults.Fault.TheVariants as fault;
 ghost use Rattle.shore_types.specs.declared.faults.Fault.TheVariants.{LogFull, Memory, NoPage, NoRecord, StoreFull, TooLong};
 ghost use Rattle.shore_types.specs.declared.ids.PageId.{PageId};
 ghost use Rattle.shore_types.specs.declared.ids.Rid.{Rid};
 ghost use Rattle.shore_types.specs.declared.layout.Geometry.{Geometry};
 ghost use Rattle.shore_types.specs.declared.layout.TheConstants.{LAST_OPENED, LONGEST_FRAME, MAX_LOG_BYTES, MAX_RECORD_BYTES};
 ghost use Rattle.shore_model.specs.declared.calls.Answer.{Answer};
-ghost use Rattle.shore_model.specs.declared.calls.Answer.TheVariants.{Got, Inserted, Scanned};
+ghost use Rattle.shore_model.specs.declared.calls.Answer.TheVariants.{Began, Got, Inserted, Scanned};
 ghost use Rattle.shore_model.specs.declared.calls.Call.{Call};
 ghost use Rattle.shore_model.specs.declared.calls.Call.TheVariants.{Begin, Commit, Delete, Get, Insert, Scan, Update};
 ghost use Rattle.shore_model.specs.declared.histories.Decision.TheVariants as decision;
@@ -19,20 +22,23 @@ ghost use Rattle.shore_model.specs.Histories.{IsHistory, Kept, RunsAloneAfter, S
 ghost use Rattle.shore_model.specs.Lives.{IsLife};
 ghost use Rattle.shore_model.specs.Records.{scan_of};
 ghost use Rattle.shore_machine.specs.declared.step.Step.{Step};
-ghost use Rattle.shore_machine.specs.declared.step.Step.TheVariants.{Done, Refused, Waits};
+ghost use Rattle.shore_machine.specs.declared.step.Step.TheVariants.{Done, Nothing, Refused, Waits};
+ghost use Rattle.shore_machine.specs.declared.step.Wait.TheVariants.{Durable};
 ghost use Rattle.shore_machine.specs.declared.step.Wait.{Wait};
 ghost use Rattle.shore_page.specs.Room.{HasRoom};
 ghost use Rattle.shore_room.specs.Claims.{slots_of};
 ghost use Rattle.shore_sessions.specs.LogPrefixes.{decisions_in};
 ghost use Rattle.shore_sessions.specs.LogTells.{records_committed};
 ghost use Rattle.shore_sessions.specs.Soundness.{history_from, opening_with, serial_after, written_by};
-ghost use Rattle.shore_sessions.specs.Sessions.{SessionTxn};
+ghost use Rattle.shore_sessions.specs.Sessions.{EachOnce, SessionTxn, txns_of, with_undo, without_txn};
+ghost use Rattle.shore_sessions.specs.UndoLists.{UndoList};
 ghost use Rattle.shore_sessions.specs.Views.{IsAmong};
 ghost use Rattle.shore_calls.specs.Bounds.{AreInBounds, IsBounded};
 ghost use Rattle.shore_calls.specs.CallHistories.{AreFixed, AreRuns, IsOpened, IsRoomyState, IsStateAfter, KeepsDurable, MovesMaking, OpensShow, Run, entries_of_call, entries_of_resume, lists_found, spans_of};
-ghost use Rattle.shore_calls.specs.CallSteps.{CallStep, EventMoves, IsServed, ManagerEvent, ResumeStep, commit_waiting, with_durable, with_failure};
-ghost use Rattle.shore_calls.specs.Refusals.{CanLog, FitsAt, IsBefore, IsPlaceFor, NoneServes, Serves};
-ghost use Rattle.shore_calls.specs.States.{DoesNotWait, HasNoTxn, IsInTxn, State, Waiting, cost_of_log};
+ghost use Rattle.shore_calls.specs.CallSteps.{CallStep, ComesOfState, EventMoves, EventsMove, Forced, IsServed, ManagerEvent, ResumeStep, answered, commit_waiting, with_durable, with_failure};
+ghost use Rattle.shore_room.specs.Choosing.{IsBefore};
+ghost use Rattle.shore_calls.specs.Refusals.{CanLog, FitsAt, IsPlaceFor, NoneServes, Serves};
+ghost use Rattle.shore_calls.specs.States.{DoesNotWait, HasNoTxn, IsInTxn, MayBegin, State, Waiting, cost_of_log, next_number, without_waiting};
 ghost use Rattle.shore_calls.specs.WorkedRun.{first_id, first_page, one_insert, opened_empty};
 
 /// What an open leaves is a state after no entries.
@@ -72,9 +78,13 @@ pub fn crash_keeps_acknowledged_commits()
         × (records_committed (take n s.log) ≡ serial (written_by es) (records_committed found) (decisions_in (length found) (take n s.log))) }
 {}
 
-/// After any events from an open on, the state is what they have come to.
+/// After any events from an open on, the state is what they have come to. Any events make entries.
 pub fn events_keep_state()
-    ensures { (g : Geometry) (found : List LogRecord) (first last : State) (events : List ManagerEvent) (made : List Entry) →
+    ensures entries { (g : Geometry) (s last : State) (events : List ManagerEvent) →
+        EventsMove g s events last → (made : List Entry) × MovesMaking g s events last made }
+    ensures events { (g : Geometry) (s last : State) (events : List ManagerEvent) (made : List Entry) →
+        MovesMaking g s events last made → EventsMove g s events last }
+    ensures keep { (g : Geometry) (found : List LogRecord) (first last : State) (events : List ManagerEvent) (made : List Entry) →
         IsOpened found first → MovesMaking g first events last made → IsStateAfter found made last }
 {}
 
@@ -139,6 +149,43 @@ pub fn reached_slots_are_enough()
         → ((id : Rid) → id.slot ≤ s.counts id.page → Serves g s store bytes id → ⊥) → NoneServes g s store bytes }
 {}
 
+/// The refusals and their order leave no gap: each call that is served comes to an answer, a wait, or a refusal that comes of the state alone.
+pub fn served_calls_come_to_something()
+    ensures { (g : Geometry) (found : List LogRecord) (es : List Entry) (s : State) (session : ℕ) (c : Call) → IsServed session c
+        → IsStateAfter found es s → IsRoomyState s → (step : Step) × (new : State) × CallStep g s session c step new × ComesOfState step }
+{}
+
+/// A state decides what a call comes to, as far as it comes of the state alone, and what that leaves. So no refusal can come before its turn.
+pub fn calls_come_to_one_thing()
+    ensures step { (g : Geometry) (s new later : State) (session : ℕ) (c : Call) (step other : Step) → CallStep g s session c step new
+        → CallStep g s session c other later → ComesOfState step → ComesOfState other → step ≡ other }
+    ensures state { (g : Geometry) (found : List LogRecord) (es : List Entry) (s new later : State) (session : ℕ) (c : Call) (step : Step) →
+        IsStateAfter found es s → CallStep g s session c step new → CallStep g s session c step later → new ≡ later }
+{}
+
+/// A read leaves the state as it was. Of one transaction, or one call that waits, each change of the lists is plain.
+pub fn one_session_has_short_lists()
+    ensures get { (s : State) (a : SessionTxn) (answer : Answer) (id : Rid) →
+        EachOnce (txns_of s.sessions.active) → IsAmong a s.sessions.active → answered s a (Get id) answer s.counts ≡ s }
+    ensures scan { (s : State) (a : SessionTxn) (answer : Answer) (store : ℕ) →
+        EachOnce (txns_of s.sessions.active) → IsAmong a s.sessions.active → answered s a (Scan store) answer s.counts ≡ s }
+    ensures undo { (a : SessionTxn) (undo : UndoList) →
+        with_undo a.txn undo (a ∷ []) ≡ record { session = a.session; txn = a.txn; undo = undo } ∷ [] }
+    ensures ended { (a : SessionTxn) → without_txn a.txn (a ∷ []) ≡ [] }
+    ensures told { (w : Waiting) → without_waiting w.session (w ∷ []) ≡ [] }
+{}
+
+/// A commit waits for its record, and waits no more once it is answered or refused. A fault of a page fails the state, and then all is refused.
+pub fn waits_end_and_faults_fail()
+    ensures begin { (g : Geometry) (s new : State) (session : ℕ) (c : Call) (wait : Wait) →
+        CallStep g s session c (Waits wait) new → IsAmong (commit_waiting session (next_number s)) new.waiting }
+    ensures told { (s new : State) (session : ℕ) (answer : Answer) → ResumeStep s session (Done answer) new → DoesNotWait new session }
+    ensures refused { (s new : State) (session : ℕ) (f : Fault) → ResumeStep s session (Refused f) new → DoesNotWait new session }
+    ensures device { (g : Geometry) (s new : State) (session : ℕ) (c : Call) → CallStep g s session c (Refused fault.Device) new → IsTrue new.failed }
+    ensures damage { (g : Geometry) (s new : State) (session : ℕ) (c : Call) (device : Device) (offset : ℕ) →
+        CallStep g s session c (Refused (fault.Damaged device offset)) new → IsTrue new.failed }
+{}
+
 /// The conditions of steps can be met: over an empty volume, a transaction inserts a record and commits, and the commit is answered.
 pub fn one_insert_comes_through()
     ensures { (g : Geometry) (stream_bytes : ℕ) (bytes : List ℕ) → HasStore g 0 → HasPage g first_page → length bytes ≤ MAX_RECORD_BYTES → 100000 ≤ stream_bytes →
@@ -164,6 +211,24 @@ pub fn wrong_answers_do_not_come()
         ¬ FitsAt s id (Some bytes) → CallStep g s session (Update id bytes) (Done answer) new → ⊥ }
     ensures other_scan { (g : Geometry) (s new : State) (session store : ℕ) (answer : Answer) →
         answer ≢ Scanned (scan_of store s.sessions.records) → CallStep g s session (Scan store) (Done answer) new → ⊥ }
+    ensures insert_too_long { (g : Geometry) (s new : State) (session store : ℕ) (bytes : List ℕ) (answer : Answer) →
+        MAX_RECORD_BYTES < length bytes → CallStep g s session (Insert store bytes) (Done answer) new → ⊥ }
+    ensures insert_elsewhere { (g : Geometry) (s new : State) (session store : ℕ) (bytes : List ℕ) (id : Rid) →
+        id.page.store ≢ store → CallStep g s session (Insert store bytes) (Done (Inserted id)) new → ⊥ }
+    ensures insert_left_out { (g : Geometry) (s new : State) (session store : ℕ) (bytes : List ℕ) (id : Rid) →
+        get new.sessions.records id ≢ Some bytes → CallStep g s session (Insert store bytes) (Done (Inserted id)) new → ⊥ }
+    ensures insert_unlogged { (g : Geometry) (s new : State) (session store : ℕ) (bytes : List ℕ) (id : Rid) →
+        new.log ≡ s.log → CallStep g s session (Insert store bytes) (Done (Inserted id)) new → ⊥ }
+    ensures update_without_room { (g : Geometry) (s new : State) (session : ℕ) (id : Rid) (bytes : List ℕ) (answer : Answer) →
+        ¬ CanLog s id (Some bytes) → CallStep g s session (Update id bytes) (Done answer) new → ⊥ }
+    ensures delete_without_room { (g : Geometry) (s new : State) (session : ℕ) (id : Rid) (answer : Answer) →
+        ¬ CanLog s id None → CallStep g s session (Delete id) (Done answer) new → ⊥ }
+    ensures get_that_changes { (g : Geometry) (s new : State) (session : ℕ) (id : Rid) (answer : Answer) →
+        new.sessions.records ≢ s.sessions.records → CallStep g s session (Get id) (Done answer) new → ⊥ }
+    ensures other_number { (g : Geometry) (s new : State) (session : ℕ) (answer : Answer) →
+        answer ≢ Began s.sessions.next_txn → CallStep g s session Begin (Done answer) new → ⊥ }
+    ensures begin_without_room { (g : Geometry) (s new : State) (session : ℕ) (answer : Answer) →
+        ¬ MayBegin s → CallStep g s session Begin (Done answer) new → ⊥ }
     ensures in_no_txn { (g : Geometry) (s new : State) (session : ℕ) (c : Call) (answer : Answer) →
         c ≢ Begin → HasNoTxn s session → CallStep g s session c (Done answer) new → ⊥ }
     ensures second_begin { (g : Geometry) (s new : State) (session : ℕ) (answer : Answer) →
@@ -174,14 +239,40 @@ pub fn wrong_answers_do_not_come()
         IsTrue s.failed → CallStep g s session c (Done answer) new → ⊥ }
 {}
 
-/// A commit is answered by no call, nor by a resume before its record is durable, or after a device has failed.
+/// A commit is answered by no call, nor by a resume before its record is durable, or after a device has failed. It waits for its own record.
 pub fn commits_are_not_answered_early()
     ensures at_once { (g : Geometry) (s new : State) (session : ℕ) (answer : Answer) → CallStep g s session Commit (Done answer) new → ⊥ }
     ensures not_durable { (s new : State) (session : ℕ) (answer : Answer) →
         ((n : ℕ) → IsAmong (commit_waiting session n) s.waiting → s.durable < n) → ResumeStep s session (Done answer) new → ⊥ }
+    ensures none_waiting { (s new : State) (session : ℕ) (answer : Answer) → DoesNotWait s session → ResumeStep s session (Done answer) new → ⊥ }
     ensures resumed_after_failure { (s new : State) (session : ℕ) (answer : Answer) → IsTrue s.failed → ResumeStep s session (Done answer) new → ⊥ }
     ensures begun_after_failure { (g : Geometry) (s new : State) (session : ℕ) (c : Call) (wait : Wait) →
         IsTrue s.failed → CallStep g s session c (Waits wait) new → ⊥ }
+    ensures for_no_commit { (g : Geometry) (s new : State) (session : ℕ) (c : Call) (wait : Wait) → c ≢ Commit → CallStep g s session c (Waits wait) new → ⊥ }
+    ensures for_other_record { (g : Geometry) (s new : State) (session : ℕ) (c : Call) (wait : Wait) →
+        wait ≢ Durable (next_number s) → CallStep g s session c (Waits wait) new → ⊥ }
+    ensures in_no_txn { (g : Geometry) (s new : State) (session : ℕ) (c : Call) (wait : Wait) →
+        HasNoTxn s session → CallStep g s session c (Waits wait) new → ⊥ }
+    ensures unlogged { (g : Geometry) (s new : State) (session : ℕ) (c : Call) (wait : Wait) → new.log ≡ s.log → CallStep g s session c (Waits wait) new → ⊥ }
+{}
+
+/// Other events that must not come: a resume that waits though its record is durable, or for another's, that has nothing to do though its
+/// session waits, or is refused though no device has failed; a force that goes back, or beyond the log; an open that leaves something
+/// undurable, or a number that is taken or too high.
+pub fn wrong_events_do_not_come()
+    ensures waits_though_durable { (s new : State) (session n : ℕ) →
+        ((n : ℕ) → IsAmong (commit_waiting session n) s.waiting → n ≤ s.durable) → ResumeStep s session (Waits (Durable n)) new → ⊥ }
+    ensures waits_for_other { (s new : State) (session n : ℕ) →
+        ((m : ℕ) → IsAmong (commit_waiting session m) s.waiting → m ≢ n) → ResumeStep s session (Waits (Durable n)) new → ⊥ }
+    ensures nothing_though_waiting { (s new : State) (session : ℕ) (w : Waiting) →
+        IsAmong w s.waiting → w.session ≡ session → ResumeStep s session Nothing new → ⊥ }
+    ensures refused_though_running { (s new : State) (session : ℕ) (f : Fault) → s.failed ≡ false → ResumeStep s session (Refused f) new → ⊥ }
+    ensures force_back { (g : Geometry) (s new : State) (n : ℕ) → n < s.durable → EventMoves g s (Forced n) new → ⊥ }
+    ensures force_beyond { (g : Geometry) (s new : State) (n : ℕ) → length s.log < n → EventMoves g s (Forced n) new → ⊥ }
+    ensures opened_undurable { (found : List LogRecord) (s : State) → s.durable ≢ length found → IsOpened found s → ⊥ }
+    ensures opened_too_high { (found : List LogRecord) (s : State) (n : ℕ) →
+        0 < n → AllByRecursion (λ r. r.txn < n) found → n < s.sessions.next_txn → IsOpened found s → ⊥ }
+    ensures opened_too_low { (r : LogRecord) (found : List LogRecord) (s : State) → s.sessions.next_txn ≤ r.txn → IsOpened (r ∷ found) s → ⊥ }
 {}
 
 /// Refusals that must not come: out of order, without their cause, or with a change.
