@@ -113,6 +113,7 @@ impl<D: Disk> Pool<D> {
         seen: Lsn,
     ) -> Result<Fetched, Fault>
         requires { HasPage (geometry_of self.old) id }
+        ensures there { OnOk result (IsTrue (is_some (frame_of self.new id))) }
         ensures held { IfOk result (λ how. how ≡ Fetched.Held → (frame_of self.new id ≡ frame_of self.old id) × IsTrue (is_some (frame_of self.old id))) }
         ensures read { (front : List ℕ) (disk : ℕ → List ℕ) → Holds self.old front disk → IfOk result (λ how. how ≡ Fetched.Read → (frame_of self.old id ≡ None)
             × IsSomeAnd (frame_of self.new id) (λ f. (f.page ≡ settled_page id f.page.number (images_of f.page.slots)) × (f.page.number ≤ last) × (f.recovery ≡ None))) }
@@ -179,6 +180,7 @@ impl<D: Disk> Pool<D> {
         requires there { HasPage (geometry_of self.old) id }
         requires none { frame_of self.old id ≡ None }
         requires room { count_of self.old < limit_of self.old }
+        ensures there { OnOk result (IsTrue (is_some (frame_of self.new id))) }
         ensures read { (front : List ℕ) (disk : ℕ → List ℕ) → Holds self.old front disk → OnOk result (IsSomeAnd (frame_of self.new id)
             (λ f. (f.page ≡ settled_page id f.page.number (images_of f.page.slots)) × (f.page.number ≤ last) × (f.recovery ≡ None))) }
         ensures others { (k : ℕ) → k ≢ page_number (geometry_of self.old) id → frame_at self.new k ≡ frame_at self.old k }
