@@ -45,6 +45,15 @@ image_none bytes slot offset = image_named bytes slot ∙ named_none (offset_at 
     named_none : (offset : ℕ) → offset ≡ 0 → named bytes offset (length_at bytes slot) ≡ None
     named_none offset zero = rw (eq-eqb offset 0 zero) refl
 
+pub offset_none : (bytes : List ℕ) (slot : ℕ) → slot_image bytes slot ≡ None → offset_at bytes slot ≡ 0
+offset_none bytes slot none = elim (cases_lt 0 (offset_at bytes slot)) [
+  | inl some ↦ (let clash : Some (between (offset_at bytes slot) (offset_at bytes slot + length_at bytes slot) bytes) ≡ None = sym (named_full (offset_at bytes slot) some) ∙ sym (image_named bytes slot) ∙ none in cc)
+  | inr zero ↦ omega arith
+]
+  where
+    named_full : (offset : ℕ) → 0 < offset → named bytes offset (length_at bytes slot) ≡ Some (between offset (offset + length_at bytes slot) bytes)
+    named_full offset some = rw (ne_eqb offset 0 (λ (e : offset ≡ 0). omega arith)) refl
+
 pub image_some : (bytes record_is : List ℕ) (slot offset : ℕ) → 24 ≤ offset → offset_at bytes slot ≡ offset → length_at bytes slot ≡ length record_is → between offset (offset + length record_is) bytes ≡ record_is
     → slot_image bytes slot ≡ Some record_is
 image_some bytes record_is slot offset front is_offset is_length here =

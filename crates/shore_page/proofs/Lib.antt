@@ -8,3 +8,4 @@ pub mod MarkLemmas
 pub mod PageLemmas
 pub mod RisingLemmas
 pub mod AppendLemmas
+pub mod CandidateLemmas

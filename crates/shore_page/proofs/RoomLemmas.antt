@@ -5,7 +5,7 @@ use Rattle.std.proofs.lemmas.List.{get_or_default, get_or-set_same, length-set, 
 use Rattle.std.proofs.lemmas.List.Folds.{sum_by-replicate}
 use Rattle.std.proofs.lemmas.List.Elements.{All-set, All-nil, All-cons, All-append, All-get_or}
 use Rattle.std.proofs.lemmas.List.Sums.{sum_by-set, sum_by-append}
-use Rattle.std.proofs.lemmas.Option.{slice_get_read, slice_get-get_or}
+use Rattle.std.proofs.lemmas.Option.{slice_get_past, slice_get_read, slice_get-get_or}
 use Rattle.std.specs.Option.{option_and_then, option_map_or}
 use Rattle.std.specs.List.{slice_get, All}
 use Rattle.shore_page.specs.Slots.{Slot, image_len, image_at_slot, with_change, with_slot, with_image, holding, settled}
@@ -56,6 +56,10 @@ set_kept_less slots claimed i x y kept inside here holds falls =
 
 pub need_inside : (slots : List Slot) (i bytes : ℕ) (x : Slot) → i < length slots → x ≡ get_or slots i x → need slots i bytes ≡ bytes - x.claim
 need_inside slots i bytes x inside here = omega (arith, claim_is slots i x inside here)
+
+-- in a slot that is new
+pub need_behind : (slots : List Slot) (i bytes : ℕ) → length slots ≤ i → need slots i bytes ≡ bytes + 4 * (i + 1 - length slots)
+need_behind slots i bytes behind = rw (slice_get_past slots i behind) (omega arith)
 
 -- an image in a slot that is there
 pub hold_kept : (slots : List Slot) (claimed i : ℕ) (image : Image) (x y : Slot) → KeepsClaims slots claimed → i < length slots → x ≡ get_or slots i x → y ≡ holding image x

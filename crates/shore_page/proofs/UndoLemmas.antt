@@ -91,7 +91,7 @@ undo_less : (image : Image) (befores : List Image) → HoldsItsImage (claiming (
 undo_less image [] holds = (omega arith, (omega arith, omega (arith, holds.1)))
 undo_less image (before ∷ rest) holds = (omega arith, (omega arith, omega (arith, holds.1)))
 
-undo_room : (slots : List Undecided) (slot : ℕ) → All HoldsItsImage (claiming_all slots)
+pub undo_room : (slots : List Undecided) (slot : ℕ) → All HoldsItsImage (claiming_all slots)
     → (claims (claiming_all (with_change undoing slots slot)) ≤ claims (claiming_all slots)) × All HoldsItsImage (claiming_all (with_change undoing slots slot))
 undo_room [] slot each = (omega arith, All-nil HoldsItsImage)
 undo_room (s ∷ slots) zero each =

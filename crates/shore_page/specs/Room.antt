@@ -1,5 +1,5 @@
 -- The room of a page: what its slots claim, what is free, and which changes fit.
-use Rattle.std.specs.Prelude.{◌≡◌, ◌≢◌, ℕ, ◌+◌, ◌-◌, ◌*◌, ◌<◌, ◌≤◌, max, min, List, length, All, slice_get}
+use Rattle.std.specs.Prelude.{◌≡◌, ◌≢◌, ℕ, ◌+◌, ◌-◌, ◌*◌, ◌<◌, ◌≤◌, max, min, List, length, All, slice_get, None}
 use Rattle.std.specs.List.{sum_by}
 use Rattle.std.specs.Option.{option_map_or}
 use Rattle.shore_types.specs.declared.layout.TheConstants.{MAX_RECORD_BYTES, MAX_SLOTS}
@@ -27,6 +27,18 @@ pub record Fits (slots : List Slot) (slot bytes : ℕ) : Type 0 where
   pub there : slot < MAX_SLOTS
   pub most : bytes ≤ MAX_RECORD_BYTES
   pub room : need slots slot bytes ≤ free_bytes slots
+
+-- A new record of this length can go into a slot: it is empty, or the one behind the last, and it fits.
+pub record IsCandidate (slots : List Slot) (slot bytes : ℕ) : Type 0 where
+  pub there : slot ≤ length slots
+  pub empty : image_at_slot slots slot ≡ None
+  pub fits : Fits slots slot bytes
+
+-- the lowest one from a slot on
+pub record IsFirstCandidate (slots : List Slot) (from bytes slot : ℕ) : Type 0 where
+  pub behind : from ≤ slot
+  pub candidate : IsCandidate slots slot bytes
+  pub passed : (other : ℕ) → from ≤ other → other < slot → IsCandidate slots other bytes → ⊥
 
 -- a slot claims as many bytes as its record has at least, and as any record may have at most
 abbrev pub HoldsItsImage : Slot → Type 0

@@ -2,7 +2,7 @@
 ghost use Rattle.std.specs.Prelude.{◌≡◌, ◌≢◌, ◌+◌, ◌-◌, ◌*◌, ◌<◌, ◌≤◌, ◌++◌, ◌∷◌, ◌↔◌, ℕ, [], length, replicate, slice_get, Some, None, option_map, IsTrue, IfOk, IfSome, List, vec_capacity};
 ghost use Rattle.shore_page.specs.Slots.{image_len, image_at_slot, with_change, with_slot, with_image};
 ghost use Rattle.shore_types.specs.Images.{Image};
-ghost use Rattle.shore_page.specs.Room.{claim_at, free_bytes, need, Fits, HasRoom, ChangesOne, raised, lowered};
+ghost use Rattle.shore_page.specs.Room.{claim_at, free_bytes, need, Fits, HasRoom, IsCandidate, IsFirstCandidate, ChangesOne, raised, lowered};
 ghost use Rattle.shore_types.specs.declared.layout.TheConstants.{PAGE_BYTES, MAX_SLOTS};
 ghost use Rattle.shore_page.specs.Text.{IsPageText, images_of, settled_page};
 
@@ -115,6 +115,27 @@ impl Page {
         need <= self.free_bytes()
     }
 
+    /// The lowest slot from one on that a new record of this length can go into: one that is empty, or the one behind the last.
+    pub fn candidate(&self, from: u16, bytes: usize) -> Option<u16>
+        ensures found { IfSome result (IsFirstCandidate self.now.slots from bytes) }
+        ensures none { result ≡ None → (other : ℕ) → from ≤ other → IsCandidate self.now.slots other bytes → ⊥ }
+    {
+        if bytes > MAX_RECORD_BYTES {
+            return None;
+        }
+        let free = self.free_bytes();
+        let slots = self.slot_count();
+        for slot in from..slots {
+            if self.takes(slot, bytes, free) {
+                return Some(slot);
+            }
+        }
+        if from > slots || slots >= MAX_SLOTS || bytes + SLOT_ENTRY_BYTES > free {
+            return None;
+        }
+        Some(slots)
+    }
+
     /// Puts a record into a slot. What was kept for the slot stays so. If the slot is new, so are those between the last one and it,
     /// and they are empty.
     #[inline]
@@ -211,6 +232,18 @@ impl Page {
             claims,
             claimed,
         }))
+    }
+
+    // Whether a slot that is there is empty, and can have a record of this length: the free bytes are known.
+    #[inline]
+    fn takes(&self, slot: u16, bytes: usize, free: usize) -> bool
+        requires there { slot < length self.now.slots }
+        requires most { bytes ≤ MAX_RECORD_BYTES }
+        requires free { free ≡ free_bytes self.now.slots }
+        ensures { IsTrue result ↔ IsCandidate self.now.slots slot bytes }
+    {
+        let slot = slot as usize;
+        self.text.is_empty(slot) && bytes <= free + self.claims[slot] as usize
     }
 
     // Puts a record into the slot behind the last one.

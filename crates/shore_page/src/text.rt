@@ -1,5 +1,5 @@
 //! A page's text with its records: the bytes are a text at all times, and only they are kept.
-ghost use Rattle.std.specs.Prelude.{◌≡◌, ◌+◌, ◌-◌, ◌*◌, ◌<◌, ◌≤◌, ◌++◌, ◌∷◌, ℕ, [], length, replicate, set, slice_get, slice_index_or, Some, None, option_map, IfOk, IfSome, List};
+ghost use Rattle.std.specs.Prelude.{◌≡◌, ◌↔◌, ◌+◌, ◌-◌, ◌*◌, ◌<◌, ◌≤◌, ◌++◌, ◌∷◌, ℕ, [], length, replicate, set, slice_get, slice_index_or, Some, None, option_map, IsTrue, IfOk, IfSome, List};
 ghost use Rattle.std.specs.Option.{option_and_then};
 ghost use Rattle.shore_types.specs.Images.{Image};
 ghost use Rattle.shore_types.specs.declared.layout.TheConstants.{PAGE_BYTES, MAX_RECORD_BYTES, MAX_SLOTS};
@@ -88,6 +88,14 @@ impl PageBytes {
         ensures { option_map (λ bytes. bytes.now) result ≡ slice_index_or self.now.images slot None }
     {
         image_at(&self.bytes, slot)
+    }
+
+    /// Whether a slot that is there has no record.
+    pub fn is_empty(&self, slot: usize) -> bool
+        requires { slot < length self.now.images }
+        ensures { IsTrue result ↔ (slice_index_or self.now.images slot None ≡ None) }
+    {
+        entry_at(&self.bytes, slot).offset == 0
     }
 
     /// How many bytes the record in a slot has, 0 in an empty one.
