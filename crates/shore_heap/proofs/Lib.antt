@@ -1,0 +1,5 @@
+pub mod Rooms
+pub mod Bounds
+pub mod Frames
+pub mod Showing
+pub mod Scanned

@@ -1,0 +1,9 @@
+//! Records in the pages of a pool: a heap file for each store of a volume.
+#![tactic(auto)]
+
+mod heap;
+mod laws;
+mod maps;
+
+pub use heap::Heap;
+pub use laws::scans_are_the_models;
