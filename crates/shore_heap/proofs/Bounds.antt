@@ -108,6 +108,16 @@ sets_bound stores free x y id n was bounds are same has there is =
       others = bound_other free p n inside.0;
     }))
 
+-- .. if it is lowered
+pub sets_least : (stores : List ℕ) (free : List (List ℕ)) (x y : ℕ) (id : PageId) (n : ℕ) (was bounds : List ℕ) → map length free ≡ stores → the_page x y ≡ id
+    → IsSomeAnd (slice_get stores id.store) (λ pages. id.page < pages) → was ≡ get_or free x was → bounds ≡ set was y (min (get_or was y 0) n) → SetsBound free (set free x bounds) id (min (bound_of free id) n)
+sets_least stores free x y id n was bounds are same has there is =
+    let p = the_page x y in
+    let inside = page_has_bound stores free x y are (subst (λ (q : PageId). IsSomeAnd (slice_get stores q.store) (λ pages. q.page < pages)) (sym same) has) in
+    let was_is : was ≡ slice_index_or free x [] = there ∙ get_or_default free x was [] inside.0 in
+    let bound_is : get_or was y 0 ≡ bound_of free id = ap (λ (l : List ℕ). get_or l y 0) was_is ∙ ap (bound_of free) same in
+    sets_bound stores free x y id (min (bound_of free id) n) was bounds are same has there (is ∙ ap (λ (k : ℕ). set was y (min k n)) bound_is)
+
 -- ---- what the bounds say
 
 module _ (g : Geometry) (free : List (List ℕ)) (S : PageId → List Slot) (are : AreBounds g free S) (id : PageId) where

@@ -30,6 +30,11 @@ pub of_shown : (P : List Slot → Type 0) (o : Option Frame) (text : List ℕ) (
 of_shown P None text id slots has is = absurd is
 of_shown P (Some f) text id slots has is = subst P has is
 
+-- .. and what holds of a page that was lent holds of its frame
+pub of_lent : (P : List Slot → Type 0) (o : Option Frame) (page : PageState) → Some page ≡ option_map (λ f. f.page) o → P page.slots → IsSomeAnd o (λ f. P f.page.slots)
+of_lent P None page is holds = let clash : Some page ≡ None = is in absurd cc
+of_lent P (Some f) page is holds = let same : page ≡ f.page = cc in subst (λ (p : PageState). P p.slots) same holds
+
 -- the frame of a page that was just read
 abbrev pub IsRead : PageId → ℕ → Frame → Type 0
 IsRead id last f = (f.page ≡ settled_page id f.page.number (images_of f.page.slots)) × (f.page.number ≤ last) × (f.recovery ≡ None)

@@ -3,3 +3,4 @@ pub mod Bounds
 pub mod Frames
 pub mod Showing
 pub mod Scanned
+pub mod Finding

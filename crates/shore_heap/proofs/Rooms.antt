@@ -1,12 +1,14 @@
 -- What takes a record after a change has taken it before.
-use Rattle.std.proofs.Common.{◌≡◌, ◌≢◌, ℕ, zero, suc, ◌+◌, ◌-◌, ◌*◌, ◌<◌, ◌≤◌, max, min, List, [], ◌∷◌, ◌++◌, length, replicate, Option, Some, None, refl, sym, ap, subst, ◌∙◌, arith}
+use Rattle.std.proofs.Common.{◌≡◌, ◌≢◌, ℕ, zero, suc, ◌+◌, ◌-◌, ◌*◌, ◌<◌, ◌≤◌, max, min, List, [], ◌∷◌, ◌++◌, length, replicate, Option, Some, None, refl, sym, ap, subst, ◌∙◌, inl, inr, arith}
+use Rattle.std.proofs.lemmas.Bool.{cases_lt}
 use Rattle.std.proofs.lemmas.List.Sums.{sum_by-cons}
 use Rattle.shore_types.specs.Images.{Image}
 use Rattle.shore_page.specs.Slots.{Slot, image_len, image_at_slot, with_change, with_slot, with_image, holding, settled}
-use Rattle.shore_page.specs.Room.{claims, claim_at, free_bytes, need, Fits}
+use Rattle.shore_page.specs.Room.{claims, claim_at, free_bytes, need, Fits, IsCandidate, IsFirstCandidate}
 use Rattle.shore_page.proofs.RoomLemmas.{claims-with_slot, length-with_slot}
 use Rattle.shore_page.proofs.UndoLemmas.{length-with_change}
 use Rattle.shore_heap.specs.Contents.{TakesNone}
+use Rattle.shore_heap.specs.Places.{IsFirstSlot}
 
 -- ---- one slot changed
 
@@ -118,3 +120,27 @@ fits_behind slots slot bytes behind fits =
     past [] slot behind = refl
     past (s ∷ slots) zero behind = absurd (omega arith)
     past (s ∷ slots) (suc slot) behind = past slots slot (omega arith)
+
+-- a slot behind the last is empty
+past : (slots : List Slot) (slot : ℕ) → length slots ≤ slot → image_at_slot slots slot ≡ None
+past [] slot behind = refl
+past (s ∷ slots) zero behind = absurd (omega arith)
+past (s ∷ slots) (suc slot) behind = past slots slot (omega arith)
+
+-- a page with no candidate takes none
+pub no_candidate : (slots : List Slot) (bytes : ℕ) → ((slot : ℕ) → 0 ≤ slot → IsCandidate slots slot bytes → ⊥) → TakesNone slots bytes
+no_candidate slots bytes none slot empty fits = elim (cases_lt (length slots) slot) [
+  | inl behind ↦ none (length slots) (omega arith) (record { there = omega arith; empty = past slots (length slots) (omega arith); fits = fits_behind slots slot bytes (omega (arith, behind)) fits })
+  | inr there ↦ none slot (omega arith) (record { there = there; empty = empty; fits = fits })
+]
+
+-- the first candidate is the first of all slots that take it
+pub first_of_all : (slots : List Slot) (bytes slot : ℕ) → IsFirstCandidate slots 0 bytes slot → IsFirstSlot slots bytes slot
+first_of_all slots bytes slot is = record {
+  empty = is.candidate.empty;
+  fits = is.candidate.fits;
+  first = λ other empty fits. elim (cases_lt other slot) [
+    | inl less ↦ absurd (is.passed other (omega arith) less (record { there = omega (arith, less, is.candidate.there); empty = empty; fits = fits }))
+    | inr not_less ↦ not_less
+  ];
+}

@@ -204,10 +204,10 @@ nothing_yet S store = record {
 
 -- ---- all pages of the store
 
-inside_of : (stores : List ℕ) (id : PageId) (pages : ℕ) → slice_get stores id.store ≡ Some pages → IsSomeAnd (slice_get stores id.store) (λ n. id.page < n) → id.page < pages
+pub inside_of : (stores : List ℕ) (id : PageId) (pages : ℕ) → slice_get stores id.store ≡ Some pages → IsSomeAnd (slice_get stores id.store) (λ n. id.page < n) → id.page < pages
 inside_of stores id pages is has = subst (λ (o : Option ℕ). IsSomeAnd o (λ n. id.page < n)) is has
 
-inside_so : (stores : List ℕ) (id : PageId) (pages : ℕ) → slice_get stores id.store ≡ Some pages → id.page < pages → IsSomeAnd (slice_get stores id.store) (λ n. id.page < n)
+pub inside_so : (stores : List ℕ) (id : PageId) (pages : ℕ) → slice_get stores id.store ≡ Some pages → id.page < pages → IsSomeAnd (slice_get stores id.store) (λ n. id.page < n)
 inside_so stores id pages is has = subst (λ (o : Option ℕ). IsSomeAnd o (λ n. id.page < n)) (sym is) has
 
 pub all_pages : (S : PageId → List Slot) (g : Geometry) (store pages : ℕ) (list : List Entry) → slice_get g.stores store ≡ Some pages → HasBefore S store pages 0 list → IsScan S g store list

@@ -30,6 +30,10 @@ history_of heap = pools.history_of heap.pool
 abbrev pub faults_of : {D : Type 0} {G : Ghosts D} → Heap D G → ℕ
 faults_of heap = pools.faults_of heap.pool
 
+-- for each store the bounds of its pages
+abbrev pub bounds_of : {D : Type 0} {G : Ghosts D} → Heap D G → List (List ℕ)
+bounds_of heap = heap.free.items
+
 -- the frame of the page of a number on the volume
 abbrev pub frame_at : {D : Type 0} {G : Ghosts D} → Heap D G → ℕ → Option Frame
 frame_at heap k = pools.frame_at heap.pool k

@@ -28,16 +28,16 @@ use std::alloc::Global;
 /// a frame for each page.
 #[derive(Drop)]
 pub struct Heap<D: Disk> {
-    pool: Pool<D>,
+    pub(crate) pool: Pool<D>,
     // For each store, which lengths its pages are known to refuse.
-    free: Vec<FreeMap>,
+    pub(crate) free: Vec<FreeMap>,
     ghost whole: { page_count (pools.geometry_of pool) ≤ pools.limit_of pool },
     ghost maps: { map length free.items ≡ (pools.geometry_of pool).stores },
 }
 
 impl<D: Disk> Heap<D> {
     ghost use Rattle.shore_pool.specs.declared.frame.Frame.{Frame};
-    ghost use Rattle.shore_heap.specs.Heaps.{OnlyReads, Shows, device_of, faults_of, frame_at, frame_of, geometry_of, history_of};
+    ghost use Rattle.shore_heap.specs.Heaps.{OnlyReads, Shows, bounds_of, device_of, faults_of, frame_at, frame_of, geometry_of, history_of};
 
     /// The heap of a volume, with no page in a frame: a pool of so many frames, or more if the volume has more pages. All memory is taken but that
     /// of pages. The device is handed back if an allocation failed.
@@ -77,6 +77,7 @@ impl<D: Disk> Heap<D> {
         ensures refused { (front : List ℕ) (disk : ℕ → List ℕ) (S : PageId → List Slot) → Shows self.old front disk S → IfErr result (λ fault. (fault ≡ Fault.Device)
             ⊎ (fault ≡ Fault.Memory) ⊎ ((fault ≡ Fault.Damaged Device.Volume (page_offset (page_number (geometry_of self.old) page)))
             × HasNoPage (disk (page_number (geometry_of self.old) page)) page last)) }
+        ensures bounds { bounds_of self.new ≡ bounds_of self.old }
         ensures geometry { geometry_of self.new ≡ geometry_of self.old }
         ensures cause { HasCause result (faults_of self.old) (faults_of self.new) }
     {

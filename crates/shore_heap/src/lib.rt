@@ -4,6 +4,7 @@
 mod heap;
 mod laws;
 mod maps;
+mod places;
 
 pub use heap::Heap;
 pub use laws::scans_are_the_models;
