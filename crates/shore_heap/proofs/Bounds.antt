@@ -1,11 +1,10 @@
 -- The slots and the bounds of all pages, as one page changes.
-use Rattle.std.proofs.Common.{◌≡◌, ◌≢◌, ◌⊎◌, ◌==◌, ◌&&◌, ◌<◌, ◌≤◌, ℕ, zero, suc, min, Bool, true, false, List, [], ◌∷◌, length, map, replicate, get_or, set, Option, Some, None, IsSomeAnd, is_some, slice_get, slice_index_or, if◌then◌else◌, refl, sym, ap, subst, ◌∙◌, inl, inr, arith}
+use Rattle.std.proofs.Common.{◌≡◌, ◌≢◌, ◌⊎◌, ◌==◌, ◌&&◌, ◌<◌, ℕ, zero, suc, min, Bool, true, false, List, [], ◌∷◌, length, map, replicate, get_or, set, Some, None, IsSomeAnd, is_some, slice_get, slice_index_or, if◌then◌else◌, refl, sym, ap, subst, ◌∙◌, inl, inr, arith}
 use Rattle.std.proofs.lemmas.Bool.{cases_eq, cases_lt, eq-eqb, ne_eqb}
 use Rattle.std.proofs.lemmas.List.{get_or_default, get_or-set_same, get_or-set_other, length-replicate, length-set}
 use Rattle.shore_types.specs.declared.ids.PageId.{PageId}
 use Rattle.shore_types.specs.declared.layout.Geometry.{Geometry}
 use Rattle.shore_types.specs.Images.{Image}
-use Rattle.shore_types.specs.Layout.{HasPage}
 use Rattle.shore_page.specs.Room.{Fits}
 use Rattle.shore_page.specs.Slots.{Slot, image_len, with_image}
 use Rattle.shore_heap.specs.Contents.{AreBounds, TakesNone, bound_of, same_page, with_slots}

@@ -10,7 +10,6 @@ use Rattle.shore_page.specs.Slots.{PageState, Slot, settled}
 use Rattle.shore_page.specs.Text.{images_of, settled_page}
 use Rattle.shore_pool.specs.declared.frame.Frame.{Frame}
 use Rattle.shore_pool.specs.declared.pool.Fetched.{Fetched}
-use Rattle.shore_pool.specs.declared.pool.Fetched.TheVariants as Fetched
 use Rattle.shore_pool.specs.Pages.{AreWritten, IsTextOf}
 use Rattle.shore_pool.proofs.Same.{one_text}
 use Rattle.shore_heap.specs.Contents.{HasSlots, with_slots}
@@ -29,6 +28,11 @@ some_mapped f (Some x) is = refl
 pub of_shown : (P : List Slot → Type 0) (o : Option Frame) (text : List ℕ) (id : PageId) (slots : List Slot) → HasSlots o text id slots → IsSomeAnd o (λ f. P f.page.slots) → P slots
 of_shown P None text id slots has is = absurd is
 of_shown P (Some f) text id slots has is = subst P has is
+
+-- .. and the other way round, if there is a frame: what a caller has to say of a frame
+pub to_frame : (P : List Slot → Type 0) (o : Option Frame) (text : List ℕ) (id : PageId) (slots : List Slot) → HasSlots o text id slots → is_some o ≡ true → P slots → IsSomeAnd o (λ f. P f.page.slots)
+to_frame P None text id slots has held holds = let clash : false ≡ true = held in absurd cc
+to_frame P (Some f) text id slots has held holds = subst P (sym has) holds
 
 -- .. and what holds of a page that was lent holds of its frame
 pub of_lent : (P : List Slot → Type 0) (o : Option Frame) (page : PageState) → Some page ≡ option_map (λ f. f.page) o → P page.slots → IsSomeAnd o (λ f. P f.page.slots)

@@ -1,10 +1,10 @@
 -- What takes a record after a change has taken it before.
-use Rattle.std.proofs.Common.{◌≡◌, ◌≢◌, ℕ, zero, suc, ◌+◌, ◌-◌, ◌*◌, ◌<◌, ◌≤◌, max, min, List, [], ◌∷◌, ◌++◌, length, replicate, Option, Some, None, refl, sym, ap, subst, ◌∙◌, inl, inr, arith}
+use Rattle.std.proofs.Common.{◌≡◌, ◌≢◌, ℕ, zero, suc, ◌+◌, ◌-◌, ◌<◌, ◌≤◌, max, List, [], ◌∷◌, ◌++◌, length, replicate, Some, None, refl, sym, ap, ◌∙◌, inl, inr, arith}
 use Rattle.std.proofs.lemmas.Bool.{cases_lt}
 use Rattle.std.proofs.lemmas.List.Sums.{sum_by-cons}
 use Rattle.shore_types.specs.Images.{Image}
 use Rattle.shore_page.specs.Slots.{Slot, image_len, image_at_slot, with_change, with_slot, with_image, holding, settled}
-use Rattle.shore_page.specs.Room.{claims, claim_at, free_bytes, need, Fits, IsCandidate, IsFirstCandidate}
+use Rattle.shore_page.specs.Room.{claims, claim_at, Fits, IsCandidate, IsFirstCandidate}
 use Rattle.shore_page.proofs.RoomLemmas.{claims-with_slot, length-with_slot}
 use Rattle.shore_page.proofs.UndoLemmas.{length-with_change}
 use Rattle.shore_heap.specs.Contents.{TakesNone}

@@ -1,21 +1,20 @@
 -- A list of the records of a store, as it grows, and that it is the model's scan.
-use Rattle.std.proofs.Common.{◌≡◌, ◌≢◌, ◌⊎◌, ◌+◌, ◌<◌, ◌≤◌, ◌==◌, ◌&&◌, ℕ, zero, suc, T, Bool, true, false, cond, List, [], ◌∷◌, ◌++◌, length, Option, Some, None, IsSomeAnd, slice_get, refl, sym, ap, subst, ◌∙◌, inl, inr, arith}
+use Rattle.std.proofs.Common.{◌≡◌, ◌≢◌, ◌⊎◌, ◌+◌, ◌<◌, ◌≤◌, ◌==◌, ◌&&◌, ℕ, zero, suc, T, Bool, true, false, cond, List, [], ◌∷◌, ◌++◌, length, Option, Some, None, Result, Ok, Err, OnOk, IsSomeAnd, slice_get, refl, sym, ap, subst, ◌∙◌, inl, inr, arith}
 use Rattle.std.proofs.lemmas.Bool.{cases_eq, cases_lt, eq-eqb, ne_eqb}
 use Rattle.std.specs.declared.cmp.Ordering.{Ordering}
 use Rattle.std.specs.declared.cmp.Ordering.TheVariants.{Equal, Greater, Less}
 use Rattle.std.specs.Cmp.{nat_cmp_is, tied_itself}
 use Rattle.std.specs.FinMap.{entries, entries_sorted, get, get-entries}
 use Rattle.std.specs.FinMap.Entries.{below_all, find, find-append, find-where_key, is_sorted, is_sorted-where_key, same_entries}
-use Rattle.std.specs.Ordering.{eq_by_cmp, is_eq, is_lt, nat_cmp, ordering_then}
+use Rattle.std.specs.Ordering.{is_eq, is_lt, nat_cmp, ordering_then}
 use Rattle.shore_types.specs.declared.ids.PageId.{PageId}
 use Rattle.shore_types.specs.declared.ids.Rid.{Rid}
 use Rattle.shore_types.specs.declared.layout.Geometry.{Geometry}
 use Rattle.shore_types.specs.Ids.{exact_rids, rid_cmp, rids_total}
 use Rattle.shore_types.specs.Images.{Image}
-use Rattle.shore_types.specs.Layout.{HasPage}
-use Rattle.shore_model.specs.Records.{Records, scan_of}
+use Rattle.shore_model.specs.Records.{scan_of}
 use Rattle.shore_page.specs.Slots.{Slot, image_at_slot}
-use Rattle.shore_heap.specs.Scans.{AreBefore, HasBefore, IsBefore, IsScan, ScansAsTheModel, Tells}
+use Rattle.shore_heap.specs.Scans.{AreBefore, HasBefore, IsBefore, IsScan, ScansAsTheModel}
 
 abbrev Entry : Type 0
 Entry = Rid × List ℕ
@@ -171,28 +170,26 @@ module _ (S : PageId → List Slot) (store page : ℕ) where
   past (s ∷ slots) (suc slot) behind = past slots slot (omega arith)
 
   -- the last slot of a page is behind
-  pub page_more : (list : List Entry) → HasBefore S store page (length (S (the_page store page))) list → HasBefore S store (page + 1) 0 list
-  page_more list old =
-      let last = length (S (the_page store page)) in
-      record {
-        rises = old.rises;
-        before = are_next last list old.before;
-        has = λ id before.
-            let low : id.page.page < page + 1 = elim before.1 [ inl less ↦ less | inr same ↦ absurd (omega (arith, same.1)) ] in
-            elim (cases_lt id.page.page page) [
-              | inl less ↦ old.has id (before.0, inl less)
-              | inr not_less ↦
-                  let same : id.page.page ≡ page = omega (arith, low, not_less) in
-                  elim (cases_lt id.slot last) [
-                    | inl inside ↦ old.has id (before.0, inr (same, inside))
-                    | inr behind ↦
-                        let page_is : id.page ≡ the_page store page = ap (λ (n : ℕ). the_page n id.page.page) before.0 ∙ ap (λ (n : ℕ). the_page store n) same in
-                        old.none id (λ earlier. elim earlier.1 [ inl less ↦ omega (arith, less, same) | inr here ↦ omega (arith, here.1, behind) ])
-                        ∙ sym (ap (λ (p : PageId). image_at_slot (S p) id.slot) page_is ∙ past (S (the_page store page)) id.slot behind)
-                  ]
-            ];
-        none = λ id not_before. old.none id (λ before. not_before (next_of last id before));
-      }
+  pub page_more : (slot : ℕ) (list : List Entry) → length (S (the_page store page)) ≤ slot → HasBefore S store page slot list → HasBefore S store (page + 1) 0 list
+  page_more slot list behind_last old = record {
+    rises = old.rises;
+    before = are_next slot list old.before;
+    has = λ id before.
+        let low : id.page.page < page + 1 = elim before.1 [ inl less ↦ less | inr same ↦ absurd (omega (arith, same.1)) ] in
+        elim (cases_lt id.page.page page) [
+          | inl less ↦ old.has id (before.0, inl less)
+          | inr not_less ↦
+              let same : id.page.page ≡ page = omega (arith, low, not_less) in
+              elim (cases_lt id.slot slot) [
+                | inl inside ↦ old.has id (before.0, inr (same, inside))
+                | inr behind ↦
+                    let page_is : id.page ≡ the_page store page = ap (λ (n : ℕ). the_page n id.page.page) before.0 ∙ ap (λ (n : ℕ). the_page store n) same in
+                    old.none id (λ earlier. elim earlier.1 [ inl less ↦ omega (arith, less, same) | inr here ↦ omega (arith, here.1, behind) ])
+                    ∙ sym (ap (λ (p : PageId). image_at_slot (S p) id.slot) page_is ∙ past (S (the_page store page)) id.slot (omega (arith, behind, behind_last)))
+              ]
+        ];
+    none = λ id not_before. old.none id (λ before. not_before (next_of slot id before));
+  }
 
 pub nothing_yet : (S : PageId → List Slot) (store : ℕ) → HasBefore S store 0 0 []
 nothing_yet S store = record {
@@ -246,3 +243,8 @@ scans_as_the_model g S store list R scan tells = same_entries rid_cmp rids_total
       ]) ∙ sym (ap (λ (b : Bool). cond b (get R q) None) (eq-eqb q.page.store store same))
       | inr other ↦ scan.none q (λ there. other) ∙ sym (ap (λ (b : Bool). cond b (get R q) None) (ne_eqb q.page.store store other))
     ]
+
+-- what holds of a list holds of the one that a call left
+pub pushed : {T E : Type 0} (P : List Entry → Type 0) (r : Result T E) (now list : List Entry) → OnOk r (now ≡ list) → P list → OnOk r (P now)
+pushed P (Ok x) now list is p = subst P (sym is) p
+pushed P (Err e) now list is p = tt

@@ -1,8 +1,9 @@
 -- What a heap shows, put together.
-use Rattle.std.proofs.Common.{◌≡◌, ℕ, List, Option, Result, Ok, Err, IfErr, IsErrAnd, refl, sym, ap, subst, ◌∙◌}
+use Rattle.std.proofs.Common.{◌≡◌, ℕ, List, Option, refl, sym, ap, subst, ◌∙◌}
 use Rattle.shore_disk.specs.declared.device.Disk.{Ghosts}
 use Rattle.shore_types.specs.declared.ids.PageId.{PageId}
 use Rattle.shore_types.specs.declared.layout.Geometry.{Geometry}
+use Rattle.shore_types.specs.Layout.{HasPage}
 use Rattle.shore_dwrite.specs.Volumes.{page_number}
 use Rattle.shore_page.specs.Slots.{Slot}
 use Rattle.shore_pool.specs.declared.frame.Frame.{Frame}
@@ -10,8 +11,8 @@ use Rattle.shore_pool.specs.declared.pool.Pool.{Pool}
 use Rattle.shore_pool.specs.Pools as pools
 use Rattle.shore_pool.specs.Pools.{Holds}
 use Rattle.shore_heap.specs.declared.heap.Heap.{Heap}
-use Rattle.shore_heap.specs.Contents.{AreBounds}
-use Rattle.shore_heap.specs.Heaps.{OnlyReads, Shows, frame_at, geometry_of, history_of}
+use Rattle.shore_heap.specs.Contents.{AreBounds, HasSlots, TakesNone}
+use Rattle.shore_heap.specs.Heaps.{OnlyReads, Shows, frame_of, geometry_of}
 use Rattle.shore_heap.proofs.Frames.{Have}
 
 module _ {D : Type 0} {G : Ghosts D} where
@@ -33,3 +34,15 @@ module _ {D : Type 0} {G : Ghosts D} where
   -- one call that only reads after another
   pub reads_then : (old mid new : Heap D G) (front : List ℕ) (disk : ℕ → List ℕ) (S : PageId → List Slot) → OnlyReads old mid front disk S → OnlyReads mid new front disk S → OnlyReads old new front disk S
   reads_then old mid new front disk S one two = record { shows = two.shows; history = two.history ∙ one.history; stay = λ k f is. two.stay k f (one.stay k f is) }
+
+  -- nothing was called
+  pub same_reads : (heap : Heap D G) (front : List ℕ) (disk : ℕ → List ℕ) (S : PageId → List Slot) → Shows heap front disk S → OnlyReads heap heap front disk S
+  same_reads heap front disk S shows = record { shows = shows; history = refl; stay = λ k f is. is }
+
+  -- the slots of the volume's pages are the same
+  pub shows_same : (heap : Heap D G) (front : List ℕ) (disk : ℕ → List ℕ) (S T : PageId → List Slot) → ((id : PageId) → HasPage (geometry_of heap) id → T id ≡ S id) → Shows heap front disk S → Shows heap front disk T
+  shows_same heap front disk S T same shows = record {
+    holds = shows.holds;
+    pages = λ id has. subst (HasSlots (frame_of heap id) (disk (page_number (geometry_of heap) id)) id) (sym (same id has)) (shows.pages id has);
+    bounds = λ id bytes has up_to. subst (λ (slots : List Slot). TakesNone slots bytes) (sym (same id has)) (shows.bounds id bytes has up_to);
+  }

@@ -5,6 +5,7 @@ mod heap;
 mod laws;
 mod maps;
 mod places;
+mod scans;
 
 pub use heap::Heap;
-pub use laws::scans_are_the_models;
+pub use laws::{pages_of_the_volume_decide, scans_are_the_models};

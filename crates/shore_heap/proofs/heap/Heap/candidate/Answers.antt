@@ -1,7 +1,6 @@
 use Rattle.shore_dwrite.specs.Volumes.{page_number}
 use Rattle.shore_pool.specs.Pools as pools
 use Rattle.shore_heap.specs.Contents.{TakesNone}
-use Rattle.shore_heap.specs.Places.{IsFirstSlot}
 use Rattle.shore_heap.proofs.Frames.{of_lent, of_shown}
 use Rattle.shore_heap.proofs.Rooms.{no_candidate}
 use Rattle.shore_heap.proofs.heap.Heap.candidate.Goals as goal

@@ -1,14 +1,13 @@
-use Rattle.std.proofs.Common.{◌≡◌, Option, Some, None, List, ℕ, length, map, max, refl, sym, ap, subst, ◌∙◌, arith}
+use Rattle.std.proofs.Common.{◌≡◌, Option, Some, None, List, ℕ, length, map, refl, sym, ap, subst, ◌∙◌, arith}
 use Rattle.shore_types.specs.declared.ids.PageId.{PageId}
 use Rattle.shore_types.specs.declared.layout.Geometry.{Geometry}
-use Rattle.shore_types.specs.Layout.{HasPage}
 use Rattle.shore_dwrite.specs.Settled as settled_device
 use Rattle.shore_dwrite.specs.Volumes.{page_count, page_number}
 use Rattle.shore_page.specs.Slots.{Slot, settled}
 use Rattle.shore_pool.specs.declared.frame.Frame.{Frame}
 use Rattle.shore_pool.specs.Pools as pools
 use Rattle.shore_heap.specs.Contents.{AreBounds, HasSlots}
-use Rattle.shore_heap.proofs.Bounds.{bounds_unknown, lengths_unknown, unknown}
+use Rattle.shore_heap.proofs.Bounds.{bounds_unknown, lengths_unknown}
 use Rattle.shore_heap.proofs.Frames.{Have}
 use Rattle.shore_heap.proofs.heap.Heap.new.Goals as goal
 

@@ -1,4 +1,4 @@
-use Rattle.std.proofs.Common.{◌≡◌, ◌∙◌, ap, min, get_or, ℕ}
+use Rattle.std.proofs.Common.{◌∙◌}
 use Rattle.shore_pool.specs.Pools as pools
 use Rattle.shore_heap.proofs.Bounds.{sets_least}
 use Rattle.shore_heap.proofs.heap.Heap.refuse.Goals as goal

@@ -1,4 +1,4 @@
-use Rattle.std.proofs.Common.{List, refl, sym, ap, ◌∙◌}
+use Rattle.std.proofs.Common.{List, refl, ap}
 use Rattle.shore_dwrite.specs.Settled as settled_device
 use Rattle.shore_page.specs.Room.{lowered}
 use Rattle.shore_page.specs.Slots.{Slot, with_change}

@@ -1,4 +1,4 @@
-use Rattle.std.proofs.Common.{◌≡◌, ℕ, List, Some, None, inl, inr, refl, sym, ap, subst, ◌∙◌}
+use Rattle.std.proofs.Common.{◌≡◌, ℕ, List, Some, inl, inr, refl, sym, ap, subst, ◌∙◌}
 use Rattle.shore_dwrite.proofs.Moves.{if_err}
 use Rattle.shore_pool.specs.Pools as pools
 use Rattle.shore_heap.specs.Contents.{bound_of}
