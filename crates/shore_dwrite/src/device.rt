@@ -86,6 +86,13 @@ impl<D: Disk> PageDev<D> {
         self.device
     }
 
+    /// How its stores are laid out.
+    pub fn geometry(&self) -> &Geometry
+        ensures { result.now ≡ geometry_of self.now }
+    {
+        &self.geometry
+    }
+
     /// How many pages the volume has.
     pub fn pages(&self) -> u32
         ensures { result ≡ page_count (geometry_of self.now) }

@@ -2,7 +2,7 @@
 ghost use Rattle.std.specs.Prelude.{◌≡◌, ◌≢◌, ◌+◌, ◌-◌, ◌*◌, ◌<◌, ◌≤◌, ◌++◌, ◌∷◌, ◌↔◌, ℕ, [], length, replicate, slice_get, Some, None, option_map, IsTrue, IfOk, IfSome, List, vec_capacity};
 ghost use Rattle.shore_page.specs.Slots.{image_len, image_at_slot, with_change, with_slot, with_image};
 ghost use Rattle.shore_types.specs.Images.{Image};
-ghost use Rattle.shore_page.specs.Room.{free_bytes, need, Fits, HasRoom, IsCandidate, IsFirstCandidate, ChangesOne, raised, lowered};
+ghost use Rattle.shore_page.specs.Room.{claim_at, free_bytes, need, Fits, HasRoom, IsCandidate, IsFirstCandidate, ChangesOne, raised, lowered};
 ghost use Rattle.shore_types.specs.declared.layout.TheConstants.{PAGE_BYTES, MAX_SLOTS};
 ghost use Rattle.shore_page.specs.Text.{IsPageText, images_of, settled_page};
 
@@ -78,6 +78,16 @@ impl Page {
             return None;
         }
         self.text.image(slot as usize)
+    }
+
+    /// The bytes that are kept for a slot, none for one that is not there.
+    pub fn claim(&self, slot: u16) -> u16
+        ensures { result ≡ claim_at self.now.slots slot }
+    {
+        if slot >= self.slot_count() {
+            return 0;
+        }
+        self.claims[slot as usize]
     }
 
     /// The bytes that are neither in the slot table nor claimed by a slot.

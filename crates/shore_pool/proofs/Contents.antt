@@ -10,6 +10,7 @@ use Rattle.shore_pool.proofs.Indexes.{replaced, replaced_others, same_count, sam
 pub record Stays (slots new : Slab Frame) (table : List (Option ℕ)) (limit number : ℕ) : Type 0 where
   pub indexed : IsIndexed new table
   pub within : slab_len new ≤ limit
+  pub count : slab_len new ≡ slab_len slots
   pub others : (k : ℕ) → k ≢ number → frame_in new table k ≡ frame_in slots table k
 
 pub content_changes : (slots : Slab Frame) (table : List (Option ℕ)) (limit number key : ℕ) (old new : Frame) → IsIndexed slots table → slab_len slots ≤ limit
@@ -21,5 +22,6 @@ content_changes slots table limit number key old new indexed within at inside th
     record {
       indexed = replaced slots _ table number key inside new updates named indexed at;
       within = subst (λ (n : ℕ). n ≤ limit) (sym (same_count slots.slots key new taken)) within;
+      count = same_count slots.slots key new taken;
       others = replaced_others slots _ table number key inside new updates named indexed at;
     }

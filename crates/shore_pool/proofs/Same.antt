@@ -17,7 +17,7 @@ page_id : ℕ → ℕ → PageId
 page_id store page = record { store = store; page = page }
 
 -- bytes are the text of one page at most
-one_text : (bytes : List ℕ) (a b : PageId) (m n : ℕ) (images others : List Image) → IsPageText bytes a m images → IsPageText bytes b n others → (a ≡ b) × (m ≡ n) × (images ≡ others)
+pub one_text : (bytes : List ℕ) (a b : PageId) (m n : ℕ) (images others : List Image) → IsPageText bytes a m images → IsPageText bytes b n others → (a ≡ b) × (m ≡ n) × (images ≡ others)
 one_text bytes a b m n images others first second =
     let count : length images ≡ length others = sym first.header.count ∙ second.header.count in
     let id : a ≡ b = ap (λ (store : ℕ). record { store = store; page = a.page }) (sym first.header.store ∙ second.header.store) ∙ ap (λ (page : ℕ). record { store = b.store; page = page }) (sym first.header.page ∙ second.header.page) in

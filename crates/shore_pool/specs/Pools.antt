@@ -74,3 +74,10 @@ pub record NeedsForce {D : Type 0} {G : Ghosts D} (pool : Pool D G) (seen number
 -- each other frame keeps its page, its claims and its recovery number, or went
 abbrev pub StayOrGo : {D : Type 0} {G : Ghosts D} → Pool D G → Pool D G → Type 0
 StayOrGo old new = (k : ℕ) → (frame_at new k ≡ frame_at old k) ⊎ (frame_at new k ≡ None)
+
+-- What a fetch leaves that wrote nothing back: the page may have come into a frame, each other is where it was, and the device is as it was.
+pub record ReadsOnly {D : Type 0} {G : Ghosts D} (old new : Pool D G) (id : PageId) (front : List ℕ) (disk : ℕ → List ℕ) : Type 0 where
+  pub holds : Holds new front disk
+  pub history : history_of new ≡ history_of old
+  pub stay : (k : ℕ) (f : Frame) → frame_at old k ≡ Some f → frame_at new k ≡ Some f
+  pub others : (k : ℕ) → k ≢ page_number (geometry_of old) id → frame_at new k ≡ frame_at old k

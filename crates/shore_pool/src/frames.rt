@@ -1,6 +1,6 @@
 //! The frames of a pool, each found by its page's number on the volume, in one step: the volume has at most 65,536 pages, so the table has
 //! four bytes for each of them, where the page itself has 8,192.
-ghost use Rattle.std.specs.Prelude.{◌≡◌, ◌≢◌, ◌⊎◌, ◌+◌, ◌^◌, ◌<◌, ◌≤◌, ◌↔◌, ℕ, None, Some, All, Contains, IfOk, OnOk, IfSome, IfNone, IsSomeAnd, IsTrue, length, nat_le, is_some, option_copied, option_map};
+ghost use Rattle.std.specs.Prelude.{◌≡◌, ◌≢◌, ◌⊎◌, ◌+◌, ◌^◌, ◌<◌, ◌≤◌, ◌↔◌, ℕ, None, Some, All, Contains, IfOk, OnOk, IfSome, IfNone, IsSomeAnd, IsTrue, length, nat_le, count_by, is_some, option_copied, option_map};
 ghost use Rattle.slab.specs.Slab.{slab_len};
 ghost use Rattle.shore_model.specs.declared.log_records.DirtyPage.{DirtyPage};
 ghost use Rattle.shore_types.specs.Images.{Image};
@@ -28,8 +28,9 @@ pub struct Frames {
     clock: Clock,
     ghost indexed: { IsIndexed slots table.items },
     ghost room: { limit ≤ slots.capacity },
-    ghost few: { slots.capacity < 2 ^ 16 },
+    ghost few: { slots.capacity ≤ 2 ^ 16 },
     ghost within: { slab_len slots ≤ limit },
+    ghost counted: { slab_len slots ≡ count_by is_some table.items },
 }
 
 // A page that may be written, with its recovery number.
@@ -65,7 +66,7 @@ impl Frames {
         ensures count { IfOk result (λ frames. count_of frames ≡ 0) }
     {
         let slots = Slab::with_capacity(alloc, limit)?;
-        if slots.capacity() > u16::MAX as usize {
+        if slots.capacity() > u16::MAX as usize + 1 {
             return Err(AllocError);
         }
         Ok(Frames {

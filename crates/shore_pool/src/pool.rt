@@ -1,5 +1,5 @@
 //! The pool: pages of a volume, of which as many as there are frames are in memory.
-ghost use Rattle.std.specs.Prelude.{◌≡◌, ◌≢◌, ◌⊎◌, ◌+◌, ◌-◌, ◌*◌, ◌<◌, ◌≤◌, ℕ, [], List, All, Contains, IfErr, IfNone, IfOk, IfSome, IsErrAnd, IsSomeAnd, IsTrue, MatchResult, None, OnOk, Some, is_some, length, option_copied, option_map};
+ghost use Rattle.std.specs.Prelude.{◌≡◌, ◌≢◌, ◌⊎◌, ◌+◌, ◌-◌, ◌*◌, ◌<◌, ◌≤◌, ℕ, [], List, All, Contains, IfErr, IfNone, IfOk, IfSome, IsErrAnd, IsOk, IsSomeAnd, IsTrue, MatchResult, None, OnErr, OnOk, Some, is_some, length, option_copied, option_map};
 ghost use Rattle.std.proofs.Props.{props};
 ghost use Rattle.shore_disk.specs.Cause.{HasCause};
 ghost use Rattle.shore_disk.specs.Device.{CountsFault, LeavesOnly};
@@ -13,7 +13,7 @@ ghost use Rattle.shore_types.specs.Images.{Image};
 ghost use Rattle.shore_types.specs.Layout.{HasPage};
 ghost use Rattle.shore_types.specs.declared.faults.Device.TheVariants as Device;
 ghost use Rattle.shore_types.specs.declared.faults.Fault.TheVariants as Fault;
-ghost use Rattle.shore_types.specs.declared.layout.TheConstants.{MAX_BATCH_PAGES, MAX_PAGES, MAX_POOL_FRAMES, MIN_POOL_FRAMES};
+ghost use Rattle.shore_types.specs.declared.layout.TheConstants.{MAX_BATCH_PAGES, MAX_PAGES, MIN_POOL_FRAMES};
 ghost use Rattle.shore_pool.specs.Changes.{changed, reclaimed, settled};
 ghost use Rattle.shore_pool.specs.FrameMaps as maps;
 ghost use Rattle.shore_pool.specs.FrameMaps.{IsDue};
@@ -28,7 +28,7 @@ use shore_disk::Disk;
 use shore_dwrite::{PageDev, PageImages};
 use shore_model::DirtyPage;
 use shore_page::Page;
-use shore_types::{Fault, Lsn, PageId};
+use shore_types::{Fault, Geometry, Lsn, PageId};
 use std::alloc::{AllocError, Global};
 
 /// How a page came into its frame.
@@ -54,11 +54,11 @@ pub struct Pool<D: Disk> {
 }
 
 impl<D: Disk> Pool<D> {
-    ghost use Rattle.shore_pool.specs.Pools.{HasInPlace, Holds, LeavesPages, NeedsForce, StayOrGo, WroteBack, count_of, device_of, faults_of, frame_at, frame_of, geometry_of, history_of, limit_of};
+    ghost use Rattle.shore_pool.specs.Pools.{HasInPlace, Holds, LeavesPages, NeedsForce, ReadsOnly, StayOrGo, WroteBack, count_of, device_of, faults_of, frame_at, frame_of, geometry_of, history_of, limit_of};
 
     /// A pool of so many frames, with all its memory but that of pages. The device is handed back if an allocation failed.
     pub fn new(alloc: Global, device: PageDev<D>, frames: usize) -> Result<Pool<D>, PageDev<D>>
-        requires few { frames ≤ MAX_POOL_FRAMES }
+        requires few { frames ≤ MAX_PAGES }
         requires some { MIN_POOL_FRAMES ≤ frames }
         ensures device { IfOk result (λ pool. device_of pool ≡ device) }
         ensures empty { IfOk result (λ pool. (k : ℕ) → frame_at pool k ≡ None) }
@@ -87,6 +87,13 @@ impl<D: Disk> Pool<D> {
         self.device
     }
 
+    /// How the stores of the volume are laid out.
+    pub fn geometry(&self) -> &Geometry
+        ensures { result.now ≡ geometry_of self.now }
+    {
+        self.device.geometry()
+    }
+
     /// The page of an id, if it is in a frame.
     pub fn page(&self, id: PageId) -> Option<&Page>
         requires { HasPage (geometry_of self.now) id }
@@ -106,6 +113,7 @@ impl<D: Disk> Pool<D> {
         seen: Lsn,
     ) -> Result<Fetched, Fault>
         requires { HasPage (geometry_of self.old) id }
+        ensures there { OnOk result (IsTrue (is_some (frame_of self.new id))) }
         ensures held { IfOk result (λ how. how ≡ Fetched.Held → (frame_of self.new id ≡ frame_of self.old id) × IsTrue (is_some (frame_of self.old id))) }
         ensures read { (front : List ℕ) (disk : ℕ → List ℕ) → Holds self.old front disk → IfOk result (λ how. how ≡ Fetched.Read → (frame_of self.old id ≡ None)
             × IsSomeAnd (frame_of self.new id) (λ f. (f.page ≡ settled_page id f.page.number (images_of f.page.slots)) × (f.page.number ≤ last) × (f.recovery ≡ None))) }
@@ -118,6 +126,12 @@ impl<D: Disk> Pool<D> {
             ⊎ ((fault ≡ Fault.Damaged Device.Volume (page_offset (page_number (geometry_of self.old) id)))
             × HasNoPage (disk (page_number (geometry_of self.old) id)) id last × (frame_of self.old id ≡ None))
             ⊎ ((number : ℕ) × (fault ≡ Fault.NeedForce number) × NeedsForce self.old seen number)) }
+
+        // With a frame for each page of the volume nothing leaves its frame, and nothing is written.
+        ensures still { page_count (geometry_of self.old) ≤ limit_of self.old → (front : List ℕ) (disk : ℕ → List ℕ) → Holds self.old front disk
+            → ReadsOnly self.old self.new id front disk }
+        ensures none_came { page_count (geometry_of self.old) ≤ limit_of self.old → (front : List ℕ) (disk : ℕ → List ℕ) → Holds self.old front disk
+            → IfErr result (λ fault. ((number : ℕ) → fault ≢ Fault.NeedForce number) × ((k : ℕ) → frame_at self.new k ≡ frame_at self.old k)) }
 
         // A crash at any moment of the call leaves pages that are old, or those of their frames with durable numbers.
         ensures any_moment { (front : List ℕ) (disk : ℕ → List ℕ) → Holds self.old front disk
@@ -143,6 +157,7 @@ impl<D: Disk> Pool<D> {
     // Sees to it that a frame is free.
     fn make_room(&mut self, seen: Lsn) -> Result<(), Fault>
         ensures room { OnOk result (count_of self.new < limit_of self.new) }
+        ensures idle { count_of self.old < limit_of self.old → IsOk result × (self.new ≡ self.old) }
         ensures frames { StayOrGo self.old self.new }
         ensures kept { (front : List ℕ) (disk : ℕ → List ℕ) → Holds self.old front disk
             → MatchResult result (λ _. WroteBack self.old self.new seen front disk) (λ fault. (fault ≡ Fault.Device) ⊎ WroteBack self.old self.new seen front disk) }
@@ -165,12 +180,14 @@ impl<D: Disk> Pool<D> {
         requires there { HasPage (geometry_of self.old) id }
         requires none { frame_of self.old id ≡ None }
         requires room { count_of self.old < limit_of self.old }
+        ensures there { OnOk result (IsTrue (is_some (frame_of self.new id))) }
         ensures read { (front : List ℕ) (disk : ℕ → List ℕ) → Holds self.old front disk → OnOk result (IsSomeAnd (frame_of self.new id)
             (λ f. (f.page ≡ settled_page id f.page.number (images_of f.page.slots)) × (f.page.number ≤ last) × (f.recovery ≡ None))) }
         ensures others { (k : ℕ) → k ≢ page_number (geometry_of self.old) id → frame_at self.new k ≡ frame_at self.old k }
         ensures kept { (front : List ℕ) (disk : ℕ → List ℕ) → Holds self.old front disk → Holds self.new front disk × SamePages (frame_at self.old) disk (frame_at self.new) disk }
         ensures refused { (front : List ℕ) (disk : ℕ → List ℕ) → Holds self.old front disk → IfErr result (λ fault. (fault ≡ Fault.Device) ⊎ (fault ≡ Fault.Memory)
             ⊎ ((fault ≡ Fault.Damaged Device.Volume (page_offset (page_number (geometry_of self.old) id))) × HasNoPage (disk (page_number (geometry_of self.old) id)) id last)) }
+        ensures none_came { OnErr result ((k : ℕ) → frame_at self.new k ≡ frame_at self.old k) }
         ensures history { (front : List ℕ) (disk : ℕ → List ℕ) → Holds self.old front disk → history_of self.new ≡ history_of self.old }
         ensures geometry { geometry_of self.new ≡ geometry_of self.old }
         ensures limit { limit_of self.new ≡ limit_of self.old }

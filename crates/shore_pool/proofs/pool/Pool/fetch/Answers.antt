@@ -1,4 +1,4 @@
-use Rattle.std.proofs.Common.{◌≡◌, ℕ, List, Option, None, inl, inr, sym, ap, subst, ◌∙◌}
+use Rattle.std.proofs.Common.{◌≡◌, ℕ, List, Option, Some, None, inl, inr, refl, sym, ap, subst, ◌∙◌, arith}
 use Rattle.shore_disk.specs.Device.{History, LeavesOnly}
 use Rattle.shore_types.specs.declared.faults.Device.TheVariants as Device
 use Rattle.shore_types.specs.declared.faults.Fault.{Fault}
@@ -13,6 +13,7 @@ use Rattle.shore_pool.specs.Pools.{LeavesPages, WroteBack, frame_at, geometry_of
 use Rattle.shore_pool.proofs.Moments.{Leaves, as_it_was, while_still}
 use Rattle.shore_pool.proofs.Same.{pages_stay}
 use Rattle.shore_pool.proofs.Steps.{alike, force_from, left_alone, match_err, none_is, wrote_from, wrote_then}
+use Rattle.shore_pool.proofs.Still.{fewer, held_still, is_no_err, no_force, only_read}
 use Rattle.shore_pool.proofs.pool.Pool.fetch.Goals as goal
 
 pub invariant_of-self-clause-in_order : goal.invariant_of-self-clause-in_order
@@ -128,3 +129,76 @@ returns-clause-any_moment g c front disk holds =
     let w = c.in_ok-make_room.ensures.kept front disk (record { settled = holds.settled; written = subst (λ (a : ℕ → Option Frame). AreWritten a disk) (sym same) holds.written }) in
     subst (λ (h : History). LeavesOnly (history_of old) h (LeavesPages old c.args.seen front disk)) (sym (c.read.ensures.history front w.left w.holds))
     (subst (λ (a : ℕ → Option Frame). LeavesOnly (history_of old) (history_of c.make_room.new.self) (Leaves (settled_device.geometry_of old.device) a c.args.seen front disk)) same (c.make_room.ensures.any_moment front disk (record { settled = holds.settled; written = subst (λ (a : ℕ → Option Frame). AreWritten a disk) (sym same) holds.written })))
+
+pub returns-then-touch-clause-still : goal.returns-then-touch-clause-still
+returns-then-touch-clause-still g c many front disk holds =
+    let old = c.args.self.now in
+    let same = alike (maps.frame_at old.frames) (maps.frame_at c.touch.new.self) c.touch.ensures.same in
+    record {
+      holds = record { settled = holds.settled; written = subst (λ (a : ℕ → Option Frame). AreWritten a disk) (sym same) holds.written };
+      history = refl;
+      stay = λ k f is. c.touch.ensures.same k ∙ is;
+      others = λ k apart. c.touch.ensures.same k;
+    }
+
+pub returns-in_err-make_room-clause-still : goal.returns-in_err-make_room-clause-still
+returns-in_err-make_room-clause-still g c many front disk holds =
+    let old = c.args.self.now in
+    let same = alike (maps.frame_at old.frames) (maps.frame_at c.touch.new.self) c.touch.ensures.same in
+    let absent = none_is (maps.frame_at old.frames c.number-number.result) (sym c.touch.ensures.there ∙ c.if-touch.false) in
+    let few = fewer old.frames c.number-number.result (omega (arith, c.number-number.ensures.within, old.pages)) absent (omega (arith, many, old.pages)) in
+    let idle = c.make_room.ensures.idle (omega (arith, few, c.touch.ensures.shape.count, c.touch.ensures.shape.limit)) in
+    absurd (is_no_err c.make_room.result _ c.in_err-make_room.was idle.0)
+
+pub returns-in_err-make_room-clause-none_came : goal.returns-in_err-make_room-clause-none_came
+returns-in_err-make_room-clause-none_came g c many front disk holds =
+    let old = c.args.self.now in
+    let same = alike (maps.frame_at old.frames) (maps.frame_at c.touch.new.self) c.touch.ensures.same in
+    let absent = none_is (maps.frame_at old.frames c.number-number.result) (sym c.touch.ensures.there ∙ c.if-touch.false) in
+    let few = fewer old.frames c.number-number.result (omega (arith, c.number-number.ensures.within, old.pages)) absent (omega (arith, many, old.pages)) in
+    let idle = c.make_room.ensures.idle (omega (arith, few, c.touch.ensures.shape.count, c.touch.ensures.shape.limit)) in
+    absurd (is_no_err c.make_room.result _ c.in_err-make_room.was idle.0)
+
+pub returns-in_err-read-clause-still : goal.returns-in_err-read-clause-still
+returns-in_err-read-clause-still g c many front disk holds =
+    let old = c.args.self.now in
+    let same = alike (maps.frame_at old.frames) (maps.frame_at c.touch.new.self) c.touch.ensures.same in
+    let absent = none_is (maps.frame_at old.frames c.number-number.result) (sym c.touch.ensures.there ∙ c.if-touch.false) in
+    let few = fewer old.frames c.number-number.result (omega (arith, c.number-number.ensures.within, old.pages)) absent (omega (arith, many, old.pages)) in
+    let idle = c.make_room.ensures.idle (omega (arith, few, c.touch.ensures.shape.count, c.touch.ensures.shape.limit)) in
+    let mid = c.make_room.new.self in
+    let device = ap (λ p. p.device) idle.1 in
+    let frames = ap frame_at idle.1 ∙ same in
+    let held = c.read.ensures.kept front disk (held_still old mid front disk device frames holds) in
+    only_read old mid c.read.new.self c.args.id frames (ap history_of idle.1) c.make_room.ensures.geometry front disk (ap (maps.frame_at old.frames) (sym c.number-number.ensures.number) ∙ absent) held.0
+    (c.read.ensures.history front disk (held_still old mid front disk device frames holds)) c.read.ensures.others
+
+pub returns-in_err-read-clause-none_came : goal.returns-in_err-read-clause-none_came
+returns-in_err-read-clause-none_came g c many front disk holds =
+    let old = c.args.self.now in
+    let same = alike (maps.frame_at old.frames) (maps.frame_at c.touch.new.self) c.touch.ensures.same in
+    let absent = none_is (maps.frame_at old.frames c.number-number.result) (sym c.touch.ensures.there ∙ c.if-touch.false) in
+    let few = fewer old.frames c.number-number.result (omega (arith, c.number-number.ensures.within, old.pages)) absent (omega (arith, many, old.pages)) in
+    let idle = c.make_room.ensures.idle (omega (arith, few, c.touch.ensures.shape.count, c.touch.ensures.shape.limit)) in
+    let mid = c.make_room.new.self in
+    let device = ap (λ p. p.device) idle.1 in
+    let frames = ap frame_at idle.1 ∙ same in
+    let held = c.read.ensures.kept front disk (held_still old mid front disk device frames holds) in
+    if_err c.from_residual-in_err-read.result c.from_residual-in_err-read.ensures.1 (λ fault is. (
+      λ number. no_force _ _ number _ fault is (c.in_err-read.ensures.refused front disk (held_still old mid front disk device frames holds)),
+      λ k. c.in_err-read.ensures.none_came k ∙ ap (λ (a : ℕ → Option Frame). a k) frames,
+    ))
+
+pub returns-clause-still : goal.returns-clause-still
+returns-clause-still g c many front disk holds =
+    let old = c.args.self.now in
+    let same = alike (maps.frame_at old.frames) (maps.frame_at c.touch.new.self) c.touch.ensures.same in
+    let absent = none_is (maps.frame_at old.frames c.number-number.result) (sym c.touch.ensures.there ∙ c.if-touch.false) in
+    let few = fewer old.frames c.number-number.result (omega (arith, c.number-number.ensures.within, old.pages)) absent (omega (arith, many, old.pages)) in
+    let idle = c.make_room.ensures.idle (omega (arith, few, c.touch.ensures.shape.count, c.touch.ensures.shape.limit)) in
+    let mid = c.make_room.new.self in
+    let device = ap (λ p. p.device) idle.1 in
+    let frames = ap frame_at idle.1 ∙ same in
+    let held = c.read.ensures.kept front disk (held_still old mid front disk device frames holds) in
+    only_read old mid c.read.new.self c.args.id frames (ap history_of idle.1) c.make_room.ensures.geometry front disk (ap (maps.frame_at old.frames) (sym c.number-number.ensures.number) ∙ absent) held.0
+    (c.read.ensures.history front disk (held_still old mid front disk device frames holds)) c.read.ensures.others

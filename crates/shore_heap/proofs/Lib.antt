@@ -1,0 +1,6 @@
+pub mod Rooms
+pub mod Bounds
+pub mod Frames
+pub mod Showing
+pub mod Scanned
+pub mod Finding

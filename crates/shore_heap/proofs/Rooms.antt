@@ -1,0 +1,146 @@
+-- What takes a record after a change has taken it before.
+use Rattle.std.proofs.Common.{◌≡◌, ◌≢◌, ℕ, zero, suc, ◌+◌, ◌-◌, ◌<◌, ◌≤◌, max, List, [], ◌∷◌, ◌++◌, length, replicate, Some, None, refl, sym, ap, ◌∙◌, inl, inr, arith}
+use Rattle.std.proofs.lemmas.Bool.{cases_lt}
+use Rattle.std.proofs.lemmas.List.Sums.{sum_by-cons}
+use Rattle.shore_types.specs.Images.{Image}
+use Rattle.shore_page.specs.Slots.{Slot, image_len, image_at_slot, with_change, with_slot, with_image, holding, settled}
+use Rattle.shore_page.specs.Room.{claims, claim_at, Fits, IsCandidate, IsFirstCandidate}
+use Rattle.shore_page.proofs.RoomLemmas.{claims-with_slot, length-with_slot}
+use Rattle.shore_page.proofs.UndoLemmas.{length-with_change}
+use Rattle.shore_heap.specs.Contents.{TakesNone}
+use Rattle.shore_heap.specs.Places.{IsFirstSlot}
+
+-- ---- one slot changed
+
+abbrev claim_of : Slot → ℕ
+claim_of s = s.claim
+
+claims_changed : (f : Slot → Slot) (slots : List Slot) (i : ℕ) → i < length slots → claims (with_change f slots i) + claim_at slots i ≡ claims slots + claim_at (with_change f slots i) i
+claims_changed f [] i inside = absurd (omega arith)
+claims_changed f (s ∷ slots) zero inside =
+    let new : claims (f s ∷ slots) ≡ claim_of (f s) + claims slots = sum_by-cons claim_of (f s) slots in
+    let old : claims (s ∷ slots) ≡ claim_of s + claims slots = sum_by-cons claim_of s slots in
+    omega arith
+claims_changed f (s ∷ slots) (suc i) inside =
+    let new : claims (s ∷ with_change f slots i) ≡ claim_of s + claims (with_change f slots i) = sum_by-cons claim_of s (with_change f slots i) in
+    let old : claims (s ∷ slots) ≡ claim_of s + claims slots = sum_by-cons claim_of s slots in
+    omega (arith, claims_changed f slots i (omega arith))
+
+claim_held : (image : Image) (slots : List Slot) (i : ℕ) → i < length slots → claim_at (with_change (holding image) slots i) i ≡ max (claim_at slots i) (image_len image)
+claim_held image [] i inside = absurd (omega arith)
+claim_held image (s ∷ slots) zero inside = refl
+claim_held image (s ∷ slots) (suc i) inside = claim_held image slots i (omega arith)
+
+image_held : (image : Image) (slots : List Slot) (i : ℕ) → i < length slots → image_at_slot (with_change (holding image) slots i) i ≡ image
+image_held image [] i inside = absurd (omega arith)
+image_held image (s ∷ slots) zero inside = refl
+image_held image (s ∷ slots) (suc i) inside = image_held image slots i (omega arith)
+
+abbrev IsSame : List Slot → List Slot → ℕ → Type 0
+IsSame old new i = (image_at_slot new i ≡ image_at_slot old i) × (claim_at new i ≡ claim_at old i)
+
+others_changed : (f : Slot → Slot) (slots : List Slot) (i other : ℕ) → other ≢ i → IsSame slots (with_change f slots i) other
+others_changed f [] i other apart = (refl, refl)
+others_changed f (s ∷ slots) zero zero apart = absurd (apart refl)
+others_changed f (s ∷ slots) zero (suc other) apart = (refl, refl)
+others_changed f (s ∷ slots) (suc i) zero apart = (refl, refl)
+others_changed f (s ∷ slots) (suc i) (suc other) apart = others_changed f slots i other (λ (e : other ≡ i). apart (ap suc e))
+
+-- ---- slots up to one
+
+new_at : (n other : ℕ) → IsSame [] (replicate n (settled None)) other
+new_at zero other = (refl, refl)
+new_at (suc n) zero = (refl, refl)
+new_at (suc n) (suc other) = new_at n other
+
+append_at : (slots : List Slot) (n other : ℕ) → IsSame slots (slots ++ replicate n (settled None)) other
+append_at [] n other = new_at n other
+append_at (s ∷ slots) n zero = (refl, refl)
+append_at (s ∷ slots) n (suc other) = append_at slots n other
+
+-- ---- a record put into a slot
+
+module _ (slots : List Slot) (i : ℕ) (image : Image) where
+  abbrev more : List Slot
+  more = with_slot slots i
+
+  abbrev now : List Slot
+  now = with_image slots i image
+
+  inside : i < length more
+  inside = omega (arith, length-with_slot slots i)
+
+  -- what is put into a slot is there
+  pub put_here : image_at_slot now i ≡ image
+  put_here = image_held image more i inside
+
+  put_others : (other : ℕ) → other ≢ i → IsSame slots now other
+  put_others other apart =
+      let one = others_changed (holding image) more i other apart in
+      let two = append_at slots (i + 1 - length slots) other in
+      (one.0 ∙ two.0, one.1 ∙ two.1)
+
+  -- what still fits fitted before
+  pub fitted : Fits slots i (image_len image) → (other bytes : ℕ) → other ≢ i → Fits now other bytes → Fits slots other bytes
+  fitted fits other bytes apart later = record {
+    there = later.there;
+    most = later.most;
+    room =
+        let len : length now ≡ max (length slots) (i + 1) = length-with_change (holding image) more i ∙ length-with_slot slots i in
+        let here : claim_at more i ≡ claim_at slots i = (append_at slots (i + 1 - length slots) i).1 in
+        let sum : claims now + claim_at more i ≡ claims more + claim_at now i = claims_changed (holding image) more i inside in
+        let held : claim_at now i ≡ max (claim_at more i) (image_len image) = claim_held image more i inside in
+        let all : claims more ≡ claims slots = claims-with_slot slots i in
+        let same : claim_at now other ≡ claim_at slots other = (put_others other apart).1 in
+        omega (arith, fits.room, later.room);
+  }
+
+-- a page that refused a length refuses it with one record more
+pub put_refuses : (slots : List Slot) (i bytes : ℕ) (image : List ℕ) → Fits slots i (length image) → TakesNone slots bytes → TakesNone (with_image slots i (Some image)) bytes
+put_refuses slots i bytes image fits none other empty later =
+    let apart : other ≢ i = λ same. let clash : None ≡ Some image = sym empty ∙ ap (image_at_slot (with_image slots i (Some image))) same ∙ put_here slots i (Some image) in cc in
+    none other (sym (put_others slots i (Some image) other apart).0 ∙ empty) (fitted slots i (Some image) fits other bytes apart later)
+
+-- a page that refused a length refuses a greater one
+pub refuses_more : (slots : List Slot) (least bytes : ℕ) → least ≤ bytes → TakesNone slots least → TakesNone slots bytes
+refuses_more slots least bytes le none slot empty fits = none slot empty (record { there = fits.there; most = omega (arith, fits.most); room = omega (arith, fits.room) })
+
+-- no page takes more than the longest record
+pub refuses_longest : (slots : List Slot) (bytes : ℕ) → 4000 < bytes → TakesNone slots bytes
+refuses_longest slots bytes over slot empty fits = absurd (omega (arith, fits.most))
+
+-- what fits a slot behind the one after the last fits that one
+pub fits_behind : (slots : List Slot) (slot bytes : ℕ) → length slots ≤ slot → Fits slots slot bytes → Fits slots (length slots) bytes
+fits_behind slots slot bytes behind fits =
+    let none = past slots slot behind in
+    let here = past slots (length slots) (omega arith) in
+    record { there = omega (arith, fits.there); most = fits.most; room = omega (arith, fits.room) }
+  where
+    past : (slots : List Slot) (slot : ℕ) → length slots ≤ slot → claim_at slots slot ≡ 0
+    past [] slot behind = refl
+    past (s ∷ slots) zero behind = absurd (omega arith)
+    past (s ∷ slots) (suc slot) behind = past slots slot (omega arith)
+
+-- a slot behind the last is empty
+past : (slots : List Slot) (slot : ℕ) → length slots ≤ slot → image_at_slot slots slot ≡ None
+past [] slot behind = refl
+past (s ∷ slots) zero behind = absurd (omega arith)
+past (s ∷ slots) (suc slot) behind = past slots slot (omega arith)
+
+-- a page with no candidate takes none
+pub no_candidate : (slots : List Slot) (bytes : ℕ) → ((slot : ℕ) → 0 ≤ slot → IsCandidate slots slot bytes → ⊥) → TakesNone slots bytes
+no_candidate slots bytes none slot empty fits = elim (cases_lt (length slots) slot) [
+  | inl behind ↦ none (length slots) (omega arith) (record { there = omega arith; empty = past slots (length slots) (omega arith); fits = fits_behind slots slot bytes (omega (arith, behind)) fits })
+  | inr there ↦ none slot (omega arith) (record { there = there; empty = empty; fits = fits })
+]
+
+-- the first candidate is the first of all slots that take it
+pub first_of_all : (slots : List Slot) (bytes slot : ℕ) → IsFirstCandidate slots 0 bytes slot → IsFirstSlot slots bytes slot
+first_of_all slots bytes slot is = record {
+  empty = is.candidate.empty;
+  fits = is.candidate.fits;
+  first = λ other empty fits. elim (cases_lt other slot) [
+    | inl less ↦ absurd (is.passed other (omega arith) less (record { there = omega (arith, less, is.candidate.there); empty = empty; fits = fits }))
+    | inr not_less ↦ not_less
+  ];
+}

@@ -1,0 +1,48 @@
+-- What a heap shows, put together.
+use Rattle.std.proofs.Common.{◌≡◌, ℕ, List, Option, refl, sym, ap, subst, ◌∙◌}
+use Rattle.shore_disk.specs.declared.device.Disk.{Ghosts}
+use Rattle.shore_types.specs.declared.ids.PageId.{PageId}
+use Rattle.shore_types.specs.declared.layout.Geometry.{Geometry}
+use Rattle.shore_types.specs.Layout.{HasPage}
+use Rattle.shore_dwrite.specs.Volumes.{page_number}
+use Rattle.shore_page.specs.Slots.{Slot}
+use Rattle.shore_pool.specs.declared.frame.Frame.{Frame}
+use Rattle.shore_pool.specs.declared.pool.Pool.{Pool}
+use Rattle.shore_pool.specs.Pools as pools
+use Rattle.shore_pool.specs.Pools.{Holds}
+use Rattle.shore_heap.specs.declared.heap.Heap.{Heap}
+use Rattle.shore_heap.specs.Contents.{AreBounds, HasSlots, TakesNone}
+use Rattle.shore_heap.specs.Heaps.{OnlyReads, Shows, frame_of, geometry_of}
+use Rattle.shore_heap.proofs.Frames.{Have}
+
+module _ {D : Type 0} {G : Ghosts D} where
+  pub shows_by : (pool : Pool D G) (heap : Heap D G) (g : Geometry) (front : List ℕ) (disk : ℕ → List ℕ) (S : PageId → List Slot) → heap.pool ≡ pool → pools.geometry_of pool ≡ g → Holds pool front disk
+      → Have g (pools.frame_at pool) disk S → AreBounds g heap.free.items S → Shows heap front disk S
+  shows_by pool heap g front disk S same geometry holds have bounds =
+      let pool_is : pool ≡ heap.pool = sym same in
+      let g_is : g ≡ geometry_of heap = sym geometry ∙ ap pools.geometry_of pool_is in
+      record {
+        holds = subst (λ (p : Pool D G). Holds p front disk) pool_is holds;
+        pages = subst (λ (it : Geometry). Have it (pools.frame_at heap.pool) disk S) g_is (subst (λ (p : Pool D G). Have g (pools.frame_at p) disk S) pool_is have);
+        bounds = subst (λ (it : Geometry). AreBounds it heap.free.items S) g_is bounds;
+      }
+
+  -- a frame by its page's number, before and after
+  pub frame_is : (pool : Pool D G) (g : Geometry) (id : PageId) (o : Option Frame) → pools.geometry_of pool ≡ g → pools.frame_of pool id ≡ o → pools.frame_at pool (page_number g id) ≡ o
+  frame_is pool g id o geometry is = ap (λ (it : Geometry). pools.frame_at pool (page_number it id)) (sym geometry) ∙ is
+
+  -- one call that only reads after another
+  pub reads_then : (old mid new : Heap D G) (front : List ℕ) (disk : ℕ → List ℕ) (S : PageId → List Slot) → OnlyReads old mid front disk S → OnlyReads mid new front disk S → OnlyReads old new front disk S
+  reads_then old mid new front disk S one two = record { shows = two.shows; history = two.history ∙ one.history; stay = λ k f is. two.stay k f (one.stay k f is) }
+
+  -- nothing was called
+  pub same_reads : (heap : Heap D G) (front : List ℕ) (disk : ℕ → List ℕ) (S : PageId → List Slot) → Shows heap front disk S → OnlyReads heap heap front disk S
+  same_reads heap front disk S shows = record { shows = shows; history = refl; stay = λ k f is. is }
+
+  -- the slots of the volume's pages are the same
+  pub shows_same : (heap : Heap D G) (front : List ℕ) (disk : ℕ → List ℕ) (S T : PageId → List Slot) → ((id : PageId) → HasPage (geometry_of heap) id → T id ≡ S id) → Shows heap front disk S → Shows heap front disk T
+  shows_same heap front disk S T same shows = record {
+    holds = shows.holds;
+    pages = λ id has. subst (HasSlots (frame_of heap id) (disk (page_number (geometry_of heap) id)) id) (sym (same id has)) (shows.pages id has);
+    bounds = λ id bytes has up_to. subst (λ (slots : List Slot). TakesNone slots bytes) (sym (same id has)) (shows.bounds id bytes has up_to);
+  }

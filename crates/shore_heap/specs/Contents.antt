@@ -1,0 +1,35 @@
+-- What is in the slots of each page, be it in a frame or on the volume alone, and which lengths a page is known to refuse.
+use Rattle.std.specs.Prelude.{◌≡◌, ◌==◌, ◌&&◌, ◌≤◌, ℕ, Bool, List, [], Option, None, Some, map, slice_index_or, if◌then◌else◌}
+use Rattle.shore_types.specs.declared.ids.PageId.{PageId}
+use Rattle.shore_types.specs.declared.layout.Geometry.{Geometry}
+use Rattle.shore_types.specs.Images.{Image}
+use Rattle.shore_types.specs.Layout.{HasPage}
+use Rattle.shore_page.specs.Room.{Fits}
+use Rattle.shore_page.specs.Slots.{Slot, image_at_slot, settled}
+use Rattle.shore_page.specs.Text.{IsPageText}
+use Rattle.shore_freemap.specs.Bounds.{bound_at}
+use Rattle.shore_pool.specs.declared.frame.Frame.{Frame}
+
+-- A page in a frame has the slots of its frame. One that the volume alone has claims what its records take.
+abbrev pub HasSlots : Option Frame → List ℕ → PageId → List Slot → Type 0
+HasSlots (Some f) text id slots = f.page.slots ≡ slots
+HasSlots None text id slots = (number : ℕ) × (images : List Image) × IsPageText text id number images × (slots ≡ map settled images)
+
+abbrev pub same_page : PageId → PageId → Bool
+same_page p q = (p.store == q.store) && (p.page == q.page)
+
+-- the slots of one page are changed
+abbrev pub with_slots : (PageId → List Slot) → PageId → (List Slot → List Slot) → PageId → List Slot
+with_slots S id change p = if same_page p id then change (S p) else S p
+
+-- the bound of a page, by the free space maps of all stores
+abbrev pub bound_of : List (List ℕ) → PageId → ℕ
+bound_of free id = bound_at (slice_index_or free id.store []) id.page
+
+-- no empty slot of a page takes a record of so many bytes
+abbrev pub TakesNone : List Slot → ℕ → Type 0
+TakesNone slots bytes = (slot : ℕ) → image_at_slot slots slot ≡ None → Fits slots slot bytes → ⊥
+
+-- what the bounds refuse finds no room
+abbrev pub AreBounds : Geometry → List (List ℕ) → (PageId → List Slot) → Type 0
+AreBounds g free S = (id : PageId) (bytes : ℕ) → HasPage g id → bound_of free id ≤ bytes → TakesNone (S id) bytes

@@ -1,0 +1,4 @@
+pub mod Contents
+pub mod Heaps
+pub mod Places
+pub mod Scans

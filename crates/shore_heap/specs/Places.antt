@@ -1,0 +1,40 @@
+-- Where a new record of a store may go.
+use Rattle.std.specs.Prelude.{◌≡◌, ◌⊎◌, ◌≤◌, ℕ, List, None}
+use Rattle.shore_dwrite.specs.Volumes.{HasNoPage, page_number, page_offset}
+use Rattle.shore_types.specs.declared.faults.Device.TheVariants as device
+use Rattle.shore_types.specs.declared.faults.Fault.{Fault}
+use Rattle.shore_types.specs.declared.faults.Fault.TheVariants as fault
+use Rattle.shore_types.specs.declared.ids.PageId.{PageId}
+use Rattle.shore_types.specs.declared.ids.Rid.{Rid}
+use Rattle.shore_types.specs.declared.layout.Geometry.{Geometry}
+use Rattle.shore_types.specs.Layout.{HasPage}
+use Rattle.shore_page.specs.Room.{Fits}
+use Rattle.shore_page.specs.Slots.{Slot, image_at_slot}
+
+-- of all empty slots of a page that take so many bytes the first
+pub record IsFirstSlot (slots : List Slot) (bytes slot : ℕ) : Type 0 where
+  pub empty : image_at_slot slots slot ≡ None
+  pub fits : Fits slots slot bytes
+  pub first : (other : ℕ) → image_at_slot slots other ≡ None → Fits slots other bytes → slot ≤ other
+
+module _ (g : Geometry) (S : PageId → List Slot) (store bytes : ℕ) where
+  -- an empty slot of the store that takes so many bytes
+  pub record Takes (id : Rid) : Type 0 where
+    pub there : HasPage g id.page
+    pub of_store : id.page.store ≡ store
+    pub empty : image_at_slot (S id.page) id.slot ≡ None
+    pub fits : Fits (S id.page) id.slot bytes
+
+  -- of all such slots the first: by page, and then by slot
+  pub record IsPlace (id : Rid) : Type 0 where
+    pub takes : Takes id
+    pub first : (other : Rid) → Takes other → (id.page.page ≤ other.page.page) × (other.page.page ≡ id.page.page → id.slot ≤ other.slot)
+
+  -- there is none
+  abbrev pub HasNoPlace : Type 0
+  HasNoPlace = (id : Rid) → Takes id → ⊥
+
+-- what a call is refused with that fetches pages of a store: the device failed, an allocation did, or a page has no text with a number up to the last
+abbrev pub IsRefused : Geometry → (ℕ → List ℕ) → ℕ → ℕ → Fault → Type 0
+IsRefused g disk store last it = (it ≡ fault.Device) ⊎ (it ≡ fault.Memory)
+    ⊎ ((id : PageId) × HasPage g id × (id.store ≡ store) × (it ≡ fault.Damaged device.Volume (page_offset (page_number g id))) × HasNoPage (disk (page_number g id)) id last)

@@ -1,0 +1,163 @@
+//! The heap: records in the pages of a pool that has a frame for each page.
+ghost use Rattle.std.specs.Prelude.{◌≡◌, ◌≢◌, ◌⊎◌, ◌↔◌, ◌+◌, ◌<◌, ◌≤◌, ℕ, List, IfErr, IfOk, IsSomeAnd, IsTrue, None, OnErr, OnOk, Some, is_some, length, map, option_map};
+ghost use Rattle.shore_disk.specs.Cause.{HasCause};
+ghost use Rattle.shore_dwrite.specs.Settled as settled_device;
+ghost use Rattle.shore_dwrite.specs.Volumes.{HasNoPage, page_count, page_number, page_offset};
+ghost use Rattle.shore_page.specs.Room.{Fits, claim_at, lowered};
+ghost use Rattle.shore_page.specs.Slots.{Slot, image_at_slot, image_len, settled, with_change, with_image};
+ghost use Rattle.shore_page.specs.Text.{IsPageText};
+ghost use Rattle.shore_pool.specs.Pools as pools;
+ghost use Rattle.shore_types.specs.Images.{Image};
+ghost use Rattle.shore_types.specs.Layout.{HasPage, HasStore};
+ghost use Rattle.shore_types.specs.declared.faults.Device.TheVariants as Device;
+ghost use Rattle.shore_types.specs.declared.faults.Fault.TheVariants as Fault;
+ghost use Rattle.shore_types.specs.declared.ids.PageId.{PageId};
+ghost use Rattle.shore_types.specs.declared.layout.TheConstants.{MAX_PAGES, MAX_RECORD_BYTES, MIN_POOL_FRAMES};
+ghost use Rattle.shore_heap.specs.Contents.{bound_of, with_slots};
+
+use crate::maps::unknown_maps;
+use shore_disk::Disk;
+use shore_dwrite::PageDev;
+use shore_freemap::FreeMap;
+use shore_page::Page;
+use shore_pool::Pool;
+use shore_types::{Fault, Lsn, PageId, Rid};
+use std::alloc::Global;
+
+/// The records of a volume's stores, in the slots of their pages. A page that was fetched stays in its frame, and none is written back: there is
+/// a frame for each page.
+#[derive(Drop)]
+pub struct Heap<D: Disk> {
+    pub(crate) pool: Pool<D>,
+    // For each store, which lengths its pages are known to refuse.
+    pub(crate) free: Vec<FreeMap>,
+    ghost whole: { page_count (pools.geometry_of pool) ≤ pools.limit_of pool },
+    ghost maps: { map length free.items ≡ (pools.geometry_of pool).stores },
+}
+
+impl<D: Disk> Heap<D> {
+    ghost use Rattle.shore_pool.specs.declared.frame.Frame.{Frame};
+    ghost use Rattle.shore_heap.specs.Heaps.{OnlyReads, Shows, bounds_of, device_of, faults_of, frame_at, frame_of, geometry_of, history_of};
+
+    /// The heap of a volume, with no page in a frame: a pool of so many frames, or more if the volume has more pages. All memory is taken but that
+    /// of pages. The device is handed back if an allocation failed.
+    pub fn new(alloc: Global, device: PageDev<D>, frames: usize) -> Result<Heap<D>, PageDev<D>>
+        requires some { MIN_POOL_FRAMES ≤ frames }
+        requires most { frames ≤ MAX_PAGES }
+        ensures device { IfOk result (λ heap. device_of heap ≡ device) }
+        ensures none { IfOk result (λ heap. (k : ℕ) → frame_at heap k ≡ None) }
+        ensures shows { (front : List ℕ) (disk : ℕ → List ℕ) (number : PageId → ℕ) (images : PageId → List Image) → settled_device.IsSettled device front disk
+            → ((id : PageId) → HasPage (settled_device.geometry_of device) id
+            → IsPageText (disk (page_number (settled_device.geometry_of device) id)) id (number id) (images id))
+            → IfOk result (λ heap. Shows heap front disk (λ id. map settled (images id))) }
+        ensures refused { IfErr result (λ back. back ≡ device) }
+    {
+        let Ok(free) = unknown_maps(alloc, device.geometry()) else {
+            return Err(device);
+        };
+        let frames = frames.max(device.pages() as usize);
+        let pool = Pool::new(alloc, device, frames)?;
+        Ok(Heap { pool, free })
+    }
+
+    /// The device, as it is. What was changed is forgotten.
+    pub fn into_device(self) -> PageDev<D>
+        ensures { result ≡ device_of self }
+    {
+        self.pool.into_device()
+    }
+
+    /// Brings a page into a frame, if it is in none. `last` is the number of the log's last record, and `seen` that up to which it is durable.
+    pub fn fetch(&mut self, alloc: Global, page: PageId, last: Lsn, seen: Lsn) -> Result<(), Fault>
+        requires { HasPage (geometry_of self.old) page }
+        ensures held { OnOk result (IsTrue (is_some (frame_of self.new page))) }
+        ensures still { (front : List ℕ) (disk : ℕ → List ℕ) (S : PageId → List Slot) → Shows self.old front disk S → OnlyReads self.old self.new front disk S }
+        ensures none_came { (front : List ℕ) (disk : ℕ → List ℕ) (S : PageId → List Slot) → Shows self.old front disk S
+            → OnErr result ((k : ℕ) → frame_at self.new k ≡ frame_at self.old k) }
+        ensures refused { (front : List ℕ) (disk : ℕ → List ℕ) (S : PageId → List Slot) → Shows self.old front disk S → IfErr result (λ fault. (fault ≡ Fault.Device)
+            ⊎ (fault ≡ Fault.Memory) ⊎ ((fault ≡ Fault.Damaged Device.Volume (page_offset (page_number (geometry_of self.old) page)))
+            × HasNoPage (disk (page_number (geometry_of self.old) page)) page last)) }
+        ensures bounds { bounds_of self.new ≡ bounds_of self.old }
+        ensures geometry { geometry_of self.new ≡ geometry_of self.old }
+        ensures cause { HasCause result (faults_of self.old) (faults_of self.new) }
+    {
+        self.pool.fetch(alloc, page, last, seen)?;
+        Ok(())
+    }
+
+    /// The record of an id whose page is in a frame.
+    pub fn record(&self, id: Rid) -> Option<&[u8]>
+        requires there { HasPage (geometry_of self.now) id.page }
+        requires held { IsTrue (is_some (frame_of self.now id.page)) }
+        ensures { (front : List ℕ) (disk : ℕ → List ℕ) (S : PageId → List Slot) → Shows self.now front disk S
+            → option_map (λ bytes. bytes.now) result ≡ image_at_slot (S id.page) id.slot }
+    {
+        match self.pool.page(id.page) {
+            Some(page) => page.get(id.slot),
+            None => None,
+        }
+    }
+
+    /// Whether a record of so many bytes can have this id, whose page is in a frame.
+    pub fn fits(&self, id: Rid, bytes: usize) -> bool
+        requires there { HasPage (geometry_of self.now) id.page }
+        requires held { IsTrue (is_some (frame_of self.now id.page)) }
+        ensures { (front : List ℕ) (disk : ℕ → List ℕ) (S : PageId → List Slot) → Shows self.now front disk S → IsTrue result ↔ Fits (S id.page) id.slot bytes }
+    {
+        match self.pool.page(id.page) {
+            Some(page) => page.fits(id.slot, bytes),
+            None => false,
+        }
+    }
+
+    /// The bytes that are kept for an id whose page is in a frame.
+    pub fn claim(&self, id: Rid) -> u16
+        requires there { HasPage (geometry_of self.now) id.page }
+        requires held { IsTrue (is_some (frame_of self.now id.page)) }
+        ensures { (front : List ℕ) (disk : ℕ → List ℕ) (S : PageId → List Slot) → Shows self.now front disk S → result ≡ claim_at (S id.page) id.slot }
+    {
+        match self.pool.page(id.page) {
+            Some(page) => page.claim(id.slot),
+            None => 0,
+        }
+    }
+
+    /// Makes a change that was logged under this number, on a page in a frame. What was kept for the slot stays so.
+    pub fn change(&mut self, id: Rid, lsn: Lsn, after: Option<&[u8]>)
+        requires there { HasPage (geometry_of self.old) id.page }
+        requires fits { IsSomeAnd (frame_of self.old id.page) (λ f. Fits f.page.slots id.slot (image_len (option_map (λ bytes. bytes.now) after))) }
+        ensures shows { (front : List ℕ) (disk : ℕ → List ℕ) (S : PageId → List Slot) → Shows self.old front disk S
+            → Shows self.new front disk (with_slots S id.page (λ slots. with_image slots id.slot (option_map (λ bytes. bytes.now) after.entry))) }
+        ensures held { (k : ℕ) → is_some (frame_at self.new k) ≡ is_some (frame_at self.old k) }
+        ensures device { device_of self.new ≡ device_of self.old }
+    {
+        let gone = after.is_none();
+        self.pool.change(id.page, lsn, id.slot, after);
+        if gone {
+            self.forget(id.page);
+        }
+    }
+
+    /// Nothing comes back any more to an id whose page is in a frame: its slot keeps what its record takes.
+    pub fn release(&mut self, id: Rid)
+        requires there { HasPage (geometry_of self.old) id.page }
+        requires slot { IsSomeAnd (frame_of self.old id.page) (λ f. id.slot < length f.page.slots) }
+        ensures shows { (front : List ℕ) (disk : ℕ → List ℕ) (S : PageId → List Slot) → Shows self.old front disk S
+            → Shows self.new front disk (with_slots S id.page (λ slots. with_change (lowered 0) slots id.slot)) }
+        ensures held { (k : ℕ) → is_some (frame_at self.new k) ≡ is_some (frame_at self.old k) }
+        ensures device { device_of self.new ≡ device_of self.old }
+    {
+        self.pool.unreserve(id.page, id.slot, 0);
+        self.forget(id.page);
+    }
+
+    // Nothing is known any more of what a page refuses.
+    fn forget(&mut self, id: PageId)
+        requires { HasPage (geometry_of self.old) id }
+        ensures pool { self.new.pool ≡ self.old.pool }
+        ensures here { bound_of self.new.free.items id ≡ MAX_RECORD_BYTES + 1 }
+        ensures others { (p : PageId) → p ≢ id → bound_of self.new.free.items p ≡ bound_of self.old.free.items p }
+    {
+        self.free[id.store.0 as usize].forget(id.page);
+    }
+}

@@ -1,0 +1,21 @@
+//! Laws, as functions that do nothing: what a scan is to the model, and which slots a heap shows.
+ghost use Rattle.std.specs.Prelude.{◌≡◌, ℕ, List};
+ghost use Rattle.shore_page.specs.Slots.{Slot};
+ghost use Rattle.shore_types.specs.Layout.{HasPage};
+ghost use Rattle.shore_types.specs.declared.ids.PageId.{PageId};
+ghost use Rattle.shore_heap.specs.Heaps.{Shows, geometry_of};
+ghost use Rattle.shore_heap.specs.Scans.{ScansAsTheModel};
+
+use crate::heap::Heap;
+use shore_disk::Disk;
+
+/// The records of a store in its pages, each once and with rising ids, are the model's scan of it.
+pub fn scans_are_the_models()
+    ensures { ScansAsTheModel }
+{}
+
+/// What a heap shows is said by the pages of the volume alone.
+pub fn pages_of_the_volume_decide<D: Disk>(heap: &Heap<D>)
+    ensures { (front : List ℕ) (disk : ℕ → List ℕ) (S T : PageId → List Slot) → ((id : PageId) → HasPage (geometry_of heap.now) id → T id ≡ S id)
+        → Shows heap.now front disk S → Shows heap.now front disk T }
+{}

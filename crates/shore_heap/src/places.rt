@@ -1,0 +1,135 @@
+//! Where a new record of a store goes.
+ghost use Rattle.std.specs.Prelude.{◌≡◌, ◌≢◌, ◌⊎◌, ◌<◌, ◌≤◌, ℕ, List, IfErr, IfNone, IfOk, IfSome, IsTrue, None, Some, is_some, min, slice_get};
+ghost use Rattle.shore_disk.specs.Cause.{HasCause};
+ghost use Rattle.shore_dwrite.specs.Volumes.{HasNoPage, page_number, page_offset};
+ghost use Rattle.shore_page.specs.Slots.{Slot};
+ghost use Rattle.shore_types.specs.Layout.{HasPage, HasStore};
+ghost use Rattle.shore_types.specs.declared.faults.Device.TheVariants as Device;
+ghost use Rattle.shore_types.specs.declared.faults.Fault.TheVariants as Fault;
+ghost use Rattle.shore_types.specs.declared.ids.PageId.{PageId};
+ghost use Rattle.shore_types.specs.declared.layout.Geometry.{Geometry};
+ghost use Rattle.shore_heap.specs.Contents.{TakesNone, bound_of};
+ghost use Rattle.shore_heap.specs.Places.{HasNoPlace, IsFirstSlot, IsPlace, IsRefused};
+
+use crate::heap::Heap;
+use shore_disk::Disk;
+use shore_types::{Fault, Lsn, PageId, Rid, StoreId};
+use std::alloc::Global;
+
+impl<D: Disk> Heap<D> {
+    ghost use Rattle.shore_pool.specs.declared.frame.Frame.{Frame};
+    ghost use Rattle.shore_heap.specs.Heaps.{OnlyReads, Shows, device_of, faults_of, frame_at, frame_of, geometry_of, history_of};
+
+    /// Of all empty slots of a store that take a record of so many bytes the first, by page and slot, with its page in a frame. A page that is known
+    /// to refuse as many bytes is not looked at.
+    pub fn place_for(
+        &mut self,
+        alloc: Global,
+        store: StoreId,
+        bytes: usize,
+        last: Lsn,
+        seen: Lsn,
+    ) -> Result<Option<Rid>, Fault>
+        requires { HasStore (geometry_of self.old) store }
+        ensures found { (front : List ℕ) (disk : ℕ → List ℕ) (S : PageId → List Slot) → Shows self.old front disk S
+            → IfOk result (λ found. IfSome found (IsPlace (geometry_of self.old) S store bytes)) }
+        ensures none { (front : List ℕ) (disk : ℕ → List ℕ) (S : PageId → List Slot) → Shows self.old front disk S
+            → IfOk result (λ found. IfNone found (HasNoPlace (geometry_of self.old) S store bytes)) }
+        ensures held { IfOk result (λ found. IfSome found (λ id. IsTrue (is_some (frame_of self.new id.page)))) }
+        ensures still { (front : List ℕ) (disk : ℕ → List ℕ) (S : PageId → List Slot) → Shows self.old front disk S → OnlyReads self.old self.new front disk S }
+        ensures refused { (front : List ℕ) (disk : ℕ → List ℕ) (S : PageId → List Slot) → Shows self.old front disk S
+            → IfErr result (IsRefused (geometry_of self.old) disk store last) }
+        ensures geometry { geometry_of self.new ≡ geometry_of self.old }
+        ensures cause { HasCause result (faults_of self.old) (faults_of self.new) }
+    {
+        for from in 0..self.pages_in(store) {
+            let Some(page) = self.next_page(store, from, bytes) else {
+                return Ok(None);
+            };
+            let id = PageId { store, page };
+            if let Some(slot) = self.try_page(alloc, id, bytes, last, seen)? {
+                let page = PageId { store, page };
+                return Ok(Some(Rid { page, slot }));
+            }
+        }
+        Ok(None)
+    }
+
+    // How many pages a store has.
+    pub(crate) fn pages_in(&self, store: StoreId) -> u32
+        requires { HasStore (geometry_of self.now) store }
+        ensures { slice_get (geometry_of self.now).stores store ≡ Some result }
+    {
+        self.pool.geometry().stores.as_slice()[store.0 as usize]
+    }
+
+    // The lowest page of a store from one on that is not known to refuse so many bytes.
+    fn next_page(&self, store: StoreId, from: u32, bytes: usize) -> Option<u32>
+        requires { HasStore (geometry_of self.now) store }
+        ensures from { IfSome result (λ page. from ≤ page) }
+        ensures there { IfSome result (λ page. HasPage (geometry_of self.now) record { store = store; page = page }) }
+        ensures passed { IfSome result (λ page. (j : ℕ) → from ≤ j → j < page → bound_of self.now.free.items record { store = store; page = j } ≤ bytes) }
+        ensures none { result ≡ None → (j : ℕ) → from ≤ j → bound_of self.now.free.items record { store = store; page = j } ≤ bytes }
+    {
+        self.free[store.0 as usize].first_from(from, bytes)
+    }
+
+    // The first slot of a page for so many bytes. If there is none, the page is known to refuse as many.
+    fn try_page(
+        &mut self,
+        alloc: Global,
+        id: PageId,
+        bytes: usize,
+        last: Lsn,
+        seen: Lsn,
+    ) -> Result<Option<u16>, Fault>
+        requires { HasPage (geometry_of self.old) id }
+        ensures found { (front : List ℕ) (disk : ℕ → List ℕ) (S : PageId → List Slot) → Shows self.old front disk S
+            → IfOk result (λ found. IfSome found (IsFirstSlot (S id) bytes)) }
+        ensures none { IfOk result (λ found. IfNone found (bound_of self.new.free.items id ≤ bytes)) }
+        ensures others { (p : PageId) → p ≢ id → bound_of self.new.free.items p ≡ bound_of self.old.free.items p }
+        ensures held { IfOk result (λ found. IsTrue (is_some (frame_of self.new id))) }
+        ensures still { (front : List ℕ) (disk : ℕ → List ℕ) (S : PageId → List Slot) → Shows self.old front disk S → OnlyReads self.old self.new front disk S }
+        ensures refused { (front : List ℕ) (disk : ℕ → List ℕ) (S : PageId → List Slot) → Shows self.old front disk S → IfErr result (λ fault. (fault ≡ Fault.Device)
+            ⊎ (fault ≡ Fault.Memory) ⊎ ((fault ≡ Fault.Damaged Device.Volume (page_offset (page_number (geometry_of self.old) id)))
+            × HasNoPage (disk (page_number (geometry_of self.old) id)) id last)) }
+        ensures geometry { geometry_of self.new ≡ geometry_of self.old }
+        ensures cause { HasCause result (faults_of self.old) (faults_of self.new) }
+    {
+        let page = PageId {
+            store: id.store,
+            page: id.page,
+        };
+        self.fetch(alloc, page, last, seen)?;
+        match self.candidate(&id, bytes) {
+            Some(slot) => Ok(Some(slot)),
+            None => {
+                self.refuse(id, bytes);
+                Ok(None)
+            }
+        }
+    }
+
+    // The first slot for so many bytes of a page in a frame.
+    fn candidate(&self, id: &PageId, bytes: usize) -> Option<u16>
+        requires there { HasPage (geometry_of self.now) id.now }
+        requires held { IsTrue (is_some (frame_of self.now id.now)) }
+        ensures found { (front : List ℕ) (disk : ℕ → List ℕ) (S : PageId → List Slot) → Shows self.now front disk S → IfSome result (IsFirstSlot (S id.now) bytes) }
+        ensures none { (front : List ℕ) (disk : ℕ → List ℕ) (S : PageId → List Slot) → Shows self.now front disk S → result ≡ None → TakesNone (S id.now) bytes }
+    {
+        match self.pool.page(*id) {
+            Some(page) => page.candidate(0, bytes),
+            None => None,
+        }
+    }
+
+    // A page is known to refuse so many bytes.
+    fn refuse(&mut self, id: PageId, bytes: usize)
+        requires { HasPage (geometry_of self.old) id }
+        ensures pool { self.new.pool ≡ self.old.pool }
+        ensures here { bound_of self.new.free.items id ≡ min (bound_of self.old.free.items id) bytes }
+        ensures others { (p : PageId) → p ≢ id → bound_of self.new.free.items p ≡ bound_of self.old.free.items p }
+    {
+        self.free[id.store.0 as usize].refuse(id.page, bytes);
+    }
+}
