@@ -4,3 +4,4 @@ pub mod Frames
 pub mod Showing
 pub mod Scanned
 pub mod Finding
+pub mod Released

@@ -1,5 +1,5 @@
 //! The heap: records in the pages of a pool that has a frame for each page.
-ghost use Rattle.std.specs.Prelude.{◌≡◌, ◌≢◌, ◌⊎◌, ◌↔◌, ◌+◌, ◌<◌, ◌≤◌, ℕ, List, IfErr, IfOk, IsSomeAnd, IsTrue, None, OnErr, OnOk, Some, is_some, length, map, option_map};
+ghost use Rattle.std.specs.Prelude.{◌≡◌, ◌≢◌, ◌⊎◌, ◌↔◌, ◌+◌, ◌<◌, ◌≤◌, ℕ, List, IfErr, IfOk, IfSome, IsFalse, IsSomeAnd, IsTrue, None, OnErr, OnOk, Some, is_some, length, map, option_map};
 ghost use Rattle.shore_disk.specs.Cause.{HasCause};
 ghost use Rattle.shore_dwrite.specs.Settled as settled_device;
 ghost use Rattle.shore_dwrite.specs.Volumes.{HasNoPage, page_count, page_number, page_offset};
@@ -21,7 +21,7 @@ use shore_dwrite::PageDev;
 use shore_freemap::FreeMap;
 use shore_page::Page;
 use shore_pool::Pool;
-use shore_types::{Fault, Lsn, PageId, Rid};
+use shore_types::{Fault, Geometry, Lsn, PageId, Rid};
 use std::alloc::Global;
 
 /// The records of a volume's stores, in the slots of their pages. A page that was fetched stays in its frame, and none is written back: there is
@@ -89,8 +89,10 @@ impl<D: Disk> Heap<D> {
     pub fn record(&self, id: Rid) -> Option<&[u8]>
         requires there { HasPage (geometry_of self.now) id.page }
         requires held { IsTrue (is_some (frame_of self.now id.page)) }
-        ensures { (front : List ℕ) (disk : ℕ → List ℕ) (S : PageId → List Slot) → Shows self.now front disk S
+        ensures shown { (front : List ℕ) (disk : ℕ → List ℕ) (S : PageId → List Slot) → Shows self.now front disk S
             → option_map (λ bytes. bytes.now) result ≡ image_at_slot (S id.page) id.slot }
+        ensures framed { IsSomeAnd (frame_of self.now id.page) (λ f. option_map (λ bytes. bytes.now) result ≡ image_at_slot f.page.slots id.slot) }
+        ensures short { IfSome result (λ bytes. length bytes.now ≤ MAX_RECORD_BYTES) }
     {
         match self.pool.page(id.page) {
             Some(page) => page.get(id.slot),
@@ -102,7 +104,8 @@ impl<D: Disk> Heap<D> {
     pub fn fits(&self, id: Rid, bytes: usize) -> bool
         requires there { HasPage (geometry_of self.now) id.page }
         requires held { IsTrue (is_some (frame_of self.now id.page)) }
-        ensures { (front : List ℕ) (disk : ℕ → List ℕ) (S : PageId → List Slot) → Shows self.now front disk S → IsTrue result ↔ Fits (S id.page) id.slot bytes }
+        ensures shown { (front : List ℕ) (disk : ℕ → List ℕ) (S : PageId → List Slot) → Shows self.now front disk S → IsTrue result ↔ Fits (S id.page) id.slot bytes }
+        ensures framed { IsTrue result ↔ IsSomeAnd (frame_of self.now id.page) (λ f. Fits f.page.slots id.slot bytes) }
     {
         match self.pool.page(id.page) {
             Some(page) => page.fits(id.slot, bytes),
@@ -138,17 +141,40 @@ impl<D: Disk> Heap<D> {
         }
     }
 
-    /// Nothing comes back any more to an id whose page is in a frame: its slot keeps what its record takes.
+    /// Nothing comes back any more to an id: its slot keeps what its record takes. A page that is in no frame has no more kept.
     pub fn release(&mut self, id: Rid)
-        requires there { HasPage (geometry_of self.old) id.page }
-        requires slot { IsSomeAnd (frame_of self.old id.page) (λ f. id.slot < length f.page.slots) }
         ensures shows { (front : List ℕ) (disk : ℕ → List ℕ) (S : PageId → List Slot) → Shows self.old front disk S
             → Shows self.new front disk (with_slots S id.page (λ slots. with_change (lowered 0) slots id.slot)) }
         ensures held { (k : ℕ) → is_some (frame_at self.new k) ≡ is_some (frame_at self.old k) }
         ensures device { device_of self.new ≡ device_of self.old }
     {
+        if !self.has_slot(id.page, id.slot) {
+            return;
+        }
         self.pool.unreserve(id.page, id.slot, 0);
         self.forget(id.page);
+    }
+
+    // Whether a page is in a frame, with such a slot.
+    fn has_slot(&self, id: PageId, slot: u16) -> bool
+        ensures there { IsTrue result → HasPage (geometry_of self.now) id × IsSomeAnd (frame_of self.now id) (λ f. slot < length f.page.slots) }
+        ensures none { IsFalse result → HasPage (geometry_of self.now) id → IfSome (frame_of self.now id) (λ f. length f.page.slots ≤ slot) }
+    {
+        let PageId { store, page } = id;
+        if !self.geometry().has_page(PageId { store, page }) {
+            return false;
+        }
+        match self.pool.page(PageId { store, page }) {
+            Some(found) => slot < found.slot_count(),
+            None => false,
+        }
+    }
+
+    /// How the volume is laid out.
+    pub fn geometry(&self) -> &Geometry
+        ensures { result.now ≡ geometry_of self.now }
+    {
+        self.pool.geometry()
     }
 
     // Nothing is known any more of what a page refuses.

@@ -1,15 +1,16 @@
 -- What a change of one slot does to the claims and to the room of a page.
-use Rattle.std.proofs.Common.{◌≡◌, ◌≢◌, ℕ, zero, suc, ◌+◌, ◌-◌, ◌*◌, ◌<◌, ◌≤◌, max, min, List, [], ◌∷◌, ◌++◌, length, get_or, replicate, Option, Some, None, refl, sym, ap, subst, ◌∙◌, arith}
+use Rattle.std.proofs.Common.{◌≡◌, ◌≢◌, ℕ, zero, suc, ◌+◌, ◌-◌, ◌*◌, ◌<◌, ◌≤◌, max, min, List, [], ◌∷◌, ◌++◌, length, get_or, replicate, Option, Some, None, inl, inr, refl, sym, ap, subst, ◌∙◌, arith}
 use Rattle.std.proofs.Math.ListN.{set}
 use Rattle.std.proofs.lemmas.List.{get_or_default, get_or-set_same, length-set, length-append, length-replicate, append-nil}
 use Rattle.std.proofs.lemmas.List.Folds.{sum_by-replicate}
 use Rattle.std.proofs.lemmas.List.Elements.{All-set, All-nil, All-cons, All-append, All-get_or}
 use Rattle.std.proofs.lemmas.List.Sums.{sum_by-set, sum_by-append}
-use Rattle.std.proofs.lemmas.Option.{slice_get_past, slice_get_read, slice_get-get_or}
+use Rattle.std.proofs.lemmas.Option.{slice_get_cases, slice_get_past, slice_get_read, slice_get-get_or}
 use Rattle.std.specs.Option.{option_and_then, option_map_or}
 use Rattle.std.specs.List.{slice_get, All}
 use Rattle.shore_page.specs.Slots.{Slot, image_len, image_at_slot, with_change, with_slot, with_image, holding, settled}
 use Rattle.shore_types.specs.Images.{Image}
+use Rattle.shore_types.specs.declared.layout.TheConstants.{MAX_RECORD_BYTES}
 use Rattle.shore_page.specs.Room.{claims, claim_at, free_bytes, need, Fits, HasRoom, HoldsItsImage, KeepsClaims, ChangesOne, raised, lowered}
 
 -- a change of one element sets it
@@ -212,3 +213,19 @@ with_image_room slots i image room fits =
     let kept : KeepsClaims more (claims more) = record { sum = refl; room = with_slot_room slots i room (omega (arith, fits.room)) } in
     subst HasRoom (with_change_is (holding image) more i inside)
     (hold_kept more (claims more) i image (get_or more i nothing) (holding image (get_or more i nothing)) kept inside (get_here more i inside) refl fits_more).room
+
+-- no record is longer than records may be
+pub record_short : (slots : List Slot) (i : ℕ) (bytes : List ℕ) → HasRoom slots → image_at_slot slots i ≡ Some bytes → length bytes ≤ MAX_RECORD_BYTES
+record_short slots i bytes room is = elim (slice_get_cases slots i).1 [
+  | inl found ↦
+      let held : HoldsItsImage found.0 = subst HoldsItsImage found.3 (room.each i found.0 found.1) in
+      let image : found.0.image ≡ Some bytes = sym (ap (λ (o : Option Slot). option_and_then (λ (s : Slot). s.image) o) found.2) ∙ is in
+      let len = ap image_len image in
+      omega (arith, held.0, held.1, len)
+  | inr past ↦
+      let clash : None ≡ Some bytes = sym (ap (λ (o : Option Slot). option_and_then (λ (s : Slot). s.image) o) past.1) ∙ is in
+      absurd (none_is_some bytes clash)
+]
+  where
+    none_is_some : (b : List ℕ) → None ≡ Some b → ⊥
+    none_is_some b clash = cc

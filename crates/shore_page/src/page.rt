@@ -3,7 +3,7 @@ ghost use Rattle.std.specs.Prelude.{◌≡◌, ◌≢◌, ◌+◌, ◌-◌, ◌*
 ghost use Rattle.shore_page.specs.Slots.{image_len, image_at_slot, with_change, with_slot, with_image};
 ghost use Rattle.shore_types.specs.Images.{Image};
 ghost use Rattle.shore_page.specs.Room.{claim_at, free_bytes, need, Fits, HasRoom, IsCandidate, IsFirstCandidate, ChangesOne, raised, lowered};
-ghost use Rattle.shore_types.specs.declared.layout.TheConstants.{PAGE_BYTES, MAX_SLOTS};
+ghost use Rattle.shore_types.specs.declared.layout.TheConstants.{PAGE_BYTES, MAX_RECORD_BYTES, MAX_SLOTS};
 ghost use Rattle.shore_page.specs.Text.{IsPageText, images_of, settled_page};
 
 use crate::claims::{add_claims, claim_records};
@@ -72,7 +72,8 @@ impl Page {
 
     /// The record in a slot; None in an empty slot, and if there is no such slot.
     pub fn get(&self, slot: u16) -> Option<&[u8]>
-        ensures { option_map (λ bytes. bytes.now) result ≡ image_at_slot self.now.slots slot }
+        ensures image { option_map (λ bytes. bytes.now) result ≡ image_at_slot self.now.slots slot }
+        ensures short { IfSome result (λ bytes. length bytes.now ≤ MAX_RECORD_BYTES) }
     {
         if slot >= self.slot_count() {
             return None;
