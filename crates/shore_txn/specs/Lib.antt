@@ -1,0 +1,3 @@
+pub mod UndoEntries
+pub mod Txns
+pub mod Tables

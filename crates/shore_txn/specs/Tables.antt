@@ -1,0 +1,53 @@
+-- What the table of transactions has.
+use Rattle.std.specs.Prelude.{◌≡◌, ◌++◌, ◌∷◌, [], ℕ, List, Option, None, Some}
+use Rattle.shore_sessions.specs.Sessions.{SessionTxn}
+use Rattle.shore_txn.specs.declared.log_room.LogRoom.{LogRoom}
+use Rattle.shore_txn.specs.declared.table.Committing.{Committing}
+use Rattle.shore_txn.specs.declared.table.TxnTable.{TxnTable}
+use Rattle.shore_txn.specs.declared.txn.Txn.{Txn}
+use Rattle.shore_txn.specs.declared.undo.UndoEntry.{UndoEntry}
+use Rattle.shore_txn.specs.Txns.{as_session_txns, entries_of, last_of, number_of}
+
+-- the transaction under way, if there is one
+abbrev pub active_in : TxnTable → Option Txn
+active_in table = table.active
+
+abbrev pub undos_in : TxnTable → List SessionTxn
+undos_in table = as_session_txns table.active
+
+-- the commit that waits
+abbrev pub committing_in : TxnTable → Option Committing
+committing_in table = table.committing
+
+-- the number of the next transaction
+abbrev pub next_in : TxnTable → ℕ
+next_in table = table.next
+
+abbrev pub room_in : TxnTable → LogRoom
+room_in table = table.room
+
+-- a transaction with one change more, which was logged under this number
+pub record IsAfterChange (old : Txn) (lsn : ℕ) (entry : UndoEntry) (new : Txn) : Type 0 where
+  pub txn : number_of new ≡ number_of old
+  pub session : new.session ≡ old.session
+  pub last : last_of new ≡ lsn
+  pub entries : entries_of new ≡ entries_of old ++ entry ∷ []
+
+-- two transactions are one but for the memory that they have
+pub record SameTxn (old new : Txn) : Type 0 where
+  pub txn : number_of new ≡ number_of old
+  pub session : new.session ≡ old.session
+  pub last : last_of new ≡ last_of old
+  pub entries : entries_of new ≡ entries_of old
+
+abbrev pub SameTxns : Option Txn → Option Txn → Type 0
+SameTxns None None = Unit {0}
+SameTxns (Some old) (Some new) = SameTxn old new
+SameTxns None (Some new) = ⊥
+SameTxns (Some old) None = ⊥
+
+pub record SameTable (old new : TxnTable) : Type 0 where
+  pub active : SameTxns (active_in old) (active_in new)
+  pub committing : committing_in new ≡ committing_in old
+  pub next : next_in new ≡ next_in old
+  pub room : room_in new ≡ room_in old

@@ -1,0 +1,12 @@
+//! The table of transactions: undo lists, commits that wait, and the room of the log that the transactions share.
+#![tactic(auto)]
+
+mod log_room;
+mod table;
+mod txn;
+mod undo;
+
+pub use log_room::LogRoom;
+pub use table::{Committing, TxnTable};
+pub use txn::Txn;
+pub use undo::UndoEntry;
