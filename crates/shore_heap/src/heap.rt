@@ -67,6 +67,13 @@ impl<D: Disk> Heap<D> {
         self.pool.into_device()
     }
 
+    /// How the stores of the volume are laid out.
+    pub fn geometry(&self) -> &Geometry
+        ensures { result.now ≡ geometry_of self.now }
+    {
+        self.pool.geometry()
+    }
+
     /// Brings a page into a frame, if it is in none. `last` is the number of the log's last record, and `seen` that up to which it is durable.
     pub fn fetch(&mut self, alloc: Global, page: PageId, last: Lsn, seen: Lsn) -> Result<(), Fault>
         requires { HasPage (geometry_of self.old) page }
@@ -151,7 +158,19 @@ impl<D: Disk> Heap<D> {
         if !self.has_slot(id.page, id.slot) {
             return;
         }
-        self.pool.unreserve(id.page, id.slot, 0);
+        self.release_to(id, 0);
+    }
+
+    /// No more than so many bytes may come back to an id whose page is in a frame: its slot keeps no more than these, and what its record takes.
+    pub fn release_to(&mut self, id: Rid, bytes: usize)
+        requires there { HasPage (geometry_of self.old) id.page }
+        requires slot { IsSomeAnd (frame_of self.old id.page) (λ f. id.slot < length f.page.slots) }
+        ensures shows { (front : List ℕ) (disk : ℕ → List ℕ) (S : PageId → List Slot) → Shows self.old front disk S
+            → Shows self.new front disk (with_slots S id.page (λ slots. with_change (lowered bytes) slots id.slot)) }
+        ensures held { (k : ℕ) → is_some (frame_at self.new k) ≡ is_some (frame_at self.old k) }
+        ensures device { device_of self.new ≡ device_of self.old }
+    {
+        self.pool.unreserve(id.page, id.slot, bytes);
         self.forget(id.page);
     }
 
@@ -168,13 +187,6 @@ impl<D: Disk> Heap<D> {
             Some(found) => slot < found.slot_count(),
             None => false,
         }
-    }
-
-    /// How the volume is laid out.
-    pub fn geometry(&self) -> &Geometry
-        ensures { result.now ≡ geometry_of self.now }
-    {
-        self.pool.geometry()
     }
 
     // Nothing is known any more of what a page refuses.

@@ -1,31 +1,9 @@
-use Rattle.std.proofs.Common.{List, refl, ap}
-use Rattle.shore_dwrite.specs.Settled as settled_device
-use Rattle.shore_page.specs.Room.{lowered}
-use Rattle.shore_page.specs.Slots.{Slot, with_change}
-use Rattle.shore_pool.specs.Changes.{reclaimed}
-use Rattle.shore_pool.specs.Pools as pools
-use Rattle.shore_pool.proofs.Same.{there_is}
-use Rattle.shore_heap.specs.Contents.{with_slots}
-use Rattle.shore_heap.proofs.Bounds.{bounds_forgot}
-use Rattle.shore_heap.proofs.Frames.{have_changed}
 use Rattle.shore_dwrite.specs.Volumes.{page_number}
+use Rattle.shore_page.specs.Room.{lowered}
+use Rattle.shore_page.specs.Slots.{with_change}
+use Rattle.shore_pool.specs.Pools as pools
 use Rattle.shore_heap.proofs.Released.{nothing_kept, shows_unchanged}
-use Rattle.shore_heap.proofs.Showing.{frame_is, shows_by}
 use Rattle.shore_heap.proofs.heap.Heap.release.Goals as goal
-
-pub returns-clause-shows : goal.returns-clause-shows
-returns-clause-shows g c front disk S shows =
-    let old = c.args.self.now in
-    let g = pools.geometry_of old.pool in
-    let id = c.args.id.page in
-    let slot = c.has_slot.ensures.there c.if-not-has_slot.false in
-    let lower : List Slot → List Slot = λ slots. with_change (lowered 0) slots c.args.id.slot in
-    let geometry = ap settled_device.geometry_of c.unreserve.ensures.device in
-    let here = frame_is c.unreserve.new.self g id _ geometry c.unreserve.ensures.here in
-    let held = there_is _ (pools.frame_of old.pool id) slot.1 in
-    let have = have_changed g (pools.frame_at old.pool) (pools.frame_at c.unreserve.new.self) disk S id slot.0 c.unreserve.ensures.others shows.pages (reclaimed (lowered 0) c.args.id.slot) lower (λ e. refl) here held in
-    shows_by c.unreserve.new.self c.forget.new.self g front disk (with_slots S id lower) c.forget.ensures.pool geometry (c.unreserve.ensures.kept front disk shows.holds).0 have
-    (bounds_forgot g old.free.items S shows.bounds id c.forget.new.self.free.items lower c.forget.ensures.here c.forget.ensures.others)
 
 pub returns-then-not-has_slot-clause-shows : goal.returns-then-not-has_slot-clause-shows
 returns-then-not-has_slot-clause-shows g c front disk S shows =

@@ -1,0 +1,25 @@
+use Rattle.std.proofs.Common.{List, refl, ap}
+use Rattle.shore_dwrite.specs.Settled as settled_device
+use Rattle.shore_page.specs.Room.{lowered}
+use Rattle.shore_page.specs.Slots.{Slot, with_change}
+use Rattle.shore_pool.specs.Changes.{reclaimed}
+use Rattle.shore_pool.specs.Pools as pools
+use Rattle.shore_pool.proofs.Same.{there_is}
+use Rattle.shore_heap.specs.Contents.{with_slots}
+use Rattle.shore_heap.proofs.Bounds.{bounds_forgot}
+use Rattle.shore_heap.proofs.Frames.{have_changed}
+use Rattle.shore_heap.proofs.Showing.{frame_is, shows_by}
+use Rattle.shore_heap.proofs.heap.Heap.release_to.Goals as goal
+
+pub returns-clause-shows : goal.returns-clause-shows
+returns-clause-shows g c front disk S shows =
+    let old = c.args.self.now in
+    let g = pools.geometry_of old.pool in
+    let id = c.args.id.page in
+    let lower : List Slot → List Slot = λ slots. with_change (lowered c.args.bytes) slots c.args.id.slot in
+    let geometry = ap settled_device.geometry_of c.unreserve.ensures.device in
+    let here = frame_is c.unreserve.new.self g id _ geometry c.unreserve.ensures.here in
+    let held = there_is _ (pools.frame_of old.pool id) c.requires.slot in
+    let have = have_changed g (pools.frame_at old.pool) (pools.frame_at c.unreserve.new.self) disk S id c.requires.there c.unreserve.ensures.others shows.pages (reclaimed (lowered c.args.bytes) c.args.id.slot) lower (λ e. refl) here held in
+    shows_by c.unreserve.new.self c.forget.new.self g front disk (with_slots S id lower) c.forget.ensures.pool geometry (c.unreserve.ensures.kept front disk shows.holds).0 have
+    (bounds_forgot g old.free.items S shows.bounds id c.forget.new.self.free.items lower c.forget.ensures.here c.forget.ensures.others)
