@@ -27,7 +27,8 @@ pub record InBounds (g : Geometry) (stream_bytes : ℕ) (rs : List LogRecord) : 
 abbrev pub AreInBounds : Geometry → ℕ → List LogRecord → Type 0
 AreInBounds g stream_bytes rs = (n : ℕ) → n ≤ length rs → InBounds g stream_bytes (take n rs)
 
--- the state is over a stream of this length, and a crash leaves a list in bounds
+-- The state is over a stream of this length, and a crash leaves a list in bounds. The next transaction's number may be one above the last that a
+-- record may have.
 pub record IsBounded (g : Geometry) (stream_bytes : ℕ) (s : State) : Type 0 where
   pub as_long : s.stream_bytes ≡ stream_bytes
   pub beginnings : AreInBounds g stream_bytes s.log
