@@ -44,18 +44,32 @@ fn has_what_was_written(device: &mut FileDisk) -> bool {
         && device.failures() == 0
 }
 
+fn keeps_what_is_written(disk: &mut FileDisk) -> bool {
+    disk.len() == DEVICE_BYTES
+        && write(disk, 4096, WORD)
+        && write(disk, DEVICE_BYTES - 1, b"z")
+        && disk.sync().is_ok()
+        && has_what_was_written(disk)
+}
+
 // What is written is read back, also by one who opens the file later; all else reads as zeros.
 #[test]
 fn a_file_keeps_what_is_written(rt: HostRuntime) -> io::Result<()> {
-    let mut disk = new_device(&rt)?;
-    assert!(rt; disk.len() == DEVICE_BYTES);
-    assert!(rt; write(&mut disk, 4096, WORD));
-    assert!(rt; write(&mut disk, DEVICE_BYTES - 1, b"z"));
-    assert!(rt; disk.sync().is_ok());
-    assert!(rt; has_what_was_written(&mut disk));
-    let mut again = FileDisk::new(open(&rt, PATH, false)?)?;
-    assert!(rt; has_what_was_written(&mut again));
+    let is_kept = keeps_what_is_written(&mut new_device(&rt)?);
+    assert!(rt; is_kept);
+    let is_there = has_what_was_written(&mut FileDisk::new(open(&rt, PATH, false)?)?);
+    assert!(rt; is_there);
     Ok(())
+}
+
+fn fails_behind_its_end(disk: &mut FileDisk) -> bool {
+    let mut word = [1; 8];
+    read(disk, 0, &mut word)
+        && word == [0; 8]
+        && !read(disk, 4096, &mut word)
+        && !read(disk, 96, &mut word)
+        && disk.failures() == 2
+        && disk.len() == DEVICE_BYTES
 }
 
 // A file that lost its end fails where it has none, and counts each failure; what is left reads on.
@@ -63,12 +77,7 @@ fn a_file_keeps_what_is_written(rt: HostRuntime) -> io::Result<()> {
 fn a_file_shorter_than_it_was_fails_at_its_end(rt: HostRuntime) -> io::Result<()> {
     let mut disk = new_device(&rt)?;
     open(&rt, PATH, false)?.set_len(100)?;
-    let mut word = [1; 8];
-    assert!(rt; read(&mut disk, 0, &mut word));
-    assert!(rt; word == [0; 8]);
-    assert!(rt; !read(&mut disk, 4096, &mut word));
-    assert!(rt; !read(&mut disk, 96, &mut word));
-    assert!(rt; disk.failures() == 2 && disk.len() == DEVICE_BYTES);
+    assert!(rt; fails_behind_its_end(&mut disk));
     Ok(())
 }
 

@@ -83,7 +83,7 @@ fn changed(
 /// A device, its length, the changed bytes of its label, and how that is judged.
 type Row = (Device, usize, &'static [(u64, u8)], Judged);
 
-const ROWS: [Row; 21] = [
+static ROWS: [Row; 21] = [
     (Device::Log, LOG_BYTES, &[], Judged::Read),
     (Device::Volume, VOLUME_BYTES, &[], Judged::Read),
     // the first byte, the device's letter, and the version
@@ -131,12 +131,20 @@ fn is_judged_right(alloc: Global, row: &Row) -> Result<bool, AllocError> {
     Ok(is_as(row, &read_label(alloc, &mut disk, row.0)))
 }
 
+/// The first row that is not judged right, if there is one.
+fn wrong_row(alloc: Global, rows: &[Row]) -> Result<Option<usize>, AllocError> {
+    for number in 0..rows.len() {
+        if !is_judged_right(alloc, &rows[number])? {
+            return Ok(Some(number));
+        }
+    }
+    Ok(None)
+}
+
 #[test]
 fn labels_are_judged(rt: HostRuntime) -> Result<(), AllocError> {
-    for (number, row) in (0u32..u32::MAX).zip(ROWS.iter()) {
-        assert!(rt; is_judged_right(rt.alloc(), row)?, "row {number}");
-    }
-    Ok(())
+    let wrong = wrong_row(rt.alloc(), &ROWS)?;
+    Ok(assert!(rt; wrong.is_none(), "row {wrong:?}"))
 }
 
 /// The test of what writing a label asks, and the call.

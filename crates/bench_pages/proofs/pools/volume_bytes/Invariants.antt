@@ -1,7 +1,0 @@
-use Rattle.std.proofs.Common.{◌≡◌, length}
-use Rattle.bench_pages.proofs.pools.volume_bytes.Given as goal
-
-abbrev pub invariant-loop-page : goal.invariant-loop-page
-invariant-loop-page l = record {
-  whole : length l.bytes.items ≡ length l.initial.bytes.items;
-}
