@@ -1,6 +1,6 @@
 //! The tables of modes.
 use super::trouble::{Trouble, require};
-use super::words::{end, is_blank, word};
+use super::words::{Words, end, is_blank, word};
 use shore_modes::{allowed, coexist, covers, grants, parent_mode, sup};
 use shore_types::{Level, Mode};
 use std::test::Fail;
@@ -60,21 +60,31 @@ fn check_line(line: &str) -> Result<(), Trouble> {
     let table = word(&mut words)?;
     let first = word(&mut words)?;
     for second in MODES.split_whitespace() {
-        let as_log_entry = as_log_entry(table, first, mode_of(second)?)?;
-        require(word(&mut words)? == as_log_entry)?;
+        check_word(table, first, second, &mut words)?;
     }
     end(&mut words)
+}
+
+fn check_word(table: &str, first: &str, second: &str, words: &mut Words) -> Result<(), Trouble> {
+    let as_log_entry = as_log_entry(table, first, mode_of(second)?)?;
+    require(word(words)? == as_log_entry)
 }
 
 // What the table says of the two.
 fn as_log_entry(table: &str, first: &str, second: Mode) -> Result<&'static str, Trouble> {
     match table {
-        "coexist" => Ok(answer(coexist(mode_of(first)?, second))),
-        "grants" => Ok(answer(grants(mode_of(first)?, second))),
-        "covers" => Ok(answer(covers(mode_of(first)?, second))),
-        "sup" => Ok(name_of(sup(mode_of(first)?, second))),
         "parent" => Ok(name_of(parent_mode(second))),
         "allowed" => Ok(answer(allowed(level_of(first)?, second))),
+        _ => of_modes(table, mode_of(first)?, second),
+    }
+}
+
+fn of_modes(table: &str, first: Mode, second: Mode) -> Result<&'static str, Trouble> {
+    match table {
+        "coexist" => Ok(answer(coexist(first, second))),
+        "grants" => Ok(answer(grants(first, second))),
+        "covers" => Ok(answer(covers(first, second))),
+        "sup" => Ok(name_of(sup(first, second))),
         _ => Err(Trouble::NoLine),
     }
 }
