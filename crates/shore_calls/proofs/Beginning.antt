@@ -30,7 +30,7 @@ module _ (found : List LogRecord) (es : List Entry) (s : State) (k : IsStateAfte
   abbrev began : Entry
   began = Exchanged session next (exchange call.Begin (Ok (Began next)))
 
-  -- no transaction is current, since it would be of this session
+  -- no transaction is current, since it would be one of the session that begins
   nobody : (a : SessionTxn) → IsCurrent s.sessions a → ⊥
   nobody a y = idle a y (k.one.first a y ∙ sym first)
 
