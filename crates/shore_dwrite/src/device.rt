@@ -124,6 +124,8 @@ impl<D: Disk> PageDev<D> {
             × HasNoPage (pages (page_number (geometry_of self.old) id)) id last)) }
         ensures settled { (front : List ℕ) (pages : ℕ → List ℕ) → IsSettled self.old front pages → IsSettled self.new front pages }
         ensures same { IsTrue (D.is_honest self.old.device) → D.history self.new.device ≡ D.history self.old.device }
+        ensures honest { D.is_honest self.new.device ≡ D.is_honest self.old.device }
+        ensures size { size (D.history self.new.device) ≡ size (D.history self.old.device) }
         ensures geometry { geometry_of self.new ≡ geometry_of self.old }
         ensures cause { HasCause result (D.faults self.old.device) (D.faults self.new.device) }
     {
@@ -145,6 +147,8 @@ impl<D: Disk> PageDev<D> {
             → LeavesOnly (D.history self.old.device) (D.history self.new.device)
             (ShowsEither (geometry_of self.old) front pages (overlaid (numbers_of images.now) (texts_of images.now) pages)) }
 
+        ensures honest { D.is_honest self.new.device ≡ D.is_honest self.old.device }
+        ensures size { size (D.history self.new.device) ≡ size (D.history self.old.device) }
         ensures geometry { geometry_of self.new ≡ geometry_of self.old }
         ensures cause { CountsFault result (D.faults self.old.device) (D.faults self.new.device) }
     {
@@ -197,6 +201,7 @@ impl<D: Disk> PageDev<D> {
             → IfErr result (λ fault. IsFromOutside fault ⊎ RefusesArea (geometry_of self.old) image fault) }
         ensures same { IsTrue (D.is_honest self.old.device) → D.history self.new.device ≡ D.history self.old.device }
         ensures honest { D.is_honest self.new.device ≡ D.is_honest self.old.device }
+        ensures size { size (D.history self.new.device) ≡ size (D.history self.old.device) }
         ensures geometry { geometry_of self.new ≡ geometry_of self.old }
         ensures cause { HasCause result (D.faults self.old.device) (D.faults self.new.device) }
     {
@@ -217,6 +222,7 @@ impl<D: Disk> PageDev<D> {
         ensures any_moment { (base : List ℕ) → IsTrue (D.is_honest self.old.device) → Stands (D.history self.old.device) base
             → LeavesOnly (D.history self.old.device) (D.history self.new.device) (DiffersInArea base) }
         ensures honest { D.is_honest self.new.device ≡ D.is_honest self.old.device }
+        ensures size { size (D.history self.new.device) ≡ size (D.history self.old.device) }
         ensures geometry { geometry_of self.new ≡ geometry_of self.old }
         ensures cause { CountsFault result (D.faults self.old.device) (D.faults self.new.device) }
     {
@@ -233,6 +239,7 @@ impl<D: Disk> PageDev<D> {
         ensures any_moment { (base : List ℕ) → IsTrue (D.is_honest self.old.device) → Stands (D.history self.old.device) base
             → LeavesOnly (D.history self.old.device) (D.history self.new.device) (DiffersInPages (numbers_of images.now) base) }
         ensures honest { D.is_honest self.new.device ≡ D.is_honest self.old.device }
+        ensures size { size (D.history self.new.device) ≡ size (D.history self.old.device) }
         ensures geometry { geometry_of self.new ≡ geometry_of self.old }
         ensures cause { CountsFault result (D.faults self.old.device) (D.faults self.new.device) }
     {

@@ -12,7 +12,7 @@ use Rattle.shore_pool.specs.Pools as pools
 use Rattle.shore_pool.specs.Pools.{Holds}
 use Rattle.shore_heap.specs.declared.heap.Heap.{Heap}
 use Rattle.shore_heap.specs.Contents.{AreBounds, HasSlots, TakesNone}
-use Rattle.shore_heap.specs.Heaps.{OnlyReads, Shows, frame_of, geometry_of}
+use Rattle.shore_heap.specs.Heaps.{KeepsVolume, OnlyReads, Shows, frame_of, geometry_of}
 use Rattle.shore_heap.proofs.Frames.{Have}
 
 module _ {D : Type 0} {G : Ghosts D} where
@@ -34,6 +34,13 @@ module _ {D : Type 0} {G : Ghosts D} where
   -- one call that only reads after another
   pub reads_then : (old mid new : Heap D G) (front : List ℕ) (disk : ℕ → List ℕ) (S : PageId → List Slot) → OnlyReads old mid front disk S → OnlyReads mid new front disk S → OnlyReads old new front disk S
   reads_then old mid new front disk S one two = record { shows = two.shows; history = two.history ∙ one.history; stay = λ k f is. two.stay k f (one.stay k f is) }
+
+  -- .. and one after another that keeps the volume
+  pub keeps_then : (old mid new : Heap D G) → KeepsVolume old mid → KeepsVolume mid new → KeepsVolume old new
+  keeps_then old mid new one two front disk holds =
+      let first = one front disk holds in
+      let second = two front disk first.0 in
+      (second.0, second.1 ∙ first.1)
 
   -- nothing was called
   pub same_reads : (heap : Heap D G) (front : List ℕ) (disk : ℕ → List ℕ) (S : PageId → List Slot) → Shows heap front disk S → OnlyReads heap heap front disk S

@@ -1,5 +1,5 @@
 -- What a heap shows over a volume, and what a call that only reads leaves of it.
-use Rattle.std.specs.Prelude.{◌≡◌, ℕ, List, Option, Some}
+use Rattle.std.specs.Prelude.{◌≡◌, Bool, ℕ, List, Option, Some}
 use Rattle.shore_disk.specs.Device.{History}
 use Rattle.shore_disk.specs.declared.device.Disk.{Ghosts}
 use Rattle.shore_types.specs.declared.ids.PageId.{PageId}
@@ -27,6 +27,10 @@ geometry_of heap = pools.geometry_of heap.pool
 abbrev pub history_of : {D : Type 0} {G : Ghosts D} → Heap D G → History
 history_of heap = pools.history_of heap.pool
 
+-- whether what is said of the device's bytes holds of it
+abbrev pub honesty_of : {D : Type 0} {G : Ghosts D} → Heap D G → Bool
+honesty_of heap = pools.honesty_of heap.pool
+
 abbrev pub faults_of : {D : Type 0} {G : Ghosts D} → Heap D G → ℕ
 faults_of heap = pools.faults_of heap.pool
 
@@ -53,3 +57,7 @@ pub record OnlyReads {D : Type 0} {G : Ghosts D} (old new : Heap D G) (front : L
   pub shows : Shows new front disk S
   pub history : history_of new ≡ history_of old
   pub stay : (k : ℕ) (f : Frame) → frame_at old k ≡ Some f → frame_at new k ≡ Some f
+
+-- What a call that reads pages at most leaves of the volume, whatever its pages hold: it is settled as it was, and so is what is clean in a frame.
+abbrev pub KeepsVolume : {D : Type 0} {G : Ghosts D} → Heap D G → Heap D G → Type 0
+KeepsVolume old new = (front : List ℕ) (disk : ℕ → List ℕ) → Holds old.pool front disk → Holds new.pool front disk × (history_of new ≡ history_of old)

@@ -1,6 +1,7 @@
 //! The heap: records in the pages of a pool that has a frame for each page.
 ghost use Rattle.std.specs.Prelude.{◌≡◌, ◌≢◌, ◌⊎◌, ◌↔◌, ◌+◌, ◌<◌, ◌≤◌, ℕ, List, IfErr, IfOk, IfSome, IsFalse, IsSomeAnd, IsTrue, None, OnErr, OnOk, Some, is_some, length, map, option_map};
 ghost use Rattle.shore_disk.specs.Cause.{HasCause};
+ghost use Rattle.shore_disk.specs.Device.{size};
 ghost use Rattle.shore_dwrite.specs.Settled as settled_device;
 ghost use Rattle.shore_dwrite.specs.Volumes.{HasNoPage, page_count, page_number, page_offset};
 ghost use Rattle.shore_page.specs.Room.{Fits, claim_at, lowered};
@@ -37,7 +38,7 @@ pub struct Heap<D: Disk> {
 
 impl<D: Disk> Heap<D> {
     ghost use Rattle.shore_pool.specs.declared.frame.Frame.{Frame};
-    ghost use Rattle.shore_heap.specs.Heaps.{OnlyReads, Shows, bounds_of, device_of, faults_of, frame_at, frame_of, geometry_of, history_of};
+    ghost use Rattle.shore_heap.specs.Heaps.{KeepsVolume, OnlyReads, Shows, bounds_of, device_of, faults_of, frame_at, frame_of, geometry_of, history_of, honesty_of};
 
     /// The heap of a volume, with no page in a frame: a pool of so many frames, or more if the volume has more pages. All memory is taken but that
     /// of pages. The device is handed back if an allocation failed.
@@ -85,6 +86,9 @@ impl<D: Disk> Heap<D> {
             ⊎ (fault ≡ Fault.Memory) ⊎ ((fault ≡ Fault.Damaged Device.Volume (page_offset (page_number (geometry_of self.old) page)))
             × HasNoPage (disk (page_number (geometry_of self.old) page)) page last)) }
         ensures bounds { bounds_of self.new ≡ bounds_of self.old }
+        ensures untouched { KeepsVolume self.old self.new }
+        ensures honest { honesty_of self.new ≡ honesty_of self.old }
+        ensures size { size (history_of self.new) ≡ size (history_of self.old) }
         ensures geometry { geometry_of self.new ≡ geometry_of self.old }
         ensures cause { HasCause result (faults_of self.old) (faults_of self.new) }
     {

@@ -1,6 +1,7 @@
 //! Where a new record of a store goes.
 ghost use Rattle.std.specs.Prelude.{◌≡◌, ◌≢◌, ◌⊎◌, ◌<◌, ◌≤◌, ℕ, List, IfErr, IfNone, IfOk, IfSome, IsTrue, None, Some, is_some, min, slice_get};
 ghost use Rattle.shore_disk.specs.Cause.{HasCause};
+ghost use Rattle.shore_disk.specs.Device.{size};
 ghost use Rattle.shore_dwrite.specs.Volumes.{HasNoPage, page_number, page_offset};
 ghost use Rattle.shore_page.specs.Slots.{Slot};
 ghost use Rattle.shore_types.specs.Layout.{HasPage, HasStore};
@@ -18,7 +19,7 @@ use std::alloc::Global;
 
 impl<D: Disk> Heap<D> {
     ghost use Rattle.shore_pool.specs.declared.frame.Frame.{Frame};
-    ghost use Rattle.shore_heap.specs.Heaps.{OnlyReads, Shows, device_of, faults_of, frame_at, frame_of, geometry_of, history_of};
+    ghost use Rattle.shore_heap.specs.Heaps.{KeepsVolume, OnlyReads, Shows, device_of, faults_of, frame_at, frame_of, geometry_of, history_of, honesty_of};
 
     /// Of all empty slots of a store that take a record of so many bytes the first, by page and slot, with its page in a frame. A page that is known
     /// to refuse as many bytes is not looked at.
@@ -39,6 +40,9 @@ impl<D: Disk> Heap<D> {
         ensures still { (front : List ℕ) (disk : ℕ → List ℕ) (S : PageId → List Slot) → Shows self.old front disk S → OnlyReads self.old self.new front disk S }
         ensures refused { (front : List ℕ) (disk : ℕ → List ℕ) (S : PageId → List Slot) → Shows self.old front disk S
             → IfErr result (IsRefused (geometry_of self.old) disk store last) }
+        ensures untouched { KeepsVolume self.old self.new }
+        ensures honest { honesty_of self.new ≡ honesty_of self.old }
+        ensures size { size (history_of self.new) ≡ size (history_of self.old) }
         ensures geometry { geometry_of self.new ≡ geometry_of self.old }
         ensures cause { HasCause result (faults_of self.old) (faults_of self.new) }
     {
@@ -93,6 +97,9 @@ impl<D: Disk> Heap<D> {
         ensures refused { (front : List ℕ) (disk : ℕ → List ℕ) (S : PageId → List Slot) → Shows self.old front disk S → IfErr result (λ fault. (fault ≡ Fault.Device)
             ⊎ (fault ≡ Fault.Memory) ⊎ ((fault ≡ Fault.Damaged Device.Volume (page_offset (page_number (geometry_of self.old) id)))
             × HasNoPage (disk (page_number (geometry_of self.old) id)) id last)) }
+        ensures untouched { KeepsVolume self.old self.new }
+        ensures honest { honesty_of self.new ≡ honesty_of self.old }
+        ensures size { size (history_of self.new) ≡ size (history_of self.old) }
         ensures geometry { geometry_of self.new ≡ geometry_of self.old }
         ensures cause { HasCause result (faults_of self.old) (faults_of self.new) }
     {

@@ -1,6 +1,7 @@
 //! The records of a store, in place order.
 ghost use Rattle.std.specs.Prelude.{◌≡◌, ◌++◌, ◌+◌, ◌∷◌, [], ℕ, List, IfErr, IfOk, IsTrue, OnOk, is_some};
 ghost use Rattle.shore_disk.specs.Cause.{HasCause};
+ghost use Rattle.shore_disk.specs.Device.{size};
 ghost use Rattle.shore_page.specs.Slots.{Slot};
 ghost use Rattle.shore_types.specs.Layout.{HasPage, HasStore};
 ghost use Rattle.shore_types.specs.declared.ids.PageId.{PageId};
@@ -14,7 +15,7 @@ use shore_types::{Bytes, Fault, Lsn, PageId, Rid, Sequence, StoreId};
 use std::alloc::{AllocError, Global};
 
 impl<D: Disk> Heap<D> {
-    ghost use Rattle.shore_heap.specs.Heaps.{OnlyReads, Shows, faults_of, frame_of, geometry_of};
+    ghost use Rattle.shore_heap.specs.Heaps.{KeepsVolume, OnlyReads, Shows, faults_of, frame_of, geometry_of, history_of, honesty_of};
 
     /// The records of a store by page and slot, each copied. All pages of the store are in frames then.
     pub fn scan(
@@ -30,6 +31,9 @@ impl<D: Disk> Heap<D> {
         ensures still { (front : List ℕ) (disk : ℕ → List ℕ) (S : PageId → List Slot) → Shows self.old front disk S → OnlyReads self.old self.new front disk S }
         ensures refused { (front : List ℕ) (disk : ℕ → List ℕ) (S : PageId → List Slot) → Shows self.old front disk S
             → IfErr result (IsRefused (geometry_of self.old) disk store last) }
+        ensures untouched { KeepsVolume self.old self.new }
+        ensures honest { honesty_of self.new ≡ honesty_of self.old }
+        ensures size { size (history_of self.new) ≡ size (history_of self.old) }
         ensures geometry { geometry_of self.new ≡ geometry_of self.old }
         ensures cause { HasCause result (faults_of self.old) (faults_of self.new) }
     {
@@ -54,6 +58,9 @@ impl<D: Disk> Heap<D> {
         ensures still { (front : List ℕ) (disk : ℕ → List ℕ) (S : PageId → List Slot) → Shows self.old front disk S → OnlyReads self.old self.new front disk S }
         ensures refused { (front : List ℕ) (disk : ℕ → List ℕ) (S : PageId → List Slot) → Shows self.old front disk S
             → IfErr result (IsRefused (geometry_of self.old) disk store last) }
+        ensures untouched { KeepsVolume self.old self.new }
+        ensures honest { honesty_of self.new ≡ honesty_of self.old }
+        ensures size { size (history_of self.new) ≡ size (history_of self.old) }
         ensures geometry { geometry_of self.new ≡ geometry_of self.old }
         ensures cause { HasCause result (faults_of self.old) (faults_of self.new) }
     {
@@ -79,6 +86,9 @@ impl<D: Disk> Heap<D> {
         ensures still { (front : List ℕ) (disk : ℕ → List ℕ) (S : PageId → List Slot) → Shows self.old front disk S → OnlyReads self.old self.new front disk S }
         ensures refused { (front : List ℕ) (disk : ℕ → List ℕ) (S : PageId → List Slot) → Shows self.old front disk S
             → IfErr result (IsRefused (geometry_of self.old) disk id.store last) }
+        ensures untouched { KeepsVolume self.old self.new }
+        ensures honest { honesty_of self.new ≡ honesty_of self.old }
+        ensures size { size (history_of self.new) ≡ size (history_of self.old) }
         ensures geometry { geometry_of self.new ≡ geometry_of self.old }
         ensures cause { HasCause result (faults_of self.old) (faults_of self.new) }
     {

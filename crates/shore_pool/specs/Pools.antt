@@ -1,5 +1,5 @@
 -- What a pool holds over a volume, and what a call leaves of both.
-use Rattle.std.specs.Prelude.{◌≡◌, ◌≢◌, ◌⊎◌, ◌<◌, ℕ, List, Option, Some, None, IsSomeAnd}
+use Rattle.std.specs.Prelude.{◌≡◌, ◌≢◌, ◌⊎◌, ◌<◌, Bool, ℕ, List, Option, Some, None, IsSomeAnd}
 use Rattle.shore_disk.specs.Device.{History}
 use Rattle.shore_disk.specs.declared.device.Disk.{Ghosts}
 use Rattle.shore_types.specs.declared.ids.PageId.{PageId}
@@ -23,6 +23,10 @@ device_of pool = pool.device
 
 abbrev pub history_of : {D : Type 0} {G : Ghosts D} → Pool D G → History
 history_of {G = G} pool = G.history (device.device_of pool.device)
+
+-- whether what is said of the device's bytes holds of it
+abbrev pub honesty_of : {D : Type 0} {G : Ghosts D} → Pool D G → Bool
+honesty_of {G = G} pool = G.is_honest (device.device_of pool.device)
 
 abbrev pub faults_of : {D : Type 0} {G : Ghosts D} → Pool D G → ℕ
 faults_of {G = G} pool = G.faults (device.device_of pool.device)

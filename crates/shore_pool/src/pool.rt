@@ -2,7 +2,7 @@
 ghost use Rattle.std.specs.Prelude.{◌≡◌, ◌≢◌, ◌⊎◌, ◌+◌, ◌-◌, ◌*◌, ◌<◌, ◌≤◌, ℕ, [], List, All, Contains, IfErr, IfNone, IfOk, IfSome, IsErrAnd, IsOk, IsSomeAnd, IsTrue, MatchResult, None, OnErr, OnOk, Some, is_some, length, option_copied, option_map};
 ghost use Rattle.std.proofs.Props.{props};
 ghost use Rattle.shore_disk.specs.Cause.{HasCause};
-ghost use Rattle.shore_disk.specs.Device.{CountsFault, LeavesOnly};
+ghost use Rattle.shore_disk.specs.Device.{CountsFault, LeavesOnly, size};
 ghost use Rattle.shore_dwrite.specs.Settled as settled_device;
 ghost use Rattle.shore_dwrite.specs.Shown.{RiseFrom};
 ghost use Rattle.shore_dwrite.specs.Volumes.{HasNoPage, page_count, page_number, page_offset};
@@ -54,7 +54,7 @@ pub struct Pool<D: Disk> {
 }
 
 impl<D: Disk> Pool<D> {
-    ghost use Rattle.shore_pool.specs.Pools.{HasInPlace, Holds, LeavesPages, NeedsForce, ReadsOnly, StayOrGo, WroteBack, count_of, device_of, faults_of, frame_at, frame_of, geometry_of, history_of, limit_of};
+    ghost use Rattle.shore_pool.specs.Pools.{HasInPlace, Holds, LeavesPages, NeedsForce, ReadsOnly, StayOrGo, WroteBack, count_of, device_of, faults_of, frame_at, frame_of, geometry_of, history_of, honesty_of, limit_of};
 
     /// A pool of so many frames, with all its memory but that of pages. The device is handed back if an allocation failed.
     pub fn new(alloc: Global, device: PageDev<D>, frames: usize) -> Result<Pool<D>, PageDev<D>>
@@ -137,6 +137,8 @@ impl<D: Disk> Pool<D> {
         ensures any_moment { (front : List ℕ) (disk : ℕ → List ℕ) → Holds self.old front disk
             → LeavesOnly (history_of self.old) (history_of self.new) (LeavesPages self.old seen front disk) }
 
+        ensures honest { honesty_of self.new ≡ honesty_of self.old }
+        ensures size { size (history_of self.new) ≡ size (history_of self.old) }
         ensures geometry { geometry_of self.new ≡ geometry_of self.old }
         ensures few { count_of self.new ≤ limit_of self.new }
         ensures limit { limit_of self.new ≡ limit_of self.old }
@@ -165,6 +167,8 @@ impl<D: Disk> Pool<D> {
             ⊎ ((number : ℕ) × (fault ≡ Fault.NeedForce number) × NeedsForce self.old seen number)) }
         ensures any_moment { (front : List ℕ) (disk : ℕ → List ℕ) → Holds self.old front disk
             → LeavesOnly (history_of self.old) (history_of self.new) (LeavesPages self.old seen front disk) }
+        ensures honest { honesty_of self.new ≡ honesty_of self.old }
+        ensures size { size (history_of self.new) ≡ size (history_of self.old) }
         ensures geometry { geometry_of self.new ≡ geometry_of self.old }
         ensures limit { limit_of self.new ≡ limit_of self.old }
         ensures cause { HasCause result (faults_of self.old) (faults_of self.new) }
@@ -189,6 +193,8 @@ impl<D: Disk> Pool<D> {
             ⊎ ((fault ≡ Fault.Damaged Device.Volume (page_offset (page_number (geometry_of self.old) id))) × HasNoPage (disk (page_number (geometry_of self.old) id)) id last)) }
         ensures none_came { OnErr result ((k : ℕ) → frame_at self.new k ≡ frame_at self.old k) }
         ensures history { (front : List ℕ) (disk : ℕ → List ℕ) → Holds self.old front disk → history_of self.new ≡ history_of self.old }
+        ensures honest { honesty_of self.new ≡ honesty_of self.old }
+        ensures size { size (history_of self.new) ≡ size (history_of self.old) }
         ensures geometry { geometry_of self.new ≡ geometry_of self.old }
         ensures limit { limit_of self.new ≡ limit_of self.old }
         ensures cause { HasCause result (faults_of self.old) (faults_of self.new) }
@@ -285,6 +291,8 @@ impl<D: Disk> Pool<D> {
         ensures any_moment { (front : List ℕ) (disk : ℕ → List ℕ) → Holds self.old front disk
             → LeavesOnly (history_of self.old) (history_of self.new) (LeavesPages self.old seen front disk) }
 
+        ensures honest { honesty_of self.new ≡ honesty_of self.old }
+        ensures size { size (history_of self.new) ≡ size (history_of self.old) }
         ensures geometry { geometry_of self.new ≡ geometry_of self.old }
         ensures limit { limit_of self.new ≡ limit_of self.old }
         ensures cause { HasCause result (faults_of self.old) (faults_of self.new) }
@@ -306,6 +314,8 @@ impl<D: Disk> Pool<D> {
             ⊎ ((number : ℕ) × (fault ≡ Fault.NeedForce number) × NeedsForce self.old seen number)) }
         ensures any_moment { (front : List ℕ) (disk : ℕ → List ℕ) → Holds self.old front disk
             → LeavesOnly (history_of self.old) (history_of self.new) (LeavesPages self.old seen front disk) }
+        ensures honest { honesty_of self.new ≡ honesty_of self.old }
+        ensures size { size (history_of self.new) ≡ size (history_of self.old) }
         ensures geometry { geometry_of self.new ≡ geometry_of self.old }
         ensures limit { limit_of self.new ≡ limit_of self.old }
         ensures cause { HasCause result (faults_of self.old) (faults_of self.new) }
@@ -349,6 +359,8 @@ impl<D: Disk> Pool<D> {
         ensures any_moment { (front : List ℕ) (disk : ℕ → List ℕ) (seen : ℕ) → Holds self.old front disk → AreUpTo (frame_at self.old) seen numbers.now
             → LeavesOnly (history_of self.old) (history_of self.new) (LeavesPages self.old seen front disk) }
         ensures count { count_of self.new ≡ count_of self.old }
+        ensures honest { honesty_of self.new ≡ honesty_of self.old }
+        ensures size { size (history_of self.new) ≡ size (history_of self.old) }
         ensures geometry { geometry_of self.new ≡ geometry_of self.old }
         ensures limit { limit_of self.new ≡ limit_of self.old }
         ensures cause { HasCause result (faults_of self.old) (faults_of self.new) }

@@ -11,6 +11,7 @@ use Rattle.shore_dwrite.proofs.device.PageDev.write_in_place.Goals as goal
 pub loop-i-init : goal.loop-i-init
 loop-i-init g c = record {
   honest = refl;
+  size = refl;
   faults = refl;
   geometry = refl;
   wrote = λ honest base stands. wrote_none _ _ _ base stands;
@@ -32,6 +33,7 @@ returns-in_err-write_at-clause-any_moment g c base honest stands =
 pub loop-i-preserved : goal.loop-i-preserved
 loop-i-preserved g c = record {
   honest = c.write_at.ensures.honest ∙ c.loop-i.invariant.honest;
+  size = c.write_at.ensures.size ∙ c.loop-i.invariant.size;
   faults = c.in_ok-write_at.ensures.cause ∙ c.loop-i.invariant.faults;
   geometry = c.loop-i.invariant.geometry;
   wrote = λ honest base stands.

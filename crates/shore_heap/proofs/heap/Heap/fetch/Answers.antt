@@ -39,6 +39,11 @@ returns-in_err-fetch-clause-refused g c front disk S shows =
       ]
     ])
 
+pub returns-in_err-fetch-clause-untouched : goal.returns-in_err-fetch-clause-untouched
+returns-in_err-fetch-clause-untouched g c front disk holds =
+    let still = c.fetch.ensures.still c.args.self.now.whole front disk holds in
+    (still.holds, still.history)
+
 pub returns-clause-held : goal.returns-clause-held
 returns-clause-held g c = c.in_ok-fetch.ensures.there
 
@@ -58,3 +63,8 @@ returns-clause-still g c front disk S shows =
       history = still.history;
       stay = still.stay;
     }
+
+pub returns-clause-untouched : goal.returns-clause-untouched
+returns-clause-untouched g c front disk holds =
+    let still = c.fetch.ensures.still c.args.self.now.whole front disk holds in
+    (still.holds, still.history)

@@ -9,7 +9,7 @@ use Rattle.shore_heap.specs.Heaps.{faults_of, geometry_of}
 use Rattle.shore_heap.specs.Places.{HasNoPlace, IsFirstSlot, IsPlace, IsRefused}
 use Rattle.shore_heap.proofs.Finding.{bounds_next, if_none_at, if_some_at, is_place, no_place, ok_same}
 use Rattle.shore_heap.proofs.Scanned.{inside_of}
-use Rattle.shore_heap.proofs.Showing.{reads_then}
+use Rattle.shore_heap.proofs.Showing.{keeps_then, reads_then}
 use Rattle.shore_heap.proofs.heap.Heap.place_for.Goals as goal
 
 abbrev the_page : ℕ → ℕ → PageId
@@ -30,6 +30,9 @@ pub returns-in_err-slot-clause-still : goal.returns-in_err-slot-clause-still
 returns-in_err-slot-clause-still g c front disk S shows =
     let one = c.loop-from.invariant.2 front disk S shows in
     reads_then c.args.self.now c.loop-from.self c.try_page.new.self front disk S one (c.try_page.ensures.still front disk S one.shows)
+
+pub returns-in_err-slot-clause-untouched : goal.returns-in_err-slot-clause-untouched
+returns-in_err-slot-clause-untouched g c = keeps_then c.args.self.now c.loop-from.self c.try_page.new.self c.loop-from.invariant.6 c.try_page.ensures.untouched
 
 pub returns-in_err-slot-clause-refused : goal.returns-in_err-slot-clause-refused
 returns-in_err-slot-clause-refused g c front disk S shows =
@@ -60,6 +63,9 @@ returns-in-Some-2-clause-still g c front disk S shows =
     let one = c.loop-from.invariant.2 front disk S shows in
     reads_then c.args.self.now c.loop-from.self c.try_page.new.self front disk S one (c.try_page.ensures.still front disk S one.shows)
 
+pub returns-in-Some-2-clause-untouched : goal.returns-in-Some-2-clause-untouched
+returns-in-Some-2-clause-untouched g c = keeps_then c.args.self.now c.loop-from.self c.try_page.new.self c.loop-from.invariant.6 c.try_page.ensures.untouched
+
 pub loop-from-preserved : goal.loop-from-preserved
 loop-from-preserved g c =
     let mid = c.loop-from.self in
@@ -71,6 +77,9 @@ loop-from-preserved g c =
       ok_same c.in_ok-slot.field-0 (faults_of mid) (faults_of new) c.in_ok-slot.ensures.cause ∙ inv.1,
       λ front disk S shows. let one = inv.2 front disk S shows in reads_then c.args.self.now mid new front disk S one (c.try_page.ensures.still front disk S one.shows),
       bounds_next mid.free.items new.free.items c.args.store c.loop-from.from page c.args.bytes c.in-Some.ensures.from inv.3 c.in-Some.ensures.passed c.try_page.ensures.others refused,
+      c.try_page.ensures.honest ∙ inv.4,
+      c.try_page.ensures.size ∙ inv.5,
+      keeps_then c.args.self.now mid new inv.6 c.try_page.ensures.untouched,
     )
 
 pub returns-clause-none : goal.returns-clause-none

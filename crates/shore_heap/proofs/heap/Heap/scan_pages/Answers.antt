@@ -7,7 +7,7 @@ use Rattle.shore_heap.specs.Places.{IsRefused}
 use Rattle.shore_heap.specs.Scans.{HasBefore}
 use Rattle.shore_heap.proofs.Finding.{ok_same}
 use Rattle.shore_heap.proofs.Scanned.{all_pages, inside_so, nothing_yet}
-use Rattle.shore_heap.proofs.Showing.{reads_then, same_reads}
+use Rattle.shore_heap.proofs.Showing.{keeps_then, reads_then, same_reads}
 use Rattle.shore_heap.proofs.heap.Heap.scan_pages.Goals as goal
 
 pub loop-page-init : goal.loop-page-init
@@ -16,6 +16,9 @@ loop-page-init g c = (
   refl,
   λ front disk S shows. same_reads c.args.self.now front disk S shows,
   λ front disk S shows. subst (HasBefore S c.args.store 0 0) (sym c.requires.none) (nothing_yet S c.args.store),
+  refl,
+  refl,
+  λ front disk holds. (holds, refl),
 )
 
 pub scan_page-requires : goal.scan_page-requires
@@ -32,12 +35,18 @@ loop-page-preserved g c =
       ok_same _ (faults_of mid) (faults_of new) c.in_ok-scan_page.ensures.cause ∙ inv.1,
       λ front disk S shows. let one = inv.2 front disk S shows in reads_then c.args.self.now mid new front disk S one (c.scan_page.ensures.still front disk S one.shows),
       λ front disk S shows. c.in_ok-scan_page.ensures.scanned front disk S (inv.2 front disk S shows).shows (inv.3 front disk S shows),
+      c.scan_page.ensures.honest ∙ inv.4,
+      c.scan_page.ensures.size ∙ inv.5,
+      keeps_then c.args.self.now mid new inv.6 c.scan_page.ensures.untouched,
     )
 
 pub returns-in_err-scan_page-clause-still : goal.returns-in_err-scan_page-clause-still
 returns-in_err-scan_page-clause-still g c front disk S shows =
     let one = c.loop-page.invariant.2 front disk S shows in
     reads_then c.args.self.now c.loop-page.self c.scan_page.new.self front disk S one (c.scan_page.ensures.still front disk S one.shows)
+
+pub returns-in_err-scan_page-clause-untouched : goal.returns-in_err-scan_page-clause-untouched
+returns-in_err-scan_page-clause-untouched g c = keeps_then c.args.self.now c.loop-page.self c.scan_page.new.self c.loop-page.invariant.6 c.scan_page.ensures.untouched
 
 pub returns-in_err-scan_page-clause-refused : goal.returns-in_err-scan_page-clause-refused
 returns-in_err-scan_page-clause-refused g c front disk S shows =

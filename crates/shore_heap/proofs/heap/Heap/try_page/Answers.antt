@@ -1,6 +1,7 @@
 use Rattle.std.proofs.Common.{◌≡◌, ℕ, List, Some, inl, inr, refl, sym, ap, subst, ◌∙◌}
 use Rattle.shore_dwrite.proofs.Moves.{if_err}
 use Rattle.shore_pool.specs.Pools as pools
+use Rattle.shore_pool.specs.Pools.{Holds}
 use Rattle.shore_heap.specs.Contents.{bound_of}
 use Rattle.shore_heap.specs.Heaps.{geometry_of}
 use Rattle.shore_heap.proofs.Bounds.{bounds_refused}
@@ -40,3 +41,8 @@ returns-in-None-clause-still g c front disk S shows =
       history = ap pools.history_of c.refuse.ensures.pool ∙ one.history;
       stay = λ k f is. subst (λ p. pools.frame_at p k ≡ Some f) (sym c.refuse.ensures.pool) (one.stay k f is);
     }
+
+pub returns-in-None-clause-untouched : goal.returns-in-None-clause-untouched
+returns-in-None-clause-untouched g c front disk holds =
+    let one = c.fetch.ensures.untouched front disk holds in
+    (subst (λ p. Holds p front disk) (sym c.refuse.ensures.pool) one.0, ap pools.history_of c.refuse.ensures.pool ∙ one.1)
