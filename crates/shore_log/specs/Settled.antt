@@ -1,5 +1,5 @@
 -- What a log device holds between two calls.
-use Rattle.std.specs.Prelude.{◌≡◌, ◌≢◌, ◌+◌, ◌≤◌, ℕ, List, [], ◌∷◌, ◌++◌, length, take, drop, IsTrue, Some, Result, Ok, Err}
+use Rattle.std.specs.Prelude.{◌≡◌, ◌≢◌, ◌+◌, ◌≤◌, ℕ, List, [], ◌∷◌, ◌++◌, length, take, drop, IsTrue, Some, Result, Ok, Err, vec_capacity, vec_len}
 use Rattle.shore_disk.specs.Device.{Stands}
 use Rattle.shore_disk.specs.declared.device.Disk.{Ghosts}
 use Rattle.shore_gate.specs.declared.gates.TheConstants.{OPEN}
@@ -57,6 +57,10 @@ pub record HasNoFrameRoom {D : Type 0} {G : Ghosts D} (log : LogDev D G) : Type 
   pub some : 1 ≤ count
   pub longest : IsLongest (waiting log) count
   pub full : log.device_bytes ≤ LOG_FRONT_BYTES + log.offset + (13 + length (texts (take count (waiting log))))
+
+-- so many records more need no memory
+abbrev pub HasRecordRoom : {D : Type 0} {G : Ghosts D} → LogDev D G → ℕ → Type 0
+HasRecordRoom log count = vec_len log.records + count ≤ vec_capacity log.records
 
 -- The forced records and the frame under way are the same, and what was settled or staged is so still.
 pub record KeepsFrames {D : Type 0} {G : Ghosts D} (old new : LogDev D G) : Type 0 where

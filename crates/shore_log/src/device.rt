@@ -1,5 +1,5 @@
 //! The log device: its stable records, the frame under way, and the records that wait for a force.
-ghost use Rattle.std.specs.Prelude.{ℕ, ◌≡◌, ◌⊎◌, ◌↔◌, ◌+◌, ◌-◌, ◌^◌, ◌<◌, ◌≤◌, [], ◌∷◌, ◌++◌, All, List, IsTrue, IsSome, IfSome, IfOk, IfErr, OnOk, OnErr, length, take, drop, None, Some, Ok, Err};
+ghost use Rattle.std.specs.Prelude.{ℕ, ◌≡◌, ◌⊎◌, ◌↔◌, ◌+◌, ◌-◌, ◌^◌, ◌<◌, ◌≤◌, [], ◌∷◌, ◌++◌, All, List, IsTrue, IsSome, IfSome, IfOk, IfErr, IsOk, OnOk, OnErr, length, take, drop, None, Some, Ok, Err};
 ghost use Rattle.std.specs.Option.{ForSome};
 ghost use Rattle.shore_types.specs.declared.faults.Device.TheVariants as Device;
 ghost use Rattle.shore_types.specs.declared.layout.TheConstants.{LOG_FRONT_BYTES, MAX_FRAME_BYTES, MAX_LOG_BYTES};
@@ -80,7 +80,7 @@ fn has_stream(device_bytes: u64) -> bool
 }
 
 impl<D: Disk> LogDev<D> {
-    ghost use Rattle.shore_log.specs.Settled.{HasNoFrameRoom, IsSettled, IsStaged, KeepsFrames, records_of_log, stable, waiting, device_of, fault_of};
+    ghost use Rattle.shore_log.specs.Settled.{HasNoFrameRoom, HasRecordRoom, IsSettled, IsStaged, KeepsFrames, records_of_log, stable, waiting, device_of, fault_of};
     ghost use Rattle.shore_log.specs.PlainTails.{first_of, waiting_in};
 
     /// Takes all records that wait in the log buffer. `Memory` if an allocation failed: each stays where it was.
@@ -96,6 +96,36 @@ impl<D: Disk> LogDev<D> {
     {
         tail.hand_over(&mut self.records)?;
         Ok(())
+    }
+
+    /// Takes the memory for so many records more. `Memory` if an allocation failed; none is made if there is room for as many.
+    pub fn reserve(&mut self, records: usize) -> Result<(), Fault>
+        ensures room { OnOk result (HasRecordRoom self.new records) }
+        ensures kept { (count : ℕ) → HasRecordRoom self.old count → HasRecordRoom self.new count }
+        ensures idle { HasRecordRoom self.old records → IsOk result }
+        ensures only_memory { IfErr result (λ fault. fault ≡ Fault.Memory) }
+        ensures log { (records_of_log self.new ≡ records_of_log self.old) × (self.new.forced ≡ self.old.forced) }
+        ensures frame { (self.new.offset ≡ self.old.offset) × (self.new.staged ≡ self.old.staged) }
+        ensures frames { KeepsFrames self.old self.new }
+        ensures device { self.new.device ≡ self.old.device }
+    {
+        self.records.reserve(records)?;
+        Ok(())
+    }
+
+    /// Takes a record behind those that it has, into memory that was taken for it: this cannot fail.
+    pub fn take(&mut self, logged: LogRecord)
+        requires room { HasRecordRoom self.old 1 }
+        requires text { Fits logged }
+        requires previous { logged.previous < 1 + length (records_of_log self.old) }
+        ensures taken { records_of_log self.new ≡ records_of_log self.old ++ logged ∷ [] }
+        ensures room { (count : ℕ) → HasRecordRoom self.old (count + 1) → HasRecordRoom self.new count }
+        ensures forced { self.new.forced ≡ self.old.forced }
+        ensures frame { (self.new.offset ≡ self.old.offset) × (self.new.staged ≡ self.old.staged) }
+        ensures frames { KeepsFrames self.old self.new }
+        ensures device { self.new.device ≡ self.old.device }
+    {
+        self.records.push_reserved(logged);
     }
 
     /// Stages the longest list of waiting records that one frame holds: writes it behind the closed gate, with a closed gate
