@@ -1,16 +1,17 @@
 -- The first place of a store, by what is known of its pages.
-use Rattle.std.proofs.Common.{◌≡◌, ◌≢◌, ◌+◌, ◌<◌, ◌≤◌, ℕ, List, Option, None, Some, Ok, Err, IfNone, IfSome, refl, sym, ap, subst, ◌∙◌, inl, inr, arith}
+use Rattle.std.proofs.Common.{◌≡◌, ◌≢◌, ◌+◌, ◌<◌, ◌≤◌, ℕ, List, Option, None, Some, Ok, Err, IfNone, IfSome, IsSomeAnd, refl, sym, ap, subst, ◌∙◌, inl, inr, arith}
 use Rattle.std.proofs.lemmas.Bool.{cases_eq, cases_lt}
 use Rattle.shore_disk.specs.Cause.{HasCause}
 use Rattle.shore_types.specs.declared.faults.Fault.TheVariants.{Device}
 use Rattle.shore_types.specs.declared.ids.PageId.{PageId}
 use Rattle.shore_types.specs.declared.ids.Rid.{Rid}
 use Rattle.shore_types.specs.declared.layout.Geometry.{Geometry}
-use Rattle.shore_types.specs.Layout.{HasPage}
+use Rattle.shore_types.specs.Layout.{HasPage, HasSlot}
 use Rattle.shore_page.specs.Room.{Fits}
 use Rattle.shore_page.specs.Slots.{Slot, image_at_slot}
 use Rattle.shore_heap.specs.Contents.{AreBounds, bound_of}
-use Rattle.shore_heap.specs.Places.{HasNoPlace, IsFirstSlot, IsPlace, Takes}
+use Rattle.shore_pool.specs.declared.frame.Frame.{Frame}
+use Rattle.shore_heap.specs.Places.{HasNoPlace, IsFirstSlot, IsFree, IsPlace, Takes}
 
 abbrev the_page : ℕ → ℕ → PageId
 the_page store page = record { store = store; page = page }
@@ -64,3 +65,8 @@ bounds_next mid new store from page bytes behind below passed others here j less
         | inr high ↦ omega (arith, kept, passed j high (omega (arith, other, less, behind, high)))
       ]
 ]
+
+-- a slot that takes bytes in a frame is one that a record may have
+pub slot_there : (g : Geometry) (id : Rid) (o : Option Frame) (bytes : ℕ) → HasPage g id.page → IsSomeAnd o (λ f. IsFree f.page.slots bytes id.slot) → HasSlot g id
+slot_there g id (Some f) bytes there free = (there, free.1.there)
+slot_there g id None bytes there free = absurd free

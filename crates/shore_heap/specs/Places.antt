@@ -17,6 +17,10 @@ pub record IsFirstSlot (slots : List Slot) (bytes slot : ℕ) : Type 0 where
   pub fits : Fits slots slot bytes
   pub first : (other : ℕ) → image_at_slot slots other ≡ None → Fits slots other bytes → slot ≤ other
 
+-- an empty slot that takes so many bytes
+abbrev pub IsFree : List Slot → ℕ → ℕ → Type 0
+IsFree slots bytes slot = (image_at_slot slots slot ≡ None) × Fits slots slot bytes
+
 module _ (g : Geometry) (S : PageId → List Slot) (store bytes : ℕ) where
   -- an empty slot of the store that takes so many bytes
   pub record Takes (id : Rid) : Type 0 where

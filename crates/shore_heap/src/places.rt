@@ -1,16 +1,16 @@
 //! Where a new record of a store goes.
-ghost use Rattle.std.specs.Prelude.{◌≡◌, ◌≢◌, ◌⊎◌, ◌<◌, ◌≤◌, ℕ, List, IfErr, IfNone, IfOk, IfSome, IsTrue, None, Some, is_some, min, slice_get};
+ghost use Rattle.std.specs.Prelude.{◌≡◌, ◌≢◌, ◌⊎◌, ◌<◌, ◌≤◌, ℕ, List, IfErr, IfNone, IfOk, IfSome, IsSomeAnd, IsTrue, None, Some, is_some, min, slice_get};
 ghost use Rattle.shore_disk.specs.Cause.{HasCause};
 ghost use Rattle.shore_disk.specs.Device.{size};
 ghost use Rattle.shore_dwrite.specs.Volumes.{HasNoPage, page_number, page_offset};
 ghost use Rattle.shore_page.specs.Slots.{Slot};
-ghost use Rattle.shore_types.specs.Layout.{HasPage, HasStore};
+ghost use Rattle.shore_types.specs.Layout.{HasPage, HasSlot, HasStore};
 ghost use Rattle.shore_types.specs.declared.faults.Device.TheVariants as Device;
 ghost use Rattle.shore_types.specs.declared.faults.Fault.TheVariants as Fault;
 ghost use Rattle.shore_types.specs.declared.ids.PageId.{PageId};
 ghost use Rattle.shore_types.specs.declared.layout.Geometry.{Geometry};
 ghost use Rattle.shore_heap.specs.Contents.{TakesNone, bound_of};
-ghost use Rattle.shore_heap.specs.Places.{HasNoPlace, IsFirstSlot, IsPlace, IsRefused};
+ghost use Rattle.shore_heap.specs.Places.{HasNoPlace, IsFirstSlot, IsFree, IsPlace, IsRefused};
 
 use crate::heap::Heap;
 use shore_disk::Disk;
@@ -36,7 +36,9 @@ impl<D: Disk> Heap<D> {
             → IfOk result (λ found. IfSome found (IsPlace (geometry_of self.old) S store bytes)) }
         ensures none { (front : List ℕ) (disk : ℕ → List ℕ) (S : PageId → List Slot) → Shows self.old front disk S
             → IfOk result (λ found. IfNone found (HasNoPlace (geometry_of self.old) S store bytes)) }
+        ensures there { IfOk result (λ found. IfSome found (HasSlot (geometry_of self.old))) }
         ensures held { IfOk result (λ found. IfSome found (λ id. IsTrue (is_some (frame_of self.new id.page)))) }
+        ensures framed { IfOk result (λ found. IfSome found (λ id. IsSomeAnd (frame_of self.new id.page) (λ f. IsFree f.page.slots bytes id.slot))) }
         ensures still { (front : List ℕ) (disk : ℕ → List ℕ) (S : PageId → List Slot) → Shows self.old front disk S → OnlyReads self.old self.new front disk S }
         ensures refused { (front : List ℕ) (disk : ℕ → List ℕ) (S : PageId → List Slot) → Shows self.old front disk S
             → IfErr result (IsRefused (geometry_of self.old) disk store last) }
@@ -93,6 +95,7 @@ impl<D: Disk> Heap<D> {
         ensures none { IfOk result (λ found. IfNone found (bound_of self.new.free.items id ≤ bytes)) }
         ensures others { (p : PageId) → p ≢ id → bound_of self.new.free.items p ≡ bound_of self.old.free.items p }
         ensures held { IfOk result (λ found. IsTrue (is_some (frame_of self.new id))) }
+        ensures framed { IfOk result (λ found. IfSome found (λ slot. IsSomeAnd (frame_of self.new id) (λ f. IsFree f.page.slots bytes slot))) }
         ensures still { (front : List ℕ) (disk : ℕ → List ℕ) (S : PageId → List Slot) → Shows self.old front disk S → OnlyReads self.old self.new front disk S }
         ensures refused { (front : List ℕ) (disk : ℕ → List ℕ) (S : PageId → List Slot) → Shows self.old front disk S → IfErr result (λ fault. (fault ≡ Fault.Device)
             ⊎ (fault ≡ Fault.Memory) ⊎ ((fault ≡ Fault.Damaged Device.Volume (page_offset (page_number (geometry_of self.old) id)))
@@ -122,6 +125,7 @@ impl<D: Disk> Heap<D> {
         requires there { HasPage (geometry_of self.now) id.now }
         requires held { IsTrue (is_some (frame_of self.now id.now)) }
         ensures found { (front : List ℕ) (disk : ℕ → List ℕ) (S : PageId → List Slot) → Shows self.now front disk S → IfSome result (IsFirstSlot (S id.now) bytes) }
+        ensures framed { IfSome result (λ slot. IsSomeAnd (frame_of self.now id.now) (λ f. IsFree f.page.slots bytes slot)) }
         ensures none { (front : List ℕ) (disk : ℕ → List ℕ) (S : PageId → List Slot) → Shows self.now front disk S → result ≡ None → TakesNone (S id.now) bytes }
     {
         match self.pool.page(*id) {

@@ -1,13 +1,13 @@
-use Rattle.std.proofs.Common.{◌<◌, ◌≤◌, ℕ, inl, inr, refl, subst, ◌∙◌, arith}
+use Rattle.std.proofs.Common.{◌<◌, ◌≤◌, ℕ, IsSomeAnd, inl, inr, refl, subst, ◌∙◌, arith}
 use Rattle.std.proofs.lemmas.Bool.{cases_lt}
 use Rattle.shore_dwrite.proofs.Moves.{if_err}
 use Rattle.shore_types.specs.declared.ids.PageId.{PageId}
 use Rattle.shore_types.specs.declared.layout.Geometry.{Geometry}
-use Rattle.shore_types.specs.Layout.{HasPage}
+use Rattle.shore_types.specs.Layout.{HasPage, HasSlot}
 use Rattle.shore_heap.specs.Contents.{bound_of}
-use Rattle.shore_heap.specs.Heaps.{faults_of, geometry_of}
-use Rattle.shore_heap.specs.Places.{HasNoPlace, IsFirstSlot, IsPlace, IsRefused}
-use Rattle.shore_heap.proofs.Finding.{bounds_next, if_none_at, if_some_at, is_place, no_place, ok_same}
+use Rattle.shore_heap.specs.Heaps.{faults_of, frame_of, geometry_of}
+use Rattle.shore_heap.specs.Places.{HasNoPlace, IsFirstSlot, IsFree, IsPlace, IsRefused}
+use Rattle.shore_heap.proofs.Finding.{bounds_next, if_none_at, if_some_at, is_place, no_place, ok_same, slot_there}
 use Rattle.shore_heap.proofs.Scanned.{inside_of}
 use Rattle.shore_heap.proofs.Showing.{keeps_then, reads_then}
 use Rattle.shore_heap.proofs.heap.Heap.place_for.Goals as goal
@@ -65,6 +65,19 @@ returns-in-Some-2-clause-still g c front disk S shows =
 
 pub returns-in-Some-2-clause-untouched : goal.returns-in-Some-2-clause-untouched
 returns-in-Some-2-clause-untouched g c = keeps_then c.args.self.now c.loop-from.self c.try_page.new.self c.loop-from.invariant.6 c.try_page.ensures.untouched
+
+pub returns-in-Some-2-clause-framed : goal.returns-in-Some-2-clause-framed
+returns-in-Some-2-clause-framed g c =
+    let id = the_page c.args.store c.in-Some.page in
+    if_some_at (λ (slot : ℕ). IsSomeAnd (frame_of c.try_page.new.self id) (λ f. IsFree f.page.slots c.args.bytes slot)) c.in_ok-slot.field-0 c.in-Some-2.slot c.in-Some-2.is c.in_ok-slot.ensures.framed
+
+pub returns-in-Some-2-clause-there : goal.returns-in-Some-2-clause-there
+returns-in-Some-2-clause-there g c =
+    let mid = c.loop-from.self in
+    let id = the_page c.args.store c.in-Some.page in
+    let framed = if_some_at (λ (slot : ℕ). IsSomeAnd (frame_of c.try_page.new.self id) (λ f. IsFree f.page.slots c.args.bytes slot)) c.in_ok-slot.field-0 c.in-Some-2.slot c.in-Some-2.is c.in_ok-slot.ensures.framed in
+    subst (λ (it : Geometry). HasSlot it (record { page = id; slot = c.in-Some-2.slot })) c.loop-from.invariant.0
+    (slot_there (geometry_of mid) (record { page = id; slot = c.in-Some-2.slot }) (frame_of c.try_page.new.self id) c.args.bytes c.in-Some.ensures.there framed)
 
 pub loop-from-preserved : goal.loop-from-preserved
 loop-from-preserved g c =
