@@ -12,6 +12,9 @@ use std::alloc::{AllocError, Global};
 /// The one session that is served as yet.
 pub const SESSION: SessionId = SessionId(1);
 
+/// The most words of a command.
+const MAX_WORDS: usize = 4;
+
 /// What a line of the script asks for.
 #[derive(Drop)]
 pub enum Command {
@@ -38,7 +41,8 @@ pub fn parse(alloc: Global, line: &str) -> Result<Option<Command>, AllocError>
     if line.is_empty() || line.starts_with('#') {
         return Ok(Some(Command::Nothing));
     }
-    let words: Vec<&str> = line.split(' ').collect(alloc)?;
+    // All that stands behind the words of a command is one word more, which no command has.
+    let words: Vec<&str> = line.splitn(MAX_WORDS + 1, ' ').collect(alloc)?;
     command_of(alloc, words.as_slice())
 }
 

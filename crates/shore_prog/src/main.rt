@@ -2,18 +2,18 @@
 #![tactic(auto)]
 
 mod command;
+mod lines;
 mod manager;
 mod program;
 mod render;
+mod stop;
 mod words;
 
 pub use program::run;
 pub use shore_world as world;
-use std::io::{self, BufWriter};
+use std::io;
 use std::process::ExitCode;
 
-fn main(rt: HostRuntime) -> io::Result<ExitCode> {
-    let alloc = rt.alloc();
-    let output = BufWriter::new(alloc, io::writer(&rt))?;
-    Ok(run(alloc, rt.reader(), output))
+fn main(rt: HostRuntime) -> ExitCode {
+    run(rt.alloc(), rt.reader(), io::writer(&rt))
 }

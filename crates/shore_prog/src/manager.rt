@@ -5,12 +5,14 @@ ghost use Rattle.shore_prog.specs.Commands.{IsServedCommand};
 
 use crate::command::{Command, SESSION};
 use crate::render;
+use crate::stop::Stop;
 use shore_disk::{FuseDisk, MemDisk, Pick};
 use shore_model::Call;
 use shore_settings::Settings;
 use shore_types::{Device, Fault};
 use shore_world::{Event, Step, World, format, volume_bytes};
 use std::alloc::{AllocError, Global};
+use std::io::{self, Write};
 use std::mem;
 
 /// A device in memory that may be made to fail.
@@ -60,13 +62,13 @@ impl Manager {
         matches!(self, Manager::Open(_))
     }
 
-    /// Does what a line asks for, and adds its answers.
-    pub fn execute(
+    /// Does what a line asks for, and writes its answers.
+    pub fn execute<W: Write>(
         &mut self,
         alloc: Global,
         command: Command,
-        out: &mut String,
-    ) -> Result<(), AllocError>
+        out: &mut W,
+    ) -> Result<(), Stop>
         requires { IsServedCommand command }
     {
         match command {
@@ -81,31 +83,36 @@ impl Manager {
     }
 
     // A line that an open manager answers, with all that follows from it; one that is refused answers that it failed.
-    fn serve(&mut self, alloc: Global, command: Command, out: &mut String) -> Result<(), AllocError>
+    fn serve<W: Write>(&mut self, alloc: Global, command: Command, out: &mut W) -> Result<(), Stop>
         requires { IsServedCommand command }
     {
         match self {
             Manager::Open(Opened { world, waits }) => {
                 answer(alloc, world, waits, command, out)?;
-                settle(alloc, world, waits, out)
+                settle(alloc, world, waits, out)?;
+                Ok(())
             }
-            Manager::Closed(..) | Manager::Lost => render::fault(out, None, &Fault::Failed),
+            Manager::Closed(..) | Manager::Lost => {
+                render::fault(out, None, &Fault::Failed)?;
+                Ok(())
+            }
         }
     }
 
     // Everything in memory is lost, and the fuses go away.
-    fn crash(&mut self, alloc: Global, pick: Pick, out: &mut String) -> Result<(), AllocError> {
+    fn crash<W: Write>(&mut self, alloc: Global, pick: Pick, out: &mut W) -> Result<(), Stop> {
         let (log, volume) = match mem::replace(self, Manager::Lost) {
             Manager::Open(opened) => opened.world.lose_power(pick),
             Manager::Closed(log, volume) => (crashed(log, pick), crashed(volume, pick)),
-            Manager::Lost => return Err(AllocError),
+            Manager::Lost => return Err(Stop::Memory),
         };
         let (manager, refused) = open(alloc, fused(log), fused(volume));
         *self = manager;
         match refused {
-            None => out.push_str("opened\n"),
-            Some(fault) => render::open_fault(out, &fault),
+            None => out.write_all(b"opened\n")?,
+            Some(fault) => render::open_fault(out, &fault)?,
         }
+        Ok(())
     }
 
     fn set_fuse(&mut self, device: Device, calls: u64) {
@@ -150,13 +157,13 @@ fn fused(disk: MemDisk) -> ScriptDisk {
     FuseDisk::new(disk, NO_FUSE)
 }
 
-fn answer(
+fn answer<W: Write>(
     alloc: Global,
     world: &mut ScriptWorld,
     waits: &mut bool,
     command: Command,
-    out: &mut String,
-) -> Result<(), AllocError>
+    out: &mut W,
+) -> io::Result<()>
     requires { IsServedCommand command }
 {
     match command {
@@ -170,13 +177,13 @@ fn answer(
     }
 }
 
-fn ask(
+fn ask<W: Write>(
     alloc: Global,
     world: &mut ScriptWorld,
     waits: &mut bool,
     call: Call,
-    out: &mut String,
-) -> Result<(), AllocError>
+    out: &mut W,
+) -> io::Result<()>
     requires { IsServed call }
 {
     match world.step(alloc, Event::Call(SESSION, call)) {
@@ -189,7 +196,7 @@ fn ask(
 }
 
 // A step of the session's call that has ended.
-fn print(step: &Step, out: &mut String) -> Result<(), AllocError> {
+fn print<W: Write>(step: &Step, out: &mut W) -> io::Result<()> {
     match step {
         Step::Done(answer) => render::answer(out, SESSION, answer),
         Step::Refused(fault) => render::fault(out, Some(SESSION), fault),
@@ -199,12 +206,12 @@ fn print(step: &Step, out: &mut String) -> Result<(), AllocError> {
 
 // Goes on with a call that waits: forces what it waits for, and resumes it. If the device fails now, the call is answered with that. A
 // force that was refused for another cause has changed nothing: the call waits on, and the next line tries again.
-fn settle(
+fn settle<W: Write>(
     alloc: Global,
     world: &mut ScriptWorld,
     waits: &mut bool,
-    out: &mut String,
-) -> Result<(), AllocError> {
+    out: &mut W,
+) -> io::Result<()> {
     if !*waits {
         return Ok(());
     }
@@ -218,12 +225,12 @@ fn settle(
     }
 }
 
-fn resume(
+fn resume<W: Write>(
     alloc: Global,
     world: &mut ScriptWorld,
     waits: &mut bool,
-    out: &mut String,
-) -> Result<(), AllocError> {
+    out: &mut W,
+) -> io::Result<()> {
     match world.step(alloc, Event::Resume(SESSION)) {
         Step::Waits(_) => Ok(()),
         step => {
@@ -254,7 +261,7 @@ fn force(alloc: Global, world: &mut ScriptWorld) -> Result<(), Fault> {
     Ok(())
 }
 
-fn force_line(alloc: Global, world: &mut ScriptWorld, out: &mut String) -> Result<(), AllocError> {
+fn force_line<W: Write>(alloc: Global, world: &mut ScriptWorld, out: &mut W) -> io::Result<()> {
     match force(alloc, world) {
         Ok(()) => {
             let durable = world.durable();
@@ -264,20 +271,20 @@ fn force_line(alloc: Global, world: &mut ScriptWorld, out: &mut String) -> Resul
     }
 }
 
-fn dump(world: &ScriptWorld, out: &mut String) -> Result<(), AllocError> {
+fn dump<W: Write>(world: &ScriptWorld, out: &mut W) -> io::Result<()> {
     let mut is_empty = true;
     for (id, bytes) in world.dump().iter() {
         is_empty = false;
         render::record(out, id, bytes.as_slice())?;
     }
     if is_empty {
-        out.push_str("empty\n")
+        out.write_all(b"empty\n")
     } else {
         Ok(())
     }
 }
 
-fn log(world: &ScriptWorld, out: &mut String) -> Result<(), AllocError> {
+fn log<W: Write>(world: &ScriptWorld, out: &mut W) -> io::Result<()> {
     let mut is_empty = true;
     let (forced, waiting) = world.records();
     for (number, record) in (1u64..u64::MAX).zip(forced.iter().chain(waiting)) {
@@ -285,7 +292,7 @@ fn log(world: &ScriptWorld, out: &mut String) -> Result<(), AllocError> {
         render::log_record(out, number, record)?;
     }
     if is_empty {
-        out.push_str("no records\n")
+        out.write_all(b"no records\n")
     } else {
         Ok(())
     }

@@ -1,43 +1,57 @@
 //! Answers as the script prints them.
-use shore_model::{Answer, LogRecord, Payload};
-use shore_types::{Fault, Rid, SessionId};
-use std::alloc::AllocError;
+ghost use Rattle.std.specs.Prelude.{◌≤◌, length};
+ghost use Rattle.shore_prog.specs.declared.render.TheConstants.{PART};
 
-/// Adds a fault's line, of a session's call or of another line.
-pub fn fault(
-    out: &mut String,
-    session: Option<SessionId>,
-    fault: &Fault,
-) -> Result<(), AllocError> {
+use shore_model::{Answer, LogRecord, Payload};
+use shore_types::{Bytes, Fault, Rid, SessionId};
+use std::io::{self, Write};
+
+const DIGITS: [u8; 16] = *b"0123456789abcdef";
+
+/// So many bytes of a record are written at a time.
+const PART: usize = 64;
+
+/// Writes a fault's line, of a session's call or of another line.
+pub fn fault<W: Write>(out: &mut W, session: Option<SessionId>, fault: &Fault) -> io::Result<()> {
     match session {
         Some(session) => writeln!(out, "{session}: fault {fault}"),
         None => writeln!(out, "fault {fault}"),
     }
 }
 
-/// Adds the line of an open that was refused.
-pub fn open_fault(out: &mut String, fault: &Fault) -> Result<(), AllocError> {
+/// Writes the line of an open that was refused.
+pub fn open_fault<W: Write>(out: &mut W, fault: &Fault) -> io::Result<()> {
     writeln!(out, "open fault {fault}")
 }
 
-/// Adds the line of a session's answer.
-pub fn answer(out: &mut String, session: SessionId, answer: &Answer) -> Result<(), AllocError> {
+/// Writes the line of a session's answer, and those of a scan's pairs.
+pub fn answer<W: Write>(out: &mut W, session: SessionId, answer: &Answer) -> io::Result<()> {
     write!(out, "{session}: ")?;
     match answer {
         Answer::Began(txn) => writeln!(out, "began {txn}"),
         Answer::Got(found) => {
-            out.push_str("bytes ")?;
+            out.write_all(b"bytes ")?;
             bytes(out, found.as_slice())?;
-            out.push('\n')
+            out.write_all(b"\n")
         }
         Answer::Inserted(id) => writeln!(out, "at {id}"),
+        Answer::Scanned(pairs) => scanned(out, pairs.as_slice()),
         Answer::Committed => writeln!(out, "committed"),
         _ => other_answer(out, answer),
     }
 }
 
-// The answers of calls that no line of the script makes as yet.
-fn other_answer(out: &mut String, answer: &Answer) -> Result<(), AllocError> {
+fn scanned<W: Write>(out: &mut W, pairs: &[(Rid, Bytes)]) -> io::Result<()> {
+    let count = pairs.len();
+    writeln!(out, "scan {count}")?;
+    for (id, found) in pairs {
+        record(out, id, found.as_slice())?;
+    }
+    Ok(())
+}
+
+// The answers of calls that have nothing to show.
+fn other_answer<W: Write>(out: &mut W, answer: &Answer) -> io::Result<()> {
     match answer {
         Answer::Saved(index) => writeln!(out, "savepoint {index}"),
         Answer::Aborted => writeln!(out, "aborted"),
@@ -47,15 +61,15 @@ fn other_answer(out: &mut String, answer: &Answer) -> Result<(), AllocError> {
     }
 }
 
-/// Adds the line of a record in place.
-pub fn record(out: &mut String, id: &Rid, found: &[u8]) -> Result<(), AllocError> {
+/// Writes the line of a record in place.
+pub fn record<W: Write>(out: &mut W, id: &Rid, found: &[u8]) -> io::Result<()> {
     write!(out, "{id} ")?;
     bytes(out, found)?;
-    out.push('\n')
+    out.write_all(b"\n")
 }
 
-/// Adds the line of a record of the log.
-pub fn log_record(out: &mut String, number: u64, record: &LogRecord) -> Result<(), AllocError> {
+/// Writes the line of a record of the log.
+pub fn log_record<W: Write>(out: &mut W, number: u64, record: &LogRecord) -> io::Result<()> {
     let kind = kind_name(&record.payload);
     let txn = record.txn;
     let previous = record.previous;
@@ -63,7 +77,7 @@ pub fn log_record(out: &mut String, number: u64, record: &LogRecord) -> Result<(
     if let Payload::Compensation { undo_next, .. } = &record.payload {
         write!(out, " next {undo_next}")?;
     }
-    out.push('\n')
+    out.write_all(b"\n")
 }
 
 fn kind_name(payload: &Payload) -> &'static str {
@@ -81,12 +95,25 @@ fn kind_name(payload: &Payload) -> &'static str {
 }
 
 // Pairs of hexadecimal digits, or `-` if there is no byte.
-fn bytes(out: &mut String, found: &[u8]) -> Result<(), AllocError> {
+fn bytes<W: Write>(out: &mut W, found: &[u8]) -> io::Result<()> {
     if found.is_empty() {
-        return out.push('-');
+        return out.write_all(b"-");
     }
-    for byte in found {
-        write!(out, "{byte:02x}")?;
+    let mut digits = [0u8; 2 * PART];
+    for part in found.chunks(PART) {
+        out.write_all(digits_of(part, &mut digits))?;
     }
     Ok(())
+}
+
+// The digits of a part, in this place.
+fn digits_of<'a>(part: &[u8], digits: &'a mut [u8; 2 * PART]) -> &'a [u8]
+    requires { length part.now ≤ PART }
+{
+    for i in 0..part.len() {
+        let byte = part[i];
+        digits[2 * i] = DIGITS[usize::from(byte >> 4)];
+        digits[2 * i + 1] = DIGITS[usize::from(byte & 15)];
+    }
+    &digits[..2 * part.len()]
 }

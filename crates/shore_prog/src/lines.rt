@@ -1,0 +1,63 @@
+//! The input, line by line through a buffer of bounded size.
+use std::alloc::Global;
+use std::io::{self, BufRead, BufReader, Read};
+
+/// The most bytes of a script line, without its end.
+pub const MAX_LINE_BYTES: usize = 65_536;
+
+/// The line between the settings and the script.
+const BORDER: &[u8] = b"---";
+
+/// An input, and the line that was read last.
+#[derive(Drop)]
+pub struct Lines<R> {
+    input: BufReader<R>,
+    line: Vec<u8>,
+}
+
+impl<R: Read + Drop> Lines<R> {
+    pub fn new(alloc: Global, input: R) -> io::Result<Lines<R>> {
+        let line = Vec::with_capacity(alloc, MAX_LINE_BYTES + 1)?;
+        let input = BufReader::new(alloc, input)?;
+        Ok(Lines { input, line })
+    }
+
+    /// All lines before the first line `---`, which is read too. `None`: the input has no such line.
+    pub fn settings(&mut self, alloc: Global) -> io::Result<Option<Vec<u8>>> {
+        let mut text = Vec::new(alloc);
+        for _ in 0..u64::MAX {
+            let before = text.len();
+            if self.input.read_until(b'\n', &mut text)? == 0 {
+                return Ok(None);
+            }
+            if text.as_slice().get(before..).map(without_end) == Some(BORDER) {
+                text.truncate(before);
+                return Ok(Some(text));
+            }
+        }
+        Ok(None)
+    }
+
+    /// The next line, without its end; nothing behind the last. Of a line that has more than `MAX_LINE_BYTES` only so many bytes and one
+    /// are read.
+    pub fn next_line(&mut self) -> io::Result<Option<&[u8]>> {
+        self.line.clear();
+        let mut input = self.input.by_ref().take(MAX_LINE_BYTES as u64 + 1);
+        if input.read_until(b'\n', &mut self.line)? == 0 {
+            return Ok(None);
+        }
+        Ok(Some(without_end(&self.line)))
+    }
+
+    /// The next line is in memory, to its end: it is read without a wait.
+    pub fn has_next_ready(&self) -> bool {
+        self.input.buffer().contains(&b'\n')
+    }
+}
+
+fn without_end(line: &[u8]) -> &[u8] {
+    match line {
+        [line @ .., b'\n'] => line,
+        line => line,
+    }
+}
