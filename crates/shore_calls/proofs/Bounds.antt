@@ -22,8 +22,8 @@ use Rattle.shore_model.specs.declared.log_records.LogRecord.{LogRecord}
 use Rattle.shore_model.specs.declared.log_records.Payload.TheVariants as payload
 use Rattle.shore_model.specs.Logs.{previous_of}
 use Rattle.shore_model.specs.Records.{AreRecords, IsRecord, Records, put_image}
-use Rattle.shore_machine.specs.declared.step.Step.{Step}
-use Rattle.shore_machine.specs.declared.step.Step.TheVariants.{Done, Waits, Refused, Nothing}
+use Rattle.shore_calls.specs.declared.step.Step.{Step}
+use Rattle.shore_calls.specs.declared.step.Step.TheVariants.{Done, Waits, Refused, Nothing}
 use Rattle.shore_page.specs.Slots.{image_len}
 use Rattle.shore_room.specs.Claims.{Claimed, SlotCounts, rid_on}
 use Rattle.shore_sessions.proofs.Ids.{put_here, put_there, told_apart}

@@ -11,8 +11,8 @@ use Rattle.shore_model.specs.declared.holds.Hold.{Hold}
 use Rattle.shore_model.specs.declared.log_records.LogRecord.{LogRecord}
 use Rattle.shore_model.specs.declared.log_records.Payload.TheVariants as payload
 use Rattle.shore_model.specs.Logs.{previous_of}
-use Rattle.shore_machine.specs.declared.step.Wait.{Wait}
-use Rattle.shore_machine.specs.declared.step.Wait.TheVariants.{Durable}
+use Rattle.shore_calls.specs.declared.step.Wait.{Wait}
+use Rattle.shore_calls.specs.declared.step.Wait.TheVariants.{Durable}
 use Rattle.shore_sessions.proofs.Lists.{length-push, take-beyond}
 use Rattle.shore_sessions.proofs.LogPrefixes.{decisions_more}
 use Rattle.shore_sessions.proofs.Members.{among_without, member_stays, txn_of_one}

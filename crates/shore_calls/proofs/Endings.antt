@@ -7,8 +7,8 @@ use Rattle.shore_types.specs.declared.faults.Fault.TheVariants as fault
 use Rattle.shore_types.specs.declared.layout.Geometry.{Geometry}
 use Rattle.shore_model.specs.declared.calls.Answer.{Answer}
 use Rattle.shore_model.specs.declared.calls.Call.{Call}
-use Rattle.shore_machine.specs.declared.step.Step.TheVariants.{Done, Waits, Refused}
-use Rattle.shore_machine.specs.declared.step.Wait.{Wait}
+use Rattle.shore_calls.specs.declared.step.Step.TheVariants.{Done, Waits, Refused}
+use Rattle.shore_calls.specs.declared.step.Wait.{Wait}
 use Rattle.shore_sessions.specs.Views.{IsAmong}
 use Rattle.shore_calls.proofs.Elements.{waits_on}
 use Rattle.shore_calls.specs.CallSteps.{CallStep, ResumeStep, commit_told, commit_waiting}

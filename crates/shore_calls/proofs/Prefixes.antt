@@ -8,8 +8,8 @@ use Rattle.shore_model.specs.declared.calls.Answer.{Answer}
 use Rattle.shore_model.specs.declared.calls.Call.{Call}
 use Rattle.shore_model.specs.declared.histories.Entry.{Entry}
 use Rattle.shore_model.specs.declared.log_records.LogRecord.{LogRecord}
-use Rattle.shore_machine.specs.declared.step.Step.{Step}
-use Rattle.shore_machine.specs.declared.step.Step.TheVariants.{Done, Waits, Refused, Nothing}
+use Rattle.shore_calls.specs.declared.step.Step.{Step}
+use Rattle.shore_calls.specs.declared.step.Step.TheVariants.{Done, Waits, Refused, Nothing}
 use Rattle.shore_calls.proofs.Answering.{inner_answer}
 use Rattle.shore_calls.proofs.Crashes.{run_is_state}
 use Rattle.shore_calls.specs.CallHistories.{AreFixed, AreRuns, IsPrefix, IsRun, MovesMaking, Run, list_left, lists_found}

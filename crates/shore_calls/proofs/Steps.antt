@@ -10,8 +10,8 @@ use Rattle.shore_model.specs.declared.calls.Call.TheVariants as call
 use Rattle.shore_model.specs.declared.histories.Entry.{Entry}
 use Rattle.shore_model.specs.declared.log_records.LogRecord.{LogRecord}
 use Rattle.shore_model.specs.Histories.{acknowledged}
-use Rattle.shore_machine.specs.declared.step.Step.{Step}
-use Rattle.shore_machine.specs.declared.step.Step.TheVariants.{Done, Waits, Refused, Nothing}
+use Rattle.shore_calls.specs.declared.step.Step.{Step}
+use Rattle.shore_calls.specs.declared.step.Step.TheVariants.{Done, Waits, Refused, Nothing}
 use Rattle.shore_sessions.specs.LogPrefixes.{decisions_in}
 use Rattle.shore_calls.proofs.Answering.{answer_kept, inner_answer}
 use Rattle.shore_calls.proofs.Beginning.{begin_kept}

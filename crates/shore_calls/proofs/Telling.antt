@@ -10,8 +10,8 @@ use Rattle.shore_model.specs.declared.histories.Entry.TheVariants.{Decided}
 use Rattle.shore_model.specs.declared.log_records.LogRecord.{LogRecord}
 use Rattle.shore_model.specs.Histories.{RunsAloneAfter, decisions, serial}
 use Rattle.shore_model.specs.Records.{Records, overlays}
-use Rattle.shore_machine.specs.declared.step.Step.TheVariants.{Done, Waits}
-use Rattle.shore_machine.specs.declared.step.Wait.{Wait}
+use Rattle.shore_calls.specs.declared.step.Step.TheVariants.{Done, Waits}
+use Rattle.shore_calls.specs.declared.step.Wait.{Wait}
 use Rattle.shore_room.specs.Claims.{SlotCounts}
 use Rattle.shore_sessions.proofs.InPlace.{is_overlaid}
 use Rattle.shore_sessions.proofs.LogDecisions.{event_midst}

@@ -12,8 +12,8 @@ use Rattle.shore_model.specs.declared.calls.Call.TheVariants as call
 use Rattle.shore_model.specs.declared.histories.Decision.TheVariants as decision
 use Rattle.shore_model.specs.declared.histories.Entry.{Entry}
 use Rattle.shore_model.specs.Histories.{acknowledged}
-use Rattle.shore_machine.specs.declared.step.Step.TheVariants.{Done, Waits}
-use Rattle.shore_machine.specs.declared.step.Wait.TheVariants.{Durable}
+use Rattle.shore_calls.specs.declared.step.Step.TheVariants.{Done, Waits}
+use Rattle.shore_calls.specs.declared.step.Wait.TheVariants.{Durable}
 use Rattle.shore_room.proofs.Leaving.{same_page}
 use Rattle.shore_room.specs.Claims.{Grows, SlotCounts}
 use Rattle.shore_room.specs.LogRooms.{image_cost}

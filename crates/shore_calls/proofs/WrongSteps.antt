@@ -17,9 +17,9 @@ use Rattle.shore_model.specs.declared.log_records.LogRecord.{LogRecord}
 use Rattle.shore_model.specs.declared.log_records.Payload.TheVariants as payload
 use Rattle.shore_model.specs.Logs.{previous_of}
 use Rattle.shore_model.specs.Records.{scan_of}
-use Rattle.shore_machine.specs.declared.step.Step.TheVariants.{Done, Waits, Refused, Nothing}
-use Rattle.shore_machine.specs.declared.step.Wait.{Wait}
-use Rattle.shore_machine.specs.declared.step.Wait.TheVariants.{Durable}
+use Rattle.shore_calls.specs.declared.step.Step.TheVariants.{Done, Waits, Refused, Nothing}
+use Rattle.shore_calls.specs.declared.step.Wait.{Wait}
+use Rattle.shore_calls.specs.declared.step.Wait.TheVariants.{Durable}
 use Rattle.shore_sessions.proofs.Ids.{put_here}
 use Rattle.shore_sessions.proofs.Lists.{length-push}
 use Rattle.shore_sessions.specs.Sessions.{SessionTxn}

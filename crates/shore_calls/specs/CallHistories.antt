@@ -13,8 +13,8 @@ use Rattle.shore_model.specs.declared.holds.Hold.{Hold}
 use Rattle.shore_model.specs.declared.log_records.LogRecord.{LogRecord}
 use Rattle.shore_model.specs.Histories.{acknowledged}
 use Rattle.shore_model.specs.Lives.{Span}
-use Rattle.shore_machine.specs.declared.step.Step.{Step}
-use Rattle.shore_machine.specs.declared.step.Step.TheVariants.{Done, Waits, Refused, Nothing}
+use Rattle.shore_calls.specs.declared.step.Step.{Step}
+use Rattle.shore_calls.specs.declared.step.Step.TheVariants.{Done, Waits, Refused, Nothing}
 use Rattle.shore_sessions.specs.LogPrefixes.{LogDecides, decisions_in}
 use Rattle.shore_sessions.specs.LogTells.{IsLogAfter, records_committed}
 use Rattle.shore_sessions.specs.SessionSteps.{exchange}

@@ -14,9 +14,9 @@ use Rattle.shore_model.specs.declared.calls.Call.{Call}
 use Rattle.shore_model.specs.declared.calls.Call.TheVariants as call
 use Rattle.shore_model.specs.declared.log_records.Payload.TheVariants as payload
 use Rattle.shore_model.specs.Records.{scan_of}
-use Rattle.shore_machine.specs.declared.step.Step.{Step}
-use Rattle.shore_machine.specs.declared.step.Step.TheVariants.{Done, Waits, Refused, Nothing}
-use Rattle.shore_machine.specs.declared.step.Wait.TheVariants.{Durable}
+use Rattle.shore_calls.specs.declared.step.Step.{Step}
+use Rattle.shore_calls.specs.declared.step.Step.TheVariants.{Done, Waits, Refused, Nothing}
+use Rattle.shore_calls.specs.declared.step.Wait.TheVariants.{Durable}
 use Rattle.shore_sessions.specs.Logged.{and_record, log_after_answer}
 use Rattle.shore_sessions.specs.Sessions.{SessionTxn, commit_answered, commit_appended, locks_moved, reply_given, txn_begun}
 use Rattle.shore_sessions.specs.Views.{IsAmong}

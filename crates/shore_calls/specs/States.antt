@@ -10,7 +10,7 @@ use Rattle.shore_model.specs.declared.calls.Call.{Call}
 use Rattle.shore_model.specs.declared.holds.Hold.{Hold}
 use Rattle.shore_model.specs.declared.log_records.LogRecord.{LogRecord}
 use Rattle.shore_logrec.specs.Text.{cost_of}
-use Rattle.shore_machine.specs.declared.step.Wait.{Wait}
+use Rattle.shore_calls.specs.declared.step.Wait.{Wait}
 use Rattle.shore_sessions.specs.Sessions.{IsInNoTxn, SessionTxn, Sessions}
 use Rattle.shore_sessions.specs.Views.{IsAmong}
 use Rattle.shore_page.specs.Slots.{Slot}

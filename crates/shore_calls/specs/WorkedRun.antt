@@ -5,8 +5,8 @@ use Rattle.shore_types.specs.declared.ids.PageId.{PageId}
 use Rattle.shore_types.specs.declared.ids.Rid.{Rid}
 use Rattle.shore_model.specs.declared.calls.Answer.TheVariants.{Began, Committed, Inserted}
 use Rattle.shore_model.specs.declared.calls.Call.TheVariants as call
-use Rattle.shore_machine.specs.declared.step.Step.TheVariants.{Done, Waits}
-use Rattle.shore_machine.specs.declared.step.Wait.TheVariants.{Durable}
+use Rattle.shore_calls.specs.declared.step.Step.TheVariants.{Done, Waits}
+use Rattle.shore_calls.specs.declared.step.Wait.TheVariants.{Durable}
 use Rattle.shore_sessions.specs.WorkedRun.{just_opened}
 use Rattle.shore_calls.specs.CallSteps.{Called, Forced, ManagerEvent, Resumed}
 use Rattle.shore_calls.specs.States.{State}

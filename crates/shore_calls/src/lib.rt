@@ -2,3 +2,6 @@
 #![tactic(auto)]
 
 pub mod laws;
+mod step;
+
+pub use step::{Step, Wait};

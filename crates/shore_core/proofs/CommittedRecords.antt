@@ -14,11 +14,11 @@ use Rattle.shore_model.specs.declared.log_records.Payload.TheVariants.{Change, C
 use Rattle.std.specs.Prelude.{unwrap_or}
 use Rattle.shore_model.specs.Records.{Records, WriteSet, put_image, laid_over, overlay, overlays}
 use Rattle.shore_types.specs.Images.{Image}
-use Rattle.shore_model.specs.Logs.{image_in, id_in, is_prepare, prepare_of, is_in_doubt, committed_in, logged_writes, records_told}
-use Rattle.shore_logrec.specs.Text.{Fits, PayloadFits}
+use Rattle.shore_model.specs.Logs.{image_in, id_in, committed_in, logged_writes}
+use Rattle.shore_sessions.specs.LogTells.{records_committed}
 use Rattle.shore_model.proofs.Overlays.{get-laid_over, get-overlay}
 use Rattle.std.specs.Ordering.{eq_by_cmp}
-use Rattle.shore_core.proofs.PageLemmas.{exact}
+use Rattle.std.proofs.lemmas.Map.Views.{tells_apart}
 use Rattle.shore_core.specs.Changes.{image_logged_at, images_logged_at, images_of}
 
 -- ---- images, by places
@@ -104,30 +104,6 @@ left-more log R S indices i within o is so_far next more =
 pub laid_writes : (R : Records) (log : List LogRecord) (t : ℕ) (indices : List ℕ) → images_logged_at log indices ≡ images_of t log → laid_over R (reverse (images_logged_at log indices)) ≡ overlay R (logged_writes log t)
 laid_writes R log t indices of = overlay_of R (reverse (images_logged_at log indices)) ∙ ap (λ es. overlay R (from_entries (reverse es))) of
 
--- ---- what a list of Changes and Commits tells
-
-no_prepare : (p : Payload) → PayloadFits p → is_prepare p ≡ false
-no_prepare (Change id before image) h = refl
-no_prepare Commit h = refl
-no_prepare (Prepare global granules) h = absurd h
-no_prepare (Compensation id image undo_next) h = absurd h
-no_prepare End h = absurd h
-no_prepare RollbackDecided h = absurd h
-no_prepare CheckpointBegin h = absurd h
-no_prepare (CheckpointEnd begin next txns dirty) h = absurd h
-no_prepare (Anchor checkpoint tail) h = absurd h
-
-no_prepares : (rs : List LogRecord) → All Fits rs → filter_map prepare_of rs ≡ []
-no_prepares [] h = refl
-no_prepares (r ∷ rs) h =
-    ap (λ b. cons_option (cond b (Some r.txn) None) (filter_map prepare_of rs)) (no_prepare r.payload (h 0 r (omega arith)).payload_fits)
-    ∙ no_prepares rs (λ k d within. h (suc k) d (omega (arith, within)))
-
--- it tells what the committed have written
-pub records_of_commits : (rs : List LogRecord) → All Fits rs → records_told rs ≡ overlays empty (map (logged_writes rs) (committed_in rs))
-records_of_commits rs h =
-    ap (λ us. overlays (overlays empty (map (logged_writes rs) (committed_in rs))) (map (logged_writes rs) (filter (λ t. is_in_doubt t rs) us))) (no_prepares rs h)
-
 -- ---- an id that no record changes
 
 find_none-append : (q : Rid) (es fs : List (Rid × Image)) → find rid_cmp q es ≡ None → find rid_cmp q fs ≡ None → find rid_cmp q (es ++ fs) ≡ None
@@ -150,7 +126,7 @@ find_none-reverse q (x ∷ es) e =
 at_other : (q : Rid) (id : Rid) (image : Image) (es : List (Rid × Image)) → Some id ≢ Some q → find rid_cmp q es ≡ None → find rid_cmp q ((id, image) ∷ es) ≡ None
 at_other q id image es other rest =
     elim (eq_by_cmp rid_cmp q id) as (λ b. eq_by_cmp rid_cmp q id ≡ b → cond b (Some image) (find rid_cmp q es) ≡ None) [
-      | true ↦ λ t. absurd (other (ap (λ (x : Rid). Some x) (sym (exact q id t))))
+      | true ↦ λ t. absurd (other (ap (λ (x : Rid). Some x) (sym (tells_apart exact_rids q id t))))
       | false ↦ λ t. rest
     ] refl
 
@@ -182,11 +158,10 @@ overlays_none q W none R e (t ∷ ts) =
     overlays_none q W none (overlay R (W t)) (get-overlay R (W t) q ∙ ap (λ o. unwrap_or o (get R q)) (none t) ∙ e) ts
 
 -- it is not among the records that are told
-pub unrecorded : (rs : List LogRecord) (q : Rid) → All Fits rs → All (λ r. id_in r.payload ≢ Some q) rs → get (records_told rs) q ≡ None
-unrecorded rs q fit h =
-    ap (λ R. get R q) (records_of_commits rs fit)
-    ∙ overlays_none q (logged_writes rs)
+pub unrecorded : (rs : List LogRecord) (q : Rid) → All (λ r. id_in r.payload ≢ Some q) rs → get (records_committed rs) q ≡ None
+unrecorded rs q h =
+    overlays_none q (logged_writes rs)
     (λ t. get-from_entries rids_total (reverse (images_of t rs)) q ∙ find_none-reverse q (images_of t rs) (images_none q t rs h))
     empty (get-empty rid_cmp q) (committed_in rs)
 
-pub ruleset committed_records = (laid_writes, records_of_commits)
+pub ruleset committed_records = (laid_writes)

@@ -1,72 +1,69 @@
--- What a core has.
-use Rattle.std.specs.Prelude.{◌≡◌, ◌⊎◌, ℕ, ◌++◌, List, Bool, Option, None, Some, Result, Ok, Err, IsSomeAnd}
-use Rattle.shore_types.specs.declared.ids.Lsn.{Lsn}
-use Rattle.shore_log.specs.declared.tail.Tail.{Ghosts}
-use Rattle.shore_model.specs.Records.{Records}
-use Rattle.shore_types.specs.declared.faults.Fault.{Fault}
-use Rattle.shore_types.specs.declared.faults.Fault.TheVariants.{Memory}
+-- What a core has, and the state that it is in.
+use Rattle.std.specs.Prelude.{◌≡◌, ◌+◌, ℕ, List, Bool, length}
+use Rattle.shore_disk.specs.Device.{History}
+use Rattle.shore_disk.specs.declared.device.Disk as disk
+use Rattle.shore_log.specs.declared.tail.Tail as tail
 use Rattle.shore_types.specs.declared.layout.Geometry.{Geometry}
-use Rattle.shore_model.specs.declared.calls.Call.{Call}
-use Rattle.shore_model.specs.declared.calls.Call.TheVariants as call
 use Rattle.shore_model.specs.declared.log_records.LogRecord.{LogRecord}
-use Rattle.shore_machine.specs.declared.step.Step.{Step}
-use Rattle.shore_machine.specs.declared.step.Step.TheVariants.{Done, Waits, Refused, Nothing}
-use Rattle.shore_machine.specs.declared.step.Wait.TheVariants.{Durable}
-use Rattle.shore_machine.specs.States as machine
-use Rattle.shore_machine.specs.States.{State, next_number}
-use Rattle.shore_machine.specs.Steps.{Answers, IsRefusal, committed}
-use Rattle.shore_core.specs.declared.core_calls.Active.{Active}
-use Rattle.shore_core.specs.RecordMaps.{records_in}
-use Rattle.shore_core.specs.Room.{room_of}
+use Rattle.shore_heap.specs.declared.heap.Heap.{Heap}
+use Rattle.shore_heap.specs.Heaps as heaps
+use Rattle.shore_heap.specs.Heaps.{Shows}
+use Rattle.shore_dwrite.specs.Settled as settled_device
+use Rattle.shore_txn.specs.declared.table.TxnTable.{TxnTable}
+use Rattle.shore_model.specs.Records.{AreRecords}
+use Rattle.shore_calls.specs.CallHistories.{IsRoomyState}
+use Rattle.shore_calls.specs.States.{State, page_slots}
 use Rattle.shore_core.specs.declared.core_calls.Core.{Core}
+use Rattle.shore_core.specs.Parts.{HasParts}
 
--- the records in place
-abbrev pub records_of : {T : Type 0} {G : Ghosts T} → Core T G → Records
-records_of core = records_in core.records
+module _ {T V : Type 0} {G : tail.Ghosts T} {H : disk.Ghosts V} where
+  -- the last number whose force was told
+  abbrev pub durable_of : Core T V G H → ℕ
+  durable_of core = core.durable
 
--- the last number whose force was told
-abbrev pub durable_of : {T : Type 0} {G : Ghosts T} → Core T G → ℕ
-durable_of core = core.durable
+  -- whether a device has failed
+  abbrev pub has_failed : Core T V G H → Bool
+  has_failed core = core.failed
 
--- the number of the Commit record that a call waits for
-abbrev pub committing_of : {T : Type 0} {G : Ghosts T} → Core T G → Option Lsn
-committing_of core = core.committing
+  -- the log buffer that it pushes records to, and the records there
+  abbrev pub tail_of : Core T V G H → T
+  tail_of core = core.tail
 
--- whether a device has failed
-abbrev pub has_failed : {T : Type 0} {G : Ghosts T} → Core T G → Bool
-has_failed core = core.failed
+  abbrev pub waiting_of : Core T V G H → List LogRecord
+  waiting_of core = G.records core.tail
 
--- the log buffer that it pushes records to
-abbrev pub tail_of : {T : Type 0} {G : Ghosts T} → Core T G → T
-tail_of core = core.tail
+  -- the number of the first of them
+  abbrev pub first_of : Core T V G H → ℕ
+  first_of core = G.first core.tail
 
--- the geometry that it was opened with
-abbrev pub geometry_of : {T : Type 0} {G : Ghosts T} → Core T G → Geometry
-geometry_of core = core.geometry
+  abbrev pub heap_of : Core T V G H → Heap V H
+  heap_of core = core.heap
 
--- ---- as the machine that it is
+  abbrev pub txns_of : Core T V G H → TxnTable
+  txns_of core = core.txns
 
-abbrev pub active_in : Option Active → Option machine.Active
-active_in None = None
-active_in (Some a) = Some record { txn = a.txn; last = a.last; reserved = a.reserved }
+  abbrev pub geometry_of : Core T V G H → Geometry
+  geometry_of core = heaps.geometry_of core.heap
 
--- the state of the machine, where these records stand before those that the log buffer has
-abbrev pub state_of : {T : Type 0} {G : Ghosts T} → List LogRecord → Core T G → State
-state_of {G = G} before core = record {
-  records = records_of core;
-  active = active_in core.active;
-  committing = core.committing;
-  next_txn = core.next_txn;
-  log = before ++ G.records core.tail;
-  durable = core.durable;
-  room = room_of core.room;
-  failed = core.failed;
-}
+  -- the calls of its volume
+  abbrev pub history_of : Core T V G H → History
+  history_of core = heaps.history_of core.heap
 
--- what a call is replied behind the refusals that stand before every call, and what it leaves
-abbrev pub Replies : Geometry → State → Call → Result Step Fault → State → Type 0
-Replies g s c (Err fault) new = ((fault ≡ Memory) ⊎ IsRefusal g s c fault) × (new ≡ s)
-Replies g s c (Ok (Done answer)) new = Answers g s c answer new
-Replies g s c (Ok (Waits wait)) new = (c ≡ call.Commit) × IsSomeAnd s.active (λ a. (wait ≡ Durable (next_number s)) × (new ≡ committed s a))
-Replies g s c (Ok (Refused fault)) new = ⊥
-Replies g s c (Ok Nothing) new = ⊥
+  abbrev pub faults_of : Core T V G H → ℕ
+  faults_of core = heaps.faults_of core.heap
+
+  -- the device of its volume
+  abbrev pub volume_of : Core T V G H → V
+  volume_of core = settled_device.device_of (heaps.device_of core.heap)
+
+  -- The core is in the state, over a volume with these texts of its pages behind this front, where these records are before those that its
+  -- log buffer has.
+  pub record IsIn (front : List ℕ) (disk : ℕ → List ℕ) (before : List LogRecord) (core : Core T V G H) (s : State) : Type 0 where
+    pub first : first_of core ≡ 1 + length before
+    pub pages : Shows core.heap front disk (page_slots s)
+    pub parts : HasParts core.txns (waiting_of core) core.durable core.failed before s
+
+-- Pages and log have room, and the records lie in the geometry: what is kept of the state beside.
+pub record IsSafe (g : Geometry) (s : State) : Type 0 where
+  pub roomy : IsRoomyState s
+  pub inside : AreRecords g s.sessions.records

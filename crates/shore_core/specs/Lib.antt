@@ -1,7 +1,6 @@
-pub mod Bounds
-pub mod Changes
+pub mod Parts
 pub mod Cores
+pub mod Replies
+pub mod Changes
+pub mod Laid
 pub mod Opened
-pub mod RecordMaps
-pub mod Room
-pub mod Uses

@@ -1,9 +1,8 @@
 //! What the transactions of a log have changed, and the records that those leave that committed.
-ghost use Rattle.std.specs.Prelude.{◌≡◌, ◌==◌, ◌++◌, ◌∷◌, [], ℕ, if◌then◌else◌, All, IfOk, OnOk, map, reverse, option_to_list};
+ghost use Rattle.std.specs.Prelude.{◌≡◌, ◌==◌, ◌++◌, ◌∷◌, [], ℕ, if◌then◌else◌, IfOk, OnOk, map, reverse, option_to_list};
 ghost use Rattle.shore_model.specs.Records.{laid_over, overlays, put_image};
-ghost use Rattle.shore_model.specs.Logs as logs;
 ghost use Rattle.shore_model.specs.Logs.{committed_in, image_in, logged_writes};
-ghost use Rattle.shore_logrec.specs.Text.{Fits};
+ghost use Rattle.shore_sessions.specs.LogTells.{records_committed};
 ghost use Rattle.shore_core.specs.Changes.{AreOf, images_logged_at, indices_in};
 
 use shore_logrec::{LogRecord, Payload};
@@ -68,8 +67,7 @@ impl Changes {
 /// other transactions changed is passed over.
 #[tactic(auto, using(crate::proofs::CommittedRecords::committed_records))]
 pub fn records_told(alloc: Global, log: &[LogRecord]) -> Result<RidMap<Bytes>, AllocError>
-    requires { All Fits log.now }
-    ensures { IfOk result (λ records. records ≡ logs.records_told log.now) }
+    ensures { IfOk result (λ records. records ≡ records_committed log.now) }
 {
     let changes = Changes::of_log(alloc, log)?;
     let mut records = RidMap::new(alloc);

@@ -1,300 +1,445 @@
 //! The calls of a session, and what the log device tells.
-ghost use Rattle.std.specs.Prelude.{◌≡◌, ◌≢◌, ◌⊎◌, ◌↔◌, ◌+◌, ◌≤◌, ◌<◌, ◌++◌, [], ℕ, List, All, IsTrue, false, IsSomeAnd, IfOk, IfErr, OnOk, OnErr, None, Some, Err, length};
-ghost use Rattle.std.specs.FinMap as map;
+ghost use Rattle.std.specs.Prelude.{◌≡◌, ◌≢◌, ◌⊎◌, ◌↔◌, ◌+◌, ◌≤◌, ◌<◌, ◌++◌, [], ℕ, List, IsTrue, IsSome, IsSomeAnd, IfSome, IfOk, IfErr, OnOk, OnErr, None, Some, Err, Ok, is_some, length, option_map};
+ghost use Rattle.std.specs.FinMap.{get};
 ghost use Rattle.std.specs.Option.{ForSome};
-ghost use Rattle.shore_types.specs.Layout.{HasStore, HasPage};
+ghost use Rattle.shore_types.specs.Layout.{HasStore, HasPage, HasSlot};
+ghost use Rattle.shore_types.specs.declared.faults.Fault.TheVariants as Fault;
 ghost use Rattle.shore_types.specs.declared.ids.Rid.{Rid};
-ghost use Rattle.shore_logrec.specs.Text.{Fits};
-ghost use Rattle.shore_log.specs.Settled.{records_of_log, stable, IsSettled};
-ghost use Rattle.shore_log.specs.PlainTails.{first_of, waiting_in};
-ghost use Rattle.shore_types.specs.declared.layout.TheConstants.{ENDING_COST, LAST_LSN, LAST_OPENED, LAST_TXN, MAX_LOG_BYTES};
-ghost use Rattle.shore_machine.specs.Pages.{FitPages};
-ghost use Rattle.shore_core.specs.Bounds.{AreInBounds, InBounds, IsBounded};
-ghost use Rattle.shore_core.specs.Opened.{HasTxns, IsBadRecord, cost_of_log};
-ghost use Rattle.shore_core.specs.RecordMaps.{IsOn};
-ghost use Rattle.shore_core.specs.Room.{room_of};
-ghost use Rattle.shore_machine.specs.States.{HasRoomFor};
+ghost use Rattle.shore_types.specs.declared.layout.TheConstants.{ENDING_COST, GREATEST_CHECKPOINT, LAST_LSN, LAST_OPENED, LONGEST_FRAME, MAX_RECORD_BYTES};
+ghost use Rattle.shore_types.specs.Images.{Image};
+ghost use Rattle.shore_model.specs.declared.calls.Call.TheVariants as Call;
 ghost use Rattle.shore_model.specs.declared.log_records.LogRecord.{LogRecord};
-ghost use Rattle.shore_model.specs.Logs.{records_told};
-ghost use Rattle.shore_machine.specs.Served.{IsServed};
-ghost use Rattle.shore_machine.specs.Trails.{IsOpened};
-ghost use Rattle.shore_machine.specs.Steps.{CallStep, ResumeStep, with_durable, with_failure};
+ghost use Rattle.shore_disk.specs.Cause.{HasCause};
+ghost use Rattle.shore_page.specs.Room.{Fits};
+ghost use Rattle.shore_page.specs.Slots.{image_at_slot, image_len};
+ghost use Rattle.shore_heap.specs.Heaps.{frame_of};
+ghost use Rattle.shore_calls.specs.declared.step.Step.TheVariants as Step;
+ghost use Rattle.shore_txn.specs.Tables.{active_in, committing_in, room_in};
+ghost use Rattle.shore_txn.specs.Txns.{last_of, number_of};
+ghost use Rattle.shore_calls.specs.CallSteps.{IsServed, ResumeStep, after_refusal, with_durable, with_failure};
+ghost use Rattle.shore_calls.specs.Refusals.{IsPageFault, RecordRefusal};
+ghost use Rattle.shore_calls.specs.States.{State};
+ghost use Rattle.shore_core.specs.Parts.{IsOfOneSession};
 
-use crate::log_room::LogRoom;
-use crate::record_map::RecordMap;
-use crate::replay::{OpenError, bad_transaction, cost_of_all, next_transaction, replay};
+use crate::images::{bytes_of, copied, copy_of, len_of};
 use shore_disk::Disk;
+use shore_heap::Heap;
 use shore_log::{Durable, LogDev, PlainTail, Tail};
 use shore_logrec::{LogRecord, Payload, change_cost, compensation_cost};
-use shore_machine::{Step, Wait};
-use shore_model::{Answer, Call, RidMap};
-use shore_types::layout::{ENDING_COST, LAST_LSN, LAST_OPENED, LAST_TXN, MAX_RECORD_BYTES};
-use shore_types::{Bytes, Fault, Geometry, Lsn, PageId, Rid, StoreId, TxnId};
+use shore_calls::{Step, Wait};
+use shore_model::{Answer, Call};
+use shore_txn::{TxnTable, UndoEntry};
+use shore_types::layout::{ENDING_COST, LAST_LSN, LAST_TXN, MAX_RECORD_BYTES, MAX_SLOTS};
+use shore_types::{Bytes, Fault, Geometry, Lsn, PageId, Rid, Sequence, SessionId, StoreId, TxnId};
 use std::alloc::Global;
 
-/// The session's transaction.
-#[derive(Clone, Copy)]
-struct Active {
-    txn: TxnId,
-    /// The number of its last record, 0 if it has none.
-    last: Lsn,
-    /// What is reserved for its ending and for the undo of its changes.
-    reserved: u64,
-}
-
-/// The records in place, the session's transaction, and the room of the log. It serves one session as yet.
+/// The pages of a volume, the table of transactions, and the log buffer that the records of changes go to. It serves one session as yet.
 #[derive(Drop)]
-pub struct Core<T: Tail> {
-    geometry: Geometry,
-    records: RecordMap,
-    tail: T,
-    next_txn: u64,
-    active: Option<Active>,
-    // The number of the Commit record of the transaction that was the active one, until its force is told.
-    committing: Option<Lsn>,
-    room: LogRoom,
-    durable: Lsn,
-    failed: bool,
-    ghost pages: { IsOn geometry records },
-    ghost some_txn: { 1 ≤ next_txn },
+pub struct Core<T: Tail, V: Disk> {
+    pub(crate) heap: Heap<V>,
+    pub(crate) tail: T,
+    pub(crate) txns: TxnTable,
+    pub(crate) durable: Lsn,
+    pub(crate) failed: bool,
     ghost some_number: { 1 ≤ T.Tail.first tail + length (T.Tail.records tail) },
     ghost few: { T.Tail.first tail + length (T.Tail.records tail) ≤ LAST_OPENED },
-    ghost begun: { ForSome active (λ a. 1 ≤ a.txn) },
-    ghost below: { ForSome active (λ a. a.txn ≤ LAST_TXN) },
-    ghost earlier: { ForSome active (λ a. a.last < T.Tail.first tail + length (T.Tail.records tail)) },
-    ghost owed: { ForSome active (λ a. a.reserved ≤ room.reserved) },
-    ghost ending: { ForSome active (λ a. ENDING_COST ≤ a.reserved) },
-    ghost number: { ForSome active (λ _. T.Tail.first tail + length (T.Tail.records tail) ≤ LAST_LSN + 1) },
+    ghost number: { ForSome (active_in txns) (λ _. T.Tail.first tail + length (T.Tail.records tail) ≤ LAST_LSN + 1) },
+    ghost earlier: { ForSome (active_in txns) (λ t. last_of t < T.Tail.first tail + length (T.Tail.records tail)) },
+    ghost one: { IsOfOneSession txns },
 }
 
-impl<T: Tail> Core<T> {
-    ghost use Rattle.shore_core.specs.Cores.{records_of, durable_of, committing_of, has_failed, geometry_of, state_of, Replies};
+impl<T: Tail, V: Disk> Core<T, V> {
+    ghost use Rattle.shore_core.specs.Cores.{IsIn, durable_of, faults_of, first_of, geometry_of, has_failed, heap_of, history_of, tail_of, txns_of, waiting_of};
+    ghost use Rattle.shore_core.specs.Replies.{Changes, InEach, IsReady, Keeps, OnlyReads, Replied, Resumed, Stays, Stepped, fault_at};
 
-    /// A call of the session. Refused in this order: `Failed` after a failure of a device, `Busy` while its earlier call waits,
-    /// `AlreadyActive` or `NoTransaction`, and then as the call says; `Memory` if an allocation failed. A refused call has changed
-    /// nothing.
-    pub fn call(&mut self, alloc: Global, call: Call) -> Step
-        requires { IsServed call }
+    /// A call of a session. Refused in this order: `Failed` after a failure of a device or a damaged page, `Busy` while the session's earlier
+    /// call waits, `AlreadyActive` or `NoTransaction`, and then as the call says; `Memory` if an allocation failed. A refused call has
+    /// changed nothing; but after `Device` and `Damaged` every later call is refused.
+    pub fn call(&mut self, alloc: Global, session: SessionId, call: Call) -> Step
+        requires { IsServed session call }
 
-        // It is the step of the machine, whatever records were handed on before those that the log buffer has.
-        ensures step { (before : List LogRecord) → T.Tail.first self.old.tail ≡ 1 + length before
-            → CallStep (geometry_of self.old) (state_of before self.old) call result (state_of before self.new) }
+        // It is a step of the manager over plain data, in whatever state it was.
+        ensures step { InEach (Stepped session call result self.old self.new) self.old }
         ensures durable { durable_of self.new ≡ durable_of self.old }
         ensures geometry { geometry_of self.new ≡ geometry_of self.old }
-        ensures first { T.Tail.first self.new.tail ≡ T.Tail.first self.old.tail }
+        ensures first { first_of self.new ≡ first_of self.old }
+        ensures cause { HasCause (fault_at result) (faults_of self.old) (faults_of self.new) }
     {
         if self.failed {
             return Step::Refused(Fault::Failed);
         }
-        if self.committing.is_some() {
+        if self.txns.waits(session).is_some() {
             return Step::Refused(Fault::Busy);
         }
-        match self.answer(alloc, call) {
+        match self.answer(alloc, session, call) {
             Ok(step) => step,
-            Err(fault) => Step::Refused(fault),
+            Err(fault) => self.refuse(fault),
         }
     }
 
-    fn answer(&mut self, alloc: Global, call: Call) -> Result<Step, Fault>
-        requires { IsServed call }
-        ensures replies { (before : List LogRecord) → T.Tail.first self.old.tail ≡ 1 + length before
-            → Replies (geometry_of self.old) (state_of before self.old) call result (state_of before self.new) }
+    // After a failure of a device, or a damaged page, every call is refused.
+    fn refuse(&mut self, fault: Fault) -> Step
+        ensures refused { result ≡ Step.Refused fault }
+        ensures left { InEach (λ front disk before s. IsIn front disk before self.new (after_refusal fault s)) self.old }
+        ensures heap { heap_of self.new ≡ heap_of self.old }
         ensures durable { durable_of self.new ≡ durable_of self.old }
-        ensures geometry { geometry_of self.new ≡ geometry_of self.old }
-        ensures first { T.Tail.first self.new.tail ≡ T.Tail.first self.old.tail }
+        ensures first { first_of self.new ≡ first_of self.old }
+    {
+        if matches!(fault, Fault::Device | Fault::Damaged { .. }) {
+            self.failed = true;
+        }
+        Step::Refused(fault)
+    }
+
+    fn answer(&mut self, alloc: Global, session: SessionId, call: Call) -> Result<Step, Fault>
+        requires { IsServed session call }
+        ensures replied { IsReady self.old session → InEach (Replied session call result self.old self.new) self.old }
+        ensures keeps { Keeps self.old self.new }
+        ensures plain { IfOk result (λ step. fault_at step ≡ Ok tt) }
+        ensures cause { HasCause result (faults_of self.old) (faults_of self.new) }
     {
         match call {
-            Call::Begin => self.begin(),
-            Call::Get(id) => self.get(alloc, id),
-            Call::Insert(store, bytes) => self.insert(alloc, store, bytes),
-            Call::Commit => self.commit(),
+            Call::Begin => self.begin(alloc, session),
+            Call::Get(id) => self.get(alloc, session, id),
+            Call::Insert(store, bytes) => self.insert(alloc, session, store, bytes),
+            Call::Update(id, bytes) => self.update(alloc, session, id, bytes),
+            Call::Delete(id) => self.delete(alloc, session, id),
+            Call::Scan(store) => self.scan(alloc, session, store),
+            Call::Commit => self.commit(alloc, session),
             _ => unreachable!(),
         }
     }
 
     // Whether the log has room for so much more, and numbers.
     fn admits(&self, need: u64) -> bool
-        ensures { IsTrue result ↔ ((T.Tail.first self.now.tail + length (T.Tail.records self.now.tail) ≤ LAST_LSN) × HasRoomFor (room_of self.now.room) need) }
+        ensures { IsTrue result ↔ ((first_of self.now + length (waiting_of self.now) ≤ LAST_LSN)
+            × ((room_in self.now.txns).kept + (room_in self.now.txns).reserved + need + LONGEST_FRAME + GREATEST_CHECKPOINT ≤ (room_in self.now.txns).stream_bytes)) }
     {
-        self.tail.next().0 <= LAST_LSN && self.room.admits(need)
+        self.tail.next().0 <= LAST_LSN && self.txns.admits(need)
     }
 
-    fn begin(&mut self) -> Result<Step, Fault>
-        ensures replies { (before : List LogRecord) → T.Tail.first self.old.tail ≡ 1 + length before
-            → Replies (geometry_of self.old) (state_of before self.old) Call.Begin result (state_of before self.new) }
-        ensures durable { durable_of self.new ≡ durable_of self.old }
-        ensures geometry { geometry_of self.new ≡ geometry_of self.old }
-        ensures first { T.Tail.first self.new.tail ≡ T.Tail.first self.old.tail }
+    fn begin(&mut self, alloc: Global, session: SessionId) -> Result<Step, Fault>
+        requires { session ≡ 1 }
+        ensures replied { IsReady self.old session → InEach (Replied session Call.Begin result self.old self.new) self.old }
+        ensures keeps { Keeps self.old self.new }
+        ensures plain { IfOk result (λ step. fault_at step ≡ Ok tt) }
+        ensures heap { heap_of self.new ≡ heap_of self.old }
+        ensures cause { HasCause result (faults_of self.old) (faults_of self.new) }
     {
-        if self.active.is_some() {
+        if self.txns.txn(session).is_some() {
             return Err(Fault::AlreadyActive);
         }
-        if !self.admits(ENDING_COST) || self.next_txn >= LAST_TXN {
+        if !self.admits(ENDING_COST) || self.txns.next() >= LAST_TXN {
             return Err(Fault::LogFull);
         }
-        let txn = TxnId(self.next_txn);
-        self.room.reserve(ENDING_COST);
-        self.next_txn += 1;
-        self.active = Some(Active {
-            txn,
-            last: Lsn(0),
-            reserved: ENDING_COST,
-        });
+        let txn = self.txns.begin(alloc, session);
         Ok(Step::Done(Answer::Began(txn)))
     }
 
-    fn get(&self, alloc: Global, id: Rid) -> Result<Step, Fault>
-        ensures replies { (before : List LogRecord)
-            → Replies (geometry_of self.now) (state_of before self.now) (Call.Get id) result (state_of before self.now) }
+    fn get(&mut self, alloc: Global, session: SessionId, id: Rid) -> Result<Step, Fault>
+        ensures replied { IsReady self.old session → InEach (Replied session (Call.Get id) result self.old self.new) self.old }
+        ensures keeps { Keeps self.old self.new }
+        ensures plain { IfOk result (λ step. fault_at step ≡ Ok tt) }
+        ensures cause { HasCause result (faults_of self.old) (faults_of self.new) }
     {
-        if self.active.is_none() {
-            return Err(Fault::NoTransaction);
-        }
-        self.check_page(id.page)?;
-        match self.records.copy_of(alloc, id)? {
-            Some(bytes) => Ok(Step::Done(Answer::Got(bytes))),
+        self.reach(alloc, session, id)?;
+        match self.heap.record(id) {
+            Some(bytes) => Ok(Step::Done(Answer::Got(copied(alloc, bytes)?))),
             None => Err(Fault::NoRecord),
         }
     }
 
+    // Brings the page of a record into a frame, if the session has a transaction, and store and page are there.
+    fn reach(&mut self, alloc: Global, session: SessionId, id: Rid) -> Result<(), Fault>
+        ensures reached { OnOk result (HasSlot (geometry_of self.old) id × IsTrue (is_some (frame_of (heap_of self.new) id.page))) }
+        ensures txn { OnOk result (IsSomeAnd (active_in (txns_of self.old)) (λ t. t.session ≡ session)) }
+        ensures refused { IsReady self.old session → InEach (λ front disk before s. IfErr result (λ f. (f ≡ Fault.Memory) ⊎ RecordRefusal (geometry_of self.old) s session id f)) self.old }
+        ensures stays { InEach (Stays self.old self.new) self.old }
+        ensures reads { OnlyReads self.old self.new }
+        ensures cause { HasCause result (faults_of self.old) (faults_of self.new) }
+    {
+        if self.txns.txn(session).is_none() {
+            return Err(Fault::NoTransaction);
+        }
+        self.check_page(id.page)?;
+        if id.slot >= MAX_SLOTS {
+            return Err(Fault::NoRecord);
+        }
+        self.fetch(alloc, id.page)
+    }
+
     // The store has to be there, and then the page.
     fn check_page(&self, id: PageId) -> Result<(), Fault>
-        ensures page { OnOk result (HasPage self.now.geometry id) }
-        ensures store { result ≡ Err Fault.NoStore → ¬ HasStore self.now.geometry id.store }
-        ensures no_page { result ≡ Err Fault.NoPage → HasStore self.now.geometry id.store × ¬ HasPage self.now.geometry id }
+        ensures page { OnOk result (HasPage (geometry_of self.now) id) }
+        ensures store { result ≡ Err Fault.NoStore → ¬ HasStore (geometry_of self.now) id.store }
+        ensures no_page { result ≡ Err Fault.NoPage → HasStore (geometry_of self.now) id.store × ¬ HasPage (geometry_of self.now) id }
         ensures other { IfErr result (λ fault. (fault ≡ Fault.NoStore) ⊎ (fault ≡ Fault.NoPage)) }
     {
         let store = id.store;
-        if !self.geometry.has_store(store) {
+        if !self.heap.geometry().has_store(store) {
             return Err(Fault::NoStore);
         }
-        if !self.geometry.has_page(id) {
+        if !self.heap.geometry().has_page(id) {
             return Err(Fault::NoPage);
         }
         Ok(())
     }
 
-    fn insert(&mut self, alloc: Global, store: StoreId, bytes: Bytes) -> Result<Step, Fault>
-        ensures replies { (before : List LogRecord) → T.Tail.first self.old.tail ≡ 1 + length before
-            → Replies (geometry_of self.old) (state_of before self.old) (Call.Insert store bytes) result (state_of before self.new) }
-        ensures durable { durable_of self.new ≡ durable_of self.old }
-        ensures geometry { geometry_of self.new ≡ geometry_of self.old }
-        ensures first { T.Tail.first self.new.tail ≡ T.Tail.first self.old.tail }
+    fn fetch(&mut self, alloc: Global, page: PageId) -> Result<(), Fault>
+        requires { HasPage (geometry_of self.old) page }
+        ensures there { OnOk result (IsTrue (is_some (frame_of (heap_of self.new) page))) }
+        ensures refused { InEach (λ front disk before s. IfErr result (λ f. (f ≡ Fault.Memory) ⊎ IsPageFault f)) self.old }
+        ensures stays { InEach (Stays self.old self.new) self.old }
+        ensures reads { OnlyReads self.old self.new }
+        ensures cause { HasCause result (faults_of self.old) (faults_of self.new) }
     {
-        let Some(active) = self.active else {
+        let last = Lsn(self.tail.next().0 - 1);
+        self.heap.fetch(alloc, page, last, self.durable)
+    }
+
+    fn insert(
+        &mut self,
+        alloc: Global,
+        session: SessionId,
+        store: StoreId,
+        bytes: Bytes,
+    ) -> Result<Step, Fault>
+        ensures replied { IsReady self.old session → InEach (Replied session (Call.Insert store bytes) result self.old self.new) self.old }
+        ensures keeps { Keeps self.old self.new }
+        ensures plain { IfOk result (λ step. fault_at step ≡ Ok tt) }
+        ensures cause { HasCause result (faults_of self.old) (faults_of self.new) }
+    {
+        if self.txns.txn(session).is_none() {
             return Err(Fault::NoTransaction);
-        };
+        }
         let len = bytes.as_slice().len();
         if len > MAX_RECORD_BYTES {
             return Err(Fault::TooLong);
         }
-        if !self.geometry.has_store(store) {
+        if !self.heap.geometry().has_store(store) {
             return Err(Fault::NoStore);
         }
-        let Some(place) = self.records.place_for(store, len) else {
+        let last = Lsn(self.tail.next().0 - 1);
+        let place = self.heap.place_for(alloc, store, len, last, self.durable)?;
+        let Some(Rid { page, slot }) = place else {
             return Err(Fault::StoreFull);
         };
-        let cost = change_cost(None, Some(len));
-        let undo = compensation_cost(None);
-        if !self.admits(cost + undo) {
-            return Err(Fault::LogFull);
+        let PageId { store, page } = page;
+        let id = PageId { store, page };
+        self.change(alloc, session, Rid { page: id, slot }, None, Some(bytes))?;
+        let page = PageId { store, page };
+        Ok(Step::Done(Answer::Inserted(Rid { page, slot })))
+    }
+
+    fn update(
+        &mut self,
+        alloc: Global,
+        session: SessionId,
+        id: Rid,
+        bytes: Bytes,
+    ) -> Result<Step, Fault>
+        ensures replied { IsReady self.old session → InEach (Replied session (Call.Update id bytes) result self.old self.new) self.old }
+        ensures keeps { Keeps self.old self.new }
+        ensures plain { IfOk result (λ step. fault_at step ≡ Ok tt) }
+        ensures cause { HasCause result (faults_of self.old) (faults_of self.new) }
+    {
+        if self.txns.txn(session).is_none() {
+            return Err(Fault::NoTransaction);
         }
-        let after = Some(bytes.try_clone(alloc)?);
-        self.records.insert(&place, bytes)?;
-        let record = LogRecord {
-            txn: active.txn,
-            previous: active.last,
-            payload: Payload::Change {
-                id: place.id,
-                before: None,
-                after,
-            },
-        };
-        match self.tail.push(record) {
-            Ok(last) => {
-                self.room.append(cost);
-                self.room.reserve(undo);
-                self.active = Some(Active {
-                    txn: active.txn,
-                    last,
-                    reserved: active.reserved + undo,
-                });
-                Ok(Step::Done(Answer::Inserted(place.id)))
-            }
-            Err((fault, _)) => {
-                self.records.undo_insert(&place);
-                Err(fault)
-            }
+        let len = bytes.as_slice().len();
+        if len > MAX_RECORD_BYTES {
+            return Err(Fault::TooLong);
+        }
+        let before = Some(self.find(alloc, session, id)?);
+        if !self.heap.fits(id, len) {
+            return Err(Fault::StoreFull);
+        }
+        self.change(alloc, session, id, before, Some(bytes))?;
+        Ok(Step::Done(Answer::Updated))
+    }
+
+    fn delete(&mut self, alloc: Global, session: SessionId, id: Rid) -> Result<Step, Fault>
+        ensures replied { IsReady self.old session → InEach (Replied session (Call.Delete id) result self.old self.new) self.old }
+        ensures keeps { Keeps self.old self.new }
+        ensures plain { IfOk result (λ step. fault_at step ≡ Ok tt) }
+        ensures cause { HasCause result (faults_of self.old) (faults_of self.new) }
+    {
+        let before = Some(self.find(alloc, session, id)?);
+        self.change(alloc, session, id, before, None)?;
+        Ok(Step::Done(Answer::Deleted))
+    }
+
+    // A copy of a record that is there, with its page in a frame.
+    fn find(&mut self, alloc: Global, session: SessionId, id: Rid) -> Result<Bytes, Fault>
+        ensures reached { OnOk result (HasSlot (geometry_of self.old) id) }
+        ensures framed { IfOk result (λ bytes. IsSomeAnd (frame_of (heap_of self.new) id.page) (λ f. image_at_slot f.page.slots id.slot ≡ Some bytes)) }
+        ensures short { IfOk result (λ bytes. length bytes ≤ MAX_RECORD_BYTES) }
+        ensures txn { OnOk result (IsSomeAnd (active_in (txns_of self.old)) (λ t. t.session ≡ session)) }
+        ensures found { InEach (λ front disk before s. IfOk result (λ bytes. get s.sessions.records id ≡ Some bytes)) self.old }
+        ensures refused { IsReady self.old session → InEach (λ front disk before s. IfErr result (λ f. (f ≡ Fault.Memory) ⊎ RecordRefusal (geometry_of self.old) s session id f)) self.old }
+        ensures stays { InEach (Stays self.old self.new) self.old }
+        ensures reads { OnlyReads self.old self.new }
+        ensures cause { HasCause result (faults_of self.old) (faults_of self.new) }
+    {
+        self.reach(alloc, session, id)?;
+        match self.heap.record(id) {
+            Some(bytes) => Ok(copied(alloc, bytes)?),
+            None => Err(Fault::NoRecord),
         }
     }
 
-    // The record of the commit was reserved for at the begin, so it is never refused for room.
-    fn commit(&mut self) -> Result<Step, Fault>
-        ensures replies { (before : List LogRecord) → T.Tail.first self.old.tail ≡ 1 + length before
-            → Replies (geometry_of self.old) (state_of before self.old) Call.Commit result (state_of before self.new) }
-        ensures durable { durable_of self.new ≡ durable_of self.old }
-        ensures geometry { geometry_of self.new ≡ geometry_of self.old }
-        ensures first { T.Tail.first self.new.tail ≡ T.Tail.first self.old.tail }
+    // Logs a change of the session's transaction and makes it on its page, which is in a frame and has room. All memory is taken before the
+    // record is logged, and behind that nothing can fail.
+    fn change(
+        &mut self,
+        alloc: Global,
+        session: SessionId,
+        id: Rid,
+        before: Option<Bytes>,
+        after: Option<Bytes>,
+    ) -> Result<(), Fault>
+        requires there { HasSlot (geometry_of self.old) id }
+        requires found { IsSomeAnd (frame_of (heap_of self.old) id.page) (λ f. (image_at_slot f.page.slots id.slot ≡ before) × Fits f.page.slots id.slot (image_len after)) }
+        requires before { image_len before ≤ MAX_RECORD_BYTES }
+        requires some { IsTrue (is_some before) ⊎ IsTrue (is_some after) }
+        requires txn { IsSomeAnd (active_in (txns_of self.old)) (λ t. t.session ≡ session) }
+        ensures changed { InEach (λ front disk before s. Changes self.old self.new session id after result front disk before s) self.old }
+        ensures keeps { Keeps self.old self.new }
+        ensures faults { faults_of self.new ≡ faults_of self.old }
+        ensures refused { IfErr result (λ f. (f ≡ Fault.Memory) ⊎ (f ≡ Fault.LogFull)) }
     {
-        let Some(active) = self.active else {
+        let Some(txn) = self.txns.txn(session) else {
+            return Err(Fault::NoTransaction);
+        };
+        let (txn, previous) = (txn.id(), txn.last());
+        let logged = change_cost(len_of(&before), len_of(&after));
+        let undo = compensation_cost(len_of(&before));
+        if !self.admits(logged + undo) {
+            return Err(Fault::LogFull);
+        }
+        let entry = UndoEntry {
+            id,
+            before: copy_of(alloc, &before)?,
+            claim: self.heap.claim(id),
+        };
+        let image = copy_of(alloc, &after)?;
+        self.txns.reserve_entry()?;
+        let payload = Payload::Change { id, before, after };
+        let lsn = match self.tail.push(LogRecord {
+            txn,
+            previous,
+            payload,
+        }) {
+            Ok(lsn) => lsn,
+            Err((fault, _)) => return Err(fault),
+        };
+        self.heap.change(id, lsn, bytes_of(&image));
+        self.txns.note_change(lsn, entry, logged, undo);
+        Ok(())
+    }
+
+    fn scan(&mut self, alloc: Global, session: SessionId, store: StoreId) -> Result<Step, Fault>
+        ensures replied { IsReady self.old session → InEach (Replied session (Call.Scan store) result self.old self.new) self.old }
+        ensures keeps { Keeps self.old self.new }
+        ensures plain { IfOk result (λ step. fault_at step ≡ Ok tt) }
+        ensures cause { HasCause result (faults_of self.old) (faults_of self.new) }
+    {
+        if self.txns.txn(session).is_none() {
+            return Err(Fault::NoTransaction);
+        }
+        if !self.heap.geometry().has_store(store) {
+            return Err(Fault::NoStore);
+        }
+        let last = Lsn(self.tail.next().0 - 1);
+        let pairs = self.heap.scan(alloc, store, last, self.durable)?;
+        Ok(Step::Done(Answer::Scanned(pairs)))
+    }
+
+    // The record of the commit was reserved for at the begin, so it is never refused for room. The transaction's claims go with it.
+    fn commit(&mut self, alloc: Global, session: SessionId) -> Result<Step, Fault>
+        ensures replied { IsReady self.old session → InEach (Replied session Call.Commit result self.old self.new) self.old }
+        ensures keeps { Keeps self.old self.new }
+        ensures plain { IfOk result (λ step. fault_at step ≡ Ok tt) }
+        ensures faults { faults_of self.new ≡ faults_of self.old }
+        ensures cause { HasCause result (faults_of self.old) (faults_of self.new) }
+    {
+        let Some(txn) = self.txns.txn(session) else {
             return Err(Fault::NoTransaction);
         };
         let record = LogRecord {
-            txn: active.txn,
-            previous: active.last,
+            txn: txn.id(),
+            previous: txn.last(),
             payload: Payload::Commit,
         };
-        match self.tail.push(record) {
-            Ok(number) => {
-                self.room.release(active.reserved);
-                self.room.append(ENDING_COST);
-                self.active = None;
-                self.committing = Some(number);
-                Ok(Step::Waits(Wait::Durable(number)))
-            }
-            Err((fault, _)) => Err(fault),
+        let number = match self.tail.push(record) {
+            Ok(number) => number,
+            Err((fault, _)) => return Err(fault),
+        };
+        let changes = self.txns.note_commit(alloc, number);
+        for change in &changes {
+            self.heap.release(change.id);
         }
+        Ok(Step::Waits(Wait::Durable(number)))
     }
 
     /// Goes on with the session's call that waits: it is answered once, when its record is durable or a device has failed (`Failed`).
     /// With no call that waits there is nothing to do.
-    pub fn resume(&mut self) -> Step
+    pub fn resume(&mut self, session: SessionId) -> Step
         // A commit is answered only if the force of its record was told.
-        ensures step { (before : List LogRecord) → ResumeStep (state_of before self.old) result (state_of before self.new) }
+        ensures step { InEach (Resumed session result self.old self.new) self.old }
+        ensures heap { heap_of self.new ≡ heap_of self.old }
         ensures durable { durable_of self.new ≡ durable_of self.old }
-        ensures geometry { geometry_of self.new ≡ geometry_of self.old }
-        ensures first { T.Tail.first self.new.tail ≡ T.Tail.first self.old.tail }
+        ensures first { first_of self.new ≡ first_of self.old }
+        ensures cause { HasCause (fault_at result) (faults_of self.old) (faults_of self.new) }
     {
-        let Some(number) = self.committing else {
+        let Some(number) = self.txns.waits(session) else {
             return Step::Nothing;
         };
         if self.failed {
-            self.committing = None;
+            self.txns.end_wait();
             return Step::Refused(Fault::Failed);
         }
-        if number > self.durable {
+        if !self.is_durable(number) {
             return Step::Waits(Wait::Durable(number));
         }
-        self.committing = None;
+        self.txns.end_wait();
         Step::Done(Answer::Committed)
     }
 
-    /// The log device has forced its records up to this number.
-    pub fn told(&mut self, durable: Durable)
-        ensures told { (before : List LogRecord) → state_of before self.new ≡ with_durable durable.lsn (state_of before self.old) }
-        ensures durable { durable_of self.new ≡ durable.lsn }
-        ensures geometry { geometry_of self.new ≡ geometry_of self.old }
-        ensures first { T.Tail.first self.new.tail ≡ T.Tail.first self.old.tail }
+    // Whether the force of a record was told.
+    fn is_durable(&self, number: Lsn) -> bool
+        ensures { IsTrue result ↔ (number ≤ durable_of self.now) }
     {
-        self.durable = durable.number();
+        number <= self.durable
+    }
+
+    /// The log device has forced its records up to this number.
+    pub fn told(&mut self, durable: Lsn)
+        ensures told { InEach (λ front disk before s. IsIn front disk before self.new (with_durable durable s)) self.old }
+        ensures heap { heap_of self.new ≡ heap_of self.old }
+        ensures tail { tail_of self.new ≡ tail_of self.old }
+        ensures running { has_failed self.new ≡ has_failed self.old }
+        ensures durable { durable_of self.new ≡ durable }
+        ensures first { first_of self.new ≡ first_of self.old }
+    {
+        self.durable = durable;
+    }
+
+    /// The number up to which the log is durable, as far as was told.
+    pub fn durable(&self) -> Lsn
+        ensures { result ≡ durable_of self.now }
+    {
+        self.durable
     }
 
     /// A device has failed: every later call answers `Failed`.
     pub fn fail(&mut self)
-        ensures failed { (before : List LogRecord) → state_of before self.new ≡ with_failure (state_of before self.old) }
+        ensures failed { InEach (λ front disk before s. IsIn front disk before self.new (with_failure s)) self.old }
+        ensures noted { IsTrue (has_failed self.new) }
+        ensures heap { heap_of self.new ≡ heap_of self.old }
+        ensures tail { tail_of self.new ≡ tail_of self.old }
         ensures durable { durable_of self.new ≡ durable_of self.old }
-        ensures geometry { geometry_of self.new ≡ geometry_of self.old }
-        ensures first { T.Tail.first self.new.tail ≡ T.Tail.first self.old.tail }
+        ensures first { first_of self.new ≡ first_of self.old }
     {
         self.failed = true;
     }
@@ -305,86 +450,10 @@ impl<T: Tail> Core<T> {
         self.failed
     }
 
-    /// The records in place.
-    pub fn records(&self) -> &RidMap<Bytes>
-        ensures { result.now ≡ records_of self.now }
+    /// How the stores of its volume are laid out.
+    pub fn geometry(&self) -> &Geometry
+        ensures { result.now ≡ geometry_of self.now }
     {
-        self.records.records()
-    }
-}
-
-impl Core<PlainTail> {
-    ghost use Rattle.shore_core.specs.Cores.{durable_of, geometry_of, state_of};
-
-    /// The core of a log: its records in place are those that the log tells. `stream_bytes` is the length of the log's stream, and
-    /// `durable` the last number of the log.
-    pub fn open(
-        alloc: Global,
-        geometry: Geometry,
-        log: &[LogRecord],
-        stream_bytes: u64,
-        durable: Durable,
-    ) -> Result<Core<PlainTail>, OpenError>
-        requires fit { All Fits log.now }
-        requires durable { durable.lsn ≡ length log.now }
-        ensures opened { IfOk result (λ core. IsOpened log.now (state_of log.now core)) }
-        ensures geometry { IfOk result (λ core. geometry_of core ≡ geometry) }
-        ensures fits { IfOk result (λ core. FitPages geometry (state_of log.now core).records) }
-        ensures room { stream_bytes ≤ MAX_LOG_BYTES → IfOk result (λ core. (state_of log.now core).room ≡ record { kept = cost_of_log log.now; reserved = 0; stream_bytes = stream_bytes }) }
-
-        // A refusal names the first record of a transaction with a number that none may have, or else the last change of a record that
-        // has no room, or there is neither.
-        ensures bad { (n : ℕ) → result ≡ Err (OpenError.BadRecord n) → IsBadRecord geometry log.now n }
-        ensures no_room { result ≡ Err OpenError.NoRoom → HasTxns log.now × FitPages geometry (records_told log.now) }
-
-        // A log that is in bounds gives a core, unless an allocation fails; if each of its prefixes is in bounds, so is the core.
-        ensures bounded { stream_bytes ≤ MAX_LOG_BYTES → AreInBounds geometry stream_bytes log.now → IfOk result (λ core. IsBounded geometry stream_bytes (state_of log.now core)) }
-        ensures in_bounds { stream_bytes ≤ MAX_LOG_BYTES → InBounds geometry stream_bytes log.now → IfErr result (λ error. error ≡ OpenError.Memory) }
-        ensures numbers { IfOk result (λ core. first_of core.tail ≡ 1 + length log.now) }
-        ensures waiting { IfOk result (λ core. waiting_in core.tail ≡ []) }
-        ensures durable { IfOk result (λ core. durable_of core ≡ durable.lsn) }
-    {
-        if let Some(number) = bad_transaction(log) {
-            return Err(OpenError::BadRecord(number));
-        }
-        let records = replay(alloc, &geometry, log)?;
-        let room = LogRoom::new(stream_bytes, cost_of_all(log)).ok_or(OpenError::NoRoom)?;
-        let last = log.len() as u64;
-        if last >= LAST_OPENED {
-            return Err(OpenError::NoRoom);
-        }
-        let next_txn = next_transaction(log);
-        Ok(Core {
-            geometry,
-            records,
-            tail: PlainTail::new(alloc, Lsn(last + 1)),
-            next_txn,
-            active: None,
-            committing: None,
-            room,
-            durable: durable.number(),
-            failed: false,
-        })
-    }
-
-    /// The records that wait in the log buffer.
-    pub fn waiting(&self) -> &[LogRecord]
-        ensures { result.now ≡ waiting_in self.now.tail }
-    {
-        self.tail.waiting()
-    }
-
-    /// Hands the records that wait in the log buffer over to the log device. `Memory` if an allocation failed: they stay.
-    pub fn hand_over<D: Disk>(&mut self, log: &mut LogDev<D>) -> Result<(), Fault>
-        requires { first_of self.old.tail ≡ 1 + length (records_of_log log.old) }
-        ensures state { state_of (records_of_log log.new) self.new ≡ state_of (records_of_log log.old) self.old }
-        ensures geometry { geometry_of self.new ≡ geometry_of self.old }
-        ensures emptied { OnOk result (waiting_in self.new.tail ≡ []) }
-        ensures numbers { first_of self.new.tail ≡ 1 + length (records_of_log log.new) }
-        ensures only_memory { IfErr result (λ fault. fault ≡ Fault.Memory) }
-        ensures still { (log.new.device ≡ log.old.device) × (log.new.staged ≡ log.old.staged) × (stable log.new ≡ stable log.old) }
-        ensures settled { (front : List ℕ) → IsSettled log.old front → IsSettled log.new front }
-    {
-        log.take_in(&mut self.tail)
+        self.heap.geometry()
     }
 }

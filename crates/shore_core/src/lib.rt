@@ -1,19 +1,17 @@
-//! The core of the storage manager: one event a call. It keeps the records in place, the table of transactions and the
-//! room of the log, and hands the records of the log over to a log buffer.
+//! The core of the storage manager: one event a call. It keeps the records of a volume in the pages of a pool and the table of
+//! transactions, and hands the records of the log over to a log buffer.
 #![tactic(auto)]
 
 mod changes;
 mod core_calls;
-pub mod laws;
-mod log_room;
-mod page_use;
-mod page_uses;
-mod record_map;
-mod replay;
+mod dumping;
+mod fusing;
+mod handing_over;
+mod images;
+mod log_sums;
+mod opening;
 
 pub use core_calls::Core;
-pub use log_room::LogRoom;
-pub use record_map::RecordMap;
-pub use replay::OpenError;
-pub use shore_machine::{Step, Wait};
+pub use opening::OpenError;
+pub use shore_calls::{Step, Wait};
 pub use shore_model::{Answer, Call};

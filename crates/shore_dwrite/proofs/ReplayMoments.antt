@@ -12,7 +12,7 @@ use Rattle.shore_dwrite.specs.Tables.{IsTable}
 use Rattle.shore_dwrite.specs.Volumes.{page_at, page_count, part}
 use Rattle.shore_dwrite.proofs.Batches.{IsLaid, laid_shows, gate_shows, shut_has, pages_laid, gate_of_pages, pages_in_place}
 use Rattle.shore_dwrite.proofs.BatchMoments.{torn_from_stands}
-use Rattle.shore_dwrite.proofs.Overlays.{laid_alike}
+use Rattle.shore_dwrite.proofs.Overlays.{images_alike, laid_alike}
 
 -- two lists that agree at each place are one
 same_lists : (xs ys : List ℕ) → length xs ≡ length ys → ((i : ℕ) → i < length xs → get_or xs i 0 ≡ get_or ys i 0) → xs ≡ ys
@@ -101,6 +101,23 @@ pub area_of : (g : Geometry) (image : List ℕ) (pages : ℕ → List ℕ) → S
     → (named : List ℕ) × HasArea g image named × ((k : ℕ) → k < page_count g → overlaid named (drop 8192 image) (page_at image) k ≡ pages k)
 area_of g image pages (inl shows) opened = absurd (shows.0 opened)
 area_of g image pages (inr shows) opened = shows
+
+-- what was read of an open area is in order
+pub area_read : (g : Geometry) (numbers texts image : List ℕ) → IsBatch g numbers texts → length texts ≡ 8192 * length numbers → HasRead image numbers texts
+    → part 4096 1 image ≡ OPEN ∷ [] → HasArea g image numbers
+area_read g numbers texts image batch long read opened =
+    let all : take (8192 * length numbers) (drop 8192 image) ≡ texts = ap (λ (n : ℕ). take n (drop 8192 image)) (sym long) ∙ read.texts_are in
+    record {
+      is_open = opened;
+      table = read.table;
+      batch = record {
+        some = batch.some;
+        most = batch.most;
+        rise = batch.rise;
+        on_volume = batch.on_volume;
+        images = images_alike g numbers (drop 8192 image) texts all batch.images;
+      };
+    }
 
 -- the gate's byte, as it is read
 pub gate_read : (bytes : List ℕ) → length bytes ≡ 1 → bytes ≡ get_or bytes 0 0 ∷ []

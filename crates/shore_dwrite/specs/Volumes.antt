@@ -1,5 +1,5 @@
 -- Where things are on a volume, and the number of each page there.
-use Rattle.std.specs.Prelude.{◌≡◌, ◌<◌, ℕ, ◌+◌, ◌*◌, List, take, drop, sum}
+use Rattle.std.specs.Prelude.{◌≡◌, ◌<◌, ℕ, ◌+◌, ◌*◌, List, [], take, drop, sum}
 use Rattle.shore_types.specs.declared.ids.PageId.{PageId}
 use Rattle.shore_types.specs.declared.layout.Geometry.{Geometry}
 use Rattle.shore_types.specs.declared.layout.TheConstants.{PAGE_BYTES}
@@ -40,3 +40,7 @@ pub record IsImageOf (g : Geometry) (k : ℕ) (bytes : List ℕ) : Type 0 where
 -- the bytes are no text of the page with a number up to this one
 abbrev pub HasNoPage : List ℕ → PageId → ℕ → Type 0
 HasNoPage bytes id last = (number : ℕ) (images : List Image) → IsPageText bytes id number images → last < number
+
+-- each page has number 0 and no slot
+abbrev pub AreEmpty : Geometry → (ℕ → List ℕ) → Type 0
+AreEmpty g pages = (id : PageId) → HasPage g id → IsPageText (pages (page_number g id)) id 0 []

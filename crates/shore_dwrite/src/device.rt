@@ -7,7 +7,7 @@ ghost use Rattle.shore_dwrite.specs.Checks.{HasRead, RefusesArea};
 ghost use Rattle.shore_dwrite.specs.Differences.{DiffersInArea, DiffersInPages, HasImages, HasPages};
 ghost use Rattle.shore_dwrite.specs.declared.places.TheConstants.{GATE_AT, PAGES_AT};
 ghost use Rattle.shore_dwrite.specs.Images.{numbers_of, texts_of};
-ghost use Rattle.shore_dwrite.specs.Shown.{IsBatch, IsShut, RiseFrom, overlaid, ShowsBehind, ShowsEither};
+ghost use Rattle.shore_dwrite.specs.Shown.{IsBatch, IsShut, RiseFrom, overlaid, Shows, ShowsBehind, ShowsEither};
 ghost use Rattle.shore_disk.specs.Cause.{HasCause};
 ghost use Rattle.shore_gate.specs.Checks.{IsFromOutside};
 ghost use Rattle.shore_page.specs.Text.{IsPageText, images_of, settled_page};
@@ -163,6 +163,10 @@ impl<D: Disk> PageDev<D> {
     /// failed. After both nothing has changed.
     pub fn replay(&mut self, alloc: Global) -> Result<(), Fault>
         ensures replayed { (front : List ℕ) (pages : ℕ → List ℕ) → IsStable self.old front pages → OnOk result (IsSettled self.new front pages) }
+
+        // An open area that is not in order is refused: the volume showed some pages.
+        ensures in_order { (image : List ℕ) → IsTrue (D.is_honest self.old.device) → Stands (D.history self.old.device) image
+            → OnOk result ((pages : ℕ → List ℕ) × Shows (geometry_of self.old) image pages) }
 
         // A crash at any moment of the call leaves a volume that shows the same pages.
         ensures any_moment { (front : List ℕ) (pages : ℕ → List ℕ) → IsStable self.old front pages

@@ -14,7 +14,7 @@ use Rattle.shore_gate.specs.Label.{HoldsLabel}
 use Rattle.shore_gate.specs.Anchor.{Counts, anchor_bytes, damaged}
 use Rattle.shore_model.specs.declared.log_records.LogRecord.{LogRecord}
 use Rattle.shore_log.specs.Frames.{Gives}
-use Rattle.shore_core.specs.Bounds.{AreInBounds}
+use Rattle.shore_calls.specs.Bounds.{AreInBounds}
 
 -- a log device may be so long
 abbrev pub IsLogLength : ℕ → Type 0

@@ -11,15 +11,15 @@ use Rattle.shore_gate.specs.Label.{HoldsLabel, HasLabel, verdict_of}
 use Rattle.shore_gate.specs.Anchor as anchors
 use Rattle.shore_gate.specs.Anchor.{offset_of}
 use Rattle.shore_model.specs.declared.log_records.LogRecord.{LogRecord}
-use Rattle.shore_model.specs.Logs.{records_told}
-use Rattle.shore_machine.specs.Pages.{FitPages}
+use Rattle.shore_sessions.specs.LogTells.{records_committed}
 use Rattle.shore_log.specs.Frames.{Gives}
 use Rattle.shore_log.specs.Offsets.{IsBadAt, IsFrameOf}
-use Rattle.shore_core.specs.Bounds.{InBounds}
-use Rattle.shore_core.specs.Opened.{HasTxns, IsBadRecord}
+use Rattle.shore_calls.specs.Bounds.{InBounds}
+use Rattle.shore_core.specs.Opened.{HasPlaces, HasTxns, IsBadRecord}
 use Rattle.shore_dwrite.specs.declared.places.TheConstants.{GATE_AT}
 use Rattle.shore_dwrite.specs.Checks.{RefusesArea}
-use Rattle.shore_dwrite.specs.Volumes.{part}
+use Rattle.shore_dwrite.specs.Shown.{Shows}
+use Rattle.shore_dwrite.specs.Volumes.{AreEmpty, part}
 use Rattle.shore_format.specs.declared.fronts.Fronts.{Fronts}
 use Rattle.shore_format.specs.Fronts.{HasFront, LogStandsFor, first_checked, log_label}
 use Rattle.shore_format.specs.Volumes.{VolumeStandsFor, volume_label}
@@ -68,11 +68,11 @@ pub record IsBadRecordAt (g : Geometry) (rs : List LogRecord) (image : List ℕ)
 pub record IsOutOfBounds (g : Geometry) (device_bytes : ℕ) (image : List ℕ) (rs : List LogRecord) (offset : ℕ) : Type 0 where
   pub front : HasFront g device_bytes image
   pub outside : ¬ InBounds g (device_bytes - LOG_FRONT_BYTES) rs
-  pub named : (HasTxns rs × FitPages g (records_told rs) × (offset ≡ offset_of front.slot)) ⊎ IsBadRecordAt g rs image offset
+  pub named : (HasTxns rs × HasPlaces g (records_committed rs) × (offset ≡ offset_of front.slot)) ⊎ IsBadRecordAt g rs image offset
 
 -- Beside a failure of a device or of an allocation, an open is refused by the first check of the fronts that is not passed; if all are,
 -- by the first byte of the log where neither a closed gate nor a frame stands; if there is none, by an open double-write area that is
--- not in order, or by a list that is out of bounds.
+-- not in order; and if it is, or is shut, and the pages are as the format left them, by a list that is out of bounds.
 abbrev pub RefusesOpen : History → History → Fault → Type 0
 RefusesOpen log volume fault =
     RefusesFronts log volume fault
@@ -80,4 +80,5 @@ RefusesOpen log volume fault =
     × (((offset : ℕ) × (fault ≡ Damaged Log offset) × IsBadAt LOG_FRONT_BYTES (seen log) offset)
     ⊎ ((rs : List LogRecord) × Gives rs (seen log)
     × (((part GATE_AT 1 (seen volume) ≡ OPEN ∷ []) × RefusesArea g (seen volume) fault)
-    ⊎ ((offset : ℕ) × (fault ≡ Damaged Log offset) × IsOutOfBounds g (size log) (seen log) rs offset)))))
+    ⊎ ((pages : ℕ → List ℕ) × Shows g (seen volume) pages
+    × (AreEmpty g pages → (offset : ℕ) × (fault ≡ Damaged Log offset) × IsOutOfBounds g (size log) (seen log) rs offset))))))

@@ -1,17 +1,14 @@
 -- A volume as a format leaves it: its label, a shut double-write area, and every page empty.
 use Rattle.std.specs.Prelude.{◌≡◌, ℕ, ◌+◌, ◌-◌, ◌*◌, List, [], ◌∷◌, length, take}
 use Rattle.shore_types.specs.declared.faults.Device.TheVariants.{Volume}
-use Rattle.shore_types.specs.declared.ids.PageId.{PageId}
 use Rattle.shore_types.specs.declared.layout.Geometry.{Geometry}
 use Rattle.shore_types.specs.declared.layout.TheConstants.{PAGE_BYTES}
-use Rattle.shore_types.specs.Layout.{HasPage}
 use Rattle.shore_gate.specs.declared.labels.Label.{Label}
 use Rattle.shore_gate.specs.declared.gates.TheConstants.{CLOSED}
 use Rattle.shore_gate.specs.Label.{HoldsLabel, label_bytes}
-use Rattle.shore_page.specs.Text.{IsPageText}
 use Rattle.shore_dwrite.specs.declared.places.TheConstants.{GATE_AT, PAGES_AT}
 use Rattle.shore_dwrite.specs.Shown.{IsShut}
-use Rattle.shore_dwrite.specs.Volumes.{page_at, page_count, page_number, part}
+use Rattle.shore_dwrite.specs.Volumes.{AreEmpty, page_at, page_count, part}
 
 -- how long a volume of this geometry is
 abbrev pub volume_bytes : Geometry → ℕ
@@ -21,11 +18,7 @@ volume_bytes g = PAGES_AT + PAGE_BYTES * page_count g
 abbrev pub volume_label : Geometry → Label
 volume_label g = record { pair = g.pair; length = volume_bytes g; max_locks = g.max_locks; stores = g.stores }
 
--- each page has number 0 and no slot
-abbrev pub AreEmpty : Geometry → (ℕ → List ℕ) → Type 0
-AreEmpty g pages = (id : PageId) → HasPage g id → IsPageText (pages (page_number g id)) id 0 []
-
--- .. and the bytes before the pages are those of another image
+-- its pages are empty, and the bytes before the pages are those of another image
 pub record HasEmptyPages (g : Geometry) (before image : List ℕ) : Type 0 where
   pub long : length image ≡ length before
   pub front : take PAGES_AT image ≡ take PAGES_AT before

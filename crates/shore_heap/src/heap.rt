@@ -17,7 +17,7 @@ ghost use Rattle.shore_types.specs.declared.layout.TheConstants.{MAX_PAGES, MAX_
 ghost use Rattle.shore_heap.specs.Contents.{bound_of, with_slots};
 
 use crate::maps::unknown_maps;
-use shore_disk::Disk;
+use shore_disk::{Disk, FuseDisk};
 use shore_dwrite::PageDev;
 use shore_freemap::FreeMap;
 use shore_page::Page;
@@ -143,6 +143,7 @@ impl<D: Disk> Heap<D> {
         ensures shows { (front : List ℕ) (disk : ℕ → List ℕ) (S : PageId → List Slot) → Shows self.old front disk S
             → Shows self.new front disk (with_slots S id.page (λ slots. with_image slots id.slot (option_map (λ bytes. bytes.now) after.entry))) }
         ensures held { (k : ℕ) → is_some (frame_at self.new k) ≡ is_some (frame_at self.old k) }
+        ensures untouched { KeepsVolume self.old self.new }
         ensures device { device_of self.new ≡ device_of self.old }
     {
         let gone = after.is_none();
@@ -201,5 +202,22 @@ impl<D: Disk> Heap<D> {
         ensures others { (p : PageId) → p ≢ id → bound_of self.new.free.items p ≡ bound_of self.old.free.items p }
     {
         self.free[id.store.0 as usize].forget(id.page);
+    }
+}
+
+impl<D: Disk> Heap<FuseDisk<D>> {
+    ghost use Rattle.shore_disk.specs.Fuse.{fuse_calls, fuse_inner};
+    ghost use Rattle.shore_heap.specs.Heaps.{Shows, device_of, faults_of, geometry_of, history_of};
+
+    /// Lets so many more writes and syncs of the device pass; then every call of it fails.
+    pub fn set_fuse(&mut self, calls: u64)
+        ensures inner { fuse_inner (settled_device.device_of (device_of self.new)) ≡ fuse_inner (settled_device.device_of (device_of self.old)) }
+        ensures calls { fuse_calls (settled_device.device_of (device_of self.new)) ≡ calls }
+        ensures shows { (front : List ℕ) (disk : ℕ → List ℕ) (S : PageId → List Slot) → Shows self.old front disk S → Shows self.new front disk S }
+        ensures geometry { geometry_of self.new ≡ geometry_of self.old }
+        ensures history { history_of self.new ≡ history_of self.old }
+        ensures faults { faults_of self.new ≡ faults_of self.old }
+    {
+        self.pool.set_fuse(calls);
     }
 }

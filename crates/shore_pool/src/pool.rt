@@ -24,7 +24,7 @@ ghost use Rattle.shore_pool.specs.declared.pool.Fetched.TheVariants as Fetched;
 use crate::frame::Frame;
 use crate::frames::Frames;
 use crate::gathering::gather;
-use shore_disk::Disk;
+use shore_disk::{Disk, FuseDisk};
 use shore_dwrite::{PageDev, PageImages};
 use shore_model::DirtyPage;
 use shore_page::Page;
@@ -369,5 +369,24 @@ impl<D: Disk> Pool<D> {
         self.device.write_batch(&self.batch)?;
         self.frames.settle_all(numbers);
         Ok(())
+    }
+}
+
+impl<D: Disk> Pool<FuseDisk<D>> {
+    ghost use Rattle.shore_disk.specs.Fuse.{fuse_calls, fuse_inner};
+    ghost use Rattle.shore_pool.specs.Pools.{Holds, device_of, faults_of, frame_at, geometry_of, history_of, limit_of};
+
+    /// Lets so many more writes and syncs of the device pass; then every call of it fails.
+    pub fn set_fuse(&mut self, calls: u64)
+        ensures inner { fuse_inner (settled_device.device_of (device_of self.new)) ≡ fuse_inner (settled_device.device_of (device_of self.old)) }
+        ensures calls { fuse_calls (settled_device.device_of (device_of self.new)) ≡ calls }
+        ensures holds { (front : List ℕ) (disk : ℕ → List ℕ) → Holds self.old front disk → Holds self.new front disk }
+        ensures frames { (k : ℕ) → frame_at self.new k ≡ frame_at self.old k }
+        ensures limit { limit_of self.new ≡ limit_of self.old }
+        ensures geometry { geometry_of self.new ≡ geometry_of self.old }
+        ensures history { history_of self.new ≡ history_of self.old }
+        ensures faults { faults_of self.new ≡ faults_of self.old }
+    {
+        self.device.set_fuse(calls);
     }
 }

@@ -1,6 +1,6 @@
 //! A line of the script.
 ghost use Rattle.std.specs.Prelude.{IfOk, IfSome};
-ghost use Rattle.shore_machine.specs.Served.{IsServed};
+ghost use Rattle.shore_calls.specs.CallSteps.{IsServed};
 ghost use Rattle.shore_prog.specs.Commands.{IsServedCommand};
 
 use crate::words;
@@ -97,35 +97,49 @@ fn pick_of(word: &str) -> Option<Pick> {
 }
 
 fn call_of(alloc: Global, words: &[&str]) -> Result<Option<Call>, AllocError>
-    ensures { IfOk result (λ found. IfSome found IsServed) }
+    ensures { IfOk result (λ found. IfSome found (IsServed 1)) }
 {
     match words {
-        [word] => match *word {
-            "begin" => Ok(Some(Call::Begin)),
-            "commit" => Ok(Some(Call::Commit)),
-            _ => Ok(None),
-        },
-        [word, record] if *word == "get" => Ok(get_of(record)),
         [word, store, bytes] if *word == "insert" => insert_of(alloc, store, bytes),
-        _ => Ok(None),
+        [word, record, bytes] if *word == "update" => update_of(alloc, record, bytes),
+        words => Ok(plain_call_of(words)),
     }
 }
 
-fn get_of(record: &str) -> Option<Call>
-    ensures { IfSome result IsServed }
+// The calls that have no bytes.
+fn plain_call_of(words: &[&str]) -> Option<Call>
+    ensures { IfSome result (IsServed 1) }
 {
-    let id = words::record(record)?;
-    Some(Call::Get(id))
+    match words {
+        [word] if *word == "begin" => Some(Call::Begin),
+        [word] if *word == "commit" => Some(Call::Commit),
+        [word, record] if *word == "get" => Some(Call::Get(words::record(record)?)),
+        [word, record] if *word == "delete" => Some(Call::Delete(words::record(record)?)),
+        [word, store] if *word == "scan" => Some(Call::Scan(words::store(store)?)),
+        _ => None,
+    }
 }
 
 fn insert_of(alloc: Global, store: &str, bytes: &str) -> Result<Option<Call>, AllocError>
-    ensures { IfOk result (λ found. IfSome found IsServed) }
+    ensures { IfOk result (λ found. IfSome found (IsServed 1)) }
 {
     let Some(store) = words::store(store) else {
         return Ok(None);
     };
     match words::bytes(alloc, bytes)? {
         Some(bytes) => Ok(Some(Call::Insert(store, bytes))),
+        None => Ok(None),
+    }
+}
+
+fn update_of(alloc: Global, record: &str, bytes: &str) -> Result<Option<Call>, AllocError>
+    ensures { IfOk result (λ found. IfSome found (IsServed 1)) }
+{
+    let Some(id) = words::record(record) else {
+        return Ok(None);
+    };
+    match words::bytes(alloc, bytes)? {
+        Some(bytes) => Ok(Some(Call::Update(id, bytes))),
         None => Ok(None),
     }
 }

@@ -1,5 +1,7 @@
 //! The manager that a script works with: a world over two devices in memory, each behind a fuse.
-ghost use Rattle.shore_machine.specs.Served.{IsServed};
+ghost use Rattle.std.specs.Prelude.{◌≤◌};
+ghost use Rattle.shore_types.specs.declared.layout.TheConstants.{MAX_PAGES, MIN_POOL_FRAMES};
+ghost use Rattle.shore_calls.specs.CallSteps.{IsServed};
 ghost use Rattle.shore_settings.specs.Limits.{AreInLimits};
 ghost use Rattle.shore_prog.specs.Commands.{IsServedCommand};
 
@@ -9,7 +11,8 @@ use crate::stop::Stop;
 use shore_disk::{FuseDisk, MemDisk, Pick};
 use shore_model::Call;
 use shore_settings::Settings;
-use shore_types::{Device, Fault};
+use shore_types::layout::MAX_STORES;
+use shore_types::{Bytes, Device, Fault, Rid, Sequence, StoreId};
 use shore_world::{Event, Step, World, format, volume_bytes};
 use std::alloc::{AllocError, Global};
 use std::io::{self, Write};
@@ -24,9 +27,18 @@ pub type ScriptWorld = World<ScriptDisk, ScriptDisk>;
 // A fuse that no run of the program blows.
 const NO_FUSE: u64 = u64::MAX;
 
-/// The manager, open or refused at its last open.
+/// The manager, and how many frames for pages an open asks for.
 #[derive(Drop)]
-pub enum Manager {
+pub struct Manager {
+    frames: usize,
+    access: Access,
+    ghost some: { MIN_POOL_FRAMES ≤ frames },
+    ghost few: { frames ≤ MAX_PAGES },
+}
+
+// A manager that is open, or was refused at its last open.
+#[derive(Drop)]
+enum Access {
     Open(Opened),
     Closed(ScriptDisk, ScriptDisk),
     /// An allocation failed between a loss of power and the open that follows it: the run ends.
@@ -35,7 +47,7 @@ pub enum Manager {
 
 /// A world that is open, and its one session.
 #[derive(Drop)]
-pub struct Opened {
+struct Opened {
     world: ScriptWorld,
     /// The session's call waits for a force.
     waits: bool,
@@ -51,15 +63,16 @@ impl Manager {
             |_| Fault::Memory,
         )?;
         format(alloc, &mut log, &mut volume, &settings.geometry)?;
-        let (manager, refused) = open(alloc, log, volume);
+        let frames = settings.pool as usize;
+        let (access, refused) = open(alloc, log, volume, frames);
         match refused {
-            None => Ok(manager),
+            None => Ok(Manager { frames, access }),
             Some(fault) => Err(fault),
         }
     }
 
     pub fn is_open(&self) -> bool {
-        matches!(self, Manager::Open(_))
+        matches!(self.access, Access::Open(_))
     }
 
     /// Does what a line asks for, and writes its answers.
@@ -86,28 +99,25 @@ impl Manager {
     fn serve<W: Write>(&mut self, alloc: Global, command: Command, out: &mut W) -> Result<(), Stop>
         requires { IsServedCommand command }
     {
-        match self {
-            Manager::Open(Opened { world, waits }) => {
+        match &mut self.access {
+            Access::Open(Opened { world, waits }) => {
                 answer(alloc, world, waits, command, out)?;
                 settle(alloc, world, waits, out)?;
-                Ok(())
             }
-            Manager::Closed(..) | Manager::Lost => {
-                render::fault(out, None, &Fault::Failed)?;
-                Ok(())
-            }
+            Access::Closed(..) | Access::Lost => render::fault(out, None, &Fault::Failed)?,
         }
+        Ok(())
     }
 
     // Everything in memory is lost, and the fuses go away.
     fn crash<W: Write>(&mut self, alloc: Global, pick: Pick, out: &mut W) -> Result<(), Stop> {
-        let (log, volume) = match mem::replace(self, Manager::Lost) {
-            Manager::Open(opened) => opened.world.lose_power(pick),
-            Manager::Closed(log, volume) => (crashed(log, pick), crashed(volume, pick)),
-            Manager::Lost => return Err(Stop::Memory),
+        let (log, volume) = match mem::replace(&mut self.access, Access::Lost) {
+            Access::Open(opened) => opened.world.lose_power(pick),
+            Access::Closed(log, volume) => (crashed(log, pick), crashed(volume, pick)),
+            Access::Lost => return Err(Stop::Memory),
         };
-        let (manager, refused) = open(alloc, fused(log), fused(volume));
-        *self = manager;
+        let (access, refused) = open(alloc, fused(log), fused(volume), self.frames);
+        self.access = access;
         match refused {
             None => out.write_all(b"opened\n")?,
             Some(fault) => render::open_fault(out, &fault)?,
@@ -116,27 +126,35 @@ impl Manager {
     }
 
     fn set_fuse(&mut self, device: Device, calls: u64) {
-        match (self, device) {
-            (Manager::Open(opened), Device::Log) => opened.world.set_log_fuse(calls),
-            (Manager::Open(opened), Device::Volume) => opened.world.set_volume_fuse(calls),
-            (Manager::Closed(log, _), Device::Log) => log.set_calls(calls),
-            (Manager::Closed(_, volume), Device::Volume) => volume.set_calls(calls),
-            (Manager::Lost, _) => {}
+        match (&mut self.access, device) {
+            (Access::Open(opened), Device::Log) => opened.world.set_log_fuse(calls),
+            (Access::Open(opened), Device::Volume) => opened.world.set_volume_fuse(calls),
+            (Access::Closed(log, _), Device::Log) => log.set_calls(calls),
+            (Access::Closed(_, volume), Device::Volume) => volume.set_calls(calls),
+            (Access::Lost, _) => {}
         }
     }
 }
 
 // Opens the pair. A refusal is told with its fault.
-fn open(alloc: Global, log: ScriptDisk, volume: ScriptDisk) -> (Manager, Option<Fault>) {
-    match World::open(alloc, log, volume) {
+fn open(
+    alloc: Global,
+    log: ScriptDisk,
+    volume: ScriptDisk,
+    frames: usize,
+) -> (Access, Option<Fault>)
+    requires some { MIN_POOL_FRAMES ≤ frames }
+    requires few { frames ≤ MAX_PAGES }
+{
+    match World::open(alloc, log, volume, frames) {
         Ok(world) => {
             let opened = Opened {
                 world,
                 waits: false,
             };
-            (Manager::Open(opened), None)
+            (Access::Open(opened), None)
         }
-        Err((fault, log, volume)) => (Manager::Closed(log, volume), Some(fault)),
+        Err((fault, log, volume)) => (Access::Closed(log, volume), Some(fault)),
     }
 }
 
@@ -169,9 +187,8 @@ fn answer<W: Write>(
     match command {
         Command::Ask(call) => ask(alloc, world, waits, call, out),
         Command::Force => force_line(alloc, world, out),
-        Command::Dump if world.has_failed() => render::fault(out, None, &Fault::Failed),
         Command::Log if world.has_failed() => render::fault(out, None, &Fault::Failed),
-        Command::Dump => dump(world, out),
+        Command::Dump => dump(alloc, world, out),
         Command::Log => log(world, out),
         Command::Nothing | Command::Crash(_) | Command::Fuse(..) => Ok(()),
     }
@@ -184,7 +201,7 @@ fn ask<W: Write>(
     call: Call,
     out: &mut W,
 ) -> io::Result<()>
-    requires { IsServed call }
+    requires { IsServed 1 call }
 {
     match world.step(alloc, Event::Call(SESSION, call)) {
         Step::Waits(_) => {
@@ -271,17 +288,42 @@ fn force_line<W: Write>(alloc: Global, world: &mut ScriptWorld, out: &mut W) -> 
     }
 }
 
-fn dump<W: Write>(world: &ScriptWorld, out: &mut W) -> io::Result<()> {
+// All records are read before the first is written: a dump that is refused writes the fault alone.
+fn dump<W: Write>(alloc: Global, world: &mut ScriptWorld, out: &mut W) -> io::Result<()> {
+    match records_in_place(alloc, world) {
+        Ok(stores) => write_records(&stores, out),
+        Err(fault) => render::fault(out, None, &fault),
+    }
+}
+
+// The records of each store.
+fn records_in_place(
+    alloc: Global,
+    world: &mut ScriptWorld,
+) -> Result<Vec<Sequence<(Rid, Bytes)>>, Fault> {
+    let mut found = Vec::new(alloc);
+    for store in 0..MAX_STORES as u32 {
+        let store = StoreId(store);
+        if !world.geometry().has_store(store) {
+            break;
+        }
+        found.push(world.dump(alloc, store)?)?;
+    }
+    Ok(found)
+}
+
+fn write_records<W: Write>(stores: &[Sequence<(Rid, Bytes)>], out: &mut W) -> io::Result<()> {
     let mut is_empty = true;
-    for (id, bytes) in world.dump().iter() {
-        is_empty = false;
-        render::record(out, id, bytes.as_slice())?;
+    for records in stores {
+        for (id, bytes) in records.as_slice() {
+            is_empty = false;
+            render::record(out, id, bytes.as_slice())?;
+        }
     }
     if is_empty {
-        out.write_all(b"empty\n")
-    } else {
-        Ok(())
+        out.write_all(b"empty\n")?;
     }
+    Ok(())
 }
 
 fn log<W: Write>(world: &ScriptWorld, out: &mut W) -> io::Result<()> {

@@ -1,28 +1,22 @@
--- That a list in bounds leaves the next frame its room, and who tells of a failure.
-use Rattle.std.proofs.Common.{◌≡◌, ◌≢◌, ◌+◌, ◌*◌, ◌≤◌, ◌++◌, ◌∷◌, [], ℕ, List, None, inl, inr, length, take, drop, Err, arith, sym, ap, length-append, refl}
+-- That a list in bounds leaves the next frame its room.
+use Rattle.std.proofs.Common.{◌≡◌, ◌≢◌, ◌⊎◌, inl, inr, ◌+◌, ◌*◌, ◌≤◌, ◌++◌, ◌∷◌, [], ℕ, List, None, length, take, drop, arith, sym, ap, length-append, refl}
 use Rattle.std.proofs.lemmas.List.{length-take-le}
 use Rattle.std.proofs.lemmas.List.Sums.{sum_by-append, sum_by-take-drop}
-use Rattle.shore_model.specs.declared.calls.Call.{Call}
-use Rattle.shore_model.specs.declared.calls.Call.TheVariants.{Begin, Get, Insert, Commit}
 use Rattle.shore_model.specs.declared.log_records.LogRecord.{LogRecord}
 use Rattle.shore_logrec.specs.Text.{texts, text as record_text, cost_of}
 use Rattle.shore_logrec.proofs.TextLengths.{length-text}
 use Rattle.shore_log.specs.Frames.{text, behind_gate, joined, AreGroups}
 use Rattle.shore_log.proofs.FrameLemmas.{length-behind_gate}
-use Rattle.shore_core.specs.Opened.{cost_of_log}
-use Rattle.shore_disk.specs.Cause.{HasCause}
-use Rattle.shore_disk.specs.declared.device.Disk.{Ghosts}
 use Rattle.shore_log.specs.Settled.{records_of_log, waiting, IsSettled}
 use Rattle.shore_log.specs.declared.device.LogDev.{LogDev}
+use Rattle.shore_disk.specs.declared.device.Disk.{Ghosts}
 use Rattle.shore_types.specs.declared.faults.Fault.{Fault}
 use Rattle.shore_types.specs.declared.faults.Fault.TheVariants as fault
-use Rattle.shore_types.specs.declared.layout.Geometry.{Geometry}
-use Rattle.shore_machine.specs.declared.step.Step.{Step}
-use Rattle.shore_machine.specs.declared.step.Step.TheVariants.{Refused}
-use Rattle.shore_machine.specs.States.{State}
-use Rattle.shore_machine.specs.Steps.{CallStep, IsRefusal, ResumeStep}
+use Rattle.shore_calls.specs.declared.step.Step.{Step}
+use Rattle.shore_calls.specs.declared.step.Step.TheVariants.{Refused}
+use Rattle.shore_calls.specs.States.{cost_of_log}
 use Rattle.shore_world.specs.declared.world.World.{World}
-use Rattle.shore_world.specs.Worlds.{fault_at, IsReady}
+use Rattle.shore_world.specs.Worlds.{IsReady}
 
 pub cost_append : (rs more : List LogRecord) → cost_of_log (rs ++ more) ≡ cost_of_log rs + cost_of_log more
 cost_append rs more = sum_by-append (λ r. cost_of r.payload) rs more
@@ -84,42 +78,9 @@ module _ {L V : Type 0} {G : Ghosts L} {H : Ghosts V} where
     | inr s ↦ absurd (let clash = s.1.waits in cc)
   ]
 
--- ---- who tells of a failure
-
 pub refused_is : (step : Step) (f h : Fault) → step ≡ Refused f → step ≡ Refused h → f ≡ h
 refused_is step f h one two = cc
 
--- nothing is reported, and nothing has failed
-pub no_failure : (step : Step) (old new : ℕ) → step ≢ Refused fault.Device → new ≡ old → HasCause (fault_at step) old new
-no_failure step old new other same = record {
-  no_lower = omega (arith, same);
-  reported = λ is. absurd (other (reported_at step is));
-  unreported = λ is. same;
-}
-  where
-    reported_at : (step : Step) → fault_at step ≡ Err fault.Device → step ≡ Refused fault.Device
-    reported_at (Refused f) is = cc
-    reported_at _ is = absurd cc
-
-pub memory_tells_none : Refused fault.Memory ≢ Refused fault.Device
-memory_tells_none is = absurd cc
-
--- a call tells of no failure
-pub call_tells_none : (g : Geometry) (s : State) (c : Call) (new : State) → CallStep g s c (Refused fault.Device) new → ⊥
-call_tells_none g s c new step = elim step.0 [
-  | inl memory ↦ absurd cc
-  | inr (inl failed) ↦ let clash = failed.1 in absurd cc
-  | inr (inr (inl busy)) ↦ let clash = busy.2 in absurd cc
-  | inr (inr (inr own)) ↦ none_own c own.2
-]
-  where
-    none_own : (c : Call) → IsRefusal g s c fault.Device → ⊥
-    none_own Begin own = own
-    none_own (Get id) own = own
-    none_own (Insert store bytes) own = own
-    none_own Commit own = own
-    none_own _ own = own
-
--- going on with a call tells of no failure
-pub resume_tells_none : (s new : State) → ResumeStep s (Refused fault.Device) new → ⊥
-resume_tells_none s new step = let clash = step.0 in absurd cc
+pub other_is_no_device : (f : Fault) → (f ≡ fault.Memory) ⊎ (f ≡ fault.LogFull) → f ≢ fault.Device
+other_is_no_device f (inl memory) is = absurd cc
+other_is_no_device f (inr full) is = absurd cc

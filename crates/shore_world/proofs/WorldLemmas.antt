@@ -1,32 +1,24 @@
 -- What an event leaves of a world, by what it did to the log device.
-use Rattle.std.proofs.Common.{◌≡◌, ◌≢◌, ◌⊎◌, inl, inr, ℕ, ◌+◌, ◌-◌, ◌≤◌, List, [], ◌∷◌, ◌++◌, length, take, drop, Bool, true, false, Option, Some, None, Ok, IsTrue, refl, sym, ◌∙◌, ap, subst, arith, length-append, length-drop}
+use Rattle.std.proofs.Common.{◌≡◌, ◌≢◌, ◌⊎◌, inl, inr, ℕ, ◌+◌, ◌-◌, ◌≤◌, List, [], ◌∷◌, ◌++◌, length, take, drop, Bool, true, false, Option, Some, None, Ok, IsTrue, refl, sym, ◌∙◌, ap, subst, arith, length-append, length-drop, append-nil}
 use Rattle.std.specs.Prelude.{◌↔◌, IsSome, IsSomeAnd}
-use Rattle.std.proofs.lemmas.List.{take-append-le, take_all, length-take, length-take-le}
+use Rattle.std.proofs.lemmas.List.{take-append-le, length-take, length-take-le}
 use Rattle.shore_disk.specs.Device.{History, noted, synced, seen, Stands, may_leave, LeavesOnly}
 use Rattle.shore_disk.specs.declared.device.Disk.{Ghosts}
 use Rattle.shore_disk.proofs.Moments.{started, widened, at_end, sync_leaves}
 use Rattle.shore_model.specs.declared.log_records.LogRecord.{LogRecord}
-use Rattle.shore_machine.specs.declared.step.Step.{Step}
-use Rattle.shore_machine.specs.States.{State}
-use Rattle.shore_machine.specs.Steps.{with_failure}
-use Rattle.shore_machine.proofs.Growth.{Grows, same_grows}
+use Rattle.shore_calls.specs.declared.step.Step.{Step}
 use Rattle.shore_log.specs.Frames.{GivesBehind, GivesWithOrWithout, IsLongest}
-use Rattle.shore_log.specs.Settled.{stable, waiting, IsSettled, IsStaged}
+use Rattle.shore_log.specs.Settled.{records_of_log, stable, waiting, IsSettled, IsStaged}
 use Rattle.shore_log.specs.declared.device.LogDev.{LogDev}
 use Rattle.shore_log.proofs.ForceLemmas.{settled_gives}
 use Rattle.shore_log.proofs.LoggedLemmas.{take-more_group}
-use Rattle.shore_log.specs.PlainTails.{waiting_in}
-use Rattle.shore_core.specs.Bounds.{AreInBounds, InBounds, IsBounded}
-use Rattle.shore_core.specs.Cores.{tail_of}
+use Rattle.shore_calls.specs.States.{State}
+use Rattle.shore_log.specs.declared.tail.Tail as tail
+use Rattle.shore_core.specs.declared.core_calls.Core.{Core}
+use Rattle.shore_core.specs.Cores.{IsSafe, tail_of, waiting_of}
 use Rattle.shore_world.specs.declared.event.Event.{Event}
 use Rattle.shore_world.specs.declared.world.World.{World}
-use Rattle.shore_types.specs.declared.faults.Fault.TheVariants.{Device, Memory}
-use Rattle.shore_types.specs.declared.layout.Geometry.{Geometry}
-use Rattle.shore_machine.specs.declared.step.Step.TheVariants.{Refused}
-use Rattle.shore_world.specs.declared.event.Event.TheVariants as event
-use Rattle.shore_world.specs.Events.{IsCall, IsOfSession}
-use Rattle.shore_world.specs.Worlds.{HasStaged, IsLike, Runs, state_in, geometry_in, history_in, EventStep, GivesBeginning, IsReady, SurvivesCrashes, Moves, Steps}
-use Rattle.shore_world.proofs.RoomLemmas.{no_failure}
+use Rattle.shore_world.specs.Worlds.{HasStaged, IsInState, Comes, durable_in, failed_in, geometry_in, history_in, list_in, GivesBeginning, IsReady, SurvivesCrashes, Moves}
 
 -- ---- what gives a prefix of the list
 
@@ -43,8 +35,9 @@ pub not_left : {A B : Type 0} → A ⊎ B → (A → ⊥) → B
 not_left (inl a) isnt = absurd (isnt a)
 not_left (inr b) isnt = b
 
-pub still_running : (s new : State) → new ≡ with_failure s → new.failed ≡ false → ⊥
-still_running s new is runs = let clash : true ≡ false = sym (ap (λ (x : State). x.failed) is) ∙ runs in absurd cc
+-- what has failed does not run
+pub failed_runs : (b : Bool) → IsTrue b → b ≡ false → ⊥
+failed_runs b is runs = let clash : true ≡ false = sym is ∙ runs in absurd cc
 
 pub some_stands : {A : Type 0} (o : Option A) → IsSome o → o ≢ None
 some_stands (Some a) some is = absurd cc
@@ -57,9 +50,6 @@ none_where (Some a) isnt = absurd (isnt refl)
 pub is_some_and : {A : Type 0} (o : Option A) (a : A) (P : A → Type 0) → o ≡ Some a → P a → IsSomeAnd o P
 is_some_and o a P is p = subst (λ o. IsSomeAnd o P) (sym is) p
 
-pub open_is_no_stage : event.ForceOpen ≡ event.ForceStage → ⊥
-open_is_no_stage is = absurd cc
-
 module _ {L : Type 0} {G : Ghosts L} where
   pub length-stable : (log : LogDev L G) → length (stable log) ≡ log.forced
   length-stable log = length-take-le log.forced log.records.items log.forced_inside
@@ -67,61 +57,88 @@ module _ {L : Type 0} {G : Ghosts L} where
   pub none_staged : (log : LogDev L G) (is : Bool) → (IsTrue is ↔ IsSome log.staged) → is ≡ false → log.staged ≡ None
   none_staged log is tells isnt = none_where log.staged (λ some. let clash : true ≡ false = sym (tells.1 some) ∙ isnt in absurd cc)
 
+-- a list of which neither part has changed
+pub same_list : {T V : Type 0} {G : tail.Ghosts T} {H : Ghosts V} (rs later : List LogRecord) (old new : Core T V G H) → later ≡ rs → tail_of new ≡ tail_of old
+    → later ++ waiting_of new ≡ rs ++ waiting_of old
+same_list {G = G} rs later old new logs tails = ap (λ (l : List LogRecord). l ++ waiting_of new) logs ∙ ap (λ t. rs ++ G.records t) tails
+
 module _ {L V : Type 0} {G : Ghosts L} {H : Ghosts V} where
-  pub durable_within : (w : World L V G H) → (state_in w).durable ≤ length (state_in w).log
-  durable_within w = omega (arith, w.durable_agrees, length-stable w.log, w.log.forced_inside, length-append w.log.records.items (waiting_in (tail_of w.core)))
+  pub durable_within : (w : World L V G H) → durable_in w ≤ length (list_in w)
+  durable_within w = omega (arith, w.durable_agrees, length-stable w.log, w.log.forced_inside, length-append w.log.records.items (waiting_of w.core))
 
-  pub stable_is : (w : World L V G H) → take (state_in w).durable (state_in w).log ≡ stable w.log
+  pub stable_is : (w : World L V G H) → take (durable_in w) (list_in w) ≡ stable w.log
   stable_is w =
-      ap (λ n. take n (w.log.records.items ++ waiting_in (tail_of w.core))) (w.durable_agrees ∙ length-stable w.log)
-      ∙ take-append-le w.log.forced w.log.records.items (waiting_in (tail_of w.core)) w.log.forced_inside
+      ap (λ n. take n (w.log.records.items ++ waiting_of w.core)) (w.durable_agrees ∙ length-stable w.log)
+      ∙ take-append-le w.log.forced w.log.records.items (waiting_of w.core) w.log.forced_inside
 
-  pub stable_gives : (w : World L V G H) (front c : List ℕ) → GivesBehind front (stable w.log) c → GivesBeginning front (state_in w).durable (state_in w).log c
-  stable_gives w front c gives = ((state_in w).durable, omega arith, durable_within w, subst (λ (l : List LogRecord). GivesBehind front l c) (sym (stable_is w)) gives)
+  pub stable_gives : (w : World L V G H) (front c : List ℕ) → GivesBehind front (stable w.log) c → GivesBeginning front (durable_in w) (list_in w) c
+  stable_gives w front c gives = (durable_in w, omega arith, durable_within w, subst (λ (l : List LogRecord). GivesBehind front l c) (sym (stable_is w)) gives)
 
   -- the stable records and those of a staged frame
   module _ (w : World L V G H) (front : List ℕ) (group : List LogRecord) (staged : IsStaged w.log front group) where
     abbrev rest : List LogRecord
-    rest = waiting_in (tail_of w.core)
+    rest = waiting_of w.core
 
     within_records : w.log.forced + length group ≤ length w.log.records.items
     within_records = omega (arith, ap length staged.first, length-take (length group) (waiting w.log), length-drop w.log.forced w.log.records.items, w.log.forced_inside)
 
-    more_is : take (w.log.forced + length group) (state_in w).log ≡ stable w.log ++ group
+    more_is : take (w.log.forced + length group) (list_in w) ≡ stable w.log ++ group
     more_is =
         take-append-le (w.log.forced + length group) w.log.records.items rest within_records
         ∙ take-more_group w.log.records.items w.log.forced group w.log.forced_inside staged.first
 
-    pub more_gives : (c : List ℕ) → GivesBehind front (stable w.log ++ group) c → GivesBeginning front (state_in w).durable (state_in w).log c
+    pub more_gives : (c : List ℕ) → GivesBehind front (stable w.log ++ group) c → GivesBeginning front (durable_in w) (list_in w) c
     more_gives c gives = (
       w.log.forced + length group,
       omega (arith, w.durable_agrees, length-stable w.log),
-      omega (arith, within_records, length-append w.log.records.items (waiting_in (tail_of w.core))),
+      omega (arith, within_records, length-append w.log.records.items (waiting_of w.core)),
       subst (λ (l : List LogRecord). GivesBehind front l c) (sym more_is) gives,
     )
 
-    pub either_gives : (c : List ℕ) → GivesWithOrWithout front (stable w.log) group c → GivesBeginning front (state_in w).durable (state_in w).log c
+    pub either_gives : (c : List ℕ) → GivesWithOrWithout front (stable w.log) group c → GivesBeginning front (durable_in w) (list_in w) c
     either_gives c (inl without) = stable_gives w front c without
     either_gives c (inr with) = more_gives c with
 
+  -- ---- what an event comes to, from each safe state
+
+  abbrev pub ComesFromEach : World L V G H → Event → Step → World L V G H → Type 0
+  ComesFromEach old e step new =
+      (front : List ℕ) (disk : ℕ → List ℕ) (s : State) → IsInState old front disk s → IsSafe (geometry_in old) s → Comes old e step new front disk s
+
+  -- the list has grown at most, and what was durable stays so
+  pub record ListGrows (old new : World L V G H) : Type 0 where
+    pub more : List LogRecord
+    pub list : list_in new ≡ list_in old ++ more
+    pub durable : durable_in new ≡ durable_in old
+    pub running : failed_in new ≡ false → failed_in old ≡ false
+
+  -- .. and not at all
+  pub none_more : (old new : World L V G H) → list_in new ≡ list_in old → durable_in new ≡ durable_in old → (failed_in new ≡ false → failed_in old ≡ false) → ListGrows old new
+  none_more old new list durable running = record { more = []; list = list ∙ sym (append-nil (list_in old)); durable = durable; running = running }
+
   -- ---- an event for which the device stands still
 
-  pub unmoved : (old new : World L V G H) (e : Event) (step : Step) → geometry_in new ≡ geometry_in old → EventStep (geometry_in old) (state_in old) e step (state_in new)
-      → new.log.device ≡ old.log.device → Grows (state_in old) (state_in new) → ((front : List ℕ) → IsReady old front → IsReady new front) → Moves old e step new
-  unmoved old new e step geometry state device grows ready =
+  pub unmoved : (old new : World L V G H) (e : Event) (step : Step) → geometry_in new ≡ geometry_in old → new.log.device ≡ old.log.device → ComesFromEach old e step new
+      → ((front : List ℕ) (disk : ℕ → List ℕ) (s : State) → IsInState old front disk s → IsSafe (geometry_in old) s → ListGrows old new)
+      → ((front : List ℕ) → IsReady old front → IsReady new front) → Moves old e step new
+  unmoved old new e step geometry device comes grows ready =
       let same : history_in new ≡ history_in old = ap G.history device in
-      let gives : (front c : List ℕ) → GivesBeginning front (state_in old).durable (state_in old).log c → GivesBeginning front (state_in old).durable (state_in new).log c =
-      λ front c g. subst (λ (l : List LogRecord). GivesBeginning front (state_in old).durable l c) (sym grows.log) (longer front (state_in old).durable (state_in old).log grows.more c g) in
       record {
         geometry = geometry;
-        state = state;
-        kept = λ front k. record {
-          images = λ c left. subst (λ n. GivesBeginning front n (state_in new).log c) (sym grows.durable) (gives front c (k.images c (subst (λ (h : History). may_leave h c) same left)));
-          ready = λ running. ready front (k.ready (grows.running running));
+        state = comes;
+        kept = λ front disk s is safe log_front k. let g = grows front disk s is safe in record {
+          images = λ c left. subst (λ n. GivesBeginning log_front n (list_in new) c) (sym g.durable)
+              (subst (λ (l : List LogRecord). GivesBeginning log_front (durable_in old) l c) (sym g.list)
+              (longer log_front (durable_in old) (list_in old) g.more c (k.images c (subst (λ (h : History). may_leave h c) same left))));
+          ready = λ running. ready log_front (k.ready (g.running running));
         };
-        any_moment = λ front k. subst (λ (h : History). LeavesOnly (history_in old) h (GivesBeginning front (state_in old).durable (state_in old).log)) (sym same)
-            (started (history_in old) (GivesBeginning front (state_in old).durable (state_in old).log) k.images);
+        any_moment = λ front k. subst (λ (h : History). LeavesOnly (history_in old) h (GivesBeginning front (durable_in old) (list_in old))) (sym same)
+            (started (history_in old) (GivesBeginning front (durable_in old) (list_in old)) k.images);
       }
+
+  -- an event that leaves the world as it is
+  pub nothing_done : (w : World L V G H) (e : Event) (step : Step) → ComesFromEach w e step w → Moves w e step w
+  nothing_done w e step comes = unmoved w w e step refl refl comes (λ front disk s is safe. none_more w w refl refl (λ r. r)) (λ front ready. ready)
 
   -- records that were handed over leave a settled log settled
   pub ready_kept : (old new : World L V G H) → old.log.staged ≡ None → new.log.staged ≡ old.log.staged → ((front : List ℕ) → IsSettled old.log front → IsSettled new.log front)
@@ -130,72 +147,66 @@ module _ {L V : Type 0} {G : Ghosts L} {H : Ghosts V} where
   ready_kept old new none same settled front (inr s) = absurd (let clash = s.1.waits in cc)
 
   -- .. and do nothing else
-  pub handed : (old new : World L V G H) (e : Event) (step : Step) → geometry_in new ≡ geometry_in old → EventStep (geometry_in old) (state_in old) e step (state_in new)
-      → new.log.device ≡ old.log.device → state_in new ≡ state_in old → old.log.staged ≡ None → new.log.staged ≡ old.log.staged → ((front : List ℕ) → IsSettled old.log front → IsSettled new.log front)
-      → Moves old e step new
-  handed old new e step geometry state device same none waits settled = unmoved old new e step geometry state device (same_grows _ _ same) (ready_kept old new none waits settled)
-
-  -- an event that does nothing
-  pub nothing_done : (old new : World L V G H) (e : Event) (step : Step) → geometry_in new ≡ geometry_in old → EventStep (geometry_in old) (state_in old) e step (state_in new)
-      → new.log ≡ old.log → state_in new ≡ state_in old → Moves old e step new
-  nothing_done old new e step geometry state log same =
-      unmoved old new e step geometry state (ap (λ (l : LogDev L G). l.device) log) (same_grows _ _ same)
-      (λ front ready. subst (λ (l : LogDev L G). (IsSettled l front × (l.staged ≡ None)) ⊎ ((group : List LogRecord) × IsStaged l front group)) (sym log) ready)
+  pub handed : (old new : World L V G H) (e : Event) (step : Step) → geometry_in new ≡ geometry_in old → new.log.device ≡ old.log.device → ComesFromEach old e step new
+      → list_in new ≡ list_in old → durable_in new ≡ durable_in old → (failed_in new ≡ false → failed_in old ≡ false)
+      → old.log.staged ≡ None → new.log.staged ≡ old.log.staged → ((front : List ℕ) → IsSettled old.log front → IsSettled new.log front) → Moves old e step new
+  handed old new e step geometry device comes list durable running none waits settled =
+      unmoved old new e step geometry device comes (λ front disk s is safe. none_more old new list durable running) (ready_kept old new none waits settled)
 
   -- ---- a frame is staged, or it fails as it is
 
-  as_before : (old new : World L V G H) (front c : List ℕ) → (state_in new).log ≡ (state_in old).log → (state_in new).durable ≡ (state_in old).durable
-      → GivesBeginning front (state_in old).durable (state_in old).log c → GivesBeginning front (state_in new).durable (state_in new).log c
+  as_before : (old new : World L V G H) (front c : List ℕ) → list_in new ≡ list_in old → durable_in new ≡ durable_in old
+      → GivesBeginning front (durable_in old) (list_in old) c → GivesBeginning front (durable_in new) (list_in new) c
   as_before old new front c list durable gives =
-      subst (λ (l : List LogRecord). GivesBeginning front (state_in new).durable l c) (sym list) (subst (λ n. GivesBeginning front n (state_in old).log c) (sym durable) gives)
+      subst (λ (l : List LogRecord). GivesBeginning front (durable_in new) l c) (sym list) (subst (λ n. GivesBeginning front n (list_in old) c) (sym durable) gives)
 
-  pub staging : (old new : World L V G H) (mid : LogDev L G) (e : Event) (step : Step) → geometry_in new ≡ geometry_in old → EventStep (geometry_in old) (state_in old) e step (state_in new)
-      → (state_in old).failed ≡ false → old.log.staged ≡ None → mid.device ≡ old.log.device → mid.staged ≡ old.log.staged → stable mid ≡ stable old.log
-      → (state_in new).log ≡ (state_in old).log → (state_in new).durable ≡ (state_in old).durable
+  pub staging : (old new : World L V G H) (mid : LogDev L G) (e : Event) (step : Step) → geometry_in new ≡ geometry_in old → ComesFromEach old e step new
+      → failed_in old ≡ false → old.log.staged ≡ None → mid.device ≡ old.log.device → mid.staged ≡ old.log.staged → stable mid ≡ stable old.log
+      → list_in new ≡ list_in old → durable_in new ≡ durable_in old
       → ((front : List ℕ) → IsSettled old.log front → IsSettled mid front)
       → ((front : List ℕ) → IsSettled mid front → mid.staged ≡ None → LeavesOnly (G.history mid.device) (history_in new) (GivesBehind front (stable mid)))
-      → ((front : List ℕ) → IsSettled mid front → (state_in new).failed ≡ false → IsReady new front) → Moves old e step new
-  staging old new mid e step geometry state running none device waits same list durable settled moments ready =
+      → ((front : List ℕ) → IsSettled mid front → failed_in new ≡ false → IsReady new front) → Moves old e step new
+  staging old new mid e step geometry comes running none device waits same list durable settled moments ready =
       let settled_now : (front : List ℕ) → SurvivesCrashes old front → IsSettled old.log front = λ front k. elim (k.ready running) [
         | inl s ↦ s.0
         | inr s ↦ absurd (let clash = s.1.waits in cc)
       ] in
-      let leaves : (front : List ℕ) → SurvivesCrashes old front → LeavesOnly (history_in old) (history_in new) (GivesBeginning front (state_in old).durable (state_in old).log) =
-      λ front k. subst (λ (d : L). LeavesOnly (G.history d) (history_in new) (GivesBeginning front (state_in old).durable (state_in old).log)) device
-      (widened (G.history mid.device) (history_in new) (GivesBehind front (stable mid)) (GivesBeginning front (state_in old).durable (state_in old).log) (moments front (settled front (settled_now front k)) (waits ∙ none))
+      let leaves : (front : List ℕ) → SurvivesCrashes old front → LeavesOnly (history_in old) (history_in new) (GivesBeginning front (durable_in old) (list_in old)) =
+      λ front k. subst (λ (d : L). LeavesOnly (G.history d) (history_in new) (GivesBeginning front (durable_in old) (list_in old))) device
+      (widened (G.history mid.device) (history_in new) (GivesBehind front (stable mid)) (GivesBeginning front (durable_in old) (list_in old)) (moments front (settled front (settled_now front k)) (waits ∙ none))
       (λ c gives. stable_gives old front c (subst (λ (l : List LogRecord). GivesBehind front l c) same gives))) in
       record {
         geometry = geometry;
-        state = state;
-        kept = λ front k. record {
-          images = λ c left. as_before old new front c list durable (at_end (history_in old) (history_in new) (GivesBeginning front (state_in old).durable (state_in old).log) (leaves front k) c left);
-          ready = λ run. ready front (settled front (settled_now front k)) run;
+        state = comes;
+        kept = λ front disk s is safe log_front k. record {
+          images = λ c left. as_before old new log_front c list durable (at_end (history_in old) (history_in new) (GivesBeginning log_front (durable_in old) (list_in old)) (leaves log_front k) c left);
+          ready = λ run. ready log_front (settled log_front (settled_now log_front k)) run;
         };
         any_moment = leaves;
       }
 
   -- ---- its gate is opened, or it fails
 
-  pub opening_gate : (old new : World L V G H) (e : Event) (step : Step) → geometry_in new ≡ geometry_in old → EventStep (geometry_in old) (state_in old) e step (state_in new)
-      → (state_in old).failed ≡ false → old.log.staged ≢ None → (state_in new).log ≡ (state_in old).log
+  pub opening_gate : (old new : World L V G H) (e : Event) (step : Step) → geometry_in new ≡ geometry_in old → ComesFromEach old e step new
+      → failed_in old ≡ false → old.log.staged ≢ None → list_in new ≡ list_in old
       → ((front : List ℕ) (group : List LogRecord) → IsStaged old.log front group → LeavesOnly (history_in old) (history_in new) (GivesWithOrWithout front (stable old.log) group))
-      → ((front : List ℕ) (group : List LogRecord) → IsStaged old.log front group → ((state_in new).durable ≡ (state_in old).durable × ((state_in new).failed ≡ false → ⊥)) ⊎ (IsSettled new.log front × (new.log.staged ≡ None)))
+      → ((front : List ℕ) (group : List LogRecord) → IsStaged old.log front group → ((durable_in new ≡ durable_in old) × (failed_in new ≡ false → ⊥)) ⊎ (IsSettled new.log front × (new.log.staged ≡ None)))
       → Moves old e step new
-  opening_gate old new e step geometry state running some list moments after =
+  opening_gate old new e step geometry comes running some list moments after =
       let staged_now : (front : List ℕ) → SurvivesCrashes old front → (group : List LogRecord) × IsStaged old.log front group = λ front k. elim (k.ready running) [
         | inl s ↦ absurd (some s.1)
         | inr s ↦ s
       ] in
-      let leaves : (front : List ℕ) → SurvivesCrashes old front → LeavesOnly (history_in old) (history_in new) (GivesBeginning front (state_in old).durable (state_in old).log) =
+      let leaves : (front : List ℕ) → SurvivesCrashes old front → LeavesOnly (history_in old) (history_in new) (GivesBeginning front (durable_in old) (list_in old)) =
       λ front k. let s = staged_now front k in
-      widened (history_in old) (history_in new) (GivesWithOrWithout front (stable old.log) s.0) (GivesBeginning front (state_in old).durable (state_in old).log) (moments front s.0 s.1)
+      widened (history_in old) (history_in new) (GivesWithOrWithout front (stable old.log) s.0) (GivesBeginning front (durable_in old) (list_in old)) (moments front s.0 s.1)
       (either_gives old front s.0 s.1) in
       record {
         geometry = geometry;
-        state = state;
-        kept = λ front k. let s = staged_now front k in elim (after front s.0 s.1) [
+        state = comes;
+        kept = λ _ disk state is safe front k. let s = staged_now front k in elim (after front s.0 s.1) [
           | inl failed ↦ record {
-            images = λ c left. as_before old new front c list failed.0 (at_end (history_in old) (history_in new) (GivesBeginning front (state_in old).durable (state_in old).log) (leaves front k) c left);
+            images = λ c left. as_before old new front c list failed.0 (at_end (history_in old) (history_in new) (GivesBeginning front (durable_in old) (list_in old)) (leaves front k) c left);
             ready = λ run. absurd (failed.1 run);
           }
           | inr settled ↦ record {
@@ -207,84 +218,30 @@ module _ {L V : Type 0} {G : Ghosts L} {H : Ghosts V} where
       }
 
   -- what is staged is the longest list of what is not durable
-  pub has_staged : (old new : World L V G H) (mid : LogDev L G) (n number : ℕ) → number ≡ n → (state_in old).durable ≡ mid.forced → mid.records.items ≡ (state_in old).log
+  pub has_staged : (old new : World L V G H) (mid : LogDev L G) (n number : ℕ) → number ≡ n → durable_in old ≡ mid.forced → mid.records.items ≡ list_in old
       → IsLongest (waiting mid) (number - mid.forced) → IsSomeAnd new.log.staged (λ frame. frame.count ≡ number - mid.forced)
       → ((front : List ℕ) → SurvivesCrashes old front → IsStaged new.log front (take (number - mid.forced) (waiting mid))) → HasStaged old new n
   has_staged old new mid n number same forced list longest under_way staged =
-      let rest : waiting mid ≡ drop (state_in old).durable (state_in old).log = ap (λ k. drop k mid.records.items) (sym forced) ∙ ap (drop (state_in old).durable) list in
-      let count : number - mid.forced ≡ n - (state_in old).durable = ap (λ k. k - mid.forced) same ∙ ap (λ k. n - k) (sym forced) in
+      let rest : waiting mid ≡ drop (durable_in old) (list_in old) = ap (λ k. drop k mid.records.items) (sym forced) ∙ ap (drop (durable_in old)) list in
+      let count : number - mid.forced ≡ n - durable_in old = ap (λ k. k - mid.forced) same ∙ ap (λ k. n - k) (sym forced) in
       record {
-        longest = subst (λ k. IsLongest (drop (state_in old).durable (state_in old).log) k) count (subst (λ (l : List LogRecord). IsLongest l (number - mid.forced)) rest longest);
+        longest = subst (λ k. IsLongest (drop (durable_in old) (list_in old)) k) count (subst (λ (l : List LogRecord). IsLongest l (number - mid.forced)) rest longest);
         under_way = subst (λ k. IsSomeAnd new.log.staged (λ frame. frame.count ≡ k)) count under_way;
-        on_device = λ front k. subst (λ j. IsStaged new.log front (take j (drop (state_in old).durable (state_in old).log))) count
+        on_device = λ front k. subst (λ j. IsStaged new.log front (take j (drop (durable_in old) (list_in old)))) count
             (subst (λ (l : List LogRecord). IsStaged new.log front (take (number - mid.forced) l)) rest (staged front k));
       }
 
--- ---- a run of events
-
-module _ {L V : Type 0} {G : Ghosts L} {H : Ghosts V} where
-  pub like_itself : (w : World L V G H) → IsLike w w
-  like_itself w = record { geometry = refl; state = refl; history = refl; staged = refl; faults = refl; volume = refl; kept = λ front k. k }
-
-  pub no_event : (w : World L V G H) → Runs w [] [] w
-  no_event w = like_itself w
-
-  pub one_more : (old : World L V G H) (es : List Event) (steps : List Step) (mid : World L V G H) (e : Event) (step : Step) (new : World L V G H)
-      → Runs old es steps mid → Steps mid e step new → Runs old (es ++ e ∷ []) (steps ++ step ∷ []) new
-  one_more old [] [] mid e step new runs one = (mid, new, runs, one, like_itself new)
-  one_more old (first ∷ es) (s ∷ steps) mid e step new runs one = (runs.0, runs.1, runs.2, runs.3, one_more runs.1 es steps mid e step new runs.4 one)
-  one_more old [] (s ∷ steps) mid e step new runs one = absurd runs
-  one_more old (first ∷ es) [] mid e step new runs one = absurd runs
-
-  like_further : (a b c : World L V G H) → IsLike a b → IsLike b c → IsLike a c
-  like_further a b c one two = record {
-    geometry = two.geometry ∙ one.geometry;
-    state = two.state ∙ one.state;
-    history = two.history ∙ one.history;
-    staged = two.staged ∙ one.staged;
-    faults = two.faults ∙ one.faults;
-    volume = two.volume ∙ one.volume;
-    kept = λ front k. two.kept front (one.kept front k);
+  -- what is kept of a world of which nothing has changed that a crash leaves
+  pub kept_as_before : (old new : World L V G H) → list_in new ≡ list_in old → durable_in new ≡ durable_in old → history_in new ≡ history_in old
+      → (failed_in new ≡ false → failed_in old ≡ false) → (front : List ℕ) → (IsReady old front → IsReady new front) → SurvivesCrashes old front → SurvivesCrashes new front
+  kept_as_before old new list durable same running front ready k = record {
+    images = λ c left. as_before old new front c list durable (k.images c (subst (λ (h : History). may_leave h c) same left));
+    ready = λ run. ready (k.ready (running run));
   }
 
-  like_first : (old mid new : World L V G H) (es : List Event) (steps : List Step) → IsLike old mid → Runs mid es steps new → Runs old es steps new
-  like_first old mid new [] [] like runs = like_further old mid new like runs
-  like_first old mid new (e ∷ es) (s ∷ steps) like runs = (runs.0, runs.1, like_further old mid runs.0 like runs.2, runs.3, runs.4)
-  like_first old mid new [] (s ∷ steps) like runs = absurd runs
-  like_first old mid new (e ∷ es) [] like runs = absurd runs
-
-  pub runs_further : (old mid new : World L V G H) (es later : List Event) (steps more : List Step) → Runs old es steps mid → Runs mid later more new → Runs old (es ++ later) (steps ++ more) new
-  runs_further old mid new [] later [] more one two = like_first old mid new later more one two
-  runs_further old mid new (e ∷ es) later (s ∷ steps) more one two = (one.0, one.1, one.2, one.3, runs_further one.1 mid new es later steps more one.4 two)
-  runs_further old mid new [] later (s ∷ steps) more one two = absurd one
-  runs_further old mid new (e ∷ es) later [] more one two = absurd one
-
--- ---- an event that is no step of a force
-
-pub call_is_no_force : (e : Event) → IsCall e → IsOfSession e
-call_is_no_force (event.Call session call) is = tt
-call_is_no_force _ is = absurd is
-
--- one for which the device stands still
-pub no_force : {L V : Type 0} {G : Ghosts L} {H : Ghosts V} (old new : World L V G H) (e : Event) (step : Step) → IsOfSession e → geometry_in new ≡ geometry_in old
-    → EventStep (geometry_in old) (state_in old) e step (state_in new) → step ≢ Refused Device → new.log.device ≡ old.log.device → new.volume ≡ old.volume → Grows (state_in old) (state_in new)
-    → ((front : List ℕ) → IsReady old front → IsReady new front) → Steps old e step new
-no_force {G = G} old new e step other geometry state unreported device volume grows ready = record {
-  moves = unmoved old new e step geometry state device grows ready;
-  volume = volume;
-  still = λ is. device;
-  staged = λ n is done. absurd (subst IsOfSession is other);
-  forced = λ n is done. absurd (subst IsOfSession is other);
-  idle = λ is nothing. absurd (subst IsOfSession is other);
-  shut = λ is nothing. absurd (subst IsOfSession is other);
-  full = λ is refused room. subst IsOfSession is other;
-  cause = no_failure step (G.faults old.log.device) (G.faults new.log.device) unreported (ap G.faults device);
-}
-
--- an event that could not be copied is refused, and nothing has changed
-pub not_copied : (g : Geometry) (s : State) (e : Event) → IsCall e → EventStep g s e (Refused Memory) s
-not_copied g s (event.Call session call) is = (inl refl, refl)
-not_copied g s _ is = absurd is
+  -- a world on a settled log
+  pub settled_kept : (w : World L V G H) (front : List ℕ) → IsSettled w.log front → w.log.staged ≡ None → SurvivesCrashes w front
+  settled_kept w front settled none = record { images = λ c left. stable_gives w front c (settled_gives w.log front settled c left); ready = λ running. inl (settled, none) }
 
 -- ---- an open
 
@@ -296,19 +253,3 @@ synced_only old new (inr is) = sync_leaves {E = Unit {0}} (Ok tt) old new (may_l
 -- and holds what is read
 pub synced_stands : (old new : History) → new ≡ noted old synced → Stands new (seen old)
 synced_stands old new is = subst (λ (h : History). Stands h (seen old)) (sym is) (record { read = refl; only = λ c left. left })
-
--- a world on a settled log
-pub settled_kept : {L V : Type 0} {G : Ghosts L} {H : Ghosts V} (w : World L V G H) (front : List ℕ) → IsSettled w.log front → w.log.staged ≡ None → SurvivesCrashes w front
-settled_kept w front settled none = record { images = λ c left. stable_gives w front c (settled_gives w.log front settled c left); ready = λ running. inl (settled, none) }
-
--- bounds, as the opened log tells its length and its list
-pub bounds_at : (g h : Geometry) (device_bytes limit : ℕ) (rs list : List LogRecord) → h ≡ g → limit ≡ device_bytes → list ≡ rs → AreInBounds g (device_bytes - 4096) rs → AreInBounds h (limit - 4096) list
-bounds_at g h device_bytes limit rs list at long same each =
-    subst (λ (l : List LogRecord). AreInBounds h (limit - 4096) l) (sym same)
-    (subst (λ n. AreInBounds h (n - 4096) rs) (sym long) (subst (λ (x : Geometry). AreInBounds x (device_bytes - 4096) rs) (sym at) each))
-
-pub all_bounds : (g : Geometry) (stream_bytes : ℕ) (rs : List LogRecord) → AreInBounds g stream_bytes rs → InBounds g stream_bytes rs
-all_bounds g stream_bytes rs each = subst (InBounds g stream_bytes) (take_all (length rs) rs (omega arith)) (each (length rs) (omega arith))
-
-pub moved : (g h : Geometry) (device_bytes limit : ℕ) (s : State) → h ≡ g → limit ≡ device_bytes → IsBounded h (limit - 4096) s → IsBounded g (device_bytes - 4096) s
-moved g h device_bytes limit s at long b = subst (λ n. IsBounded g (n - 4096) s) long (subst (λ (x : Geometry). IsBounded x (limit - 4096) s) at b)

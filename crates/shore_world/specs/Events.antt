@@ -1,12 +1,12 @@
 -- The events that are served as yet.
 use Rattle.std.specs.Prelude.{◌≡◌}
-use Rattle.shore_machine.specs.Served.{IsServed}
+use Rattle.shore_calls.specs.CallSteps.{IsServed}
 use Rattle.shore_world.specs.declared.event.Event.{Event}
 use Rattle.shore_world.specs.declared.event.Event.TheVariants as event
 
--- a call that is served, of the one session, and every other event
+-- a call that is served, the resume of a session that is, and every other event
 abbrev pub IsServedEvent : Event → Type 0
-IsServedEvent (event.Call session call) = (session ≡ 1) × IsServed call
+IsServedEvent (event.Call session call) = IsServed session call
 IsServedEvent (event.Resume session) = session ≡ 1
 IsServedEvent event.ForceStage = Unit {0}
 IsServedEvent event.ForceOpen = Unit {0}
@@ -24,3 +24,10 @@ IsOfSession (event.Call session call) = Unit {0}
 IsOfSession (event.Resume session) = Unit {0}
 IsOfSession event.ForceStage = ⊥
 IsOfSession event.ForceOpen = ⊥
+
+-- .. and one that is
+abbrev pub IsOfForce : Event → Type 0
+IsOfForce (event.Call session call) = ⊥
+IsOfForce (event.Resume session) = ⊥
+IsOfForce event.ForceStage = Unit {0}
+IsOfForce event.ForceOpen = Unit {0}

@@ -1,41 +1,42 @@
 -- Managers one after another over one pair of devices: each opens what the crash before it left. Each condition is what a contract says of
 -- the call that it names.
-use Rattle.std.specs.Prelude.{◌≡◌, ◌≢◌, ◌⊎◌, ℕ, ◌-◌, List, [], ◌∷◌, ◌++◌, All, take}
+use Rattle.std.specs.Prelude.{◌≡◌, ◌≢◌, ◌⊎◌, ℕ, List, [], ◌∷◌, ◌++◌, All, take}
 use Rattle.shore_types.specs.declared.faults.Fault.{Fault}
 use Rattle.shore_types.specs.declared.faults.Fault.TheVariants.{Device, LogFull}
 use Rattle.shore_types.specs.declared.layout.Geometry.{Geometry}
 use Rattle.shore_types.specs.declared.layout.TheConstants.{LOG_FRONT_BYTES}
-use Rattle.shore_disk.specs.Device.{may_leave, moment, left_since, size}
+use Rattle.shore_disk.specs.Device.{History, left_since, may_leave, moment, seen, size}
 use Rattle.shore_disk.specs.declared.device.Disk.{Ghosts}
+use Rattle.shore_dwrite.specs.Shown.{Shows}
+use Rattle.shore_dwrite.specs.Volumes.{AreEmpty}
+use Rattle.shore_dwrite.specs.declared.places.TheConstants.{GATE_AT}
 use Rattle.shore_model.specs.declared.calls.Answer.{Answer}
 use Rattle.shore_model.specs.declared.calls.Answer.TheVariants.{Began, Got, Inserted, Updated, Deleted, Scanned, Locked, Saved, WentBack, Committed, Aborted, Prepared, Resolved, AreInDoubt, Staged, Forced, Flushed, Begun, Ended, Anchored, Moved, Cut}
-use Rattle.shore_model.specs.declared.histories.Entry.{Entry}
 use Rattle.shore_model.specs.declared.log_records.LogRecord.{LogRecord}
-use Rattle.shore_machine.specs.declared.step.Step.{Step}
-use Rattle.shore_machine.specs.declared.step.Step.TheVariants.{Done, Waits, Refused, Nothing}
-use Rattle.shore_machine.specs.Runs as machine
-use Rattle.shore_machine.specs.Runs.{made_by}
-use Rattle.shore_machine.specs.Trails.{IsOpened}
-use Rattle.shore_core.specs.Bounds.{IsBounded}
+use Rattle.shore_calls.specs.declared.step.Step.{Step}
+use Rattle.shore_calls.specs.declared.step.Step.TheVariants.{Done, Waits, Refused, Nothing}
+use Rattle.shore_calls.specs.CallHistories.{Run}
+use Rattle.shore_calls.specs.CallSteps as calls
+use Rattle.shore_calls.specs.CallSteps.{ManagerEvent}
 use Rattle.shore_log.specs.Frames.{Gives}
 use Rattle.shore_world.specs.declared.event.Event.{Event}
 use Rattle.shore_world.specs.declared.event.Event.TheVariants as event
 use Rattle.shore_world.specs.declared.world.World.{World}
 use Rattle.shore_world.specs.Events.{IsServedEvent}
-use Rattle.shore_format.specs.Pairs.{StandsFor}
+use Rattle.shore_format.specs.Pairs.{HaveFronts}
 use Rattle.shore_format.specs.Volumes.{VolumeStandsFor}
-use Rattle.shore_world.specs.Worlds.{state_in, geometry_in, history_in, volume_history_in, SurvivesCrashes, Steps, Runs}
+use Rattle.shore_world.specs.Worlds.{IsInState, IsOpenedIn, geometry_in, history_in, list_in, volume_history_in, SurvivesCrashes, Steps, Runs}
 
--- ---- an event of the world, as the machine has it
+-- ---- an event of the world, as the manager over plain data has it
 
--- a force that the device refuses is the failure that the machine is told of
-abbrev pub failure_by : Fault → List machine.Event
-failure_by Device = machine.HasFailed ∷ []
+-- a force that the device refuses is the failure that it is told of
+abbrev pub failure_by : Fault → List ManagerEvent
+failure_by Device = calls.HasFailed ∷ []
 failure_by _ = []
 
 -- the number that a step of a force made durable
-abbrev pub forced_by : Answer → List machine.Event
-forced_by (Forced n) = machine.Forced n ∷ []
+abbrev pub forced_by : Answer → List ManagerEvent
+forced_by (Forced n) = calls.Forced n ∷ []
 forced_by (Began t) = []
 forced_by (Got device_bytes) = []
 forced_by (Inserted id) = []
@@ -59,9 +60,9 @@ forced_by Moved = []
 forced_by Cut = []
 
 -- a call and a resume with what they came to; of a force the number that it made durable, or the device's failure
-abbrev pub moves_by : Event → Step → List machine.Event
-moves_by (event.Call session call) step = machine.Called call step ∷ []
-moves_by (event.Resume session) step = machine.Resumed step ∷ []
+abbrev pub moves_by : Event → Step → List ManagerEvent
+moves_by (event.Call session call) step = calls.Called session call step ∷ []
+moves_by (event.Resume session) step = calls.Resumed session step ∷ []
 moves_by event.ForceStage (Done answer) = []
 moves_by event.ForceStage (Refused fault) = failure_by fault
 moves_by event.ForceStage (Waits wait) = []
@@ -71,7 +72,7 @@ moves_by event.ForceOpen (Refused fault) = failure_by fault
 moves_by event.ForceOpen (Waits wait) = []
 moves_by event.ForceOpen Nothing = []
 
-abbrev pub all_moves : List Event → List Step → List machine.Event
+abbrev pub all_moves : List Event → List Step → List ManagerEvent
 all_moves (e ∷ es) (step ∷ steps) = moves_by e step ++ all_moves es steps
 all_moves [] [] = []
 all_moves [] (step ∷ steps) = []
@@ -86,8 +87,10 @@ NoForceIsFull (e ∷ es) [] = ⊥
 
 -- ---- one manager
 
--- One manager on a pair: it is opened and makes these events, and then a crash leaves an image of each device.
+-- One manager on a pair: it is opened on devices with these calls behind them and makes these events, and then a crash leaves an image of each.
 pub record Manager (L V : Type 0) (G : Ghosts L) (H : Ghosts V) : Type 0 where
+  pub log : History
+  pub volume : History
   pub opened : World L V G H
   pub events : List Event
   pub steps : List Step
@@ -103,29 +106,43 @@ AreLeft {L = L} {V = V} {G = G} {H = H} w log_image volume_image =
     ⊎ ((e : Event) × (step : Step) × (later : World L V G H) × Steps w e step later × left_since (history_in later) (moment (history_in w)) log_image
     × left_since (volume_history_in later) (moment (volume_history_in w)) volume_image)
 
--- The devices have these lengths and read as these images when the manager was opened.
+-- The devices that it was opened on have these lengths and read as these images.
 pub record IsManager {L V : Type 0} {G : Ghosts L} {H : Ghosts V} (log_bytes volume_bytes : ℕ) (log_image volume_image : List ℕ) (m : Manager L V G H) : Type 0 where
+  pub lengths : (size m.log ≡ log_bytes) × (size m.volume ≡ volume_bytes)
+  pub images : (seen m.log ≡ log_image) × (seen m.volume ≡ volume_image)
   -- what an open says
-  pub long : size (history_in m.opened) ≡ log_bytes
-  pub log : (rs : List LogRecord) → Gives rs log_image → (state_in m.opened).log ≡ rs
-  pub opened : IsOpened (state_in m.opened).log (state_in m.opened)
-  pub kept : SurvivesCrashes m.opened (take LOG_FRONT_BYTES log_image)
-  pub geometry : (g : Geometry) (rs : List LogRecord) → StandsFor g log_bytes volume_bytes rs log_image volume_image → geometry_in m.opened ≡ g
-  pub bounded : (g : Geometry) (rs : List LogRecord) → StandsFor g log_bytes volume_bytes rs log_image volume_image → IsBounded g (log_bytes - LOG_FRONT_BYTES) (state_in m.opened)
-  pub volume : (g : Geometry) (rs : List LogRecord) → StandsFor g log_bytes volume_bytes rs log_image volume_image
-      → (c : List ℕ) → may_leave (volume_history_in m.opened) c → VolumeStandsFor g volume_bytes c
+  pub long : size (history_in m.opened) ≡ size m.log
+  pub only : (rs : List LogRecord) → Gives rs (seen m.log) → list_in m.opened ≡ rs
+  pub geometry : (g : Geometry) → HaveFronts g m.log m.volume → geometry_in m.opened ≡ g
+  pub kept : SurvivesCrashes m.opened (take LOG_FRONT_BYTES (seen m.log))
+  pub opened : (g : Geometry) (pages : ℕ → List ℕ) → HaveFronts g m.log m.volume → Shows g (seen m.volume) pages → AreEmpty g pages
+      → IsOpenedIn m.opened (take GATE_AT (seen m.volume)) pages
+  pub still : (g : Geometry) → VolumeStandsFor g (size m.volume) (seen m.volume)
+      → (c : List ℕ) → may_leave (volume_history_in m.opened) c → VolumeStandsFor g (size m.volume) c
   -- what a run says
   pub served : All IsServedEvent m.events
   pub runs : Runs m.opened m.events m.steps m.ended
   -- a crash at any moment
   pub crash : AreLeft m.ended m.log_left m.volume_left
 
--- the entries of the history that it made
-abbrev pub entries_of : {L V : Type 0} {G : Ghosts L} {H : Ghosts V} → Manager L V G H → List Entry
-entries_of m = made_by (all_moves m.events m.steps)
-
 -- each opens what the crash before it left
 abbrev pub AreManagers : {L V : Type 0} {G : Ghosts L} {H : Ghosts V} → ℕ → ℕ → List ℕ → List ℕ → List (Manager L V G H) → List ℕ → List ℕ → Type 0
 AreManagers log_bytes volume_bytes log_image volume_image [] log_last volume_last = (log_last ≡ log_image) × (volume_last ≡ volume_image)
 AreManagers log_bytes volume_bytes log_image volume_image (m ∷ ms) log_last volume_last =
     IsManager log_bytes volume_bytes log_image volume_image m × AreManagers log_bytes volume_bytes m.log_left m.volume_left ms log_last volume_last
+
+-- ---- as runs of the manager over plain data
+
+-- The run is one from a state that the manager was opened in to one that it ended in, by its events.
+pub record IsRunOf {L V : Type 0} {G : Ghosts L} {H : Ghosts V} (m : Manager L V G H) (run : Run) : Type 0 where
+  pub front : List ℕ
+  pub disk : ℕ → List ℕ
+  pub opened : IsInState m.opened front disk run.first
+  pub ended : IsInState m.ended front disk run.last
+  pub events : run.events ≡ all_moves m.events m.steps
+
+abbrev pub AreRunsOf : {L V : Type 0} {G : Ghosts L} {H : Ghosts V} → List (Manager L V G H) → List Run → Type 0
+AreRunsOf (m ∷ ms) (run ∷ runs) = IsRunOf m run × AreRunsOf ms runs
+AreRunsOf [] [] = Unit {0}
+AreRunsOf [] (run ∷ runs) = ⊥
+AreRunsOf (m ∷ ms) [] = ⊥

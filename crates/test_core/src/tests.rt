@@ -1,4 +1,5 @@
 //! The definitions of the machine relate states, calls and steps. These runs pin what they come to on a real manager.
+mod changes;
 mod events;
 mod left;
 mod runs;

@@ -1,14 +1,15 @@
-//! Events as words: `begin`, `get STORE PAGE SLOT`, `insert STORE WORD` of the word's letters, `fill STORE LENGTH` of so many
-//! letters x, `commit`, `resume`, `stage` and `open`.
+//! Events as words: `begin`, `get STORE PAGE SLOT`, `insert STORE WORD` of the word's letters, `fill STORE LENGTH` of so many letters x,
+//! `update STORE PAGE SLOT WORD`, `refill STORE PAGE SLOT LENGTH`, `delete STORE PAGE SLOT`, `scan STORE`, `commit`, `resume`, `stage` and
+//! `open`.
 ghost use Rattle.std.specs.Prelude.{IfOk};
-ghost use Rattle.shore_machine.specs.Served.{IsServed};
+ghost use Rattle.shore_calls.specs.CallSteps.{IsServed};
 ghost use Rattle.shore_world.specs.Events.{IsServedEvent};
 
 use super::trouble::Trouble;
 use shore_model::Call;
 use shore_types::{Bytes, PageId, Rid, Sequence, SessionId, StoreId};
 use shore_world::Event;
-use std::alloc::{AllocError, Global};
+use std::alloc::Global;
 use std::str::SplitWhitespace;
 
 pub(super) type Words<'a> = SplitWhitespace<'a>;
@@ -50,20 +51,28 @@ pub(super) fn event(alloc: Global, words: &mut Words) -> Result<Event, Trouble>
 }
 
 fn call(alloc: Global, kind: &str, words: &mut Words) -> Result<Call, Trouble>
-    ensures { IfOk result IsServed }
+    ensures { IfOk result (IsServed 1) }
 {
     match kind {
         "begin" => Ok(Call::Begin),
         "get" => Ok(Call::Get(rid(words)?)),
-        "insert" => insert(alloc, words),
-        "fill" => fill(alloc, words),
+        "insert" => Ok(Call::Insert(store(words)?, letters(alloc, words)?)),
+        "fill" => Ok(Call::Insert(store(words)?, letters_x(alloc, words)?)),
+        "update" => Ok(Call::Update(rid(words)?, letters(alloc, words)?)),
+        "refill" => Ok(Call::Update(rid(words)?, letters_x(alloc, words)?)),
+        "delete" => Ok(Call::Delete(rid(words)?)),
+        "scan" => Ok(Call::Scan(store(words)?)),
         "commit" => Ok(Call::Commit),
         _ => Err(Trouble::NoLine),
     }
 }
 
+fn store(words: &mut Words) -> Result<StoreId, Trouble> {
+    Ok(StoreId(number(words)?))
+}
+
 fn rid(words: &mut Words) -> Result<Rid, Trouble> {
-    let store = StoreId(number(words)?);
+    let store = store(words)?;
     let page = number(words)?;
     match u16::try_from(number(words)?) {
         Ok(slot) => Ok(Rid {
@@ -74,23 +83,14 @@ fn rid(words: &mut Words) -> Result<Rid, Trouble> {
     }
 }
 
-fn insert(alloc: Global, words: &mut Words) -> Result<Call, Trouble>
-    ensures { IfOk result IsServed }
-{
-    let store = StoreId(number(words)?);
-    let bytes = letters(alloc, word(words)?)?;
-    Ok(Call::Insert(store, bytes))
-}
-
-fn letters(alloc: Global, word: &str) -> Result<Bytes, AllocError> {
+// Those of a word.
+fn letters(alloc: Global, words: &mut Words) -> Result<Bytes, Trouble> {
+    let word = word(words)?;
     Ok(Sequence::from_vec(Vec::from_slice(alloc, word.as_bytes())?))
 }
 
-fn fill(alloc: Global, words: &mut Words) -> Result<Call, Trouble>
-    ensures { IfOk result IsServed }
-{
-    let store = StoreId(number(words)?);
+// So many letters x.
+fn letters_x(alloc: Global, words: &mut Words) -> Result<Bytes, Trouble> {
     let length = number(words)? as usize;
-    let bytes = Vec::from_elem(alloc, b'x', length)?;
-    Ok(Call::Insert(store, Sequence::from_vec(bytes)))
+    Ok(Sequence::from_vec(Vec::from_elem(alloc, b'x', length)?))
 }

@@ -1,11 +1,9 @@
 //! What a force leaves on a pair of devices: the log's bytes, and what an open is refused with if one byte has another value or the devices
 //! are of two pairs.
-use super::runs::{new_manager, new_pair, play_on, zeroed};
-use super::shown::Manager;
+use super::runs::{new_manager, new_pair, opened, play_on, zeroed};
 use super::trouble::{Trouble, require};
-use shore_disk::{FuseDisk, MemDisk};
-use shore_types::{Device, Fault};
-use shore_world::World;
+use shore_disk::MemDisk;
+use shore_types::Device;
 use std::alloc::Global;
 use std::test::Fail;
 
@@ -48,7 +46,8 @@ const LOG_ROWS: [Row; 13] = [
 
 const VOLUME: usize = 270_336 + 9 * 8_192;
 
-const VOLUME_ROWS: [Row; 10] = [
+// The page of the setup's record is read by an open, and no other.
+const VOLUME_ROWS: [Row; 12] = [
     (VOLUME, 0, 0xa5, "opened"),
     (VOLUME, 0, 0x00, "29 NotFormatted"),
     (VOLUME, 1, 0x4c, "29 NotFormatted"),
@@ -58,7 +57,18 @@ const VOLUME_ROWS: [Row; 10] = [
     (VOLUME, 40, 0x01, "25 Damaged volume 40"),
     (VOLUME, 4_096, 0xa5, "25 Damaged volume 4100"),
     (VOLUME, 4_096, 0x01, "opened"),
+    (VOLUME, 270_336, 0x01, "25 Damaged volume 270336"),
+    (VOLUME, 278_528, 0x02, "opened"),
     (VOLUME - 1, 0, 0xa5, "25 Damaged volume 16"),
+];
+
+// What is asked of a pair whose second page is damaged.
+const BESIDE_DAMAGE: [&str; 5] = [
+    "begin -> began 2",
+    "get 0 0 0 -> got a",
+    "get 1 0 0 -> refused 25 Damaged volume 278528",
+    "get 0 0 0 -> refused 24 Failed",
+    "commit -> refused 24 Failed",
 ];
 
 // The pair that the setup leaves.
@@ -68,14 +78,7 @@ fn left_by_setup(alloc: Global) -> Result<(MemDisk, MemDisk), Trouble> {
         play_on(alloc, &mut world, line)?;
     }
     let (log, volume) = world.into_devices();
-    Ok((log.into_inner(), volume))
-}
-
-fn opened(alloc: Global, log: MemDisk, volume: MemDisk) -> Result<Manager, Fault> {
-    match World::open(alloc, FuseDisk::new(log, u64::MAX), volume) {
-        Ok(world) => Ok(world),
-        Err((fault, _, _)) => Err(fault),
-    }
+    Ok((log.into_inner(), volume.into_inner()))
 }
 
 fn require_told(alloc: Global, log: MemDisk, volume: MemDisk, wanted: &str) -> Result<(), Trouble> {
@@ -168,6 +171,28 @@ fn check_pairs(alloc: Global) -> Result<(), Trouble> {
 #[test]
 fn devices_that_do_not_match(rt: HostRuntime) -> Result<(), Fail> {
     match check_pairs(rt.alloc()) {
+        Ok(()) => Ok(()),
+        Err(trouble) => Err(Fail::new(format_args!("{trouble:?}"))),
+    }
+}
+
+// A page that is damaged is found once it is read.
+fn check_damaged_page(alloc: Global) -> Result<(), Trouble> {
+    let (log, volume) = left_by_setup(alloc)?;
+    let row = (VOLUME, 278_528, 0x02, "");
+    let volume = changed(alloc, volume.bytes(), &row)?;
+    let Ok(mut world) = opened(alloc, log, volume) else {
+        return Err(Trouble::Untrue);
+    };
+    for line in BESIDE_DAMAGE {
+        play_on(alloc, &mut world, line)?;
+    }
+    Ok(())
+}
+
+#[test]
+fn a_damaged_page(rt: HostRuntime) -> Result<(), Fail> {
+    match check_damaged_page(rt.alloc()) {
         Ok(()) => Ok(()),
         Err(trouble) => Err(Fail::new(format_args!("{trouble:?}"))),
     }

@@ -3,13 +3,14 @@ use super::events::{Words, end, event, number, word};
 use super::shown::{Manager, write_log, write_records, write_step};
 use super::trouble::{Trouble, require};
 use shore_disk::{FuseDisk, MemDisk};
-use shore_types::{Geometry, Sequence};
+use shore_types::layout::MIN_POOL_FRAMES;
+use shore_types::{Fault, Geometry, Sequence};
 use shore_world::{World, format};
 use std::alloc::{AllocError, Global};
 use std::test::Fail;
 
 // Each line is an event with what it comes to. `run:` opens a new manager on a formatted log device of the least length, with a
-// store of one page and a store of eight; `fuse:` lets so many more writes and syncs of the device pass; `records:` and `log:`
+// store of one page and a store of eight; `fuse:` lets so many more writes and syncs of a device pass; `records:` and `log:`
 // say what is shown. A page has room for 8,168 bytes: records, and 4 for each slot. The log has room for 38,505 bytes: a Change
 // costs 48 and its record's bytes, its undo, which is reserved, 53; a Commit costs 34, which a begin reserves.
 const RUNS: &str = "
@@ -18,6 +19,9 @@ records:
 log: | durable 0
 get 9 0 0 -> refused 1 NoTransaction
 fill 9 4001 -> refused 1 NoTransaction
+refill 9 0 0 4001 -> refused 1 NoTransaction
+delete 9 0 0 -> refused 1 NoTransaction
+scan 9 -> refused 1 NoTransaction
 commit -> refused 1 NoTransaction
 resume -> nothing
 stage -> nothing
@@ -45,25 +49,28 @@ get 0 0 1 -> got cc
 get 0 0 2 -> refused 6 NoRecord
 resume -> nothing
 records: 0.0.0 aa 0.0.1 cc 1.0.0 bb
-log: | 1 0 at 0.0.0; 1 1 at 1.0.0; 1 2 at 0.0.1; durable 0
+log: | 1 0 at 0.0.0 -/aa; 1 1 at 1.0.0 -/bb; 1 2 at 0.0.1 -/cc; durable 0
 
 run: a commit waits for the force of its record
 begin -> began 1
 insert 0 aa -> at 0.0.0
 commit -> waits 2
-log: | 1 0 at 0.0.0; 1 1 commit; durable 0
+log: | 1 0 at 0.0.0 -/aa; 1 1 commit; durable 0
 begin -> refused 14 Busy
 get 9 0 0 -> refused 14 Busy
 fill 9 4001 -> refused 14 Busy
+refill 9 0 0 4001 -> refused 14 Busy
+delete 9 0 0 -> refused 14 Busy
+scan 9 -> refused 14 Busy
 commit -> refused 14 Busy
 resume -> waits 2
 stage -> staged 2
-log: 1 0 at 0.0.0; 1 1 commit; | durable 0
+log: 1 0 at 0.0.0 -/aa; 1 1 commit; | durable 0
 stage -> nothing
 resume -> waits 2
 open -> forced 2
 open -> nothing
-log: 1 0 at 0.0.0; 1 1 commit; | durable 2
+log: 1 0 at 0.0.0 -/aa; 1 1 commit; | durable 2
 resume -> committed
 resume -> nothing
 get 0 0 0 -> refused 1 NoTransaction
@@ -71,7 +78,7 @@ begin -> began 2
 get 0 0 0 -> got aa
 commit -> waits 3
 records: 0.0.0 aa
-log: 1 0 at 0.0.0; 1 1 commit; | 2 0 commit; durable 2
+log: 1 0 at 0.0.0 -/aa; 1 1 commit; | 2 0 commit; durable 2
 
 run: a commit is answered once the frame that has its record is open
 begin -> began 1
@@ -88,21 +95,24 @@ resume -> committed
 run: after a failure all is refused
 begin -> began 1
 insert 0 aa -> at 0.0.0
-fuse: 0
+fuse: log 0
 stage -> refused 23 Device
 begin -> refused 24 Failed
 get 9 0 0 -> refused 24 Failed
 fill 9 4001 -> refused 24 Failed
+refill 9 0 0 4001 -> refused 24 Failed
+delete 9 0 0 -> refused 24 Failed
+scan 9 -> refused 24 Failed
 commit -> refused 24 Failed
 stage -> refused 24 Failed
 open -> refused 24 Failed
-records: 0.0.0 aa
+records: refused 24 Failed
 
 run: a commit that waits is refused after a failure
 begin -> began 1
 commit -> waits 1
 stage -> staged 1
-fuse: 0
+fuse: log 0
 open -> refused 23 Device
 resume -> refused 24 Failed
 log: 1 0 commit; | durable 0
@@ -162,9 +172,13 @@ begin -> refused 9 LogFull
 
 #[test]
 fn runs(rt: HostRuntime) -> Result<(), Fail> {
-    let alloc = rt.alloc();
+    play_all(rt.alloc(), RUNS)
+}
+
+/// Plays the runs of a table, up to the first line that does not hold.
+pub(super) fn play_all(alloc: Global, table: &str) -> Result<(), Fail> {
     let mut world = None;
-    for line in RUNS.lines() {
+    for line in table.lines() {
         if let Err(trouble) = play(alloc, &mut world, line) {
             return Err(Fail::new(format_args!("{trouble:?}: {line}")));
         }
@@ -191,7 +205,7 @@ pub(super) fn play_on(alloc: Global, world: &mut Manager, line: &str) -> Result<
         return require_step(alloc, world, &mut asked.split_whitespace(), wanted);
     }
     match line.split_once(':') {
-        Some(("fuse", calls)) => set_log_fuse(world, &mut calls.split_whitespace()),
+        Some(("fuse", rest)) => set_fuse(world, &mut rest.split_whitespace()),
         Some(("records", wanted)) => require_records(alloc, world, wanted),
         Some(("log", wanted)) => require_log(alloc, world, wanted),
         _ => Err(Trouble::NoLine),
@@ -207,33 +221,49 @@ fn require_step(
     let event = event(alloc, words)?;
     end(words)?;
     let step = world.step(alloc, event);
-    let mut as_log_entry = String::new(alloc);
-    write_step(&mut as_log_entry, &step)?;
-    require(as_log_entry.as_str() == wanted)
+    let mut shown = String::new(alloc);
+    write_step(&mut shown, &step)?;
+    require(shown.as_str() == wanted)
 }
 
-fn set_log_fuse(world: &mut Manager, words: &mut Words) -> Result<(), Trouble> {
-    world.set_log_fuse(u64::from(number(words)?));
+fn set_fuse(world: &mut Manager, words: &mut Words) -> Result<(), Trouble> {
+    let device = word(words)?;
+    let calls = u64::from(number(words)?);
+    match device {
+        "log" => world.set_log_fuse(calls),
+        "volume" => world.set_volume_fuse(calls),
+        _ => return Err(Trouble::NoLine),
+    }
     end(words)
 }
 
-fn require_records(alloc: Global, world: &Manager, wanted: &str) -> Result<(), Trouble> {
-    let mut as_log_entry = String::new(alloc);
-    write_records(&mut as_log_entry, world)?;
-    require(as_log_entry.as_str() == wanted)
+fn require_records(alloc: Global, world: &mut Manager, wanted: &str) -> Result<(), Trouble> {
+    let mut shown = String::new(alloc);
+    write_records(alloc, &mut shown, world)?;
+    require(shown.as_str() == wanted)
 }
 
 fn require_log(alloc: Global, world: &Manager, wanted: &str) -> Result<(), Trouble> {
-    let mut as_log_entry = String::new(alloc);
-    write_log(&mut as_log_entry, world)?;
-    require(as_log_entry.as_str() == wanted)
+    let mut shown = String::new(alloc);
+    write_log(&mut shown, world)?;
+    require(shown.as_str() == wanted)
 }
 
 pub(super) fn new_manager(alloc: Global) -> Result<Manager, Trouble> {
     let (log, volume) = new_pair(alloc, 1)?;
-    match World::open(alloc, FuseDisk::new(log, u64::MAX), volume) {
+    match opened(alloc, log, volume) {
         Ok(world) => Ok(world),
         Err(_) => Err(Trouble::Untrue),
+    }
+}
+
+/// The manager of a pair of devices, over as few frames as may be asked for.
+pub(super) fn opened(alloc: Global, log: MemDisk, volume: MemDisk) -> Result<Manager, Fault> {
+    let log = FuseDisk::new(log, u64::MAX);
+    let volume = FuseDisk::new(volume, u64::MAX);
+    match World::open(alloc, log, volume, MIN_POOL_FRAMES) {
+        Ok(world) => Ok(world),
+        Err((fault, _, _)) => Err(fault),
     }
 }
 

@@ -1,11 +1,14 @@
 //! What a step came to, and what a manager shows, as texts.
 use shore_disk::{FuseDisk, MemDisk};
-use shore_model::{Answer, LogRecord};
-use shore_types::Bytes;
+use shore_model::{Answer, LogRecord, Payload};
+use shore_types::layout::MAX_STORES;
+use shore_types::{Bytes, Rid, StoreId};
 use shore_world::{Step, Wait, World};
-use std::alloc::AllocError;
+use std::alloc::{AllocError, Global};
 
-pub(super) type Manager = World<FuseDisk<MemDisk>, MemDisk>;
+const MOST_LETTERS: usize = 8;
+
+pub(super) type Manager = World<FuseDisk<MemDisk>, FuseDisk<MemDisk>>;
 
 /// As `began 1`, `waits 2`, `refused 6 NoRecord` or `nothing`.
 pub(super) fn write_step(out: &mut String, step: &Step) -> Result<(), AllocError> {
@@ -26,6 +29,12 @@ fn write_answer(out: &mut String, answer: &Answer) -> Result<(), AllocError> {
             write_bytes(out, bytes)
         }
         Answer::Inserted(id) => write!(out, "at {id}"),
+        Answer::Updated => write!(out, "updated"),
+        Answer::Deleted => write!(out, "deleted"),
+        Answer::Scanned(pairs) => {
+            write!(out, "scanned")?;
+            write_pairs(out, pairs.as_slice())
+        }
         Answer::Committed => write!(out, "committed"),
         Answer::Staged(number) => write!(out, "staged {number}"),
         Answer::Forced(number) => write!(out, "forced {number}"),
@@ -33,25 +42,48 @@ fn write_answer(out: &mut String, answer: &Answer) -> Result<(), AllocError> {
     }
 }
 
-// Its letters.
+// Its letters, or `x*N` for more than so many of them.
 fn write_bytes(out: &mut String, bytes: &Bytes) -> Result<(), AllocError> {
+    let length = bytes.as_slice().len();
+    if length > MOST_LETTERS && bytes.as_slice().iter().all(|byte| *byte == b'x') {
+        return write!(out, "x*{length}");
+    }
     match str::from_utf8(bytes.as_slice()) {
         Ok(letters) => write!(out, "{letters}"),
         Err(_) => write!(out, "no letters"),
     }
 }
 
-/// Each record in place, as `0.0.0 aa`, parted by a space.
-pub(super) fn write_records(out: &mut String, world: &Manager) -> Result<(), AllocError> {
-    for (id, bytes) in world.dump().iter() {
+// Each pair as `0.0.0 aa`, with a space before it.
+fn write_pairs(out: &mut String, pairs: &[(Rid, Bytes)]) -> Result<(), AllocError> {
+    for (id, bytes) in pairs {
         write!(out, " {id} ")?;
         write_bytes(out, bytes)?;
     }
     Ok(())
 }
 
-/// Each record of the log by its transaction and the number of that transaction's record before it, with the id that it changes. A
-/// bar parts those that the log device has from those that wait; the durable number comes last.
+/// Each record in place, of one store after another, or what a dump of one is refused with.
+pub(super) fn write_records(
+    alloc: Global,
+    out: &mut String,
+    world: &mut Manager,
+) -> Result<(), AllocError> {
+    for store in 0..MAX_STORES as u32 {
+        let store = StoreId(store);
+        if !world.geometry().has_store(store) {
+            break;
+        }
+        match world.dump(alloc, store) {
+            Ok(pairs) => write_pairs(out, pairs.as_slice())?,
+            Err(fault) => return write!(out, " refused {fault}"),
+        }
+    }
+    Ok(())
+}
+
+/// Each record of the log by its transaction and the number of that transaction's record before it; a change with its id and with its images,
+/// the one before and the one after, `-` if there is none. A bar parts those that the log device has from those that wait; the durable number comes last.
 pub(super) fn write_log(out: &mut String, world: &Manager) -> Result<(), AllocError> {
     let (handed_over, waiting) = world.records();
     write_list(out, handed_over)?;
@@ -65,11 +97,24 @@ fn write_list(out: &mut String, list: &[LogRecord]) -> Result<(), AllocError> {
     for record in list {
         let (txn, previous) = (record.txn, record.previous);
         write!(out, " {txn} {previous}")?;
-        match record.payload.id() {
-            Some(id) => write!(out, " at {id};")?,
-            None if record.payload.is_commit() => write!(out, " commit;")?,
-            None => write!(out, " another;")?,
+        match &record.payload {
+            Payload::Change { id, before, after } => {
+                write!(out, " at {id} ")?;
+                write_image(out, before)?;
+                write!(out, "/")?;
+                write_image(out, after)?;
+                write!(out, ";")?;
+            }
+            Payload::Commit => write!(out, " commit;")?,
+            _ => write!(out, " another;")?,
         }
     }
     Ok(())
+}
+
+fn write_image(out: &mut String, image: &Option<Bytes>) -> Result<(), AllocError> {
+    match image {
+        Some(bytes) => write_bytes(out, bytes),
+        None => write!(out, "-"),
+    }
 }

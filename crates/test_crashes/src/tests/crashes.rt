@@ -1,10 +1,11 @@
 //! What a crash leaves of a manager, judged by the slow functions alone.
-use super::doings::ONE_COMMIT;
+use super::doings::{ONE_COMMIT, STORE};
 use super::lives::{Ground, Life, Start, live};
 use super::trouble::{Trouble, require};
 use shore_disk::{MemDisk, Pick};
 use shore_model::{Decision, Entry, LogRecord, Opening, RidMap};
-use shore_types::{Bytes, Sequence};
+use shore_types::layout::MIN_POOL_FRAMES;
+use shore_types::{Bytes, Rid, Sequence};
 use shore_world::World;
 use slow_histories::decisions::{acknowledged, is_kept};
 use slow_histories::replays::{serial_records, shown_records};
@@ -36,41 +37,18 @@ pub(super) fn check_crash(
         ..
     } = life;
     log.crash(pick);
-    check_left(alloc, ground, &entries, (&list, durable), (log, volume))
-}
-
-// Opens what a crash left of a log, so much of which was durable.
-fn check_left(
-    alloc: Global,
-    ground: &Ground,
-    entries: &[Entry],
-    log: (&[LogRecord], usize),
-    devices: (MemDisk, MemDisk),
-) -> Result<(Ground, MemDisk), Trouble> {
-    let image = devices.0.bytes().to_vec(alloc)?;
-    let world = reopened(alloc, devices)?;
-    let opened = check_found(&world, log.0, log.1)?;
-    let opening = opening_of(alloc, ground, entries, &world)?;
-    let (_, volume) = world.into_devices();
+    let image = log.bytes().to_vec(alloc)?;
+    let mut world = reopened(alloc, log, volume)?;
     let left = Ground {
         image,
-        opening,
-        opened,
+        opened: check_found(&world, &list, durable)?,
+        opening: Opening {
+            records: check_shown(alloc, ground, &entries, &mut world)?,
+            in_doubt: Sequence::new(alloc),
+        },
     };
+    let (_, volume) = world.into_devices();
     Ok((left, volume))
-}
-
-// What an open shows, which has to be right.
-fn opening_of(
-    alloc: Global,
-    ground: &Ground,
-    entries: &[Entry],
-    world: &World<MemDisk, MemDisk>,
-) -> Result<Opening, Trouble> {
-    Ok(Opening {
-        records: check_shown(alloc, ground, entries, world)?,
-        in_doubt: Sequence::new(alloc),
-    })
 }
 
 // What was found is a prefix of the list with all that was durable. Answers how many records it has.
@@ -92,10 +70,13 @@ fn check_shown(
     alloc: Global,
     ground: &Ground,
     entries: &[Entry],
-    world: &World<MemDisk, MemDisk>,
+    world: &mut World<MemDisk, MemDisk>,
 ) -> Result<RidMap<Bytes>, Trouble> {
+    let Ok(in_place) = world.dump(alloc, STORE) else {
+        return Err(Trouble::Wrong("the dump was refused"));
+    };
+    let in_place = in_place.as_slice();
     let (found, _) = world.records();
-    let in_place = world.dump();
     let shown = records_told(alloc, found)?;
     require(are_same(in_place, &shown), "not what the list tells")?;
     let Some(gained) = found.get(ground.opened..) else {
@@ -112,7 +93,7 @@ fn check_kept(
     opening: &Opening,
     entries: &[Entry],
     kept: &[Decision],
-    in_place: &RidMap<Bytes>,
+    in_place: &[(Rid, Bytes)],
 ) -> Result<(), Trouble> {
     require(is_kept(alloc, entries, kept)?, "not kept")?;
     let serial = serial_records(alloc, opening, entries, kept)?;
@@ -132,16 +113,7 @@ pub(super) fn check_next_life(
         ground,
         before: &[],
     };
-    check_one_commit(alloc, &start, pick, volume)
-}
-
-fn check_one_commit(
-    alloc: Global,
-    start: &Start,
-    pick: Pick,
-    volume: MemDisk,
-) -> Result<MemDisk, Trouble> {
-    let life = live(alloc, start, &ONE_COMMIT, None, volume)?;
+    let life = live(alloc, &start, &ONE_COMMIT, None, volume)?;
     check_history(alloc, &start.ground, &life)?;
     check_answered(alloc, &life.entries)?;
     let (_, volume) = check_crash(alloc, &start.ground, life, pick)?;
@@ -156,9 +128,10 @@ fn check_answered(alloc: Global, entries: &[Entry]) -> Result<(), Trouble> {
 
 fn reopened(
     alloc: Global,
-    devices: (MemDisk, MemDisk),
+    log: MemDisk,
+    volume: MemDisk,
 ) -> Result<World<MemDisk, MemDisk>, Trouble> {
-    match World::open(alloc, devices.0, devices.1) {
+    match World::open(alloc, log, volume, MIN_POOL_FRAMES) {
         Ok(world) => Ok(world),
         Err(_) => Err(Trouble::Wrong("the open was refused")),
     }
@@ -175,6 +148,7 @@ fn commits_in(alloc: Global, records: &[LogRecord]) -> Result<Vec<Decision>, All
     Ok(found)
 }
 
-fn are_same(records: &RidMap<Bytes>, others: &RidMap<Bytes>) -> bool {
-    records.iter().eq(others.iter())
+fn are_same(in_place: &[(Rid, Bytes)], records: &RidMap<Bytes>) -> bool {
+    let in_place = in_place.iter().map(|pair| (&pair.0, &pair.1));
+    records.iter().eq(in_place)
 }

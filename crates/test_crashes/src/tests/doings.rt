@@ -1,24 +1,36 @@
 //! The events that lists are made of.
 ghost use Rattle.std.specs.Prelude.{IfOk, IfSome};
-ghost use Rattle.shore_machine.specs.Served.{IsServed};
+ghost use Rattle.shore_calls.specs.CallSteps.{IsServed};
 ghost use Rattle.shore_world.specs.Events.{IsServedEvent};
 
 use shore_model::Call;
-use shore_types::{PageId, Rid, Sequence, SessionId, StoreId};
+use shore_types::{Bytes, PageId, Rid, Sequence, SessionId, StoreId};
 use shore_world::Event;
 use std::alloc::{AllocError, Global};
 
 /// The one session that is served.
 pub(super) const SESSION: SessionId = SessionId(1);
 
-const STORE: StoreId = StoreId(0);
+/// The one store.
+pub(super) const STORE: StoreId = StoreId(0);
 
-/// What happens to a manager next. Each insert is of one byte, and each get of the first record's place.
+// The place of the first record.
+const FIRST: Rid = Rid {
+    page: PageId {
+        store: STORE,
+        page: 0,
+    },
+    slot: 0,
+};
+
+/// What happens to a manager next. Each insert is of one byte; an update puts two into the first record's place, and a delete is of that.
 #[derive(Clone, Copy, Debug, PartialEq, Eq)]
 pub(super) enum Doing {
     Begin,
     Insert,
-    Get,
+    Update,
+    Delete,
+    Scan,
     Commit,
     ForceStage,
     ForceOpen,
@@ -26,10 +38,12 @@ pub(super) enum Doing {
 }
 
 /// One of each.
-pub(super) const EACH: [Doing; 7] = [
+pub(super) const EACH: [Doing; 9] = [
     Doing::Begin,
     Doing::Insert,
-    Doing::Get,
+    Doing::Update,
+    Doing::Delete,
+    Doing::Scan,
     Doing::Commit,
     Doing::ForceStage,
     Doing::ForceOpen,
@@ -47,23 +61,16 @@ pub(super) const ONE_COMMIT: [Doing; 6] = [
 ];
 
 impl Doing {
-    /// The session's call, where it makes one.
+    /// The session's call, if it makes one.
     pub(super) fn call(self, alloc: Global) -> Result<Option<Call>, AllocError>
-        ensures { IfOk result (λ call. IfSome call IsServed) }
+        ensures { IfOk result (λ call. IfSome call (IsServed 1)) }
     {
         Ok(match self {
             Doing::Begin => Some(Call::Begin),
-            Doing::Insert => {
-                let bytes = Sequence::from_vec(Vec::from_slice(alloc, &[0xaau8])?);
-                Some(Call::Insert(STORE, bytes))
-            }
-            Doing::Get => Some(Call::Get(Rid {
-                page: PageId {
-                    store: STORE,
-                    page: 0,
-                },
-                slot: 0,
-            })),
+            Doing::Insert => Some(Call::Insert(STORE, bytes(alloc, &[0xaa])?)),
+            Doing::Update => Some(Call::Update(FIRST, bytes(alloc, &[0xbb, 0xcc])?)),
+            Doing::Delete => Some(Call::Delete(FIRST)),
+            Doing::Scan => Some(Call::Scan(STORE)),
             Doing::Commit => Some(Call::Commit),
             Doing::ForceStage | Doing::ForceOpen | Doing::Resume => None,
         })
@@ -82,4 +89,8 @@ impl Doing {
             _ => Event::Resume(SESSION),
         })
     }
+}
+
+fn bytes(alloc: Global, found: &[u8]) -> Result<Bytes, AllocError> {
+    Ok(Sequence::from_vec(Vec::from_slice(alloc, found)?))
 }

@@ -1,7 +1,7 @@
 //! The lists of events, one after another, and the cases of each.
 use super::crashes::{check_crash, check_history, check_next_life};
 use super::doings::{Doing, EACH};
-use super::lives::{Life, Start, live};
+use super::lives::{Fuse, Life, Start, live};
 use super::trouble::Trouble;
 use shore_disk::{MemDisk, Pick};
 use std::alloc::{AllocError, Global};
@@ -10,7 +10,7 @@ use std::test::Fail;
 const PICKS: [Pick; 3] = [Pick::Old, Pick::New, Pick::Noise];
 
 // How many lists there are of no event, of one, and so on.
-const LISTS_BY_LENGTH: [(u32, u32); 6] = [(0, 1), (1, 7), (2, 49), (3, 343), (4, 2401), (5, 16807)];
+const LISTS_BY_LENGTH: [(u32, u32); 5] = [(0, 1), (1, 9), (2, 81), (3, 729), (4, 6561)];
 
 /// How much was run: lists of events, and for each of them a case for each fuse and pick.
 #[derive(Drop)]
@@ -19,7 +19,7 @@ pub(super) struct Counts {
     pub(super) cases: u64,
 }
 
-/// Every list of up to five events, with each fuse and each pick. The volume goes from one manager to the next.
+/// Every list of up to four events, with each fuse and each pick. The volume goes from one manager to the next.
 pub(super) fn check_lists(alloc: Global, start: &Start, volume: MemDisk) -> Result<Counts, Fail> {
     let Life {
         calls_left,
@@ -41,13 +41,14 @@ fn list_of(alloc: Global, length: u32, number: u32) -> Result<Vec<Doing>, AllocE
     let mut list = Vec::new(alloc);
     let mut digits = number;
     for _ in 0..length {
-        list.push(EACH[(digits % 7) as usize])?;
-        digits /= 7;
+        list.push(EACH[(digits % 9) as usize])?;
+        digits /= 9;
     }
     Ok(list)
 }
 
-// The list with no fuse, and with a fuse for each number of its device calls. Before it so many were left.
+// The list with no fuse, with a volume that fails, and with a fuse for each number of its calls of the log device. Before it so many of
+// these were left.
 fn check_list(
     alloc: Global,
     start: &Start,
@@ -59,8 +60,9 @@ fn check_list(
     let whole = live(alloc, start, list, None, volume)?;
     let calls = calls_left.saturating_sub(whole.calls_left);
     let mut volume = check_picks(alloc, start, list, None, counts, whole.volume)?;
+    volume = check_picks(alloc, start, list, Some(Fuse::Volume), counts, volume)?;
     for fuse in 0..=calls {
-        volume = check_picks(alloc, start, list, Some(fuse), counts, volume)?;
+        volume = check_picks(alloc, start, list, Some(Fuse::Log(fuse)), counts, volume)?;
     }
     counts.lists = counts.lists.saturating_add(1);
     Ok(volume)
@@ -70,7 +72,7 @@ fn check_picks(
     alloc: Global,
     start: &Start,
     list: &[Doing],
-    fuse: Option<u64>,
+    fuse: Option<Fuse>,
     counts: &mut Counts,
     mut volume: MemDisk,
 ) -> Result<MemDisk, Fail> {
@@ -92,7 +94,7 @@ fn check_case(
     alloc: Global,
     start: &Start,
     list: &[Doing],
-    fuse: Option<u64>,
+    fuse: Option<Fuse>,
     pick: Pick,
     volume: MemDisk,
 ) -> Result<MemDisk, Trouble> {

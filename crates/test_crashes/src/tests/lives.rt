@@ -1,10 +1,11 @@
 //! A manager from its open to the loss of power.
 use super::doings::Doing;
 use super::short_histories::ShortHistory;
-use super::trouble::Trouble;
+use super::trouble::{Trouble, require};
 use shore_disk::{FuseDisk, MemDisk};
 use shore_model::rid_map::copy_image;
 use shore_model::{Entry, LogRecord, Opening, Payload, RidMap};
+use shore_types::layout::MIN_POOL_FRAMES;
 use shore_types::{Geometry, Sequence};
 use shore_world::{World, format};
 use std::alloc::Global;
@@ -23,6 +24,21 @@ pub(super) struct Start {
     pub(super) ground: Ground,
     pub(super) before: &'static [Doing],
 }
+
+/// What fails.
+#[derive(Clone, Copy, Debug)]
+pub(super) enum Fuse {
+    /// The log device, once so many more writes and syncs of it have passed.
+    Log(u64),
+    /// The volume, at once. It is only read as yet.
+    Volume,
+}
+
+// A fuse that no list blows.
+const NO_FUSE: u64 = u64::MAX;
+
+// An open syncs the volume, and writes nothing.
+const OPENING_CALLS: u64 = 1;
 
 /// A log device of the least length and a volume of two pages, formatted.
 pub(super) fn formatted(alloc: Global) -> Result<(Ground, MemDisk), Trouble> {
@@ -47,7 +63,7 @@ pub(super) fn formatted(alloc: Global) -> Result<(Ground, MemDisk), Trouble> {
     Ok((ground, volume))
 }
 
-type Manager = World<FuseDisk<MemDisk>, MemDisk>;
+type Manager = World<FuseDisk<MemDisk>, FuseDisk<MemDisk>>;
 
 /// What a manager leaves when it is cut off.
 #[derive(Drop)]
@@ -56,27 +72,29 @@ pub(super) struct Life {
     /// The records of the log, forced or not.
     pub(super) list: Vec<LogRecord>,
     pub(super) durable: usize,
-    /// How many more writes and syncs the fuse would have let pass.
+    /// How many more writes and syncs of the log device a fuse would have let pass.
     pub(super) calls_left: u64,
     pub(super) log: MemDisk,
     /// No call has written on it, so no loss of power changes it.
     pub(super) volume: MemDisk,
 }
 
-/// Opens a manager on a copy of the ground's image and on this volume, and makes the events of the start and then these. A fuse lets so many
-/// writes and syncs of the log device pass in these.
+/// Opens a manager on a copy of the ground's image and on this volume, and makes the events of the start and then these. A fuse lets so
+/// many writes and syncs of its device pass in these.
 pub(super) fn live(
     alloc: Global,
     start: &Start,
     doings: &[Doing],
-    fuse: Option<u64>,
+    fuse: Option<Fuse>,
     volume: MemDisk,
 ) -> Result<Life, Trouble> {
     let mut world = opened(alloc, &start.ground.image, volume)?;
     let mut history = ShortHistory::new(alloc);
     make(alloc, &mut world, &mut history, start.before)?;
-    if let Some(calls) = fuse {
-        world.set_log_fuse(calls);
+    match fuse {
+        Some(Fuse::Log(calls)) => world.set_log_fuse(calls),
+        Some(Fuse::Volume) => world.set_volume_fuse(0),
+        None => {}
     }
     make(alloc, &mut world, &mut history, doings)?;
     let list = copy_of_log(alloc, &world)?;
@@ -88,16 +106,27 @@ pub(super) fn live(
         durable,
         calls_left: log.calls_left(),
         log: log.into_inner(),
-        volume,
+        volume: unwritten(volume, fuse)?,
     })
 }
 
 fn opened(alloc: Global, image: &[u8], volume: MemDisk) -> Result<Manager, Trouble> {
     let log = MemDisk::new(alloc, image.to_vec(alloc)?)?;
-    match World::open(alloc, FuseDisk::new(log, u64::MAX), volume) {
+    let (log, volume) = (FuseDisk::new(log, NO_FUSE), FuseDisk::new(volume, NO_FUSE));
+    match World::open(alloc, log, volume, MIN_POOL_FRAMES) {
         Ok(world) => Ok(world),
         Err(_) => Err(Trouble::Wrong("no open")),
     }
+}
+
+// The volume, which made no call that its fuse counts but those of its open.
+fn unwritten(volume: FuseDisk<MemDisk>, fuse: Option<Fuse>) -> Result<MemDisk, Trouble> {
+    let wanted = match fuse {
+        Some(Fuse::Volume) => 0,
+        _ => NO_FUSE - OPENING_CALLS,
+    };
+    require(volume.calls_left() == wanted, "the volume is written")?;
+    Ok(volume.into_inner())
 }
 
 fn copy_of_log(alloc: Global, world: &Manager) -> Result<Vec<LogRecord>, Trouble> {

@@ -1,4 +1,4 @@
-use Rattle.shore_world.proofs.WorldLemmas.{runs_further}
+use Rattle.shore_world.proofs.RunLemmas.{runs_further}
 use Rattle.shore_world.proofs.laws.runs_join.Goals as goal
 
 pub returns : goal.returns

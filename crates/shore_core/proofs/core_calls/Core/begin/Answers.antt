@@ -1,21 +1,82 @@
-use Rattle.std.proofs.Common.{◌+◌, ◌^◌, ◌≤◌, ◌<◌, length, refl, arith}
-use Rattle.shore_core.specs.declared.core_calls.Active.{Active}
-use Rattle.shore_core.proofs.CoreLemmas.{at_some}
+use Rattle.std.proofs.Common.{inl, inr, refl, sym, ap, subst, ◌∙◌, arith}
+use Rattle.shore_types.specs.declared.layout.TheConstants.{ENDING_COST}
+use Rattle.shore_model.specs.declared.calls.Answer.TheVariants.{Began}
+use Rattle.shore_calls.specs.CallSteps.{begun}
+use Rattle.shore_calls.specs.States.{page_slots}
+use Rattle.shore_heap.proofs.Released.{shows_same}
+use Rattle.shore_room.proofs.Leaving.{begun_slots}
+use Rattle.shore_sessions.specs.UndoLists.{nothing_to_undo}
+use Rattle.shore_txn.specs.Tables.{active_in, committing_in}
+use Rattle.shore_core.specs.Cores.{durable_of, first_of, has_failed, waiting_of}
+use Rattle.shore_core.specs.Parts.{HasParts}
+use Rattle.shore_core.proofs.PartSteps.{parts_begun}
+use Rattle.shore_core.proofs.Tables.{has_no_room, has_room, in_none, is_of, no_such, none_told, some_and, some_told}
+use Rattle.shore_core.proofs.Taking.{true_false}
+use Rattle.shore_core.proofs.core_calls.Core.begin.Goals.{then-not-admits-via-then-not-admits, then-not-admits-via-else-not-admits+then-next-ge-LAST_TXN}
 use Rattle.shore_core.proofs.core_calls.Core.begin.Goals as goal
 
-pub invariant_of-self : goal.invariant_of-self
-invariant_of-self g c =
+pub returns-then-is_some-clause-replied : goal.returns-then-is_some-clause-replied
+returns-then-is_some-clause-replied g c ready front disk before s is safe =
+    let t = some_told _ _ (sym c.if-is_some.ensures) c.txn.ensures.some in
+    record { later = s; replies = (inr (_, is_of c.args.self.now.txns s is.parts.txns c.args.session t.0.now t.1.0 t.1.1), refl); is_in = is; history = refl }
+
+pub returns-then-not-admits-clause-replied : goal.returns-then-not-admits-clause-replied
+returns-then-not-admits-clause-replied g c ready front disk before s is safe =
     let old = c.args.self.now in
-    let next = g.T.Tail.first old.tail + length (g.T.Tail.records old.tail) in
+    let none = in_none old.txns s is.parts.txns c.args.session (is.parts.failed_is ∙ ready.running) (none_told _ (sym c.if-is_some.ensures) c.txn.ensures.none) ready.free in
+    elim c.then-not-admits.branch [
+      | then-not-admits-via-then-not-admits w ↦ record {
+        later = s;
+        replies = (
+          inr (
+            none,
+            λ may. has_no_room old.txns (waiting_of old) (durable_of old) (has_failed old) before s is.parts (first_of old) is.first ENDING_COST
+                (λ h. true_false (sym (c.admits.ensures.1 h) ∙ w.if-not-admits.true)) may.0,
+          ),
+          refl,
+        );
+        is_in = is;
+        history = refl;
+      }
+      | then-not-admits-via-else-not-admits+then-next-ge-LAST_TXN w ↦ record {
+        later = s;
+        replies = (inr (none, λ may. omega (arith, may.1, is.parts.txns.next, w.next.ensures, w.if-next-ge-LAST_TXN.true)), refl);
+        is_in = is;
+        history = refl;
+      }
+    ]
+
+pub begin-txn-requires-clause-none : goal.begin-txn-requires-clause-none
+begin-txn-requires-clause-none g c =
+    let none = none_told _ (sym c.if-is_some.ensures) c.txn.ensures.none in
+    no_such (active_in c.args.self.now.txns) (λ t is. none t is (c.args.self.now.one.active t is ∙ sym c.requires))
+
+pub returns-clause-replied : goal.returns-clause-replied
+returns-clause-replied g c ready front disk before s is safe =
+    let old = c.args.self.now in
+    let works = is.parts.failed_is ∙ ready.running in
+    let none = none_told _ (sym c.if-is_some.ensures) c.txn.ensures.none in
+    let free = no_such (active_in old.txns) (λ t is. none t is (old.one.active t is ∙ sym c.requires)) in
+    let waits_none = no_such (committing_in old.txns) (λ w is. ready.free w is (old.one.committing w is ∙ sym c.requires)) in
+    let t = some_and _ (active_in c.begin-txn.new.self) c.begin-txn.ensures.active in
+    let parts = parts_begun old.txns c.begin-txn.new.self (waiting_of old) (durable_of old) (has_failed old) before s is.parts t.0 works free waits_none t.1 t.2.0 t.2.2 t.2.3
+    c.begin-txn.ensures.committing c.begin-txn.ensures.next c.begin-txn.ensures.kept c.begin-txn.ensures.stream old.txns.some in
     record {
-      pages = old.pages;
-      some_txn = omega arith;
-      some_number = old.some_number;
-      few = old.few;
-      begun = λ a is. at_some (λ (x : Active). 1 ≤ x.txn) _ a is old.some_txn;
-      below = λ a is. at_some (λ (x : Active). x.txn ≤ 2 ^ 62) _ a is (omega arith);
-      earlier = λ a is. at_some (λ (x : Active). x.last < next) _ a is (omega (arith, old.some_number));
-      owed = λ a is. at_some (λ (x : Active). x.reserved ≤ c.reserve.new.self.reserved) _ a is (omega (arith, c.reserve.ensures.reserved));
-      ending = λ a is. at_some (λ (x : Active). 34 ≤ x.reserved) _ a is (omega arith);
-      number = λ a is. omega (arith, c.if-not-admits.ensures.0 refl);
+      later = begun s c.args.session;
+      replies = inl (
+        refl,
+        in_none old.txns s is.parts.txns c.args.session works none ready.free,
+        (
+          has_room old.txns (waiting_of old) (durable_of old) (has_failed old) before s is.parts (first_of old) is.first ENDING_COST (c.if-not-admits.ensures.0 refl),
+          omega (arith, is.parts.txns.next, c.next.ensures, c.if-next-ge-LAST_TXN.false),
+        ),
+        ap Began (c.begin-txn.ensures.number ∙ sym is.parts.txns.next),
+        refl,
+      );
+      is_in = record {
+        first = is.first;
+        pages = shows_same old.heap front disk (page_slots s) (page_slots (begun s c.args.session)) is.pages (λ p there. begun_slots s.sessions.records s.sessions.active (record { session = c.args.session; txn = s.sessions.next_txn; undo = nothing_to_undo }) refl p (s.counts p));
+        parts = subst (λ n. HasParts c.begin-txn.new.self (waiting_of old) (durable_of old) (has_failed old) before (begun s n)) t.2.1 parts;
+      };
+      history = refl;
     }

@@ -1,64 +1,136 @@
-use Rattle.std.proofs.Common.{◌≡◌, ◌+◌, ◌^◌, ◌≤◌, ◌<◌, [], ◌∷◌, ◌++◌, List, length, length-append, refl, inl, ap, ◌∙◌, arith}
-use Rattle.shore_core.specs.declared.core_calls.Active.{Active}
-use Rattle.shore_core.proofs.CoreLemmas.{at_some, Fits-insert, remove_inserted, same_state}
-use Rattle.std.specs.FinMap.{remove}
-use Rattle.shore_model.specs.Records.{Records}
-use Rattle.shore_model.specs.declared.log_records.LogRecord.{LogRecord}
-use Rattle.shore_core.specs.Cores.{records_of, state_of}
+use Rattle.std.proofs.Common.{◌≡◌, ◌⊎◌, inr, Some, IsSomeAnd, length, refl, sym, ap, subst, ◌∙◌, arith}
+use Rattle.shore_types.specs.declared.faults.Fault.TheVariants as fault
+use Rattle.shore_types.specs.declared.layout.Geometry.{Geometry}
+use Rattle.shore_types.specs.declared.ids.Rid.{Rid}
+use Rattle.shore_types.specs.Layout.{HasSlot, HasStore}
+use Rattle.shore_model.specs.declared.calls.Call.TheVariants as call
+use Rattle.shore_page.specs.Room.{Fits}
+use Rattle.shore_heap.specs.Heaps.{frame_of}
+use Rattle.shore_heap.specs.Places.{HasNoPlace, IsFree, IsPlace}
+use Rattle.shore_heap.proofs.Finding.{if_none_at, if_some_at}
+use Rattle.shore_calls.specs.Refusals.{IsRefusal, IsShort}
+use Rattle.shore_calls.specs.States.{IsInTxn, page_slots}
+use Rattle.shore_core.specs.Cores.{IsSafe, geometry_of}
+use Rattle.shore_core.specs.Parts.{changed}
+use Rattle.shore_core.proofs.Inserting.{insert_fault, is_place_for, none_serves, store_fault}
+use Rattle.shore_core.proofs.Refusing.{map_some, on_right}
+use Rattle.shore_core.proofs.Tables.{in_none, is_of, none_told, some_told}
+use Rattle.shore_core.proofs.Taking.{replied_as, true_false}
 use Rattle.shore_core.proofs.core_calls.Core.insert.Goals as goal
 
-pub push-requires-clause-text : goal.push-requires-clause-text
-push-requires-clause-text g c =
-    let old = c.args.self.now in
-    Fits-insert c.in-Some.active.txn c.in-Some.active.last c.in-Some-place_for.place.id c.in_ok-try_clone.field-0 (old.begun c.in-Some.active c.in-Some.is)
-    (omega (arith, old.below c.in-Some.active c.in-Some.is)) (omega (arith, old.earlier c.in-Some.active c.in-Some.is, old.few))
-    (record { store = omega arith; page = omega arith; slot = omega arith }) (omega (arith, ap length c.in_ok-try_clone.ensures, ap length c.as_slice-len.ensures))
+pub returns-then-is_none-clause-replied : goal.returns-then-is_none-clause-replied
+returns-then-is_none-clause-replied g c ready front disk before s is safe = record {
+  later = s;
+  replies = (inr (in_none c.args.self.now.txns s is.parts.txns c.args.session (is.parts.failed_is ∙ ready.running) (none_told _ c.if-is_none.ensures c.txn.ensures.none) ready.free), refl);
+  is_in = is;
+  history = refl;
+}
 
-pub invariant_of-self-in-Ok : goal.invariant_of-self-in-Ok
-invariant_of-self-in-Ok g c =
-    let old = c.args.self.now in
-    let before = g.T.Tail.first old.tail + length (g.T.Tail.records old.tail) in
-    let next = g.T.Tail.first c.push.new.self + length (g.T.Tail.records c.push.new.self) in
-    let more : length (g.T.Tail.records c.push.new.self) ≡ length (g.T.Tail.records old.tail) + 1 = ap length c.in-Ok.ensures.added ∙ length-append (g.T.Tail.records old.tail) (_ ∷ []) in
-    let risen : next ≡ before + 1 = omega (arith, more, c.push.ensures.first) in
-    let low : before ≤ 2 ^ 46 = (c.if-not-admits.ensures.0 refl).0 in
-    let owed = old.owed c.in-Some.active c.in-Some.is in
+pub returns-then-len-gt-MAX_RECORD_BYTES-clause-replied : goal.returns-then-len-gt-MAX_RECORD_BYTES-clause-replied
+returns-then-len-gt-MAX_RECORD_BYTES-clause-replied g c ready front disk before s is safe =
+    let t = some_told _ _ c.if-is_none.ensures c.txn.ensures.some in
     record {
-      pages = c.insert.ensures.pages old.geometry old.pages;
-      some_txn = old.some_txn;
-      some_number = omega (arith, risen, old.some_number);
-      few = omega (arith, risen, low);
-      begun = λ a is. at_some (λ (x : Active). 1 ≤ x.txn) _ a is (old.begun c.in-Some.active c.in-Some.is);
-      below = λ a is. at_some (λ (x : Active). x.txn ≤ 2 ^ 62) _ a is (old.below c.in-Some.active c.in-Some.is);
-      earlier = λ a is. at_some (λ (x : Active). x.last < next) _ a is (omega (arith, c.in-Ok.ensures.number, risen));
-      owed = λ a is. at_some (λ (x : Active). x.reserved ≤ c.reserve.new.self.reserved) _ a is (omega (arith, owed, c.reserve.ensures.reserved, c.append.ensures.others.0));
-      ending = λ a is. at_some (λ (x : Active). 34 ≤ x.reserved) _ a is (omega (arith, old.ending c.in-Some.active c.in-Some.is));
-      number = λ a is. omega (arith, risen, low);
+      later = s;
+      replies = (inr ((_, is_of c.args.self.now.txns s is.parts.txns c.args.session t.0.now t.1.0 t.1.1), omega (arith, c.if-len-gt-MAX_RECORD_BYTES.true, ap length c.as_slice-len.ensures)), refl);
+      is_in = is;
+      history = refl;
     }
 
-pub returns-clause-replies : goal.returns-clause-replies
-returns-clause-replies g c before first =
-    let old = c.args.self.now in (
-      inl c.in-Err.ensures.refused.0,
-      same_state (state_of before old) _ _
-          (c.undo_insert.ensures.removed ∙ ap (λ (R : Records). remove R c.in-Some-place_for.place.id) c.in_ok-insert.ensures.ok
-          ∙ remove_inserted (records_of old) c.in-Some-place_for.place.id _ c.in-Some-place_for.ensures.absent)
-          (ap (λ (l : List LogRecord). before ++ l) c.in-Err.ensures.none_added),
-    )
-
-pub invariant_of-self-in-Err : goal.invariant_of-self-in-Err
-invariant_of-self-in-Err g c =
-    let old = c.args.self.now in
-    let same : g.T.Tail.first c.push.new.self + length (g.T.Tail.records c.push.new.self) ≡ g.T.Tail.first old.tail + length (g.T.Tail.records old.tail) = omega (arith, c.push.ensures.first, ap length c.in-Err.ensures.none_added) in
+pub returns-then-not-has_store-clause-replied : goal.returns-then-not-has_store-clause-replied
+returns-then-not-has_store-clause-replied g c ready front disk before s is safe =
+    let t = some_told _ _ c.if-is_none.ensures c.txn.ensures.some in
+    let short : IsShort c.args.bytes = omega (arith, c.if-len-gt-MAX_RECORD_BYTES.false, ap length c.as_slice-len.ensures) in
     record {
-      pages = c.undo_insert.ensures.pages old.geometry (c.insert.ensures.pages old.geometry old.pages);
-      some_txn = old.some_txn;
-      some_number = omega (arith, same, old.some_number);
-      few = omega (arith, same, old.few);
-      begun = old.begun;
-      below = old.below;
-      earlier = λ a is. omega (arith, same, old.earlier a is);
-      owed = old.owed;
-      ending = old.ending;
-      number = λ a is. omega (arith, same, old.number a is);
+      later = s;
+      replies = (
+        inr (
+          (_, is_of c.args.self.now.txns s is.parts.txns c.args.session t.0.now t.1.0 t.1.1),
+          short,
+          λ there. true_false (sym (c.has_store.ensures.1 (subst (λ (it : Geometry). HasStore it c.args.store) (sym c.geometry.ensures) there)) ∙ c.if-not-has_store.true),
+        ),
+        refl,
+      );
+      is_in = is;
+      history = refl;
+    }
+
+pub returns-in_err-place-clause-replied : goal.returns-in_err-place-clause-replied
+returns-in_err-place-clause-replied g c ready front disk before s is safe =
+    let old = c.args.self.now in
+    let t = some_told _ _ c.if-is_none.ensures c.txn.ensures.some in
+    let mine : IsInTxn s c.args.session = (_, is_of old.txns s is.parts.txns c.args.session t.0.now t.1.0 t.1.1) in
+    let short : IsShort c.args.bytes = omega (arith, c.if-len-gt-MAX_RECORD_BYTES.false, ap length c.as_slice-len.ensures) in
+    let there : HasStore (geometry_of old) c.args.store = subst (λ (it : Geometry). HasStore it c.args.store) c.geometry.ensures (c.if-not-has_store.ensures.0 refl) in
+    let still = c.place_for.ensures.still front disk (page_slots s) is.pages in
+    let why : (c.in_err-place.field-0.0 ≡ fault.Memory) ⊎ IsRefusal (geometry_of old) s c.args.session (call.Insert c.args.store c.args.bytes) c.in_err-place.field-0.0 =
+    on_right (store_fault (geometry_of old) disk c.args.store _ _ (c.in_err-place.ensures.refused front disk (page_slots s) is.pages))
+    (insert_fault (geometry_of old) s c.args.session c.args.store c.args.bytes _ mine short there) in
+    replied_as old _ front disk before s c.args.session (call.Insert c.args.store c.args.bytes) c.from_residual.result _ c.from_residual.ensures.1 why
+    (record { is_in = record { first = is.first; pages = still.shows; parts = is.parts }; history = still.history })
+
+pub returns-in_default-clause-replied : goal.returns-in_default-clause-replied
+returns-in_default-clause-replied g c ready front disk before s is safe =
+    let old = c.args.self.now in
+    let t = some_told _ _ c.if-is_none.ensures c.txn.ensures.some in
+    let mine : IsInTxn s c.args.session = (_, is_of old.txns s is.parts.txns c.args.session t.0.now t.1.0 t.1.1) in
+    let short : IsShort c.args.bytes = omega (arith, c.if-len-gt-MAX_RECORD_BYTES.false, ap length c.as_slice-len.ensures) in
+    let there : HasStore (geometry_of old) c.args.store = subst (λ (it : Geometry). HasStore it c.args.store) c.geometry.ensures (c.if-not-has_store.ensures.0 refl) in
+    let still = c.place_for.ensures.still front disk (page_slots s) is.pages in
+    let none : HasNoPlace (geometry_of old) (page_slots s) c.args.store (length c.args.bytes) =
+    subst (HasNoPlace (geometry_of old) (page_slots s) c.args.store) (ap length c.as_slice-len.ensures)
+    (if_none_at (HasNoPlace (geometry_of old) (page_slots s) c.args.store _) c.in_ok-place.place c.in_default.is (c.in_ok-place.ensures.none front disk (page_slots s) is.pages)) in
+    record {
+      later = s;
+      replies = (inr (mine, short, there, none_serves (geometry_of old) s safe.roomy.pages c.args.store c.args.bytes none), refl);
+      is_in = record { first = is.first; pages = still.shows; parts = is.parts };
+      history = still.history;
+    }
+
+pub change-requires-clause-there : goal.change-requires-clause-there
+change-requires-clause-there g c =
+    subst (λ (it : Geometry). HasSlot it c.in-Some.field-0) (sym c.place_for.ensures.geometry)
+    (if_some_at (HasSlot (geometry_of c.args.self.now)) c.in_ok-place.place c.in-Some.field-0 c.in-Some.is c.in_ok-place.ensures.there)
+
+pub change-requires-clause-found : goal.change-requires-clause-found
+change-requires-clause-found g c =
+    let len = ap length c.as_slice-len.ensures in
+    let id = c.in-Some.field-0 in
+    map_some _ _ (frame_of c.place_for.new.self id.page) (λ f h. (h.0, subst (Fits f.page.slots id.slot) len h.1))
+    (if_some_at (λ (it : Rid). IsSomeAnd (frame_of c.place_for.new.self it.page) (λ f. IsFree f.page.slots _ it.slot)) c.in_ok-place.place id c.in-Some.is c.in_ok-place.ensures.framed)
+
+pub change-requires-clause-txn : goal.change-requires-clause-txn
+change-requires-clause-txn g c =
+    let t = some_told _ _ c.if-is_none.ensures c.txn.ensures.some in
+    subst (λ o. IsSomeAnd o (λ t. t.session ≡ c.args.session)) (sym t.1.0) t.1.1
+
+pub returns-in_err-change-clause-replied : goal.returns-in_err-change-clause-replied
+returns-in_err-change-clause-replied g c ready front disk before s is safe =
+    let old = c.args.self.now in
+    let t = some_told _ _ c.if-is_none.ensures c.txn.ensures.some in
+    let mine : IsInTxn s c.args.session = (_, is_of old.txns s is.parts.txns c.args.session t.0.now t.1.0 t.1.1) in
+    let short : IsShort c.args.bytes = omega (arith, c.if-len-gt-MAX_RECORD_BYTES.false, ap length c.as_slice-len.ensures) in
+    let there : HasStore (geometry_of old) c.args.store = subst (λ (it : Geometry). HasStore it c.args.store) c.geometry.ensures (c.if-not-has_store.ensures.0 refl) in
+    let still = c.place_for.ensures.still front disk (page_slots s) is.pages in
+    let place = is_place_for (geometry_of old) s safe.roomy.pages c.args.store c.args.bytes c.in-Some.field-0
+    (subst (λ n. IsPlace (geometry_of old) (page_slots s) c.args.store n c.in-Some.field-0) (ap length c.as_slice-len.ensures) (if_some_at (IsPlace (geometry_of old) (page_slots s) c.args.store _) c.in_ok-place.place c.in-Some.field-0 c.in-Some.is (c.in_ok-place.ensures.found front disk (page_slots s) is.pages))) in
+    let h = c.in_err-change.ensures.changed front disk before s (record { first = is.first; pages = still.shows; parts = is.parts }) (subst (λ it. IsSafe it s) (sym c.place_for.ensures.geometry) safe) in
+    let why : (c.in_err-change.field-0.0 ≡ fault.Memory) ⊎ IsRefusal (geometry_of old) s c.args.session (call.Insert c.args.store c.args.bytes) c.in_err-change.field-0.0 =
+    on_right h.0 (λ full. subst (IsRefusal (geometry_of old) s c.args.session (call.Insert c.args.store c.args.bytes)) (sym full.0) (mine, short, there, (c.in-Some.field-0, place, full.1))) in
+    replied_as old c.change.new.self front disk before s c.args.session (call.Insert c.args.store c.args.bytes) c.from_residual-in_err-change.result _ c.from_residual-in_err-change.ensures.1 why
+    (record { is_in = h.1; history = h.2 ∙ still.history })
+
+pub returns-clause-replied : goal.returns-clause-replied
+returns-clause-replied g c ready front disk before s is safe =
+    let old = c.args.self.now in
+    let short : IsShort c.args.bytes = omega (arith, c.if-len-gt-MAX_RECORD_BYTES.false, ap length c.as_slice-len.ensures) in
+    let there : HasStore (geometry_of old) c.args.store = subst (λ (it : Geometry). HasStore it c.args.store) c.geometry.ensures (c.if-not-has_store.ensures.0 refl) in
+    let still = c.place_for.ensures.still front disk (page_slots s) is.pages in
+    let place = is_place_for (geometry_of old) s safe.roomy.pages c.args.store c.args.bytes c.in-Some.field-0
+    (subst (λ n. IsPlace (geometry_of old) (page_slots s) c.args.store n c.in-Some.field-0) (ap length c.as_slice-len.ensures) (if_some_at (IsPlace (geometry_of old) (page_slots s) c.args.store _) c.in_ok-place.place c.in-Some.field-0 c.in-Some.is (c.in_ok-place.ensures.found front disk (page_slots s) is.pages))) in
+    let h = c.in_ok-change.ensures.changed front disk before s (record { first = is.first; pages = still.shows; parts = is.parts }) (subst (λ it. IsSafe it s) (sym c.place_for.ensures.geometry) safe) in
+    record {
+      later = changed s h.0 c.in-Some.field-0 (Some c.args.bytes) h.1;
+      replies = inr (h.0, h.1, h.2, (short, there, (c.in-Some.field-0, place, h.3, refl)), refl);
+      is_in = h.4;
+      history = h.5 ∙ still.history;
     }

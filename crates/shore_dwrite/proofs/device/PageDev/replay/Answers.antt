@@ -1,14 +1,14 @@
-use Rattle.std.proofs.Common.{◌≡◌, ◌+◌, ◌*◌, inl, inr, [], ◌∷◌, ℕ, List, true, false, IsTrue, length, take, drop, sym, ap, subst, ◌∙◌, arith}
+use Rattle.std.proofs.Common.{◌≡◌, ◌+◌, ◌*◌, inl, inr, [], ◌∷◌, ℕ, List, true, false, IsTrue, length, take, drop, refl, sym, ap, subst, ◌∙◌, arith}
 use Rattle.shore_disk.specs.Device.{History, overwritten, LeavesOnly, Stands}
 use Rattle.shore_gate.specs.declared.gates.TheConstants.{OPEN, CLOSED}
 use Rattle.shore_types.specs.declared.layout.Geometry.{Geometry}
 use Rattle.shore_gate.specs.Checks.{IsFromOutside}
 use Rattle.shore_dwrite.specs.Checks.{RefusesArea}
 use Rattle.shore_dwrite.specs.Differences.{DiffersInPages}
-use Rattle.shore_dwrite.specs.Shown.{AreInPlace, IsShut, ShowsBehind}
-use Rattle.shore_dwrite.specs.Volumes.{page_count, part}
+use Rattle.shore_dwrite.specs.Shown.{AreInPlace, IsShut, ShowsBehind, overlaid}
+use Rattle.shore_dwrite.specs.Volumes.{page_at, page_count, part}
 use Rattle.shore_dwrite.proofs.Moves.{if_err, stands_still}
-use Rattle.shore_dwrite.proofs.ReplayMoments.{while_replayed, while_shut, replayed, shut_in_place, area_of, gate_read, gate_shut}
+use Rattle.shore_dwrite.proofs.ReplayMoments.{while_replayed, while_shut, replayed, shut_in_place, area_of, area_read, gate_read, gate_shut}
 use Rattle.shore_dwrite.proofs.device.PageDev.replay.Goals as goal
 
 pub returns-in_err-read_at-clause-any_moment : goal.returns-in_err-read_at-clause-any_moment
@@ -172,6 +172,25 @@ returns-clause-replayed g c front pages s =
       shut = has.1;
       in_place = subst (λ (it : Geometry). AreInPlace it closed pages) (sym same) has.2;
     }
+
+pub returns-then-not-is_open-clause-in_order : goal.returns-then-not-is_open-clause-in_order
+returns-then-not-is_open-clause-in_order g c image honest stands =
+    let gate : part 4096 1 image ≡ c.read_at.new.out = sym (c.in_ok-read_at.ensures.read honest ∙ ap (λ (l : List ℕ). take 1 (drop 4096 l)) stands.read) in
+    let shut : IsShut image = λ is. gate_shut c.read_at.new.out (λ opened. let clash : true ≡ false = sym (c.is_open.ensures.1 opened) ∙ c.if-not-is_open.true in absurd cc) (sym gate ∙ is) in
+    (page_at image, inl (shut, λ k within. refl))
+
+pub returns-clause-in_order : goal.returns-clause-in_order
+returns-clause-in_order g c image honest stands =
+    let gate : part 4096 1 image ≡ c.read_at.new.out = sym (c.in_ok-read_at.ensures.read honest ∙ ap (λ (l : List ℕ). take 1 (drop 4096 l)) stands.read) in
+    let opened : part 4096 1 image ≡ OPEN ∷ [] = gate ∙ gate_read c.read_at.new.out c.read_at.auto.out ∙ ap (λ (b : ℕ). b ∷ []) (c.is_open.ensures.0 c.if-not-is_open.false) in
+    let honest_one : IsTrue (g.D.Disk.is_honest c.read_at.new.self) = subst IsTrue (sym c.read_at.ensures.honest) honest in
+    let stands_one : Stands (g.D.Disk.history c.read_at.new.self) image = subst (λ (h : History). Stands h image) (sym (c.read_at.ensures.same honest)) stands in
+    let images = c.in_ok-images.images in
+    let numbers = images.numbers.items in
+    let texts = images.bytes.items in
+    let read = c.in_ok-images.ensures.found image honest_one stands_one in
+    let area = area_read c.args.self.now.geometry numbers texts image c.in_ok-images.ensures.batch images.as_many read opened in
+    (overlaid numbers (drop 8192 image) (page_at image), inr (numbers, area, λ k within. refl))
 
 pub returns-in_err-images-clause-refused : goal.returns-in_err-images-clause-refused
 returns-in_err-images-clause-refused g c image honest stands =

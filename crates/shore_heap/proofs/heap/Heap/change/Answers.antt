@@ -1,12 +1,14 @@
-use Rattle.std.proofs.Common.{List, not, refl, ap, ◌∙◌}
+use Rattle.std.proofs.Common.{List, not, refl, sym, ap, subst, ◌∙◌}
 use Rattle.std.specs.Prelude.{option_map}
 use Rattle.shore_dwrite.specs.Settled as settled_device
+use Rattle.shore_dwrite.specs.declared.device.PageDev.{PageDev}
 use Rattle.shore_dwrite.specs.Volumes.{page_number}
 use Rattle.shore_page.specs.Room.{Fits}
 use Rattle.shore_page.specs.Slots.{Slot, image_len, with_image}
 use Rattle.shore_types.specs.Images.{Image}
 use Rattle.shore_pool.specs.Changes.{changed}
 use Rattle.shore_pool.specs.Pools as pools
+use Rattle.shore_pool.specs.declared.pool.Pool.{Pool}
 use Rattle.shore_pool.proofs.Same.{there_is}
 use Rattle.shore_heap.specs.Contents.{with_slots}
 use Rattle.shore_heap.proofs.Bounds.{bounds_forgot, bounds_put_image}
@@ -42,3 +44,13 @@ returns-else-gone-clause-shows g c front disk S shows =
     let fits = of_shown (λ slots. Fits slots c.args.id.slot (image_len image)) (pools.frame_of old.pool id) (disk (page_number g id)) id (S id) (shows.pages id c.requires.there) c.requires.fits in
     shows_by c.change.new.self _ g front disk (with_slots S id put) refl geometry (c.change.ensures.kept front disk shows.holds) have
     (bounds_put_image g old.free.items S shows.bounds id c.args.id.slot image (some_mapped _ c.args.after (c.is_none-gone.ensures ∙ ap not c.if-gone.false)) fits)
+
+pub returns-then-gone-clause-untouched : goal.returns-then-gone-clause-untouched
+returns-then-gone-clause-untouched g c front disk holds = (
+  subst (λ (p : Pool _ g.D.Disk). pools.Holds p front disk) (sym c.forget.ensures.pool) (c.change.ensures.kept front disk holds),
+  ap (λ (p : Pool _ g.D.Disk). pools.history_of p) c.forget.ensures.pool ∙ ap (λ (d : PageDev _ g.D.Disk). g.D.Disk.history (settled_device.device_of d)) c.change.ensures.device,
+)
+
+pub returns-else-gone-clause-untouched : goal.returns-else-gone-clause-untouched
+returns-else-gone-clause-untouched g c front disk holds =
+    (c.change.ensures.kept front disk holds, ap (λ (d : PageDev _ g.D.Disk). g.D.Disk.history (settled_device.device_of d)) c.change.ensures.device)

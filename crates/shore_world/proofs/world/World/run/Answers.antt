@@ -1,9 +1,9 @@
 use Rattle.std.proofs.Common.{◌≡◌, ◌+◌, List, [], ◌∷◌, ◌++◌, take, sym, ap, ◌∙◌, subst, append_assoc, arith}
 use Rattle.std.proofs.lemmas.List.{take_all, take_more}
-use Rattle.shore_machine.specs.declared.step.Step.{Step}
+use Rattle.shore_calls.specs.declared.step.Step.{Step}
 use Rattle.shore_world.specs.declared.event.Event.{Event}
 use Rattle.shore_world.specs.Worlds.{Runs}
-use Rattle.shore_world.proofs.WorldLemmas.{one_more}
+use Rattle.shore_world.proofs.RunLemmas.{one_more}
 use Rattle.shore_world.proofs.world.World.run.Goals as goal
 
 pub returns-clause-runs : goal.returns-clause-runs

@@ -1,0 +1,139 @@
+//! A manager with one session over devices in memory, and records of a hundred bytes on it.
+ghost use Rattle.shore_calls.specs.CallSteps.{IsServed};
+
+use shore_disk::{MemDisk, Pick};
+use shore_model::{Answer, Call};
+use shore_types::layout::MIN_POOL_FRAMES;
+use shore_types::{Bytes, Fault, Geometry, PageId, Rid, Sequence, SessionId, StoreId};
+use shore_world::{Event, Step, World, format};
+use std::alloc::{AllocError, Global};
+
+const SESSION: SessionId = SessionId(1);
+
+pub const STORE: StoreId = StoreId(0);
+
+/// How many records of a hundred bytes a page takes.
+const RECORDS_OF_A_PAGE: u64 = 78;
+
+const LOG_BYTES: usize = 1 << 26;
+
+/// The pages of the one store.
+const PAGES: u32 = 4_096;
+
+pub type Manager = World<MemDisk, MemDisk>;
+
+fn geometry(alloc: Global) -> Result<Geometry, AllocError> {
+    Ok(Geometry {
+        pair: 1,
+        max_locks: 1024,
+        stores: Sequence::from_vec(Vec::from_slice(alloc, &[PAGES])?),
+    })
+}
+
+fn zeroed(alloc: Global, bytes: usize) -> Result<MemDisk, AllocError> {
+    MemDisk::new(alloc, Vec::from_elem(alloc, 0u8, bytes)?)
+}
+
+/// A manager of a formatted pair.
+pub fn new_manager(alloc: Global) -> Result<Manager, Fault> {
+    let geometry = geometry(alloc)?;
+    let mut log = zeroed(alloc, LOG_BYTES)?;
+    let mut volume = zeroed(alloc, 270_336 + 8_192 * PAGES as usize)?;
+    format(alloc, &mut log, &mut volume, &geometry)?;
+    opened(alloc, log, volume)
+}
+
+/// The manager of a pair of devices.
+pub fn opened(alloc: Global, log: MemDisk, volume: MemDisk) -> Result<Manager, Fault> {
+    match World::open(alloc, log, volume, MIN_POOL_FRAMES) {
+        Ok(world) => Ok(world),
+        Err((fault, _, _)) => Err(fault),
+    }
+}
+
+/// What a loss of power leaves of the devices.
+pub fn crashed(manager: Manager) -> (MemDisk, MemDisk) {
+    let (mut log, mut volume) = manager.into_devices();
+    log.crash(Pick::Old);
+    volume.crash(Pick::Old);
+    (log, volume)
+}
+
+/// How many records are in place.
+pub fn shown(alloc: Global, manager: &mut Manager) -> u64 {
+    match manager.dump(alloc, STORE) {
+        Ok(pairs) => pairs.as_slice().len() as u64,
+        Err(_) => 0,
+    }
+}
+
+/// One of the first thousand records.
+pub fn record_of(round: u64) -> Rid {
+    let number = round % 1_000;
+    let page = PageId {
+        store: STORE,
+        page: (number / RECORDS_OF_A_PAGE) as u32,
+    };
+    Rid {
+        page,
+        slot: (number % RECORDS_OF_A_PAGE) as u16,
+    }
+}
+
+/// A hundred bytes.
+pub fn bytes(alloc: Global, number: u64) -> Result<Bytes, AllocError> {
+    Ok(Sequence::from_vec(Vec::from_elem(alloc, (number % 256) as u8, 100)?))
+}
+
+/// Whether the call was answered, or waits.
+pub fn ask(alloc: Global, manager: &mut Manager, call: Call) -> bool
+    requires { IsServed 1 call }
+{
+    match manager.step(alloc, Event::Call(SESSION, call)) {
+        Step::Done(_) | Step::Waits(_) => true,
+        Step::Refused(_) | Step::Nothing => false,
+    }
+}
+
+/// How many records a scan of the store shows.
+pub fn scanned(alloc: Global, manager: &mut Manager) -> u64 {
+    match manager.step(alloc, Event::Call(SESSION, Call::Scan(STORE))) {
+        Step::Done(Answer::Scanned(pairs)) => pairs.as_slice().len() as u64,
+        _ => 0,
+    }
+}
+
+/// Begins a transaction and makes so many records in it.
+pub fn begin_with(alloc: Global, manager: &mut Manager, records: u64) -> Result<(), Fault> {
+    ask(alloc, manager, Call::Begin);
+    for number in 0..records {
+        ask(alloc, manager, Call::Insert(STORE, bytes(alloc, number)?));
+    }
+    Ok(())
+}
+
+/// Commits, forces all records of the log and takes the answer. Whether the commit is answered.
+pub fn commit(alloc: Global, manager: &mut Manager) -> bool {
+    ask(alloc, manager, Call::Commit) && force(alloc, manager) && resume(alloc, manager)
+}
+
+fn force(alloc: Global, manager: &mut Manager) -> bool {
+    for _ in 0..u64::MAX {
+        match manager.step(alloc, Event::ForceStage) {
+            Step::Done(_) => {}
+            Step::Nothing => return true,
+            Step::Refused(_) | Step::Waits(_) => return false,
+        }
+        if !matches!(manager.step(alloc, Event::ForceOpen), Step::Done(_)) {
+            return false;
+        }
+    }
+    false
+}
+
+fn resume(alloc: Global, manager: &mut Manager) -> bool {
+    matches!(
+        manager.step(alloc, Event::Resume(SESSION)),
+        Step::Done(Answer::Committed)
+    )
+}

@@ -1,0 +1,142 @@
+//! The kinds of work, and their times.
+use crate::manager::{
+    Manager, STORE, ask, begin_with, bytes, commit, crashed, new_manager, opened, record_of,
+    scanned, shown,
+};
+use shore_model::Call;
+use shore_types::Fault;
+use std::alloc::Global;
+use std::io;
+use std::time::Instant;
+
+/// The names of all works.
+pub const WORKS: [&str; 7] = [
+    "get",
+    "insert",
+    "insert_far",
+    "update",
+    "scan",
+    "commit",
+    "open",
+];
+
+/// What a round does, on records of a hundred bytes.
+#[derive(Clone, Copy)]
+pub enum Work {
+    /// Gets one of a thousand records.
+    Get,
+    /// Inserts a record into a store that was empty before the first round. All rounds are one transaction.
+    Insert,
+    /// The same, behind a thousand pages that are full.
+    InsertFar,
+    /// Updates one of a thousand records, all rounds in one transaction.
+    Update,
+    /// Scans a store of a thousand records.
+    Scan,
+    /// Begins and commits a transaction that does nothing, with the force of its record.
+    Commit,
+    /// An open of what a crash left of one transaction with so many inserts as there are rounds: a round is a record.
+    Open,
+}
+
+impl Work {
+    pub fn of(name: &str) -> Option<Work> {
+        match name {
+            "get" => Some(Work::Get),
+            "insert" => Some(Work::Insert),
+            "insert_far" => Some(Work::InsertFar),
+            "update" => Some(Work::Update),
+            "scan" => Some(Work::Scan),
+            "commit" => Some(Work::Commit),
+            "open" => Some(Work::Open),
+            _ => None,
+        }
+    }
+
+    // How many records are made before the first round.
+    fn records(self, rounds: u64) -> u64 {
+        match self {
+            Work::Insert | Work::Commit => 0,
+            Work::Get | Work::Update | Work::Scan => 1_000,
+            Work::InsertFar => 78_000,
+            Work::Open => rounds,
+        }
+    }
+}
+
+// One round. How much of it was done: 1 for a call, and for a scan how many thousands of records it showed.
+fn round_of(alloc: Global, manager: &mut Manager, work: Work, round: u64) -> Result<u64, Fault> {
+    let done = match work {
+        Work::Get => ask(alloc, manager, Call::Get(record_of(round))),
+        Work::Insert | Work::InsertFar => ask(
+            alloc,
+            manager,
+            Call::Insert(STORE, bytes(alloc, round)?),
+        ),
+        Work::Update => {
+            let id = record_of(round);
+            ask(alloc, manager, Call::Update(id, bytes(alloc, round)?))
+        }
+        Work::Scan => scanned(alloc, manager) == 1_000,
+        Work::Commit => ask(alloc, manager, Call::Begin) && commit(alloc, manager),
+        Work::Open => false,
+    };
+    Ok(u64::from(done))
+}
+
+fn rounds_of(alloc: Global, manager: &mut Manager, work: Work, rounds: u64) -> Result<u64, Fault> {
+    let mut done = 0u64;
+    for round in 0..rounds {
+        done = done.saturating_add(round_of(alloc, manager, work, round)?);
+    }
+    Ok(done)
+}
+
+// A manager on which the rounds may begin.
+fn prepared(alloc: Global, work: Work, rounds: u64) -> Result<Manager, Fault> {
+    let mut manager = new_manager(alloc)?;
+    match work {
+        Work::Commit => {}
+        Work::Open => {
+            begin_with(alloc, &mut manager, work.records(rounds))?;
+            commit(alloc, &mut manager);
+        }
+        _ => begin_with(alloc, &mut manager, work.records(rounds))?,
+    }
+    Ok(manager)
+}
+
+/// The nanoseconds of a round, and how many were done; nothing is done if there is no memory.
+pub fn measured(rt: &HostRuntime, work: Work, rounds: u64) -> io::Result<(u128, u64)> {
+    let Ok(manager) = prepared(rt.alloc(), work, rounds) else {
+        return Ok((0, 0));
+    };
+    match work {
+        Work::Open => measured_open(rt, manager, rounds),
+        _ => measured_rounds(rt, manager, work, rounds),
+    }
+}
+
+fn measured_rounds(
+    rt: &HostRuntime,
+    mut manager: Manager,
+    work: Work,
+    rounds: u64,
+) -> io::Result<(u128, u64)> {
+    let start = Instant::now(rt)?;
+    let done = rounds_of(rt.alloc(), &mut manager, work, rounds).unwrap_or(0);
+    let nanos = start.elapsed(rt)?.as_nanos() / u128::from(rounds.max(1));
+    Ok((nanos, done))
+}
+
+// With how many records are shown.
+fn measured_open(rt: &HostRuntime, manager: Manager, records: u64) -> io::Result<(u128, u64)> {
+    let (log, volume) = crashed(manager);
+    let start = Instant::now(rt)?;
+    let opened = opened(rt.alloc(), log, volume);
+    let nanos = start.elapsed(rt)?.as_nanos() / u128::from(records.max(1));
+    match opened {
+        Ok(mut manager) => Ok((nanos, shown(rt.alloc(), &mut manager))),
+        Err(_) => Ok((nanos, 0)),
+    }
+}

@@ -1,0 +1,45 @@
+use Rattle.std.proofs.Common.{sym, subst}
+use Rattle.shore_model.specs.declared.calls.Call.{Call}
+use Rattle.shore_calls.specs.CallSteps.{IsServed}
+use Rattle.shore_core.specs.Replies.{Replied}
+use Rattle.shore_core.proofs.Serving.{no_other}
+use Rattle.shore_core.proofs.core_calls.Core.answer.Goals as goal
+
+pub begin-requires : goal.begin-requires
+begin-requires g c = subst (λ (it : Call). IsServed c.args.session it) c.in-Begin.is c.requires
+
+pub unreachable-requires : goal.unreachable-requires
+unreachable-requires g c =
+    let other = c.in_default in
+    no_other c.args.session c.args.call c.requires other.not-Begin other.not-Get other.not-Insert other.not-Update other.not-Delete other.not-Scan other.not-Commit
+
+pub unreachable-unreachable : goal.unreachable-unreachable
+unreachable-unreachable g c = c.unreachable.result
+
+pub returns-in-Begin-clause-replied : goal.returns-in-Begin-clause-replied
+returns-in-Begin-clause-replied g c ready front disk before s is safe =
+    subst (λ (it : Call). Replied c.args.session it c.begin.result c.args.self.now c.begin.new.self front disk before s) (sym c.in-Begin.is) (c.begin.ensures.replied ready front disk before s is safe)
+
+pub returns-in-Get-clause-replied : goal.returns-in-Get-clause-replied
+returns-in-Get-clause-replied g c ready front disk before s is safe =
+    subst (λ (it : Call). Replied c.args.session it c.get.result c.args.self.now c.get.new.self front disk before s) (sym c.in-Get.is) (c.get.ensures.replied ready front disk before s is safe)
+
+pub returns-in-Insert-clause-replied : goal.returns-in-Insert-clause-replied
+returns-in-Insert-clause-replied g c ready front disk before s is safe =
+    subst (λ (it : Call). Replied c.args.session it c.insert.result c.args.self.now c.insert.new.self front disk before s) (sym c.in-Insert.is) (c.insert.ensures.replied ready front disk before s is safe)
+
+pub returns-in-Update-clause-replied : goal.returns-in-Update-clause-replied
+returns-in-Update-clause-replied g c ready front disk before s is safe =
+    subst (λ (it : Call). Replied c.args.session it c.update.result c.args.self.now c.update.new.self front disk before s) (sym c.in-Update.is) (c.update.ensures.replied ready front disk before s is safe)
+
+pub returns-in-Delete-clause-replied : goal.returns-in-Delete-clause-replied
+returns-in-Delete-clause-replied g c ready front disk before s is safe =
+    subst (λ (it : Call). Replied c.args.session it c.delete.result c.args.self.now c.delete.new.self front disk before s) (sym c.in-Delete.is) (c.delete.ensures.replied ready front disk before s is safe)
+
+pub returns-in-Scan-clause-replied : goal.returns-in-Scan-clause-replied
+returns-in-Scan-clause-replied g c ready front disk before s is safe =
+    subst (λ (it : Call). Replied c.args.session it c.scan.result c.args.self.now c.scan.new.self front disk before s) (sym c.in-Scan.is) (c.scan.ensures.replied ready front disk before s is safe)
+
+pub returns-in-Commit-clause-replied : goal.returns-in-Commit-clause-replied
+returns-in-Commit-clause-replied g c ready front disk before s is safe =
+    subst (λ (it : Call). Replied c.args.session it c.commit.result c.args.self.now c.commit.new.self front disk before s) (sym c.in-Commit.is) (c.commit.ensures.replied ready front disk before s is safe)

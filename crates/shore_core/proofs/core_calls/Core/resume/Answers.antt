@@ -1,0 +1,114 @@
+use Rattle.std.proofs.Common.{◌≡◌, ◌≤◌, ◌<◌, ℕ, [], ◌∷◌, inl, refl, sym, ap, subst, ◌∙◌, arith}
+use Rattle.shore_sessions.specs.Sessions.{SessionTxn}
+use Rattle.shore_sessions.specs.Views.{IsAmong}
+use Rattle.shore_calls.specs.CallSteps.{commit_told, commit_waiting, wait_refused}
+use Rattle.shore_txn.specs.declared.table.Committing.{Committing}
+use Rattle.shore_txn.specs.Tables.{committing_in}
+use Rattle.shore_core.specs.Cores.{durable_of, has_failed, waiting_of}
+use Rattle.shore_core.specs.Parts.{AreCommitting, HasParts, waiting_for}
+use Rattle.shore_core.proofs.PartSteps.{at_none, parts_answered, parts_refused}
+use Rattle.shore_core.proofs.Tables.{some_and, waits_not}
+use Rattle.shore_core.proofs.Taking.{true_false}
+use Rattle.shore_core.proofs.core_calls.Core.resume.Goals as goal
+
+above : (durable number : ℕ) → (number ≤ durable → ⊥) → durable < number
+above durable number not = omega (arith, not)
+
+pub returns-in_default-clause-step : goal.returns-in_default-clause-step
+returns-in_default-clause-step g c front disk before s is safe = record {
+  later = s;
+  moves = (waits_not c.args.self.now.txns s is.parts.txns c.args.session c.in_default.ensures.none, refl);
+  is_in = is;
+  history = refl;
+}
+
+pub invariant_of-self : goal.invariant_of-self
+invariant_of-self g c =
+    let old = c.args.self.now in
+    let ended = c.end_wait.ensures in
+    record {
+      some_number = old.some_number;
+      few = old.few;
+      number = λ t is. old.number t (sym ended.active ∙ is);
+      earlier = λ t is. old.earlier t (sym ended.active ∙ is);
+      one = record {
+        active = λ t is. old.one.active t (sym ended.active ∙ is);
+        committing = λ x is. at_none (λ (it : Committing). it.session ≡ 1) x (committing_in c.end_wait.new.self) ended.committing is;
+      };
+    }
+
+pub returns-then-self-clause-step : goal.returns-then-self-clause-step
+returns-then-self-clause-step g c front disk before s is safe =
+    let old = c.args.self.now in
+    let ended = c.end_wait.ensures in
+    let w = some_and _ (committing_in old.txns) c.in-Some.ensures.some in
+    let fails = is.parts.failed_is ∙ c.if-self.true in
+    let among = subst (IsAmong (commit_waiting w.0.session w.0.number)) (sym (is.parts.txns.waiting ∙ ap waiting_for w.1)) (inl refl) in
+    let parts = parts_refused old.txns c.end_wait.new.self (waiting_of old) (durable_of old) (has_failed old) before s is.parts w.0 w.1 ended.committing ended.active ended.next ended.room fails in
+    record {
+      later = wait_refused s c.args.session;
+      moves = (fails, (commit_waiting w.0.session w.0.number, among, w.2.0), refl, refl);
+      is_in = record {
+        first = is.first;
+        pages = is.pages;
+        parts = subst (λ n. HasParts c.end_wait.new.self (waiting_of old) (durable_of old) (has_failed old) before (wait_refused s n)) w.2.0 parts;
+      };
+      history = refl;
+    }
+
+pub returns-then-not-is_durable-clause-step : goal.returns-then-not-is_durable-clause-step
+returns-then-not-is_durable-clause-step g c front disk before s is safe =
+    let old = c.args.self.now in
+    let w = some_and _ (committing_in old.txns) c.in-Some.ensures.some in
+    let waits = is.parts.txns.waiting ∙ ap waiting_for w.1 ∙ ap (λ n. commit_waiting n w.0.number ∷ []) w.2.0 ∙ ap (λ n. commit_waiting c.args.session n ∷ []) w.2.1 in
+    record {
+      later = s;
+      moves = (
+        is.parts.failed_is ∙ c.if-self.false,
+        (c.in-Some.number, subst (IsAmong (commit_waiting c.args.session c.in-Some.number)) (sym waits) (inl refl), omega (arith, is.parts.durable_is, above old.durable c.in-Some.number (λ le. true_false (sym (c.is_durable.ensures.1 le) ∙ c.if-not-is_durable.true))), refl),
+        refl,
+      );
+      is_in = is;
+      history = refl;
+    }
+
+pub invariant_of-self-2 : goal.invariant_of-self-2
+invariant_of-self-2 g c =
+    let old = c.args.self.now in
+    let ended = c.end_wait-2.ensures in
+    record {
+      some_number = old.some_number;
+      few = old.few;
+      number = λ t is. old.number t (sym ended.active ∙ is);
+      earlier = λ t is. old.earlier t (sym ended.active ∙ is);
+      one = record {
+        active = λ t is. old.one.active t (sym ended.active ∙ is);
+        committing = λ x is. at_none (λ (it : Committing). it.session ≡ 1) x (committing_in c.end_wait-2.new.self) ended.committing is;
+      };
+    }
+
+pub returns-clause-step : goal.returns-clause-step
+returns-clause-step g c front disk before s is safe =
+    let old = c.args.self.now in
+    let ended = c.end_wait-2.ensures in
+    let w = some_and _ (committing_in old.txns) c.in-Some.ensures.some in
+    let works = is.parts.failed_is ∙ c.if-self.false in
+    let waits = is.parts.txns.waiting ∙ ap waiting_for w.1 ∙ ap (λ n. commit_waiting n w.0.number ∷ []) w.2.0 ∙ ap (λ n. commit_waiting c.args.session n ∷ []) w.2.1 in
+    let own = subst (λ o. AreCommitting o s.sessions.committing) w.1 (is.parts.txns.committing works) in
+    let a : SessionTxn = record { session = w.0.session; txn = w.0.txn; undo = own.0 } in
+    let among = subst (IsAmong a) (sym own.1) (inl refl) in
+    record {
+      later = commit_told s a;
+      moves = (
+        works,
+        (c.in-Some.number, subst (IsAmong (commit_waiting c.args.session c.in-Some.number)) (sym waits) (inl refl), omega (arith, is.parts.durable_is, c.is_durable.ensures.0 c.if-not-is_durable.false)),
+        refl,
+        (a, among, w.2.0, refl),
+      );
+      is_in = record {
+        first = is.first;
+        pages = is.pages;
+        parts = parts_answered old.txns c.end_wait-2.new.self (waiting_of old) (durable_of old) (has_failed old) before s is.parts w.0 a w.1 ended.committing ended.active ended.next ended.room works among (refl, refl);
+      };
+      history = refl;
+    }

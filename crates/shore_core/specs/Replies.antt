@@ -1,0 +1,102 @@
+-- What a call comes to behind the refusals that stand before every call.
+use Rattle.std.specs.Prelude.{◌≡◌, ◌≢◌, ◌⊎◌, ℕ, List, Result, Ok, Err, false}
+use Rattle.std.specs.Option.{ForSome}
+use Rattle.shore_txn.specs.Tables.{committing_in}
+use Rattle.shore_disk.specs.declared.device.Disk as disk
+use Rattle.shore_log.specs.declared.tail.Tail as tail
+use Rattle.shore_types.specs.declared.faults.Fault.{Fault}
+use Rattle.shore_types.specs.declared.faults.Fault.TheVariants.{LogFull, Memory}
+use Rattle.shore_types.specs.declared.layout.Geometry.{Geometry}
+use Rattle.shore_model.specs.declared.calls.Call.{Call}
+use Rattle.shore_model.specs.declared.calls.Call.TheVariants as call
+use Rattle.shore_model.specs.declared.log_records.LogRecord.{LogRecord}
+use Rattle.shore_calls.specs.declared.step.Step.{Step}
+use Rattle.shore_calls.specs.declared.step.Step.TheVariants.{Done, Waits, Refused, Nothing}
+use Rattle.shore_calls.specs.declared.step.Wait.TheVariants.{Durable}
+use Rattle.shore_sessions.specs.Sessions.{SessionTxn}
+use Rattle.shore_calls.specs.CallSteps.{Answers, CallStep, MayChange, ResumeStep, committed}
+use Rattle.shore_calls.specs.Refusals.{CanLog, IsRefusal}
+use Rattle.shore_types.specs.Images.{Image}
+use Rattle.shore_types.specs.declared.ids.Rid.{Rid}
+use Rattle.shore_room.specs.Claims.{SlotCounts}
+use Rattle.shore_core.specs.Parts.{changed}
+use Rattle.shore_calls.specs.States.{IsOfSession, State, next_number}
+use Rattle.shore_core.specs.declared.core_calls.Core.{Core}
+use Rattle.shore_core.specs.Cores.{IsIn, IsSafe, durable_of, first_of, geometry_of, has_failed, history_of, tail_of, txns_of}
+
+-- a refusal leaves the state as it was: that a device has failed is noted behind it
+abbrev pub Replies : Geometry → State → ℕ → Call → Result Step Fault → State → Type 0
+Replies g s session c (Err f) new = ((f ≡ Memory) ⊎ IsRefusal g s session c f) × (new ≡ s)
+Replies g s session c (Ok (Done answer)) new = Answers g s session c answer new
+Replies g s session c (Ok (Waits wait)) new =
+    (c ≡ call.Commit) × (wait ≡ Durable (next_number s)) × ((a : SessionTxn) × IsOfSession s session a × (new ≡ committed s a))
+Replies g s session c (Ok (Refused f)) new = ⊥
+Replies g s session c (Ok Nothing) new = ⊥
+
+module _ {T V : Type 0} {G : tail.Ghosts T} {H : disk.Ghosts V} where
+  -- what no call changes
+  pub record Keeps (old new : Core T V G H) : Type 0 where
+    pub geometry : geometry_of new ≡ geometry_of old
+    pub durable : durable_of new ≡ durable_of old
+    pub failed : has_failed new ≡ has_failed old
+    pub first : first_of new ≡ first_of old
+
+  -- a call that has read pages at most: all else is what it was
+  pub record OnlyReads (old new : Core T V G H) : Type 0 where
+    pub geometry : geometry_of new ≡ geometry_of old
+    pub durable : durable_of new ≡ durable_of old
+    pub failed : has_failed new ≡ has_failed old
+    pub tail : tail_of new ≡ tail_of old
+    pub txns : txns_of new ≡ txns_of old
+
+  -- it is in the state that it was in, and its volume was read at most
+  pub record Stays (old new : Core T V G H) (front : List ℕ) (disk : ℕ → List ℕ) (before : List LogRecord) (s : State) : Type 0 where
+    pub is_in : IsIn front disk before new s
+    pub history : history_of new ≡ history_of old
+
+  -- In whatever safe state the core was, it has come to another by such a reply, and its volume was read at most.
+  pub record Replied (session : ℕ) (c : Call) (result : Result Step Fault) (old new : Core T V G H) (front : List ℕ) (disk : ℕ → List ℕ) (before : List LogRecord) (s : State) : Type 0 where
+    pub later : State
+    pub replies : Replies (geometry_of old) s session c result later
+    pub is_in : IsIn front disk before new later
+    pub history : history_of new ≡ history_of old
+
+  -- it has come to another state by a step of the manager over plain data
+  pub record Stepped (session : ℕ) (c : Call) (step : Step) (old new : Core T V G H) (front : List ℕ) (disk : ℕ → List ℕ) (before : List LogRecord) (s : State) : Type 0 where
+    pub later : State
+    pub moves : CallStep (geometry_of old) s session c step later
+    pub is_in : IsIn front disk before new later
+    pub history : history_of new ≡ history_of old
+
+  -- a resume has come to another state by such a step
+  pub record Resumed (session : ℕ) (step : Step) (old new : Core T V G H) (front : List ℕ) (disk : ℕ → List ℕ) (before : List LogRecord) (s : State) : Type 0 where
+    pub later : State
+    pub moves : ResumeStep s session step later
+    pub is_in : IsIn front disk before new later
+    pub history : history_of new ≡ history_of old
+
+  -- the session has no call that waits, and no device has failed
+  pub record IsReady (core : Core T V G H) (session : ℕ) : Type 0 where
+    pub running : has_failed core ≡ false
+    pub free : ForSome (committing_in (txns_of core)) (λ c. c.session ≢ session)
+
+  -- in each safe state
+  abbrev pub InEach : ((front : List ℕ) (disk : ℕ → List ℕ) (before : List LogRecord) (s : State) → Type 0) → Core T V G H → Type 0
+  InEach P old = (front : List ℕ) (disk : ℕ → List ℕ) (before : List LogRecord) (s : State) → IsIn front disk before old s → IsSafe (geometry_of old) s → P front disk before s
+
+-- What a change of the session's transaction comes to, of an image that fits where it goes: it is logged and made; or there is no room in the
+-- log, or an allocation failed, and the state is as it was.
+abbrev pub Changes : {T V : Type 0} {G : tail.Ghosts T} {H : disk.Ghosts V} → Core T V G H → Core T V G H → ℕ → Rid → Image → Result (Unit {0}) Fault
+    → List ℕ → (ℕ → List ℕ) → List LogRecord → State → Type 0
+Changes old new session id image (Ok done) front disk before s =
+    (a : SessionTxn) × (counts : SlotCounts) × IsOfSession s session a × MayChange s id image counts × IsIn front disk before new (changed s a id image counts)
+    × (history_of new ≡ history_of old)
+Changes old new session id image (Err f) front disk before s =
+    ((f ≡ Memory) ⊎ ((f ≡ LogFull) × ¬ CanLog s id image)) × IsIn front disk before new s × (history_of new ≡ history_of old)
+
+-- the fault of a step, if it is one
+abbrev pub fault_at : Step → Result (Unit {0}) Fault
+fault_at (Refused f) = Err f
+fault_at (Done answer) = Ok tt
+fault_at (Waits wait) = Ok tt
+fault_at Nothing = Ok tt

@@ -1,0 +1,50 @@
+//! What a core hands over: its records to the log device, and at its end the volume.
+ghost use Rattle.std.specs.Prelude.{◌≡◌, ◌+◌, ◌++◌, [], ℕ, List, IfErr, OnOk, length};
+ghost use Rattle.shore_types.specs.declared.faults.Fault.TheVariants as Fault;
+ghost use Rattle.shore_log.specs.Settled.{IsSettled, records_of_log, stable};
+ghost use Rattle.shore_heap.specs.Heaps as heaps;
+ghost use Rattle.shore_calls.specs.States.{State};
+
+use crate::core_calls::Core;
+use shore_disk::Disk;
+use shore_dwrite::PageDev;
+use shore_log::{LogDev, PlainTail};
+use shore_logrec::LogRecord;
+use shore_types::Fault;
+
+impl<V: Disk> Core<PlainTail, V> {
+    ghost use Rattle.shore_core.specs.Cores.{IsIn, durable_of, first_of, geometry_of, has_failed, heap_of, waiting_of};
+
+    /// The records that wait in the log buffer.
+    pub fn waiting(&self) -> &[LogRecord]
+        ensures { result.now ≡ waiting_of self.now }
+    {
+        self.tail.waiting()
+    }
+
+    /// Hands the records that wait in the log buffer over to the log device. `Memory` if an allocation failed: they stay.
+    pub fn hand_over<D: Disk>(&mut self, log: &mut LogDev<D>) -> Result<(), Fault>
+        requires { first_of self.old ≡ 1 + length (records_of_log log.old) }
+        ensures state { (front : List ℕ) (disk : ℕ → List ℕ) (s : State) → IsIn front disk (records_of_log log.old) self.old s
+            → IsIn front disk (records_of_log log.new) self.new s }
+        ensures heap { heap_of self.new ≡ heap_of self.old }
+        ensures geometry { geometry_of self.new ≡ geometry_of self.old }
+        ensures durable { durable_of self.new ≡ durable_of self.old }
+        ensures running { has_failed self.new ≡ has_failed self.old }
+        ensures list { records_of_log log.new ++ waiting_of self.new ≡ records_of_log log.old ++ waiting_of self.old }
+        ensures emptied { OnOk result (waiting_of self.new ≡ []) }
+        ensures numbers { first_of self.new ≡ 1 + length (records_of_log log.new) }
+        ensures only_memory { IfErr result (λ fault. fault ≡ Fault.Memory) }
+        ensures still { (log.new.device ≡ log.old.device) × (log.new.staged ≡ log.old.staged) × (stable log.new ≡ stable log.old) }
+        ensures settled { (front : List ℕ) → IsSettled log.old front → IsSettled log.new front }
+    {
+        log.take_in(&mut self.tail)
+    }
+
+    /// The volume's device, as it is. What was changed in memory is forgotten.
+    pub fn into_volume(self) -> PageDev<V>
+        ensures { result ≡ heaps.device_of (heap_of self) }
+    {
+        self.heap.into_device()
+    }
+}

@@ -1,8 +1,0 @@
-pub mod Bookkeeping
-pub mod FirstLogs
-pub mod Pages
-pub mod Runs
-pub mod Served
-pub mod States
-pub mod Steps
-pub mod Trails

@@ -1,0 +1,13 @@
+use Rattle.std.proofs.Common.{true, false, sym, ◌∙◌}
+use Rattle.shore_log.specs.Settled.{records_of_log}
+use Rattle.shore_world.proofs.world.World.refuse.Goals.{in-Device, in_default, then-matches, else-matches}
+use Rattle.shore_world.proofs.world.World.refuse.Goals as goal
+
+pub returns-clause-state : goal.returns-clause-state
+returns-clause-state g c device front disk s is safe = elim c.match-matches.branch [
+  | in-Device w ↦ elim c.if-matches.branch [
+    | then-matches v ↦ rw v.self-is (v.fail.ensures.failed front disk (records_of_log c.args.self.now.log) s is safe)
+    | else-matches v ↦ absurd (let clash = sym w.matches-is ∙ v.if-matches.false in cc)
+  ]
+  | in_default w ↦ absurd (w.in_default.not-Device device)
+]
