@@ -22,11 +22,11 @@ ghost use Rattle.shore_calls.specs.States.{State};
 ghost use Rattle.shore_core.specs.Parts.{IsOfOneSession};
 
 use crate::images::{bytes_of, copied, copy_of, len_of};
+use shore_calls::{Step, Wait};
 use shore_disk::Disk;
 use shore_heap::Heap;
 use shore_log::{Durable, LogDev, PlainTail, Tail};
 use shore_logrec::{LogRecord, Payload, change_cost, compensation_cost};
-use shore_calls::{Step, Wait};
 use shore_model::{Answer, Call};
 use shore_txn::{TxnTable, UndoEntry};
 use shore_types::layout::{ENDING_COST, LAST_LSN, LAST_TXN, MAX_RECORD_BYTES, MAX_SLOTS};

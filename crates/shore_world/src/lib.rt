@@ -8,6 +8,6 @@ mod opening;
 mod world;
 
 pub use event::Event;
-pub use shore_format::{format, volume_bytes};
 pub use shore_core::{Step, Wait};
+pub use shore_format::{format, volume_bytes};
 pub use world::World;

@@ -23,11 +23,11 @@ ghost use Rattle.shore_types.specs.Layout.{IsInLimits};
 ghost use Rattle.shore_types.specs.declared.faults.Device.TheVariants as Device;
 ghost use Rattle.shore_world.specs.OpenedVolumes.{fault_of_volume, volume_of};
 
+use shore_core::OpenError;
 use shore_disk::Disk;
 use shore_dwrite::PageDev;
 use shore_heap::Heap;
 use shore_log::{LogDev, damaged};
-use shore_core::OpenError;
 use shore_types::{Fault, Geometry};
 use std::alloc::Global;
 

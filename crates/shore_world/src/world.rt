@@ -28,10 +28,10 @@ ghost use Rattle.shore_world.specs.Events.{IsServedEvent};
 
 use crate::Event;
 use crate::opening::{fault_of, open_volume};
+use shore_core::{Core, Step};
 use shore_disk::{Disk, FuseDisk, MemDisk, Pick};
 use shore_format::{Fronts, read_fronts};
 use shore_log::{LogDev, LogRecord, PlainTail};
-use shore_core::{Core, Step};
 use shore_model::Answer;
 use shore_types::{Bytes, Fault, Geometry, Lsn, Rid, Sequence, StoreId};
 use std::alloc::Global;
