@@ -1,4 +1,4 @@
-//! Every list of up to four events, with a volume that fails, with a fuse at each call of the log device, and with each pick of a crash:
+//! Every list of up to three events, with a volume that fails, with a fuse at each call of the log device, and with each pick of a crash:
 //! of a manager of a formatted pair, of one that has begun on a committed record, and of one with a commit of changes under way. In each
 //! case the manager that opens after the crash then commits a record, and is crashed too. The numbers of cases were counted apart, from
 //! the calls that each event makes.
@@ -54,13 +54,13 @@ fn check_start(
 #[test]
 fn on_an_empty_log(rt: HostRuntime) -> Result<(), Fail> {
     let start = on_none(rt.alloc())?;
-    check_start(&rt, start, "on an empty log", (7_381, 66_837))
+    check_start(&rt, start, "on an empty log", (820, 7_392))
 }
 
 #[test]
 fn in_a_transaction(rt: HostRuntime) -> Result<(), Fail> {
     let start = on_a_record(rt.alloc(), &[Doing::Begin])?;
-    check_start(&rt, start, "in a transaction", (7_381, 75_573))
+    check_start(&rt, start, "in a transaction", (820, 7_956))
 }
 
 #[test]
@@ -73,5 +73,5 @@ fn with_a_commit_under_way(rt: HostRuntime) -> Result<(), Fail> {
         Doing::Commit,
     ];
     let start = on_a_record(rt.alloc(), before)?;
-    check_start(&rt, start, "with a commit under way", (7_381, 85_287))
+    check_start(&rt, start, "with a commit under way", (820, 8_946))
 }

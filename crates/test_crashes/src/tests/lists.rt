@@ -10,7 +10,7 @@ use std::test::Fail;
 const PICKS: [Pick; 3] = [Pick::Old, Pick::New, Pick::Noise];
 
 // How many lists there are of no event, of one, and so on.
-const LISTS_BY_LENGTH: [(u32, u32); 5] = [(0, 1), (1, 9), (2, 81), (3, 729), (4, 6561)];
+const LISTS_BY_LENGTH: [(u32, u32); 4] = [(0, 1), (1, 9), (2, 81), (3, 729)];
 
 /// How much was run: lists of events, and for each of them a case for each fuse and pick.
 #[derive(Drop)]
@@ -19,7 +19,7 @@ pub(super) struct Counts {
     pub(super) cases: u64,
 }
 
-/// Every list of up to four events, with each fuse and each pick. The volume goes from one manager to the next.
+/// Every list of up to three events, with each fuse and each pick. The volume goes from one manager to the next.
 pub(super) fn check_lists(alloc: Global, start: &Start, volume: MemDisk) -> Result<Counts, Fail> {
     let Life {
         calls_left,
