@@ -392,25 +392,18 @@ impl<T: Tail, V: Disk> Core<T, V> {
         ensures first { first_of self.new ≡ first_of self.old }
         ensures cause { HasCause (fault_at result) (faults_of self.old) (faults_of self.new) }
     {
-        let Some(number) = self.txns.waits(session) else {
+        let Some(_) = self.txns.waits(session) else {
             return Step::Nothing;
         };
         if self.failed {
             self.txns.end_wait();
             return Step::Refused(Fault::Failed);
         }
-        if !self.is_durable(number) {
+        if let Some(number) = self.txns.still_waits(session, self.durable) {
             return Step::Waits(Wait::Durable(number));
         }
         self.txns.end_wait();
         Step::Done(Answer::Committed)
-    }
-
-    // Whether the force of a record was told.
-    fn is_durable(&self, number: Lsn) -> bool
-        ensures { IsTrue result ↔ (number ≤ durable_of self.now) }
-    {
-        number <= self.durable
     }
 
     /// The log device has forced its records up to this number.

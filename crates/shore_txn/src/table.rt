@@ -79,6 +79,18 @@ impl TxnTable {
         }
     }
 
+    /// The number of the Commit record whose force a session's call still waits for: one above the durable number.
+    pub fn still_waits(&self, session: SessionId, durable: Lsn) -> Option<Lsn>
+        ensures some { IfSome result (λ n. IsSomeAnd (committing_in self.now) (λ c. (c.session ≡ session) × (c.number ≡ n)) × (durable < n)) }
+        ensures none { IfNone result (ForSome (committing_in self.now) (λ c. c.session ≡ session → c.number ≤ durable)) }
+    {
+        let number = self.waits(session)?;
+        if number <= durable {
+            return None;
+        }
+        Some(number)
+    }
+
     /// The number of the next transaction.
     pub fn next(&self) -> u64
         ensures { result ≡ next_in self.now }

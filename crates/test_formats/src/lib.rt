@@ -1,5 +1,5 @@
-//! The bytes of each format, worked by hand: gates, labels and anchors, log records, pages, and a log device after a force. Tests
-//! alone, in a crate beside the chain, so that nothing waits for them.
+//! The bytes of each format, worked by hand: gates, labels and anchors, log records, pages, a log device after a force, and batches of
+//! pages on a volume, crashed at each device call. Tests alone, in a crate beside the chain, so that nothing waits for them.
 #![tactic(auto)]
 
 #[cfg(test)]

@@ -1,7 +1,13 @@
 mod anchors;
+mod areas;
+mod batches;
+mod calls;
+mod crashes;
 mod files;
 mod gates;
 mod labels;
-mod page_runs;
+mod noting;
 mod pages;
 mod records;
+mod trouble;
+mod volumes;

@@ -56,19 +56,20 @@ returns-then-self-clause-step g c front disk before s is safe =
       history = refl;
     }
 
-pub returns-then-not-is_durable-clause-step : goal.returns-then-not-is_durable-clause-step
-returns-then-not-is_durable-clause-step g c front disk before s is safe =
+pub returns-in-Some-still_waits-clause-step : goal.returns-in-Some-still_waits-clause-step
+returns-in-Some-still_waits-clause-step g c front disk before s is safe =
     let old = c.args.self.now in
-    let w = some_and _ (committing_in old.txns) c.in-Some.ensures.some in
+    let w = some_and _ (committing_in old.txns) c.in-Some-still_waits.ensures.some.0 in
     let waits = is.parts.txns.waiting ∙ ap waiting_for w.1 ∙ ap (λ n. commit_waiting n w.0.number ∷ []) w.2.0 ∙ ap (λ n. commit_waiting c.args.session n ∷ []) w.2.1 in
+    let n = c.in-Some-still_waits.number in
     record {
       later = s;
       moves = (
         is.parts.failed_is ∙ c.if-self.false,
-        (c.in-Some.number, subst (IsAmong (commit_waiting c.args.session c.in-Some.number)) (sym waits) (inl refl), omega (arith, is.parts.durable_is, above old.durable c.in-Some.number (λ le. true_false (sym (c.is_durable.ensures.1 le) ∙ c.if-not-is_durable.true))), refl),
+        (n, subst (IsAmong (commit_waiting c.args.session n)) (sym waits) (inl refl), omega (arith, is.parts.durable_is, c.in-Some-still_waits.ensures.some.1), refl),
         refl,
       );
-      is_in = is;
+      is_in = record { first = is.first; pages = is.pages; parts = is.parts };
       history = refl;
     }
 
@@ -93,7 +94,8 @@ returns-clause-step g c front disk before s is safe =
     let ended = c.end_wait-2.ensures in
     let w = some_and _ (committing_in old.txns) c.in-Some.ensures.some in
     let works = is.parts.failed_is ∙ c.if-self.false in
-    let waits = is.parts.txns.waiting ∙ ap waiting_for w.1 ∙ ap (λ n. commit_waiting n w.0.number ∷ []) w.2.0 ∙ ap (λ n. commit_waiting c.args.session n ∷ []) w.2.1 in
+    let waits = is.parts.txns.waiting ∙ ap waiting_for w.1 ∙ ap (λ n. commit_waiting n w.0.number ∷ []) w.2.0 in
+    let told = c.in_default-still_waits.ensures.none w.0 w.1 w.2.0 in
     let own = subst (λ o. AreCommitting o s.sessions.committing) w.1 (is.parts.txns.committing works) in
     let a : SessionTxn = record { session = w.0.session; txn = w.0.txn; undo = own.0 } in
     let among = subst (IsAmong a) (sym own.1) (inl refl) in
@@ -101,7 +103,7 @@ returns-clause-step g c front disk before s is safe =
       later = commit_told s a;
       moves = (
         works,
-        (c.in-Some.number, subst (IsAmong (commit_waiting c.args.session c.in-Some.number)) (sym waits) (inl refl), omega (arith, is.parts.durable_is, c.is_durable.ensures.0 c.if-not-is_durable.false)),
+        (w.0.number, subst (IsAmong (commit_waiting c.args.session w.0.number)) (sym waits) (inl refl), omega (arith, is.parts.durable_is, told)),
         refl,
         (a, among, w.2.0, refl),
       );

@@ -1,0 +1,8 @@
+use Rattle.std.proofs.Common.{◌≡◌}
+use Rattle.shore_dwrite.specs.Settled.{geometry_of}
+use Rattle.test_formats.proofs.tests.volumes.shows.Given as goal
+
+abbrev pub invariant-loop-page : goal.invariant-loop-page
+invariant-loop-page g l = record {
+  same : geometry_of l.dev ≡ geometry_of l.initial.dev;
+}
