@@ -401,6 +401,7 @@ impl<T: Tail, V: Disk> Core<T, V> {
     pub fn resume(&mut self, session: SessionId) -> Step
         // A commit is answered only if the force of its record was told.
         ensures step { InEach (Resumed session result self.old self.new) self.old }
+        ensures refused { IfErr (fault_at result) (λ f. f ≡ Fault.Failed) }
         ensures heap { heap_of self.new ≡ heap_of self.old }
         ensures durable { durable_of self.new ≡ durable_of self.old }
         ensures first { first_of self.new ≡ first_of self.old }
