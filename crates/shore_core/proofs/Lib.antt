@@ -6,6 +6,7 @@ pub mod Refusing
 pub mod Releasing
 pub mod Inserting
 pub mod Serving
+pub mod Earning
 pub mod Pairs
 pub mod CommittedRecords
 pub mod Laying

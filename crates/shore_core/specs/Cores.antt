@@ -1,5 +1,5 @@
 -- What a core has, and the state that it is in.
-use Rattle.std.specs.Prelude.{◌≡◌, ◌+◌, ℕ, List, Bool, length}
+use Rattle.std.specs.Prelude.{◌≡◌, ◌+◌, ◌-◌, ℕ, List, Bool, length}
 use Rattle.shore_disk.specs.Device.{History}
 use Rattle.shore_disk.specs.declared.device.Disk as disk
 use Rattle.shore_log.specs.declared.tail.Tail as tail
@@ -35,6 +35,10 @@ module _ {T V : Type 0} {G : tail.Ghosts T} {H : disk.Ghosts V} where
   -- the number of the first of them
   abbrev pub first_of : Core T V G H → ℕ
   first_of core = G.first core.tail
+
+  -- the number of the log's last record
+  abbrev pub last_of : Core T V G H → ℕ
+  last_of core = first_of core + length (waiting_of core) - 1
 
   abbrev pub heap_of : Core T V G H → Heap V H
   heap_of core = core.heap

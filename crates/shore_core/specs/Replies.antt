@@ -1,11 +1,19 @@
 -- What a call comes to behind the refusals that stand before every call.
-use Rattle.std.specs.Prelude.{◌≡◌, ◌≢◌, ◌⊎◌, ℕ, List, Result, Ok, Err, false}
+use Rattle.std.specs.Prelude.{◌≡◌, ◌≢◌, ◌⊎◌, ℕ, List, Result, Ok, Err, IfErr, false}
 use Rattle.std.specs.Option.{ForSome}
 use Rattle.shore_txn.specs.Tables.{committing_in}
 use Rattle.shore_disk.specs.declared.device.Disk as disk
 use Rattle.shore_log.specs.declared.tail.Tail as tail
+use Rattle.shore_dwrite.specs.Volumes.{HasNoPage, page_number, page_offset}
+use Rattle.shore_pool.specs.Pools.{Holds}
+use Rattle.shore_heap.specs.Heaps.{pool_of}
+use Rattle.shore_types.specs.Layout.{HasPage}
+use Rattle.shore_types.specs.declared.faults.Device.{Device}
+use Rattle.shore_types.specs.declared.faults.Device.TheVariants.{Volume}
 use Rattle.shore_types.specs.declared.faults.Fault.{Fault}
+use Rattle.shore_types.specs.declared.faults.Fault.TheVariants as fault
 use Rattle.shore_types.specs.declared.faults.Fault.TheVariants.{LogFull, Memory}
+use Rattle.shore_types.specs.declared.ids.PageId.{PageId}
 use Rattle.shore_types.specs.declared.layout.Geometry.{Geometry}
 use Rattle.shore_model.specs.declared.calls.Call.{Call}
 use Rattle.shore_model.specs.declared.calls.Call.TheVariants as call
@@ -22,7 +30,40 @@ use Rattle.shore_room.specs.Claims.{SlotCounts}
 use Rattle.shore_core.specs.Parts.{changed}
 use Rattle.shore_calls.specs.States.{IsOfSession, State, next_number}
 use Rattle.shore_core.specs.declared.core_calls.Core.{Core}
-use Rattle.shore_core.specs.Cores.{IsIn, IsSafe, durable_of, first_of, geometry_of, has_failed, history_of, tail_of, txns_of}
+use Rattle.shore_core.specs.Cores.{IsIn, IsSafe, durable_of, first_of, geometry_of, has_failed, heap_of, history_of, last_of, tail_of, txns_of}
+
+-- ---- faults of the volume
+
+-- a fault after which every call is refused
+abbrev pub Fails : Fault → Type 0
+Fails f = (f ≡ fault.Device) ⊎ ((device : Device) × (offset : ℕ) × (f ≡ fault.Damaged device offset))
+
+-- A fault that says that a device is damaged names the volume, at the offset of one of the pages that had to be read: what stands there is no
+-- text of that page with a number up to the last.
+abbrev pub IsEarned : Geometry → (ℕ → List ℕ) → ℕ → (PageId → Type 0) → Fault → Type 0
+IsEarned g disk last IsRead f = (device : Device) (offset : ℕ) → f ≡ fault.Damaged device offset → (device ≡ Volume)
+    × ((id : PageId) × IsRead id × HasPage g id × (offset ≡ page_offset (page_number g id)) × HasNoPage (disk (page_number g id)) id last)
+
+-- the pages that a call may read: that of its record, or those of its store
+abbrev pub Reads : Call → PageId → Type 0
+Reads (call.Get id) page = page ≡ id.page
+Reads (call.Insert store bytes) page = page.store ≡ store
+Reads (call.Update id bytes) page = page ≡ id.page
+Reads (call.Delete id) page = page ≡ id.page
+Reads (call.Scan store) page = page.store ≡ store
+Reads call.Begin page = ⊥
+Reads (call.GetForUpdate id) page = ⊥
+Reads (call.Lock granule mode) page = ⊥
+Reads (call.TryLock granule mode) page = ⊥
+Reads call.Savepoint page = ⊥
+Reads (call.BackTo index) page = ⊥
+Reads call.Commit page = ⊥
+Reads call.Abort page = ⊥
+Reads (call.Prepare global) page = ⊥
+Reads (call.Resolve global outcome) page = ⊥
+Reads call.InDoubt page = ⊥
+
+-- ---- replies
 
 -- a refusal leaves the state as it was: that a device has failed is noted behind it
 abbrev pub Replies : Geometry → State → ℕ → Call → Result Step Fault → State → Type 0
@@ -79,6 +120,10 @@ module _ {T V : Type 0} {G : tail.Ghosts T} {H : disk.Ghosts V} where
   pub record IsReady (core : Core T V G H) (session : ℕ) : Type 0 where
     pub running : has_failed core ≡ false
     pub free : ForSome (committing_in (txns_of core)) (λ c. c.session ≢ session)
+
+  -- over a volume that holds whatever texts of its pages, an answer by `Damaged` is earned by one of these pages
+  abbrev pub Earns : {A : Type 0} → Core T V G H → (PageId → Type 0) → Result A Fault → Type 0
+  Earns core IsRead r = (front : List ℕ) (disk : ℕ → List ℕ) → Holds (pool_of (heap_of core)) front disk → IfErr r (IsEarned (geometry_of core) disk (last_of core) IsRead)
 
   -- in each safe state
   abbrev pub InEach : ((front : List ℕ) (disk : ℕ → List ℕ) (before : List LogRecord) (s : State) → Type 0) → Core T V G H → Type 0

@@ -50,7 +50,7 @@ pub struct Core<T: Tail, V: Disk> {
 
 impl<T: Tail, V: Disk> Core<T, V> {
     ghost use Rattle.shore_core.specs.Cores.{IsIn, durable_of, faults_of, first_of, geometry_of, has_failed, heap_of, history_of, tail_of, txns_of, waiting_of};
-    ghost use Rattle.shore_core.specs.Replies.{Changes, InEach, IsReady, Keeps, OnlyReads, Replied, Resumed, Stays, Stepped, fault_at};
+    ghost use Rattle.shore_core.specs.Replies.{Changes, Earns, InEach, IsReady, Keeps, OnlyReads, Reads, Replied, Resumed, Stays, Stepped, fault_at};
 
     /// A call of a session. Refused in this order: `Failed` after a failure of a device or a damaged page, `Busy` while the session's earlier
     /// call waits, `AlreadyActive` or `NoTransaction`, and then as the call says; `Memory` if an allocation failed. A refused call has
@@ -60,6 +60,9 @@ impl<T: Tail, V: Disk> Core<T, V> {
 
         // It is a step of the manager over plain data, in whatever state it was.
         ensures step { InEach (Stepped session call result self.old self.new) self.old }
+
+        // `Damaged` names the page that could not be read, of those that the call may read.
+        ensures damaged { Earns self.old (Reads call) (fault_at result) }
         ensures durable { durable_of self.new ≡ durable_of self.old }
         ensures geometry { geometry_of self.new ≡ geometry_of self.old }
         ensures first { first_of self.new ≡ first_of self.old }
@@ -95,6 +98,7 @@ impl<T: Tail, V: Disk> Core<T, V> {
         requires { IsServed session call }
         ensures replied { IsReady self.old session → InEach (Replied session call result self.old self.new) self.old }
         ensures keeps { Keeps self.old self.new }
+        ensures damaged { Earns self.old (Reads call) result }
         ensures plain { IfOk result (λ step. fault_at step ≡ Ok tt) }
         ensures cause { HasCause result (faults_of self.old) (faults_of self.new) }
     {
@@ -122,6 +126,7 @@ impl<T: Tail, V: Disk> Core<T, V> {
         requires { session ≡ 1 }
         ensures replied { IsReady self.old session → InEach (Replied session Call.Begin result self.old self.new) self.old }
         ensures keeps { Keeps self.old self.new }
+        ensures damaged { Earns self.old (Reads Call.Begin) result }
         ensures plain { IfOk result (λ step. fault_at step ≡ Ok tt) }
         ensures heap { heap_of self.new ≡ heap_of self.old }
         ensures cause { HasCause result (faults_of self.old) (faults_of self.new) }
@@ -139,6 +144,7 @@ impl<T: Tail, V: Disk> Core<T, V> {
     fn get(&mut self, alloc: Global, session: SessionId, id: Rid) -> Result<Step, Fault>
         ensures replied { IsReady self.old session → InEach (Replied session (Call.Get id) result self.old self.new) self.old }
         ensures keeps { Keeps self.old self.new }
+        ensures damaged { Earns self.old (Reads (Call.Get id)) result }
         ensures plain { IfOk result (λ step. fault_at step ≡ Ok tt) }
         ensures cause { HasCause result (faults_of self.old) (faults_of self.new) }
     {
@@ -153,6 +159,7 @@ impl<T: Tail, V: Disk> Core<T, V> {
     fn reach(&mut self, alloc: Global, session: SessionId, id: Rid) -> Result<(), Fault>
         ensures reached { OnOk result (HasSlot (geometry_of self.old) id × IsTrue (is_some (frame_of (heap_of self.new) id.page))) }
         ensures txn { OnOk result (IsSomeAnd (active_in (txns_of self.old)) (λ t. t.session ≡ session)) }
+        ensures damaged { Earns self.old (λ page. page ≡ id.page) result }
         ensures refused { IsReady self.old session → InEach (λ front disk before s. IfErr result (λ f. (f ≡ Fault.Memory) ⊎ RecordRefusal (geometry_of self.old) s session id f)) self.old }
         ensures stays { InEach (Stays self.old self.new) self.old }
         ensures reads { OnlyReads self.old self.new }
@@ -189,6 +196,7 @@ impl<T: Tail, V: Disk> Core<T, V> {
         requires { HasPage (geometry_of self.old) page }
         ensures there { OnOk result (IsTrue (is_some (frame_of (heap_of self.new) page))) }
         ensures refused { InEach (λ front disk before s. IfErr result (λ f. (f ≡ Fault.Memory) ⊎ IsPageFault f)) self.old }
+        ensures damaged { Earns self.old (λ id. id ≡ page) result }
         ensures stays { InEach (Stays self.old self.new) self.old }
         ensures reads { OnlyReads self.old self.new }
         ensures cause { HasCause result (faults_of self.old) (faults_of self.new) }
@@ -206,6 +214,7 @@ impl<T: Tail, V: Disk> Core<T, V> {
     ) -> Result<Step, Fault>
         ensures replied { IsReady self.old session → InEach (Replied session (Call.Insert store bytes) result self.old self.new) self.old }
         ensures keeps { Keeps self.old self.new }
+        ensures damaged { Earns self.old (Reads (Call.Insert store bytes)) result }
         ensures plain { IfOk result (λ step. fault_at step ≡ Ok tt) }
         ensures cause { HasCause result (faults_of self.old) (faults_of self.new) }
     {
@@ -240,6 +249,7 @@ impl<T: Tail, V: Disk> Core<T, V> {
     ) -> Result<Step, Fault>
         ensures replied { IsReady self.old session → InEach (Replied session (Call.Update id bytes) result self.old self.new) self.old }
         ensures keeps { Keeps self.old self.new }
+        ensures damaged { Earns self.old (Reads (Call.Update id bytes)) result }
         ensures plain { IfOk result (λ step. fault_at step ≡ Ok tt) }
         ensures cause { HasCause result (faults_of self.old) (faults_of self.new) }
     {
@@ -261,6 +271,7 @@ impl<T: Tail, V: Disk> Core<T, V> {
     fn delete(&mut self, alloc: Global, session: SessionId, id: Rid) -> Result<Step, Fault>
         ensures replied { IsReady self.old session → InEach (Replied session (Call.Delete id) result self.old self.new) self.old }
         ensures keeps { Keeps self.old self.new }
+        ensures damaged { Earns self.old (Reads (Call.Delete id)) result }
         ensures plain { IfOk result (λ step. fault_at step ≡ Ok tt) }
         ensures cause { HasCause result (faults_of self.old) (faults_of self.new) }
     {
@@ -274,6 +285,7 @@ impl<T: Tail, V: Disk> Core<T, V> {
         ensures reached { OnOk result (HasSlot (geometry_of self.old) id) }
         ensures framed { IfOk result (λ bytes. IsSomeAnd (frame_of (heap_of self.new) id.page) (λ f. image_at_slot f.page.slots id.slot ≡ Some bytes)) }
         ensures short { IfOk result (λ bytes. length bytes ≤ MAX_RECORD_BYTES) }
+        ensures damaged { Earns self.old (λ page. page ≡ id.page) result }
         ensures txn { OnOk result (IsSomeAnd (active_in (txns_of self.old)) (λ t. t.session ≡ session)) }
         ensures found { InEach (λ front disk before s. IfOk result (λ bytes. get s.sessions.records id ≡ Some bytes)) self.old }
         ensures refused { IsReady self.old session → InEach (λ front disk before s. IfErr result (λ f. (f ≡ Fault.Memory) ⊎ RecordRefusal (geometry_of self.old) s session id f)) self.old }
@@ -341,6 +353,7 @@ impl<T: Tail, V: Disk> Core<T, V> {
     fn scan(&mut self, alloc: Global, session: SessionId, store: StoreId) -> Result<Step, Fault>
         ensures replied { IsReady self.old session → InEach (Replied session (Call.Scan store) result self.old self.new) self.old }
         ensures keeps { Keeps self.old self.new }
+        ensures damaged { Earns self.old (Reads (Call.Scan store)) result }
         ensures plain { IfOk result (λ step. fault_at step ≡ Ok tt) }
         ensures cause { HasCause result (faults_of self.old) (faults_of self.new) }
     {
@@ -359,6 +372,7 @@ impl<T: Tail, V: Disk> Core<T, V> {
     fn commit(&mut self, alloc: Global, session: SessionId) -> Result<Step, Fault>
         ensures replied { IsReady self.old session → InEach (Replied session Call.Commit result self.old self.new) self.old }
         ensures keeps { Keeps self.old self.new }
+        ensures damaged { Earns self.old (Reads Call.Commit) result }
         ensures plain { IfOk result (λ step. fault_at step ≡ Ok tt) }
         ensures faults { faults_of self.new ≡ faults_of self.old }
         ensures cause { HasCause result (faults_of self.old) (faults_of self.new) }
@@ -387,6 +401,7 @@ impl<T: Tail, V: Disk> Core<T, V> {
     pub fn resume(&mut self, session: SessionId) -> Step
         // A commit is answered only if the force of its record was told.
         ensures step { InEach (Resumed session result self.old self.new) self.old }
+        ensures refused { IfErr (fault_at result) (λ f. f ≡ Fault.Failed) }
         ensures heap { heap_of self.new ≡ heap_of self.old }
         ensures durable { durable_of self.new ≡ durable_of self.old }
         ensures first { first_of self.new ≡ first_of self.old }

@@ -8,6 +8,7 @@ ghost use Rattle.shore_page.specs.Room.{Fits, claim_at, lowered};
 ghost use Rattle.shore_page.specs.Slots.{Slot, image_at_slot, image_len, settled, with_change, with_image};
 ghost use Rattle.shore_page.specs.Text.{IsPageText};
 ghost use Rattle.shore_pool.specs.Pools as pools;
+ghost use Rattle.shore_pool.specs.Pools.{Holds};
 ghost use Rattle.shore_types.specs.Images.{Image};
 ghost use Rattle.shore_types.specs.Layout.{HasPage, HasStore};
 ghost use Rattle.shore_types.specs.declared.faults.Device.TheVariants as Device;
@@ -82,7 +83,7 @@ impl<D: Disk> Heap<D> {
         ensures still { (front : List ℕ) (disk : ℕ → List ℕ) (S : PageId → List Slot) → Shows self.old front disk S → OnlyReads self.old self.new front disk S }
         ensures none_came { (front : List ℕ) (disk : ℕ → List ℕ) (S : PageId → List Slot) → Shows self.old front disk S
             → OnErr result ((k : ℕ) → frame_at self.new k ≡ frame_at self.old k) }
-        ensures refused { (front : List ℕ) (disk : ℕ → List ℕ) (S : PageId → List Slot) → Shows self.old front disk S → IfErr result (λ fault. (fault ≡ Fault.Device)
+        ensures refused { (front : List ℕ) (disk : ℕ → List ℕ) → Holds self.old.pool front disk → IfErr result (λ fault. (fault ≡ Fault.Device)
             ⊎ (fault ≡ Fault.Memory) ⊎ ((fault ≡ Fault.Damaged Device.Volume (page_offset (page_number (geometry_of self.old) page)))
             × HasNoPage (disk (page_number (geometry_of self.old) page)) page last)) }
         ensures bounds { bounds_of self.new ≡ bounds_of self.old }

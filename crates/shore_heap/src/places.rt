@@ -4,6 +4,7 @@ ghost use Rattle.shore_disk.specs.Cause.{HasCause};
 ghost use Rattle.shore_disk.specs.Device.{size};
 ghost use Rattle.shore_dwrite.specs.Volumes.{HasNoPage, page_number, page_offset};
 ghost use Rattle.shore_page.specs.Slots.{Slot};
+ghost use Rattle.shore_pool.specs.Pools.{Holds};
 ghost use Rattle.shore_types.specs.Layout.{HasPage, HasSlot, HasStore};
 ghost use Rattle.shore_types.specs.declared.faults.Device.TheVariants as Device;
 ghost use Rattle.shore_types.specs.declared.faults.Fault.TheVariants as Fault;
@@ -40,7 +41,7 @@ impl<D: Disk> Heap<D> {
         ensures held { IfOk result (λ found. IfSome found (λ id. IsTrue (is_some (frame_of self.new id.page)))) }
         ensures framed { IfOk result (λ found. IfSome found (λ id. IsSomeAnd (frame_of self.new id.page) (λ f. IsFree f.page.slots bytes id.slot))) }
         ensures still { (front : List ℕ) (disk : ℕ → List ℕ) (S : PageId → List Slot) → Shows self.old front disk S → OnlyReads self.old self.new front disk S }
-        ensures refused { (front : List ℕ) (disk : ℕ → List ℕ) (S : PageId → List Slot) → Shows self.old front disk S
+        ensures refused { (front : List ℕ) (disk : ℕ → List ℕ) → Holds self.old.pool front disk
             → IfErr result (IsRefused (geometry_of self.old) disk store last) }
         ensures untouched { KeepsVolume self.old self.new }
         ensures honest { honesty_of self.new ≡ honesty_of self.old }
@@ -97,7 +98,7 @@ impl<D: Disk> Heap<D> {
         ensures held { IfOk result (λ found. IsTrue (is_some (frame_of self.new id))) }
         ensures framed { IfOk result (λ found. IfSome found (λ slot. IsSomeAnd (frame_of self.new id) (λ f. IsFree f.page.slots bytes slot))) }
         ensures still { (front : List ℕ) (disk : ℕ → List ℕ) (S : PageId → List Slot) → Shows self.old front disk S → OnlyReads self.old self.new front disk S }
-        ensures refused { (front : List ℕ) (disk : ℕ → List ℕ) (S : PageId → List Slot) → Shows self.old front disk S → IfErr result (λ fault. (fault ≡ Fault.Device)
+        ensures refused { (front : List ℕ) (disk : ℕ → List ℕ) → Holds self.old.pool front disk → IfErr result (λ fault. (fault ≡ Fault.Device)
             ⊎ (fault ≡ Fault.Memory) ⊎ ((fault ≡ Fault.Damaged Device.Volume (page_offset (page_number (geometry_of self.old) id)))
             × HasNoPage (disk (page_number (geometry_of self.old) id)) id last)) }
         ensures untouched { KeepsVolume self.old self.new }

@@ -3,6 +3,7 @@ ghost use Rattle.std.specs.Prelude.{◌≡◌, ◌++◌, ◌+◌, ◌∷◌, [],
 ghost use Rattle.shore_disk.specs.Cause.{HasCause};
 ghost use Rattle.shore_disk.specs.Device.{size};
 ghost use Rattle.shore_page.specs.Slots.{Slot};
+ghost use Rattle.shore_pool.specs.Pools.{Holds};
 ghost use Rattle.shore_types.specs.Layout.{HasPage, HasStore};
 ghost use Rattle.shore_types.specs.declared.ids.PageId.{PageId};
 ghost use Rattle.shore_heap.specs.Places.{IsRefused};
@@ -29,7 +30,7 @@ impl<D: Disk> Heap<D> {
         ensures scanned { (front : List ℕ) (disk : ℕ → List ℕ) (S : PageId → List Slot) → Shows self.old front disk S
             → IfOk result (IsScan S (geometry_of self.old) store) }
         ensures still { (front : List ℕ) (disk : ℕ → List ℕ) (S : PageId → List Slot) → Shows self.old front disk S → OnlyReads self.old self.new front disk S }
-        ensures refused { (front : List ℕ) (disk : ℕ → List ℕ) (S : PageId → List Slot) → Shows self.old front disk S
+        ensures refused { (front : List ℕ) (disk : ℕ → List ℕ) → Holds self.old.pool front disk
             → IfErr result (IsRefused (geometry_of self.old) disk store last) }
         ensures untouched { KeepsVolume self.old self.new }
         ensures honest { honesty_of self.new ≡ honesty_of self.old }
@@ -56,7 +57,7 @@ impl<D: Disk> Heap<D> {
         ensures scanned { (front : List ℕ) (disk : ℕ → List ℕ) (S : PageId → List Slot) → Shows self.old front disk S
             → OnOk result (IsScan S (geometry_of self.old) store list.new.items) }
         ensures still { (front : List ℕ) (disk : ℕ → List ℕ) (S : PageId → List Slot) → Shows self.old front disk S → OnlyReads self.old self.new front disk S }
-        ensures refused { (front : List ℕ) (disk : ℕ → List ℕ) (S : PageId → List Slot) → Shows self.old front disk S
+        ensures refused { (front : List ℕ) (disk : ℕ → List ℕ) → Holds self.old.pool front disk
             → IfErr result (IsRefused (geometry_of self.old) disk store last) }
         ensures untouched { KeepsVolume self.old self.new }
         ensures honest { honesty_of self.new ≡ honesty_of self.old }
@@ -84,7 +85,7 @@ impl<D: Disk> Heap<D> {
         ensures scanned { (front : List ℕ) (disk : ℕ → List ℕ) (S : PageId → List Slot) → Shows self.old front disk S
             → HasBefore S id.store id.page 0 list.old.items → OnOk result (HasBefore S id.store (id.page + 1) 0 list.new.items) }
         ensures still { (front : List ℕ) (disk : ℕ → List ℕ) (S : PageId → List Slot) → Shows self.old front disk S → OnlyReads self.old self.new front disk S }
-        ensures refused { (front : List ℕ) (disk : ℕ → List ℕ) (S : PageId → List Slot) → Shows self.old front disk S
+        ensures refused { (front : List ℕ) (disk : ℕ → List ℕ) → Holds self.old.pool front disk
             → IfErr result (IsRefused (geometry_of self.old) disk id.store last) }
         ensures untouched { KeepsVolume self.old self.new }
         ensures honest { honesty_of self.new ≡ honesty_of self.old }

@@ -6,3 +6,4 @@ pub mod ReachLemmas
 pub mod ManagerLemmas
 pub mod OpenLemmas
 pub mod HoldLemmas
+pub mod DumpLemmas

@@ -23,7 +23,7 @@ use Rattle.shore_format.proofs.FrontLemmas.{front_stays}
 use Rattle.shore_world.specs.declared.event.Event.{Event}
 use Rattle.shore_world.specs.declared.world.World.{World}
 use Rattle.shore_world.specs.Events.{IsServedEvent}
-use Rattle.shore_world.specs.Managers.{AreLeft, AreManagers, AreRunsOf, IsManager, IsRunOf, Manager, NoForceIsFull, all_moves}
+use Rattle.shore_world.specs.Managers.{AreLeft, AreManagers, AreRunsOf, IsManager, IsRunOf, Manager, NoForceIsFull}
 use Rattle.shore_world.specs.Worlds.{GivesBeginning, IsInState, IsOpenedIn, SurvivesCrashes, durable_in, geometry_in, list_in, volume_history_in}
 use Rattle.shore_world.proofs.ReachLemmas.{Goes, IsReached, run_goes, run_never_full, safe_of}
 
@@ -86,13 +86,13 @@ module _ {L V : Type 0} {G : Ghosts L} {H : Ghosts V} where
       bounded = open_bounded g (size m.log - 4096) rs first opened stood.log.bounds (opened_in.stream ∙ ap (λ n. n - 4096) is.long);
     }
 
-    goes : Goes g (size m.log - 4096) rs front disk [] first (all_moves m.events m.steps) m.opened m.ended
-    goes = run_goes g (size m.log - 4096) rs front disk [] first reached m.opened here opened_in.is_in m.events m.steps m.ended
+    goes : Goes g (size m.log - 4096) rs front disk [] first m.moves m.opened m.ended
+    goes = run_goes g (size m.log - 4096) rs front disk [] first reached m.opened here opened_in.is_in m.events m.steps m.moves m.ended
         (all_served m.events is.served) is.runs
 
     never_full : NoForceIsFull m.events m.steps
     never_full = run_never_full g (size m.log - 4096) rs front disk [] first reached m.opened here opened_in.is_in
-        (take 4096 (seen m.log)) is.kept (ap (λ n. n - 4096) is.long) m.events m.steps m.ended (all_served m.events is.served) is.runs
+        (take 4096 (seen m.log)) is.kept (ap (λ n. n - 4096) is.long) m.events m.steps m.moves m.ended (all_served m.events is.served) is.runs
 
     managed : Managed g (size m.log) (size m.volume) rs m
     managed =
@@ -106,7 +106,7 @@ module _ {L V : Type 0} {G : Ghosts L} {H : Ghosts V} where
         let reached = safe_of g (size m.log - 4096) rs goes.made goes.last goes.reached in
         let safe = subst (λ (x : Geometry). IsSafe x goes.last) (sym goes.geometry) reached in
         record {
-          run = record { first = first; events = all_moves m.events m.steps; made = goes.made; last = goes.last; kept = keeps.0 };
+          run = record { first = first; events = m.moves; made = goes.made; last = goes.last; kept = keeps.0 };
           of = record { front = front; disk = disk; opened = opened_in.is_in; ended = ended; events = refl };
           is_run = (opened, goes.moves, (omega arith, within));
           list = opened_in.opened.log;

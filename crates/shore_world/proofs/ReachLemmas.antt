@@ -15,15 +15,17 @@ use Rattle.shore_calls.proofs.OneSession.{events_make}
 use Rattle.shore_calls.proofs.Steps.{events_kept}
 use Rattle.shore_calls.specs.Bounds.{IsBounded}
 use Rattle.shore_calls.specs.CallHistories.{IsRoomyState, IsStateAfter, MovesMaking, entries_of}
-use Rattle.shore_calls.specs.CallSteps.{EventsMove, ManagerEvent}
+use Rattle.shore_calls.specs.CallSteps.{Called, EventsMove, HasFailed, ManagerEvent, Resumed, with_failure}
+use Rattle.shore_calls.specs.CallSteps as calls
 use Rattle.shore_calls.specs.States.{State}
 use Rattle.shore_core.specs.Cores.{IsSafe}
 use Rattle.shore_world.specs.declared.event.Event.{Event}
 use Rattle.shore_world.specs.declared.event.Event.TheVariants.{Call, Resume, ForceStage, ForceOpen}
 use Rattle.shore_world.specs.declared.world.World.{World}
 use Rattle.shore_world.specs.Events.{IsServedEvent}
-use Rattle.shore_world.specs.Managers.{NoForceIsFull, all_moves, failure_by, moves_by}
-use Rattle.shore_world.specs.Worlds.{EventStep, ForceRefused, IsInState, IsLike, OpenRefused, Runs, Steps, SurvivesCrashes, geometry_in, stream_bytes_in, volume_history_in}
+use Rattle.shore_world.specs.EventMoves.{failure_by, moves_by}
+use Rattle.shore_world.specs.Managers.{NoForceIsFull}
+use Rattle.shore_world.specs.Worlds.{Between, EventStep, ForceRefused, HasFailedToRead, IsInState, IsLike, OpenRefused, Runs, Steps, SurvivesCrashes, geometry_in, history_in, stream_bytes_in, volume_history_in}
 
 -- ---- one event
 
@@ -102,17 +104,28 @@ module _ {L V : Type 0} {G : Ghosts L} {H : Ghosts V} (g : Geometry) (stream_byt
       is_in = like.state front disk s is_in;
       geometry = like.geometry ∙ at;
       kept = like.kept;
-      volume = like.volume;
+      volume = like.volume front disk s is_in;
     }
 
-    one_goes : (e : Event) (step : Step) (start mid : World L V G H) → IsServedEvent e → IsLike old start → Steps start e step mid
-        → Goes es s (moves_by e step) old mid
-    one_goes e step start mid served like one =
-        let here : geometry_in start ≡ g = like.geometry ∙ at in
-        let there = like.state front disk s is_in in
-        let safe = subst (λ (x : Geometry). IsSafe x s) (sym here) (safe_of g stream_bytes found es s reached) in
-        let comes = one.moves.state front disk s there safe in
-        let moved = subst (λ (x : Geometry). EventStep x s e step comes.later) here comes.moves in
+    failure_goes : (new : World L V G H) → HasFailedToRead old new → Goes es s (HasFailed ∷ []) old new
+    failure_goes new fails =
+        let made = events_make g s (HasFailed ∷ []) (with_failure s) (with_failure s, refl, refl) in
+        record {
+          last = with_failure s;
+          made = made.0;
+          moves = made.1;
+          reached = events_reach g stream_bytes found es s (HasFailed ∷ []) (with_failure s) made.0 reached made.1;
+          is_in = fails.state front disk s is_in;
+          geometry = fails.geometry ∙ at;
+          kept = fails.kept;
+          volume = fails.volume front disk s is_in;
+        }
+
+    event_goes : (e : Event) (step : Step) (mid : World L V G H) → IsServedEvent e → Steps old e step mid → Goes es s (moves_by e step) old mid
+    event_goes e step mid served one =
+        let safe = subst (λ (x : Geometry). IsSafe x s) (sym at) (safe_of g stream_bytes found es s reached) in
+        let comes = one.moves.state front disk s is_in safe in
+        let moved = subst (λ (x : Geometry). EventStep x s e step comes.later) at comes.moves in
         let made = events_make g s (moves_by e step) comes.later (one_move g s e step comes.later served moved) in
         record {
           last = comes.later;
@@ -120,9 +133,9 @@ module _ {L V : Type 0} {G : Ghosts L} {H : Ghosts V} (g : Geometry) (stream_byt
           moves = made.1;
           reached = events_reach g stream_bytes found es s (moves_by e step) comes.later made.0 reached made.1;
           is_in = comes.is_in;
-          geometry = one.moves.geometry ∙ here;
-          kept = λ log_front k. one.moves.kept front disk s there safe log_front (like.kept log_front k);
-          volume = comes.still ∙ like.volume;
+          geometry = one.moves.geometry ∙ at;
+          kept = λ log_front k. one.moves.kept front disk s is_in safe log_front k;
+          volume = comes.still;
         }
 
   goes_on : (es : List Entry) (s : State) (events later : List ManagerEvent) (old mid new : World L V G H) (one : Goes es s events old mid)
@@ -138,44 +151,62 @@ module _ {L V : Type 0} {G : Ghosts L} {H : Ghosts V} (g : Geometry) (stream_byt
     volume = two.volume ∙ one.volume;
   }
 
+  between_goes : (es : List Entry) (s : State) → IsReached g stream_bytes found es s → (old : World L V G H) → geometry_in old ≡ g → IsInState old front disk s
+      → (failures : List ManagerEvent) (new : World L V G H) → Between old failures new → Goes es s failures old new
+  between_goes es s reached old at is_in [] new like = no_event_goes es s reached old at is_in new like
+  between_goes es s reached old at is_in (HasFailed ∷ failures) new (mid, fails, rest) =
+      let one = failure_goes es s reached old at is_in mid fails in
+      goes_on es s (HasFailed ∷ []) failures old mid new one (between_goes (es ++ one.made) one.last one.reached mid one.geometry one.is_in failures new rest)
+  between_goes es s reached old at is_in (Called session call step ∷ failures) new between = absurd between
+  between_goes es s reached old at is_in (Resumed session step ∷ failures) new between = absurd between
+  between_goes es s reached old at is_in (calls.Forced n ∷ failures) new between = absurd between
+
+  -- what lies between two events makes no call of the log device
+  between_still : (failures : List ManagerEvent) (old new : World L V G H) → Between old failures new → history_in new ≡ history_in old
+  between_still [] old new like = like.history
+  between_still (HasFailed ∷ failures) old new (mid, fails, rest) = between_still failures mid new rest ∙ fails.history
+  between_still (Called session call step ∷ failures) old new between = absurd between
+  between_still (Resumed session step ∷ failures) old new between = absurd between
+  between_still (calls.Forced n ∷ failures) old new between = absurd between
+
   pub run_goes : (es : List Entry) (s : State) → IsReached g stream_bytes found es s → (old : World L V G H) → geometry_in old ≡ g
-      → IsInState old front disk s → (events : List Event) (steps : List Step) (new : World L V G H) → AllByRecursion IsServedEvent events → Runs old events steps new
-      → Goes es s (all_moves events steps) old new
-  run_goes es s reached old at is_in [] [] new served runs = no_event_goes es s reached old at is_in new runs
-  run_goes es s reached old at is_in (e ∷ events) (step ∷ steps) new served runs =
-      let one = one_goes es s reached old at is_in e step runs.0 runs.1 served.0 runs.2 runs.3 in
-      goes_on es s (moves_by e step) (all_moves events steps) old runs.1 new one
-      (run_goes (es ++ one.made) one.last one.reached runs.1 one.geometry one.is_in events steps new served.1 runs.4)
-  run_goes es s reached old at is_in [] (step ∷ steps) new served runs = absurd runs
-  run_goes es s reached old at is_in (e ∷ events) [] new served runs = absurd runs
+      → IsInState old front disk s → (events : List Event) (steps : List Step) (moves : List ManagerEvent) (new : World L V G H) → AllByRecursion IsServedEvent events
+      → Runs old events steps moves new → Goes es s moves old new
+  run_goes es s reached old at is_in [] [] moves new served runs = between_goes es s reached old at is_in moves new runs
+  run_goes es s reached old at is_in (e ∷ events) (step ∷ steps) moves new served (start, mid, failures, later, between, made, rest, is) =
+      let one = between_goes es s reached old at is_in failures start between in
+      let two = event_goes (es ++ one.made) one.last one.reached start one.geometry one.is_in e step mid served.0 made in
+      let three = run_goes ((es ++ one.made) ++ two.made) two.last two.reached mid two.geometry two.is_in events steps later new served.1 rest in
+      subst (λ (l : List ManagerEvent). Goes es s l old new) (sym is)
+      (goes_on es s failures (moves_by e step ++ later) old start new one (goes_on (es ++ one.made) one.last (moves_by e step) later start mid new two three))
+  run_goes es s reached old at is_in [] (step ∷ steps) moves new served runs = absurd runs
+  run_goes es s reached old at is_in (e ∷ events) [] moves new served runs = absurd runs
 
   -- a force has its room at each event of the run
   pub run_never_full : (es : List Entry) (s : State) → IsReached g stream_bytes found es s → (old : World L V G H) → geometry_in old ≡ g
       → IsInState old front disk s → (log_front : List ℕ) → SurvivesCrashes old log_front → stream_bytes_in old ≡ stream_bytes
-      → (events : List Event) (steps : List Step) (new : World L V G H) → AllByRecursion IsServedEvent events → Runs old events steps new
+      → (events : List Event) (steps : List Step) (moves : List ManagerEvent) (new : World L V G H) → AllByRecursion IsServedEvent events → Runs old events steps moves new
       → NoForceIsFull events steps
-  run_never_full es s reached old at is_in log_front kept long [] [] new served runs = tt
-  run_never_full es s reached old at is_in log_front kept long (e ∷ events) (step ∷ steps) new served runs =
-      let start = runs.0 in
-      let mid = runs.1 in
-      let like = runs.2 in
-      let one = one_goes es s reached old at is_in e step start mid served.0 like runs.3 in
-      let kept_start : SurvivesCrashes start log_front = like.kept log_front kept in
-      let long_start : stream_bytes_in start ≡ stream_bytes = ap (λ (h : History). size h - 4096) like.history ∙ long in
-      let no_longer = (runs.3.moves.any_moment log_front kept_start).later.1 in
+  run_never_full es s reached old at is_in log_front kept long [] [] moves new served runs = tt
+  run_never_full es s reached old at is_in log_front kept long (e ∷ events) (step ∷ steps) moves new served (start, mid, failures, later, between, made, rest, is) =
+      let one = between_goes es s reached old at is_in failures start between in
+      let two = event_goes (es ++ one.made) one.last one.reached start one.geometry one.is_in e step mid served.0 made in
+      let kept_start : SurvivesCrashes start log_front = one.kept log_front kept in
+      let long_start : stream_bytes_in start ≡ stream_bytes = ap (λ (h : History). size h - 4096) (between_still failures old start between) ∙ long in
+      let no_longer = (made.moves.any_moment log_front kept_start).later.1 in
       let long_mid : stream_bytes_in mid ≡ stream_bytes = ap (λ (h : History). size h - 4096) no_longer ∙ long_start in
-      let bounded : IsBounded g (stream_bytes_in start) s = subst (λ n. IsBounded g n s) (sym long_start) reached.bounded in (
-        λ is full. runs.3.full is full (record {
+      let bounded : IsBounded g (stream_bytes_in start) one.last = subst (λ n. IsBounded g n one.last) (sym long_start) one.reached.bounded in (
+        λ is full. made.full is full (record {
           log_front = log_front;
           kept = kept_start;
           front = front;
           disk = disk;
-          state = s;
-          is_in = like.state front disk s is_in;
-          bounded = subst (λ (x : Geometry). IsBounded x (stream_bytes_in start) s) (sym (like.geometry ∙ at)) bounded;
+          state = one.last;
+          is_in = one.is_in;
+          bounded = subst (λ (x : Geometry). IsBounded x (stream_bytes_in start) one.last) (sym one.geometry) bounded;
         }),
-        run_never_full (es ++ one.made) one.last one.reached mid one.geometry one.is_in log_front (one.kept log_front kept) long_mid events
-            steps new served.1 runs.4,
+        run_never_full ((es ++ one.made) ++ two.made) two.last two.reached mid two.geometry two.is_in log_front (two.kept log_front kept_start) long_mid events
+            steps later new served.1 rest,
       )
-  run_never_full es s reached old at is_in log_front kept long [] (step ∷ steps) new served runs = absurd runs
-  run_never_full es s reached old at is_in log_front kept long (e ∷ events) [] new served runs = absurd runs
+  run_never_full es s reached old at is_in log_front kept long [] (step ∷ steps) moves new served runs = absurd runs
+  run_never_full es s reached old at is_in log_front kept long (e ∷ events) [] moves new served runs = absurd runs

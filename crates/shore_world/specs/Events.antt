@@ -1,6 +1,8 @@
 -- The events that are served as yet.
 use Rattle.std.specs.Prelude.{◌≡◌}
+use Rattle.shore_types.specs.declared.ids.PageId.{PageId}
 use Rattle.shore_calls.specs.CallSteps.{IsServed}
+use Rattle.shore_core.specs.Replies.{Reads}
 use Rattle.shore_world.specs.declared.event.Event.{Event}
 use Rattle.shore_world.specs.declared.event.Event.TheVariants as event
 
@@ -31,3 +33,10 @@ IsOfForce (event.Call session call) = ⊥
 IsOfForce (event.Resume session) = ⊥
 IsOfForce event.ForceStage = Unit {0}
 IsOfForce event.ForceOpen = Unit {0}
+
+-- the pages of the volume that an event may read
+abbrev pub ReadBy : Event → PageId → Type 0
+ReadBy (event.Call session call) page = Reads call page
+ReadBy (event.Resume session) page = ⊥
+ReadBy event.ForceStage page = ⊥
+ReadBy event.ForceOpen page = ⊥

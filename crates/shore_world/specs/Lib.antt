@@ -1,4 +1,5 @@
 pub mod Events
+pub mod EventMoves
 pub mod Managers
 pub mod OpenedVolumes
 pub mod Worlds

@@ -1,8 +1,7 @@
 -- Managers one after another over one pair of devices: each opens what the crash before it left. Each condition is what a contract says of
 -- the call that it names.
-use Rattle.std.specs.Prelude.{◌≡◌, ◌≢◌, ◌⊎◌, ℕ, List, [], ◌∷◌, ◌++◌, All, take}
-use Rattle.shore_types.specs.declared.faults.Fault.{Fault}
-use Rattle.shore_types.specs.declared.faults.Fault.TheVariants.{Device, LogFull}
+use Rattle.std.specs.Prelude.{◌≡◌, ◌≢◌, ◌⊎◌, ℕ, List, [], ◌∷◌, All, take}
+use Rattle.shore_types.specs.declared.faults.Fault.TheVariants.{LogFull}
 use Rattle.shore_types.specs.declared.layout.Geometry.{Geometry}
 use Rattle.shore_types.specs.declared.layout.TheConstants.{LOG_FRONT_BYTES}
 use Rattle.shore_disk.specs.Device.{History, left_since, may_leave, moment, seen, size}
@@ -10,13 +9,10 @@ use Rattle.shore_disk.specs.declared.device.Disk.{Ghosts}
 use Rattle.shore_dwrite.specs.Shown.{Shows}
 use Rattle.shore_dwrite.specs.Volumes.{AreEmpty}
 use Rattle.shore_dwrite.specs.declared.places.TheConstants.{GATE_AT}
-use Rattle.shore_model.specs.declared.calls.Answer.{Answer}
-use Rattle.shore_model.specs.declared.calls.Answer.TheVariants.{Began, Got, Inserted, Updated, Deleted, Scanned, Locked, Saved, WentBack, Committed, Aborted, Prepared, Resolved, AreInDoubt, Staged, Forced, Flushed, Begun, Ended, Anchored, Moved, Cut}
 use Rattle.shore_model.specs.declared.log_records.LogRecord.{LogRecord}
 use Rattle.shore_calls.specs.declared.step.Step.{Step}
-use Rattle.shore_calls.specs.declared.step.Step.TheVariants.{Done, Waits, Refused, Nothing}
+use Rattle.shore_calls.specs.declared.step.Step.TheVariants.{Refused}
 use Rattle.shore_calls.specs.CallHistories.{Run}
-use Rattle.shore_calls.specs.CallSteps as calls
 use Rattle.shore_calls.specs.CallSteps.{ManagerEvent}
 use Rattle.shore_log.specs.Frames.{Gives}
 use Rattle.shore_world.specs.declared.event.Event.{Event}
@@ -27,56 +23,7 @@ use Rattle.shore_format.specs.Pairs.{HaveFronts}
 use Rattle.shore_format.specs.Volumes.{VolumeStandsFor}
 use Rattle.shore_world.specs.Worlds.{IsInState, IsOpenedIn, geometry_in, history_in, list_in, volume_history_in, SurvivesCrashes, Steps, Runs}
 
--- ---- an event of the world, as the manager over plain data has it
-
--- a force that the device refuses is the failure that it is told of
-abbrev pub failure_by : Fault → List ManagerEvent
-failure_by Device = calls.HasFailed ∷ []
-failure_by _ = []
-
--- the number that a step of a force made durable
-abbrev pub forced_by : Answer → List ManagerEvent
-forced_by (Forced n) = calls.Forced n ∷ []
-forced_by (Began t) = []
-forced_by (Got device_bytes) = []
-forced_by (Inserted id) = []
-forced_by Updated = []
-forced_by Deleted = []
-forced_by (Scanned pairs) = []
-forced_by Locked = []
-forced_by (Saved index) = []
-forced_by WentBack = []
-forced_by Committed = []
-forced_by Aborted = []
-forced_by Prepared = []
-forced_by Resolved = []
-forced_by (AreInDoubt pairs) = []
-forced_by (Staged n) = []
-forced_by (Flushed count) = []
-forced_by (Begun n) = []
-forced_by (Ended n) = []
-forced_by (Anchored checkpoint tail) = []
-forced_by Moved = []
-forced_by Cut = []
-
--- a call and a resume with what they came to; of a force the number that it made durable, or the device's failure
-abbrev pub moves_by : Event → Step → List ManagerEvent
-moves_by (event.Call session call) step = calls.Called session call step ∷ []
-moves_by (event.Resume session) step = calls.Resumed session step ∷ []
-moves_by event.ForceStage (Done answer) = []
-moves_by event.ForceStage (Refused fault) = failure_by fault
-moves_by event.ForceStage (Waits wait) = []
-moves_by event.ForceStage Nothing = []
-moves_by event.ForceOpen (Done answer) = forced_by answer
-moves_by event.ForceOpen (Refused fault) = failure_by fault
-moves_by event.ForceOpen (Waits wait) = []
-moves_by event.ForceOpen Nothing = []
-
-abbrev pub all_moves : List Event → List Step → List ManagerEvent
-all_moves (e ∷ es) (step ∷ steps) = moves_by e step ++ all_moves es steps
-all_moves [] [] = []
-all_moves [] (step ∷ steps) = []
-all_moves (e ∷ es) [] = []
+-- ---- one manager
 
 -- no force of these was refused by `LogFull`
 abbrev pub NoForceIsFull : List Event → List Step → Type 0
@@ -85,15 +32,15 @@ NoForceIsFull [] [] = Unit {0}
 NoForceIsFull [] (step ∷ steps) = ⊥
 NoForceIsFull (e ∷ es) [] = ⊥
 
--- ---- one manager
-
--- One manager on a pair: it is opened on devices with these calls behind them and makes these events, and then a crash leaves an image of each.
+-- One manager on a pair: it is opened on devices with these calls behind them and makes these events, which are these moves of the
+-- manager over plain data; and then a crash leaves an image of each.
 pub record Manager (L V : Type 0) (G : Ghosts L) (H : Ghosts V) : Type 0 where
   pub log : History
   pub volume : History
   pub opened : World L V G H
   pub events : List Event
   pub steps : List Step
+  pub moves : List ManagerEvent
   pub ended : World L V G H
   pub log_left : List ℕ
   pub volume_left : List ℕ
@@ -121,7 +68,7 @@ pub record IsManager {L V : Type 0} {G : Ghosts L} {H : Ghosts V} (log_bytes vol
       → (c : List ℕ) → may_leave (volume_history_in m.opened) c → VolumeStandsFor g (size m.volume) c
   -- what a run says
   pub served : All IsServedEvent m.events
-  pub runs : Runs m.opened m.events m.steps m.ended
+  pub runs : Runs m.opened m.events m.steps m.moves m.ended
   -- a crash at any moment
   pub crash : AreLeft m.ended m.log_left m.volume_left
 
@@ -133,13 +80,13 @@ AreManagers log_bytes volume_bytes log_image volume_image (m ∷ ms) log_last vo
 
 -- ---- as runs of the manager over plain data
 
--- The run is one from a state that the manager was opened in to one that it ended in, by its events.
+-- The run is one from a state that the manager was opened in to one that it ended in, by its moves.
 pub record IsRunOf {L V : Type 0} {G : Ghosts L} {H : Ghosts V} (m : Manager L V G H) (run : Run) : Type 0 where
   pub front : List ℕ
   pub disk : ℕ → List ℕ
   pub opened : IsInState m.opened front disk run.first
   pub ended : IsInState m.ended front disk run.last
-  pub events : run.events ≡ all_moves m.events m.steps
+  pub events : run.events ≡ m.moves
 
 abbrev pub AreRunsOf : {L V : Type 0} {G : Ghosts L} {H : Ghosts V} → List (Manager L V G H) → List Run → Type 0
 AreRunsOf (m ∷ ms) (run ∷ runs) = IsRunOf m run × AreRunsOf ms runs

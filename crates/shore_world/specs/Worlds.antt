@@ -12,18 +12,20 @@ use Rattle.shore_calls.specs.declared.step.Step.{Step}
 use Rattle.shore_calls.specs.declared.step.Step.TheVariants.{Done, Refused, Nothing}
 use Rattle.shore_calls.specs.Bounds.{IsBounded}
 use Rattle.shore_calls.specs.CallHistories.{IsOpened}
-use Rattle.shore_calls.specs.CallSteps.{CallStep, ResumeStep, with_durable, with_failure}
+use Rattle.shore_calls.specs.CallSteps.{CallStep, Called, HasFailed, ManagerEvent, ResumeStep, Resumed, with_durable, with_failure}
+use Rattle.shore_calls.specs.CallSteps as calls
 use Rattle.shore_calls.specs.States.{State}
 use Rattle.shore_log.specs.Frames.{GivesBehind, IsLongest}
 use Rattle.shore_log.specs.Settled.{records_of_log, IsSettled, IsStaged}
 use Rattle.shore_format.specs.Causes.{HasCauseOfPair}
 use Rattle.shore_core.specs.Cores as cores
 use Rattle.shore_core.specs.Cores.{IsIn, IsSafe}
-use Rattle.shore_core.specs.Replies.{fault_at}
+use Rattle.shore_core.specs.Replies.{Earns, fault_at}
 use Rattle.shore_world.specs.declared.event.Event.{Event}
 use Rattle.shore_world.specs.declared.event.Event.TheVariants as event
 use Rattle.shore_world.specs.declared.world.World.{World}
-use Rattle.shore_world.specs.Events.{IsOfForce, IsOfSession}
+use Rattle.shore_world.specs.Events.{IsOfForce, IsOfSession, ReadBy}
+use Rattle.shore_world.specs.EventMoves.{moves_by}
 
 -- ---- what it has
 
@@ -158,27 +160,57 @@ module _ {L V : Type 0} {G : Ghosts L} {H : Ghosts V} where
     pub idle : e ≡ event.ForceStage → step ≡ Nothing → IsIdle old
     pub shut : e ≡ event.ForceOpen → step ≡ Nothing → old.log.staged ≡ None
     pub full : e ≡ event.ForceStage → step ≡ Refused LogFull → ¬ HasForceRoom old
+    -- `Damaged` names a page that the event may read and that has no text, whatever the volume's pages hold
+    pub damaged : Earns old.core (ReadBy e) (fault_at step)
     pub cause : HasCauseOfPair (fault_at step) (G.faults old.log.device) (G.faults new.log.device) (cores.faults_of old.core) (cores.faults_of new.core)
 
-  -- The same but for what a device is told that changes none of its bytes, as the fuse of one that is made to fail.
+  -- ---- between two events
+
+  -- The same but for what a device is told that changes none of its bytes, as the fuse of one that is made to fail, and for pages that were read.
   pub record IsLike (old new : World L V G H) : Type 0 where
     pub geometry : geometry_in new ≡ geometry_in old
     pub state : (front : List ℕ) (disk : ℕ → List ℕ) (s : State) → IsInState old front disk s → IsInState new front disk s
     pub list : list_in new ≡ list_in old
+    pub durable : durable_in new ≡ durable_in old
+    pub failed : failed_in new ≡ failed_in old
     pub history : history_in new ≡ history_in old
     pub staged : new.log.staged ≡ old.log.staged
     pub faults : G.faults new.log.device ≡ G.faults old.log.device
-    pub volume : volume_history_in new ≡ volume_history_in old
+    pub volume : (front : List ℕ) (disk : ℕ → List ℕ) (s : State) → IsInState old front disk s → volume_history_in new ≡ volume_history_in old
     pub volume_faults : cores.faults_of new.core ≡ cores.faults_of old.core
     pub kept : (front : List ℕ) → SurvivesCrashes old front → SurvivesCrashes new front
 
--- The events, one step each, from a world to another. Between two of them a fuse may be set.
-abbrev pub Runs : {L V : Type 0} {G : Ghosts L} {H : Ghosts V} → World L V G H → List Event → List Step → World L V G H → Type 0
-Runs old [] [] new = IsLike old new
-Runs {L = L} {V = V} {G = G} {H = H} old (e ∷ es) (step ∷ steps) new =
-    (start : World L V G H) × (mid : World L V G H) × IsLike old start × Steps start e step mid × Runs mid es steps new
-Runs old [] (step ∷ steps) new = ⊥
-Runs old (e ∷ es) [] new = ⊥
+  -- A read of the volume has failed: every later call is refused, and nothing else has changed.
+  pub record HasFailedToRead (old new : World L V G H) : Type 0 where
+    pub geometry : geometry_in new ≡ geometry_in old
+    pub state : (front : List ℕ) (disk : ℕ → List ℕ) (s : State) → IsInState old front disk s → IsInState new front disk (with_failure s)
+    pub list : list_in new ≡ list_in old
+    pub durable : durable_in new ≡ durable_in old
+    pub running : failed_in old ≡ false
+    pub failed : IsTrue (failed_in new)
+    pub history : history_in new ≡ history_in old
+    pub staged : new.log.staged ≡ old.log.staged
+    pub faults : G.faults new.log.device ≡ G.faults old.log.device
+    pub volume : (front : List ℕ) (disk : ℕ → List ℕ) (s : State) → IsInState old front disk s → volume_history_in new ≡ volume_history_in old
+    pub kept : (front : List ℕ) → SurvivesCrashes old front → SurvivesCrashes new front
+
+-- Between two events fuses may be set and stores dumped. Each read of the volume that failed is a failure of the manager over plain data.
+abbrev pub Between : {L V : Type 0} {G : Ghosts L} {H : Ghosts V} → World L V G H → List ManagerEvent → World L V G H → Type 0
+Between old [] new = IsLike old new
+Between {L = L} {V = V} {G = G} {H = H} old (HasFailed ∷ failures) new = (mid : World L V G H) × HasFailedToRead old mid × Between mid failures new
+Between old (Called session c step ∷ failures) new = ⊥
+Between old (Resumed session step ∷ failures) new = ⊥
+Between old (calls.Forced n ∷ failures) new = ⊥
+
+-- The events, one step each, from a world to another. As moves of the manager over plain data they are these: each event's own, and before them what
+-- failed between it and the event before.
+abbrev pub Runs : {L V : Type 0} {G : Ghosts L} {H : Ghosts V} → World L V G H → List Event → List Step → List ManagerEvent → World L V G H → Type 0
+Runs old [] [] moves new = Between old moves new
+Runs {L = L} {V = V} {G = G} {H = H} old (e ∷ es) (step ∷ steps) moves new =
+    (start : World L V G H) × (mid : World L V G H) × (failures : List ManagerEvent) × (later : List ManagerEvent)
+    × Between old failures start × Steps start e step mid × Runs mid es steps later new × (moves ≡ failures ++ (moves_by e step ++ later))
+Runs old [] (step ∷ steps) moves new = ⊥
+Runs old (e ∷ es) [] moves new = ⊥
 
 -- ---- what an open answers
 

@@ -9,6 +9,7 @@ ghost use Rattle.shore_model.specs.Lives.{IsLife};
 ghost use Rattle.shore_calls.specs.declared.step.Step.{Step};
 ghost use Rattle.shore_calls.specs.Bounds.{IsBounded};
 ghost use Rattle.shore_calls.specs.CallHistories.{AreFixed, AreRuns, IsOpened, IsRoomyState, IsRun, IsStateAfter, MovesMaking, Run, spans_of};
+ghost use Rattle.shore_calls.specs.CallSteps.{ManagerEvent};
 ghost use Rattle.shore_calls.specs.States.{State};
 ghost use Rattle.shore_sessions.specs.Soundness.{opening_with};
 ghost use Rattle.shore_log.specs.Frames.{Gives};
@@ -16,18 +17,18 @@ ghost use Rattle.shore_format.specs.Pairs.{StandsFor};
 ghost use Rattle.shore_world.specs.declared.event.Event.{Event};
 ghost use Rattle.shore_world.specs.declared.world.World.{World};
 ghost use Rattle.shore_world.specs.Events.{IsServedEvent};
-ghost use Rattle.shore_world.specs.Managers.{AreManagers, AreRunsOf, IsManager, IsRunOf, Manager, NoForceIsFull, all_moves};
+ghost use Rattle.shore_world.specs.Managers.{AreManagers, AreRunsOf, IsManager, IsRunOf, Manager, NoForceIsFull};
 ghost use Rattle.shore_world.specs.Worlds.{IsInState, Runs, geometry_in, list_in, stream_bytes_in};
 
 use shore_disk::Disk;
 
-/// A run of the world from a state that an open left is a run of the manager over plain data: it comes to a state by steps of it, which make a
-/// history that is sound, leave room on pages and in the log, and stay in bounds.
+/// A run of the world from a state that an open left is a run of the manager over plain data: it comes to a state by steps of it, among them a
+/// failure for each read of a dump that failed, which make a history that is sound, leave room on pages and in the log, and stay in bounds.
 pub fn runs_are_runs_of_calls<L: Disk, V: Disk>()
-    ensures { (old new : World L V L.Disk V.Disk) (events : List Event) (steps : List Step) (front : List ℕ) (disk : ℕ → List ℕ) (found : List LogRecord) (s : State) →
-        All IsServedEvent events → Runs old events steps new → IsInState old front disk s → IsOpened found s → IsRoomyState s
+    ensures { (old new : World L V L.Disk V.Disk) (events : List Event) (steps : List Step) (moves : List ManagerEvent) (front : List ℕ) (disk : ℕ → List ℕ) (found : List LogRecord) (s : State) →
+        All IsServedEvent events → Runs old events steps moves new → IsInState old front disk s → IsOpened found s → IsRoomyState s
         → IsBounded (geometry_in old) (stream_bytes_in old) s →
-        (last : State) × (made : List Entry) × MovesMaking (geometry_in old) s (all_moves events steps) last made × IsInState new front disk last
+        (last : State) × (made : List Entry) × MovesMaking (geometry_in old) s moves last made × IsInState new front disk last
         × IsStateAfter found made last × IsRoomyState last × IsBounded (geometry_in old) (stream_bytes_in old) last }
 {}
 
@@ -55,6 +56,6 @@ pub fn runs_stay_in_bounds<L: Disk, V: Disk>()
 
 /// Runs one after another are one run.
 pub fn runs_join<L: Disk, V: Disk>()
-    ensures { (old mid new : World L V L.Disk V.Disk) (events later : List Event) (steps more : List Step) →
-        Runs old events steps mid → Runs mid later more new → Runs old (events ++ later) (steps ++ more) new }
+    ensures { (old mid new : World L V L.Disk V.Disk) (events later : List Event) (steps more : List Step) (moves further : List ManagerEvent) →
+        Runs old events steps moves mid → Runs mid later more further new → Runs old (events ++ later) (steps ++ more) (moves ++ further) new }
 {}

@@ -1,6 +1,6 @@
 //! The plain world: a core over its log device and its volume, one event at a time. Nothing is written back to the volume yet: an open lays
 //! the records that the log tells into empty pages.
-ghost use Rattle.std.specs.Prelude.{◌≡◌, ◌≢◌, ◌⊎◌, ◌+◌, ◌-◌, ◌≤◌, ◌++◌, ℕ, List, [], ◌∷◌, All, IsTrue, IfOk, IfErr, MatchResult, OnOk, OnErr, Err, None, length, take};
+ghost use Rattle.std.specs.Prelude.{◌≡◌, ◌≢◌, ◌⊎◌, ◌+◌, ◌-◌, ◌≤◌, ◌++◌, ℕ, List, [], ◌∷◌, All, IsTrue, IfOk, IfErr, IsErrAnd, MatchResult, OnOk, OnErr, Err, None, length, take};
 ghost use Rattle.shore_types.specs.Layout.{HasStore};
 ghost use Rattle.shore_types.specs.declared.layout.Geometry.{Geometry};
 ghost use Rattle.shore_types.specs.declared.layout.TheConstants.{LOG_FRONT_BYTES, MAX_LOG_BYTES, MAX_PAGES, MIN_POOL_FRAMES};
@@ -19,12 +19,12 @@ ghost use Rattle.shore_log.specs.Settled.{records_of_log, stable};
 ghost use Rattle.shore_gate.specs.Checks.{IsFromOutside};
 ghost use Rattle.shore_pool.specs.Pools.{Holds};
 ghost use Rattle.shore_dwrite.specs.Volumes.{AreEmpty};
-ghost use Rattle.shore_heap.specs.Heaps.{pool_of};
+ghost use Rattle.shore_heap.specs.Heaps.{KeepsVolume, pool_of};
 ghost use Rattle.shore_calls.specs.CallSteps.{after_refusal, with_failure};
 ghost use Rattle.shore_calls.specs.Refusals.{IsPageFault};
 ghost use Rattle.shore_calls.specs.States.{State};
 ghost use Rattle.shore_core.specs.Cores.{IsSafe, durable_of, first_of, heap_of};
-ghost use Rattle.shore_world.specs.Events.{IsServedEvent};
+ghost use Rattle.shore_world.specs.Events.{IsServedEvent, ReadBy};
 
 use crate::Event;
 use crate::opening::{fault_of, open_volume};
@@ -50,8 +50,9 @@ impl<L: Disk, V: Disk> World<L, V> {
     ghost use Rattle.shore_format.specs.Fronts.{HasFront};
     ghost use Rattle.shore_format.specs.Pairs.{HaveFronts, RefusesOpen, StandsFor};
     ghost use Rattle.shore_format.specs.Volumes.{VolumeStandsFor};
-    ghost use Rattle.shore_world.specs.Worlds.{IsInState, IsOpenedIn, Moves, HasForced, HasStaged, Steps, Runs, HasForceRoom, IsIdle, SurvivesCrashes, durable_in, failed_in, geometry_in, list_in, volume_history_in, log_in, volume_in, fault_in};
-    ghost use Rattle.shore_core.specs.Replies.{fault_at};
+    ghost use Rattle.shore_world.specs.Worlds.{IsInState, IsOpenedIn, Moves, HasForced, HasStaged, HasFailedToRead, IsLike, Steps, Runs, HasForceRoom, IsIdle, SurvivesCrashes, durable_in, failed_in, geometry_in, list_in, volume_history_in, log_in, volume_in, fault_in};
+    ghost use Rattle.shore_core.specs.Replies.{Earns, Fails, fault_at};
+    ghost use Rattle.shore_world.specs.EventMoves.{all_moves};
     ghost use Rattle.shore_core.specs.Cores.{volume_of};
 
     /// Opens the manager of a formatted pair: a barrier on both devices, the labels, that they are of one pair, the anchors, the frames, the
@@ -154,8 +155,15 @@ impl<L: Disk, V: Disk> World<L, V> {
     pub fn dump(&mut self, alloc: Global, store: StoreId) -> Result<Sequence<(Rid, Bytes)>, Fault>
         ensures shown { (front : List ℕ) (disk : ℕ → List ℕ) (s : State) → IsInState self.old front disk s → IsSafe (geometry_in self.old) s
             → IfOk result (λ pairs. pairs ≡ scan_of store s.sessions.records) }
-        ensures stays { (front : List ℕ) (disk : ℕ → List ℕ) (s : State) → IsInState self.old front disk s → IsSafe (geometry_in self.old) s
+        ensures stays { (front : List ℕ) (disk : ℕ → List ℕ) (s : State) → IsInState self.old front disk s
             → MatchResult result (λ _. IsInState self.new front disk s) (λ fault. IsInState self.new front disk (after_refusal fault s)) }
+
+        // An answer by `Device` or `Damaged` is the failure of a running manager, and changes nothing else; any other changes nothing that a call or
+        // a crash could tell. So runs before and behind a dump join.
+        ensures like { ¬ IsErrAnd result Fails → IsLike self.old self.new }
+        ensures fails { IsErrAnd result Fails → HasFailedToRead self.old self.new }
+        ensures volume { KeepsVolume (heap_of self.old.core) (heap_of self.new.core) }
+        ensures damaged { Earns self.old.core (λ page. page.store ≡ store) result }
         ensures failed { IsTrue (failed_in self.old) → IfErr result (λ fault. fault ≡ Fault.Failed) }
         ensures served { IfOk result (λ _. HasStore (geometry_in self.old) store) }
         ensures refused { (front : List ℕ) (disk : ℕ → List ℕ) (s : State) → IsInState self.old front disk s → IsSafe (geometry_in self.old) s
@@ -212,6 +220,7 @@ impl<L: Disk, V: Disk> World<L, V> {
         ensures volume { heap_of self.new.core ≡ heap_of self.old.core }
         ensures idle { result ≡ Step.Nothing → IsIdle self.old }
         ensures full { result ≡ Step.Refused Fault.LogFull → ¬ HasForceRoom self.old }
+        ensures damaged { Earns self.old.core (ReadBy Event.ForceStage) (fault_at result) }
         ensures cause { HasCause (fault_at result) (L.faults self.old.log.device) (L.faults self.new.log.device) }
     {
         if self.core.has_failed() {
@@ -235,6 +244,7 @@ impl<L: Disk, V: Disk> World<L, V> {
         ensures forced { (n : ℕ) → result ≡ Step.Done (Answer.Forced n) → HasForced self.old self.new n }
         ensures volume { heap_of self.new.core ≡ heap_of self.old.core }
         ensures shut { result ≡ Step.Nothing → self.old.log.staged ≡ None }
+        ensures damaged { Earns self.old.core (ReadBy Event.ForceOpen) (fault_at result) }
         ensures cause { HasCause (fault_at result) (L.faults self.old.log.device) (L.faults self.new.log.device) }
     {
         if self.core.has_failed() {
@@ -273,7 +283,7 @@ impl<L: Disk, V: Disk> World<L, V> {
     /// The events, one step each. `Memory` if the room for the answers could not be allocated, and then no event was made.
     pub fn run(&mut self, alloc: Global, events: &[Event], out: &mut Vec<Step>) -> Result<(), Fault>
         requires { All IsServedEvent events.now }
-        ensures runs { OnOk result ((steps : List Step) × (out.new.items ≡ out.old.items ++ steps) × Runs self.old events.now steps self.new) }
+        ensures runs { OnOk result ((steps : List Step) × (out.new.items ≡ out.old.items ++ steps) × Runs self.old events.now steps (all_moves events.now steps) self.new) }
         ensures none { OnErr result ((out.new.items ≡ out.old.items) × (self.new ≡ self.old)) }
         ensures only_memory { IfErr result (λ fault. fault ≡ Fault.Memory) }
     {
@@ -304,6 +314,7 @@ impl<L: Disk, V: Disk> World<FuseDisk<L>, V> {
     /// Lets so many more writes and syncs of the log device pass; then every call of it fails.
     pub fn set_log_fuse(&mut self, calls: u64)
         ensures calls { fuse_calls self.new.log.device ≡ calls }
+        ensures core { self.new.core ≡ self.old.core }
         ensures inner { fuse_inner self.new.log.device ≡ fuse_inner self.old.log.device }
         ensures like { IsLike self.old self.new }
     {
@@ -314,11 +325,12 @@ impl<L: Disk, V: Disk> World<FuseDisk<L>, V> {
 impl<L: Disk, V: Disk> World<L, FuseDisk<V>> {
     ghost use Rattle.shore_disk.specs.Fuse.{fuse_calls};
     ghost use Rattle.shore_core.specs.Cores.{volume_of};
-    ghost use Rattle.shore_world.specs.Worlds.{IsLike};
+    ghost use Rattle.shore_world.specs.Worlds.{IsLike, volume_history_in};
 
     /// Lets so many more writes and syncs of the volume pass; then every call of it fails.
     pub fn set_volume_fuse(&mut self, calls: u64)
         ensures calls { fuse_calls (volume_of self.new.core) ≡ calls }
+        ensures volume { volume_history_in self.new ≡ volume_history_in self.old }
         ensures inner { fuse_inner (volume_of self.new.core) ≡ fuse_inner (volume_of self.old.core) }
         ensures like { IsLike self.old self.new }
     {

@@ -9,7 +9,7 @@ use Rattle.shore_core.proofs.opening.lay.Goals as goal
 pub returns-in_err-fetch-clause-refused : goal.returns-in_err-fetch-clause-refused
 returns-in_err-fetch-clause-refused g c front disk S shows empty =
     let there = (subst (λ (g : Geometry). HasSlot g c.args.id.now) c.geometry.ensures (c.if-not-has_slot.ensures.0 refl)).0 in
-    if_err c.from_residual.result c.from_residual.ensures.1 (λ fault is. elim (c.in_err-fetch.ensures.refused front disk S shows) [
+    if_err c.from_residual.result c.from_residual.ensures.1 (λ fault is. elim (c.in_err-fetch.ensures.refused front disk shows.holds) [
       | inl device ↦ inl (is ∙ device)
       | inr other ↦ elim other [
         | inl memory ↦ inr (is ∙ memory)

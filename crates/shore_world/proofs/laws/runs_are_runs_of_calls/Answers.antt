@@ -6,8 +6,8 @@ use Rattle.shore_world.proofs.ReachLemmas.{IsReached, run_goes}
 use Rattle.shore_world.proofs.laws.runs_are_runs_of_calls.Goals as goal
 
 pub returns : goal.returns
-returns g c old new events steps front disk found s served runs is_in opened roomy bounded =
+returns g c old new events steps moves front disk found s served runs is_in opened roomy bounded =
     let reached : IsReached (geometry_in old) (stream_bytes_in old) found [] s = record { after = open_begins found s opened; roomy = roomy; bounded = bounded } in
     let all = all_served events served in
-    let goes = run_goes (geometry_in old) (stream_bytes_in old) found front disk [] s reached old refl is_in events steps new all runs in
+    let goes = run_goes (geometry_in old) (stream_bytes_in old) found front disk [] s reached old refl is_in events steps moves new all runs in
     (goes.last, goes.made, goes.moves, goes.is_in, goes.reached.after, goes.reached.roomy, goes.reached.bounded)

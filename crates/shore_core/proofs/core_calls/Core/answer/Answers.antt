@@ -1,7 +1,8 @@
-use Rattle.std.proofs.Common.{sym, subst}
+use Rattle.std.proofs.Common.{IfErr, sym, subst}
 use Rattle.shore_model.specs.declared.calls.Call.{Call}
 use Rattle.shore_calls.specs.CallSteps.{IsServed}
-use Rattle.shore_core.specs.Replies.{Replied}
+use Rattle.shore_core.specs.Cores.{geometry_of, last_of}
+use Rattle.shore_core.specs.Replies.{IsEarned, Reads, Replied}
 use Rattle.shore_core.proofs.Serving.{no_other}
 use Rattle.shore_core.proofs.core_calls.Core.answer.Goals as goal
 
@@ -43,3 +44,31 @@ returns-in-Scan-clause-replied g c ready front disk before s is safe =
 pub returns-in-Commit-clause-replied : goal.returns-in-Commit-clause-replied
 returns-in-Commit-clause-replied g c ready front disk before s is safe =
     subst (λ (it : Call). Replied c.args.session it c.commit.result c.args.self.now c.commit.new.self front disk before s) (sym c.in-Commit.is) (c.commit.ensures.replied ready front disk before s is safe)
+
+pub returns-in-Begin-clause-damaged : goal.returns-in-Begin-clause-damaged
+returns-in-Begin-clause-damaged g c front disk holds =
+    subst (λ (it : Call). IfErr c.begin.result (IsEarned (geometry_of c.args.self.now) disk (last_of c.args.self.now) (Reads it))) (sym c.in-Begin.is) (c.begin.ensures.damaged front disk holds)
+
+pub returns-in-Get-clause-damaged : goal.returns-in-Get-clause-damaged
+returns-in-Get-clause-damaged g c front disk holds =
+    subst (λ (it : Call). IfErr c.get.result (IsEarned (geometry_of c.args.self.now) disk (last_of c.args.self.now) (Reads it))) (sym c.in-Get.is) (c.get.ensures.damaged front disk holds)
+
+pub returns-in-Insert-clause-damaged : goal.returns-in-Insert-clause-damaged
+returns-in-Insert-clause-damaged g c front disk holds =
+    subst (λ (it : Call). IfErr c.insert.result (IsEarned (geometry_of c.args.self.now) disk (last_of c.args.self.now) (Reads it))) (sym c.in-Insert.is) (c.insert.ensures.damaged front disk holds)
+
+pub returns-in-Update-clause-damaged : goal.returns-in-Update-clause-damaged
+returns-in-Update-clause-damaged g c front disk holds =
+    subst (λ (it : Call). IfErr c.update.result (IsEarned (geometry_of c.args.self.now) disk (last_of c.args.self.now) (Reads it))) (sym c.in-Update.is) (c.update.ensures.damaged front disk holds)
+
+pub returns-in-Delete-clause-damaged : goal.returns-in-Delete-clause-damaged
+returns-in-Delete-clause-damaged g c front disk holds =
+    subst (λ (it : Call). IfErr c.delete.result (IsEarned (geometry_of c.args.self.now) disk (last_of c.args.self.now) (Reads it))) (sym c.in-Delete.is) (c.delete.ensures.damaged front disk holds)
+
+pub returns-in-Scan-clause-damaged : goal.returns-in-Scan-clause-damaged
+returns-in-Scan-clause-damaged g c front disk holds =
+    subst (λ (it : Call). IfErr c.scan.result (IsEarned (geometry_of c.args.self.now) disk (last_of c.args.self.now) (Reads it))) (sym c.in-Scan.is) (c.scan.ensures.damaged front disk holds)
+
+pub returns-in-Commit-clause-damaged : goal.returns-in-Commit-clause-damaged
+returns-in-Commit-clause-damaged g c front disk holds =
+    subst (λ (it : Call). IfErr c.commit.result (IsEarned (geometry_of c.args.self.now) disk (last_of c.args.self.now) (Reads it))) (sym c.in-Commit.is) (c.commit.ensures.damaged front disk holds)

@@ -1,12 +1,12 @@
-use Rattle.std.proofs.Common.{inl, inr, refl, sym, ap, subst, ◌∙◌}
+use Rattle.std.proofs.Common.{IfErr, inl, inr, refl, sym, ap, subst, ◌∙◌}
 use Rattle.shore_calls.specs.declared.step.Step.{Step}
 use Rattle.shore_sessions.specs.Views.{IsAmong}
 use Rattle.shore_calls.specs.CallSteps.{CallStep, after_refusal, commit_waiting}
 use Rattle.shore_txn.specs.Tables.{committing_in}
-use Rattle.shore_core.specs.Cores.{IsIn, IsSafe, geometry_of}
+use Rattle.shore_core.specs.Cores.{IsIn, IsSafe, geometry_of, last_of}
 use Rattle.shore_heap.specs.Heaps as heaps
 use Rattle.shore_core.specs.Parts.{waiting_for}
-use Rattle.shore_core.specs.Replies.{fault_at}
+use Rattle.shore_core.specs.Replies.{IsEarned, Reads, fault_at}
 use Rattle.shore_core.proofs.Tables.{none_told, some_and, some_told, waits_not}
 use Rattle.shore_core.proofs.Taking.{plain_cause, steps_err, steps_ok}
 use Rattle.shore_core.proofs.core_calls.Core.call.Goals as goal
@@ -60,3 +60,8 @@ returns-in-Err-clause-step g c front disk before s is safe =
       is_in = left;
       history = ap heaps.history_of c.refuse.ensures.heap ∙ r.history;
     }
+
+pub returns-in-Err-clause-damaged : goal.returns-in-Err-clause-damaged
+returns-in-Err-clause-damaged g c front disk holds =
+    let old = c.args.self.now in
+    subst (λ (step : Step). IfErr (fault_at step) (IsEarned (geometry_of old) disk (last_of old) (Reads c.args.call))) (sym c.refuse.ensures.refused) (c.in-Err.ensures.damaged front disk holds)

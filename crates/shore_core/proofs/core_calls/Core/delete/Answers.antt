@@ -4,11 +4,13 @@ use Rattle.shore_model.specs.declared.calls.Call.TheVariants as call
 use Rattle.std.specs.FinMap.{get}
 use Rattle.shore_heap.specs.Heaps.{frame_of}
 use Rattle.shore_calls.specs.Refusals.{FindsRecord, IsRefusal}
-use Rattle.shore_core.specs.Cores.{IsSafe, geometry_of}
+use Rattle.shore_core.specs.Cores.{IsSafe, geometry_of, last_of}
 use Rattle.shore_core.specs.Parts.{changed}
 use Rattle.shore_core.proofs.Tables.{is_of, some_and}
 use Rattle.shore_core.proofs.Taking.{replied_as}
 use Rattle.shore_core.proofs.Refusing.{delete_refusal, gone_fits, map_some, on_right}
+use Rattle.shore_core.specs.Replies.{Reads}
+use Rattle.shore_core.proofs.Earning.{earned_as}
 use Rattle.shore_core.proofs.core_calls.Core.delete.Goals as goal
 
 pub returns-in_err-find-clause-replied : goal.returns-in_err-find-clause-replied
@@ -47,3 +49,8 @@ returns-clause-replied g c ready front disk before s is safe =
       is_in = h.4;
       history = h.5 ∙ stays.history;
     }
+
+pub returns-in_err-find-clause-damaged : goal.returns-in_err-find-clause-damaged
+returns-in_err-find-clause-damaged g c front disk holds =
+    let old = c.args.self.now in
+    earned_as (geometry_of old) disk (last_of old) (Reads (call.Delete c.args.id)) c.from_residual.result _ c.from_residual.ensures.1 (c.in_err-find.ensures.damaged front disk holds)

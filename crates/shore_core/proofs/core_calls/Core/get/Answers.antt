@@ -5,6 +5,9 @@ use Rattle.shore_calls.proofs.OneSession.{get_leaves}
 use Rattle.shore_calls.specs.States.{page_slots}
 use Rattle.shore_core.proofs.Tables.{is_of, some_and}
 use Rattle.shore_core.proofs.Taking.{image_shown, replied_as}
+use Rattle.shore_core.specs.Replies.{Reads}
+use Rattle.shore_core.proofs.Earning.{earned_as}
+use Rattle.shore_core.specs.Cores.{geometry_of, last_of}
 use Rattle.shore_core.proofs.core_calls.Core.get.Goals as goal
 
 pub returns-in_err-reach-clause-replied : goal.returns-in_err-reach-clause-replied
@@ -44,3 +47,8 @@ returns-in-None-clause-replied g c ready front disk before s is safe =
       is_in = stays.is_in;
       history = stays.history;
     }
+
+pub returns-in_err-reach-clause-damaged : goal.returns-in_err-reach-clause-damaged
+returns-in_err-reach-clause-damaged g c front disk holds =
+    let old = c.args.self.now in
+    earned_as (geometry_of old) disk (last_of old) (Reads (call.Get c.args.id)) c.from_residual.result _ c.from_residual.ensures.1 (c.in_err-reach.ensures.damaged front disk holds)

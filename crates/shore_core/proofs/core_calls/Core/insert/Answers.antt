@@ -1,4 +1,4 @@
-use Rattle.std.proofs.Common.{◌≡◌, ◌⊎◌, inr, Some, IsSomeAnd, length, refl, sym, ap, subst, ◌∙◌, arith}
+use Rattle.std.proofs.Common.{◌≡◌, ◌⊎◌, ◌-◌, inr, Some, IsSomeAnd, length, refl, sym, ap, subst, ◌∙◌, arith}
 use Rattle.shore_types.specs.declared.faults.Fault.TheVariants as fault
 use Rattle.shore_types.specs.declared.layout.Geometry.{Geometry}
 use Rattle.shore_types.specs.declared.ids.Rid.{Rid}
@@ -10,12 +10,14 @@ use Rattle.shore_heap.specs.Places.{HasNoPlace, IsFree, IsPlace}
 use Rattle.shore_heap.proofs.Finding.{if_none_at, if_some_at}
 use Rattle.shore_calls.specs.Refusals.{IsRefusal, IsShort}
 use Rattle.shore_calls.specs.States.{IsInTxn, page_slots}
-use Rattle.shore_core.specs.Cores.{IsSafe, geometry_of}
+use Rattle.shore_core.specs.Cores.{IsSafe, geometry_of, last_of}
 use Rattle.shore_core.specs.Parts.{changed}
 use Rattle.shore_core.proofs.Inserting.{insert_fault, is_place_for, none_serves, store_fault}
 use Rattle.shore_core.proofs.Refusing.{map_some, on_right}
 use Rattle.shore_core.proofs.Tables.{in_none, is_of, none_told, some_told}
 use Rattle.shore_core.proofs.Taking.{replied_as, true_false}
+use Rattle.shore_core.specs.Replies.{Reads}
+use Rattle.shore_core.proofs.Earning.{earned_as, store_earned}
 use Rattle.shore_core.proofs.core_calls.Core.insert.Goals as goal
 
 pub returns-then-is_none-clause-replied : goal.returns-then-is_none-clause-replied
@@ -63,7 +65,7 @@ returns-in_err-place-clause-replied g c ready front disk before s is safe =
     let there : HasStore (geometry_of old) c.args.store = subst (λ (it : Geometry). HasStore it c.args.store) c.geometry.ensures (c.if-not-has_store.ensures.0 refl) in
     let still = c.place_for.ensures.still front disk (page_slots s) is.pages in
     let why : (c.in_err-place.field-0.0 ≡ fault.Memory) ⊎ IsRefusal (geometry_of old) s c.args.session (call.Insert c.args.store c.args.bytes) c.in_err-place.field-0.0 =
-    on_right (store_fault (geometry_of old) disk c.args.store _ _ (c.in_err-place.ensures.refused front disk (page_slots s) is.pages))
+    on_right (store_fault (geometry_of old) disk c.args.store _ _ (c.in_err-place.ensures.refused front disk is.pages.holds))
     (insert_fault (geometry_of old) s c.args.session c.args.store c.args.bytes _ mine short there) in
     replied_as old _ front disk before s c.args.session (call.Insert c.args.store c.args.bytes) c.from_residual.result _ c.from_residual.ensures.1 why
     (record { is_in = record { first = is.first; pages = still.shows; parts = is.parts }; history = still.history })
@@ -134,3 +136,10 @@ returns-clause-replied g c ready front disk before s is safe =
       is_in = h.4;
       history = h.5 ∙ still.history;
     }
+
+pub returns-in_err-place-clause-damaged : goal.returns-in_err-place-clause-damaged
+returns-in_err-place-clause-damaged g c front disk holds =
+    let old = c.args.self.now in
+    let IsRead = Reads (call.Insert c.args.store c.args.bytes) in
+    earned_as (geometry_of old) disk (last_of old) IsRead c.from_residual.result _ c.from_residual.ensures.1
+    (store_earned (geometry_of old) disk (last_of old) IsRead c.args.store _ _ (ap (λ n. n - 1) (c.last.view_is ∙ c.next.ensures)) (λ id of_store. of_store) (c.in_err-place.ensures.refused front disk holds))

@@ -1,12 +1,13 @@
-use Rattle.std.proofs.Common.{◌≡◌, ◌⊎◌}
+use Rattle.std.proofs.Common.{◌≡◌, ◌⊎◌, ◌-◌, ap, ◌∙◌}
 use Rattle.shore_types.specs.declared.faults.Fault.TheVariants as fault
 use Rattle.shore_model.specs.Records.{scan_of}
 use Rattle.shore_calls.specs.Refusals.{IsPageFault}
 use Rattle.shore_calls.specs.States.{page_slots}
-use Rattle.shore_core.specs.Cores.{geometry_of}
+use Rattle.shore_core.specs.Cores.{geometry_of, last_of}
 use Rattle.shore_core.proofs.Pairs.{map_ok}
 use Rattle.shore_core.proofs.Inserting.{scan_is, store_fault}
 use Rattle.shore_core.proofs.Taking.{map_err}
+use Rattle.shore_core.proofs.Earning.{store_earned}
 use Rattle.shore_core.proofs.core_calls.Core.pairs_of.Goals as goal
 
 pub returns-clause-pairs : goal.returns-clause-pairs
@@ -16,9 +17,14 @@ returns-clause-pairs g c front disk before s is safe =
 
 pub returns-clause-refused : goal.returns-clause-refused
 returns-clause-refused g c front disk before s is safe =
-    map_err _ (λ f. (f ≡ fault.Memory) ⊎ IsPageFault f) c.scan.result (store_fault (geometry_of c.args.self.now) disk c.args.store _) (c.scan.ensures.refused front disk (page_slots s) is.pages)
+    map_err _ (λ f. (f ≡ fault.Memory) ⊎ IsPageFault f) c.scan.result (store_fault (geometry_of c.args.self.now) disk c.args.store _) (c.scan.ensures.refused front disk is.pages.holds)
 
 pub returns-clause-stays : goal.returns-clause-stays
-returns-clause-stays g c front disk before s is safe =
+returns-clause-stays g c front disk before s is =
     let still = c.scan.ensures.still front disk (page_slots s) is.pages in
     record { is_in = record { first = is.first; pages = still.shows; parts = is.parts }; history = still.history }
+
+pub returns-clause-damaged : goal.returns-clause-damaged
+returns-clause-damaged g c front disk holds =
+    map_err _ _ c.scan.result (λ f. store_earned (geometry_of c.args.self.now) disk (last_of c.args.self.now) (λ page. page.store ≡ c.args.store) c.args.store _ f (ap (λ n. n - 1) (c.last.view_is ∙ c.next.ensures)) (λ id of_store. of_store))
+    (c.scan.ensures.refused front disk holds)

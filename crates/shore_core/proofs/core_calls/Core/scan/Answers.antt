@@ -1,4 +1,4 @@
-use Rattle.std.proofs.Common.{◌≡◌, ◌⊎◌, inr, refl, sym, ap, subst, ◌∙◌}
+use Rattle.std.proofs.Common.{◌≡◌, ◌⊎◌, ◌-◌, inr, refl, sym, ap, subst, ◌∙◌}
 use Rattle.shore_types.specs.declared.faults.Fault.TheVariants as fault
 use Rattle.shore_types.specs.declared.layout.Geometry.{Geometry}
 use Rattle.shore_types.specs.Layout.{HasStore}
@@ -7,11 +7,13 @@ use Rattle.shore_model.specs.declared.calls.Call.TheVariants as call
 use Rattle.shore_calls.proofs.OneSession.{scan_leaves}
 use Rattle.shore_calls.specs.Refusals.{IsRefusal}
 use Rattle.shore_calls.specs.States.{IsInTxn, page_slots}
-use Rattle.shore_core.specs.Cores.{geometry_of}
+use Rattle.shore_core.specs.Cores.{geometry_of, last_of}
 use Rattle.shore_core.proofs.Inserting.{scan_fault, scan_is, store_fault}
 use Rattle.shore_core.proofs.Refusing.{on_right}
 use Rattle.shore_core.proofs.Tables.{in_none, is_of, none_told, some_told}
 use Rattle.shore_core.proofs.Taking.{replied_as, true_false}
+use Rattle.shore_core.specs.Replies.{Reads}
+use Rattle.shore_core.proofs.Earning.{earned_as, store_earned}
 use Rattle.shore_core.proofs.core_calls.Core.scan.Goals as goal
 
 pub returns-then-is_none-clause-replied : goal.returns-then-is_none-clause-replied
@@ -46,7 +48,7 @@ returns-in_err-pairs-clause-replied g c ready front disk before s is safe =
     let still = c.scan.ensures.still front disk (page_slots s) is.pages in
     let there : HasStore (geometry_of old) c.args.store = subst (λ (it : Geometry). HasStore it c.args.store) c.geometry.ensures (c.if-not-has_store.ensures.0 refl) in
     let why : (c.in_err-pairs.field-0.0 ≡ fault.Memory) ⊎ IsRefusal (geometry_of old) s c.args.session (call.Scan c.args.store) c.in_err-pairs.field-0.0 =
-    on_right (store_fault (geometry_of old) disk c.args.store _ _ (c.in_err-pairs.ensures.refused front disk (page_slots s) is.pages)) (scan_fault (geometry_of old) s c.args.session c.args.store _ mine there) in
+    on_right (store_fault (geometry_of old) disk c.args.store _ _ (c.in_err-pairs.ensures.refused front disk is.pages.holds)) (scan_fault (geometry_of old) s c.args.session c.args.store _ mine there) in
     replied_as old _ front disk before s c.args.session (call.Scan c.args.store) c.from_residual.result _ c.from_residual.ensures.1 why
     (record { is_in = record { first = is.first; pages = still.shows; parts = is.parts }; history = still.history })
 
@@ -64,3 +66,10 @@ returns-clause-replied g c ready front disk before s is safe =
       is_in = record { first = is.first; pages = still.shows; parts = is.parts };
       history = still.history;
     }
+
+pub returns-in_err-pairs-clause-damaged : goal.returns-in_err-pairs-clause-damaged
+returns-in_err-pairs-clause-damaged g c front disk holds =
+    let old = c.args.self.now in
+    let IsRead = Reads (call.Scan c.args.store) in
+    earned_as (geometry_of old) disk (last_of old) IsRead c.from_residual.result _ c.from_residual.ensures.1
+    (store_earned (geometry_of old) disk (last_of old) IsRead c.args.store _ _ (ap (λ n. n - 1) (c.last.view_is ∙ c.next.ensures)) (λ id of_store. of_store) (c.in_err-pairs.ensures.refused front disk holds))

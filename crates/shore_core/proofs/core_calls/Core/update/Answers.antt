@@ -6,11 +6,13 @@ use Rattle.shore_page.specs.Room.{Fits}
 use Rattle.shore_heap.specs.Heaps.{frame_of}
 use Rattle.shore_calls.specs.Refusals.{FindsRecord, IsRefusal}
 use Rattle.shore_calls.specs.States.{page_slots}
-use Rattle.shore_core.specs.Cores.{IsSafe, geometry_of}
+use Rattle.shore_core.specs.Cores.{IsSafe, geometry_of, last_of}
 use Rattle.shore_core.specs.Parts.{changed}
 use Rattle.shore_core.proofs.Tables.{in_none, is_of, none_told, some_and, some_told}
 use Rattle.shore_core.proofs.Taking.{replied_as, true_false}
 use Rattle.shore_core.proofs.Refusing.{both_some, map_some, on_right, update_refusal}
+use Rattle.shore_core.specs.Replies.{Reads}
+use Rattle.shore_core.proofs.Earning.{earned_as}
 use Rattle.shore_core.proofs.core_calls.Core.update.Goals as goal
 
 pub returns-then-is_none-clause-replied : goal.returns-then-is_none-clause-replied
@@ -94,3 +96,8 @@ returns-clause-replied g c ready front disk before s is safe =
       is_in = h.4;
       history = h.5 ∙ stays.history;
     }
+
+pub returns-in_err-find-clause-damaged : goal.returns-in_err-find-clause-damaged
+returns-in_err-find-clause-damaged g c front disk holds =
+    let old = c.args.self.now in
+    earned_as (geometry_of old) disk (last_of old) (Reads (call.Update c.args.id c.args.bytes)) c.from_residual.result _ c.from_residual.ensures.1 (c.in_err-find.ensures.damaged front disk holds)

@@ -26,9 +26,9 @@ returns-in_err-fetch-clause-none_came g c front disk S shows =
     if_err c.from_residual.result c.from_residual.ensures.1 (λ fault is. none.1)
 
 pub returns-in_err-fetch-clause-refused : goal.returns-in_err-fetch-clause-refused
-returns-in_err-fetch-clause-refused g c front disk S shows =
-    let none = c.in_err-fetch.ensures.none_came c.args.self.now.whole front disk shows.holds in
-    if_err c.from_residual.result c.from_residual.ensures.1 (λ fault is. elim (c.in_err-fetch.ensures.refused front disk shows.holds) [
+returns-in_err-fetch-clause-refused g c front disk holds =
+    let none = c.in_err-fetch.ensures.none_came c.args.self.now.whole front disk holds in
+    if_err c.from_residual.result c.from_residual.ensures.1 (λ fault is. elim (c.in_err-fetch.ensures.refused front disk holds) [
       | inl device ↦ inl (is ∙ device)
       | inr other ↦ elim other [
         | inl memory ↦ inr (inl (is ∙ memory))

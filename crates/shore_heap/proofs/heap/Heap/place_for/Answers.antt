@@ -35,9 +35,9 @@ pub returns-in_err-slot-clause-untouched : goal.returns-in_err-slot-clause-untou
 returns-in_err-slot-clause-untouched g c = keeps_then c.args.self.now c.loop-from.self c.try_page.new.self c.loop-from.invariant.6 c.try_page.ensures.untouched
 
 pub returns-in_err-slot-clause-refused : goal.returns-in_err-slot-clause-refused
-returns-in_err-slot-clause-refused g c front disk S shows =
+returns-in_err-slot-clause-refused g c front disk holds =
     let inv = c.loop-from.invariant in
-    if_err c.from_residual.result c.from_residual.ensures.1 (λ fault is. subst (λ (it : Geometry). IsRefused it disk c.args.store c.args.last fault) inv.0 (elim (c.in_err-slot.ensures.refused front disk S (inv.2 front disk S shows).shows) [
+    if_err c.from_residual.result c.from_residual.ensures.1 (λ fault is. subst (λ (it : Geometry). IsRefused it disk c.args.store c.args.last fault) inv.0 (elim (c.in_err-slot.ensures.refused front disk (inv.6 front disk holds).0) [
       | inl device ↦ inl (is ∙ device)
       | inr other ↦ elim other [
         | inl memory ↦ inr (inl (is ∙ memory))

@@ -6,8 +6,8 @@ use Rattle.shore_heap.specs.Scans.{IsScan}
 use Rattle.shore_heap.proofs.heap.Heap.scan.Goals as goal
 
 pub returns-in_err-scan_pages-clause-refused : goal.returns-in_err-scan_pages-clause-refused
-returns-in_err-scan_pages-clause-refused g c front disk S shows =
-    let why = c.in_err-scan_pages.ensures.refused front disk S shows in
+returns-in_err-scan_pages-clause-refused g c front disk holds =
+    let why = c.in_err-scan_pages.ensures.refused front disk holds in
     if_err c.from_residual.result c.from_residual.ensures.1 (λ fault is. subst (IsRefused (geometry_of c.args.self.now) disk c.args.store c.args.last) (sym is) why)
 
 pub returns-clause-scanned : goal.returns-clause-scanned

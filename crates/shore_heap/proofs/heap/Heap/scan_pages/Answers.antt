@@ -49,9 +49,9 @@ pub returns-in_err-scan_page-clause-untouched : goal.returns-in_err-scan_page-cl
 returns-in_err-scan_page-clause-untouched g c = keeps_then c.args.self.now c.loop-page.self c.scan_page.new.self c.loop-page.invariant.6 c.scan_page.ensures.untouched
 
 pub returns-in_err-scan_page-clause-refused : goal.returns-in_err-scan_page-clause-refused
-returns-in_err-scan_page-clause-refused g c front disk S shows =
+returns-in_err-scan_page-clause-refused g c front disk holds =
     let inv = c.loop-page.invariant in
-    let why = subst (λ (it : Geometry). IsRefused it disk c.args.store c.args.last c.in_err-scan_page.field-0.0) inv.0 (c.in_err-scan_page.ensures.refused front disk S (inv.2 front disk S shows).shows) in
+    let why = subst (λ (it : Geometry). IsRefused it disk c.args.store c.args.last c.in_err-scan_page.field-0.0) inv.0 (c.in_err-scan_page.ensures.refused front disk (inv.6 front disk holds).0) in
     if_err c.from_residual.result c.from_residual.ensures.1 (λ fault is. subst (IsRefused (geometry_of c.args.self.now) disk c.args.store c.args.last) (sym is) why)
 
 pub returns-clause-scanned : goal.returns-clause-scanned

@@ -12,8 +12,8 @@ pub returns-in_err-fetch-clause-others : goal.returns-in_err-fetch-clause-others
 returns-in_err-fetch-clause-others g c p apart = ap (λ (l : List (List ℕ)). bound_of l p) c.fetch.ensures.bounds
 
 pub returns-in_err-fetch-clause-refused : goal.returns-in_err-fetch-clause-refused
-returns-in_err-fetch-clause-refused g c front disk S shows =
-    if_err c.from_residual.result c.from_residual.ensures.1 (λ fault is. elim (c.in_err-fetch.ensures.refused front disk S shows) [
+returns-in_err-fetch-clause-refused g c front disk holds =
+    if_err c.from_residual.result c.from_residual.ensures.1 (λ fault is. elim (c.in_err-fetch.ensures.refused front disk holds) [
       | inl device ↦ inl (is ∙ device)
       | inr other ↦ elim other [
         | inl memory ↦ inr (inl (is ∙ memory))

@@ -12,10 +12,12 @@ returns-clause-like g c =
       geometry = e.geometry;
       state = λ front disk s is. e.state front disk (records_of_log old.log) s is;
       list = list;
+      durable = e.durable;
+      failed = e.running;
       history = refl;
       staged = refl;
       faults = refl;
-      volume = e.history;
+      volume = λ front disk s is. e.history;
       volume_faults = e.faults;
       kept = λ front k. kept_as_before old _ list e.durable refl (λ run. sym e.running ∙ run) front (λ ready. ready) k;
     }

@@ -3,7 +3,9 @@ use Rattle.std.proofs.lemmas.List.{take_all, take_more}
 use Rattle.shore_calls.specs.declared.step.Step.{Step}
 use Rattle.shore_world.specs.declared.event.Event.{Event}
 use Rattle.shore_world.specs.Worlds.{Runs}
-use Rattle.shore_world.proofs.RunLemmas.{one_more}
+use Rattle.shore_calls.specs.CallSteps.{ManagerEvent}
+use Rattle.shore_world.specs.EventMoves.{all_moves}
+use Rattle.shore_world.proofs.RunLemmas.{all_further, one_more}
 use Rattle.shore_world.proofs.world.World.run.Goals as goal
 
 pub returns-clause-runs : goal.returns-clause-runs
@@ -11,7 +13,7 @@ returns-clause-runs g c =
     let r = c.loop-event.invariant.runs in (
       r.0,
       r.1 ∙ ap (λ (l : List Step). l ++ r.0) c.reserve.ensures.items,
-      subst (λ (l : List Event). Runs c.args.self.now l r.0 c.loop-event.self) (take_all c.loop-event.event-index c.args.events.now c.loop-event-test.false) r.2,
+      subst (λ (l : List Event). Runs c.args.self.now l r.0 (all_moves l r.0) c.loop-event.self) (take_all c.loop-event.event-index c.args.events.now c.loop-event-test.false) r.2,
     )
 
 pub loop-event-preserved : goal.loop-event-preserved
@@ -26,6 +28,8 @@ loop-event-preserved g c =
       runs = (
         r.0 ++ c.step_of-step.result ∷ [],
         c.push_reserved.ensures.items ∙ ap (λ (l : List Step). l ++ c.step_of-step.result ∷ []) r.1 ∙ append_assoc c.reserve.new.self.items r.0 (c.step_of-step.result ∷ []),
-        subst (λ (l : List Event). Runs c.args.self.now l (r.0 ++ c.step_of-step.result ∷ []) c.step_of-step.new.self) (sym longer) (one_more _ _ _ _ _ _ _ r.2 c.step_of-step.ensures),
+        subst (λ (l : List Event). Runs c.args.self.now l (r.0 ++ c.step_of-step.result ∷ []) (all_moves l (r.0 ++ c.step_of-step.result ∷ [])) c.step_of-step.new.self) (sym longer)
+            (subst (λ (moves : List ManagerEvent). Runs c.args.self.now (take i xs ++ c.event-item.result ∷ []) (r.0 ++ c.step_of-step.result ∷ []) moves c.step_of-step.new.self)
+            (sym (all_further _ _ _ _ _ _ _ r.2)) (one_more _ _ _ _ _ _ _ _ r.2 c.step_of-step.ensures)),
       );
     }

@@ -1,0 +1,62 @@
+-- An event of the world, as the manager over plain data has it.
+use Rattle.std.specs.Prelude.{List, [], ◌∷◌, ◌++◌}
+use Rattle.shore_types.specs.declared.faults.Fault.{Fault}
+use Rattle.shore_types.specs.declared.faults.Fault.TheVariants.{Device}
+use Rattle.shore_model.specs.declared.calls.Answer.{Answer}
+use Rattle.shore_model.specs.declared.calls.Answer.TheVariants.{Began, Got, Inserted, Updated, Deleted, Scanned, Locked, Saved, WentBack, Committed, Aborted, Prepared, Resolved, AreInDoubt, Staged, Forced, Flushed, Begun, Ended, Anchored, Moved, Cut}
+use Rattle.shore_calls.specs.declared.step.Step.{Step}
+use Rattle.shore_calls.specs.declared.step.Step.TheVariants.{Done, Waits, Refused, Nothing}
+use Rattle.shore_calls.specs.CallSteps as calls
+use Rattle.shore_calls.specs.CallSteps.{ManagerEvent}
+use Rattle.shore_world.specs.declared.event.Event.{Event}
+use Rattle.shore_world.specs.declared.event.Event.TheVariants as event
+
+-- a force that the device refuses is the failure that it is told of
+abbrev pub failure_by : Fault → List ManagerEvent
+failure_by Device = calls.HasFailed ∷ []
+failure_by _ = []
+
+-- the number that a step of a force made durable
+abbrev pub forced_by : Answer → List ManagerEvent
+forced_by (Forced n) = calls.Forced n ∷ []
+forced_by (Began t) = []
+forced_by (Got device_bytes) = []
+forced_by (Inserted id) = []
+forced_by Updated = []
+forced_by Deleted = []
+forced_by (Scanned pairs) = []
+forced_by Locked = []
+forced_by (Saved index) = []
+forced_by WentBack = []
+forced_by Committed = []
+forced_by Aborted = []
+forced_by Prepared = []
+forced_by Resolved = []
+forced_by (AreInDoubt pairs) = []
+forced_by (Staged n) = []
+forced_by (Flushed count) = []
+forced_by (Begun n) = []
+forced_by (Ended n) = []
+forced_by (Anchored checkpoint tail) = []
+forced_by Moved = []
+forced_by Cut = []
+
+-- a call and a resume with what they came to; of a force the number that it made durable, or the device's failure
+abbrev pub moves_by : Event → Step → List ManagerEvent
+moves_by (event.Call session call) step = calls.Called session call step ∷ []
+moves_by (event.Resume session) step = calls.Resumed session step ∷ []
+moves_by event.ForceStage (Done answer) = []
+moves_by event.ForceStage (Refused fault) = failure_by fault
+moves_by event.ForceStage (Waits wait) = []
+moves_by event.ForceStage Nothing = []
+moves_by event.ForceOpen (Done answer) = forced_by answer
+moves_by event.ForceOpen (Refused fault) = failure_by fault
+moves_by event.ForceOpen (Waits wait) = []
+moves_by event.ForceOpen Nothing = []
+
+-- .. of all, one after another
+abbrev pub all_moves : List Event → List Step → List ManagerEvent
+all_moves (e ∷ es) (step ∷ steps) = moves_by e step ++ all_moves es steps
+all_moves [] [] = []
+all_moves [] (step ∷ steps) = []
+all_moves (e ∷ es) [] = []
