@@ -71,9 +71,10 @@ id_fits id short =
 payload_text : (p : Payload) → PayloadFits p → IsTrue (payload_has_text p)
 payload_text (Change id before after) fits =
     both _ _ (both _ _ (both _ _ (id_short id fits.rid) (image_short before fits.old)) (image_short after fits.new)) (one before after fits.some)
+payload_text (Compensation id after undo_next) fits =
+    both _ _ (both _ _ (id_short id fits.rid) (image_short after fits.image)) (lt_test _ _ fits.next)
 payload_text Commit fits = refl
-payload_text (Compensation id after undo_next) fits = absurd fits
-payload_text End fits = absurd fits
+payload_text End fits = refl
 payload_text (Prepare global granules) fits = absurd fits
 payload_text RollbackDecided fits = absurd fits
 payload_text CheckpointBegin fits = absurd fits
@@ -85,9 +86,11 @@ payload_fits (Change id before after) h =
     let a = first _ _ h in
     let b = first _ _ a in
     record { rid = id_fits id (first _ _ b); old = image_fits before (second _ _ b); new = image_fits after (second _ _ a); some = either before after (second _ _ h) }
+payload_fits (Compensation id after undo_next) h =
+    let a = first _ _ h in
+    record { rid = id_fits id (first _ _ a); image = image_fits after (second _ _ a); next = test_lt _ _ (second _ _ h) }
 payload_fits Commit h = tt
-payload_fits (Compensation id after undo_next) h = absurd cc
-payload_fits End h = absurd cc
+payload_fits End h = tt
 payload_fits (Prepare global granules) h = absurd cc
 payload_fits RollbackDecided h = absurd cc
 payload_fits CheckpointBegin h = absurd cc

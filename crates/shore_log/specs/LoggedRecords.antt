@@ -17,9 +17,9 @@ id_is_short id = nat_lt id.page.store (2 ^ 32) && nat_lt id.page.page (2 ^ 32) &
 abbrev pub payload_has_text : Payload → Bool
 payload_has_text (Change id before image) =
     id_is_short id && image_is_short before && image_is_short image && (is_some before || is_some image)
+payload_has_text (Compensation id image undo_next) = id_is_short id && image_is_short image && nat_lt undo_next (2 ^ 64)
 payload_has_text Commit = true
-payload_has_text (Compensation id image undo_next) = false
-payload_has_text End = false
+payload_has_text End = true
 payload_has_text (Prepare global granules) = false
 payload_has_text RollbackDecided = false
 payload_has_text CheckpointBegin = false

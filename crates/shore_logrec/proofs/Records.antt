@@ -11,11 +11,11 @@ use Rattle.shore_model.specs.declared.log_records.LogRecord.{LogRecord}
 use Rattle.shore_model.specs.declared.log_records.Payload.{Payload}
 use Rattle.shore_model.specs.declared.log_records.Payload.TheVariants.{Change, Compensation, Commit, End, Prepare, RollbackDecided, CheckpointBegin, CheckpointEnd, Anchor}
 use Rattle.shore_logrec.specs.declared.reading.Head.{Head}
-use Rattle.shore_logrec.specs.Text.{rid_text, string_text, image_text, change_text, payload_text, kind_of, head_text, text, RidFits, ImageFits, ChangeFits, PayloadFits, Fits}
-use Rattle.shore_logrec.specs.Reading.{◌>>=◌, pair_at, made_at, whole, byte_at, number_at, string_at, image_at, rid_at, change_fields_at, change_of, change_at, empty_at, payload_at, head_of, front_at, record_of, record_at}
+use Rattle.shore_logrec.specs.Text.{rid_text, string_text, image_text, change_text, compensation_text, payload_text, kind_of, head_text, text, RidFits, ImageFits, ChangeFits, CompensationFits, PayloadFits, Fits}
+use Rattle.shore_logrec.specs.Reading.{◌>>=◌, pair_at, made_at, whole, byte_at, number_at, string_at, image_at, rid_at, change_fields_at, change_of, change_at, compensation_fields_at, compensation_of, compensation_at, empty_at, payload_at, head_of, front_at, record_of, record_at}
 use Rattle.shore_logrec.proofs.Numbers.{IsBytes}
-use Rattle.shore_logrec.proofs.Readers.{IsReader, IsBytes-behind, IsBytes-front, bind_some, guard_some, guard_kept, pair_reads, made_reads, whole_takes, whole_again, byte_reads, number_reads, string_reads, image_reads, rid_reads}
-use Rattle.shore_logrec.proofs.TextLengths.{length-image_text, length-change_text}
+use Rattle.shore_logrec.proofs.Readers.{IsReader, IsBytes-behind, IsBytes-front, bind_some, some_is, guard_some, guard_kept, pair_reads, made_reads, whole_takes, whole_again, byte_reads, number_reads, string_reads, image_reads, rid_reads}
+use Rattle.shore_logrec.proofs.TextLengths.{length-image_text, length-change_text, length-compensation_text}
 
 some_one : (a b : Image) → (is_some a || is_some b) ≡ true → IsSome a ⊎ IsSome b
 some_one (Some a) b e = inl refl
@@ -56,6 +56,28 @@ change_again id before after fits =
     let read = whole_again change_fields_at (λ x. (rid_text x.0.0 ++ image_text x.0.1) ++ image_text x.1) (λ x. (RidFits x.0.0 × ImageFits x.0.1) × ImageFits x.1) change_fields_read ((id, before), after) ((fits.rid, fits.old), fits.new) in
     rw (read, one_some before after fits.some) refl
 
+-- ---- a Compensation
+
+compensation_fields_read : IsReader compensation_fields_at (λ x. (rid_text x.0.0 ++ image_text x.0.1) ++ little_bytes 8 x.1) (λ x. (RidFits x.0.0 × ImageFits x.0.1) × (x.1 < 2 ^ 64))
+unfolding compensation_fields_at
+compensation_fields_read =
+    pair_reads (pair_at rid_at image_at) (number_at 8) (λ x. rid_text x.0 ++ image_text x.1) (little_bytes 8) (λ x. RidFits x.0 × ImageFits x.1) (λ n. n < 2 ^ 64)
+    (pair_reads rid_at image_at rid_text image_text RidFits ImageFits rid_reads image_reads) (number_reads 8)
+
+compensation_takes : (bytes : List ℕ) (p : Payload) → IsBytes bytes → compensation_at bytes ≡ Some p → Says 2 bytes p
+unfolding compensation_at
+compensation_takes bytes p fits e =
+    let x = bind_some (whole compensation_fields_at bytes) compensation_of p e in
+    let t = whole_takes compensation_fields_at (λ x. (rid_text x.0.0 ++ image_text x.0.1) ++ little_bytes 8 x.1) (λ x. (RidFits x.0.0 × ImageFits x.0.1) × (x.1 < 2 ^ 64)) compensation_fields_read bytes x.0 fits x.1 in
+    subst (Says 2 bytes) (some_is (Compensation x.0.0.0 x.0.0.1 x.0.1) p x.2) (record { kind_is = refl; parts = t.0; fits = record { rid = t.1.0.0; image = t.1.0.1; next = t.1.1 } })
+
+compensation_again : (id : Rid) (after : Image) (undo_next : ℕ) → CompensationFits id after undo_next
+    → compensation_at (compensation_text id after undo_next) ≡ Some (Compensation id after undo_next)
+unfolding compensation_at
+compensation_again id after undo_next fits =
+    let read = whole_again compensation_fields_at (λ x. (rid_text x.0.0 ++ image_text x.0.1) ++ little_bytes 8 x.1) (λ x. (RidFits x.0.0 × ImageFits x.0.1) × (x.1 < 2 ^ 64)) compensation_fields_read ((id, after), undo_next) ((fits.rid, fits.image), fits.next) in
+    rw read refl
+
 -- ---- payloads
 
 -- which branch gave a value
@@ -73,34 +95,43 @@ empty_takes kind empty kind_is nothing fits bytes p e =
 payload_takes : (kind : ℕ) (bytes : List ℕ) (p : Payload) → IsBytes bytes → payload_at kind bytes ≡ Some p → Says kind bytes p
 unfolding payload_at
 payload_takes kind bytes p fits e =
-    elim (given_by (eqb kind 1) (change_at bytes) (cond (eqb kind 3) (empty_at Commit bytes) None) p e) [
+    let last = cond (eqb kind 4) (empty_at End bytes) None in
+    let behind = cond (eqb kind 3) (empty_at Commit bytes) last in
+    elim (given_by (eqb kind 1) (change_at bytes) (cond (eqb kind 2) (compensation_at bytes) behind) p e) [
       | inl change ↦ subst (λ (k : ℕ). Says k bytes p) (sym (eqb-true _ _ change.0)) (change_takes bytes p fits change.1)
-      | inr other ↦ elim (given_by (eqb kind 3) (empty_at Commit bytes) None p other.1) [
-        | inl commit ↦ subst (λ (k : ℕ). Says k bytes p) (sym (eqb-true _ _ commit.0)) (empty_takes 3 Commit refl refl tt bytes p commit.1)
-        | inr none ↦ absurd (let e = none.1 in cc)
+      | inr second ↦ elim (given_by (eqb kind 2) (compensation_at bytes) behind p second.1) [
+        | inl compensation ↦ subst (λ (k : ℕ). Says k bytes p) (sym (eqb-true _ _ compensation.0)) (compensation_takes bytes p fits compensation.1)
+        | inr third ↦ elim (given_by (eqb kind 3) (empty_at Commit bytes) last p third.1) [
+          | inl commit ↦ subst (λ (k : ℕ). Says k bytes p) (sym (eqb-true _ _ commit.0)) (empty_takes 3 Commit refl refl tt bytes p commit.1)
+          | inr fourth ↦ elim (given_by (eqb kind 4) (empty_at End bytes) None p fourth.1) [
+            | inl ended ↦ subst (λ (k : ℕ). Says k bytes p) (sym (eqb-true _ _ ended.0)) (empty_takes 4 End refl refl tt bytes p ended.1)
+            | inr none ↦ absurd (let e = none.1 in cc)
+          ]
+        ]
       ]
     ]
 
 payload_again : (p : Payload) → PayloadFits p → payload_at (kind_of p) (payload_text p) ≡ Some p
 unfolding payload_at
 payload_again (Change id before after) fits = change_again id before after fits
-payload_again (Compensation id after undo_next) fits = absurd fits
+payload_again (Compensation id after undo_next) fits = compensation_again id after undo_next fits
 payload_again Commit fits = refl
-payload_again End fits = absurd fits
+payload_again End fits = refl
 payload_again (Prepare global granules) fits = absurd fits
 payload_again RollbackDecided fits = absurd fits
 payload_again CheckpointBegin fits = absurd fits
 payload_again (CheckpointEnd begin next txns dirty) fits = absurd fits
 payload_again (Anchor checkpoint tail) fits = absurd fits
 
+image_most : (image : Image) → ImageFits image → length (image_text image) ≤ 4003
+image_most None fits = omega arith
+image_most (Some bytes) fits = omega (arith, length-image_text (Some bytes))
+
 -- a payload has at most 8,016 bytes
 pub length-payload_text-le : (p : Payload) → PayloadFits p → length (payload_text p) ≤ 8016
 length-payload_text-le (Change id before after) fits =
     omega (arith, length-change_text id before after, image_most before fits.old, image_most after fits.new)
-  where
-    image_most : (image : Image) → ImageFits image → length (image_text image) ≤ 4003
-    image_most None fits = omega arith
-    image_most (Some bytes) fits = omega (arith, length-image_text (Some bytes))
+length-payload_text-le (Compensation id after undo_next) fits = omega (arith, length-compensation_text id after undo_next, image_most after fits.image)
 length-payload_text-le Commit fits = omega arith
 length-payload_text-le _ fits = omega arith
 

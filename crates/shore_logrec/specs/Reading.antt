@@ -6,7 +6,7 @@ use Rattle.shore_types.specs.declared.layout.TheConstants.{MAX_RECORD_BYTES}
 use Rattle.shore_types.specs.Images.{Image}
 use Rattle.shore_model.specs.declared.log_records.LogRecord.{LogRecord}
 use Rattle.shore_model.specs.declared.log_records.Payload.{Payload}
-use Rattle.shore_model.specs.declared.log_records.Payload.TheVariants.{Change, Commit}
+use Rattle.shore_model.specs.declared.log_records.Payload.TheVariants.{Change, Compensation, Commit, End}
 use Rattle.shore_logrec.specs.declared.reading.Head.{Head}
 
 infixl 10 ◌>>=◌
@@ -77,6 +77,16 @@ change_of x = if is_some x.0.1 || is_some x.1 then Some (Change x.0.0 x.0.1 x.1)
 unfoldable pub change_at : List ℕ → Option Payload
 change_at bytes = whole change_fields_at bytes >>= change_of
 
+-- a record id, the image after, and the number that is to be undone next
+unfoldable pub compensation_fields_at : Reader ((Rid × Image) × ℕ)
+compensation_fields_at = pair_at (pair_at rid_at image_at) (number_at 8)
+
+abbrev pub compensation_of : (Rid × Image) × ℕ → Option Payload
+compensation_of x = Some (Compensation x.0.0 x.0.1 x.1)
+
+unfoldable pub compensation_at : List ℕ → Option Payload
+compensation_at bytes = whole compensation_fields_at bytes >>= compensation_of
+
 -- a payload of no bytes
 abbrev pub empty_at : Payload → List ℕ → Option Payload
 empty_at payload bytes = if length bytes == 0 then Some payload else None
@@ -85,8 +95,10 @@ empty_at payload bytes = if length bytes == 0 then Some payload else None
 unfoldable pub payload_at : ℕ → List ℕ → Option Payload
 payload_at kind bytes =
     if kind == 1 then change_at bytes else (
-    if kind == 3 then empty_at Commit bytes else
-    None)
+    if kind == 2 then compensation_at bytes else (
+    if kind == 3 then empty_at Commit bytes else (
+    if kind == 4 then empty_at End bytes else
+    None)))
 
 abbrev pub head_of : (ℕ × ℕ) × ℕ → Head
 head_of n = record { kind = n.0.0; txn = n.0.1; previous = n.1 }

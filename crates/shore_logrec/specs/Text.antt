@@ -130,12 +130,17 @@ pub record ChangeFits (id : Rid) (before after : Image) : Type 0 where
   pub new : ImageFits after
   pub some : IsSome before ⊎ IsSome after
 
--- what is written and read: Change and Commit as yet
+pub record CompensationFits (r : Rid) (after : Image) (undo_next : ℕ) : Type 0 where
+  pub rid : RidFits r
+  pub image : ImageFits after
+  pub next : undo_next < 2 ^ 64
+
+-- what is written and read: Change, Compensation, Commit and End as yet
 abbrev pub PayloadFits : Payload → Type 0
 PayloadFits (Change id before after) = ChangeFits id before after
-PayloadFits (Compensation id after undo_next) = ⊥
+PayloadFits (Compensation id after undo_next) = CompensationFits id after undo_next
 PayloadFits Commit = Unit {0}
-PayloadFits End = ⊥
+PayloadFits End = Unit {0}
 PayloadFits (Prepare global granules) = ⊥
 PayloadFits RollbackDecided = ⊥
 PayloadFits CheckpointBegin = ⊥

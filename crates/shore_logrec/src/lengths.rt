@@ -44,6 +44,9 @@ pub(crate) fn payload_len(payload: &Payload) -> usize
         Payload::Change { before, after, .. } => {
             RID_BYTES + image_len(length_of(before)) + image_len(length_of(after))
         }
+        Payload::Compensation { after, .. } => {
+            RID_BYTES + image_len(length_of(after)) + LSN_BYTES
+        }
         _ => 0,
     }
 }

@@ -1,4 +1,4 @@
-//! Log records and their texts, version 1 of the format. Kinds 1 (Change) and 3 (Commit) are served.
+//! Log records and their texts, version 1 of the format. Kinds 1 to 4 (Change, Compensation, Commit, End) are served.
 #![tactic(auto)]
 
 mod costs;

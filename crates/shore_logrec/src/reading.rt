@@ -148,13 +148,40 @@ fn read_change(alloc: Global, bytes: &[u8]) -> Result<Option<Payload>, AllocErro
     Ok(Some(Payload::Change { id, before, after }))
 }
 
+#[tactic(auto, unfolding(crate::specs::Reading::compensation_at, crate::specs::Reading::compensation_fields_at))]
+fn read_compensation(alloc: Global, bytes: &[u8]) -> Result<Option<Payload>, AllocError>
+    ensures { IfOk result (λ found. found ≡ spec.compensation_at bytes.now) }
+{
+    let Some((id, rest)) = rid_at(bytes) else {
+        return Ok(None);
+    };
+    let Some((after, rest)) = image_at(rest) else {
+        return Ok(None);
+    };
+    let Some((undo_next, rest)) = u64_at(rest) else {
+        return Ok(None);
+    };
+    if !rest.is_empty() {
+        return Ok(None);
+    }
+    let after = copy_image(alloc, after)?;
+    let undo_next = Lsn(undo_next);
+    Ok(Some(Payload::Compensation {
+        id,
+        after,
+        undo_next,
+    }))
+}
+
 #[tactic(auto, unfolding(crate::specs::Reading::payload_at))]
 fn read_payload(alloc: Global, kind: u8, bytes: &[u8]) -> Result<Option<Payload>, AllocError>
     ensures { IfOk result (λ found. found ≡ spec.payload_at kind bytes.now) }
 {
     match kind {
         1 => read_change(alloc, bytes),
+        2 => read_compensation(alloc, bytes),
         3 if bytes.is_empty() => Ok(Some(Payload::Commit)),
+        4 if bytes.is_empty() => Ok(Some(Payload::End)),
         _ => Ok(None),
     }
 }

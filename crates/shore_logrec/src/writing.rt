@@ -1,14 +1,14 @@
 //! Texts from their records.
 ghost use Rattle.std.specs.Prelude.{◌≡◌, ◌++◌, length, OnOk, OnErr};
 ghost use Rattle.byteorder.specs.Endian.{little_bytes};
-ghost use Rattle.shore_logrec.specs.Text.{Fits, ImageFits, ChangeFits, PayloadFits, kind_of};
-ghost use Rattle.shore_logrec.specs.Text.{rid_text, image_text, change_text, payload_text, head_text, text};
+ghost use Rattle.shore_logrec.specs.Text.{Fits, ImageFits, ChangeFits, CompensationFits, PayloadFits, kind_of};
+ghost use Rattle.shore_logrec.specs.Text.{rid_text, image_text, change_text, compensation_text, payload_text, head_text, text};
 ghost use Rattle.shore_logrec.specs.Room.{HasRoom, Puts};
 
 use crate::lengths::{encoded_len, payload_len};
 use byteorder::{ByteOrder, LittleEndian};
 use shore_model::{LogRecord, Payload};
-use shore_types::{Bytes, Rid};
+use shore_types::{Bytes, Lsn, Rid};
 use std::alloc::AllocError;
 
 // Puts the bytes into room that is there.
@@ -85,6 +85,17 @@ fn put_change(out: &mut Vec<u8>, id: Rid, before: &Option<Bytes>, after: &Option
 }
 
 #[tactic(auto, using(crate::proofs::TextLengths::lengths))]
+fn put_compensation(out: &mut Vec<u8>, id: Rid, after: &Option<Bytes>, undo_next: Lsn)
+    requires fits { CompensationFits id after.now undo_next }
+    requires room { HasRoom out.old (length (compensation_text id after.now undo_next)) }
+    ensures { Puts out.old out.new (compensation_text id after.now undo_next) }
+{
+    put_rid(out, id);
+    put_image(out, after);
+    put_u64(out, undo_next.0);
+}
+
+#[tactic(auto, using(crate::proofs::TextLengths::lengths))]
 fn put_payload(out: &mut Vec<u8>, payload: &Payload)
     requires fits { PayloadFits payload.now }
     requires room { HasRoom out.old (length (payload_text payload.now)) }
@@ -92,6 +103,11 @@ fn put_payload(out: &mut Vec<u8>, payload: &Payload)
 {
     match payload {
         Payload::Change { id, before, after } => put_change(out, *id, before, after),
+        Payload::Compensation {
+            id,
+            after,
+            undo_next,
+        } => put_compensation(out, *id, after, *undo_next),
         _ => {}
     }
 }

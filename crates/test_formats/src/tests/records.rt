@@ -1,5 +1,5 @@
-//! The texts of log records: the insert of one byte and its commit, and a change of another page.
-ghost use Rattle.std.specs.Prelude.{IfOk};
+//! The texts of log records: the insert of one byte and its commit, a change of another page, and the Compensations and the End of a rollback.
+ghost use Rattle.std.specs.Prelude.{◌<◌, IfOk, length};
 ghost use Rattle.shore_logrec.specs.Text.{Fits, PayloadFits};
 
 use shore_logrec::{LogRecord, Payload, decode, encode};
@@ -125,5 +125,103 @@ fn is_other_text(alloc: Global, text: &[u8]) -> Result<bool, AllocError> {
 #[test]
 fn a_change_of_another_page_has_its_bytes(rt: HostRuntime) -> Result<(), AllocError> {
     assert!(rt; is_other_text(rt.alloc(), &OTHER_CHANGE)?);
+    Ok(())
+}
+
+// Transaction 258 puts back what stood at 3.2.1; its record before is 4, and 769 is to be undone next.
+const COMPENSATION: [u8; 43] = [
+    0x02, 0x02, 0x01, 0, 0, 0, 0, 0, 0, 0x04, 0, 0, 0, 0, 0, 0, 0, 0x16, 0, 0, 0, 0x03, 0, 0, 0,
+    0x02, 0, 0, 0, 0x01, 0, 0x01, 0x01, 0, 0xbb, 0x01, 0x03, 0, 0, 0, 0, 0, 0,
+];
+
+// It takes back an insert at 3.2.1, and has nothing left to undo.
+const LAST_COMPENSATION: [u8; 40] = [
+    0x02, 0x02, 0x01, 0, 0, 0, 0, 0, 0, 0x05, 0, 0, 0, 0, 0, 0, 0, 0x13, 0, 0, 0, 0x03, 0, 0, 0,
+    0x02, 0, 0, 0, 0x01, 0, 0x00, 0, 0, 0, 0, 0, 0, 0, 0,
+];
+
+// It ends; its record before is 6.
+const END: [u8; 21] = [
+    0x04, 0x02, 0x01, 0, 0, 0, 0, 0, 0, 0x06, 0, 0, 0, 0, 0, 0, 0, 0, 0, 0, 0,
+];
+
+fn compensation(
+    alloc: Global,
+    byte: Option<u8>,
+    previous: u64,
+    undo_next: u64,
+) -> Result<LogRecord, AllocError>
+    ensures { IfOk result Fits }
+{
+    let page = PageId {
+        store: StoreId(3),
+        page: 2,
+    };
+    let after = match byte {
+        Some(byte) => Some(Sequence::from_vec(vec![in alloc; byte; 1]?)),
+        None => None,
+    };
+    Ok(LogRecord {
+        txn: TxnId(258),
+        previous: Lsn(previous),
+        payload: Payload::Compensation {
+            id: Rid { page, slot: 1 },
+            after,
+            undo_next: Lsn(undo_next),
+        },
+    })
+}
+
+fn is_compensation(
+    alloc: Global,
+    byte: Option<u8>,
+    previous: u64,
+    undo_next: u64,
+    text: &[u8],
+) -> Result<bool, AllocError> {
+    let record = compensation(alloc, byte, previous, undo_next)?;
+    has_text(alloc, &record, text)
+}
+
+fn is_end(alloc: Global) -> Result<bool, AllocError> {
+    let end = LogRecord {
+        txn: TxnId(258),
+        previous: Lsn(6),
+        payload: Payload::End,
+    };
+    has_text(alloc, &end, &END)
+}
+
+// Whether no record is read off the bytes with one of them changed.
+fn is_refused_with(alloc: Global, bytes: &[u8], at: usize, byte: u8) -> Result<bool, AllocError>
+    requires { at < length bytes.now }
+{
+    let mut changed = Vec::from_slice(alloc, bytes)?;
+    changed[at] = byte;
+    Ok(decode(alloc, changed.as_slice())?.is_none())
+}
+
+#[test]
+fn compensations_have_their_bytes(rt: HostRuntime) -> Result<(), AllocError> {
+    assert!(rt; is_compensation(rt.alloc(), Some(0xbb), 4, 769, &COMPENSATION)?);
+    assert!(rt; is_compensation(rt.alloc(), None, 5, 0, &LAST_COMPENSATION)?);
+    Ok(())
+}
+
+#[test]
+fn an_end_has_its_bytes(rt: HostRuntime) -> Result<(), AllocError> {
+    assert!(rt; is_end(rt.alloc())?);
+    Ok(())
+}
+
+// An image tag of 2, a payload one byte short, an End with a payload, and kinds 0, 5 and 9.
+#[test]
+fn other_bytes_are_refused(rt: HostRuntime) -> Result<(), AllocError> {
+    assert!(rt; is_refused_with(rt.alloc(), &COMPENSATION, 31, 2)?);
+    assert!(rt; is_refused_with(rt.alloc(), &COMPENSATION, 17, 0x15)?);
+    assert!(rt; is_refused_with(rt.alloc(), &COMPENSATION, 0, 4)?);
+    for kind in [0, 5, 6, 7, 8, 9] {
+        assert!(rt; is_refused_with(rt.alloc(), &END, 0, kind)?);
+    }
     Ok(())
 }
