@@ -41,10 +41,10 @@ module _ (found : List LogRecord) (es : List Entry) (s : State) (k : IsStateAfte
       absurd (omega arith)
   keeps t (inr later) m g h = let a = txn_of_one t s.sessions.active later in absurd (nobody a.0 (inl a.1))
 
-  begin_moves : StepsTo s.sessions (BeginTxn session) (txn_begun s.sessions session)
+  pub begin_moves : StepsTo s.sessions (BeginTxn session) (txn_begun s.sessions session)
   begin_moves = (idle, refl)
 
-  lock_moves : StepsTo (txn_begun s.sessions session) (MoveLocks (volume_lock next)) (begun s session).sessions
+  pub lock_moves : StepsTo (txn_begun s.sessions session) (MoveLocks (volume_lock next)) (begun s session).sessions
   lock_moves = (lock_in_harmony next, keeps, lock_below next (next + 1) (omega arith), refl)
 
   pub sessions_begun : AreSessionsAfter (length found) (records_committed found) (es ++ began ∷ []) (begun s session).sessions s.log

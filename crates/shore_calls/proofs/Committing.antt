@@ -48,7 +48,7 @@ module _ (found : List LogRecord) (es : List Entry) (s : State) (k : IsStateAfte
     commit_goes_on : IsPrefix s.log (committed s a).log
     commit_goes_on = (commit_record ∷ [], refl)
 
-    commit_moves : StepsTo s.sessions (AppendCommit a) (committed s a).sessions
+    pub commit_moves : StepsTo s.sessions (AppendCommit a) (committed s a).sessions
     commit_moves = (mem, refl)
 
     sessions_committed : AreSessionsAfter (length found) (records_committed found) (es ++ decided ∷ []) (committed s a).sessions (committed s a).log
@@ -129,10 +129,10 @@ module _ (found : List LogRecord) (es : List Entry) (s : State) (k : IsStateAfte
     keeps_none : (t : ℕ) → IsAmong t (txns_of s.sessions.active) → KeepsLocks s.sessions.held [] t
     keeps_none t among = let b = txn_of_one t s.sessions.active among in absurd (none_under_way b.0 b.1)
 
-    tell_moves : StepsTo s.sessions (AnswerCommit a) (commit_answered s.sessions a)
+    pub tell_moves : StepsTo s.sessions (AnswerCommit a) (commit_answered s.sessions a)
     tell_moves = (mem, refl)
 
-    unlock_moves : StepsTo (commit_answered s.sessions a) (MoveLocks []) (commit_told s a).sessions
+    pub unlock_moves : StepsTo (commit_answered s.sessions a) (MoveLocks []) (commit_told s a).sessions
     unlock_moves = (no_locks_in_harmony, keeps_none, All-nil (λ (h : Hold). h.txn < s.sessions.next_txn), refl)
 
     sessions_told : AreSessionsAfter (length found) (records_committed found) (es ++ told ∷ []) (commit_told s a).sessions s.log
@@ -162,7 +162,7 @@ module _ (found : List LogRecord) (es : List Entry) (s : State) (k : IsStateAfte
     number_of (Durable n) = n
     number_of _ = 0
 
-    commit_durable : Contains (decisions_in (length found) (take s.durable s.log)) (decision.Commit (txn_of s.sessions session))
+    pub commit_durable : Contains (decisions_in (length found) (take s.durable s.log)) (decision.Commit (txn_of s.sessions session))
     commit_durable =
         let h = k.waits.each (commit_waiting session n) waiting in
         let same : n ≡ h.0 = ap (λ (w : Waiting). number_of w.wait) h.2 in

@@ -30,7 +30,7 @@ use Rattle.shore_calls.specs.States.{IsInTxn, State}
 
 -- ---- which refusals tell of a record
 
-tells_or_none : (f : Fault) → TellsNothing f ⊎ (f ≡ fault.NoRecord)
+pub tells_or_none : (f : Fault) → TellsNothing f ⊎ (f ≡ fault.NoRecord)
 tells_or_none fault.NoRecord = inr refl
 tells_or_none _ = inl tt
 
@@ -57,13 +57,13 @@ module _ (g : Geometry) (s : State) (session : ℕ) where
   finds_none call.Commit h = let e = h.0 in cc
   finds_none _ h = absurd h
 
-  refused_none : (c : Call) → Refuses g s session c fault.NoRecord → FindsNone s session c
+  pub refused_none : (c : Call) → Refuses g s session c fault.NoRecord → FindsNone s session c
   refused_none c (inl e) = cc
   refused_none c (inr (inl h)) = let e = h.1 in cc
   refused_none c (inr (inr (inl h))) = let e = h.2 in cc
   refused_none c (inr (inr (inr h))) = finds_none c h.2
 
-known_absent : (o : Option Rid) (id : Rid) (held : List Hold) (s : State) (t : ℕ) → o ≡ Some id → MayRead held t id → get s.sessions.records id ≡ None
+pub known_absent : (o : Option Rid) (id : Rid) (held : List Hold) (s : State) (t : ℕ) → o ≡ Some id → MayRead held t id → get s.sessions.records id ≡ None
     → IsSomeAnd o (IsKnownAbsent held t s.sessions.records)
 known_absent o id held s t named may none = subst (λ o. IsSomeAnd o (IsKnownAbsent held t s.sessions.records)) (sym named) (inl (may, none))
 

@@ -1,0 +1,3 @@
+pub mod CanStore
+pub mod Events
+pub mod Runs
