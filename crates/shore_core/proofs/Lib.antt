@@ -7,6 +7,7 @@ pub mod Releasing
 pub mod Inserting
 pub mod Serving
 pub mod Earning
+pub mod Keeping
 pub mod Pairs
 pub mod CommittedRecords
 pub mod Laying

@@ -6,7 +6,7 @@ use Rattle.shore_disk.specs.declared.device.Disk as disk
 use Rattle.shore_log.specs.declared.tail.Tail as tail
 use Rattle.shore_dwrite.specs.Volumes.{HasNoPage, page_number, page_offset}
 use Rattle.shore_pool.specs.Pools.{Holds}
-use Rattle.shore_heap.specs.Heaps.{pool_of}
+use Rattle.shore_heap.specs.Heaps.{KeepsVolume, pool_of}
 use Rattle.shore_types.specs.Layout.{HasPage}
 use Rattle.shore_types.specs.declared.faults.Device.{Device}
 use Rattle.shore_types.specs.declared.faults.Device.TheVariants.{Volume}
@@ -81,6 +81,7 @@ module _ {T V : Type 0} {G : tail.Ghosts T} {H : disk.Ghosts V} where
     pub durable : durable_of new ≡ durable_of old
     pub failed : has_failed new ≡ has_failed old
     pub first : first_of new ≡ first_of old
+    pub volume : KeepsVolume (heap_of old) (heap_of new)
 
   -- a call that has read pages at most: all else is what it was
   pub record OnlyReads (old new : Core T V G H) : Type 0 where
@@ -89,6 +90,7 @@ module _ {T V : Type 0} {G : tail.Ghosts T} {H : disk.Ghosts V} where
     pub failed : has_failed new ≡ has_failed old
     pub tail : tail_of new ≡ tail_of old
     pub txns : txns_of new ≡ txns_of old
+    pub volume : KeepsVolume (heap_of old) (heap_of new)
 
   -- it is in the state that it was in, and its volume was read at most
   pub record Stays (old new : Core T V G H) (front : List ℕ) (disk : ℕ → List ℕ) (before : List LogRecord) (s : State) : Type 0 where

@@ -12,7 +12,7 @@ ghost use Rattle.shore_model.specs.declared.log_records.LogRecord.{LogRecord};
 ghost use Rattle.shore_disk.specs.Cause.{HasCause};
 ghost use Rattle.shore_page.specs.Room.{Fits};
 ghost use Rattle.shore_page.specs.Slots.{image_at_slot, image_len};
-ghost use Rattle.shore_heap.specs.Heaps.{frame_of};
+ghost use Rattle.shore_heap.specs.Heaps.{KeepsVolume, frame_of};
 ghost use Rattle.shore_calls.specs.declared.step.Step.TheVariants as Step;
 ghost use Rattle.shore_txn.specs.Tables.{active_in, committing_in, room_in};
 ghost use Rattle.shore_txn.specs.Txns.{last_of, number_of};
@@ -63,6 +63,9 @@ impl<T: Tail, V: Disk> Core<T, V> {
 
         // `Damaged` names the page that could not be read, of those that the call may read.
         ensures damaged { Earns self.old (Reads call) (fault_at result) }
+
+        // The volume is only read, whatever its pages hold.
+        ensures volume { KeepsVolume (heap_of self.old) (heap_of self.new) }
         ensures durable { durable_of self.new ≡ durable_of self.old }
         ensures geometry { geometry_of self.new ≡ geometry_of self.old }
         ensures first { first_of self.new ≡ first_of self.old }
@@ -363,8 +366,7 @@ impl<T: Tail, V: Disk> Core<T, V> {
         if !self.heap.geometry().has_store(store) {
             return Err(Fault::NoStore);
         }
-        let last = Lsn(self.tail.next().0 - 1);
-        let pairs = self.heap.scan(alloc, store, last, self.durable)?;
+        let pairs = self.pairs_of(alloc, store)?;
         Ok(Step::Done(Answer::Scanned(pairs)))
     }
 

@@ -63,7 +63,6 @@ impl<T: Tail, V: Disk> Core<T, V> {
         ensures refused { InEach (λ front disk before s. IfErr result (λ f. (f ≡ Fault.Memory) ⊎ IsPageFault f)) self.old }
         ensures stays { (front : List ℕ) (disk : ℕ → List ℕ) (before : List LogRecord) (s : State) → IsIn front disk before self.old s → Stays self.old self.new front disk before s }
         ensures damaged { Earns self.old (λ page. page.store ≡ store) result }
-        ensures volume { KeepsVolume (heap_of self.old) (heap_of self.new) }
         ensures reads { OnlyReads self.old self.new }
         ensures cause { HasCause result (faults_of self.old) (faults_of self.new) }
     {

@@ -158,6 +158,7 @@ impl<D: Disk> Heap<D> {
     pub fn release(&mut self, id: Rid)
         ensures shows { (front : List ℕ) (disk : ℕ → List ℕ) (S : PageId → List Slot) → Shows self.old front disk S
             → Shows self.new front disk (with_slots S id.page (λ slots. with_change (lowered 0) slots id.slot)) }
+        ensures untouched { KeepsVolume self.old self.new }
         ensures held { (k : ℕ) → is_some (frame_at self.new k) ≡ is_some (frame_at self.old k) }
         ensures device { device_of self.new ≡ device_of self.old }
     {
@@ -173,6 +174,7 @@ impl<D: Disk> Heap<D> {
         requires slot { IsSomeAnd (frame_of self.old id.page) (λ f. id.slot < length f.page.slots) }
         ensures shows { (front : List ℕ) (disk : ℕ → List ℕ) (S : PageId → List Slot) → Shows self.old front disk S
             → Shows self.new front disk (with_slots S id.page (λ slots. with_change (lowered bytes) slots id.slot)) }
+        ensures untouched { KeepsVolume self.old self.new }
         ensures held { (k : ℕ) → is_some (frame_at self.new k) ≡ is_some (frame_at self.old k) }
         ensures device { device_of self.new ≡ device_of self.old }
     {
@@ -208,13 +210,14 @@ impl<D: Disk> Heap<D> {
 
 impl<D: Disk> Heap<FuseDisk<D>> {
     ghost use Rattle.shore_disk.specs.Fuse.{fuse_calls, fuse_inner};
-    ghost use Rattle.shore_heap.specs.Heaps.{Shows, device_of, faults_of, geometry_of, history_of};
+    ghost use Rattle.shore_heap.specs.Heaps.{KeepsVolume, Shows, device_of, faults_of, geometry_of, history_of};
 
     /// Lets so many more writes and syncs of the device pass; then every call of it fails.
     pub fn set_fuse(&mut self, calls: u64)
         ensures inner { fuse_inner (settled_device.device_of (device_of self.new)) ≡ fuse_inner (settled_device.device_of (device_of self.old)) }
         ensures calls { fuse_calls (settled_device.device_of (device_of self.new)) ≡ calls }
         ensures shows { (front : List ℕ) (disk : ℕ → List ℕ) (S : PageId → List Slot) → Shows self.old front disk S → Shows self.new front disk S }
+        ensures untouched { KeepsVolume self.old self.new }
         ensures geometry { geometry_of self.new ≡ geometry_of self.old }
         ensures history { history_of self.new ≡ history_of self.old }
         ensures faults { faults_of self.new ≡ faults_of self.old }

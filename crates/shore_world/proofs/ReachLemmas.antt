@@ -104,7 +104,7 @@ module _ {L V : Type 0} {G : Ghosts L} {H : Ghosts V} (g : Geometry) (stream_byt
       is_in = like.state front disk s is_in;
       geometry = like.geometry ∙ at;
       kept = like.kept;
-      volume = like.volume front disk s is_in;
+      volume = (like.volume front disk is_in.pages.holds).1;
     }
 
     failure_goes : (new : World L V G H) → HasFailedToRead old new → Goes es s (HasFailed ∷ []) old new
@@ -118,7 +118,7 @@ module _ {L V : Type 0} {G : Ghosts L} {H : Ghosts V} (g : Geometry) (stream_byt
           is_in = fails.state front disk s is_in;
           geometry = fails.geometry ∙ at;
           kept = fails.kept;
-          volume = fails.volume front disk s is_in;
+          volume = (fails.volume front disk is_in.pages.holds).1;
         }
 
     event_goes : (e : Event) (step : Step) (mid : World L V G H) → IsServedEvent e → Steps old e step mid → Goes es s (moves_by e step) old mid

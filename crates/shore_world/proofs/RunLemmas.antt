@@ -9,7 +9,10 @@ use Rattle.shore_calls.specs.declared.step.Step.TheVariants.{Done, Waits, Refuse
 use Rattle.shore_calls.specs.CallSteps as calls
 use Rattle.shore_calls.specs.CallSteps.{Called, HasFailed, ManagerEvent, Resumed}
 use Rattle.shore_calls.specs.States.{State}
-use Rattle.shore_core.specs.Cores.{IsSafe, faults_of}
+use Rattle.shore_heap.specs.declared.heap.Heap.{Heap}
+use Rattle.shore_heap.specs.Heaps.{KeepsVolume}
+use Rattle.shore_heap.proofs.Showing.{keeps_then}
+use Rattle.shore_core.specs.Cores.{IsSafe, faults_of, heap_of}
 use Rattle.shore_core.specs.Replies.{Earns, fault_at}
 use Rattle.shore_format.specs.Causes.{HasCauseOfPair}
 use Rattle.shore_world.specs.declared.event.Event.{Event}
@@ -33,7 +36,7 @@ module _ {L V : Type 0} {G : Ghosts L} {H : Ghosts V} where
     history = refl;
     staged = refl;
     faults = refl;
-    volume = λ front disk s is. refl;
+    volume = λ front disk holds. (holds, refl);
     volume_faults = refl;
     kept = λ front k. k;
   }
@@ -77,7 +80,7 @@ module _ {L V : Type 0} {G : Ghosts L} {H : Ghosts V} where
     history = two.history ∙ one.history;
     staged = two.staged ∙ one.staged;
     faults = two.faults ∙ one.faults;
-    volume = λ front disk s is. two.volume front disk s (one.state front disk s is) ∙ one.volume front disk s is;
+    volume = keeps_then (heap_of a.core) (heap_of b.core) (heap_of c.core) one.volume two.volume;
     volume_faults = two.volume_faults ∙ one.volume_faults;
     kept = λ front k. two.kept front (one.kept front k);
   }
@@ -93,7 +96,7 @@ module _ {L V : Type 0} {G : Ghosts L} {H : Ghosts V} where
     history = two.history ∙ one.history;
     staged = two.staged ∙ one.staged;
     faults = two.faults ∙ one.faults;
-    volume = λ front disk s is. two.volume front disk s (one.state front disk s is) ∙ one.volume front disk s is;
+    volume = keeps_then (heap_of a.core) (heap_of b.core) (heap_of c.core) one.volume two.volume;
     kept = λ front k. two.kept front (one.kept front k);
   }
 
@@ -186,9 +189,9 @@ log_cause step log log_now volume volume_now same cause = record {
 pub no_force : {L V : Type 0} {G : Ghosts L} {H : Ghosts V} (old new : World L V G H) (e : Event) (step : Step) → IsOfSession e → geometry_in new ≡ geometry_in old
     → new.log.device ≡ old.log.device → ComesFromEach old e step new
     → ((front : List ℕ) (disk : ℕ → List ℕ) (s : State) → IsInState old front disk s → IsSafe (geometry_in old) s → ListGrows old new)
-    → ((front : List ℕ) → IsReady old front → IsReady new front) → Earns old.core (ReadBy e) (fault_at step)
-    → HasCause (fault_at step) (faults_of old.core) (faults_of new.core) → Steps old e step new
-no_force {G = G} old new e step other geometry device comes grows ready earned cause = record {
+    → ((front : List ℕ) → IsReady old front → IsReady new front) → KeepsVolume (heap_of old.core) (heap_of new.core)
+    → Earns old.core (ReadBy e) (fault_at step) → HasCause (fault_at step) (faults_of old.core) (faults_of new.core) → Steps old e step new
+no_force {G = G} old new e step other geometry device comes grows ready only_read earned cause = record {
   moves = unmoved old new e step geometry device comes grows ready;
   still = λ is. device;
   volume = λ is. absurd (of_both e other is);
@@ -197,6 +200,7 @@ no_force {G = G} old new e step other geometry device comes grows ready earned c
   idle = λ is nothing. absurd (subst IsOfSession is other);
   shut = λ is nothing. absurd (subst IsOfSession is other);
   full = λ is refused room. subst IsOfSession is other;
+  only_read = only_read;
   damaged = earned;
   cause = volume_cause step (G.faults old.log.device) (G.faults new.log.device) (faults_of old.core) (faults_of new.core) (ap G.faults device) cause;
 }
@@ -221,3 +225,6 @@ failed_says_nothing w e (Refused f) failed = λ front disk holds d offset is. le
 failed_says_nothing w e (Done answer) failed = λ front disk holds. tt
 failed_says_nothing w e (Waits wait) failed = λ front disk holds. tt
 failed_says_nothing w e Nothing failed = λ front disk holds. tt
+
+pub same_keeps : {V : Type 0} {H : Ghosts V} (old new : Heap V H) → new ≡ old → KeepsVolume old new
+same_keeps {V} {H} old new same = subst (λ (h : Heap V H). KeepsVolume old h) (sym same) (λ front disk holds. (holds, refl))

@@ -18,6 +18,7 @@ use Rattle.shore_calls.specs.States.{State}
 use Rattle.shore_log.specs.Frames.{GivesBehind, IsLongest}
 use Rattle.shore_log.specs.Settled.{records_of_log, IsSettled, IsStaged}
 use Rattle.shore_format.specs.Causes.{HasCauseOfPair}
+use Rattle.shore_heap.specs.Heaps.{KeepsVolume}
 use Rattle.shore_core.specs.Cores as cores
 use Rattle.shore_core.specs.Cores.{IsIn, IsSafe}
 use Rattle.shore_core.specs.Replies.{Earns, fault_at}
@@ -154,13 +155,15 @@ module _ {L V : Type 0} {G : Ghosts L} {H : Ghosts V} where
     -- a call and a resume make no call of the log device, and a step of a force none of the volume
     pub still : IsOfSession e → new.log.device ≡ old.log.device
     pub volume : IsOfForce e → cores.heap_of new.core ≡ cores.heap_of old.core
+    -- the volume is only read, whatever its pages hold
+    pub only_read : KeepsVolume (cores.heap_of old.core) (cores.heap_of new.core)
     pub staged : (n : ℕ) → e ≡ event.ForceStage → step ≡ Done (Staged n) → HasStaged old new n
     pub forced : (n : ℕ) → e ≡ event.ForceOpen → step ≡ Done (Forced n) → HasForced old new n
     -- nothing is staged only if every record is durable or a frame is under way, and no gate is opened only if none is
     pub idle : e ≡ event.ForceStage → step ≡ Nothing → IsIdle old
     pub shut : e ≡ event.ForceOpen → step ≡ Nothing → old.log.staged ≡ None
     pub full : e ≡ event.ForceStage → step ≡ Refused LogFull → ¬ HasForceRoom old
-    -- `Damaged` names a page that the event may read and that has no text, whatever the volume's pages hold
+    -- `Damaged` names a page that the event may read and that has no text
     pub damaged : Earns old.core (ReadBy e) (fault_at step)
     pub cause : HasCauseOfPair (fault_at step) (G.faults old.log.device) (G.faults new.log.device) (cores.faults_of old.core) (cores.faults_of new.core)
 
@@ -176,7 +179,7 @@ module _ {L V : Type 0} {G : Ghosts L} {H : Ghosts V} where
     pub history : history_in new ≡ history_in old
     pub staged : new.log.staged ≡ old.log.staged
     pub faults : G.faults new.log.device ≡ G.faults old.log.device
-    pub volume : (front : List ℕ) (disk : ℕ → List ℕ) (s : State) → IsInState old front disk s → volume_history_in new ≡ volume_history_in old
+    pub volume : KeepsVolume (cores.heap_of old.core) (cores.heap_of new.core)
     pub volume_faults : cores.faults_of new.core ≡ cores.faults_of old.core
     pub kept : (front : List ℕ) → SurvivesCrashes old front → SurvivesCrashes new front
 
@@ -191,7 +194,7 @@ module _ {L V : Type 0} {G : Ghosts L} {H : Ghosts V} where
     pub history : history_in new ≡ history_in old
     pub staged : new.log.staged ≡ old.log.staged
     pub faults : G.faults new.log.device ≡ G.faults old.log.device
-    pub volume : (front : List ℕ) (disk : ℕ → List ℕ) (s : State) → IsInState old front disk s → volume_history_in new ≡ volume_history_in old
+    pub volume : KeepsVolume (cores.heap_of old.core) (cores.heap_of new.core)
     pub kept : (front : List ℕ) → SurvivesCrashes old front → SurvivesCrashes new front
 
 -- Between two events fuses may be set and stores dumped. Each read of the volume that failed is a failure of the manager over plain data.

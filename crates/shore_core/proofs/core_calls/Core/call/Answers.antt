@@ -5,6 +5,7 @@ use Rattle.shore_calls.specs.CallSteps.{CallStep, after_refusal, commit_waiting}
 use Rattle.shore_txn.specs.Tables.{committing_in}
 use Rattle.shore_core.specs.Cores.{IsIn, IsSafe, geometry_of, last_of}
 use Rattle.shore_heap.specs.Heaps as heaps
+use Rattle.shore_heap.specs.Heaps.{KeepsVolume}
 use Rattle.shore_core.specs.Parts.{waiting_for}
 use Rattle.shore_core.specs.Replies.{IsEarned, Reads, fault_at}
 use Rattle.shore_core.proofs.Tables.{none_told, some_and, some_told, waits_not}
@@ -65,3 +66,6 @@ pub returns-in-Err-clause-damaged : goal.returns-in-Err-clause-damaged
 returns-in-Err-clause-damaged g c front disk holds =
     let old = c.args.self.now in
     subst (λ (step : Step). IfErr (fault_at step) (IsEarned (geometry_of old) disk (last_of old) (Reads c.args.call))) (sym c.refuse.ensures.refused) (c.in-Err.ensures.damaged front disk holds)
+
+pub returns-in-Err-clause-volume : goal.returns-in-Err-clause-volume
+returns-in-Err-clause-volume g c = subst (λ h. KeepsVolume c.args.self.now.heap h) (sym c.refuse.ensures.heap) c.answer.ensures.keeps.volume

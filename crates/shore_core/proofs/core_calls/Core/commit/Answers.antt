@@ -4,6 +4,7 @@ use Rattle.shore_dwrite.specs.Settled as settled_device
 use Rattle.shore_model.specs.declared.log_records.LogRecord.{LogRecord}
 use Rattle.shore_model.specs.declared.log_records.Payload.TheVariants.{Commit}
 use Rattle.shore_heap.specs.Heaps.{Shows}
+use Rattle.shore_heap.proofs.Showing.{keeps_then}
 use Rattle.shore_room.specs.Settling.{let_go}
 use Rattle.shore_calls.specs.CallSteps.{committed}
 use Rattle.shore_calls.specs.States.{State, page_slots}
@@ -48,7 +49,7 @@ returns-in-Err-clause-replied g c ready front disk before s is safe =
 
 -- src/core_calls.rt:312:9
 pub loop-change-init : goal.loop-change-init
-loop-change-init g c = (refl, refl, refl, refl, refl, λ front disk S shows. shows)
+loop-change-init g c = (refl, refl, refl, refl, refl, λ front disk holds. (holds, refl), λ front disk S shows. shows)
 
 -- src/core_calls.rt:312:9
 pub loop-change-preserved : goal.loop-change-preserved
@@ -63,8 +64,9 @@ loop-change-preserved g c =
       inv.2,
       inv.3,
       c.release.ensures.device ∙ inv.4,
+      keeps_then c.args.self.now.heap c.loop-change.self.heap c.release.new.self inv.5 c.release.ensures.untouched,
       λ front disk S shows. released_more c.release.new.self front disk S (take i items) (take (i + 1) items) c.change-item.result longer
-          (c.release.ensures.shows front disk (λ p. let_go p (images_of (take i items)) (S p)) (inv.5 front disk S shows)),
+          (c.release.ensures.shows front disk (λ p. let_go p (images_of (take i items)) (S p)) (inv.6 front disk S shows)),
     )
 
 -- src/core_calls.rt:294:5
@@ -89,7 +91,7 @@ returns-clause-replied g c ready front disk before s is safe =
     let logged = subst (λ l. HasParts c.note_commit-changes.new.self l (durable_of old) (has_failed old) before (committed s (as_session_txn t))) (sym c.in-Ok.ensures.added) parts in
     let one : s.sessions.active ≡ as_session_txn t ∷ [] = is.parts.txns.active ∙ ap as_session_txns there.0 in
     let all : take c.loop-change.change-index items ≡ items = take-whole items c.loop-change.change-index c.loop-change-test.false in
-    let shown = subst (λ es. Shows c.loop-change.self.heap front disk (λ p. let_go p (images_of es) (page_slots s p))) all (inv.5 front disk (page_slots s) is.pages) in
+    let shown = subst (λ es. Shows c.loop-change.self.heap front disk (λ p. let_go p (images_of es) (page_slots s p))) all (inv.6 front disk (page_slots s) is.pages) in
     record {
       later = committed s (as_session_txn t);
       replies = (refl, ap Durable number, (as_session_txn t, is_of old.txns s is.parts.txns c.args.session t there.0 there.1, refl));
@@ -120,6 +122,7 @@ returns-clause-keeps g c =
       durable = inv.2;
       failed = inv.3;
       first = ap g.T.Tail.first inv.0 ∙ c.push.ensures.first;
+      volume = inv.5;
     }
 
 -- src/core_calls.rt:294:5

@@ -18,6 +18,7 @@ use Rattle.shore_core.proofs.Tables.{in_none, is_of, none_told, some_told}
 use Rattle.shore_core.proofs.Taking.{replied_as, true_false}
 use Rattle.shore_core.specs.Replies.{Reads}
 use Rattle.shore_core.proofs.Earning.{earned_as, store_earned}
+use Rattle.shore_core.proofs.Keeping.{reads_then_keeps}
 use Rattle.shore_core.proofs.core_calls.Core.insert.Goals as goal
 
 pub returns-then-is_none-clause-replied : goal.returns-then-is_none-clause-replied
@@ -143,3 +144,13 @@ returns-in_err-place-clause-damaged g c front disk holds =
     let IsRead = Reads (call.Insert c.args.store c.args.bytes) in
     earned_as (geometry_of old) disk (last_of old) IsRead c.from_residual.result _ c.from_residual.ensures.1
     (store_earned (geometry_of old) disk (last_of old) IsRead c.args.store _ _ (ap (λ n. n - 1) (c.last.view_is ∙ c.next.ensures)) (λ id of_store. of_store) (c.in_err-place.ensures.refused front disk holds))
+
+pub returns-in_err-change-clause-keeps : goal.returns-in_err-change-clause-keeps
+returns-in_err-change-clause-keeps g c =
+    reads_then_keeps c.args.self.now _ c.change.new.self (record { geometry = c.place_for.ensures.geometry; durable = refl; failed = refl; tail = refl; txns = refl; volume = c.place_for.ensures.untouched })
+    c.change.ensures.keeps
+
+pub returns-clause-keeps : goal.returns-clause-keeps
+returns-clause-keeps g c =
+    reads_then_keeps c.args.self.now _ c.change.new.self (record { geometry = c.place_for.ensures.geometry; durable = refl; failed = refl; tail = refl; txns = refl; volume = c.place_for.ensures.untouched })
+    c.change.ensures.keeps

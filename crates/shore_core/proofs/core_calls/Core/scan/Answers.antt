@@ -1,4 +1,4 @@
-use Rattle.std.proofs.Common.{◌≡◌, ◌⊎◌, ◌-◌, inr, refl, sym, ap, subst, ◌∙◌}
+use Rattle.std.proofs.Common.{◌≡◌, ◌⊎◌, inr, refl, sym, ap, subst, ◌∙◌}
 use Rattle.shore_types.specs.declared.faults.Fault.TheVariants as fault
 use Rattle.shore_types.specs.declared.layout.Geometry.{Geometry}
 use Rattle.shore_types.specs.Layout.{HasStore}
@@ -6,14 +6,14 @@ use Rattle.shore_model.specs.declared.calls.Answer.TheVariants.{Scanned}
 use Rattle.shore_model.specs.declared.calls.Call.TheVariants as call
 use Rattle.shore_calls.proofs.OneSession.{scan_leaves}
 use Rattle.shore_calls.specs.Refusals.{IsRefusal}
-use Rattle.shore_calls.specs.States.{IsInTxn, page_slots}
+use Rattle.shore_calls.specs.States.{IsInTxn}
 use Rattle.shore_core.specs.Cores.{geometry_of, last_of}
-use Rattle.shore_core.proofs.Inserting.{scan_fault, scan_is, store_fault}
+use Rattle.shore_core.proofs.Inserting.{scan_fault}
 use Rattle.shore_core.proofs.Refusing.{on_right}
 use Rattle.shore_core.proofs.Tables.{in_none, is_of, none_told, some_told}
 use Rattle.shore_core.proofs.Taking.{replied_as, true_false}
 use Rattle.shore_core.specs.Replies.{Reads}
-use Rattle.shore_core.proofs.Earning.{earned_as, store_earned}
+use Rattle.shore_core.proofs.Earning.{earned_as}
 use Rattle.shore_core.proofs.core_calls.Core.scan.Goals as goal
 
 pub returns-then-is_none-clause-replied : goal.returns-then-is_none-clause-replied
@@ -45,31 +45,26 @@ returns-in_err-pairs-clause-replied g c ready front disk before s is safe =
     let old = c.args.self.now in
     let t = some_told _ _ c.if-is_none.ensures c.txn.ensures.some in
     let mine : IsInTxn s c.args.session = (_, is_of old.txns s is.parts.txns c.args.session t.0.now t.1.0 t.1.1) in
-    let still = c.scan.ensures.still front disk (page_slots s) is.pages in
     let there : HasStore (geometry_of old) c.args.store = subst (λ (it : Geometry). HasStore it c.args.store) c.geometry.ensures (c.if-not-has_store.ensures.0 refl) in
     let why : (c.in_err-pairs.field-0.0 ≡ fault.Memory) ⊎ IsRefusal (geometry_of old) s c.args.session (call.Scan c.args.store) c.in_err-pairs.field-0.0 =
-    on_right (store_fault (geometry_of old) disk c.args.store _ _ (c.in_err-pairs.ensures.refused front disk is.pages.holds)) (scan_fault (geometry_of old) s c.args.session c.args.store _ mine there) in
-    replied_as old _ front disk before s c.args.session (call.Scan c.args.store) c.from_residual.result _ c.from_residual.ensures.1 why
-    (record { is_in = record { first = is.first; pages = still.shows; parts = is.parts }; history = still.history })
+    on_right (c.in_err-pairs.ensures.refused front disk before s is safe) (scan_fault (geometry_of old) s c.args.session c.args.store _ mine there) in
+    replied_as old _ front disk before s c.args.session (call.Scan c.args.store) c.from_residual.result _ c.from_residual.ensures.1 why (c.in_err-pairs.ensures.stays front disk before s is)
 
 pub returns-clause-replied : goal.returns-clause-replied
 returns-clause-replied g c ready front disk before s is safe =
     let old = c.args.self.now in
     let t = some_told _ _ c.if-is_none.ensures c.txn.ensures.some in
     let mine = is_of old.txns s is.parts.txns c.args.session t.0.now t.1.0 t.1.1 in
-    let still = c.scan.ensures.still front disk (page_slots s) is.pages in
+    let stays = c.in_ok-pairs.ensures.stays front disk before s is in
     let there : HasStore (geometry_of old) c.args.store = subst (λ (it : Geometry). HasStore it c.args.store) c.geometry.ensures (c.if-not-has_store.ensures.0 refl) in
-    let list = scan_is (geometry_of old) s safe.roomy.pages c.args.store safe.inside c.in_ok-pairs.pairs (c.in_ok-pairs.ensures.scanned front disk (page_slots s) is.pages) in
     record {
       later = s;
-      replies = inr (_, s.counts, mine, (there, ap Scanned list, refl), sym (scan_leaves s _ safe.roomy.pages.once mine.0 (Scanned c.in_ok-pairs.pairs) c.args.store));
-      is_in = record { first = is.first; pages = still.shows; parts = is.parts };
-      history = still.history;
+      replies = inr (_, s.counts, mine, (there, ap Scanned (c.in_ok-pairs.ensures.pairs front disk before s is safe), refl), sym (scan_leaves s _ safe.roomy.pages.once mine.0 (Scanned c.in_ok-pairs.pairs) c.args.store));
+      is_in = stays.is_in;
+      history = stays.history;
     }
 
 pub returns-in_err-pairs-clause-damaged : goal.returns-in_err-pairs-clause-damaged
 returns-in_err-pairs-clause-damaged g c front disk holds =
     let old = c.args.self.now in
-    let IsRead = Reads (call.Scan c.args.store) in
-    earned_as (geometry_of old) disk (last_of old) IsRead c.from_residual.result _ c.from_residual.ensures.1
-    (store_earned (geometry_of old) disk (last_of old) IsRead c.args.store _ _ (ap (λ n. n - 1) (c.last.view_is ∙ c.next.ensures)) (λ id of_store. of_store) (c.in_err-pairs.ensures.refused front disk holds))
+    earned_as (geometry_of old) disk (last_of old) (Reads (call.Scan c.args.store)) c.from_residual.result _ c.from_residual.ensures.1 (c.in_err-pairs.ensures.damaged front disk holds)

@@ -13,6 +13,7 @@ use Rattle.shore_core.proofs.Taking.{replied_as, true_false}
 use Rattle.shore_core.proofs.Refusing.{both_some, map_some, on_right, update_refusal}
 use Rattle.shore_core.specs.Replies.{Reads}
 use Rattle.shore_core.proofs.Earning.{earned_as}
+use Rattle.shore_core.proofs.Keeping.{reads_then_keeps}
 use Rattle.shore_core.proofs.core_calls.Core.update.Goals as goal
 
 pub returns-then-is_none-clause-replied : goal.returns-then-is_none-clause-replied
@@ -101,3 +102,9 @@ pub returns-in_err-find-clause-damaged : goal.returns-in_err-find-clause-damaged
 returns-in_err-find-clause-damaged g c front disk holds =
     let old = c.args.self.now in
     earned_as (geometry_of old) disk (last_of old) (Reads (call.Update c.args.id c.args.bytes)) c.from_residual.result _ c.from_residual.ensures.1 (c.in_err-find.ensures.damaged front disk holds)
+
+pub returns-in_err-change-clause-keeps : goal.returns-in_err-change-clause-keeps
+returns-in_err-change-clause-keeps g c = reads_then_keeps c.args.self.now c.find.new.self c.change.new.self c.find.ensures.reads c.change.ensures.keeps
+
+pub returns-clause-keeps : goal.returns-clause-keeps
+returns-clause-keeps g c = reads_then_keeps c.args.self.now c.find.new.self c.change.new.self c.find.ensures.reads c.change.ensures.keeps

@@ -19,3 +19,6 @@ returns-clause-shows g c front disk S shows =
           (subst (λ (o : Option Frame). HasSlots o (disk (page_number was id)) id (S id)) (sym (c.set_fuse.ensures.frames (page_number was id))) before);
       bounds = λ id bytes there. shows.bounds id bytes (subst (λ (x : Geometry). HasPage x id) same there);
     }
+
+pub returns-clause-untouched : goal.returns-clause-untouched
+returns-clause-untouched g c front disk holds = (c.set_fuse.ensures.holds front disk holds, c.set_fuse.ensures.history)

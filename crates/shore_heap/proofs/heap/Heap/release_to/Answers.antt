@@ -1,9 +1,11 @@
-use Rattle.std.proofs.Common.{List, refl, ap}
+use Rattle.std.proofs.Common.{List, refl, sym, ap, subst, ◌∙◌}
 use Rattle.shore_dwrite.specs.Settled as settled_device
 use Rattle.shore_page.specs.Room.{lowered}
 use Rattle.shore_page.specs.Slots.{Slot, with_change}
 use Rattle.shore_pool.specs.Changes.{reclaimed}
 use Rattle.shore_pool.specs.Pools as pools
+use Rattle.shore_pool.specs.declared.pool.Pool.{Pool}
+use Rattle.shore_dwrite.specs.declared.device.PageDev.{PageDev}
 use Rattle.shore_pool.proofs.Same.{there_is}
 use Rattle.shore_heap.specs.Contents.{with_slots}
 use Rattle.shore_heap.proofs.Bounds.{bounds_forgot}
@@ -23,3 +25,9 @@ returns-clause-shows g c front disk S shows =
     let have = have_changed g (pools.frame_at old.pool) (pools.frame_at c.unreserve.new.self) disk S id c.requires.there c.unreserve.ensures.others shows.pages (reclaimed (lowered c.args.bytes) c.args.id.slot) lower (λ e. refl) here held in
     shows_by c.unreserve.new.self c.forget.new.self g front disk (with_slots S id lower) c.forget.ensures.pool geometry (c.unreserve.ensures.kept front disk shows.holds).0 have
     (bounds_forgot g old.free.items S shows.bounds id c.forget.new.self.free.items lower c.forget.ensures.here c.forget.ensures.others)
+
+pub returns-clause-untouched : goal.returns-clause-untouched
+returns-clause-untouched g c front disk holds = (
+  subst (λ (p : Pool _ g.D.Disk). pools.Holds p front disk) (sym c.forget.ensures.pool) (c.unreserve.ensures.kept front disk holds).0,
+  ap (λ (p : Pool _ g.D.Disk). pools.history_of p) c.forget.ensures.pool ∙ ap (λ (d : PageDev _ g.D.Disk). g.D.Disk.history (settled_device.device_of d)) c.unreserve.ensures.device,
+)

@@ -17,7 +17,7 @@ returns-clause-like g c =
       history = refl;
       staged = refl;
       faults = refl;
-      volume = λ front disk s is. e.history;
+      volume = e.volume;
       volume_faults = e.faults;
       kept = λ front k. kept_as_before old _ list e.durable refl (λ run. sym e.running ∙ run) front (λ ready. ready) k;
     }

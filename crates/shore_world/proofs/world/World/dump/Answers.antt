@@ -33,7 +33,7 @@ returns-clause-like g c none =
       history = refl;
       staged = refl;
       faults = refl;
-      volume = λ front disk s is. (e.volume front disk is.pages.holds).1;
+      volume = e.volume;
       volume_faults = e.cause.unreported (λ is. none (device_fails c.dump.result is));
       kept = λ front k. kept_as_before old _ list e.durable refl (λ run. sym failed ∙ run) front (λ ready. ready) k;
     }
@@ -54,6 +54,6 @@ returns-clause-fails g c fails =
       history = refl;
       staged = refl;
       faults = refl;
-      volume = λ front disk s is. (e.volume front disk is.pages.holds).1;
+      volume = e.volume;
       kept = λ front k. kept_as_before old _ list e.durable refl (λ run. running) front (λ ready. ready) k;
     }

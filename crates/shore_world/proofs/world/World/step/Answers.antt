@@ -7,7 +7,7 @@ use Rattle.shore_world.specs.declared.event.Event.{Event}
 use Rattle.shore_world.specs.Events.{IsOfSession, ReadBy}
 use Rattle.shore_world.specs.Worlds.{geometry_in}
 use Rattle.shore_world.proofs.GrowLemmas.{call_grows, resume_grows}
-use Rattle.shore_world.proofs.RunLemmas.{failed_says_nothing, log_cause, no_force, open_is_no_stage, stage_is_no_open}
+use Rattle.shore_world.proofs.RunLemmas.{failed_says_nothing, log_cause, no_force, open_is_no_stage, stage_is_no_open, same_keeps}
 use Rattle.shore_world.proofs.world.World.step.Goals as goal
 
 pub returns-in-Call : goal.returns-in-Call
@@ -19,7 +19,7 @@ returns-in-Call g c =
     rw c.in-Call.is (record { later = moved.later; moves = moved.moves; is_in = moved.is_in; still = moved.history }))
     (λ front disk s is safe. let moved = c.call.ensures.step front disk (records_of_log old.log) s is safe in
     call_grows old _ front disk s moved.later _ _ _ served is moved.is_in moved.moves c.call.ensures.durable)
-    (λ front ready. ready)
+    (λ front ready. ready) c.call.ensures.volume
     (λ front disk holds. subst (λ (e : Event). IfErr (fault_at c.call.result) (IsEarned (geometry_in old) disk (last_of old.core) (ReadBy e))) (sym c.in-Call.is) (c.call.ensures.damaged front disk holds))
     c.call.ensures.cause
 
@@ -32,7 +32,7 @@ returns-in-Resume g c =
     rw c.in-Resume.is (record { later = moved.later; moves = moved.moves; is_in = moved.is_in; still = moved.history }))
     (λ front disk s is safe. let moved = c.resume.ensures.step front disk (records_of_log old.log) s is safe in
     resume_grows old _ front disk s moved.later _ _ served is moved.is_in moved.moves c.resume.ensures.durable)
-    (λ front ready. ready) (failed_says_nothing old _ _ c.resume.ensures.refused) c.resume.ensures.cause
+    (λ front ready. ready) (same_keeps _ _ c.resume.ensures.heap) (failed_says_nothing old _ _ c.resume.ensures.refused) c.resume.ensures.cause
 
 pub returns-in-ForceStage : goal.returns-in-ForceStage
 returns-in-ForceStage g c =
@@ -45,6 +45,7 @@ returns-in-ForceStage g c =
       idle = λ is nothing. c.force_stage.ensures.idle nothing;
       shut = λ is nothing. absurd (stage_is_no_open is);
       full = λ is refused. c.force_stage.ensures.full refused;
+      only_read = same_keeps _ _ c.force_stage.ensures.volume;
       damaged = c.force_stage.ensures.damaged;
       cause = log_cause c.force_stage.result _ _ _ _ (ap heaps.faults_of c.force_stage.ensures.volume) c.force_stage.ensures.cause;
     })
@@ -60,6 +61,7 @@ returns-in-ForceOpen g c =
       idle = λ is. absurd (open_is_no_stage is);
       shut = λ is nothing. c.force_open.ensures.shut nothing;
       full = λ is. absurd (open_is_no_stage is);
+      only_read = same_keeps _ _ c.force_open.ensures.volume;
       damaged = c.force_open.ensures.damaged;
       cause = log_cause c.force_open.result _ _ _ _ (ap heaps.faults_of c.force_open.ensures.volume) c.force_open.ensures.cause;
     })

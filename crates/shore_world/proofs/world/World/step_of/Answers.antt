@@ -9,4 +9,4 @@ returns-in-Err g c =
     let w = c.args.self.now in
     no_force w w _ _ (call_is_no_force _ c.in-Err.ensures.refused) refl refl
     (λ front disk s is safe. record { later = s; moves = not_copied (geometry_in w) s _ c.in-Err.ensures.refused; is_in = is; still = refl })
-    (λ front disk s is safe. none_more w w refl refl (λ r. r)) (λ front ready. ready) (memory_says_nothing w _) (memory_cause _)
+    (λ front disk s is safe. none_more w w refl refl (λ r. r)) (λ front ready. ready) (λ front disk holds. (holds, refl)) (memory_says_nothing w _) (memory_cause _)
