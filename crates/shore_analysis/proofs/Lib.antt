@@ -1,0 +1,6 @@
+pub mod Answered
+pub mod Counted
+pub mod KnownNext
+pub mod Listed
+pub mod MeantLogs
+pub mod OneMore

@@ -1,0 +1,89 @@
+-- What a record has to mean, given the records before it, for a restart to work on the log. It can be seen without the pages: whether a
+-- Change's before image is right, and whether its record was free, is not asked.
+use Rattle.std.specs.Prelude.{◌≡◌, ◌<◌, ◌-◌, ◌++◌, ℕ, List, [], ◌∷◌, false, Some, IsTrue, IsSomeAnd, length, take, slice_get}
+use Rattle.shore_types.specs.Images.{Image}
+use Rattle.shore_types.specs.Layout.{HasSlot}
+use Rattle.shore_types.specs.declared.ids.Rid.{Rid}
+use Rattle.shore_types.specs.declared.layout.Geometry.{Geometry}
+use Rattle.shore_types.specs.declared.layout.TheConstants.{LAST_TXN, MAX_TRANSACTIONS}
+use Rattle.shore_model.specs.declared.log_records.LogRecord.{LogRecord}
+use Rattle.shore_model.specs.declared.log_records.LogTxn.{LogTxn}
+use Rattle.shore_model.specs.declared.log_records.Payload.{Payload}
+use Rattle.shore_model.specs.declared.log_records.Payload.TheVariants.{Change, Compensation, Commit, End, Prepare, RollbackDecided, CheckpointBegin, CheckpointEnd, Anchor}
+use Rattle.shore_model.specs.Logs.{Answers, IsTable, id_in, is_over, is_unprepared, previous_of, unanswered}
+
+-- a Change: its id may be one, and no Prepare comes before it
+abbrev pub MeansChange : Geometry → List LogRecord → ℕ → Rid → Type 0
+MeansChange g before t id = HasSlot g id × IsTrue (is_unprepared t before)
+
+-- a Compensation: its id may be one, and it answers the newest unanswered Change
+abbrev pub MeansCompensation : Geometry → List LogRecord → ℕ → Rid → Image → ℕ → Type 0
+MeansCompensation g before t id image undo_next = HasSlot g id × Answers (unanswered t before) id image undo_next
+
+-- what a transaction's next record says; the kinds that no reader of the log serves mean nothing
+abbrev pub Means : Geometry → List LogRecord → ℕ → Payload → Type 0
+Means g before t (Change id was image) = MeansChange g before t id
+Means g before t (Compensation id image undo_next) = MeansCompensation g before t id image undo_next
+Means g before t Commit = Unit {0}
+Means g before t End = unanswered t before ≡ []
+Means g before t (Prepare global granules) = ⊥
+Means g before t RollbackDecided = ⊥
+Means g before t CheckpointBegin = ⊥
+Means g before t (CheckpointEnd begin next txns dirty) = ⊥
+Means g before t (Anchor checkpoint tail) = ⊥
+
+-- the record is of a transaction with a number that one may have and that has not ended, and names its record before it
+pub record IsMeant (g : Geometry) (before : List LogRecord) (r : LogRecord) : Type 0 where
+  pub some : 0 < r.txn
+  pub number : r.txn < LAST_TXN
+  pub previous : r.previous ≡ previous_of r.txn before
+  pub not_over : is_over r.txn before ≡ false
+  pub says : Means g before r.txn r.payload
+
+-- the payload is a Change of the id from this image
+abbrev pub IsChangeFrom : Rid → Image → Payload → Type 0
+IsChangeFrom id image (Change changed before after) = (changed ≡ id) × (before ≡ image)
+IsChangeFrom id image (Compensation changed after undo_next) = ⊥
+IsChangeFrom id image Commit = ⊥
+IsChangeFrom id image End = ⊥
+IsChangeFrom id image (Prepare global granules) = ⊥
+IsChangeFrom id image RollbackDecided = ⊥
+IsChangeFrom id image CheckpointBegin = ⊥
+IsChangeFrom id image (CheckpointEnd begin next txns dirty) = ⊥
+IsChangeFrom id image (Anchor checkpoint tail) = ⊥
+
+-- more transactions have not ended than there may be
+abbrev pub IsCrowded : List LogRecord → Type 0
+IsCrowded rs = (txns : List LogTxn) × IsTable rs txns × (MAX_TRANSACTIONS < length txns)
+
+-- the log may go on by the record
+abbrev pub GoesOn : Geometry → List LogRecord → LogRecord → Type 0
+GoesOn g before r = IsMeant g before r × (IsCrowded (before ++ r ∷ []) → ⊥)
+
+-- and has come about so
+abbrev pub AreMeant : Geometry → List LogRecord → Type 0
+AreMeant g rs = (n : ℕ) (r : LogRecord) → slice_get rs n ≡ Some r → GoesOn g (take n rs) r
+
+-- the record of this number is the first by which the log may not go on
+pub record IsFirstUnmeant (g : Geometry) (rs : List LogRecord) (n : ℕ) : Type 0 where
+  pub some : 0 < n
+  pub before : AreMeant g (take (n - 1) rs)
+  pub here : IsSomeAnd (slice_get rs (n - 1)) (λ r. GoesOn g (take (n - 1) rs) r → ⊥)
+
+-- a kind that a reader of the log serves
+abbrev pub IsServed : Payload → Type 0
+IsServed (Change id was image) = Unit {0}
+IsServed (Compensation id image undo_next) = Unit {0}
+IsServed Commit = Unit {0}
+IsServed End = Unit {0}
+IsServed (Prepare global granules) = ⊥
+IsServed RollbackDecided = ⊥
+IsServed CheckpointBegin = ⊥
+IsServed (CheckpointEnd begin next txns dirty) = ⊥
+IsServed (Anchor checkpoint tail) = ⊥
+
+-- an id that the record changes may be one, its transaction has a number that one may have, and its kind is served
+pub record IsInBounds (g : Geometry) (r : LogRecord) : Type 0 where
+  pub number : r.txn < LAST_TXN
+  pub served : IsServed r.payload
+  pub id : (id : Rid) → id_in r.payload ≡ Some id → HasSlot g id

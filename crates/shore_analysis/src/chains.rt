@@ -1,0 +1,76 @@
+//! The Change that a Compensation answers, found by the numbers that records name.
+ghost use Rattle.std.specs.Prelude.{◌≡◌, ◌↔◌, ◌<◌, ◌-◌, ℕ, IsTrue, List, None, Some, length, false, option_copied, slice_get, take};
+ghost use Rattle.shore_types.specs.declared.layout.Geometry.{Geometry};
+ghost use Rattle.shore_model.specs.declared.log_records.LogRecord.{LogRecord};
+ghost use Rattle.shore_model.specs.Logs.{Answers, is_over, previous_of, unanswered, undo_next_of};
+ghost use Rattle.shore_recovery.specs.UndoChains.{next_named_by};
+ghost use Rattle.shore_analysis.specs.Meant.{AreMeant, IsChangeFrom};
+
+use shore_model::{LogRecord, Payload};
+use shore_types::{Bytes, Lsn, Rid};
+
+/// The number of the Change to be undone next after a record with this number.
+pub(crate) fn next_named(number: Lsn, payload: &Payload) -> Lsn
+    ensures { result ≡ next_named_by number payload.now }
+{
+    match payload {
+        Payload::Change { .. } => number,
+        Payload::Compensation { undo_next, .. } => *undo_next,
+        _ => Lsn(0),
+    }
+}
+
+/// The record of this number.
+fn record_at(log: &[LogRecord], number: Lsn) -> Option<&LogRecord>
+    ensures some { 0 < number → option_copied result ≡ slice_get log.now (number - 1) }
+    ensures none { number ≡ 0 → result ≡ None }
+{
+    if number.0 == 0 {
+        return None;
+    }
+    log.get((number.0 - 1) as usize)
+}
+
+// The number of the Change that is left to be undone next once this one is, 0 if none is: its transaction's record before it says so.
+fn next_behind(log: &[LogRecord], change: &LogRecord) -> Lsn
+    ensures { (g : Geometry) (n : ℕ) → AreMeant g log.now → slice_get log.now n ≡ Some change.now
+        → result ≡ undo_next_of (unanswered change.now.txn (take n log.now)) }
+{
+    match record_at(log, change.previous) {
+        Some(last) => next_named(change.previous, &last.payload),
+        None => Lsn(0),
+    }
+}
+
+/// Whether a Compensation answers the Change of this number, its transaction's newest unanswered one. Numbers lead to the one below
+/// (ARIES: PrevLSN and UndoNxtLSN).
+pub(crate) fn is_answer(
+    log: &[LogRecord],
+    newest: Lsn,
+    id: &Rid,
+    image: &Option<Bytes>,
+    undo_next: Lsn,
+) -> bool
+    ensures { (g : Geometry) (t : ℕ) → AreMeant g log.now → newest ≡ undo_next_of (unanswered t log.now)
+        → (IsTrue result ↔ Answers (unanswered t log.now) id.now image.now undo_next) }
+{
+    match record_at(log, newest) {
+        Some(change) => undo_next == next_behind(log, change)
+            && puts_back(&change.payload, id, image),
+        None => false,
+    }
+}
+
+// Whether the record is a Change of the id from this image.
+fn puts_back(payload: &Payload, id: &Rid, image: &Option<Bytes>) -> bool
+    ensures { IsTrue result ↔ IsChangeFrom id.now image.now payload.now }
+{
+    match payload {
+        Payload::Change {
+            id: changed,
+            before,
+            ..
+        } => *changed == *id && *before == *image,
+        _ => false,
+    }
+}
