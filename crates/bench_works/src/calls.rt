@@ -1,4 +1,4 @@
-//! The kinds of work, and their times.
+//! How long the calls of a manager take, over devices in memory.
 use crate::manager::{
     Manager, STORE, ask, begin_with, bytes, commit, crashed, new_manager, opened, record_of,
     scanned, shown,
@@ -9,15 +9,15 @@ use std::alloc::Global;
 use std::io;
 use std::time::Instant;
 
-/// The names of all works.
-pub const WORKS: [&str; 7] = [
-    "get",
-    "insert",
-    "insert_far",
-    "update",
-    "scan",
-    "commit",
-    "open",
+// The names of all works.
+const WORKS: [&str; 7] = [
+    "call_get",
+    "call_insert",
+    "call_insert_far",
+    "call_update",
+    "call_scan",
+    "call_commit",
+    "call_open",
 ];
 
 /// What a round does, on records of a hundred bytes.
@@ -42,13 +42,13 @@ pub enum Work {
 impl Work {
     pub fn of(name: &str) -> Option<Work> {
         match name {
-            "get" => Some(Work::Get),
-            "insert" => Some(Work::Insert),
-            "insert_far" => Some(Work::InsertFar),
-            "update" => Some(Work::Update),
-            "scan" => Some(Work::Scan),
-            "commit" => Some(Work::Commit),
-            "open" => Some(Work::Open),
+            "call_get" => Some(Work::Get),
+            "call_insert" => Some(Work::Insert),
+            "call_insert_far" => Some(Work::InsertFar),
+            "call_update" => Some(Work::Update),
+            "call_scan" => Some(Work::Scan),
+            "call_commit" => Some(Work::Commit),
+            "call_open" => Some(Work::Open),
             _ => None,
         }
     }
@@ -62,6 +62,17 @@ impl Work {
             Work::Open => rounds,
         }
     }
+}
+
+/// Prints how many of a hundred rounds of each work are done.
+pub fn count(rt: &HostRuntime) -> io::Result<()> {
+    for name in WORKS {
+        if let Some(work) = Work::of(name) {
+            let (_, done) = measured(rt, work, 100)?;
+            println!(rt; "{name} {done}")?;
+        }
+    }
+    Ok(())
 }
 
 // One round. How much of it was done: 1 for a call, and for a scan how many thousands of records it showed.

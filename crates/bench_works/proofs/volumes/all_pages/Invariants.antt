@@ -2,7 +2,7 @@ use Rattle.std.proofs.Common.{◌≡◌, ◌<◌, ◌∷◌, [], All, length}
 use Rattle.shore_dwrite.specs.Images.{numbers_of, texts_of}
 use Rattle.shore_dwrite.specs.Shown.{IsBatchSoFar}
 use Rattle.shore_types.specs.declared.layout.Geometry.{Geometry}
-use Rattle.bench_parts.proofs.volumes.all_pages.Given as goal
+use Rattle.bench_works.proofs.volumes.all_pages.Given as goal
 
 abbrev pub invariant-loop-page : goal.invariant-loop-page
 invariant-loop-page l = record {

@@ -1,19 +1,24 @@
-//! How long the parts of the manager take: pages, batches of them, a device in memory, the lock table and the search for cycles.
-//! `bench_parts WORK ROUNDS` does one kind of work so often and prints the nanoseconds of a round; with no words it prints what one round of
-//! some counts, and how it is called.
+//! How long a manager's calls take, and its parts: pages, batches of them, a device in memory, the lock table and the search for cycles.
+//! `bench_works WORK ROUNDS` does one kind of work so often and prints the nanoseconds of a round; with no words it prints what one round, or
+//! a hundred, of some counts, and how it is called.
 #![tactic(auto)]
 
+mod calls;
 mod cycles;
 mod devices;
 mod locks;
+mod manager;
 mod pages;
 mod pools;
 mod volumes;
 
 use std::{env, io};
 
-/// The nanoseconds of a round of the work of a name on pages or devices, and the sum of them all; nothing if none has the name.
+/// The nanoseconds of a round of the work of a name, and how much was done or a sum of it all; nothing if none has the name.
 fn measured(rt: &HostRuntime, name: &str, rounds: u64) -> io::Result<Option<(u128, u64)>> {
+    if let Some(work) = calls::Work::of(name) {
+        return Ok(Some(calls::measured(rt, work, rounds)?));
+    }
     if let Some(work) = pages::Work::of(name) {
         return Ok(Some(pages::measured(rt, work, rounds)?));
     }
@@ -45,15 +50,17 @@ fn measure(rt: &HostRuntime, name: &str, rounds: u64) -> io::Result<()> {
 
 fn print_usage(rt: &HostRuntime) -> io::Result<()> {
     println!(rt;
-        "bench_parts WORK ROUNDS: bench/pages, bench/locks and bench/cycles name the works"
+        "bench_works WORK ROUNDS: bench/calls, bench/pages, bench/locks and bench/cycles name the works"
     )
 }
 
-/// Prints how many records a page takes, what rounds with the lock table count, and how the program is called.
+/// Prints how many records a page takes, what rounds with the lock table count, how many of a hundred rounds of each work of a manager are done,
+/// and how the program is called.
 fn count(rt: &HostRuntime) -> io::Result<()> {
     let count = pages::filled(rt.alloc())?.slot_count();
     println!(rt; "{count} records")?;
     locks::count(rt)?;
+    calls::count(rt)?;
     print_usage(rt)
 }
 

@@ -1,8 +1,8 @@
 use Rattle.std.proofs.Common.{◌<◌, ◌+◌, List, subst, sym, ap, [], ◌∷◌, All, ℕ, length, length-append, arith}
 use Rattle.std.proofs.lemmas.List.Elements.{All-push}
 use Rattle.shore_dwrite.specs.Images.{numbers_of}
-use Rattle.bench_parts.proofs.Images.{image_is, within_is}
-use Rattle.bench_parts.proofs.volumes.all_pages.Goals as goal
+use Rattle.bench_works.proofs.Images.{image_is, within_is}
+use Rattle.bench_works.proofs.volumes.all_pages.Goals as goal
 
 pub loop-page-preserved : goal.loop-page-preserved
 loop-page-preserved c =
