@@ -1,6 +1,0 @@
-//! Runs of a manager, worked by hand: what each call of the first path comes to in each of its cases, and what is shown then. Tests
-//! alone, in a crate beside the chain, so that nothing waits for them.
-#![tactic(auto)]
-
-#[cfg(test)]
-mod tests;
