@@ -1,13 +1,35 @@
 //! A device in memory or over a file, for one who learns as it runs which it is to be.
-ghost use Rattle.std.specs.Prelude.{◌≡◌};
+ghost use Rattle.std.specs.Prelude.{◌≡◌, []};
 
-use crate::{Disk, DiskFault, FileDisk, MemDisk};
+use crate::{Disk, DiskFault, FileDisk, MemDisk, Pick};
 
 /// A device in memory or over a file. It is honest if it is in memory.
 #[derive(Drop)]
 pub enum AnyDisk {
     Memory(MemDisk),
     File(FileDisk),
+}
+
+impl AnyDisk {
+    ghost use Rattle.std.specs.Prelude.{IsTrue};
+    ghost use Rattle.shore_disk.specs.Device.{may_leave, size};
+    ghost use Rattle.shore_disk.specs.Memory.{picked_after};
+    ghost use Rattle.shore_disk.specs.AnyDisk.{is_in_memory, any_history, any_failures};
+
+    /// A loss of power. Of a file nothing is lost.
+    pub fn crash(&mut self, pick: Pick)
+        ensures picked { IsTrue (is_in_memory self.old)
+            → any_history self.new ≡ record { first = picked_after pick (any_history self.old).first (any_history self.old).calls; calls = [] } }
+        ensures left { IsTrue (is_in_memory self.old) → may_leave (any_history self.old) (any_history self.new).first }
+        ensures kept { ¬ IsTrue (is_in_memory self.old) → self.new ≡ self.old }
+        ensures size { size (any_history self.new) ≡ size (any_history self.old) }
+        ensures honest { is_in_memory self.new ≡ is_in_memory self.old }
+        ensures failures { any_failures self.new ≡ any_failures self.old }
+    {
+        if let AnyDisk::Memory(disk) = self {
+            disk.crash(pick);
+        }
+    }
 }
 
 impl Disk for AnyDisk {
