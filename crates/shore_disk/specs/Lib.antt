@@ -2,6 +2,7 @@ pub mod Device
 pub mod Memory
 pub mod MemDisk
 pub mod FileDisk
+pub mod AnyDisk
 pub mod Fuse
 pub mod Once
 pub mod Pair

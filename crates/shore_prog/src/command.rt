@@ -24,8 +24,8 @@ pub enum Command {
     Ask(Call),
     /// Every waiting record is forced.
     Force,
-    /// The power is lost, and the manager opened again.
-    Crash(Pick),
+    /// The power is lost, and the manager opened again. The line may pick what becomes of writes that were not synced.
+    Crash(Option<Pick>),
     /// The device lets so many more writes and syncs pass.
     Fuse(Device, u64),
     /// Every record in place.
@@ -66,12 +66,12 @@ fn plain_command(words: &[&str]) -> Option<Command>
     match words {
         [word] => match *word {
             "force" => Some(Command::Force),
-            "crash" => Some(Command::Crash(Pick::Old)),
+            "crash" => Some(Command::Crash(None)),
             "dump" => Some(Command::Dump),
             "log" => Some(Command::Log),
             _ => None,
         },
-        [word, pick] if *word == "crash" => Some(Command::Crash(pick_of(pick)?)),
+        [word, pick] if *word == "crash" => Some(Command::Crash(Some(pick_of(pick)?))),
         [word, device, calls] if *word == "fuse" => {
             Some(Command::Fuse(device_of(device)?, words::number(calls)?))
         }

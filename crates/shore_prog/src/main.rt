@@ -2,6 +2,7 @@
 #![tactic(auto)]
 
 mod command;
+mod devices;
 mod lines;
 mod manager;
 mod program;
@@ -15,5 +16,5 @@ use std::io;
 use std::process::ExitCode;
 
 fn main(rt: HostRuntime) -> ExitCode {
-    run(rt.alloc(), rt.reader(), io::writer(&rt))
+    run(rt.alloc(), &rt, rt.reader(), io::writer(&rt))
 }

@@ -1,4 +1,4 @@
-//! The manager that a script works with: a world over two devices in memory, each behind a fuse.
+//! The manager that a script works with: a world over two devices in memory or in files, each behind a fuse.
 ghost use Rattle.std.specs.Prelude.{◌≤◌};
 ghost use Rattle.shore_types.specs.declared.layout.TheConstants.{MAX_PAGES, MIN_POOL_FRAMES};
 ghost use Rattle.shore_calls.specs.CallSteps.{IsServed};
@@ -6,30 +6,27 @@ ghost use Rattle.shore_settings.specs.Limits.{AreInLimits};
 ghost use Rattle.shore_prog.specs.Commands.{IsServedCommand};
 
 use crate::command::{Command, SESSION};
+use crate::devices::{ScriptDisk, first_pair, pair_after_crash};
 use crate::render;
 use crate::stop::Stop;
-use shore_disk::{FuseDisk, MemDisk, Pick};
+use shore_disk::Pick;
 use shore_model::Call;
-use shore_settings::Settings;
+use shore_settings::{Devices, Settings};
 use shore_types::layout::MAX_STORES;
 use shore_types::{Bytes, Device, Fault, Rid, Sequence, StoreId};
-use shore_world::{Event, Step, World, format, volume_bytes};
-use std::alloc::{AllocError, Global};
+use shore_world::{Event, Step, World};
+use std::alloc::Global;
+use std::fs::{File, Files};
 use std::io::{self, Write};
 use std::mem;
 
-/// A device in memory that may be made to fail.
-pub type ScriptDisk = FuseDisk<MemDisk>;
-
-/// A world over two of them.
+/// A world over two devices.
 pub type ScriptWorld = World<ScriptDisk, ScriptDisk>;
 
-// A fuse that no run of the program blows.
-const NO_FUSE: u64 = u64::MAX;
-
-/// The manager, and how many frames for pages an open asks for.
+/// The manager, where its devices are, and how many frames for pages an open asks for.
 #[derive(Drop)]
 pub struct Manager {
+    devices: Devices,
     frames: usize,
     access: Access,
     ghost some: { MIN_POOL_FRAMES ≤ frames },
@@ -41,7 +38,7 @@ pub struct Manager {
 enum Access {
     Open(Opened),
     Closed(ScriptDisk, ScriptDisk),
-    /// An allocation failed between a loss of power and the open that follows it: the run ends.
+    /// No device is at hand, since a file could not be opened.
     Lost,
 }
 
@@ -54,19 +51,23 @@ struct Opened {
 }
 
 impl Manager {
-    /// Formats two devices in memory by the settings, and opens them.
-    pub fn start(alloc: Global, settings: &Settings) -> Result<Manager, Fault>
-        requires { AreInLimits settings.now }
+    /// Opens the devices of the settings, which are formatted before unless they are files to be opened as they are.
+    pub fn start(
+        alloc: Global,
+        files: &impl Files<File = File>,
+        settings: Settings,
+    ) -> Result<Manager, Fault>
+        requires { AreInLimits settings }
     {
-        let mut log = zeroed(alloc, settings.log_bytes).map_err(|_| Fault::Memory)?;
-        let mut volume = zeroed(alloc, volume_bytes(&settings.geometry)).map_err(
-            |_| Fault::Memory,
-        )?;
-        format(alloc, &mut log, &mut volume, &settings.geometry)?;
+        let (log, volume) = first_pair(alloc, files, &settings)?;
         let frames = settings.pool as usize;
         let (access, refused) = open(alloc, log, volume, frames);
         match refused {
-            None => Ok(Manager { frames, access }),
+            None => Ok(Manager {
+                devices: settings.devices,
+                frames,
+                access,
+            }),
             Some(fault) => Err(fault),
         }
     }
@@ -75,10 +76,19 @@ impl Manager {
         matches!(self.access, Access::Open(_))
     }
 
+    /// Whether the line is one for these devices: files have no fuse, and a crash of them picks nothing.
+    pub fn takes(&self, command: &Command) -> bool {
+        match (&self.devices, command) {
+            (Devices::Files(_), Command::Fuse(..) | Command::Crash(Some(_))) => false,
+            _ => true,
+        }
+    }
+
     /// Does what a line asks for, and writes its answers.
-    pub fn execute<W: Write>(
+    pub fn execute<F: Files<File = File>, W: Write>(
         &mut self,
         alloc: Global,
+        files: &F,
         command: Command,
         out: &mut W,
     ) -> Result<(), Stop>
@@ -86,7 +96,7 @@ impl Manager {
     {
         match command {
             Command::Nothing => Ok(()),
-            Command::Crash(pick) => self.crash(alloc, pick, out),
+            Command::Crash(pick) => self.crash(alloc, files, pick.unwrap_or(Pick::Old), out),
             Command::Fuse(device, calls) => {
                 self.set_fuse(device, calls);
                 Ok(())
@@ -110,14 +120,26 @@ impl Manager {
     }
 
     // Everything in memory is lost, and the fuses go away.
-    fn crash<W: Write>(&mut self, alloc: Global, pick: Pick, out: &mut W) -> Result<(), Stop> {
-        let (log, volume) = match mem::replace(&mut self.access, Access::Lost) {
-            Access::Open(opened) => opened.world.lose_power(pick),
-            Access::Closed(log, volume) => (crashed(log, pick), crashed(volume, pick)),
-            Access::Lost => return Err(Stop::Memory),
+    fn crash<F: Files<File = File>, W: Write>(
+        &mut self,
+        alloc: Global,
+        files: &F,
+        pick: Pick,
+        out: &mut W,
+    ) -> Result<(), Stop> {
+        let held = match mem::replace(&mut self.access, Access::Lost) {
+            Access::Open(opened) => Some(opened.world.into_devices()),
+            Access::Closed(log, volume) => Some((log, volume)),
+            Access::Lost => None,
         };
-        let (access, refused) = open(alloc, fused(log), fused(volume), self.frames);
-        self.access = access;
+        let refused = match pair_after_crash(files, &self.devices, held, pick) {
+            Ok((log, volume)) => {
+                let (access, refused) = open(alloc, log, volume, self.frames);
+                self.access = access;
+                refused
+            }
+            Err(fault) => Some(fault),
+        };
         match refused {
             None => out.write_all(b"opened\n")?,
             Some(fault) => render::open_fault(out, &fault)?,
@@ -156,23 +178,6 @@ fn open(
         }
         Err((fault, log, volume)) => (Access::Closed(log, volume), Some(fault)),
     }
-}
-
-// What a loss of power leaves of a device that no manager has open.
-fn crashed(device: ScriptDisk, pick: Pick) -> MemDisk {
-    let mut disk = device.into_inner();
-    disk.crash(pick);
-    disk
-}
-
-// A device of so many zeros.
-fn zeroed(alloc: Global, len: u64) -> Result<ScriptDisk, AllocError> {
-    let bytes = Vec::from_elem(alloc, 0, len as usize)?;
-    Ok(fused(MemDisk::new(alloc, bytes)?))
-}
-
-fn fused(disk: MemDisk) -> ScriptDisk {
-    FuseDisk::new(disk, NO_FUSE)
 }
 
 fn answer<W: Write>(

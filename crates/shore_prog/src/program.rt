@@ -9,14 +9,20 @@ use crate::stop::{Status, Stop};
 use shore_settings::read_settings;
 use shore_types::{ConfigPlace, Fault};
 use std::alloc::{AllocError, Global};
+use std::fs::{File, Files};
 use std::io::{BufWriter, Read, Write};
 use std::process::ExitCode;
 
 /// Runs the script of the input under its settings, line by line, and writes the answers to the output, at the latest before the input
 /// has to be waited for. Exit status 0: done. 1: bad settings or a bad line, at which the run ends, or input or output failed, or memory
 /// ended. 2: the first format or open was refused, or the last open of the script was.
-pub fn run<R: Read + Drop, W: Write + Drop>(alloc: Global, input: R, mut output: W) -> ExitCode {
-    let status = match run_buffered(alloc, input, &mut output) {
+pub fn run<F: Files<File = File>, R: Read + Drop, W: Write + Drop>(
+    alloc: Global,
+    files: &F,
+    input: R,
+    mut output: W,
+) -> ExitCode {
+    let status = match run_buffered(alloc, files, input, &mut output) {
         Some(status) => status,
         None => Stop::Memory.tell(&mut output),
     };
@@ -24,26 +30,28 @@ pub fn run<R: Read + Drop, W: Write + Drop>(alloc: Global, input: R, mut output:
 }
 
 // `None`: there was no memory for a buffer.
-fn run_buffered<R: Read + Drop, W: Write>(
+fn run_buffered<F: Files<File = File>, R: Read + Drop, W: Write>(
     alloc: Global,
+    files: &F,
     input: R,
     output: &mut W,
 ) -> Option<Status> {
     let mut output = BufWriter::new(alloc, output).ok()?;
-    match run_input(alloc, input, &mut output) {
+    match run_input(alloc, files, input, &mut output) {
         Ok(status) => Some(status),
         Err(stop) => Some(stop.tell(&mut output)),
     }
 }
 
-fn run_input<R: Read + Drop, W: Write>(
+fn run_input<F: Files<File = File>, R: Read + Drop, W: Write>(
     alloc: Global,
+    files: &F,
     input: R,
     output: &mut W,
 ) -> Result<Status, Stop> {
     let mut lines = Lines::new(alloc, input)?;
-    let mut manager = start(alloc, &mut lines)?;
-    run_script(alloc, &mut manager, &mut lines, output)?;
+    let mut manager = start(alloc, files, &mut lines)?;
+    run_script(alloc, files, &mut manager, &mut lines, output)?;
     output.flush()?;
     Ok(if manager.is_open() {
         Status::Done
@@ -52,7 +60,11 @@ fn run_input<R: Read + Drop, W: Write>(
     })
 }
 
-fn start<R: Read + Drop>(alloc: Global, lines: &mut Lines<R>) -> Result<Manager, Stop> {
+fn start<F: Files<File = File>, R: Read + Drop>(
+    alloc: Global,
+    files: &F,
+    lines: &mut Lines<R>,
+) -> Result<Manager, Stop> {
     let no_toml = Stop::Bad(Fault::BadConfig(ConfigPlace::Toml));
     let Some(text) = lines.settings(alloc)? else {
         return Err(no_toml);
@@ -65,15 +77,16 @@ fn start<R: Read + Drop>(alloc: Global, lines: &mut Lines<R>) -> Result<Manager,
         Err(Fault::Memory) => return Err(Stop::Memory),
         Err(fault) => return Err(Stop::Bad(fault)),
     };
-    match Manager::start(alloc, &settings) {
+    match Manager::start(alloc, files, settings) {
         Ok(manager) => Ok(manager),
         Err(fault) => Err(Stop::Refused(fault)),
     }
 }
 
 // Runs each line, up to a bad one.
-fn run_script<R: Read + Drop, W: Write>(
+fn run_script<F: Files<File = File>, R: Read + Drop, W: Write>(
     alloc: Global,
+    files: &F,
     manager: &mut Manager,
     lines: &mut Lines<R>,
     output: &mut W,
@@ -86,8 +99,10 @@ fn run_script<R: Read + Drop, W: Write>(
             return Ok(());
         };
         match read_line(alloc, line)? {
-            Some(command) => manager.execute(alloc, command, output)?,
-            None => return Err(Stop::Bad(Fault::BadConfig(ConfigPlace::Line(number)))),
+            Some(command) if manager.takes(&command) => {
+                manager.execute(alloc, files, command, output)?;
+            }
+            _ => return Err(Stop::Bad(Fault::BadConfig(ConfigPlace::Line(number)))),
         }
     }
     Ok(())

@@ -3,4 +3,4 @@
 
 mod settings;
 
-pub use settings::{Settings, read_settings};
+pub use settings::{Devices, FilePair, Settings, read_settings};

@@ -18,9 +18,27 @@ const DEFAULT_MAX_LOCKS: u32 = 1024;
 
 const DEFAULT_POOL_FRAMES: u32 = 64;
 
-/// How the manager is made: over devices in memory, which are formatted at the start.
+/// Where the two devices are.
+#[derive(Drop)]
+pub enum Devices {
+    /// In memory, and formatted at the start.
+    Memory,
+    Files(FilePair),
+}
+
+/// Two files.
+#[derive(Drop)]
+pub struct FilePair {
+    /// They are made anew and formatted at the start; otherwise they are opened as they are.
+    pub is_made_anew: bool,
+    pub log: Text,
+    pub volume: Text,
+}
+
+/// How the manager is made.
 #[derive(Drop)]
 pub struct Settings {
+    pub devices: Devices,
     pub geometry: Geometry,
     /// The length of the log device.
     pub log_bytes: u64,
@@ -43,14 +61,13 @@ pub fn read_settings(alloc: Global, text: &str) -> Result<Settings, Fault>
         Err(_) => return Err(Fault::BadConfig(ConfigPlace::Toml)),
     };
     refuse_unknown(alloc, &table)?;
-    check_devices(&table)?;
-    check_files(&table)?;
     settings_of(alloc, &table)
 }
 
 fn settings_of(alloc: Global, table: &Table) -> Result<Settings, Fault>
     ensures { IfOk result AreInLimits }
 {
+    let devices = devices_of(alloc, table)?;
     let pair = number_or(table, Setting::Pair, DEFAULT_PAIR)?;
     let log_bytes = number_or(table, Setting::LogBytes, DEFAULT_LOG_BYTES)?;
     if log_bytes < MIN_LOG_BYTES || log_bytes > MAX_LOG_BYTES {
@@ -59,6 +76,7 @@ fn settings_of(alloc: Global, table: &Table) -> Result<Settings, Fault>
     let geometry = geometry_of(alloc, table, pair)?;
     let pool = pool_of(table)?;
     Ok(Settings {
+        devices,
         geometry,
         log_bytes,
         pool,
@@ -117,26 +135,50 @@ fn value_of<'a>(table: &'a Table, setting: Setting) -> Option<&'a Value> {
     table.get(setting.key())
 }
 
-// Files are not served as yet.
-fn check_devices(table: &Table) -> Result<(), Fault> {
-    match value_of(table, Setting::Devices) {
-        None => Ok(()),
-        Some(value) if value.as_str() == Some("memory") => Ok(()),
-        Some(_) => Err(refused(Setting::Devices)),
-    }
-}
-
-// The keys of files, which devices in memory don't use.
-fn check_files(table: &Table) -> Result<(), Fault> {
-    if let Some(value) = value_of(table, Setting::Format)
-        && value.as_bool().is_none()
-    {
-        return Err(refused(Setting::Format));
+// Devices in memory don't use the keys of files, but these are checked.
+fn devices_of(alloc: Global, table: &Table) -> Result<Devices, Fault> {
+    let in_files = are_files(table)?;
+    let is_made_anew = flag_or(table, Setting::Format, true)?;
+    if in_files {
+        let log = path_of(alloc, table, Setting::LogPath)?;
+        let volume = path_of(alloc, table, Setting::VolumePath)?;
+        return Ok(Devices::Files(FilePair {
+            is_made_anew,
+            log,
+            volume,
+        }));
     }
     check_path(table, Setting::LogPath)?;
-    check_path(table, Setting::VolumePath)
+    check_path(table, Setting::VolumePath)?;
+    Ok(Devices::Memory)
 }
 
+fn are_files(table: &Table) -> Result<bool, Fault> {
+    match value_of(table, Setting::Devices) {
+        None => Ok(false),
+        Some(value) => match value.as_str() {
+            Some("memory") => Ok(false),
+            Some("files") => Ok(true),
+            _ => Err(refused(Setting::Devices)),
+        },
+    }
+}
+
+fn flag_or(table: &Table, setting: Setting, default: bool) -> Result<bool, Fault> {
+    match value_of(table, setting) {
+        None => Ok(default),
+        Some(value) => value.as_bool().ok_or(refused(setting)),
+    }
+}
+
+fn path_of(alloc: Global, table: &Table, setting: Setting) -> Result<Text, Fault> {
+    match value_of(table, setting).and_then(|value| value.as_str()) {
+        Some(path) => Ok(Text::of(String::from_str(alloc, path)?)),
+        None => Err(refused(setting)),
+    }
+}
+
+// A path that is not used, and may be missing.
 fn check_path(table: &Table, setting: Setting) -> Result<(), Fault> {
     match value_of(table, setting) {
         Some(value) if value.as_str().is_none() => Err(refused(setting)),

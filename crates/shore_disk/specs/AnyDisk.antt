@@ -1,0 +1,21 @@
+-- A device in memory or over a file, seen as the one that it is.
+use Rattle.std.specs.Prelude.{ℕ, Bool, true, false}
+use Rattle.shore_disk.specs.Device.{History}
+use Rattle.shore_disk.specs.FileDisk.{file_history}
+use Rattle.shore_disk.specs.FileDisk as file
+use Rattle.shore_disk.specs.MemDisk as memory
+use Rattle.shore_disk.specs.declared.any.AnyDisk.{AnyDisk}
+use Rattle.shore_disk.specs.declared.any.AnyDisk.TheVariants as any
+
+-- what is said of its bytes holds if it is in memory
+abbrev pub is_in_memory : AnyDisk → Bool
+is_in_memory (any.Memory d) = true
+is_in_memory (any.File d) = false
+
+abbrev pub any_history : AnyDisk → History
+any_history (any.Memory d) = memory.history_of d
+any_history (any.File d) = file_history d
+
+abbrev pub any_failures : AnyDisk → ℕ
+any_failures (any.Memory d) = memory.failures_of d
+any_failures (any.File d) = file.failures_of d

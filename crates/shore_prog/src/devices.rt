@@ -1,0 +1,96 @@
+//! The two devices that a script works with, in memory or in files.
+ghost use Rattle.shore_settings.specs.Limits.{AreInLimits};
+
+use shore_disk::{AnyDisk, FileDisk, FuseDisk, MemDisk, Pick};
+use shore_settings::{Devices, FilePair, Settings};
+use shore_types::Fault;
+use shore_world::{format, volume_bytes};
+use std::alloc::{AllocError, Global};
+use std::fs::{File, Files};
+use std::io;
+
+/// A device that may be made to fail.
+pub type ScriptDisk = FuseDisk<AnyDisk>;
+
+/// The log device and the volume.
+pub type ScriptPair = (ScriptDisk, ScriptDisk);
+
+// A fuse that no run of the program blows.
+const NO_FUSE: u64 = u64::MAX;
+
+/// The devices of the settings, formatted unless they are files that are to be opened as they are.
+pub fn first_pair(
+    alloc: Global,
+    files: &impl Files<File = File>,
+    settings: &Settings,
+) -> Result<ScriptPair, Fault>
+    requires { AreInLimits settings.now }
+{
+    let volume_bytes = volume_bytes(&settings.geometry);
+    let (mut log, mut volume) = match &settings.devices {
+        Devices::Memory => {
+            let log = zeroed(alloc, settings.log_bytes).map_err(|_| Fault::Memory)?;
+            let volume = zeroed(alloc, volume_bytes).map_err(|_| Fault::Memory)?;
+            (log, volume)
+        }
+        Devices::Files(paths) if paths.is_made_anew => {
+            made_anew(files, paths, settings.log_bytes, volume_bytes).map_err(|_| Fault::Device)?
+        }
+        Devices::Files(paths) => return opened(files, paths).map_err(|_| Fault::Device),
+    };
+    format(alloc, &mut log, &mut volume, &settings.geometry)?;
+    Ok((log, volume))
+}
+
+/// What a crash leaves of the devices that are at hand, with no fuse. Files are closed, and opened as they are.
+pub fn pair_after_crash(
+    files: &impl Files<File = File>,
+    devices: &Devices,
+    held: Option<ScriptPair>,
+    pick: Pick,
+) -> Result<ScriptPair, Fault> {
+    match (devices, held) {
+        (Devices::Memory, Some((log, volume))) => Ok((crashed(log, pick), crashed(volume, pick))),
+        (Devices::Memory, None) => Err(Fault::Device),
+        (Devices::Files(paths), held) => {
+            drop(held);
+            opened(files, paths).map_err(|_| Fault::Device)
+        }
+    }
+}
+
+fn crashed(device: ScriptDisk, pick: Pick) -> ScriptDisk {
+    let mut disk = device.into_inner();
+    disk.crash(pick);
+    fused(disk)
+}
+
+// Both files are locked before the first is changed.
+fn made_anew(
+    files: &impl Files<File = File>,
+    paths: &FilePair,
+    log_bytes: u64,
+    volume_bytes: u64,
+) -> io::Result<ScriptPair> {
+    let log = FileDisk::open_or_create(files, paths.log.as_str())?;
+    let volume = FileDisk::open_or_create(files, paths.volume.as_str())?;
+    let log = log.cleared(log_bytes)?;
+    let volume = volume.cleared(volume_bytes)?;
+    Ok((fused(AnyDisk::File(log)), fused(AnyDisk::File(volume))))
+}
+
+fn opened(files: &impl Files<File = File>, paths: &FilePair) -> io::Result<ScriptPair> {
+    let log = FileDisk::open(files, paths.log.as_str())?;
+    let volume = FileDisk::open(files, paths.volume.as_str())?;
+    Ok((fused(AnyDisk::File(log)), fused(AnyDisk::File(volume))))
+}
+
+// A device in memory of so many zeros.
+fn zeroed(alloc: Global, len: u64) -> Result<ScriptDisk, AllocError> {
+    let bytes = Vec::from_elem(alloc, 0, len as usize)?;
+    Ok(fused(AnyDisk::Memory(MemDisk::new(alloc, bytes)?)))
+}
+
+fn fused(disk: AnyDisk) -> ScriptDisk {
+    FuseDisk::new(disk, NO_FUSE)
+}
