@@ -1,6 +1,5 @@
 pub mod Beginnings
 pub mod Equalities
-pub mod FirstPaths
 pub mod LogSteps
 pub mod Maps
 pub mod Overlays

@@ -4,7 +4,6 @@ ghost use Rattle.shore_types.specs.declared.locking.Granule.{Granule};
 ghost use Rattle.shore_model.specs.declared.log_records.LogRecord.{LogRecord};
 ghost use Rattle.shore_model.specs.declared.log_records.Payload.{Payload};
 ghost use Rattle.shore_model.specs.Records.{OverlayAnswers, overlay};
-ghost use Rattle.shore_model.specs.FirstPath.{LogTellsWhatIsShown};
 ghost use Rattle.shore_model.specs.Logs.{Lawful, MayFollow, records_told, in_doubt_in, has, is_commit, is_decision, is_in_doubt, is_prepare, is_rollback, logged_writes};
 
 /// An overlay answers from the write set first.
@@ -41,9 +40,4 @@ pub fn undecided_records_add_nothing()
     ensures { (rs : List LogRecord) (r : LogRecord) → is_decision r.payload ≡ false →
         has is_commit r.txn rs ≡ false → is_in_doubt r.txn rs ≡ false →
         (records_told (rs ++ r ∷ []) ≡ records_told rs) × (in_doubt_in (rs ++ r ∷ []) ≡ in_doubt_in rs) }
-{}
-
-/// What the list of a first path tells is what its decisions show.
-pub fn first_log_tells_what_is_shown()
-    ensures { LogTellsWhatIsShown }
 {}
