@@ -1,5 +1,13 @@
 //! The two devices that a script works with, in memory or in files.
+ghost use Rattle.std.specs.Prelude.{◌≡◌, IfOk, IfErr, IfSome, IsOkAnd};
+ghost use Rattle.shore_disk.specs.Device.{size};
+ghost use Rattle.shore_disk.specs.Fuse.{fuse_inner};
+ghost use Rattle.shore_format.specs.Volumes.{volume_bytes};
+ghost use Rattle.shore_gate.specs.Checks.{IsFromOutside};
 ghost use Rattle.shore_settings.specs.Limits.{AreInLimits};
+ghost use Rattle.shore_settings.specs.declared.settings.Devices.TheVariants.{Memory};
+ghost use Rattle.shore_types.specs.declared.faults.Fault.TheVariants as Fault;
+ghost use Rattle.shore_prog.specs.Devices.{HaveLengths, IsLeftBy, history_of};
 
 use shore_disk::{AnyDisk, FileDisk, FuseDisk, MemDisk, Pick};
 use shore_settings::{Devices, FilePair, Settings};
@@ -25,21 +33,41 @@ pub fn first_pair(
     settings: &Settings,
 ) -> Result<ScriptPair, Fault>
     requires { AreInLimits settings.now }
+    // The settings are never at fault.
+    ensures { IfErr result IsFromOutside }
 {
-    let volume_bytes = volume_bytes(&settings.geometry);
-    let (mut log, mut volume) = match &settings.devices {
-        Devices::Memory => {
-            let log = zeroed(alloc, settings.log_bytes).map_err(|_| Fault::Memory)?;
-            let volume = zeroed(alloc, volume_bytes).map_err(|_| Fault::Memory)?;
-            (log, volume)
-        }
-        Devices::Files(paths) if paths.is_made_anew => {
-            made_anew(files, paths, settings.log_bytes, volume_bytes).map_err(|_| Fault::Device)?
-        }
-        Devices::Files(paths) => return opened(files, paths).map_err(|_| Fault::Device),
-    };
+    if let Devices::Files(paths) = &settings.devices
+        && !paths.is_made_anew
+    {
+        return opened(files, paths).map_err(|_| Fault::Device);
+    }
+    let (mut log, mut volume) = new_pair(alloc, files, settings)?;
     format(alloc, &mut log, &mut volume, &settings.geometry)?;
     Ok((log, volume))
+}
+
+// Devices of the lengths that the settings ask for, with zeros.
+fn new_pair(
+    alloc: Global,
+    files: &impl Files<File = File>,
+    settings: &Settings,
+) -> Result<ScriptPair, Fault>
+    requires { AreInLimits settings.now }
+    ensures lengths { IfOk result (HaveLengths settings.now.log_bytes (volume_bytes settings.now.geometry)) }
+    ensures refused { IfErr result IsFromOutside }
+{
+    let log_bytes = settings.log_bytes;
+    let volume_bytes = volume_bytes(&settings.geometry);
+    match &settings.devices {
+        Devices::Memory => {
+            let log = zeroed(alloc, log_bytes).map_err(|_| Fault::Memory)?;
+            let volume = zeroed(alloc, volume_bytes).map_err(|_| Fault::Memory)?;
+            Ok((log, volume))
+        }
+        Devices::Files(paths) => {
+            made_anew(files, paths, log_bytes, volume_bytes).map_err(|_| Fault::Device)
+        }
+    }
 }
 
 /// What a crash leaves of the devices that are at hand, with no fuse. Files are closed, and opened as they are.
@@ -48,7 +76,11 @@ pub fn pair_after_crash(
     devices: &Devices,
     held: Option<ScriptPair>,
     pick: Pick,
-) -> Result<ScriptPair, Fault> {
+) -> Result<ScriptPair, Fault>
+    ensures memory { devices.now ≡ Memory
+        → IfSome held (λ old. IsOkAnd result (λ new. IsLeftBy pick old.0 new.0 × IsLeftBy pick old.1 new.1)) }
+    ensures refused { IfErr result (λ fault. fault ≡ Fault.Device) }
+{
     match (devices, held) {
         (Devices::Memory, Some((log, volume))) => Ok((crashed(log, pick), crashed(volume, pick))),
         (Devices::Memory, None) => Err(Fault::Device),
@@ -59,7 +91,9 @@ pub fn pair_after_crash(
     }
 }
 
-fn crashed(device: ScriptDisk, pick: Pick) -> ScriptDisk {
+fn crashed(device: ScriptDisk, pick: Pick) -> ScriptDisk
+    ensures { IsLeftBy pick device result }
+{
     let mut disk = device.into_inner();
     disk.crash(pick);
     fused(disk)
@@ -71,7 +105,9 @@ fn made_anew(
     paths: &FilePair,
     log_bytes: u64,
     volume_bytes: u64,
-) -> io::Result<ScriptPair> {
+) -> io::Result<ScriptPair>
+    ensures { IfOk result (HaveLengths log_bytes volume_bytes) }
+{
     let log = FileDisk::open_or_create(files, paths.log.as_str())?;
     let volume = FileDisk::open_or_create(files, paths.volume.as_str())?;
     let log = log.cleared(log_bytes)?;
@@ -86,11 +122,15 @@ fn opened(files: &impl Files<File = File>, paths: &FilePair) -> io::Result<Scrip
 }
 
 // A device in memory of so many zeros.
-fn zeroed(alloc: Global, len: u64) -> Result<ScriptDisk, AllocError> {
+fn zeroed(alloc: Global, len: u64) -> Result<ScriptDisk, AllocError>
+    ensures { IfOk result (λ d. size (history_of d) ≡ len) }
+{
     let bytes = Vec::from_elem(alloc, 0, len as usize)?;
     Ok(fused(AnyDisk::Memory(MemDisk::new(alloc, bytes)?)))
 }
 
-fn fused(disk: AnyDisk) -> ScriptDisk {
+fn fused(disk: AnyDisk) -> ScriptDisk
+    ensures { fuse_inner result ≡ disk }
+{
     FuseDisk::new(disk, NO_FUSE)
 }

@@ -1,9 +1,9 @@
 //! The manager that a script works with: a world over two devices in memory or in files, each behind a fuse.
-ghost use Rattle.std.specs.Prelude.{◌≤◌};
+ghost use Rattle.std.specs.Prelude.{◌≤◌, ◌↔◌, IsTrue};
 ghost use Rattle.shore_types.specs.declared.layout.TheConstants.{MAX_PAGES, MIN_POOL_FRAMES};
 ghost use Rattle.shore_calls.specs.CallSteps.{IsServed};
 ghost use Rattle.shore_settings.specs.Limits.{AreInLimits};
-ghost use Rattle.shore_prog.specs.Commands.{IsServedCommand};
+ghost use Rattle.shore_prog.specs.Commands.{IsServedCommand, IsTaken};
 
 use crate::command::{Command, SESSION};
 use crate::devices::{ScriptDisk, first_pair, pair_after_crash};
@@ -77,7 +77,9 @@ impl Manager {
     }
 
     /// Whether the line is one for these devices: files have no fuse, and a crash of them picks nothing.
-    pub fn takes(&self, command: &Command) -> bool {
+    pub fn takes(&self, command: &Command) -> bool
+        ensures { IsTrue result ↔ IsTaken self.now.devices command.now }
+    {
         match (&self.devices, command) {
             (Devices::Files(_), Command::Fuse(..) | Command::Crash(Some(_))) => false,
             _ => true,
@@ -92,7 +94,8 @@ impl Manager {
         command: Command,
         out: &mut W,
     ) -> Result<(), Stop>
-        requires { IsServedCommand command }
+        requires served { IsServedCommand command }
+        requires taken { IsTaken self.old.devices command }
     {
         match command {
             Command::Nothing => Ok(()),
