@@ -183,7 +183,7 @@ module _ {L V : Type 0} {G : Ghosts L} {H : Ghosts V} where
     pub volume_faults : cores.faults_of new.core ≡ cores.faults_of old.core
     pub kept : (front : List ℕ) → SurvivesCrashes old front → SurvivesCrashes new front
 
-  -- A read of the volume has failed: every later call is refused, and nothing else has changed.
+  -- A read of the volume has failed: every later call is refused, and nothing else has changed but the count of failures of its device.
   pub record HasFailedToRead (old new : World L V G H) : Type 0 where
     pub geometry : geometry_in new ≡ geometry_in old
     pub state : (front : List ℕ) (disk : ℕ → List ℕ) (s : State) → IsInState old front disk s → IsInState new front disk (with_failure s)
