@@ -55,7 +55,7 @@ pub listed_among : (t : ℕ) (es : List LogTxn) → Lists es t → Among t es
 unfolding Lists
 listed_among t es h = among_at t es h.0 h.1 h.2 h.3 h.4
 
-rise_first : (t : ℕ) (e : LogTxn) (es : List LogTxn) → IsTrue (rise_above t (e ∷ es)) → (t < e.txn) × IsTrue (rise_above e.txn es)
+pub rise_first : (t : ℕ) (e : LogTxn) (es : List LogTxn) → IsTrue (rise_above t (e ∷ es)) → (t < e.txn) × IsTrue (rise_above e.txn es)
 rise_first t e es h = let both = and_true (nat_lt t e.txn) (rise_above e.txn es) h in (ltb-true t e.txn both.0, both.1)
 
 among_above : (t u : ℕ) (es : List LogTxn) → IsTrue (rise_above t es) → Among u es → t < u
@@ -67,7 +67,7 @@ among_above t u (e ∷ es) rising (inr later) =
     let first = parts.0 in
     omega (arith, first, above)
 
-cases_lt : (a b : ℕ) → (a < b) ⊎ ((a ≡ b) ⊎ (b < a))
+pub cases_lt : (a b : ℕ) → (a < b) ⊎ ((a ≡ b) ⊎ (b < a))
 cases_lt zero zero = inr (inl refl)
 cases_lt zero (suc b) = inl (omega arith)
 cases_lt (suc a) zero = inr (inr (omega arith))

@@ -4,3 +4,4 @@ pub mod KnownNext
 pub mod Listed
 pub mod MeantLogs
 pub mod OneMore
+pub mod Undone

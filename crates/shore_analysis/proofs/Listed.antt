@@ -107,7 +107,7 @@ known_if_there = by_push (λ rs. (t : ℕ) → last_of t rs ≡ 0 → All (λ r.
         (same_or_not r.txn t)
 
 module _ (rs : List LogRecord) (doubts : (t : ℕ) → is_in_doubt t rs ≡ false) where
-  is_entry : (t : ℕ) (e : LogTxn) → Runs t rs e → IsEntry rs e
+  pub is_entry : (t : ℕ) (e : LogTxn) → Runs t rs e → IsEntry rs e
   is_entry t e h = subst (IsEntry rs) (sym h.is) (
     record { is_one = h.one; known = h.known; not_over = h.runs; in_doubt = never_prepared (newest_is_undo (reverse (records_of t rs))) t rs refl ∙ sym (doubts t) },
     record { first = refl; last = refl; undo_next = refl; prepare = refl },

@@ -60,6 +60,10 @@ module _ {A : Type 0} where
   own_or_last (z ∷ xs) y x zero h = inl h
   own_or_last (z ∷ xs) y x (suc k) h = ⊎_elim (λ own. inl own) (λ last. inr (ap suc last.0, last.1)) (own_or_last xs y x k h)
 
+  pub before_last : (xs : List A) (x : A) → take (length xs) (xs ++ x ∷ []) ≡ xs
+  before_last [] x = refl
+  before_last (y ∷ xs) x = ap (λ zs. y ∷ zs) (before_last xs x)
+
 -- ---- logs whose records mean what they have to
 
 module _ (g : Geometry) where
@@ -71,10 +75,6 @@ module _ (g : Geometry) where
       (λ own. subst (λ xs. GoesOn g xs q) (sym (take-append-le n rs (r ∷ []) (let lt = slice_get_within rs n q own in omega arith))) (all n q own))
       (λ last. subst (λ xs. GoesOn g xs q) (sym (ap (λ k. take k (rs ++ r ∷ [])) last.0 ∙ before_last rs r)) (subst (λ x. GoesOn g rs x) last.1 here))
       (own_or_last rs r q n h)
-    where
-      before_last : {A : Type 0} (xs : List A) (x : A) → take (length xs) (xs ++ x ∷ []) ≡ xs
-      before_last [] x = refl
-      before_last (y ∷ xs) x = ap (λ zs. y ∷ zs) (before_last xs x)
 
   pub AreMeant-take : (rs : List LogRecord) (n : ℕ) → AreMeant g rs → AreMeant g (take n rs)
   AreMeant-take rs n all k r h =

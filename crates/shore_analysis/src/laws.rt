@@ -1,11 +1,11 @@
 //! Laws of analysis, each as a function that does nothing.
-ghost use Rattle.std.specs.Prelude.{◌↔◌, ℕ, All, List, take};
+ghost use Rattle.std.specs.Prelude.{◌↔◌, ◌++◌, ◌∷◌, [], ℕ, All, List, take};
 ghost use Rattle.shore_types.specs.declared.layout.Geometry.{Geometry};
 ghost use Rattle.shore_model.specs.declared.log_records.LogRecord.{LogRecord};
 ghost use Rattle.shore_model.specs.Logs.{Lawful, Lists};
-ghost use Rattle.shore_recovery.specs.Undo.{IsLoser};
+ghost use Rattle.shore_recovery.specs.Undo.{IsLoser, undo_record};
 ghost use Rattle.shore_analysis.specs.declared.analysis.Tables.{Tables};
-ghost use Rattle.shore_analysis.specs.Meant.{AreMeant, IsCrowded, IsFirstUnmeant, IsInBounds};
+ghost use Rattle.shore_analysis.specs.Meant.{AreMeant, GoesOn, IsCrowded, IsFirstUnmeant, IsInBounds};
 ghost use Rattle.shore_analysis.specs.Tables.{AreTables};
 
 /// Each record of a lawful log in bounds means what it has to: no record of such a log is refused.
@@ -19,4 +19,10 @@ pub fn lawful_logs_are_meant()
 pub fn tables_list_the_losers()
     ensures { (g : Geometry) (rs : List LogRecord) (tables : Tables) → AreMeant g rs → AreTables rs tables
         → (t : ℕ) → Lists tables.txns t ↔ IsLoser rs t }
+{}
+
+/// A log that was analysed goes on by the records of undo, whichever loser takes its turn, so that analysis takes the longer log too.
+pub fn undo_goes_on()
+    ensures undo { (g : Geometry) (rs : List LogRecord) (t : ℕ) → AreMeant g rs → IsLoser rs t → GoesOn g rs (undo_record rs t) }
+    ensures longer { (g : Geometry) (rs : List LogRecord) (r : LogRecord) → AreMeant g rs → GoesOn g rs r → AreMeant g (rs ++ r ∷ []) }
 {}
