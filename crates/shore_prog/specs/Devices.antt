@@ -17,4 +17,5 @@ HaveLengths log_bytes volume_bytes pair = (size (history_of pair.0) ≡ log_byte
 
 -- what a loss of power makes of a device in memory: it has the image that is picked
 abbrev pub IsLeftBy : Pick → FuseDisk AnyDisk → FuseDisk AnyDisk → Type 0
-IsLeftBy pick old new = IsTrue (is_in_memory (fuse_inner old)) → history_of new ≡ record { first = picked_after pick (history_of old).first (history_of old).calls; calls = [] }
+IsLeftBy pick old new = IsTrue (is_in_memory (fuse_inner old))
+    → history_of new ≡ record { first = picked_after pick (history_of old).first (history_of old).calls; calls = [] }
