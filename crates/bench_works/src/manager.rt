@@ -17,16 +17,13 @@ const RECORDS_OF_A_PAGE: u64 = 78;
 
 const LOG_BYTES: usize = 1 << 26;
 
-/// The pages of the one store.
-const PAGES: u32 = 4_096;
-
 pub type Manager = World<MemDisk, MemDisk>;
 
-fn geometry(alloc: Global) -> Result<Geometry, AllocError> {
+fn geometry(alloc: Global, pages: u16) -> Result<Geometry, AllocError> {
     Ok(Geometry {
         pair: 1,
         max_locks: 1024,
-        stores: Sequence::from_vec(Vec::from_slice(alloc, &[PAGES])?),
+        stores: Sequence::from_vec(Vec::from_slice(alloc, &[u32::from(pages)])?),
     })
 }
 
@@ -34,11 +31,11 @@ fn zeroed(alloc: Global, bytes: usize) -> Result<MemDisk, AllocError> {
     MemDisk::new(alloc, Vec::from_elem(alloc, 0u8, bytes)?)
 }
 
-/// A manager of a formatted pair.
-pub fn new_manager(alloc: Global) -> Result<Manager, Fault> {
-    let geometry = geometry(alloc)?;
+/// A manager of a formatted pair, whose one store has so many pages.
+pub fn new_manager(alloc: Global, pages: u16) -> Result<Manager, Fault> {
+    let geometry = geometry(alloc, pages)?;
     let mut log = zeroed(alloc, LOG_BYTES)?;
-    let mut volume = zeroed(alloc, 270_336 + 8_192 * PAGES as usize)?;
+    let mut volume = zeroed(alloc, 270_336 + 8_192 * usize::from(pages))?;
     format(alloc, &mut log, &mut volume, &geometry)?;
     opened(alloc, log, volume)
 }
@@ -62,7 +59,7 @@ pub fn crashed(manager: Manager) -> (MemDisk, MemDisk) {
 /// How many records are in place.
 pub fn shown(alloc: Global, manager: &mut Manager) -> u64 {
     match manager.dump(alloc, STORE) {
-        Ok(pairs) => pairs.as_slice().len() as u64,
+        Ok(pairs) => pairs.len() as u64,
         Err(_) => 0,
     }
 }
@@ -98,7 +95,7 @@ pub fn ask(alloc: Global, manager: &mut Manager, call: Call) -> bool
 /// How many records a scan of the store shows.
 pub fn scanned(alloc: Global, manager: &mut Manager) -> u64 {
     match manager.step(alloc, Event::Call(SESSION, Call::Scan(STORE))) {
-        Step::Done(Answer::Scanned(pairs)) => pairs.as_slice().len() as u64,
+        Step::Done(Answer::Scanned(pairs)) => pairs.len() as u64,
         _ => 0,
     }
 }

@@ -14,7 +14,7 @@ ghost use Rattle.shore_core.specs.Replies.{Fails};
 use crate::core_calls::Core;
 use shore_disk::Disk;
 use shore_log::Tail;
-use shore_types::{Bytes, Fault, Lsn, Rid, Sequence, StoreId};
+use shore_types::{Fault, Lsn, Pairs, StoreId};
 use std::alloc::Global;
 
 impl<T: Tail, V: Disk> Core<T, V> {
@@ -23,7 +23,7 @@ impl<T: Tail, V: Disk> Core<T, V> {
 
     /// The records in place of a store, decided or not, in place order; no transaction is asked for. `Failed` if a device has failed, or a page was
     /// damaged; `NoStore`; and as its pages have to be read: `Device` and `Damaged`, after which every call is refused, and `Memory`.
-    pub fn dump(&mut self, alloc: Global, store: StoreId) -> Result<Sequence<(Rid, Bytes)>, Fault>
+    pub fn dump(&mut self, alloc: Global, store: StoreId) -> Result<Pairs, Fault>
         ensures shown { InEach (λ front disk before s. IfOk result (λ pairs. pairs ≡ scan_of store s.sessions.records)) self.old }
         ensures left { (front : List ℕ) (disk : ℕ → List ℕ) (before : List LogRecord) (s : State) → IsIn front disk before self.old s
             → MatchResult result (λ _. IsIn front disk before self.new s) (λ f. IsIn front disk before self.new (after_refusal f s)) }
@@ -53,11 +53,7 @@ impl<T: Tail, V: Disk> Core<T, V> {
     }
 
     /// The records of a store that is there. All its pages are in frames then.
-    pub(crate) fn pairs_of(
-        &mut self,
-        alloc: Global,
-        store: StoreId,
-    ) -> Result<Sequence<(Rid, Bytes)>, Fault>
+    pub(crate) fn pairs_of(&mut self, alloc: Global, store: StoreId) -> Result<Pairs, Fault>
         requires { HasStore (geometry_of self.old) store }
         ensures pairs { InEach (λ front disk before s. IfOk result (λ pairs. pairs ≡ scan_of store s.sessions.records)) self.old }
         ensures refused { InEach (λ front disk before s. IfErr result (λ f. (f ≡ Fault.Memory) ⊎ IsPageFault f)) self.old }

@@ -6,6 +6,7 @@ use Rattle.std.specs.Bool.{Decides}
 use Rattle.std.specs.Cmp.Lexicographic.{pointwise}
 use Rattle.std.proofs.lemmas.Bool.Decides.{Decides-eqb}
 use Rattle.std.proofs.lemmas.Slice.Eq.{bytes_eq-Decides}
+use Rattle.shore_types.proofs.Equalities.{Decides-and, Decides-same, rid_eq-Decides}
 use Rattle.shore_types.specs.declared.ids.PageId.{PageId}
 use Rattle.shore_types.specs.declared.ids.Rid.{Rid}
 use Rattle.shore_types.specs.declared.locking.Granule.{Granule}
@@ -19,32 +20,6 @@ use Rattle.shore_model.specs.contracts.requests.RequestPartialEq.TheImpl as requ
 use Rattle.shore_model.specs.declared.histories.Decision.{Decision}
 use Rattle.shore_model.specs.declared.histories.Decision.TheVariants.{Commit, Prepare, RollBack}
 use Rattle.shore_model.specs.contracts.histories.DecisionPartialEq.TheImpl.{eq-value}
-
-Decides-and : (b c : Bool) {P Q : Type 0} → Decides b P → Decides c Q → Decides (b && c) (P × Q)
-Decides-and true c p q = (λ h. (p.0 refl, q.0 h), λ h. q.1 h.1)
-Decides-and false c p q = (λ h. cc, λ h. p.1 h.0)
-
-Decides-same : {b : Bool} {P Q : Type 0} → Decides b P → (P → Q) → (Q → P) → Decides b Q
-Decides-same d to back = (λ h. to (d.0 h), λ h. d.1 (back h))
-
-abbrev pub rid_eq : Rid → Rid → Bool
-rid_eq a b = ((a.page.store == b.page.store) && (a.page.page == b.page.page)) && (a.slot == b.slot)
-
-pub rid_eq-Decides : (a b : Rid) → Decides (rid_eq a b) (a ≡ b)
-rid_eq-Decides a b =
-    Decides-same
-    (Decides-and _ _ (Decides-and _ _ (Decides-eqb a.page.store b.page.store) (Decides-eqb a.page.page b.page.page)) (Decides-eqb a.slot b.slot))
-    (λ h i. record { page = record { store = h.0.0 i; page = h.0.1 i }; slot = h.1 i })
-    (λ e. ((ap (λ (r : Rid). r.page.store) e, ap (λ (r : Rid). r.page.page) e), ap (λ (r : Rid). r.slot) e))
-
-abbrev pub pair_eq : Rid × List ℕ → Rid × List ℕ → Bool
-pair_eq a b = rid_eq a.0 b.0 && pointwise nat_eq a.1 b.1
-
-pub pair_eq-Decides : (a b : Rid × List ℕ) → Decides (pair_eq a b) (a ≡ b)
-pair_eq-Decides a b =
-    Decides-same (Decides-and _ _ (rid_eq-Decides a.0 b.0) (bytes_eq-Decides a.1 b.1))
-    (λ h i. (h.0 i, h.1 i))
-    (λ e. (ap (λ p. p.0) e, ap (λ p. p.1) e))
 
 pub decision_eq-Decides : (a b : Decision) → Decides (eq-value.it a b) (a ≡ b)
 decision_eq-Decides (Commit t) (Commit u) = Decides-same (Decides-eqb t u) (ap Commit) (λ e. cc)

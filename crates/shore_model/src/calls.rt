@@ -1,7 +1,9 @@
 //! What a session asks, and what it is answered.
 ghost use Rattle.std.specs.Prelude.{◌≡◌, IfOk};
 
-use shore_types::{Bytes, Fault, GlobalId, Granule, Lsn, Mode, Rid, Sequence, StoreId, TxnId};
+use shore_types::{
+    Bytes, Fault, GlobalId, Granule, Lsn, Mode, Pairs, Rid, Sequence, StoreId, TxnId,
+};
 use std::alloc::{AllocError, Global};
 
 /// How a transaction ends.
@@ -66,7 +68,7 @@ pub enum Answer {
     Inserted(Rid),
     Updated,
     Deleted,
-    Scanned(Sequence<(Rid, Bytes)>),
+    Scanned(Pairs),
     Locked,
     Saved(usize),
     WentBack,

@@ -5,7 +5,7 @@ ghost use Rattle.std.specs.FinMap as map;
 ghost use Rattle.shore_model.specs.Records.{AreRecords, IsRecord, overlay, put_image, scan_of};
 
 use shore_types::layout::MAX_RECORD_BYTES;
-use shore_types::{Bytes, Geometry, Rid, Sequence, StoreId};
+use shore_types::{Bytes, Geometry, Pairs, Rid, StoreId};
 use std::alloc::{AllocError, Global};
 use std::collections::BTreeMap;
 use std::collections::btree_map::Iter;
@@ -148,12 +148,12 @@ impl RidMap<Bytes> {
     }
 
     /// The records of a store, in place order.
-    pub fn scan(&self, alloc: Global, store: StoreId) -> Result<Sequence<(Rid, Bytes)>, AllocError>
+    pub fn scan(&self, alloc: Global, store: StoreId) -> Result<Pairs, AllocError>
         ensures { IfOk result (λ pairs. pairs ≡ scan_of store self.now) }
     {
-        let mut pairs = Sequence::new(alloc);
+        let mut pairs = Pairs::new(alloc);
         for (id, bytes) in self.entries.iter() {
-            push_within(alloc, &mut pairs, store, *id, bytes)?;
+            push_within(&mut pairs, store, *id, bytes)?;
         }
         Ok(pairs)
     }
@@ -166,17 +166,11 @@ fn is_record(geometry: &Geometry, id: Rid, bytes: &Bytes) -> bool
 }
 
 // Adds a record that lies in the store.
-fn push_within(
-    alloc: Global,
-    pairs: &mut Sequence<(Rid, Bytes)>,
-    store: StoreId,
-    id: Rid,
-    bytes: &Bytes,
-) -> Result<(), AllocError>
+fn push_within(pairs: &mut Pairs, store: StoreId, id: Rid, bytes: &Bytes) -> Result<(), AllocError>
     ensures { OnOk result (pairs.new ≡ pairs.old ++ filter (λ e. e.0.page.store == store) ((id, bytes.now) ∷ [])) }
 {
     if id.page.store == store {
-        pairs.push((id, bytes.try_clone(alloc)?))?;
+        pairs.push(id, bytes.as_slice())?;
     }
     Ok(())
 }

@@ -13,7 +13,7 @@ use shore_disk::Pick;
 use shore_model::Call;
 use shore_settings::{Devices, Settings};
 use shore_types::layout::MAX_STORES;
-use shore_types::{Bytes, Device, Fault, Rid, Sequence, StoreId};
+use shore_types::{Device, Fault, Pairs, StoreId};
 use shore_world::{Event, Step, World};
 use std::alloc::Global;
 use std::fs::{File, Files};
@@ -305,10 +305,7 @@ fn dump<W: Write>(alloc: Global, world: &mut ScriptWorld, out: &mut W) -> io::Re
 }
 
 // The records of each store.
-fn records_in_place(
-    alloc: Global,
-    world: &mut ScriptWorld,
-) -> Result<Vec<Sequence<(Rid, Bytes)>>, Fault> {
+fn records_in_place(alloc: Global, world: &mut ScriptWorld) -> Result<Vec<Pairs>, Fault> {
     let mut found = Vec::new(alloc);
     for store in 0..MAX_STORES as u32 {
         let store = StoreId(store);
@@ -320,13 +317,11 @@ fn records_in_place(
     Ok(found)
 }
 
-fn write_records<W: Write>(stores: &[Sequence<(Rid, Bytes)>], out: &mut W) -> io::Result<()> {
+fn write_records<W: Write>(stores: &[Pairs], out: &mut W) -> io::Result<()> {
     let mut is_empty = true;
     for records in stores {
-        for (id, bytes) in records.as_slice() {
-            is_empty = false;
-            render::record(out, id, bytes.as_slice())?;
-        }
+        is_empty = is_empty && records.len() == 0;
+        render::records(out, records)?;
     }
     if is_empty {
         out.write_all(b"empty\n")?;

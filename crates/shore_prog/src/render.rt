@@ -3,7 +3,7 @@ ghost use Rattle.std.specs.Prelude.{◌≤◌, length};
 ghost use Rattle.shore_prog.specs.declared.render.TheConstants.{PART};
 
 use shore_model::{Answer, LogRecord, Payload};
-use shore_types::{Bytes, Fault, Rid, SessionId};
+use shore_types::{Fault, Pairs, Rid, SessionId};
 use std::io::{self, Write};
 
 const DIGITS: [u8; 16] = *b"0123456789abcdef";
@@ -35,19 +35,16 @@ pub fn answer<W: Write>(out: &mut W, session: SessionId, answer: &Answer) -> io:
             out.write_all(b"\n")
         }
         Answer::Inserted(id) => writeln!(out, "at {id}"),
-        Answer::Scanned(pairs) => scanned(out, pairs.as_slice()),
+        Answer::Scanned(pairs) => scanned(out, pairs),
         Answer::Committed => writeln!(out, "committed"),
         _ => other_answer(out, answer),
     }
 }
 
-fn scanned<W: Write>(out: &mut W, pairs: &[(Rid, Bytes)]) -> io::Result<()> {
+fn scanned<W: Write>(out: &mut W, pairs: &Pairs) -> io::Result<()> {
     let count = pairs.len();
     writeln!(out, "scan {count}")?;
-    for (id, found) in pairs {
-        record(out, id, found.as_slice())?;
-    }
-    Ok(())
+    records(out, pairs)
 }
 
 // The answers of calls that have nothing to show.
@@ -61,8 +58,17 @@ fn other_answer<W: Write>(out: &mut W, answer: &Answer) -> io::Result<()> {
     }
 }
 
-/// Writes the line of a record in place.
-pub fn record<W: Write>(out: &mut W, id: &Rid, found: &[u8]) -> io::Result<()> {
+/// Writes a line for each record.
+pub fn records<W: Write>(out: &mut W, pairs: &Pairs) -> io::Result<()> {
+    for index in 0..pairs.len() {
+        if let Some((id, found)) = pairs.get(index) {
+            record(out, id, found)?;
+        }
+    }
+    Ok(())
+}
+
+fn record<W: Write>(out: &mut W, id: Rid, found: &[u8]) -> io::Result<()> {
     write!(out, "{id} ")?;
     bytes(out, found)?;
     out.write_all(b"\n")

@@ -5,3 +5,4 @@ pub mod Images
 pub mod Layout
 pub mod Locking
 pub mod Names
+pub mod Pairs

@@ -7,6 +7,7 @@ mod growths;
 pub mod ids;
 pub mod layout;
 pub mod locking;
+pub mod pairs;
 pub mod sequences;
 
 pub use config::{ConfigPlace, Setting, Text};
@@ -14,4 +15,5 @@ pub use faults::{Device, Fault};
 pub use ids::{GlobalId, Lsn, PageId, Rid, SessionId, StoreId, Ticket, TxnId};
 pub use layout::Geometry;
 pub use locking::{Granule, Level, Mode};
+pub use pairs::Pairs;
 pub use sequences::{Bytes, Sequence};

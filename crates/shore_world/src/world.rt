@@ -33,7 +33,7 @@ use shore_disk::{Disk, FuseDisk, MemDisk, Pick};
 use shore_format::{Fronts, read_fronts};
 use shore_log::{LogDev, LogRecord, PlainTail};
 use shore_model::Answer;
-use shore_types::{Bytes, Fault, Geometry, Lsn, Rid, Sequence, StoreId};
+use shore_types::{Fault, Geometry, Lsn, Pairs, StoreId};
 use std::alloc::Global;
 
 /// A manager over its log device and its volume.
@@ -152,7 +152,7 @@ impl<L: Disk, V: Disk> World<L, V> {
 
     /// The records in place of a store, decided or not, in place order. No locks are taken. Its pages are read if they are in no frame, so it
     /// may be refused by `Device`, `Damaged` and `Memory`; and by `NoStore` and, once a device has failed, by `Failed`.
-    pub fn dump(&mut self, alloc: Global, store: StoreId) -> Result<Sequence<(Rid, Bytes)>, Fault>
+    pub fn dump(&mut self, alloc: Global, store: StoreId) -> Result<Pairs, Fault>
         ensures shown { (front : List ℕ) (disk : ℕ → List ℕ) (s : State) → IsInState self.old front disk s → IsSafe (geometry_in self.old) s
             → IfOk result (λ pairs. pairs ≡ scan_of store s.sessions.records) }
         ensures stays { (front : List ℕ) (disk : ℕ → List ℕ) (s : State) → IsInState self.old front disk s

@@ -11,7 +11,7 @@ ghost use Rattle.shore_model.specs.Alone.{Alone, IsAbsent, IsRight, MayRefuse, M
 use shore_model::rid_map::{copy_writes, overlaid};
 use shore_model::{Answer, Call, Entry, Exchange, Progress, RidMap};
 use shore_types::layout::MAX_SLOTS;
-use shore_types::{Bytes, Fault, Granule, Rid, Sequence, StoreId, TxnId};
+use shore_types::{Bytes, Fault, Granule, Pairs, Rid, Sequence, StoreId, TxnId};
 use std::alloc::{AllocError, Global};
 
 /// How far a transaction has come that has called nothing yet.
@@ -136,11 +136,11 @@ fn is_inserted(found: &RidMap<Bytes>, store: StoreId, answer: &Answer) -> bool
     }
 }
 
-fn is_scanned(pairs: &Sequence<(Rid, Bytes)>, answer: &Answer) -> bool
+fn is_scanned(pairs: &Pairs, answer: &Answer) -> bool
     ensures { IsTrue result ↔ (answer.now ≡ Answer.Scanned pairs.now) }
 {
     match answer {
-        Answer::Scanned(scanned) => *scanned == *pairs,
+        Answer::Scanned(scanned) => scanned.equals(pairs),
         _ => false,
     }
 }

@@ -3,7 +3,7 @@
 use super::trouble::Trouble;
 use super::words::{Words, bytes, number, rid, short_number, short_number_of, txn, word};
 use shore_model::{Answer, Call, Decision, Entry, Exchange, InDoubt, Outcome, RidMap};
-use shore_types::{Bytes, Fault, Rid, Sequence, SessionId, StoreId};
+use shore_types::{Bytes, Fault, Pairs, Rid, SessionId, StoreId};
 use std::alloc::Global;
 
 pub(super) fn entry(alloc: Global, words: &mut Words) -> Result<Entry, Trouble> {
@@ -159,12 +159,12 @@ fn fault(name: &str) -> Result<Fault, Trouble> {
 }
 
 // How many there are, and then each.
-fn records(alloc: Global, words: &mut Words) -> Result<Sequence<(Rid, Bytes)>, Trouble> {
+fn records(alloc: Global, words: &mut Words) -> Result<Pairs, Trouble> {
     let count = number(words)?;
-    let mut records = Sequence::new(alloc);
+    let mut records = Pairs::new(alloc);
     for _ in 0..count {
         let id = rid(words)?;
-        records.push((id, bytes(alloc, words)?))?;
+        records.push(id, bytes(alloc, words)?.as_slice())?;
     }
     Ok(records)
 }

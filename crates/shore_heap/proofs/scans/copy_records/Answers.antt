@@ -12,4 +12,4 @@ loop-slot-preserved c S same before = c.in_ok-copy_slot.ensures S same (c.loop-s
 pub returns : goal.returns
 returns c S same before =
     let id = c.args.id.now in
-    page_more S id.store id.page c.loop-slot.slot c.loop-slot.list.items (omega (arith, ap (λ (l : List Slot). length l) same, c.slot_count-slot-end.ensures.count, c.loop-slot-test.false)) (c.loop-slot.invariant S same before)
+    page_more S id.store id.page c.loop-slot.slot c.loop-slot.list (omega (arith, ap (λ (l : List Slot). length l) same, c.slot_count-slot-end.ensures.count, c.loop-slot-test.false)) (c.loop-slot.invariant S same before)

@@ -5,4 +5,4 @@ use Rattle.shore_heap.specs.Scans.{HasBefore}
 use Rattle.shore_heap.proofs.scans.copy_records.Given as goal
 
 abbrev pub invariant-loop-slot : goal.invariant-loop-slot
-invariant-loop-slot l = (S : PageId → List Slot) → S l.id ≡ l.page.slots → HasBefore S l.id.store l.id.page 0 l.initial.list.items → HasBefore S l.id.store l.id.page l.slot l.list.items
+invariant-loop-slot l = (S : PageId → List Slot) → S l.id ≡ l.page.slots → HasBefore S l.id.store l.id.page 0 l.initial.list → HasBefore S l.id.store l.id.page l.slot l.list

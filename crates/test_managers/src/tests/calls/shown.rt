@@ -2,7 +2,7 @@
 use shore_disk::{FuseDisk, MemDisk};
 use shore_model::{Answer, LogRecord, Payload};
 use shore_types::layout::MAX_STORES;
-use shore_types::{Bytes, Rid, StoreId};
+use shore_types::{Bytes, Pairs, StoreId};
 use shore_world::{Step, Wait, World};
 use std::alloc::{AllocError, Global};
 
@@ -26,14 +26,14 @@ fn write_answer(out: &mut String, answer: &Answer) -> Result<(), AllocError> {
         Answer::Began(txn) => write!(out, "began {txn}"),
         Answer::Got(bytes) => {
             write!(out, "got ")?;
-            write_bytes(out, bytes)
+            write_bytes(out, bytes.as_slice())
         }
         Answer::Inserted(id) => write!(out, "at {id}"),
         Answer::Updated => write!(out, "updated"),
         Answer::Deleted => write!(out, "deleted"),
         Answer::Scanned(pairs) => {
             write!(out, "scanned")?;
-            write_pairs(out, pairs.as_slice())
+            write_pairs(out, pairs)
         }
         Answer::Committed => write!(out, "committed"),
         Answer::Staged(number) => write!(out, "staged {number}"),
@@ -43,22 +43,24 @@ fn write_answer(out: &mut String, answer: &Answer) -> Result<(), AllocError> {
 }
 
 // Its letters, or `x*N` for more than so many of them.
-fn write_bytes(out: &mut String, bytes: &Bytes) -> Result<(), AllocError> {
-    let length = bytes.as_slice().len();
-    if length > MOST_LETTERS && bytes.as_slice().iter().all(|byte| *byte == b'x') {
+fn write_bytes(out: &mut String, bytes: &[u8]) -> Result<(), AllocError> {
+    let length = bytes.len();
+    if length > MOST_LETTERS && bytes.iter().all(|byte| *byte == b'x') {
         return write!(out, "x*{length}");
     }
-    match str::from_utf8(bytes.as_slice()) {
+    match str::from_utf8(bytes) {
         Ok(letters) => write!(out, "{letters}"),
         Err(_) => write!(out, "no letters"),
     }
 }
 
 // Each pair as `0.0.0 aa`, with a space before it.
-fn write_pairs(out: &mut String, pairs: &[(Rid, Bytes)]) -> Result<(), AllocError> {
-    for (id, bytes) in pairs {
-        write!(out, " {id} ")?;
-        write_bytes(out, bytes)?;
+fn write_pairs(out: &mut String, pairs: &Pairs) -> Result<(), AllocError> {
+    for index in 0..pairs.len() {
+        if let Some((id, bytes)) = pairs.get(index) {
+            write!(out, " {id} ")?;
+            write_bytes(out, bytes)?;
+        }
     }
     Ok(())
 }
@@ -75,7 +77,7 @@ pub(super) fn write_records(
             break;
         }
         match world.dump(alloc, store) {
-            Ok(pairs) => write_pairs(out, pairs.as_slice())?,
+            Ok(pairs) => write_pairs(out, &pairs)?,
             Err(fault) => return write!(out, " refused {fault}"),
         }
     }
@@ -114,7 +116,7 @@ fn write_list(out: &mut String, list: &[LogRecord]) -> Result<(), AllocError> {
 
 fn write_image(out: &mut String, image: &Option<Bytes>) -> Result<(), AllocError> {
     match image {
-        Some(bytes) => write_bytes(out, bytes),
+        Some(bytes) => write_bytes(out, bytes.as_slice()),
         None => write!(out, "-"),
     }
 }

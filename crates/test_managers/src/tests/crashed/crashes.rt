@@ -5,7 +5,7 @@ use super::trouble::{Trouble, require};
 use shore_disk::{MemDisk, Pick};
 use shore_model::{Decision, Entry, LogRecord, Opening, RidMap};
 use shore_types::layout::MIN_POOL_FRAMES;
-use shore_types::{Bytes, Rid, Sequence};
+use shore_types::{Bytes, Pairs, Sequence};
 use shore_world::World;
 use slow_histories::decisions::{acknowledged, is_kept};
 use slow_histories::replays::{serial_records, shown_records};
@@ -75,15 +75,14 @@ fn check_shown(
     let Ok(in_place) = world.dump(alloc, STORE) else {
         return Err(Trouble::Wrong("the dump was refused"));
     };
-    let in_place = in_place.as_slice();
     let (found, _) = world.records();
     let shown = records_told(alloc, found)?;
-    require(are_same(in_place, &shown), "not what the list tells")?;
+    require(are_same(&in_place, &shown), "not what the list tells")?;
     let Some(gained) = found.get(ground.opened..) else {
         return Err(Trouble::Wrong("a record of before is gone"));
     };
     let kept = commits_in(alloc, gained)?;
-    check_kept(alloc, &ground.opening, entries, &kept, in_place)?;
+    check_kept(alloc, &ground.opening, entries, &kept, &in_place)?;
     Ok(shown)
 }
 
@@ -93,7 +92,7 @@ fn check_kept(
     opening: &Opening,
     entries: &[Entry],
     kept: &[Decision],
-    in_place: &[(Rid, Bytes)],
+    in_place: &Pairs,
 ) -> Result<(), Trouble> {
     require(is_kept(alloc, entries, kept)?, "not kept")?;
     let serial = serial_records(alloc, opening, entries, kept)?;
@@ -148,7 +147,11 @@ fn commits_in(alloc: Global, records: &[LogRecord]) -> Result<Vec<Decision>, All
     Ok(found)
 }
 
-fn are_same(in_place: &[(Rid, Bytes)], records: &RidMap<Bytes>) -> bool {
-    let in_place = in_place.iter().map(|pair| (&pair.0, &pair.1));
-    records.iter().eq(in_place)
+fn are_same(in_place: &Pairs, records: &RidMap<Bytes>) -> bool {
+    for (index, (id, bytes)) in records.iter().enumerate() {
+        if in_place.get(index) != Some((*id, bytes.as_slice())) {
+            return false;
+        }
+    }
+    records.iter().count() == in_place.len()
 }

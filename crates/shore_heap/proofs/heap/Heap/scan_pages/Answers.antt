@@ -57,4 +57,4 @@ returns-in_err-scan_page-clause-refused g c front disk holds =
 pub returns-clause-scanned : goal.returns-clause-scanned
 returns-clause-scanned g c front disk S shows =
     let end : c.loop-page.page ≡ c.pages_in-page-end.result = omega (arith, c.loop-page.auto.page-end, c.loop-page-test.false) in
-    all_pages S (geometry_of c.args.self.now) c.args.store c.pages_in-page-end.result c.loop-page.list.items c.pages_in-page-end.ensures (subst (λ (n : ℕ). HasBefore S c.args.store n 0 c.loop-page.list.items) end (c.loop-page.invariant.3 front disk S shows))
+    all_pages S (geometry_of c.args.self.now) c.args.store c.pages_in-page-end.result c.loop-page.list c.pages_in-page-end.ensures (subst (λ (n : ℕ). HasBefore S c.args.store n 0 c.loop-page.list) end (c.loop-page.invariant.3 front disk S shows))

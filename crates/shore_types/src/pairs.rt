@@ -1,0 +1,106 @@
+//! Ids with the bytes of their records, in few allocations.
+ghost use Rattle.std.specs.Prelude.{◌≡◌, ◌<◌, ◌≤◌, ◌↔◌, ◌++◌, ◌∷◌, [], length, slice_get, option_map, IsTrue, IfOk, OnOk, OnErr};
+ghost use Rattle.std.specs.List.{between};
+ghost use Rattle.shore_types.specs.Pairs.{begin_in};
+
+use crate::Rid;
+use std::alloc::{AllocError, Global};
+use std::marker::Model;
+
+/// Ids with the bytes of their records, in two allocations however many there are.
+#[derive(Drop)]
+pub struct Pairs {
+    // The bytes of all records, behind each other.
+    bytes: Vec<u8>,
+    // Of each pair its id, and where its bytes end.
+    ends: Vec<(Rid, usize)>,
+}
+
+impl Model for Pairs {
+    ghost use Rattle.std.specs.Prelude.{ℕ, List, length};
+    ghost use Rattle.shore_types.specs.declared.ids.Rid.{Rid};
+    ghost use Rattle.shore_types.specs.Pairs.{AreEnds, pairs_in};
+
+    ghost Value = { List (Rid × List ℕ) };
+
+    ghost view = { λ p. pairs_in p.bytes.items 0 p.ends.items };
+
+    ghost invariant = { λ p. AreEnds 0 p.ends.items (length p.bytes.items) };
+}
+
+impl Pairs {
+    pub fn new(alloc: Global) -> Pairs
+        ensures { result ≡ [] }
+    {
+        Pairs {
+            bytes: Vec::new(alloc),
+            ends: Vec::new(alloc),
+        }
+    }
+
+    /// No pairs, with room for so many that have so many bytes.
+    pub fn with_capacity(alloc: Global, pairs: usize, bytes: usize) -> Result<Pairs, AllocError>
+        ensures { IfOk result (λ list. list ≡ []) }
+    {
+        Ok(Pairs {
+            bytes: Vec::with_capacity(alloc, bytes)?,
+            ends: Vec::with_capacity(alloc, pairs)?,
+        })
+    }
+
+    pub fn len(&self) -> usize
+        ensures { result ≡ length self.now }
+    {
+        self.ends.len()
+    }
+
+    /// Adds a pair. Nothing is changed if an allocation fails.
+    pub fn push(&mut self, id: Rid, bytes: &[u8]) -> Result<(), AllocError>
+        ensures ok { OnOk result (self.new ≡ self.old ++ (id, bytes.now) ∷ []) }
+        ensures err { OnErr result (self.new ≡ self.old) }
+    {
+        self.ends.reserve(1)?;
+        self.bytes.extend_from_slice(bytes)?;
+        self.ends.push_reserved((id, self.bytes.len()));
+        Ok(())
+    }
+
+    /// The pair at an index; None behind the last.
+    pub fn get(&self, index: usize) -> Option<(Rid, &[u8])>
+        ensures { option_map (λ pair. (pair.0, pair.1.now)) result ≡ slice_get self.now index }
+    {
+        if index >= self.ends.len() {
+            return None;
+        }
+        let from = begin(&self.ends, index);
+        let (id, end) = self.ends[index];
+        Some((id, part(&self.bytes, from, end)))
+    }
+
+    /// Whether two lists have the same pairs in the same order.
+    pub fn equals(&self, other: &Pairs) -> bool
+        ensures { IsTrue result ↔ (self.now ≡ other.now) }
+    {
+        self.ends.as_slice() == other.ends.as_slice()
+            && self.bytes.as_slice() == other.bytes.as_slice()
+    }
+}
+
+// Where the bytes of the pair at an index begin.
+fn begin(ends: &[(Rid, usize)], index: usize) -> usize
+    requires { index < length ends.now }
+    ensures { result ≡ begin_in 0 ends.now index }
+{
+    if index == 0 {
+        return 0;
+    }
+    ends[index - 1].1
+}
+
+fn part(bytes: &[u8], from: usize, end: usize) -> &[u8]
+    requires order { from ≤ end }
+    requires within { end ≤ length bytes.now }
+    ensures { result.now ≡ between from end bytes.now }
+{
+    &bytes[from..end]
+}
