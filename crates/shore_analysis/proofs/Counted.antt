@@ -1,5 +1,5 @@
--- Two tables of one log have as many entries.
-use Rattle.std.proofs.Common.{◌≡◌, ◌⊎◌, inl, inr, ⊎_elim, ◌<◌, ◌≤◌, ℕ, zero, suc, List, [], ◌∷◌, ◌++◌, Some, refl, sym, ap, subst, ◌∙◌, length, arith}
+-- How many entries a table has, and whose they are: two tables of one log have as many, and list the losers.
+use Rattle.std.proofs.Common.{◌≡◌, ◌⊎◌, inl, inr, ⊎_elim, ◌<◌, ◌≤◌, ℕ, zero, suc, List, [], ◌∷◌, ◌++◌, false, Some, refl, sym, ap, subst, ◌∙◌, length, arith}
 use Rattle.std.specs.Prelude.{◌&&◌, IsTrue, nat_lt, slice_get, slice_index_or}
 use Rattle.std.specs.List.{AllByRecursion}
 use Rattle.std.proofs.lemmas.Bool.{lt-ltb, ltb-true}
@@ -12,7 +12,8 @@ use Rattle.shore_types.specs.declared.layout.Geometry.{Geometry}
 use Rattle.shore_types.specs.declared.layout.TheConstants.{MAX_TRANSACTIONS}
 use Rattle.shore_model.specs.declared.log_records.LogRecord.{LogRecord}
 use Rattle.shore_model.specs.declared.log_records.LogTxn.{LogTxn}
-use Rattle.shore_model.specs.Logs.{IsEntry, IsTable, Lists, first_number, is_over, last_of, rise_above}
+use Rattle.shore_model.specs.Logs.{IsEntry, IsTable, Lists, first_number, is_in_doubt, is_over, last_of, rise_above}
+use Rattle.shore_recovery.specs.Undo.{IsLoser}
 use Rattle.shore_recovery.proofs.Booleans.{and_true}
 use Rattle.shore_recovery.proofs.Numbers.{newest_other}
 use Rattle.shore_recovery.proofs.OneMore.{by_push}
@@ -141,3 +142,21 @@ module _ (g : Geometry) (log : List LogRecord) (r : LogRecord) (all : AreMeant g
 
   pub too_many : MAX_TRANSACTIONS < length running.entries → IsCrowded (log ++ r ∷ [])
   too_many many = (values running, table, omega (arith, many, count))
+
+-- ---- losers
+
+module _ (rs : List LogRecord) (txns : List LogTxn) (table : IsTable rs txns) (doubts : (t : ℕ) → is_in_doubt t rs ≡ false) where
+  pub listed_loser : (t : ℕ) → Lists txns t → IsLoser rs t
+  unfolding Lists
+  listed_loser t a =
+      let e = a.1 in
+      let entry : IsEntry rs e = subst (IsEntry rs) a.3 (table.each a.0 e a.2) in
+      subst (IsLoser rs) a.4 (record { is_one = entry.0.is_one; known = entry.0.known; not_over = entry.0.not_over; not_in_doubt = doubts e.txn })
+
+  pub loser_listed : (t : ℕ) → IsLoser rs t → Lists txns t
+  loser_listed t loser =
+      let one = last_is_one rs t loser.known in
+      let at : slice_index_or rs one.at one.found ≡ one.found = get_or_from_slice_get rs one.at one.found one.found one.here in
+      let own : (slice_index_or rs one.at one.found).txn ≡ t = ap (λ r. r.txn) at ∙ one.own in
+      subst (Lists txns) own
+      (table.every one.at one.found (slice_get_within rs one.at one.found one.here) (subst (λ n. 0 < n) (sym own) loser.is_one) (ap (λ n. is_over n rs) own ∙ loser.not_over))

@@ -1,13 +1,22 @@
-//! A law of analysis, as a function that does nothing.
-ghost use Rattle.std.specs.Prelude.{◌≡◌, ℕ, All, List, take};
+//! Laws of analysis, each as a function that does nothing.
+ghost use Rattle.std.specs.Prelude.{◌↔◌, ℕ, All, List, take};
 ghost use Rattle.shore_types.specs.declared.layout.Geometry.{Geometry};
 ghost use Rattle.shore_model.specs.declared.log_records.LogRecord.{LogRecord};
-ghost use Rattle.shore_model.specs.Logs.{Lawful};
+ghost use Rattle.shore_model.specs.Logs.{Lawful, Lists};
+ghost use Rattle.shore_recovery.specs.Undo.{IsLoser};
+ghost use Rattle.shore_analysis.specs.declared.analysis.Tables.{Tables};
 ghost use Rattle.shore_analysis.specs.Meant.{AreMeant, IsCrowded, IsFirstUnmeant, IsInBounds};
+ghost use Rattle.shore_analysis.specs.Tables.{AreTables};
 
 /// Each record of a lawful log in bounds means what it has to: no record of such a log is refused.
 pub fn lawful_logs_are_meant()
     ensures meant { (g : Geometry) (rs : List LogRecord) → Lawful rs → All (IsInBounds g) rs → ((n : ℕ) → IsCrowded (take n rs) → ⊥)
         → AreMeant g rs }
     ensures none { (g : Geometry) (rs : List LogRecord) (n : ℕ) → AreMeant g rs → IsFirstUnmeant g rs n → ⊥ }
+{}
+
+/// The table lists the losers, whom undo has to end. As long as no reader of the log gives a Prepare, nobody is in doubt.
+pub fn tables_list_the_losers()
+    ensures { (g : Geometry) (rs : List LogRecord) (tables : Tables) → AreMeant g rs → AreTables rs tables
+        → (t : ℕ) → Lists tables.txns t ↔ IsLoser rs t }
 {}

@@ -1,4 +1,5 @@
 //! Worked runs, with answers, records and waits written out by hand.
+mod analysis;
 mod histories;
 mod history_lines;
 mod limits;

@@ -1,11 +1,24 @@
 //! Records of the log as words: a transaction, the number of its record before, and what the record says.
 use super::trouble::Trouble;
-use super::words::{Words, bytes, end, granule_of, image, lsn, number, rid, txn, word};
+use super::words::{Words, bytes, end, granule_of, image, is_blank, lsn, number, rid, txn, word};
 use shore_model::{LogRecord, LogTxn, Payload, TxnState};
 use shore_types::{Granule, Sequence};
 use std::alloc::Global;
 
-pub(super) fn record(alloc: Global, words: &mut Words) -> Result<LogRecord, Trouble> {
+/// Adds records, parted by `;`.
+pub(super) fn add(alloc: Global, list: &mut Vec<LogRecord>, line: &str) -> Result<(), Trouble> {
+    if is_blank(line) {
+        return Ok(());
+    }
+    for step in line.split(';') {
+        let mut words = step.split_whitespace();
+        list.push(record(alloc, &mut words)?)?;
+        end(&mut words)?;
+    }
+    Ok(())
+}
+
+fn record(alloc: Global, words: &mut Words) -> Result<LogRecord, Trouble> {
     let txn = txn(words)?;
     let previous = lsn(words)?;
     let payload = payload(alloc, words)?;
@@ -88,8 +101,8 @@ fn checkpoint_end(alloc: Global, words: &mut Words) -> Result<Payload, Trouble> 
     })
 }
 
-// How many there are, and then each.
-fn entries(alloc: Global, words: &mut Words) -> Result<Sequence<LogTxn>, Trouble> {
+/// How many there are, and then each.
+pub(super) fn entries(alloc: Global, words: &mut Words) -> Result<Sequence<LogTxn>, Trouble> {
     let count = number(words)?;
     let mut txns = Sequence::new(alloc);
     for _ in 0..count {

@@ -1,7 +1,7 @@
 //! Logs of worked runs, written out by hand, with what they tell, and lists that no run leaves.
-use super::log_lines::record;
+use super::log_lines::add;
 use super::trouble::{Trouble, require};
-use super::words::{end, is_blank, is_remark, require_records};
+use super::words::{is_remark, require_records};
 use shore_model::LogRecord;
 use slow_logs::lawful_logs::is_lawful;
 use slow_logs::recovered_records::records_told;
@@ -203,18 +203,6 @@ fn play(alloc: Global, list: &mut Vec<LogRecord>, line: &str) -> Result<(), Trou
         Some(_) => Err(Trouble::NoLine),
         None => add(alloc, list, line),
     }
-}
-
-fn add(alloc: Global, list: &mut Vec<LogRecord>, line: &str) -> Result<(), Trouble> {
-    if is_blank(line) {
-        return Ok(());
-    }
-    for step in line.split(';') {
-        let mut words = step.split_whitespace();
-        list.push(record(alloc, &mut words)?)?;
-        end(&mut words)?;
-    }
-    Ok(())
 }
 
 fn require_told(alloc: Global, list: &[LogRecord], records: &str) -> Result<(), Trouble> {
