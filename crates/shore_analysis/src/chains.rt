@@ -1,4 +1,4 @@
-//! The Change that a Compensation answers, found by the numbers that records name.
+//! The Change that a Compensation answers, and the one below it, found by the numbers that records name.
 ghost use Rattle.std.specs.Prelude.{◌≡◌, ◌↔◌, ◌<◌, ◌-◌, ℕ, IsTrue, List, None, Some, length, false, option_copied, slice_get, take};
 ghost use Rattle.shore_types.specs.declared.layout.Geometry.{Geometry};
 ghost use Rattle.shore_model.specs.declared.log_records.LogRecord.{LogRecord};
@@ -21,7 +21,7 @@ pub(crate) fn next_named(number: Lsn, payload: &Payload) -> Lsn
 }
 
 /// The record of this number.
-fn record_at(log: &[LogRecord], number: Lsn) -> Option<&LogRecord>
+pub fn record_at(log: &[LogRecord], number: Lsn) -> Option<&LogRecord>
     ensures some { 0 < number → option_copied result ≡ slice_get log.now (number - 1) }
     ensures none { number ≡ 0 → result ≡ None }
 {
@@ -31,8 +31,8 @@ fn record_at(log: &[LogRecord], number: Lsn) -> Option<&LogRecord>
     log.get((number.0 - 1) as usize)
 }
 
-// The number of the Change that is left to be undone next once this one is, 0 if none is: its transaction's record before it says so.
-fn next_behind(log: &[LogRecord], change: &LogRecord) -> Lsn
+/// The number of the Change that is left to be undone next once this one is, 0 if none is: its transaction's record before it says so.
+pub fn next_behind(log: &[LogRecord], change: &LogRecord) -> Lsn
     ensures { (g : Geometry) (n : ℕ) → AreMeant g log.now → slice_get log.now n ≡ Some change.now
         → result ≡ undo_next_of (unanswered change.now.txn (take n log.now)) }
 {

@@ -8,3 +8,4 @@ pub mod laws;
 mod passes;
 
 pub use analysis::{NotAnalysed, Tables, analyse};
+pub use chains::{next_behind, record_at};

@@ -1,0 +1,7 @@
+//! Restart, as far as it works on the records of a log alone: undo of the losers (ARIES: the undo pass).
+#![tactic(auto)]
+
+pub mod laws;
+mod losers;
+
+pub use losers::Losers;
