@@ -7,9 +7,9 @@ ghost use Rattle.shore_gate.specs.Checks.{IsFromOutside};
 ghost use Rattle.shore_settings.specs.Limits.{AreInLimits};
 ghost use Rattle.shore_settings.specs.declared.settings.Devices.TheVariants.{Memory};
 ghost use Rattle.shore_types.specs.declared.faults.Fault.TheVariants as Fault;
-ghost use Rattle.shore_prog.specs.Devices.{HaveLengths, IsLeftBy, history_of};
+ghost use Rattle.shore_prog.specs.Devices.{HaveLengths, history_of};
 
-use shore_disk::{AnyDisk, FileDisk, FuseDisk, MemDisk, Pick};
+use shore_disk::{AnyDisk, FileDisk, FuseDisk, MemDisk};
 use shore_settings::{Devices, FilePair, Settings};
 use shore_types::Fault;
 use shore_world::{format, volume_bytes};
@@ -70,33 +70,24 @@ fn new_pair(
     }
 }
 
-/// What a crash leaves of the devices that are at hand, with no fuse. Files are closed, and opened as they are.
+/// The devices after a crash, with no fuse: those in memory as it left them. Files are closed, and opened as they are.
 pub fn pair_after_crash(
     files: &impl Files<File = File>,
     devices: &Devices,
-    held: Option<ScriptPair>,
-    pick: Pick,
+    left: Option<(AnyDisk, AnyDisk)>,
 ) -> Result<ScriptPair, Fault>
     ensures memory { devices.now ≡ Memory
-        → IfSome held (λ old. IsOkAnd result (λ new. IsLeftBy pick old.0 new.0 × IsLeftBy pick old.1 new.1)) }
+        → IfSome left (λ disks. IsOkAnd result (λ pair. (fuse_inner pair.0 ≡ disks.0) × (fuse_inner pair.1 ≡ disks.1))) }
     ensures refused { IfErr result (λ fault. fault ≡ Fault.Device) }
 {
-    match (devices, held) {
-        (Devices::Memory, Some((log, volume))) => Ok((crashed(log, pick), crashed(volume, pick))),
+    match (devices, left) {
+        (Devices::Memory, Some((log, volume))) => Ok((fused(log), fused(volume))),
         (Devices::Memory, None) => Err(Fault::Device),
-        (Devices::Files(paths), held) => {
-            drop(held);
+        (Devices::Files(paths), left) => {
+            drop(left);
             opened(files, paths).map_err(|_| Fault::Device)
         }
     }
-}
-
-fn crashed(device: ScriptDisk, pick: Pick) -> ScriptDisk
-    ensures { IsLeftBy pick device result }
-{
-    let mut disk = device.into_inner();
-    disk.crash(pick);
-    fused(disk)
 }
 
 // Both files are locked before the first is changed.

@@ -14,7 +14,7 @@ use shore_model::Call;
 use shore_settings::{Devices, Settings};
 use shore_types::layout::MAX_STORES;
 use shore_types::{Device, Fault, Pairs, StoreId};
-use shore_world::{Event, Step, World};
+use shore_world::{Event, Step, World, crashed};
 use std::alloc::Global;
 use std::fs::{File, Files};
 use std::io::{self, Write};
@@ -130,12 +130,12 @@ impl Manager {
         pick: Pick,
         out: &mut W,
     ) -> Result<(), Stop> {
-        let held = match mem::replace(&mut self.access, Access::Lost) {
-            Access::Open(opened) => Some(opened.world.into_devices()),
-            Access::Closed(log, volume) => Some((log, volume)),
+        let left = match mem::replace(&mut self.access, Access::Lost) {
+            Access::Open(opened) => Some(opened.world.lose_power(pick)),
+            Access::Closed(log, volume) => Some((crashed(log, pick), crashed(volume, pick))),
             Access::Lost => None,
         };
-        let refused = match pair_after_crash(files, &self.devices, held, pick) {
+        let refused = match pair_after_crash(files, &self.devices, left) {
             Ok((log, volume)) => {
                 let (access, refused) = open(alloc, log, volume, self.frames);
                 self.access = access;

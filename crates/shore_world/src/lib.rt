@@ -10,4 +10,4 @@ mod world;
 pub use event::Event;
 pub use shore_core::{Step, Wait};
 pub use shore_format::{format, volume_bytes};
-pub use world::World;
+pub use world::{World, crashed};

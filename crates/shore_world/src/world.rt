@@ -12,7 +12,7 @@ ghost use Rattle.shore_dwrite.specs.Settled.{device_of};
 ghost use Rattle.shore_dwrite.specs.Shown.{IsShut, Shows};
 ghost use Rattle.shore_disk.specs.Cause.{HasCause};
 ghost use Rattle.shore_disk.specs.Fuse.{fuse_inner};
-ghost use Rattle.shore_disk.specs.MemDisk.{history_of};
+ghost use Rattle.shore_disk.specs.AnyDisk.{any_history, is_in_memory};
 ghost use Rattle.shore_disk.specs.Memory.{picked_after};
 ghost use Rattle.shore_log.specs.Frames.{Gives};
 ghost use Rattle.shore_log.specs.Settled.{records_of_log, stable};
@@ -29,7 +29,7 @@ ghost use Rattle.shore_world.specs.Events.{IsServedEvent, ReadBy};
 use crate::Event;
 use crate::opening::{fault_of, open_volume};
 use shore_core::{Core, Step};
-use shore_disk::{Disk, FuseDisk, MemDisk, Pick};
+use shore_disk::{AnyDisk, Disk, FuseDisk, Pick};
 use shore_format::{Fronts, read_fronts};
 use shore_log::{LogDev, LogRecord, PlainTail};
 use shore_model::Answer;
@@ -338,29 +338,36 @@ impl<L: Disk, V: Disk> World<L, FuseDisk<V>> {
     }
 }
 
-impl World<FuseDisk<MemDisk>, FuseDisk<MemDisk>> {
+impl World<FuseDisk<AnyDisk>, FuseDisk<AnyDisk>> {
+    ghost use Rattle.shore_core.specs.Cores.{volume_of};
     ghost use Rattle.shore_world.specs.Managers.{AreLeft};
     ghost use Rattle.shore_world.specs.Worlds.{history_in, volume_history_in};
 
-    /// A loss of power: what is in memory is lost with the fuses, and of the writes since its last sync each device keeps what is picked.
-    pub fn lose_power(self, pick: Pick) -> (MemDisk, MemDisk)
-        ensures log { (history_of result.0).first ≡ picked_after pick (history_in self).first (history_in self).calls }
-        ensures volume { (history_of result.1).first ≡ picked_after pick (volume_history_in self).first (volume_history_in self).calls }
-        ensures left { AreLeft self (seen (history_of result.0)) (seen (history_of result.1)) }
-        ensures stable { ((c : List ℕ) → may_leave (history_of result.0) c → c ≡ seen (history_of result.0))
-            × ((c : List ℕ) → may_leave (history_of result.1) c → c ≡ seen (history_of result.1)) }
-        ensures size { (size (history_of result.0) ≡ size (history_in self)) × (size (history_of result.1) ≡ size (volume_history_in self)) }
+    /// A loss of power: what is in memory is lost with the fuses, and of the writes since its last sync each device in memory keeps what is picked.
+    /// A device over a file is handed back as it is.
+    pub fn lose_power(self, pick: Pick) -> (AnyDisk, AnyDisk)
+        ensures log { IsTrue (is_in_memory (fuse_inner self.log.device))
+            → any_history result.0 ≡ record { first = picked_after pick (history_in self).first (history_in self).calls; calls = [] } }
+        ensures volume { IsTrue (is_in_memory (fuse_inner (volume_of self.core)))
+            → any_history result.1 ≡ record { first = picked_after pick (volume_history_in self).first (volume_history_in self).calls; calls = [] } }
+        ensures left { IsTrue (is_in_memory (fuse_inner self.log.device)) → IsTrue (is_in_memory (fuse_inner (volume_of self.core)))
+            → AreLeft self (seen (any_history result.0)) (seen (any_history result.1)) }
+        ensures stable { IsTrue (is_in_memory (fuse_inner self.log.device)) → IsTrue (is_in_memory (fuse_inner (volume_of self.core)))
+            → ((c : List ℕ) → may_leave (any_history result.0) c → c ≡ seen (any_history result.0))
+            × ((c : List ℕ) → may_leave (any_history result.1) c → c ≡ seen (any_history result.1)) }
+        ensures size { (size (any_history result.0) ≡ size (history_in self)) × (size (any_history result.1) ≡ size (volume_history_in self)) }
     {
         let (log, volume) = self.into_devices();
         (crashed(log, pick), crashed(volume, pick))
     }
 }
 
-// What a loss of power leaves of a device.
-fn crashed(device: FuseDisk<MemDisk>, pick: Pick) -> MemDisk
-    ensures picked { history_of result ≡ record { first = picked_after pick (history_of (fuse_inner device)).first (history_of (fuse_inner device)).calls; calls = [] } }
-    ensures left { may_leave (history_of (fuse_inner device)) (history_of result).first }
-    ensures size { size (history_of result) ≡ size (history_of (fuse_inner device)) }
+/// What a loss of power leaves of a device, with no fuse.
+pub fn crashed(device: FuseDisk<AnyDisk>, pick: Pick) -> AnyDisk
+    ensures picked { IsTrue (is_in_memory (fuse_inner device)) → any_history result
+        ≡ record { first = picked_after pick (any_history (fuse_inner device)).first (any_history (fuse_inner device)).calls; calls = [] } }
+    ensures left { IsTrue (is_in_memory (fuse_inner device)) → may_leave (any_history (fuse_inner device)) (any_history result).first }
+    ensures size { size (any_history result) ≡ size (any_history (fuse_inner device)) }
 {
     let mut disk = device.into_inner();
     disk.crash(pick);
