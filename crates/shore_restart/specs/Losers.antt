@@ -1,5 +1,5 @@
 -- What undo knows of the transactions that it still has to end, by the log as it has become.
-use Rattle.std.specs.Prelude.{◌≡◌, ◌≤◌, ◌==◌, ℕ, List, Bool, map, not, if◌then◌else◌}
+use Rattle.std.specs.Prelude.{◌≡◌, ◌≤◌, ◌+◌, ◌==◌, ℕ, List, [], ◌∷◌, Bool, length, map, not, if◌then◌else◌}
 use Rattle.std.specs.List.{AllByRecursion}
 use Rattle.shore_model.specs.declared.log_records.LogRecord.{LogRecord}
 use Rattle.shore_model.specs.declared.log_records.LogTxn.{LogTxn}
@@ -25,6 +25,14 @@ HasLosers log losers = AreEntriesOfLosers log losers.entries.items
 -- a loser of which nobody's Change to be undone next is newer (ARIES: undo goes down the log, once for all losers)
 abbrev pub IsNextToUndo : List LogRecord → ℕ → Type 0
 IsNextToUndo log t = (u : ℕ) → IsLoser log u → undo_next_of (unanswered u log) ≤ undo_next_of (unanswered t log)
+
+-- how many records of undo the entries' transactions still get: one for each unanswered Change, and an End
+abbrev pub turns_left_of : List LogRecord → List LogTxn → ℕ
+turns_left_of log [] = 0
+turns_left_of log (e ∷ es) = 1 + length (unanswered e.txn log) + turns_left_of log es
+
+abbrev pub turns_left : List LogRecord → Losers → ℕ
+turns_left log losers = turns_left_of log losers.entries.items
 
 -- an entry, with these numbers if it is the transaction's
 abbrev pub with_numbers : ℕ → ℕ → ℕ → LogTxn → LogTxn

@@ -3,5 +3,7 @@
 
 pub mod laws;
 mod losers;
+mod undo;
 
 pub use losers::Losers;
+pub use undo::undo_all;

@@ -1,5 +1,5 @@
 //! The transactions that undo still has to end, and the record that it appends next.
-ghost use Rattle.std.specs.Prelude.{◌≡◌, ◌≤◌, ◌+◌, ◌++◌, ◌∷◌, [], ℕ, List, IfOk, IfNone, IfSome, filter, length, map};
+ghost use Rattle.std.specs.Prelude.{◌≡◌, ◌<◌, ◌≤◌, ◌+◌, ◌++◌, ◌∷◌, [], ℕ, List, IfOk, IfNone, IfSome, filter, length, map};
 ghost use Rattle.std.specs.List.{AllByRecursion};
 ghost use Rattle.shore_types.specs.declared.layout.Geometry.{Geometry};
 ghost use Rattle.shore_model.specs.declared.log_records.LogRecord.{LogRecord};
@@ -10,7 +10,7 @@ ghost use Rattle.shore_analysis.specs.declared.analysis.Tables.{Tables};
 ghost use Rattle.shore_analysis.specs.Meant.{AreMeant};
 ghost use Rattle.shore_analysis.specs.Tables.{AreTables};
 ghost use Rattle.shore_restart.specs.Losers as losers;
-ghost use Rattle.shore_restart.specs.Losers.{HasLosers, IsNextToUndo, is_another};
+ghost use Rattle.shore_restart.specs.Losers.{HasLosers, IsNextToUndo, is_another, turns_left};
 
 use shore_analysis::{next_behind, record_at};
 use shore_model::rid_map::copy_image;
@@ -62,8 +62,10 @@ impl Losers {
 
     /// The next record of undo was logged, under this number.
     pub fn note_logged(&mut self, logged: &LogRecord, number: Lsn)
-        ensures { (log : List LogRecord) → HasLosers log self.old → IsLoser log logged.now.txn → logged.now ≡ undo_record log logged.now.txn
+        ensures losers { (log : List LogRecord) → HasLosers log self.old → IsLoser log logged.now.txn → logged.now ≡ undo_record log logged.now.txn
             → number ≡ length log + 1 → HasLosers (log ++ logged.now ∷ []) self.new }
+        ensures fewer { (log : List LogRecord) → HasLosers log self.old → IsLoser log logged.now.txn → logged.now ≡ undo_record log logged.now.txn
+            → turns_left (log ++ logged.now ∷ []) self.new < turns_left log self.old }
     {
         match &logged.payload {
             Payload::Compensation { undo_next, .. } => {
