@@ -10,9 +10,9 @@ returns-clause-refused g c front disk before s is safe =
     map_err _ (λ f. (f ≡ fault.Memory) ⊎ IsPageFault f) c.fetch.result (λ f. elim [
       | inl device ↦ inr (inl device)
       | inr other ↦ elim other [ inl memory ↦ inl memory | inr damaged ↦ inr (inr (_, damaged.0)) ]
-    ]) (c.fetch.ensures.refused front disk (page_slots s) is.pages)
+    ]) (c.fetch.ensures.unforced c.args.self.now.whole front disk (page_slots s) is.pages)
 
 pub returns-clause-stays : goal.returns-clause-stays
 returns-clause-stays g c front disk before s is safe =
-    let still = c.fetch.ensures.still front disk (page_slots s) is.pages in
+    let still = c.fetch.ensures.still c.args.self.now.whole front disk (page_slots s) is.pages in
     record { is_in = record { first = is.first; pages = still.shows; parts = is.parts }; history = still.history }

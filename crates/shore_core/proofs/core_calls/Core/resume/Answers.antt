@@ -27,6 +27,7 @@ invariant_of-self g c =
     let old = c.args.self.now in
     let ended = c.end_wait.ensures in
     record {
+      whole = old.whole;
       some_number = old.some_number;
       few = old.few;
       number = λ t is. old.number t (sym ended.active ∙ is);
@@ -77,6 +78,7 @@ invariant_of-self-2 g c =
     let old = c.args.self.now in
     let ended = c.end_wait-2.ensures in
     record {
+      whole = old.whole;
       some_number = old.some_number;
       few = old.few;
       number = λ t is. old.number t (sym ended.active ∙ is);

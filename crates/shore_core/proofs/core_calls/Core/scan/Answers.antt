@@ -1,4 +1,4 @@
-use Rattle.std.proofs.Common.{◌≡◌, ◌⊎◌, inr, refl, sym, ap, subst, ◌∙◌}
+use Rattle.std.proofs.Common.{◌≡◌, ◌⊎◌, inl, inr, refl, sym, ap, subst, ◌∙◌}
 use Rattle.shore_types.specs.declared.faults.Fault.TheVariants as fault
 use Rattle.shore_types.specs.declared.layout.Geometry.{Geometry}
 use Rattle.shore_types.specs.Layout.{HasStore}
@@ -43,10 +43,10 @@ returns-in_err-pairs-clause-replied g c ready front disk before s is safe =
     let old = c.args.self.now in
     let t = some_told _ _ c.if-is_none.ensures c.txn.ensures.some in
     let mine : IsInTxn s c.args.session = (_, is_of old.txns s is.parts.txns c.args.session t.0.now t.1.0 t.1.1) in
-    let still = c.scan.ensures.still front disk (page_slots s) is.pages in
+    let still = c.scan.ensures.still c.args.self.now.whole front disk (page_slots s) is.pages in
     let there : HasStore (geometry_of old) c.args.store = subst (λ (it : Geometry). HasStore it c.args.store) c.geometry.ensures (c.if-not-has_store.ensures.0 refl) in
     let why : (c.in_err-pairs.field-0.0 ≡ fault.Memory) ⊎ IsRefusal (geometry_of old) s c.args.session (call.Scan c.args.store) c.in_err-pairs.field-0.0 =
-    on_right (store_fault (geometry_of old) disk c.args.store _ _ (c.in_err-pairs.ensures.refused front disk (page_slots s) is.pages)) (scan_fault (geometry_of old) s c.args.session c.args.store _ mine there) in
+    on_right (store_fault (geometry_of old) disk c.args.store _ _ (c.in_err-pairs.ensures.unforced c.args.self.now.whole front disk (page_slots s) is.pages)) (scan_fault (geometry_of old) s c.args.session c.args.store _ mine there) in
     replied_as old _ front disk before s c.args.session (call.Scan c.args.store) c.from_residual.result _ c.from_residual.ensures.1 why
     (record { is_in = record { first = is.first; pages = still.shows; parts = is.parts }; history = still.history })
 
@@ -55,9 +55,9 @@ returns-clause-replied g c ready front disk before s is safe =
     let old = c.args.self.now in
     let t = some_told _ _ c.if-is_none.ensures c.txn.ensures.some in
     let mine = is_of old.txns s is.parts.txns c.args.session t.0.now t.1.0 t.1.1 in
-    let still = c.scan.ensures.still front disk (page_slots s) is.pages in
+    let still = c.scan.ensures.still c.args.self.now.whole front disk (page_slots s) is.pages in
     let there : HasStore (geometry_of old) c.args.store = subst (λ (it : Geometry). HasStore it c.args.store) c.geometry.ensures (c.if-not-has_store.ensures.0 refl) in
-    let list = scan_is (geometry_of old) s safe.roomy.pages c.args.store safe.inside c.in_ok-pairs.pairs (c.in_ok-pairs.ensures.scanned front disk (page_slots s) is.pages) in
+    let list = scan_is (geometry_of old) s safe.roomy.pages c.args.store safe.inside c.in_ok-pairs.pairs (c.in_ok-pairs.ensures.scanned front disk (page_slots s) is.pages (inl c.args.self.now.whole)) in
     record {
       later = s;
       replies = inr (_, s.counts, mine, (there, ap Scanned list, refl), sym (scan_leaves s _ safe.roomy.pages.once mine.0 (Scanned c.in_ok-pairs.pairs) c.args.store));
