@@ -1,5 +1,5 @@
 -- The pages and the room of the log, when a transaction changes a record.
-use Rattle.std.proofs.Common.{◌≡◌, ◌⊎◌, ◌≢◌, ◌+◌, ◌≤◌, ◌∷◌, [], inl, inr, ℕ, List, None, Some, Result, Ok, Err, IsErrAnd, max, refl, sym, ap, subst, ◌∙◌}
+use Rattle.std.proofs.Common.{◌≡◌, ◌⊎◌, ◌≢◌, ◌+◌, ◌≤◌, ◌∷◌, [], inl, inr, ℕ, List, None, Some, Result, Ok, Err, IsErrAnd, max, refl, sym, ap, subst, ◌∙◌, arith}
 use Rattle.std.specs.FinMap.{get}
 use Rattle.shore_disk.specs.declared.device.Disk as disk
 use Rattle.shore_log.specs.declared.tail.Tail as tail
@@ -16,13 +16,14 @@ use Rattle.shore_logrec.specs.Text.{ImageFits, cost_of}
 use Rattle.shore_page.specs.Room.{Fits}
 use Rattle.shore_page.specs.Slots.{image_len, with_image}
 use Rattle.shore_heap.specs.declared.heap.Heap.{Heap}
-use Rattle.shore_heap.specs.Contents.{with_slots}
+use Rattle.shore_heap.specs.Contents.{unclaimed, with_slots}
 use Rattle.shore_heap.specs.Heaps as heaps
 use Rattle.shore_heap.specs.Heaps.{Shows, geometry_of}
 use Rattle.shore_types.specs.declared.layout.TheConstants.{MAX_RECORD_BYTES}
 use Rattle.shore_dwrite.specs.Settled as settled_device
+use Rattle.shore_dwrite.specs.Volumes.{page_count}
 use Rattle.shore_heap.proofs.Bounds.{cases_page, slots_here, slots_other}
-use Rattle.shore_heap.proofs.Released.{shows_same}
+use Rattle.shore_heap.proofs.Showing.{shows_same}
 use Rattle.shore_sessions.specs.Sessions.{SessionTxn}
 use Rattle.shore_sessions.specs.Views.{IsAmong}
 use Rattle.shore_room.specs.Claims.{Claimed, Grows, NoOthers, SlotCounts}
@@ -54,9 +55,9 @@ grows counts id = record { here = here (cases_page id.page id.page); others = λ
 module _ {V : Type 0} {H : disk.Ghosts V} where
   pub pages_changed : (new : Heap V H) (front : List ℕ) (disk : ℕ → List ℕ) (s : State) (a : SessionTxn) (id : Rid) (image : Image) (counts : SlotCounts)
       → Claimed s.sessions.records s.sessions.active s.counts → s.sessions.active ≡ a ∷ [] → Fits (page_slots s id.page) id.slot (image_len image) → Grows s.counts counts id
-      → Shows new front disk (with_slots (page_slots s) id.page (λ slots. with_image slots id.slot image)) → Shows new front disk (page_slots (changed s a id image counts))
+      → Shows unclaimed new front disk (with_slots (page_slots s) id.page (λ slots. with_image slots id.slot image)) → Shows unclaimed new front disk (page_slots (changed s a id image counts))
   pages_changed new front disk s a id image counts k one fits grows shows =
-      shows_same new front disk (with_slots (page_slots s) id.page (λ slots. with_image slots id.slot image)) (page_slots (changed s a id image counts)) shows each
+      shows_same new unclaimed front disk (with_slots (page_slots s) id.page (λ slots. with_image slots id.slot image)) (page_slots (changed s a id image counts)) each shows
     where
       among : IsAmong a s.sessions.active
       among = subst (IsAmong a) (sym one) (inl refl)
@@ -97,3 +98,9 @@ image_short (Some bytes) short = short
 
 pub same_history : {V : Type 0} {H : disk.Ghosts V} (new old : Heap V H) → heaps.device_of new ≡ heaps.device_of old → heaps.history_of new ≡ heaps.history_of old
 same_history {H = H} new old same = ap (λ d. H.history (settled_device.device_of d)) same
+
+-- .. with a frame for each page as before
+pub still_whole : {V : Type 0} {H : disk.Ghosts V} (new old : Heap V H) → heaps.device_of new ≡ heaps.device_of old → heaps.limit_of new ≡ heaps.limit_of old → heaps.IsWhole old → heaps.IsWhole new
+still_whole new old device limit whole =
+    let pages : page_count (geometry_of new) ≡ page_count (geometry_of old) = ap (λ d. page_count (settled_device.geometry_of d)) device in
+    omega (arith, whole, pages, limit)

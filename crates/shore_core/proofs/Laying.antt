@@ -1,5 +1,5 @@
 -- Records laid into empty pages one after another, each in its own slot; and a record that finds no room there.
-use Rattle.std.proofs.Common.{◌≡◌, ◌≢◌, ◌⊎◌, inl, inr, ◌+◌, ◌-◌, ◌*◌, ◌<◌, ◌≤◌, ℕ, zero, suc, max, nat_lt, List, [], ◌∷◌, ◌++◌, Bool, true, false, cond, Option, Some, None, length, replicate, refl, sym, ap, subst, ◌∙◌, arith, append_assoc, append-nil}
+use Rattle.std.proofs.Common.{◌≡◌, ◌≢◌, inl, inr, ◌+◌, ◌-◌, ◌<◌, ◌≤◌, ℕ, zero, suc, max, nat_lt, List, [], ◌∷◌, ◌++◌, Bool, true, false, cond, Option, Some, None, length, replicate, refl, sym, ap, subst, ◌∙◌, arith, append_assoc, append-nil}
 use Rattle.std.specs.Prelude.{T, ◌&&◌, ◌==◌, IsSomeAnd}
 use Rattle.std.proofs.lemmas.Bool.{eq-eqb, eqb-true, ltb-true, ltb-false}
 use Rattle.std.proofs.lemmas.List.Elements.{All-nil}
@@ -20,14 +20,13 @@ use Rattle.shore_page.specs.Room.{Fits, HasRoom, HoldsItsImage, claims}
 use Rattle.shore_page.specs.Slots.{Slot, holding, image_len, settled, with_change, with_image}
 use Rattle.shore_page.proofs.RoomLemmas.{with_image_room}
 use Rattle.shore_room.specs.Claims.{SlotCounts, each_from, rid_on, slots_of}
-use Rattle.shore_room.specs.Settling.{settled_slots}
 use Rattle.shore_room.proofs.Lists.{each_alike, each_append, each_changed, each_same, length-each}
 use Rattle.shore_room.proofs.Pages.{length-slots, same_id}
 use Rattle.shore_room.proofs.Settled.{claims_settled}
 use Rattle.shore_sessions.proofs.Ids.{put_here, put_there, told_apart}
 use Rattle.shore_calls.specs.Bounds.{HasPlace}
 use Rattle.shore_heap.specs.declared.heap.Heap.{Heap}
-use Rattle.shore_heap.specs.Contents.{same_page, with_slots}
+use Rattle.shore_heap.specs.Contents.{same_page, unclaimed, with_slots}
 use Rattle.shore_heap.specs.Heaps.{Shows, geometry_of}
 use Rattle.shore_core.specs.Laid.{AreLaid}
 use Rattle.shore_core.specs.Opened.{HasPlaces, IsUnplaceable, ShowsEmpty}
@@ -162,7 +161,7 @@ module _ (R : Records) (id : Rid) (bytes : List ℕ) where
 
   module _ {V : Type 0} {H : Ghosts V} (old new : Heap V H) (front : List ℕ) (disk : ℕ → List ℕ) (k : AreLaid old front disk R) (empty : get R id ≡ None)
       (there : IsRecord (geometry_of old) id bytes) (fits : Fits (slots_of R [] id.page (k.counts id.page)) id.slot (length bytes)) (same : geometry_of new ≡ geometry_of old)
-      (shows : Shows new front disk (with_slots (λ p. slots_of R [] p (k.counts p)) id.page (λ slots. with_image slots id.slot (Some bytes)))) where
+      (shows : Shows unclaimed new front disk (with_slots (λ p. slots_of R [] p (k.counts p)) id.page (λ slots. with_image slots id.slot (Some bytes)))) where
     abbrev counts : SlotCounts
     counts p = cond (same_page p id.page) (max (k.counts p) (id.slot + 1)) (k.counts p)
 
@@ -232,7 +231,7 @@ module _ (R : Records) (id : Rid) (bytes : List ℕ) where
     pub laid_more : AreLaid new front disk more
     laid_more = record {
       counts = counts;
-      shows = subst (Shows new front disk) (λ i p. laid_slots p i) shows;
+      shows = subst (Shows unclaimed new front disk) (λ i p. laid_slots p i) shows;
       room = λ p. subst HasRoom (laid_slots p) (laid_room p);
       behind = laid_behind;
       least = laid_least;
@@ -358,7 +357,7 @@ module _ {V : Type 0} {H : Ghosts V} where
       -- the next entry is laid
       pub laid_next : (new : Heap V H) → IsRecord (geometry_of heap) id bytes → Fits (slots_of (from_entries k.done) [] id.page (k.laid.counts id.page)) id.slot (length bytes)
           → geometry_of new ≡ geometry_of heap
-          → Shows new front disk (with_slots (λ p. slots_of (from_entries k.done) [] p (k.laid.counts p)) id.page (λ slots. with_image slots id.slot (Some bytes)))
+          → Shows unclaimed new front disk (with_slots (λ p. slots_of (from_entries k.done) [] p (k.laid.counts p)) id.page (λ slots. with_image slots id.slot (Some bytes)))
           → LaidFrom all rest new front disk
       laid_next new there fits kept shows = record {
         done = k.done ++ (id, bytes) ∷ [];

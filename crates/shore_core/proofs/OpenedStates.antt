@@ -1,5 +1,5 @@
 -- The state that an open leaves, and what refuses a log in bounds.
-use Rattle.std.proofs.Common.{◌≡◌, ◌⊎◌, inl, inr, ◌+◌, ◌-◌, ◌<◌, ◌≤◌, ℕ, zero, suc, List, [], ◌∷◌, ◌++◌, false, Option, Some, None, length, get_or, refl, sym, ap, subst, ◌∙◌, arith, append-nil, All}
+use Rattle.std.proofs.Common.{◌≡◌, ◌⊎◌, inl, inr, ◌+◌, ◌-◌, ◌<◌, ◌≤◌, ℕ, zero, suc, List, [], ◌∷◌, ◌++◌, false, Option, Some, None, length, refl, sym, ap, subst, ◌∙◌, arith, append-nil, All}
 use Rattle.std.specs.Prelude.{IsSomeAnd, slice_get}
 use Rattle.std.specs.List.{AllByRecursion}
 use Rattle.std.proofs.lemmas.List.Elements.{All-cons, All-nil}
@@ -17,8 +17,7 @@ use Rattle.shore_calls.specs.CallHistories.{IsOpened}
 use Rattle.shore_calls.specs.States.{State}
 use Rattle.shore_calls.proofs.Rooms.{open_roomy}
 use Rattle.shore_txn.specs.declared.table.TxnTable.{TxnTable}
-use Rattle.shore_txn.specs.declared.txn.Txn.{Txn}
-use Rattle.shore_txn.specs.Tables.{active_in, committing_in, next_in, room_in, undos_in}
+use Rattle.shore_txn.specs.Tables.{next_in}
 use Rattle.shore_txn.specs.Txns.{as_session_txns}
 use Rattle.shore_core.specs.declared.core_calls.Core.{Core}
 use Rattle.shore_core.specs.declared.opening.OpenError.{OpenError}

@@ -1,5 +1,5 @@
 -- What a dump of a store's records comes to.
-use Rattle.std.proofs.Common.{◌≡◌, true, Bool, Result, Ok, Err, IfOk, IfErr, refl, sym, ◌∙◌}
+use Rattle.std.proofs.Common.{Result, Ok, Err, IfOk}
 use Rattle.shore_types.specs.declared.faults.Fault.{Fault}
 
 pub map_ok : {A : Type 0} (P Q : A → Type 0) (r : Result A Fault) → ((x : A) → P x → Q x) → IfOk r P → IfOk r Q

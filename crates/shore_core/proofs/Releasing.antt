@@ -11,10 +11,10 @@ use Rattle.shore_types.specs.Images.{Image}
 use Rattle.shore_page.specs.Room.{lowered}
 use Rattle.shore_page.specs.Slots.{Slot, with_change}
 use Rattle.shore_heap.specs.declared.heap.Heap.{Heap}
-use Rattle.shore_heap.specs.Contents.{with_slots}
+use Rattle.shore_heap.specs.Contents.{unclaimed, with_slots}
 use Rattle.shore_heap.specs.Heaps.{Shows}
 use Rattle.shore_heap.proofs.Bounds.{cases_page, slots_here, slots_other}
-use Rattle.shore_heap.proofs.Released.{shows_same}
+use Rattle.shore_heap.proofs.Showing.{shows_same}
 use Rattle.shore_sessions.specs.Views.{IsAmong}
 use Rattle.shore_room.specs.Claims.{Claimed}
 use Rattle.shore_room.specs.Settling.{let_go}
@@ -53,17 +53,17 @@ released S e p = elim (cases_page p e.0.page) [
 module _ {V : Type 0} {H : disk.Ghosts V} (heap : Heap V H) (front : List ℕ) (disk : ℕ → List ℕ) (S : PageId → List Slot) where
   -- one entry more of an undo list has let its claim go
   pub released_more : (done more : List UndoEntry) (e : UndoEntry) → more ≡ done ++ e ∷ []
-      → Shows heap front disk (with_slots (λ p. let_go p (images_of done) (S p)) e.id.page (λ slots. with_change (lowered 0) slots e.id.slot))
-      → Shows heap front disk (λ p. let_go p (images_of more) (S p))
+      → Shows unclaimed heap front disk (with_slots (λ p. let_go p (images_of done) (S p)) e.id.page (λ slots. with_change (lowered 0) slots e.id.slot))
+      → Shows unclaimed heap front disk (λ p. let_go p (images_of more) (S p))
   released_more done more e is shows =
-      shows_same heap front disk (with_slots (λ p. let_go p (images_of done) (S p)) e.id.page (λ slots. with_change (lowered 0) slots e.id.slot)) (λ p. let_go p (images_of more) (S p)) shows
+      shows_same heap unclaimed front disk (with_slots (λ p. let_go p (images_of done) (S p)) e.id.page (λ slots. with_change (lowered 0) slots e.id.slot)) (λ p. let_go p (images_of more) (S p))
       (λ p there. ap (λ es. let_go p (images_of es) (S p)) is ∙ ap (λ es. let_go p es (S p)) (map-append image_of done (e ∷ []))
-      ∙ let_go_more p (images_of done) (image_of e) (S p) ∙ released (λ q. let_go q (images_of done) (S q)) (image_of e) p)
+      ∙ let_go_more p (images_of done) (image_of e) (S p) ∙ released (λ q. let_go q (images_of done) (S q)) (image_of e) p) shows
 
   -- all of them have: the transaction is in the table no more
   pub all_released : (s : State) (t : Txn) (es : List UndoEntry) → s.sessions.active ≡ as_session_txn t ∷ [] → es ≡ entries_of t
-      → Claimed s.sessions.records s.sessions.active s.counts → Shows heap front disk (λ p. let_go p (images_of es) (page_slots s p)) → Shows heap front disk (page_slots (committed s (as_session_txn t)))
+      → Claimed s.sessions.records s.sessions.active s.counts → Shows unclaimed heap front disk (λ p. let_go p (images_of es) (page_slots s p)) → Shows unclaimed heap front disk (page_slots (committed s (as_session_txn t)))
   all_released s t es one is k shows =
-      shows_same heap front disk (λ p. let_go p (images_of es) (page_slots s p)) (page_slots (committed s (as_session_txn t))) shows
+      shows_same heap unclaimed front disk (λ p. let_go p (images_of es) (page_slots s p)) (page_slots (committed s (as_session_txn t)))
       (λ p there. left_slots s.sessions.records s.sessions.active s.counts k (as_session_txn t) (subst (IsAmong (as_session_txn t)) (sym one) (inl refl)) p
-      ∙ ap (λ l. let_go p (images_of l) (page_slots s p)) (sym is))
+      ∙ ap (λ l. let_go p (images_of l) (page_slots s p)) (sym is)) shows

@@ -1,5 +1,5 @@
 -- What holds of a core that is in a state, and what a call that reads leaves of it.
-use Rattle.std.proofs.Common.{◌≡◌, ◌⊎◌, ◌≤◌, ◌∙◌, inl, inr, ℕ, List, Bool, Option, None, Some, IsSomeAnd, Result, Ok, Err, IfErr, IsErrAnd, true, false, nat_lt, refl, sym, ap, subst, arith}
+use Rattle.std.proofs.Common.{◌≡◌, ◌⊎◌, ◌≤◌, ◌∙◌, inl, inr, ℕ, List, [], Bool, Option, None, Some, IsSomeAnd, Result, Ok, Err, IfErr, IsErrAnd, true, false, nat_lt, refl, sym, ap, subst, arith}
 use Rattle.std.specs.FinMap.{get}
 use Rattle.std.specs.List.{slice_get}
 use Rattle.std.specs.Option.{option_and_then}
@@ -11,7 +11,7 @@ use Rattle.shore_model.specs.Records.{Records}
 use Rattle.shore_page.specs.Slots.{Slot, image_at_slot}
 use Rattle.shore_page.specs.Undo.{claiming}
 use Rattle.shore_pool.specs.declared.frame.Frame.{Frame}
-use Rattle.shore_heap.specs.Contents.{HasSlots}
+use Rattle.shore_heap.specs.Contents.{HasSlots, unclaimed}
 use Rattle.shore_sessions.specs.Sessions.{SessionTxn}
 use Rattle.shore_room.specs.Claims.{Claimed, SlotCounts, rid_on, slots_of, undecided_at}
 use Rattle.shore_room.proofs.Leaving.{map_each}
@@ -110,7 +110,7 @@ image_shown R undos counts k id = elim (nat_lt id.slot (counts id.page)) as (λ 
       ∙ sym (k.behind id behind)
 ] refl
 
-pub framed_is : (P : List Slot → Type 0) (o : Option Frame) (text : List ℕ) (id : PageId) (slots : List Slot) → HasSlots o text id slots → IsSomeAnd o (λ f. P f.page.slots) → P slots
+pub framed_is : (P : List Slot → Type 0) (o : Option Frame) (text : List ℕ) (id : PageId) (slots : List Slot) → HasSlots o text id [] slots → IsSomeAnd o (λ f. P f.page.slots) → P slots
 framed_is P (Some f) text id slots has holds = subst P has holds
 framed_is P None text id slots has holds = absurd holds
 
@@ -125,7 +125,7 @@ module _ {T V : Type 0} {G : tail.Ghosts T} {H : disk.Ghosts V} where
       → IsIn front disk before new (with_failure s)
   in_failed core new front disk before s is heap tail txns durable failed = record {
     first = ap G.first tail ∙ is.first;
-    pages = subst (λ h. Shows h front disk (page_slots s)) (sym heap) is.pages;
+    pages = subst (λ h. Shows unclaimed h front disk (page_slots s)) (sym heap) is.pages;
     parts =
         subst (λ t. HasParts t (waiting_of new) (durable_of new) (has_failed new) before (with_failure s)) (sym txns)
         (subst (λ l. HasParts (txns_of core) (G.records l) (durable_of new) (has_failed new) before (with_failure s)) (sym tail)

@@ -6,6 +6,7 @@ use Rattle.shore_log.specs.declared.tail.Tail as tail
 use Rattle.shore_types.specs.declared.layout.Geometry.{Geometry}
 use Rattle.shore_model.specs.declared.log_records.LogRecord.{LogRecord}
 use Rattle.shore_heap.specs.declared.heap.Heap.{Heap}
+use Rattle.shore_heap.specs.Contents.{unclaimed}
 use Rattle.shore_heap.specs.Heaps as heaps
 use Rattle.shore_heap.specs.Heaps.{Shows}
 use Rattle.shore_dwrite.specs.Settled as settled_device
@@ -64,7 +65,7 @@ module _ {T V : Type 0} {G : tail.Ghosts T} {H : disk.Ghosts V} where
   -- log buffer has.
   pub record IsIn (front : List ℕ) (disk : ℕ → List ℕ) (before : List LogRecord) (core : Core T V G H) (s : State) : Type 0 where
     pub first : first_of core ≡ 1 + length before
-    pub pages : Shows core.heap front disk (page_slots s)
+    pub pages : Shows unclaimed core.heap front disk (page_slots s)
     pub parts : HasParts core.txns (waiting_of core) core.durable core.failed before s
 
 -- Pages and log have room, and the records lie in the geometry: what is kept of the state beside.

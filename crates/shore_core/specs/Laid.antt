@@ -11,6 +11,7 @@ use Rattle.shore_page.specs.Room.{HasRoom}
 use Rattle.shore_room.specs.Claims.{SlotCounts, rid_on, slots_of}
 use Rattle.shore_calls.specs.States.{cost_of_log}
 use Rattle.shore_heap.specs.declared.heap.Heap.{Heap}
+use Rattle.shore_heap.specs.Contents.{unclaimed}
 use Rattle.shore_heap.specs.Heaps.{Shows, geometry_of}
 use Rattle.shore_txn.specs.declared.table.TxnTable.{TxnTable}
 use Rattle.shore_txn.specs.Tables.{active_in, committing_in, next_in, room_in}
@@ -18,7 +19,7 @@ use Rattle.shore_txn.specs.Tables.{active_in, committing_in, next_in, room_in}
 -- The pages have these records and no other, each in its own slot, and no page has more slots than its records need.
 pub record AreLaid {V : Type 0} {H : Ghosts V} (heap : Heap V H) (front : List ℕ) (disk : ℕ → List ℕ) (R : Records) : Type 0 where
   pub counts : SlotCounts
-  pub shows : Shows heap front disk (λ p. slots_of R [] p (counts p))
+  pub shows : Shows unclaimed heap front disk (λ p. slots_of R [] p (counts p))
   pub room : (p : PageId) → HasRoom (slots_of R [] p (counts p))
   pub behind : (id : Rid) → counts id.page ≤ id.slot → get R id ≡ None
   pub least : (p : PageId) (n : ℕ) → ((i : ℕ) → n ≤ i → get R (rid_on p i) ≡ None) → counts p ≤ n

@@ -20,6 +20,7 @@ use Rattle.shore_calls.specs.CallHistories.{IsOpened}
 use Rattle.shore_calls.specs.States.{State}
 use Rattle.shore_heap.specs.declared.heap.Heap.{Heap}
 use Rattle.shore_heap.specs.Heaps as heaps
+use Rattle.shore_heap.specs.Contents.{unclaimed}
 use Rattle.shore_heap.specs.Heaps.{Shows}
 use Rattle.shore_core.specs.declared.core_calls.Core.{Core}
 use Rattle.shore_core.specs.declared.opening.OpenError.{OpenError}
@@ -79,7 +80,7 @@ fault_in (Err error) = fault_of error
 
 -- a heap over a volume with these texts of its pages behind this front: each page is empty, on the volume and in its frame
 pub record ShowsEmpty {V : Type 0} {H : disk.Ghosts V} (heap : Heap V H) (front : List ℕ) (disk : ℕ → List ℕ) : Type 0 where
-  pub shows : Shows heap front disk (λ id. [])
+  pub shows : Shows unclaimed heap front disk (λ id. [])
   pub empty : AreEmpty (heaps.geometry_of heap) disk
 
 module _ {T V : Type 0} {G : tail.Ghosts T} {H : disk.Ghosts V} where

@@ -12,7 +12,7 @@ ghost use Rattle.shore_model.specs.declared.log_records.LogRecord.{LogRecord};
 ghost use Rattle.shore_disk.specs.Cause.{HasCause};
 ghost use Rattle.shore_page.specs.Room.{Fits};
 ghost use Rattle.shore_page.specs.Slots.{image_at_slot, image_len};
-ghost use Rattle.shore_heap.specs.Heaps.{KeepsVolume, frame_of};
+ghost use Rattle.shore_heap.specs.Heaps.{IsWhole, KeepsVolume, frame_of};
 ghost use Rattle.shore_calls.specs.declared.step.Step.TheVariants as Step;
 ghost use Rattle.shore_txn.specs.Tables.{active_in, committing_in, room_in};
 ghost use Rattle.shore_txn.specs.Txns.{last_of, number_of};
@@ -24,7 +24,7 @@ ghost use Rattle.shore_core.specs.Parts.{IsOfOneSession};
 use crate::images::{bytes_of, copied, copy_of, len_of};
 use shore_calls::{Step, Wait};
 use shore_disk::Disk;
-use shore_heap::Heap;
+use shore_heap::{Heap, NoClaims};
 use shore_log::{Durable, LogDev, PlainTail, Tail};
 use shore_logrec::{LogRecord, Payload, change_cost, compensation_cost};
 use shore_model::{Answer, Call};
@@ -41,6 +41,7 @@ pub struct Core<T: Tail, V: Disk> {
     pub(crate) txns: TxnTable,
     pub(crate) durable: Lsn,
     pub(crate) failed: bool,
+    ghost whole: { IsWhole heap },
     ghost some_number: { 1 ≤ T.Tail.first tail + length (T.Tail.records tail) },
     ghost few: { T.Tail.first tail + length (T.Tail.records tail) ≤ LAST_OPENED },
     ghost number: { ForSome (active_in txns) (λ _. T.Tail.first tail + length (T.Tail.records tail) ≤ LAST_LSN + 1) },
@@ -205,7 +206,7 @@ impl<T: Tail, V: Disk> Core<T, V> {
         ensures cause { HasCause result (faults_of self.old) (faults_of self.new) }
     {
         let last = Lsn(self.tail.next().0 - 1);
-        self.heap.fetch(alloc, page, last, self.durable)
+        self.heap.fetch(alloc, page, &NoClaims, last, self.durable)
     }
 
     fn insert(
@@ -232,7 +233,9 @@ impl<T: Tail, V: Disk> Core<T, V> {
             return Err(Fault::NoStore);
         }
         let last = Lsn(self.tail.next().0 - 1);
-        let place = self.heap.place_for(alloc, store, len, last, self.durable)?;
+        let place = self
+            .heap
+            .place_for(alloc, store, len, &NoClaims, last, self.durable)?;
         let Some(Rid { page, slot }) = place else {
             return Err(Fault::StoreFull);
         };

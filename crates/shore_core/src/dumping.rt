@@ -13,6 +13,7 @@ ghost use Rattle.shore_core.specs.Replies.{Fails};
 
 use crate::core_calls::Core;
 use shore_disk::Disk;
+use shore_heap::NoClaims;
 use shore_log::Tail;
 use shore_types::{Fault, Lsn, Pairs, StoreId};
 use std::alloc::Global;
@@ -63,6 +64,6 @@ impl<T: Tail, V: Disk> Core<T, V> {
         ensures cause { HasCause result (faults_of self.old) (faults_of self.new) }
     {
         let last = Lsn(self.tail.next().0 - 1);
-        self.heap.scan(alloc, store, last, self.durable)
+        self.heap.scan(alloc, store, &NoClaims, last, self.durable)
     }
 }

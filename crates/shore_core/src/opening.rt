@@ -12,9 +12,9 @@ ghost use Rattle.shore_logrec.specs.Text as text;
 ghost use Rattle.shore_dwrite.specs.Volumes.{AreEmpty};
 ghost use Rattle.shore_page.specs.Room.{Fits};
 ghost use Rattle.shore_page.specs.Slots.{Slot, with_image};
-ghost use Rattle.shore_heap.specs.Contents.{with_slots};
+ghost use Rattle.shore_heap.specs.Contents.{unclaimed, with_slots};
 ghost use Rattle.shore_heap.specs.Heaps as heaps;
-ghost use Rattle.shore_heap.specs.Heaps.{KeepsVolume, Shows};
+ghost use Rattle.shore_heap.specs.Heaps.{IsWhole, KeepsVolume, Shows};
 ghost use Rattle.shore_calls.specs.Bounds.{InBounds};
 ghost use Rattle.shore_sessions.specs.LogTells.{records_committed};
 ghost use Rattle.shore_core.specs.declared.opening.OpenError.TheVariants.{Memory};
@@ -25,7 +25,7 @@ use crate::changes::records_told;
 use crate::core_calls::Core;
 use crate::log_sums::{bad_transaction, cost_of_all, last_change, next_transaction};
 use shore_disk::Disk;
-use shore_heap::Heap;
+use shore_heap::{Heap, NoClaims};
 use shore_log::PlainTail;
 use shore_logrec::LogRecord;
 use shore_txn::{LogRoom, TxnTable};
@@ -82,6 +82,7 @@ impl<V: Disk> Core<PlainTail, V> {
     ) -> Result<Core<PlainTail, V>, (OpenError, Heap<V>)>
         requires fit { All text.Fits log.now }
         requires durable { durable ≡ length log.now }
+        requires whole { IsWhole heap }
         ensures opened { (front : List ℕ) (disk : ℕ → List ℕ) → ShowsEmpty heap front disk → IfOk result (λ core. IsOpenedIn core front disk log.now stream_bytes) }
 
         // A refusal names the first record of a transaction with a number that none may have, or else the last change of a record that
@@ -131,6 +132,7 @@ fn replay<V: Disk>(
     stream_bytes: u64,
 ) -> Result<TxnTable, OpenError>
     requires fit { All text.Fits log.now }
+    requires whole { IsWhole heap.old }
     ensures laid { (front : List ℕ) (disk : ℕ → List ℕ) → ShowsEmpty heap.old front disk → OnOk result (AreLaid heap.new front disk (records_committed log.now)) }
     ensures table { IfOk result (GoesOnBehind log.now stream_bytes) }
     ensures room { OnOk result (LeavesRoom log.now stream_bytes) }
@@ -142,6 +144,7 @@ fn replay<V: Disk>(
     ensures page { (front : List ℕ) (disk : ℕ → List ℕ) → ShowsEmpty heap.old front disk
         → IfErr result (λ error. (f : Fault) → error ≡ OpenError.Page f → f ≡ Fault.Device) }
     ensures geometry { heaps.geometry_of heap.new ≡ heaps.geometry_of heap.old }
+    ensures limit { heaps.limit_of heap.new ≡ heaps.limit_of heap.old }
     ensures untouched { KeepsVolume heap.old heap.new }
     ensures honest { heaps.honesty_of heap.new ≡ heaps.honesty_of heap.old }
     ensures size { size (heaps.history_of heap.new) ≡ size (heaps.history_of heap.old) }
@@ -160,6 +163,7 @@ fn lay_records<V: Disk>(
     heap: &mut Heap<V>,
     log: &[LogRecord],
 ) -> Result<(), OpenError>
+    requires { IsWhole heap.old }
     ensures laid { (front : List ℕ) (disk : ℕ → List ℕ) → ShowsEmpty heap.old front disk → OnOk result (AreLaid heap.new front disk (records_committed log.now)) }
     ensures bad { (front : List ℕ) (disk : ℕ → List ℕ) → ShowsEmpty heap.old front disk
         → IfErr result (λ error. (n : ℕ) → error ≡ OpenError.BadRecord n
@@ -168,6 +172,7 @@ fn lay_records<V: Disk>(
         → IfErr result (λ error. (f : Fault) → error ≡ OpenError.Page f → f ≡ Fault.Device) }
     ensures other { IfErr result (λ error. error ≢ OpenError.NoRoom) }
     ensures geometry { heaps.geometry_of heap.new ≡ heaps.geometry_of heap.old }
+    ensures limit { heaps.limit_of heap.new ≡ heaps.limit_of heap.old }
     ensures untouched { KeepsVolume heap.old heap.new }
     ensures honest { heaps.honesty_of heap.new ≡ heaps.honesty_of heap.old }
     ensures size { size (heaps.history_of heap.new) ≡ size (heaps.history_of heap.old) }
@@ -191,14 +196,16 @@ fn lay<V: Disk>(
     bytes: &[u8],
     last: Lsn,
 ) -> Result<bool, Fault>
-    ensures laid { (front : List ℕ) (disk : ℕ → List ℕ) (S : PageId → List Slot) → Shows heap.old front disk S → IfOk result (λ laid. IsTrue laid
+    requires { IsWhole heap.old }
+    ensures laid { (front : List ℕ) (disk : ℕ → List ℕ) (S : PageId → List Slot) → Shows unclaimed heap.old front disk S → IfOk result (λ laid. IsTrue laid
         → IsRecord (heaps.geometry_of heap.old) id.now bytes.now × Fits (S id.now.page) id.now.slot (length bytes.now)
-        × Shows heap.new front disk (with_slots S id.now.page (λ slots. with_image slots id.now.slot (Some bytes.now)))) }
-    ensures unlaid { (front : List ℕ) (disk : ℕ → List ℕ) (S : PageId → List Slot) → Shows heap.old front disk S → IfOk result (λ laid. IsFalse laid
+        × Shows unclaimed heap.new front disk (with_slots S id.now.page (λ slots. with_image slots id.now.slot (Some bytes.now)))) }
+    ensures unlaid { (front : List ℕ) (disk : ℕ → List ℕ) (S : PageId → List Slot) → Shows unclaimed heap.old front disk S → IfOk result (λ laid. IsFalse laid
         → IsRecord (heaps.geometry_of heap.old) id.now bytes.now → Fits (S id.now.page) id.now.slot (length bytes.now) → ⊥) }
-    ensures refused { (front : List ℕ) (disk : ℕ → List ℕ) (S : PageId → List Slot) → Shows heap.old front disk S → AreEmpty (heaps.geometry_of heap.old) disk
+    ensures refused { (front : List ℕ) (disk : ℕ → List ℕ) (S : PageId → List Slot) → Shows unclaimed heap.old front disk S → AreEmpty (heaps.geometry_of heap.old) disk
         → IfErr result (λ fault. (fault ≡ Fault.Device) ⊎ (fault ≡ Fault.Memory)) }
     ensures geometry { heaps.geometry_of heap.new ≡ heaps.geometry_of heap.old }
+    ensures limit { heaps.limit_of heap.new ≡ heaps.limit_of heap.old }
     ensures untouched { KeepsVolume heap.old heap.new }
     ensures honest { heaps.honesty_of heap.new ≡ heaps.honesty_of heap.old }
     ensures size { size (heaps.history_of heap.new) ≡ size (heaps.history_of heap.old) }
@@ -207,7 +214,7 @@ fn lay<V: Disk>(
     if bytes.len() > MAX_RECORD_BYTES || !heap.geometry().has_slot(*id) {
         return Ok(false);
     }
-    heap.fetch(alloc, id.page, last, last)?;
+    heap.fetch(alloc, id.page, &NoClaims, last, last)?;
     if !heap.fits(*id, bytes.len()) {
         return Ok(false);
     }

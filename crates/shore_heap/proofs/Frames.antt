@@ -7,12 +7,12 @@ use Rattle.shore_types.specs.Layout.{HasPage}
 use Rattle.shore_dwrite.specs.Volumes.{page_number}
 use Rattle.shore_dwrite.proofs.Numbers.{one_page}
 use Rattle.shore_page.specs.Slots.{PageState, Slot, settled}
-use Rattle.shore_page.specs.Text.{images_of, settled_page}
+use Rattle.shore_page.specs.Text.{IsPageText, images_of, settled_page}
 use Rattle.shore_pool.specs.declared.frame.Frame.{Frame}
 use Rattle.shore_pool.specs.declared.pool.Fetched.{Fetched}
-use Rattle.shore_pool.specs.Pages.{AreWritten, IsTextOf}
+use Rattle.shore_pool.specs.Pages.{AreInOrder, AreWritten, IsPage, SamePages}
 use Rattle.shore_pool.proofs.Same.{one_text}
-use Rattle.shore_heap.specs.Contents.{HasSlots, with_slots}
+use Rattle.shore_heap.specs.Contents.{AreKept, FitIn, HasSlots, Kept, claimed_by, claimed_frame, with_slots}
 use Rattle.shore_heap.proofs.Bounds.{cases_page, slots_here, slots_other}
 
 -- a fetch found a page, or read it
@@ -25,14 +25,14 @@ some_mapped f None is = let clash : false ≡ true = is in absurd cc
 some_mapped f (Some x) is = refl
 
 -- what holds of the slots in a frame holds of those that are shown
-pub of_shown : (P : List Slot → Type 0) (o : Option Frame) (text : List ℕ) (id : PageId) (slots : List Slot) → HasSlots o text id slots → IsSomeAnd o (λ f. P f.page.slots) → P slots
-of_shown P None text id slots has is = absurd is
-of_shown P (Some f) text id slots has is = subst P has is
+pub of_shown : (P : List Slot → Type 0) (o : Option Frame) (text : List ℕ) (id : PageId) (kept : List (ℕ × ℕ)) (slots : List Slot) → HasSlots o text id kept slots → IsSomeAnd o (λ f. P f.page.slots) → P slots
+of_shown P None text id kept slots has is = absurd is
+of_shown P (Some f) text id kept slots has is = subst P has is
 
 -- .. and the other way round, if there is a frame: what a caller has to say of a frame
-pub to_frame : (P : List Slot → Type 0) (o : Option Frame) (text : List ℕ) (id : PageId) (slots : List Slot) → HasSlots o text id slots → is_some o ≡ true → P slots → IsSomeAnd o (λ f. P f.page.slots)
-to_frame P None text id slots has held holds = let clash : false ≡ true = held in absurd cc
-to_frame P (Some f) text id slots has held holds = subst P (sym has) holds
+pub to_frame : (P : List Slot → Type 0) (o : Option Frame) (text : List ℕ) (id : PageId) (kept : List (ℕ × ℕ)) (slots : List Slot) → HasSlots o text id kept slots → is_some o ≡ true → P slots → IsSomeAnd o (λ f. P f.page.slots)
+to_frame P None text id kept slots has held holds = let clash : false ≡ true = held in absurd cc
+to_frame P (Some f) text id kept slots has held holds = subst P (sym has) holds
 
 -- .. and what holds of a page that was lent holds of its frame
 pub of_lent : (P : List Slot → Type 0) (o : Option Frame) (page : PageState) → Some page ≡ option_map (λ f. f.page) o → P page.slots → IsSomeAnd o (λ f. P f.page.slots)
@@ -44,46 +44,103 @@ abbrev pub IsRead : PageId → ℕ → Frame → Type 0
 IsRead id last f = (f.page ≡ settled_page id f.page.number (images_of f.page.slots)) × (f.page.number ≤ last) × (f.recovery ≡ None)
 
 -- each page has these slots, by these frames
-abbrev pub Have : Geometry → (ℕ → Option Frame) → (ℕ → List ℕ) → (PageId → List Slot) → Type 0
-Have g frames disk S = (id : PageId) → HasPage g id → HasSlots (frames (page_number g id)) (disk (page_number g id)) id (S id)
+abbrev pub Have : Geometry → (ℕ → Option Frame) → (ℕ → List ℕ) → Kept → (PageId → List Slot) → Type 0
+Have g frames disk K S = (id : PageId) → HasPage g id → HasSlots (frames (page_number g id)) (disk (page_number g id)) id (K id) (S id)
 
-module _ (g : Geometry) (at now : ℕ → Option Frame) (disk : ℕ → List ℕ) (S : PageId → List Slot) (id : PageId) (there : HasPage g id) (others : (k : ℕ) → k ≢ page_number g id → now k ≡ at k) (have : Have g at disk S) where
-  n : ℕ
-  n = page_number g id
+-- a page that was read has its slots when so much is kept for them
+pub read_slots : (id : PageId) (last : ℕ) (text : List ℕ) (kept : List (ℕ × ℕ)) (slots : List Slot) (f : Frame) → IsRead id last f → (has : HasSlots None text id kept slots) → images_of f.page.slots ≡ has.1
+    → FitIn kept f.page.slots × (claimed_by kept f.page.slots ≡ slots)
+read_slots id last text kept slots f is has images =
+    let same : f.page.slots ≡ map settled has.1 = ap (λ (p : PageState). p.slots) is.0 ∙ ap (λ (l : List Image). map settled l) images in
+    (subst (FitIn kept) (sym same) has.4, ap (claimed_by kept) same ∙ sym has.3)
 
-  elsewhere : (p : PageId) → HasPage g p → p ≢ id → HasSlots (now (page_number g p)) (disk (page_number g p)) p (S p)
-  elsewhere p has apart = subst (λ (o : Option Frame). HasSlots o (disk (page_number g p)) p (S p)) (sym (others (page_number g p) (λ same. apart (one_page g p id has there same)))) (have p has)
+-- how the page that is fetched came into its frame: it was read, and then keeps what is told of it
+pub record Came (at mid now : ℕ → Option Frame) (n : ℕ) (id : PageId) (kept : List (ℕ × ℕ)) (last : ℕ) : Type 0 where
+  pub none : at n ≡ None
+  pub read : IsSomeAnd (mid n) (IsRead id last)
+  pub then_kept : (f : Frame) → mid n ≡ Some f → FitIn kept f.page.slots → now n ≡ Some (claimed_frame kept f)
+
+pub came_slots : (at mid now : ℕ → Option Frame) (n : ℕ) (id : PageId) (kept : List (ℕ × ℕ)) (last : ℕ) (was text : List ℕ) (slots : List Slot) → Came at mid now n id kept last
+    → HasSlots (at n) was id kept slots → ((f : Frame) (images : List Image) → mid n ≡ Some f → IsRead id last f → (number : ℕ) → IsPageText was id number images → images_of f.page.slots ≡ images) → HasSlots (now n) text id kept slots
+came_slots at mid now n id kept last was text slots came has images = each (mid n) refl came.read
+  where
+    each : (o : Option Frame) → mid n ≡ o → IsSomeAnd o (IsRead id last) → HasSlots (now n) text id kept slots
+    each None is read = absurd read
+    each (Some f) is read =
+        let old : HasSlots None was id kept slots = subst (λ (o : Option Frame). HasSlots o was id kept slots) came.none has in
+        let both = read_slots id last was kept slots f read old (images f old.1 is read old.0 old.2) in
+        subst (λ (o : Option Frame). HasSlots o text id kept slots) (sym (came.then_kept f is both.0)) both.1
+
+module _ (g : Geometry) (at now : ℕ → Option Frame) (disk : ℕ → List ℕ) (K : Kept) (S : PageId → List Slot) (id : PageId) (there : HasPage g id) (others : (k : ℕ) → k ≢ page_number g id → now k ≡ at k) (have : Have g at disk K S) where
+  elsewhere : (p : PageId) → HasPage g p → p ≢ id → HasSlots (now (page_number g p)) (disk (page_number g p)) p (K p) (S p)
+  elsewhere p has apart = subst (λ (o : Option Frame). HasSlots o (disk (page_number g p)) p (K p) (S p)) (sym (others (page_number g p) (λ same. apart (one_page g p id has there same)))) (have p has)
 
   -- a page came into a frame, or was there
-  pub have_come : (last : ℕ) → AreWritten now disk → (now (page_number g id) ≡ at (page_number g id)) ⊎ ((at (page_number g id) ≡ None) × IsSomeAnd (now (page_number g id)) (IsRead id last)) → Have g now disk S
-  have_come last written come p has = elim (cases_page p id) [
-    | inl same ↦ subst (λ (q : PageId). HasSlots (now (page_number g q)) (disk (page_number g q)) q (S q)) (sym same) here
+  pub have_come : (mid : ℕ → Option Frame) (last : ℕ) → AreWritten mid disk → (now (page_number g id) ≡ at (page_number g id)) ⊎ Came at mid now (page_number g id) id (K id) last → Have g now disk K S
+  have_come mid last written come p has = elim (cases_page p id) [
+    | inl same ↦ subst (λ (q : PageId). HasSlots (now (page_number g q)) (disk (page_number g q)) q (K q) (S q)) (sym same) here
     | inr other ↦ elsewhere p has other
   ]
     where
-      each : (o : Option Frame) → now (page_number g id) ≡ o → at (page_number g id) ≡ None → IsSomeAnd o (IsRead id last) → HasSlots o (disk (page_number g id)) id (S id)
-      each None is none has = absurd has
-      each (Some f) is none has =
-          let text : IsTextOf f (disk (page_number g id)) = written (page_number g id) f is has.2 in
-          let old : HasSlots None (disk (page_number g id)) id (S id) = subst (λ (o : Option Frame). HasSlots o (disk (page_number g id)) id (S id)) none (have id there) in
-          let images : images_of f.page.slots ≡ old.1 = (one_text (disk (page_number g id)) f.page.id id f.page.number old.0 (images_of f.page.slots) old.1 text old.2).2 in
-          ap (λ (p : PageState). p.slots) has.0 ∙ ap (λ (l : List Image). map settled l) images ∙ sym old.3
-
-      here : HasSlots (now (page_number g id)) (disk (page_number g id)) id (S id)
+      here : HasSlots (now (page_number g id)) (disk (page_number g id)) id (K id) (S id)
       here = elim come [
-        | inl same ↦ subst (λ (o : Option Frame). HasSlots o (disk (page_number g id)) id (S id)) (sym same) (have id there)
-        | inr new ↦ each (now (page_number g id)) refl new.0 new.1
+        | inl same ↦ subst (λ (o : Option Frame). HasSlots o (disk (page_number g id)) id (K id) (S id)) (sym same) (have id there)
+        | inr came ↦ came_slots at mid now (page_number g id) id (K id) last (disk (page_number g id)) (disk (page_number g id)) (S id) came (have id there)
+            (λ f images is read number text. (one_text (disk (page_number g id)) f.page.id id f.page.number number (images_of f.page.slots) images (written (page_number g id) f is read.2) text).2)
       ]
 
   -- the slots of a page in a frame are changed
   pub have_changed : (change : Frame → Frame) (f : List Slot → List Slot) → ((e : Frame) → (change e).page.slots ≡ f e.page.slots) → now (page_number g id) ≡ option_map change (at (page_number g id))
-      → is_some (at (page_number g id)) ≡ true → Have g now disk (with_slots S id f)
+      → is_some (at (page_number g id)) ≡ true → Have g now disk K (with_slots S id f)
   have_changed change f keeps is held p has = elim (cases_page p id) [
-    | inl same ↦ subst (λ (q : PageId). HasSlots (now (page_number g q)) (disk (page_number g q)) q (with_slots S id f q)) (sym same)
-        (subst (λ (o : Option Frame). HasSlots o (disk (page_number g id)) id (with_slots S id f id)) (sym is) (each (at (page_number g id)) held (have id there)))
-    | inr other ↦ subst (λ (l : List Slot). HasSlots (now (page_number g p)) (disk (page_number g p)) p l) (sym (slots_other S id f p other)) (elsewhere p has other)
+    | inl same ↦ subst (λ (q : PageId). HasSlots (now (page_number g q)) (disk (page_number g q)) q (K q) (with_slots S id f q)) (sym same)
+        (subst (λ (o : Option Frame). HasSlots o (disk (page_number g id)) id (K id) (with_slots S id f id)) (sym is) (each (at (page_number g id)) held (have id there)))
+    | inr other ↦ subst (λ (l : List Slot). HasSlots (now (page_number g p)) (disk (page_number g p)) p (K p) l) (sym (slots_other S id f p other)) (elsewhere p has other)
   ]
     where
-      each : (o : Option Frame) → is_some o ≡ true → HasSlots o (disk (page_number g id)) id (S id) → HasSlots (option_map change o) (disk (page_number g id)) id (with_slots S id f id)
+      each : (o : Option Frame) → is_some o ≡ true → HasSlots o (disk (page_number g id)) id (K id) (S id) → HasSlots (option_map change o) (disk (page_number g id)) id (K id) (with_slots S id f id)
       each None some has = let clash : false ≡ true = some in absurd cc
       each (Some e) some has = keeps e ∙ ap f has ∙ sym (slots_here S id f)
+
+-- ---- pages that may have left their frames
+
+module _ (g : Geometry) (at now : ℕ → Option Frame) (disk left : ℕ → List ℕ) (K : Kept) (S : PageId → List Slot) (order : AreInOrder at g) (same : SamePages at disk now left) (have : Have g at disk K S) (are : AreKept g K S) where
+  -- a page that has no frame now, whether it had one or not
+  have_gone : (p : PageId) → HasPage g p → now (page_number g p) ≡ None → HasSlots None (left (page_number g p)) p (K p) (S p)
+  have_gone p has none = each (at (page_number g p)) refl (have p has)
+    where
+      text_of : (number : ℕ) (images : List Image) → IsPage (at (page_number g p)) (disk (page_number g p)) p number images → IsPageText (left (page_number g p)) p number images
+      text_of number images is = subst (λ (o : Option Frame). IsPage o (left (page_number g p)) p number images) none ((same (page_number g p) p number images).0 is)
+
+      each : (o : Option Frame) → at (page_number g p) ≡ o → HasSlots o (disk (page_number g p)) p (K p) (S p) → HasSlots None (left (page_number g p)) p (K p) (S p)
+      each None is slots = (slots.0, slots.1, text_of slots.0 slots.1 (subst (λ (o : Option Frame). IsPage o (disk (page_number g p)) p slots.0 slots.1) (sym is) slots.2), slots.3, slots.4)
+      each (Some f) is slots =
+          let its = order (page_number g p) f is in
+          let id : f.page.id ≡ p = one_page g f.page.id p its.0 has its.1 in
+          let text = text_of f.page.number (images_of f.page.slots) (subst (λ (o : Option Frame). IsPage o (disk (page_number g p)) p f.page.number (images_of f.page.slots)) (sym is) (id, refl, refl)) in
+          let told = are p has in
+          (f.page.number, images_of (S p), subst (λ (l : List Slot). IsPageText (left (page_number g p)) p f.page.number (images_of l)) slots text, told.0, told.1)
+
+  -- .. or has the one that it had
+  pub have_left : (p : PageId) → HasPage g p → (now (page_number g p) ≡ at (page_number g p)) ⊎ (now (page_number g p) ≡ None) → HasSlots (now (page_number g p)) (left (page_number g p)) p (K p) (S p)
+  have_left p has stays = each (now (page_number g p)) refl stays
+    where
+      each : (o : Option Frame) → now (page_number g p) ≡ o → (now (page_number g p) ≡ at (page_number g p)) ⊎ (now (page_number g p) ≡ None) → HasSlots o (left (page_number g p)) p (K p) (S p)
+      each None is it = have_gone p has is
+      each (Some f) is (inl stay) = subst (λ (o : Option Frame). HasSlots o (disk (page_number g p)) p (K p) (S p)) (sym stay ∙ is) (have p has)
+      each (Some f) is (inr gone) = let clash : None ≡ Some f = sym gone ∙ is in absurd cc
+
+  -- .. after one page was fetched
+  pub have_fetched : (mid : ℕ → Option Frame) (id : PageId) (last : ℕ) → HasPage g id → SamePages at disk mid left → ((k : ℕ) → k ≢ page_number g id → (now k ≡ at k) ⊎ (now k ≡ None))
+      → ((now (page_number g id) ≡ at (page_number g id)) ⊎ (now (page_number g id) ≡ None)) ⊎ Came at mid now (page_number g id) id (K id) last → Have g now left K S
+  have_fetched mid id last there pages others come p has = elim (cases_page p id) [
+    | inl here ↦ subst (λ (q : PageId). HasSlots (now (page_number g q)) (left (page_number g q)) q (K q) (S q)) (sym here) (its come)
+    | inr other ↦ have_left p has (others (page_number g p) (λ one. other (one_page g p id has there one)))
+  ]
+    where
+      its : ((now (page_number g id) ≡ at (page_number g id)) ⊎ (now (page_number g id) ≡ None)) ⊎ Came at mid now (page_number g id) id (K id) last → HasSlots (now (page_number g id)) (left (page_number g id)) id (K id) (S id)
+      its (inl stays) = have_left id there stays
+      its (inr came) = came_slots at mid now (page_number g id) id (K id) last (disk (page_number g id)) (left (page_number g id)) (S id) came (have id there)
+          (λ f images is read number text.
+          let was : IsPage (at (page_number g id)) (disk (page_number g id)) id number images = subst (λ (o : Option Frame). IsPage o (disk (page_number g id)) id number images) (sym came.none) text in
+          (subst (λ (o : Option Frame). IsPage o (left (page_number g id)) id number images) is ((pages (page_number g id) id number images).0 was)).2)

@@ -2,6 +2,10 @@ pub mod Rooms
 pub mod Bounds
 pub mod Frames
 pub mod Showing
+pub mod Keeping
+pub mod Going
+pub mod Fetched
 pub mod Scanned
 pub mod Finding
 pub mod Released
+pub mod Fitting

@@ -15,7 +15,7 @@ use Rattle.shore_heap.specs.Places.{IsFirstSlot}
 abbrev claim_of : Slot → ℕ
 claim_of s = s.claim
 
-claims_changed : (f : Slot → Slot) (slots : List Slot) (i : ℕ) → i < length slots → claims (with_change f slots i) + claim_at slots i ≡ claims slots + claim_at (with_change f slots i) i
+pub claims_changed : (f : Slot → Slot) (slots : List Slot) (i : ℕ) → i < length slots → claims (with_change f slots i) + claim_at slots i ≡ claims slots + claim_at (with_change f slots i) i
 claims_changed f [] i inside = absurd (omega arith)
 claims_changed f (s ∷ slots) zero inside =
     let new : claims (f s ∷ slots) ≡ claim_of (f s) + claims slots = sum_by-cons claim_of (f s) slots in
@@ -39,7 +39,7 @@ image_held image (s ∷ slots) (suc i) inside = image_held image slots i (omega 
 abbrev IsSame : List Slot → List Slot → ℕ → Type 0
 IsSame old new i = (image_at_slot new i ≡ image_at_slot old i) × (claim_at new i ≡ claim_at old i)
 
-others_changed : (f : Slot → Slot) (slots : List Slot) (i other : ℕ) → other ≢ i → IsSame slots (with_change f slots i) other
+pub others_changed : (f : Slot → Slot) (slots : List Slot) (i other : ℕ) → other ≢ i → IsSame slots (with_change f slots i) other
 others_changed f [] i other apart = (refl, refl)
 others_changed f (s ∷ slots) zero zero apart = absurd (apart refl)
 others_changed f (s ∷ slots) zero (suc other) apart = (refl, refl)

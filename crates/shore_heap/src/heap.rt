@@ -1,12 +1,12 @@
-//! The heap: records in the pages of a pool that has a frame for each page.
-ghost use Rattle.std.specs.Prelude.{◌≡◌, ◌≢◌, ◌⊎◌, ◌↔◌, ◌+◌, ◌<◌, ◌≤◌, ℕ, List, IfErr, IfOk, IfSome, IsFalse, IsSomeAnd, IsTrue, None, OnErr, OnOk, Some, is_some, length, map, option_map};
+//! The heap: records in the pages of a pool.
+ghost use Rattle.std.specs.Prelude.{[], ◌≡◌, ◌≢◌, ◌⊎◌, ◌↔◌, ◌+◌, ◌<◌, ◌≤◌, ℕ, List, IfErr, IfOk, IfSome, IsFalse, IsSomeAnd, IsTrue, None, OnErr, OnOk, Some, is_some, length, map, option_map};
 ghost use Rattle.shore_disk.specs.Cause.{HasCause};
 ghost use Rattle.shore_disk.specs.Device.{size};
 ghost use Rattle.shore_dwrite.specs.Settled as settled_device;
 ghost use Rattle.shore_dwrite.specs.Volumes.{HasNoPage, page_count, page_number, page_offset};
 ghost use Rattle.shore_page.specs.Room.{Fits, claim_at, lowered};
 ghost use Rattle.shore_page.specs.Slots.{Slot, image_at_slot, image_len, settled, with_change, with_image};
-ghost use Rattle.shore_page.specs.Text.{IsPageText};
+ghost use Rattle.shore_page.specs.Text.{IsPageText, images_of};
 ghost use Rattle.shore_pool.specs.Pools as pools;
 ghost use Rattle.shore_pool.specs.Pools.{Holds};
 ghost use Rattle.shore_types.specs.Images.{Image};
@@ -15,7 +15,7 @@ ghost use Rattle.shore_types.specs.declared.faults.Device.TheVariants as Device;
 ghost use Rattle.shore_types.specs.declared.faults.Fault.TheVariants as Fault;
 ghost use Rattle.shore_types.specs.declared.ids.PageId.{PageId};
 ghost use Rattle.shore_types.specs.declared.layout.TheConstants.{MAX_PAGES, MAX_RECORD_BYTES, MIN_POOL_FRAMES};
-ghost use Rattle.shore_heap.specs.Contents.{bound_of, with_slots};
+ghost use Rattle.shore_heap.specs.Contents.{FitIn, Kept, bound_of, claimed_by, unclaimed, with_slots};
 
 use crate::maps::unknown_maps;
 use shore_disk::{Disk, FuseDisk};
@@ -26,23 +26,21 @@ use shore_pool::Pool;
 use shore_types::{Fault, Geometry, Lsn, PageId, Rid};
 use std::alloc::Global;
 
-/// The records of a volume's stores, in the slots of their pages. A page that was fetched stays in its frame, and none is written back: there is
-/// a frame for each page.
+/// The records of a volume's stores, in the slots of their pages.
 #[derive(Drop)]
 pub struct Heap<D: Disk> {
     pub(crate) pool: Pool<D>,
     // For each store, which lengths its pages are known to refuse.
     pub(crate) free: Vec<FreeMap>,
-    ghost whole: { page_count (pools.geometry_of pool) ≤ pools.limit_of pool },
     ghost maps: { map length free.items ≡ (pools.geometry_of pool).stores },
 }
 
 impl<D: Disk> Heap<D> {
     ghost use Rattle.shore_pool.specs.declared.frame.Frame.{Frame};
-    ghost use Rattle.shore_heap.specs.Heaps.{KeepsVolume, OnlyReads, Shows, bounds_of, device_of, faults_of, frame_at, frame_of, geometry_of, history_of, honesty_of};
+    ghost use Rattle.shore_heap.specs.Heaps.{KeepsVolume, Shows, device_of, frame_at, frame_of, geometry_of, limit_of};
 
-    /// The heap of a volume, with no page in a frame: a pool of so many frames, or more if the volume has more pages. All memory is taken but that
-    /// of pages. The device is handed back if an allocation failed.
+    /// The heap of a volume, with no page in a frame, over a pool of so many frames. All memory is taken but that of pages. The device is handed
+    /// back if an allocation failed.
     pub fn new(alloc: Global, device: PageDev<D>, frames: usize) -> Result<Heap<D>, PageDev<D>>
         requires some { MIN_POOL_FRAMES ≤ frames }
         requires most { frames ≤ MAX_PAGES }
@@ -51,13 +49,13 @@ impl<D: Disk> Heap<D> {
         ensures shows { (front : List ℕ) (disk : ℕ → List ℕ) (number : PageId → ℕ) (images : PageId → List Image) → settled_device.IsSettled device front disk
             → ((id : PageId) → HasPage (settled_device.geometry_of device) id
             → IsPageText (disk (page_number (settled_device.geometry_of device) id)) id (number id) (images id))
-            → IfOk result (λ heap. Shows heap front disk (λ id. map settled (images id))) }
+            → IfOk result (λ heap. Shows unclaimed heap front disk (λ id. map settled (images id))) }
+        ensures limit { IfOk result (λ heap. limit_of heap ≡ frames) }
         ensures refused { IfErr result (λ back. back ≡ device) }
     {
         let Ok(free) = unknown_maps(alloc, device.geometry()) else {
             return Err(device);
         };
-        let frames = frames.max(device.pages() as usize);
         let pool = Pool::new(alloc, device, frames)?;
         Ok(Heap { pool, free })
     }
@@ -76,32 +74,11 @@ impl<D: Disk> Heap<D> {
         self.pool.geometry()
     }
 
-    /// Brings a page into a frame, if it is in none. `last` is the number of the log's last record, and `seen` that up to which it is durable.
-    pub fn fetch(&mut self, alloc: Global, page: PageId, last: Lsn, seen: Lsn) -> Result<(), Fault>
-        requires { HasPage (geometry_of self.old) page }
-        ensures held { OnOk result (IsTrue (is_some (frame_of self.new page))) }
-        ensures still { (front : List ℕ) (disk : ℕ → List ℕ) (S : PageId → List Slot) → Shows self.old front disk S → OnlyReads self.old self.new front disk S }
-        ensures none_came { (front : List ℕ) (disk : ℕ → List ℕ) (S : PageId → List Slot) → Shows self.old front disk S
-            → OnErr result ((k : ℕ) → frame_at self.new k ≡ frame_at self.old k) }
-        ensures refused { (front : List ℕ) (disk : ℕ → List ℕ) → Holds self.old.pool front disk → IfErr result (λ fault. (fault ≡ Fault.Device)
-            ⊎ (fault ≡ Fault.Memory) ⊎ ((fault ≡ Fault.Damaged Device.Volume (page_offset (page_number (geometry_of self.old) page)))
-            × HasNoPage (disk (page_number (geometry_of self.old) page)) page last)) }
-        ensures bounds { bounds_of self.new ≡ bounds_of self.old }
-        ensures untouched { KeepsVolume self.old self.new }
-        ensures honest { honesty_of self.new ≡ honesty_of self.old }
-        ensures size { size (history_of self.new) ≡ size (history_of self.old) }
-        ensures geometry { geometry_of self.new ≡ geometry_of self.old }
-        ensures cause { HasCause result (faults_of self.old) (faults_of self.new) }
-    {
-        self.pool.fetch(alloc, page, last, seen)?;
-        Ok(())
-    }
-
     /// The record of an id whose page is in a frame.
     pub fn record(&self, id: Rid) -> Option<&[u8]>
         requires there { HasPage (geometry_of self.now) id.page }
         requires held { IsTrue (is_some (frame_of self.now id.page)) }
-        ensures shown { (front : List ℕ) (disk : ℕ → List ℕ) (S : PageId → List Slot) → Shows self.now front disk S
+        ensures shown { (K : Kept) (front : List ℕ) (disk : ℕ → List ℕ) (S : PageId → List Slot) → Shows K self.now front disk S
             → option_map (λ bytes. bytes.now) result ≡ image_at_slot (S id.page) id.slot }
         ensures framed { IsSomeAnd (frame_of self.now id.page) (λ f. option_map (λ bytes. bytes.now) result ≡ image_at_slot f.page.slots id.slot) }
         ensures short { IfSome result (λ bytes. length bytes.now ≤ MAX_RECORD_BYTES) }
@@ -116,7 +93,7 @@ impl<D: Disk> Heap<D> {
     pub fn fits(&self, id: Rid, bytes: usize) -> bool
         requires there { HasPage (geometry_of self.now) id.page }
         requires held { IsTrue (is_some (frame_of self.now id.page)) }
-        ensures shown { (front : List ℕ) (disk : ℕ → List ℕ) (S : PageId → List Slot) → Shows self.now front disk S → IsTrue result ↔ Fits (S id.page) id.slot bytes }
+        ensures shown { (K : Kept) (front : List ℕ) (disk : ℕ → List ℕ) (S : PageId → List Slot) → Shows K self.now front disk S → IsTrue result ↔ Fits (S id.page) id.slot bytes }
         ensures framed { IsTrue result ↔ IsSomeAnd (frame_of self.now id.page) (λ f. Fits f.page.slots id.slot bytes) }
     {
         match self.pool.page(id.page) {
@@ -129,7 +106,7 @@ impl<D: Disk> Heap<D> {
     pub fn claim(&self, id: Rid) -> u16
         requires there { HasPage (geometry_of self.now) id.page }
         requires held { IsTrue (is_some (frame_of self.now id.page)) }
-        ensures { (front : List ℕ) (disk : ℕ → List ℕ) (S : PageId → List Slot) → Shows self.now front disk S → result ≡ claim_at (S id.page) id.slot }
+        ensures { (K : Kept) (front : List ℕ) (disk : ℕ → List ℕ) (S : PageId → List Slot) → Shows K self.now front disk S → result ≡ claim_at (S id.page) id.slot }
     {
         match self.pool.page(id.page) {
             Some(page) => page.claim(id.slot),
@@ -141,10 +118,11 @@ impl<D: Disk> Heap<D> {
     pub fn change(&mut self, id: Rid, lsn: Lsn, after: Option<&[u8]>)
         requires there { HasPage (geometry_of self.old) id.page }
         requires fits { IsSomeAnd (frame_of self.old id.page) (λ f. Fits f.page.slots id.slot (image_len (option_map (λ bytes. bytes.now) after))) }
-        ensures shows { (front : List ℕ) (disk : ℕ → List ℕ) (S : PageId → List Slot) → Shows self.old front disk S
-            → Shows self.new front disk (with_slots S id.page (λ slots. with_image slots id.slot (option_map (λ bytes. bytes.now) after.entry))) }
+        ensures shows { (K : Kept) (front : List ℕ) (disk : ℕ → List ℕ) (S : PageId → List Slot) → Shows K self.old front disk S
+            → Shows K self.new front disk (with_slots S id.page (λ slots. with_image slots id.slot (option_map (λ bytes. bytes.now) after.entry))) }
         ensures held { (k : ℕ) → is_some (frame_at self.new k) ≡ is_some (frame_at self.old k) }
         ensures untouched { KeepsVolume self.old self.new }
+        ensures limit { limit_of self.new ≡ limit_of self.old }
         ensures device { device_of self.new ≡ device_of self.old }
     {
         let gone = after.is_none();
@@ -154,28 +132,38 @@ impl<D: Disk> Heap<D> {
         }
     }
 
-    /// Nothing comes back any more to an id: its slot keeps what its record takes. A page that is in no frame has no more kept.
+    /// Nothing comes back any more to an id: its slot keeps what its record takes. Of a page that is in no frame the caller tells no more that it
+    /// does.
     pub fn release(&mut self, id: Rid)
-        ensures shows { (front : List ℕ) (disk : ℕ → List ℕ) (S : PageId → List Slot) → Shows self.old front disk S
-            → Shows self.new front disk (with_slots S id.page (λ slots. with_change (lowered 0) slots id.slot)) }
+        ensures shows { (K : Kept) (front : List ℕ) (disk : ℕ → List ℕ) (S : PageId → List Slot) → Shows K self.old front disk S
+            → (frame_of self.old id.page ≡ None → K id.page ≡ []) → Shows K self.new front disk (with_slots S id.page (λ slots. with_change (lowered 0) slots id.slot)) }
+        ensures told { (K L : Kept) (front : List ℕ) (disk : ℕ → List ℕ) (S : PageId → List Slot) → Shows K self.old front disk S
+            → frame_of self.old id.page ≡ None → ((p : PageId) → p ≢ id.page → L p ≡ K p) → FitIn (L id.page) (map settled (images_of (S id.page)))
+            → Shows L self.new front disk (with_slots S id.page (λ slots. claimed_by (L id.page) (map settled (images_of slots)))) }
         ensures untouched { KeepsVolume self.old self.new }
         ensures held { (k : ℕ) → is_some (frame_at self.new k) ≡ is_some (frame_at self.old k) }
+        ensures limit { limit_of self.new ≡ limit_of self.old }
         ensures device { device_of self.new ≡ device_of self.old }
     {
-        if !self.has_slot(id.page, id.slot) {
+        if !self.geometry().has_page(id.page) {
             return;
         }
-        self.release_to(id, 0);
+        if self.has_slot(id.page, id.slot) {
+            self.release_to(id, 0);
+        } else {
+            self.forget(id.page);
+        }
     }
 
     /// No more than so many bytes may come back to an id whose page is in a frame: its slot keeps no more than these, and what its record takes.
     pub fn release_to(&mut self, id: Rid, bytes: usize)
         requires there { HasPage (geometry_of self.old) id.page }
         requires slot { IsSomeAnd (frame_of self.old id.page) (λ f. id.slot < length f.page.slots) }
-        ensures shows { (front : List ℕ) (disk : ℕ → List ℕ) (S : PageId → List Slot) → Shows self.old front disk S
-            → Shows self.new front disk (with_slots S id.page (λ slots. with_change (lowered bytes) slots id.slot)) }
+        ensures shows { (K : Kept) (front : List ℕ) (disk : ℕ → List ℕ) (S : PageId → List Slot) → Shows K self.old front disk S
+            → Shows K self.new front disk (with_slots S id.page (λ slots. with_change (lowered bytes) slots id.slot)) }
         ensures untouched { KeepsVolume self.old self.new }
         ensures held { (k : ℕ) → is_some (frame_at self.new k) ≡ is_some (frame_at self.old k) }
+        ensures limit { limit_of self.new ≡ limit_of self.old }
         ensures device { device_of self.new ≡ device_of self.old }
     {
         self.pool.unreserve(id.page, id.slot, bytes);
@@ -184,14 +172,11 @@ impl<D: Disk> Heap<D> {
 
     // Whether a page is in a frame, with such a slot.
     fn has_slot(&self, id: PageId, slot: u16) -> bool
-        ensures there { IsTrue result → HasPage (geometry_of self.now) id × IsSomeAnd (frame_of self.now id) (λ f. slot < length f.page.slots) }
-        ensures none { IsFalse result → HasPage (geometry_of self.now) id → IfSome (frame_of self.now id) (λ f. length f.page.slots ≤ slot) }
+        requires { HasPage (geometry_of self.now) id }
+        ensures there { IsTrue result → IsSomeAnd (frame_of self.now id) (λ f. slot < length f.page.slots) }
+        ensures none { IsFalse result → IfSome (frame_of self.now id) (λ f. length f.page.slots ≤ slot) }
     {
-        let PageId { store, page } = id;
-        if !self.geometry().has_page(PageId { store, page }) {
-            return false;
-        }
-        match self.pool.page(PageId { store, page }) {
+        match self.pool.page(id) {
             Some(found) => slot < found.slot_count(),
             None => false,
         }
@@ -210,14 +195,15 @@ impl<D: Disk> Heap<D> {
 
 impl<D: Disk> Heap<FuseDisk<D>> {
     ghost use Rattle.shore_disk.specs.Fuse.{fuse_calls, fuse_inner};
-    ghost use Rattle.shore_heap.specs.Heaps.{KeepsVolume, Shows, device_of, faults_of, geometry_of, history_of};
+    ghost use Rattle.shore_heap.specs.Heaps.{KeepsVolume, Shows, device_of, faults_of, geometry_of, history_of, limit_of};
 
     /// Lets so many more writes and syncs of the device pass; then every call of it fails.
     pub fn set_fuse(&mut self, calls: u64)
         ensures inner { fuse_inner (settled_device.device_of (device_of self.new)) ≡ fuse_inner (settled_device.device_of (device_of self.old)) }
         ensures calls { fuse_calls (settled_device.device_of (device_of self.new)) ≡ calls }
-        ensures shows { (front : List ℕ) (disk : ℕ → List ℕ) (S : PageId → List Slot) → Shows self.old front disk S → Shows self.new front disk S }
+        ensures shows { (K : Kept) (front : List ℕ) (disk : ℕ → List ℕ) (S : PageId → List Slot) → Shows K self.old front disk S → Shows K self.new front disk S }
         ensures untouched { KeepsVolume self.old self.new }
+        ensures limit { limit_of self.new ≡ limit_of self.old }
         ensures geometry { geometry_of self.new ≡ geometry_of self.old }
         ensures history { history_of self.new ≡ history_of self.old }
         ensures faults { faults_of self.new ≡ faults_of self.old }

@@ -1,18 +1,19 @@
 //! Where a new record of a store goes.
-ghost use Rattle.std.specs.Prelude.{◌≡◌, ◌≢◌, ◌⊎◌, ◌<◌, ◌≤◌, ℕ, List, IfErr, IfNone, IfOk, IfSome, IsSomeAnd, IsTrue, None, Some, is_some, min, slice_get};
+ghost use Rattle.std.specs.Prelude.{◌≡◌, ◌≢◌, ◌⊎◌, ◌<◌, ◌≤◌, ℕ, List, IfErr, IfNone, IfOk, IfSome, IsSomeAnd, IsTrue, MatchResult, None, OnOk, Some, is_some, min, slice_get};
 ghost use Rattle.shore_disk.specs.Cause.{HasCause};
-ghost use Rattle.shore_disk.specs.Device.{size};
+ghost use Rattle.shore_disk.specs.Device.{LeavesOnly, size};
 ghost use Rattle.shore_dwrite.specs.Volumes.{HasNoPage, page_number, page_offset};
 ghost use Rattle.shore_page.specs.Slots.{Slot};
-ghost use Rattle.shore_pool.specs.Pools.{Holds};
+ghost use Rattle.shore_pool.specs.Pools.{Holds, NeedsForce};
 ghost use Rattle.shore_types.specs.Layout.{HasPage, HasSlot, HasStore};
 ghost use Rattle.shore_types.specs.declared.faults.Device.TheVariants as Device;
 ghost use Rattle.shore_types.specs.declared.faults.Fault.TheVariants as Fault;
 ghost use Rattle.shore_types.specs.declared.ids.PageId.{PageId};
 ghost use Rattle.shore_types.specs.declared.layout.Geometry.{Geometry};
-ghost use Rattle.shore_heap.specs.Contents.{TakesNone, bound_of};
+ghost use Rattle.shore_heap.specs.Contents.{AreKept, Kept, TakesNone, bound_of};
 ghost use Rattle.shore_heap.specs.Places.{HasNoPlace, IsFirstSlot, IsFree, IsPlace, IsRefused};
 
+use crate::claims::Claims;
 use crate::heap::Heap;
 use shore_disk::Disk;
 use shore_types::{Fault, Lsn, PageId, Rid, StoreId};
@@ -20,33 +21,45 @@ use std::alloc::Global;
 
 impl<D: Disk> Heap<D> {
     ghost use Rattle.shore_pool.specs.declared.frame.Frame.{Frame};
-    ghost use Rattle.shore_heap.specs.Heaps.{KeepsVolume, OnlyReads, Shows, device_of, faults_of, frame_at, frame_of, geometry_of, history_of, honesty_of};
+    ghost use Rattle.shore_heap.specs.Heaps.{AsksForForce, IsWhole, KeepsSlots, KeepsVolume, LeavesPages, MayFetch, OnlyReads, Shows, WroteBack, claims_in, faults_of, frame_of, geometry_of, history_of, honesty_of, limit_of, pool_of};
 
     /// Of all empty slots of a store that take a record of so many bytes the first, by page and slot, with its page in a frame. A page that is known
     /// to refuse as many bytes is not looked at.
-    pub fn place_for(
+    pub fn place_for<C: Claims>(
         &mut self,
         alloc: Global,
         store: StoreId,
         bytes: usize,
+        claims: &C,
         last: Lsn,
         seen: Lsn,
     ) -> Result<Option<Rid>, Fault>
         requires { HasStore (geometry_of self.old) store }
-        ensures found { (front : List ℕ) (disk : ℕ → List ℕ) (S : PageId → List Slot) → Shows self.old front disk S
-            → IfOk result (λ found. IfSome found (IsPlace (geometry_of self.old) S store bytes)) }
-        ensures none { (front : List ℕ) (disk : ℕ → List ℕ) (S : PageId → List Slot) → Shows self.old front disk S
-            → IfOk result (λ found. IfNone found (HasNoPlace (geometry_of self.old) S store bytes)) }
+        ensures found { (front : List ℕ) (disk : ℕ → List ℕ) (S : PageId → List Slot) → Shows (claims_in C.Claims claims.now) self.old front disk S
+            → MayFetch (claims_in C.Claims claims.now) self.old S → IfOk result (λ found. IfSome found (IsPlace (geometry_of self.old) S store bytes)) }
+        ensures none { (front : List ℕ) (disk : ℕ → List ℕ) (S : PageId → List Slot) → Shows (claims_in C.Claims claims.now) self.old front disk S
+            → MayFetch (claims_in C.Claims claims.now) self.old S → IfOk result (λ found. IfNone found (HasNoPlace (geometry_of self.old) S store bytes)) }
         ensures there { IfOk result (λ found. IfSome found (HasSlot (geometry_of self.old))) }
         ensures held { IfOk result (λ found. IfSome found (λ id. IsTrue (is_some (frame_of self.new id.page)))) }
         ensures framed { IfOk result (λ found. IfSome found (λ id. IsSomeAnd (frame_of self.new id.page) (λ f. IsFree f.page.slots bytes id.slot))) }
-        ensures still { (front : List ℕ) (disk : ℕ → List ℕ) (S : PageId → List Slot) → Shows self.old front disk S → OnlyReads self.old self.new front disk S }
-        ensures refused { (front : List ℕ) (disk : ℕ → List ℕ) → Holds self.old.pool front disk
+        ensures kept { (front : List ℕ) (disk : ℕ → List ℕ) (S : PageId → List Slot) → Shows (claims_in C.Claims claims.now) self.old front disk S
+            → AreKept (geometry_of self.old) (claims_in C.Claims claims.now) S → MatchResult result (λ _. KeepsSlots (claims_in C.Claims claims.now) self.old self.new seen front disk S)
+            (λ fault. (fault ≡ Fault.Device) ⊎ KeepsSlots (claims_in C.Claims claims.now) self.old self.new seen front disk S) }
+        ensures refused { (front : List ℕ) (disk : ℕ → List ℕ) → Holds (pool_of self.old) front disk
+            → seen ≤ last → IfErr result (λ fault. IsRefused (geometry_of self.old) disk store last fault ⊎ AsksForForce self.old seen fault) }
+        ensures still { IsWhole self.old → (front : List ℕ) (disk : ℕ → List ℕ) (S : PageId → List Slot) → Shows (claims_in C.Claims claims.now) self.old front disk S
+            → OnlyReads (claims_in C.Claims claims.now) self.old self.new front disk S }
+        ensures unforced { IsWhole self.old → (front : List ℕ) (disk : ℕ → List ℕ) → Holds (pool_of self.old) front disk
             → IfErr result (IsRefused (geometry_of self.old) disk store last) }
-        ensures untouched { KeepsVolume self.old self.new }
+        ensures untouched { IsWhole self.old → KeepsVolume self.old self.new }
+        ensures wrote { (front : List ℕ) (disk : ℕ → List ℕ) → Holds (pool_of self.old) front disk
+            → MatchResult result (λ _. WroteBack self.old self.new seen front disk) (λ fault. (fault ≡ Fault.Device) ⊎ WroteBack self.old self.new seen front disk) }
+        ensures any_moment { (front : List ℕ) (disk : ℕ → List ℕ) → Holds (pool_of self.old) front disk
+            → LeavesOnly (history_of self.old) (history_of self.new) (LeavesPages self.old seen front disk) }
         ensures honest { honesty_of self.new ≡ honesty_of self.old }
         ensures size { size (history_of self.new) ≡ size (history_of self.old) }
         ensures geometry { geometry_of self.new ≡ geometry_of self.old }
+        ensures limit { limit_of self.new ≡ limit_of self.old }
         ensures cause { HasCause result (faults_of self.old) (faults_of self.new) }
     {
         for from in 0..self.pages_in(store) {
@@ -54,7 +67,7 @@ impl<D: Disk> Heap<D> {
                 return Ok(None);
             };
             let id = PageId { store, page };
-            if let Some(slot) = self.try_page(alloc, id, bytes, last, seen)? {
+            if let Some(slot) = self.try_page(alloc, id, bytes, claims, last, seen)? {
                 let page = PageId { store, page };
                 return Ok(Some(Rid { page, slot }));
             }
@@ -82,36 +95,53 @@ impl<D: Disk> Heap<D> {
     }
 
     // The first slot of a page for so many bytes. If there is none, the page is known to refuse as many.
-    fn try_page(
+    fn try_page<C: Claims>(
         &mut self,
         alloc: Global,
         id: PageId,
         bytes: usize,
+        claims: &C,
         last: Lsn,
         seen: Lsn,
     ) -> Result<Option<u16>, Fault>
         requires { HasPage (geometry_of self.old) id }
-        ensures found { (front : List ℕ) (disk : ℕ → List ℕ) (S : PageId → List Slot) → Shows self.old front disk S
-            → IfOk result (λ found. IfSome found (IsFirstSlot (S id) bytes)) }
+        ensures found { (front : List ℕ) (disk : ℕ → List ℕ) (S : PageId → List Slot) → Shows (claims_in C.Claims claims.now) self.old front disk S
+            → MayFetch (claims_in C.Claims claims.now) self.old S → IfOk result (λ found. IfSome found (IsFirstSlot (S id) bytes)) }
         ensures none { IfOk result (λ found. IfNone found (bound_of self.new.free.items id ≤ bytes)) }
         ensures others { (p : PageId) → p ≢ id → bound_of self.new.free.items p ≡ bound_of self.old.free.items p }
         ensures held { IfOk result (λ found. IsTrue (is_some (frame_of self.new id))) }
         ensures framed { IfOk result (λ found. IfSome found (λ slot. IsSomeAnd (frame_of self.new id) (λ f. IsFree f.page.slots bytes slot))) }
-        ensures still { (front : List ℕ) (disk : ℕ → List ℕ) (S : PageId → List Slot) → Shows self.old front disk S → OnlyReads self.old self.new front disk S }
-        ensures refused { (front : List ℕ) (disk : ℕ → List ℕ) → Holds self.old.pool front disk → IfErr result (λ fault. (fault ≡ Fault.Device)
-            ⊎ (fault ≡ Fault.Memory) ⊎ ((fault ≡ Fault.Damaged Device.Volume (page_offset (page_number (geometry_of self.old) id)))
+        ensures kept { (front : List ℕ) (disk : ℕ → List ℕ) (S : PageId → List Slot) → Shows (claims_in C.Claims claims.now) self.old front disk S
+            → AreKept (geometry_of self.old) (claims_in C.Claims claims.now) S → MatchResult result (λ _. KeepsSlots (claims_in C.Claims claims.now) self.old self.new seen front disk S)
+            (λ fault. (fault ≡ Fault.Device) ⊎ KeepsSlots (claims_in C.Claims claims.now) self.old self.new seen front disk S) }
+        ensures refused { (front : List ℕ) (disk : ℕ → List ℕ) → Holds (pool_of self.old) front disk
+            → IfErr result (λ fault. (fault ≡ Fault.Device) ⊎ (fault ≡ Fault.Memory)
+            ⊎ ((fault ≡ Fault.Damaged Device.Volume (page_offset (page_number (geometry_of self.old) id)))
+            × HasNoPage (disk (page_number (geometry_of self.old) id)) id last) ⊎ AsksForForce self.old seen fault) }
+        ensures still { IsWhole self.old → (front : List ℕ) (disk : ℕ → List ℕ) (S : PageId → List Slot) → Shows (claims_in C.Claims claims.now) self.old front disk S
+            → OnlyReads (claims_in C.Claims claims.now) self.old self.new front disk S }
+        ensures unforced { IsWhole self.old → (front : List ℕ) (disk : ℕ → List ℕ) → Holds (pool_of self.old) front disk
+            → IfErr result (λ fault. (fault ≡ Fault.Device) ⊎ (fault ≡ Fault.Memory)
+            ⊎ ((fault ≡ Fault.Damaged Device.Volume (page_offset (page_number (geometry_of self.old) id)))
             × HasNoPage (disk (page_number (geometry_of self.old) id)) id last)) }
-        ensures untouched { KeepsVolume self.old self.new }
+        ensures untouched { IsWhole self.old → KeepsVolume self.old self.new }
+        ensures wrote { (front : List ℕ) (disk : ℕ → List ℕ) → Holds (pool_of self.old) front disk
+            → MatchResult result (λ _. WroteBack self.old self.new seen front disk) (λ fault. (fault ≡ Fault.Device) ⊎ WroteBack self.old self.new seen front disk) }
+        ensures any_moment { (front : List ℕ) (disk : ℕ → List ℕ) → Holds (pool_of self.old) front disk
+            → LeavesOnly (history_of self.old) (history_of self.new) (LeavesPages self.old seen front disk) }
+        ensures forced { (front : List ℕ) (disk : ℕ → List ℕ) → Holds (pool_of self.old) front disk
+            → OnOk result ((number : ℕ) → NeedsForce (pool_of self.new) seen number → NeedsForce (pool_of self.old) seen number) }
         ensures honest { honesty_of self.new ≡ honesty_of self.old }
         ensures size { size (history_of self.new) ≡ size (history_of self.old) }
         ensures geometry { geometry_of self.new ≡ geometry_of self.old }
+        ensures limit { limit_of self.new ≡ limit_of self.old }
         ensures cause { HasCause result (faults_of self.old) (faults_of self.new) }
     {
         let page = PageId {
             store: id.store,
             page: id.page,
         };
-        self.fetch(alloc, page, last, seen)?;
+        self.fetch(alloc, page, claims, last, seen)?;
         match self.candidate(&id, bytes) {
             Some(slot) => Ok(Some(slot)),
             None => {
@@ -125,9 +155,9 @@ impl<D: Disk> Heap<D> {
     fn candidate(&self, id: &PageId, bytes: usize) -> Option<u16>
         requires there { HasPage (geometry_of self.now) id.now }
         requires held { IsTrue (is_some (frame_of self.now id.now)) }
-        ensures found { (front : List ℕ) (disk : ℕ → List ℕ) (S : PageId → List Slot) → Shows self.now front disk S → IfSome result (IsFirstSlot (S id.now) bytes) }
+        ensures found { (K : Kept) (front : List ℕ) (disk : ℕ → List ℕ) (S : PageId → List Slot) → Shows K self.now front disk S → IfSome result (IsFirstSlot (S id.now) bytes) }
         ensures framed { IfSome result (λ slot. IsSomeAnd (frame_of self.now id.now) (λ f. IsFree f.page.slots bytes slot)) }
-        ensures none { (front : List ℕ) (disk : ℕ → List ℕ) (S : PageId → List Slot) → Shows self.now front disk S → result ≡ None → TakesNone (S id.now) bytes }
+        ensures none { (K : Kept) (front : List ℕ) (disk : ℕ → List ℕ) (S : PageId → List Slot) → Shows K self.now front disk S → result ≡ None → TakesNone (S id.now) bytes }
     {
         match self.pool.page(*id) {
             Some(page) => page.candidate(0, bytes),

@@ -118,6 +118,8 @@ impl<D: Disk> Pool<D> {
         ensures read { (front : List ℕ) (disk : ℕ → List ℕ) → Holds self.old front disk → IfOk result (λ how. how ≡ Fetched.Read → (frame_of self.old id ≡ None)
             × IsSomeAnd (frame_of self.new id) (λ f. (f.page ≡ settled_page id f.page.number (images_of f.page.slots)) × (f.page.number ≤ last) × (f.recovery ≡ None))) }
         ensures others { (k : ℕ) → k ≢ page_number (geometry_of self.old) id → (frame_at self.new k ≡ frame_at self.old k) ⊎ (frame_at self.new k ≡ None) }
+        ensures all { IfOk result (λ how. how ≡ Fetched.Held → (k : ℕ) → frame_at self.new k ≡ frame_at self.old k) }
+        ensures stay { OnErr result (StayOrGo self.old self.new) }
         ensures kept { (front : List ℕ) (disk : ℕ → List ℕ) → Holds self.old front disk
             → MatchResult result (λ _. WroteBack self.old self.new seen front disk) (λ fault. (fault ≡ Fault.Device) ⊎ WroteBack self.old self.new seen front disk) }
 

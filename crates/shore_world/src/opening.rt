@@ -31,8 +31,8 @@ use shore_log::{LogDev, damaged};
 use shore_types::{Fault, Geometry};
 use std::alloc::Global;
 
-/// The heap of a volume, behind the replay of its double-write area, with no page in a frame. With a shut area that makes no call that
-/// changes the device.
+/// The heap of a volume, behind the replay of its double-write area, with no page in a frame, and a frame for each page: at least so many. With a shut
+/// area that makes no call that changes the device.
 pub fn open_volume<D: Disk>(
     alloc: Global,
     volume: D,
@@ -52,6 +52,7 @@ pub fn open_volume<D: Disk>(
     ensures empty { IsTrue (D.is_honest volume) → (image : List ℕ) (pages : ℕ → List ℕ) → Stands (D.history volume) image → Shows geometry image pages
         → AreEmpty geometry pages → IfOk result (λ heap. ShowsEmpty heap (take GATE_AT image) pages) }
     ensures geometry { IfOk result (λ heap. heaps.geometry_of heap ≡ geometry) }
+    ensures whole { IfOk result heaps.IsWhole }
     ensures refused { IsTrue (D.is_honest volume) → (image : List ℕ) → Stands (D.history volume) image
         → IfErr result (λ e. IsFromOutside e.0 ⊎ ((part GATE_AT 1 image ≡ OPEN ∷ []) × RefusesArea geometry image e.0)) }
     ensures honest { D.is_honest (volume_of result) ≡ D.is_honest volume }
@@ -62,6 +63,7 @@ pub fn open_volume<D: Disk>(
     if let Err(fault) = pages.replay(alloc) {
         return Err((fault, pages.into_device()));
     }
+    let frames = frames.max(pages.pages() as usize);
     match Heap::new(alloc, pages, frames) {
         Ok(heap) => Ok(heap),
         Err(pages) => Err((Fault::Memory, pages.into_device())),

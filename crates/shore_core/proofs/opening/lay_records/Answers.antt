@@ -11,14 +11,12 @@ use Rattle.shore_types.specs.declared.layout.Geometry.{Geometry}
 use Rattle.shore_model.specs.declared.log_records.LogRecord.{LogRecord}
 use Rattle.shore_model.specs.Logs.{id_in}
 use Rattle.shore_model.specs.Records.{IsRecord, Records}
-use Rattle.shore_disk.specs.Cause.{HasCause}
 use Rattle.shore_page.specs.Room.{Fits}
 use Rattle.shore_page.specs.Slots.{Slot, with_image}
 use Rattle.shore_room.specs.Claims.{slots_of}
-use Rattle.shore_heap.specs.Contents.{with_slots}
+use Rattle.shore_heap.specs.Contents.{unclaimed, with_slots}
 use Rattle.shore_heap.specs.Heaps as heaps
 use Rattle.shore_heap.specs.Heaps.{Shows}
-use Rattle.shore_sessions.specs.LogTells.{records_committed}
 use Rattle.shore_core.specs.Laid.{AreLaid}
 use Rattle.shore_core.specs.Opened.{IsLastChange, IsUnplaceable}
 use Rattle.shore_core.proofs.CommittedRecords.{unrecorded}
@@ -28,7 +26,7 @@ use Rattle.shore_core.proofs.Tables.{none_some}
 use Rattle.shore_core.proofs.opening.lay_records.Goals as goal
 
 pub loop-id-init : goal.loop-id-init
-loop-id-init g c = record { so_far = λ front disk empty. laid_none _ _ front disk empty; geometry = refl; untouched = λ front disk holds. (holds, refl); honest = refl; size = refl; faults = refl }
+loop-id-init g c = record { so_far = λ front disk empty. laid_none _ _ front disk empty; geometry = refl; limit = refl; untouched = λ front disk holds. (holds, refl); honest = refl; size = refl; faults = refl }
 
 pub returns-in_err-lay-clause-page : goal.returns-in_err-lay-clause-page
 returns-in_err-lay-clause-page g c front disk empty =
@@ -80,10 +78,11 @@ loop-id-preserved g c =
           let so_far = c.loop-id.invariant.so_far front disk empty in
           let S : PageId → List Slot = λ p. slots_of (from_entries so_far.done) [] p (so_far.laid.counts p) in
           let got = subst (λ (b : List ℕ). IsRecord (heaps.geometry_of c.loop-id.heap) id b × Fits (S id.page) id.slot (length b)
-          × Shows c.lay.new.heap front disk (with_slots S id.page (λ slots. with_image slots id.slot (Some b)))) c.as_slice.ensures
+          × Shows unclaimed c.lay.new.heap front disk (with_slots S id.page (λ slots. with_image slots id.slot (Some b)))) c.as_slice.ensures
           (c.in_ok-lay.ensures.laid front disk S so_far.laid.shows c.if-not-branch.false) in
           laid_next so_far told all id bytes c.next.new.self c.in-Some.ensures.steps c.lay.new.heap got.0 got.1 c.lay.ensures.geometry got.2;
       geometry = c.lay.ensures.geometry ∙ c.loop-id.invariant.geometry;
+      limit = c.lay.ensures.limit ∙ c.loop-id.invariant.limit;
       untouched = kept_on c.args.heap.now c.loop-id.heap c.lay.new.heap c.loop-id.invariant.untouched c.lay.ensures.untouched;
       honest = c.lay.ensures.honest ∙ c.loop-id.invariant.honest;
       size = c.lay.ensures.size ∙ c.loop-id.invariant.size;

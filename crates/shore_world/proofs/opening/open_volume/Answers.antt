@@ -1,12 +1,13 @@
-use Rattle.std.proofs.Common.{◌≡◌, ◌⊎◌, ◌∷◌, [], IsTrue, refl, sym, ◌∙◌, ap, subst}
+use Rattle.std.proofs.Common.{◌≡◌, ◌⊎◌, ◌∷◌, [], IsTrue, refl, sym, ◌∙◌, ap, subst, arith}
 use Rattle.shore_types.specs.declared.layout.Geometry.{Geometry}
 use Rattle.shore_disk.specs.Device.{Stands}
 use Rattle.shore_dwrite.specs.Checks.{RefusesArea}
 use Rattle.shore_dwrite.specs.Settled as pages
 use Rattle.shore_dwrite.specs.Shown.{Shows}
-use Rattle.shore_dwrite.specs.Volumes.{AreEmpty, part}
+use Rattle.shore_dwrite.specs.Volumes.{AreEmpty, page_count, part}
 use Rattle.shore_gate.specs.Checks.{IsFromOutside}
 use Rattle.shore_gate.specs.declared.gates.TheConstants.{OPEN}
+use Rattle.shore_heap.specs.Heaps as heaps
 use Rattle.shore_world.proofs.HoldLemmas.{holds_none}
 use Rattle.shore_world.proofs.opening.open_volume.Goals as goal
 
@@ -60,6 +61,11 @@ returns-in-Ok-clause-empty g c honest image texts stands shows empty =
       shows = c.in-Ok.ensures.shows _ texts (λ id. 0) (λ id. []) settled (subst (λ (x : Geometry). AreEmpty x texts) (sym geometry) empty);
       empty = subst (λ (x : Geometry). AreEmpty x texts) (sym (ap pages.geometry_of c.in-Ok.ensures.device ∙ geometry)) empty;
     }
+
+pub returns-in-Ok-clause-whole : goal.returns-in-Ok-clause-whole
+returns-in-Ok-clause-whole g c =
+    let device : heaps.geometry_of c.in-Ok.heap ≡ pages.geometry_of c.replay.new.self = ap pages.geometry_of c.in-Ok.ensures.device in
+    omega (arith, ap page_count device, c.pages.ensures, c.max-frames.ensures, c.in-Ok.ensures.limit)
 
 pub returns-in-Err-new-clause-still : goal.returns-in-Err-new-clause-still
 returns-in-Err-new-clause-still g c honest image stands shut =

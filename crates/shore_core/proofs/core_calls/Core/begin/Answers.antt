@@ -3,7 +3,8 @@ use Rattle.shore_types.specs.declared.layout.TheConstants.{ENDING_COST}
 use Rattle.shore_model.specs.declared.calls.Answer.TheVariants.{Began}
 use Rattle.shore_calls.specs.CallSteps.{begun}
 use Rattle.shore_calls.specs.States.{page_slots}
-use Rattle.shore_heap.proofs.Released.{shows_same}
+use Rattle.shore_heap.specs.Contents.{unclaimed}
+use Rattle.shore_heap.proofs.Showing.{shows_same}
 use Rattle.shore_room.proofs.Leaving.{begun_slots}
 use Rattle.shore_sessions.specs.UndoLists.{nothing_to_undo}
 use Rattle.shore_txn.specs.Tables.{active_in, committing_in}
@@ -75,7 +76,7 @@ returns-clause-replied g c ready front disk before s is safe =
       );
       is_in = record {
         first = is.first;
-        pages = shows_same old.heap front disk (page_slots s) (page_slots (begun s c.args.session)) is.pages (λ p there. begun_slots s.sessions.records s.sessions.active (record { session = c.args.session; txn = s.sessions.next_txn; undo = nothing_to_undo }) refl p (s.counts p));
+        pages = shows_same old.heap unclaimed front disk (page_slots s) (page_slots (begun s c.args.session)) (λ p there. begun_slots s.sessions.records s.sessions.active (record { session = c.args.session; txn = s.sessions.next_txn; undo = nothing_to_undo }) refl p (s.counts p)) is.pages;
         parts = subst (λ n. HasParts c.begin-txn.new.self (waiting_of old) (durable_of old) (has_failed old) before (begun s n)) t.2.1 parts;
       };
       history = refl;

@@ -6,7 +6,7 @@ use Rattle.shore_model.specs.declared.log_records.LogRecord.{LogRecord}
 use Rattle.shore_model.specs.declared.log_records.Payload.TheVariants.{Change}
 use Rattle.shore_page.specs.Room.{Fits}
 use Rattle.shore_page.specs.Slots.{image_at_slot, image_len, with_image}
-use Rattle.shore_heap.specs.Contents.{with_slots}
+use Rattle.shore_heap.specs.Contents.{unclaimed, with_slots}
 use Rattle.shore_heap.specs.Heaps.{Shows, frame_of}
 use Rattle.shore_room.specs.Claims.{Claimed}
 use Rattle.shore_room.specs.LogRooms.{compensation_cost}
@@ -20,7 +20,7 @@ use Rattle.shore_core.specs.Parts.{HasParts, changed}
 use Rattle.shore_core.proofs.PartSteps.{at_some, parts_changed}
 use Rattle.shore_core.proofs.Tables.{has_no_room, has_room, is_of, next_is, parts_same, same_at, some_and}
 use Rattle.shore_core.proofs.Taking.{framed_is, image_shown, true_false}
-use Rattle.shore_core.proofs.Changed.{changes_none, costs_are, same_history, image_short, grown, grows, pages_changed}
+use Rattle.shore_core.proofs.Changed.{changes_none, costs_are, same_history, image_short, grown, grows, pages_changed, still_whole}
 use Rattle.shore_core.proofs.core_calls.Core.change.Goals as goal
 
 pub returns-in_default-clause-changed : goal.returns-in_default-clause-changed
@@ -101,6 +101,7 @@ invariant_of-self-2 g c =
     let risen : next ≡ g.T.Tail.first old.tail + length (g.T.Tail.records old.tail) + 1 = omega (arith, more, c.push.ensures.first) in
     let low = (c.if-not-admits.ensures.0 refl).0 in
     record {
+      whole = still_whole c.change.new.self old.heap c.change.ensures.device c.change.ensures.limit old.whole;
       some_number = omega (arith, risen, old.some_number);
       few = omega (arith, risen, low);
       number = λ a is. omega (arith, risen, low);
@@ -134,8 +135,8 @@ returns-clause-changed g c front disk before s is safe =
     let number = c.in-Ok.ensures.number ∙ sym (next_is old.txns (waiting_of old) (durable_of old) (has_failed old) before s is.parts (first_of old) is.first 0) in
     let now = parts_changed mid c.note_change.new.self (waiting_of old) (durable_of old) (has_failed old) before s parts t.0 u.0 _ c.args.after (grown s.counts id) r c.in-Ok.lsn t.1 u.1 u.2
     c.note_change.ensures.committing c.note_change.ensures.next (c.note_change.ensures.kept ∙ ap (λ n. (room_in mid).kept + n) logged) c.note_change.ensures.stream (c.in_ok-copy_of.ensures ∙ sym found)
-    (omega (arith, c.id-txn.ensures.some, c.id-txn.ensures.number, same.txn)) r_is number (subst (λ ts. Claimed s.sessions.records ts s.counts) one safe.roomy.pages) (c.claim.ensures front disk (page_slots s) is.pages) in
-    let shows = subst (λ (i : Image). Shows c.change.new.self front disk (with_slots (page_slots s) id.page (λ l. with_image l id.slot i))) (c.bytes_of.ensures ∙ c.in_ok-image.ensures) (c.change.ensures.shows front disk (page_slots s) is.pages) in (
+    (omega (arith, c.id-txn.ensures.some, c.id-txn.ensures.number, same.txn)) r_is number (subst (λ ts. Claimed s.sessions.records ts s.counts) one safe.roomy.pages) (c.claim.ensures unclaimed front disk (page_slots s) is.pages) in
+    let shows = subst (λ (i : Image). Shows unclaimed c.change.new.self front disk (with_slots (page_slots s) id.page (λ l. with_image l id.slot i))) (c.bytes_of.ensures ∙ c.in_ok-image.ensures) (c.change.ensures.shows unclaimed front disk (page_slots s) is.pages) in (
       as_session_txn t.0,
       grown s.counts id,
       is_of mid s parts.txns c.args.session t.0 t.1 (same.session ∙ c.in-Some.ensures.some.1),

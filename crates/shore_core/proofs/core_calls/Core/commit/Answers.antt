@@ -3,6 +3,7 @@ use Rattle.std.proofs.lemmas.List.{take_more}
 use Rattle.shore_dwrite.specs.Settled as settled_device
 use Rattle.shore_model.specs.declared.log_records.LogRecord.{LogRecord}
 use Rattle.shore_model.specs.declared.log_records.Payload.TheVariants.{Commit}
+use Rattle.shore_heap.specs.Contents.{unclaimed}
 use Rattle.shore_heap.specs.Heaps.{Shows}
 use Rattle.shore_heap.proofs.Showing.{keeps_then}
 use Rattle.shore_room.specs.Settling.{let_go}
@@ -66,7 +67,7 @@ loop-change-preserved g c =
       c.release.ensures.device ∙ inv.4,
       keeps_then c.args.self.now.heap c.loop-change.self.heap c.release.new.self inv.5 c.release.ensures.untouched,
       λ front disk S shows. released_more c.release.new.self front disk S (take i items) (take (i + 1) items) c.change-item.result longer
-          (c.release.ensures.shows front disk (λ p. let_go p (images_of (take i items)) (S p)) (inv.6 front disk S shows)),
+          (c.release.ensures.shows unclaimed front disk (λ p. let_go p (images_of (take i items)) (S p)) (inv.6 front disk S shows) (λ none. refl)),
     )
 
 -- src/core_calls.rt:294:5
@@ -91,7 +92,7 @@ returns-clause-replied g c ready front disk before s is safe =
     let logged = subst (λ l. HasParts c.note_commit-changes.new.self l (durable_of old) (has_failed old) before (committed s (as_session_txn t))) (sym c.in-Ok.ensures.added) parts in
     let one : s.sessions.active ≡ as_session_txn t ∷ [] = is.parts.txns.active ∙ ap as_session_txns there.0 in
     let all : take c.loop-change.change-index items ≡ items = take-whole items c.loop-change.change-index c.loop-change-test.false in
-    let shown = subst (λ es. Shows c.loop-change.self.heap front disk (λ p. let_go p (images_of es) (page_slots s p))) all (inv.6 front disk (page_slots s) is.pages) in
+    let shown = subst (λ es. Shows unclaimed c.loop-change.self.heap front disk (λ p. let_go p (images_of es) (page_slots s p))) all (inv.6 front disk (page_slots s) is.pages) in
     record {
       later = committed s (as_session_txn t);
       replies = (refl, ap Durable number, (as_session_txn t, is_of old.txns s is.parts.txns c.args.session t there.0 there.1, refl));

@@ -12,14 +12,17 @@ returns-clause-refused g c front disk before s is safe =
     map_err _ (λ f. (f ≡ fault.Memory) ⊎ IsPageFault f) c.fetch.result (λ f. elim [
       | inl device ↦ inr (inl device)
       | inr other ↦ elim other [ inl memory ↦ inl memory | inr damaged ↦ inr (inr (_, damaged.0)) ]
-    ]) (c.fetch.ensures.refused front disk is.pages.holds)
+    ]) (c.fetch.ensures.unforced c.args.self.now.whole front disk is.pages.holds)
 
 pub returns-clause-stays : goal.returns-clause-stays
 returns-clause-stays g c front disk before s is safe =
-    let still = c.fetch.ensures.still front disk (page_slots s) is.pages in
+    let still = c.fetch.ensures.still c.args.self.now.whole front disk (page_slots s) is.pages in
     record { is_in = record { first = is.first; pages = still.shows; parts = is.parts }; history = still.history }
 
 pub returns-clause-damaged : goal.returns-clause-damaged
 returns-clause-damaged g c front disk holds =
     map_err _ _ c.fetch.result (λ f. page_earned (geometry_of c.args.self.now) disk (last_of c.args.self.now) (λ id. id ≡ c.args.page) c.args.page _ f (ap (λ n. n - 1) (c.last.view_is ∙ c.next.ensures)) refl c.requires)
-    (c.fetch.ensures.refused front disk holds)
+    (c.fetch.ensures.unforced c.args.self.now.whole front disk holds)
+
+pub returns-clause-reads : goal.returns-clause-reads
+returns-clause-reads g c = record { geometry = c.fetch.ensures.geometry; durable = refl; failed = refl; tail = refl; txns = refl; volume = c.fetch.ensures.untouched c.args.self.now.whole }

@@ -3,6 +3,7 @@ use Rattle.shore_model.specs.declared.calls.Answer.TheVariants.{Got}
 use Rattle.shore_model.specs.declared.calls.Call.TheVariants as call
 use Rattle.shore_calls.proofs.OneSession.{get_leaves}
 use Rattle.shore_calls.specs.States.{page_slots}
+use Rattle.shore_heap.specs.Contents.{unclaimed}
 use Rattle.shore_core.proofs.Tables.{is_of, some_and}
 use Rattle.shore_core.proofs.Taking.{image_shown, replied_as}
 use Rattle.shore_core.specs.Replies.{Reads}
@@ -26,7 +27,7 @@ returns-in_ok-copied-in-Some-clause-replied g c ready front disk before s is saf
     let stays = c.reach.ensures.stays front disk before s is safe in
     let t = some_and _ _ c.in_ok-reach.ensures.txn in
     let mine = is_of c.args.self.now.txns s is.parts.txns c.args.session t.0 t.1 t.2 in
-    let there : _ ≡ Some c.in_ok-copied-in-Some.field-0 = sym (image_shown s.sessions.records s.sessions.active s.counts safe.roomy.pages c.args.id) ∙ sym (c.in-Some.ensures.shown front disk (page_slots s) stays.is_in.pages)
+    let there : _ ≡ Some c.in_ok-copied-in-Some.field-0 = sym (image_shown s.sessions.records s.sessions.active s.counts safe.roomy.pages c.args.id) ∙ sym (c.in-Some.ensures.shown unclaimed front disk (page_slots s) stays.is_in.pages)
     ∙ ap Some (sym c.in_ok-copied-in-Some.ensures) in
     record {
       later = s;
@@ -40,7 +41,7 @@ returns-in-None-clause-replied g c ready front disk before s is safe =
     let stays = c.reach.ensures.stays front disk before s is safe in
     let t = some_and _ _ c.in_ok-reach.ensures.txn in
     let mine = is_of c.args.self.now.txns s is.parts.txns c.args.session t.0 t.1 t.2 in
-    let none = sym (image_shown s.sessions.records s.sessions.active s.counts safe.roomy.pages c.args.id) ∙ sym (c.in-None.ensures.shown front disk (page_slots s) stays.is_in.pages) in
+    let none = sym (image_shown s.sessions.records s.sessions.active s.counts safe.roomy.pages c.args.id) ∙ sym (c.in-None.ensures.shown unclaimed front disk (page_slots s) stays.is_in.pages) in
     record {
       later = s;
       replies = (inr (((_, mine), c.in_ok-reach.ensures.reached.0.0), none), refl);

@@ -1,4 +1,4 @@
-use Rattle.std.proofs.Common.{◌≡◌, ◌⊎◌, ◌-◌, inr, Some, IsSomeAnd, length, refl, sym, ap, subst, ◌∙◌, arith}
+use Rattle.std.proofs.Common.{◌≡◌, ◌⊎◌, ◌-◌, inl, inr, Some, IsSomeAnd, length, refl, sym, ap, subst, ◌∙◌, arith}
 use Rattle.shore_types.specs.declared.faults.Fault.TheVariants as fault
 use Rattle.shore_types.specs.declared.layout.Geometry.{Geometry}
 use Rattle.shore_types.specs.declared.ids.Rid.{Rid}
@@ -64,9 +64,9 @@ returns-in_err-place-clause-replied g c ready front disk before s is safe =
     let mine : IsInTxn s c.args.session = (_, is_of old.txns s is.parts.txns c.args.session t.0.now t.1.0 t.1.1) in
     let short : IsShort c.args.bytes = omega (arith, c.if-len-gt-MAX_RECORD_BYTES.false, ap length c.as_slice-len.ensures) in
     let there : HasStore (geometry_of old) c.args.store = subst (λ (it : Geometry). HasStore it c.args.store) c.geometry.ensures (c.if-not-has_store.ensures.0 refl) in
-    let still = c.place_for.ensures.still front disk (page_slots s) is.pages in
+    let still = c.place_for.ensures.still c.args.self.now.whole front disk (page_slots s) is.pages in
     let why : (c.in_err-place.field-0.0 ≡ fault.Memory) ⊎ IsRefusal (geometry_of old) s c.args.session (call.Insert c.args.store c.args.bytes) c.in_err-place.field-0.0 =
-    on_right (store_fault (geometry_of old) disk c.args.store _ _ (c.in_err-place.ensures.refused front disk is.pages.holds))
+    on_right (store_fault (geometry_of old) disk c.args.store _ _ (c.in_err-place.ensures.unforced c.args.self.now.whole front disk is.pages.holds))
     (insert_fault (geometry_of old) s c.args.session c.args.store c.args.bytes _ mine short there) in
     replied_as old _ front disk before s c.args.session (call.Insert c.args.store c.args.bytes) c.from_residual.result _ c.from_residual.ensures.1 why
     (record { is_in = record { first = is.first; pages = still.shows; parts = is.parts }; history = still.history })
@@ -78,10 +78,10 @@ returns-in_default-clause-replied g c ready front disk before s is safe =
     let mine : IsInTxn s c.args.session = (_, is_of old.txns s is.parts.txns c.args.session t.0.now t.1.0 t.1.1) in
     let short : IsShort c.args.bytes = omega (arith, c.if-len-gt-MAX_RECORD_BYTES.false, ap length c.as_slice-len.ensures) in
     let there : HasStore (geometry_of old) c.args.store = subst (λ (it : Geometry). HasStore it c.args.store) c.geometry.ensures (c.if-not-has_store.ensures.0 refl) in
-    let still = c.place_for.ensures.still front disk (page_slots s) is.pages in
+    let still = c.place_for.ensures.still c.args.self.now.whole front disk (page_slots s) is.pages in
     let none : HasNoPlace (geometry_of old) (page_slots s) c.args.store (length c.args.bytes) =
     subst (HasNoPlace (geometry_of old) (page_slots s) c.args.store) (ap length c.as_slice-len.ensures)
-    (if_none_at (HasNoPlace (geometry_of old) (page_slots s) c.args.store _) c.in_ok-place.place c.in_default.is (c.in_ok-place.ensures.none front disk (page_slots s) is.pages)) in
+    (if_none_at (HasNoPlace (geometry_of old) (page_slots s) c.args.store _) c.in_ok-place.place c.in_default.is (c.in_ok-place.ensures.none front disk (page_slots s) is.pages (inl c.args.self.now.whole))) in
     record {
       later = s;
       replies = (inr (mine, short, there, none_serves (geometry_of old) s safe.roomy.pages c.args.store c.args.bytes none), refl);
@@ -113,9 +113,9 @@ returns-in_err-change-clause-replied g c ready front disk before s is safe =
     let mine : IsInTxn s c.args.session = (_, is_of old.txns s is.parts.txns c.args.session t.0.now t.1.0 t.1.1) in
     let short : IsShort c.args.bytes = omega (arith, c.if-len-gt-MAX_RECORD_BYTES.false, ap length c.as_slice-len.ensures) in
     let there : HasStore (geometry_of old) c.args.store = subst (λ (it : Geometry). HasStore it c.args.store) c.geometry.ensures (c.if-not-has_store.ensures.0 refl) in
-    let still = c.place_for.ensures.still front disk (page_slots s) is.pages in
+    let still = c.place_for.ensures.still c.args.self.now.whole front disk (page_slots s) is.pages in
     let place = is_place_for (geometry_of old) s safe.roomy.pages c.args.store c.args.bytes c.in-Some.field-0
-    (subst (λ n. IsPlace (geometry_of old) (page_slots s) c.args.store n c.in-Some.field-0) (ap length c.as_slice-len.ensures) (if_some_at (IsPlace (geometry_of old) (page_slots s) c.args.store _) c.in_ok-place.place c.in-Some.field-0 c.in-Some.is (c.in_ok-place.ensures.found front disk (page_slots s) is.pages))) in
+    (subst (λ n. IsPlace (geometry_of old) (page_slots s) c.args.store n c.in-Some.field-0) (ap length c.as_slice-len.ensures) (if_some_at (IsPlace (geometry_of old) (page_slots s) c.args.store _) c.in_ok-place.place c.in-Some.field-0 c.in-Some.is (c.in_ok-place.ensures.found front disk (page_slots s) is.pages (inl c.args.self.now.whole)))) in
     let h = c.in_err-change.ensures.changed front disk before s (record { first = is.first; pages = still.shows; parts = is.parts }) (subst (λ it. IsSafe it s) (sym c.place_for.ensures.geometry) safe) in
     let why : (c.in_err-change.field-0.0 ≡ fault.Memory) ⊎ IsRefusal (geometry_of old) s c.args.session (call.Insert c.args.store c.args.bytes) c.in_err-change.field-0.0 =
     on_right h.0 (λ full. subst (IsRefusal (geometry_of old) s c.args.session (call.Insert c.args.store c.args.bytes)) (sym full.0) (mine, short, there, (c.in-Some.field-0, place, full.1))) in
@@ -127,9 +127,9 @@ returns-clause-replied g c ready front disk before s is safe =
     let old = c.args.self.now in
     let short : IsShort c.args.bytes = omega (arith, c.if-len-gt-MAX_RECORD_BYTES.false, ap length c.as_slice-len.ensures) in
     let there : HasStore (geometry_of old) c.args.store = subst (λ (it : Geometry). HasStore it c.args.store) c.geometry.ensures (c.if-not-has_store.ensures.0 refl) in
-    let still = c.place_for.ensures.still front disk (page_slots s) is.pages in
+    let still = c.place_for.ensures.still c.args.self.now.whole front disk (page_slots s) is.pages in
     let place = is_place_for (geometry_of old) s safe.roomy.pages c.args.store c.args.bytes c.in-Some.field-0
-    (subst (λ n. IsPlace (geometry_of old) (page_slots s) c.args.store n c.in-Some.field-0) (ap length c.as_slice-len.ensures) (if_some_at (IsPlace (geometry_of old) (page_slots s) c.args.store _) c.in_ok-place.place c.in-Some.field-0 c.in-Some.is (c.in_ok-place.ensures.found front disk (page_slots s) is.pages))) in
+    (subst (λ n. IsPlace (geometry_of old) (page_slots s) c.args.store n c.in-Some.field-0) (ap length c.as_slice-len.ensures) (if_some_at (IsPlace (geometry_of old) (page_slots s) c.args.store _) c.in_ok-place.place c.in-Some.field-0 c.in-Some.is (c.in_ok-place.ensures.found front disk (page_slots s) is.pages (inl c.args.self.now.whole)))) in
     let h = c.in_ok-change.ensures.changed front disk before s (record { first = is.first; pages = still.shows; parts = is.parts }) (subst (λ it. IsSafe it s) (sym c.place_for.ensures.geometry) safe) in
     record {
       later = changed s h.0 c.in-Some.field-0 (Some c.args.bytes) h.1;
@@ -143,14 +143,20 @@ returns-in_err-place-clause-damaged g c front disk holds =
     let old = c.args.self.now in
     let IsRead = Reads (call.Insert c.args.store c.args.bytes) in
     earned_as (geometry_of old) disk (last_of old) IsRead c.from_residual.result _ c.from_residual.ensures.1
-    (store_earned (geometry_of old) disk (last_of old) IsRead c.args.store _ _ (ap (λ n. n - 1) (c.last.view_is ∙ c.next.ensures)) (λ id of_store. of_store) (c.in_err-place.ensures.refused front disk holds))
+    (store_earned (geometry_of old) disk (last_of old) IsRead c.args.store _ _ (ap (λ n. n - 1) (c.last.view_is ∙ c.next.ensures)) (λ id of_store. of_store) (c.in_err-place.ensures.unforced c.args.self.now.whole front disk holds))
 
 pub returns-in_err-change-clause-keeps : goal.returns-in_err-change-clause-keeps
 returns-in_err-change-clause-keeps g c =
-    reads_then_keeps c.args.self.now _ c.change.new.self (record { geometry = c.place_for.ensures.geometry; durable = refl; failed = refl; tail = refl; txns = refl; volume = c.place_for.ensures.untouched })
+    reads_then_keeps c.args.self.now _ c.change.new.self (record { geometry = c.place_for.ensures.geometry; durable = refl; failed = refl; tail = refl; txns = refl; volume = c.place_for.ensures.untouched c.args.self.now.whole })
     c.change.ensures.keeps
 
 pub returns-clause-keeps : goal.returns-clause-keeps
 returns-clause-keeps g c =
-    reads_then_keeps c.args.self.now _ c.change.new.self (record { geometry = c.place_for.ensures.geometry; durable = refl; failed = refl; tail = refl; txns = refl; volume = c.place_for.ensures.untouched })
+    reads_then_keeps c.args.self.now _ c.change.new.self (record { geometry = c.place_for.ensures.geometry; durable = refl; failed = refl; tail = refl; txns = refl; volume = c.place_for.ensures.untouched c.args.self.now.whole })
     c.change.ensures.keeps
+
+pub returns-in_err-place-clause-keeps : goal.returns-in_err-place-clause-keeps
+returns-in_err-place-clause-keeps g c = record { geometry = c.place_for.ensures.geometry; durable = refl; failed = refl; first = refl; volume = c.place_for.ensures.untouched c.args.self.now.whole }
+
+pub returns-in_default-clause-keeps : goal.returns-in_default-clause-keeps
+returns-in_default-clause-keeps g c = record { geometry = c.place_for.ensures.geometry; durable = refl; failed = refl; first = refl; volume = c.place_for.ensures.untouched c.args.self.now.whole }

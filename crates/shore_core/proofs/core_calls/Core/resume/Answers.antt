@@ -8,7 +8,6 @@ use Rattle.shore_core.specs.Cores.{durable_of, has_failed, waiting_of}
 use Rattle.shore_core.specs.Parts.{AreCommitting, HasParts, waiting_for}
 use Rattle.shore_core.proofs.PartSteps.{at_none, parts_answered, parts_refused}
 use Rattle.shore_core.proofs.Tables.{some_and, waits_not}
-use Rattle.shore_core.proofs.Taking.{true_false}
 use Rattle.shore_core.proofs.core_calls.Core.resume.Goals as goal
 
 above : (durable number : ℕ) → (number ≤ durable → ⊥) → durable < number
@@ -27,6 +26,7 @@ invariant_of-self g c =
     let old = c.args.self.now in
     let ended = c.end_wait.ensures in
     record {
+      whole = old.whole;
       some_number = old.some_number;
       few = old.few;
       number = λ t is. old.number t (sym ended.active ∙ is);
@@ -78,6 +78,7 @@ invariant_of-self-2 g c =
     let old = c.args.self.now in
     let ended = c.end_wait-2.ensures in
     record {
+      whole = old.whole;
       some_number = old.some_number;
       few = old.few;
       number = λ t is. old.number t (sym ended.active ∙ is);

@@ -3,6 +3,7 @@ use Rattle.shore_types.specs.declared.faults.Fault.TheVariants as fault
 use Rattle.shore_model.specs.declared.calls.Call.TheVariants as call
 use Rattle.std.specs.FinMap.{get}
 use Rattle.shore_page.specs.Room.{Fits}
+use Rattle.shore_heap.specs.Contents.{unclaimed}
 use Rattle.shore_heap.specs.Heaps.{frame_of}
 use Rattle.shore_calls.specs.Refusals.{FindsRecord, IsRefusal}
 use Rattle.shore_calls.specs.States.{page_slots}
@@ -56,7 +57,7 @@ returns-then-not-fits-clause-replied g c ready front disk before s is safe =
         inr (
           omega (arith, c.if-len-gt-MAX_RECORD_BYTES.false, len),
           finds,
-          λ fits. true_false (sym ((c.fits.ensures.shown front disk (page_slots s) stays.is_in.pages).1 (subst (Fits (page_slots s c.args.id.page) c.args.id.slot) (sym len) fits)) ∙ c.if-not-fits.true),
+          λ fits. true_false (sym ((c.fits.ensures.shown unclaimed front disk (page_slots s) stays.is_in.pages).1 (subst (Fits (page_slots s c.args.id.page) c.args.id.slot) (sym len) fits)) ∙ c.if-not-fits.true),
         ),
         refl,
       );
@@ -79,7 +80,7 @@ returns-in_err-change-clause-replied g c ready front disk before s is safe =
     let there : IsSome (get s.sessions.records c.args.id) = subst IsSome (sym (c.in_ok-find.ensures.found front disk before s is safe)) refl in
     let finds : FindsRecord (geometry_of old) s c.args.session c.args.id = (((_, mine), c.in_ok-find.ensures.reached.0), there) in
     let len = ap length c.as_slice-len.ensures in
-    let fits : Fits (page_slots s c.args.id.page) c.args.id.slot (length c.args.bytes) = subst (Fits (page_slots s c.args.id.page) c.args.id.slot) len ((c.if-not-fits.ensures.shown front disk (page_slots s) stays.is_in.pages).0 refl) in
+    let fits : Fits (page_slots s c.args.id.page) c.args.id.slot (length c.args.bytes) = subst (Fits (page_slots s c.args.id.page) c.args.id.slot) len ((c.if-not-fits.ensures.shown unclaimed front disk (page_slots s) stays.is_in.pages).0 refl) in
     let why : (c.in_err-change.field-0.0 ≡ fault.Memory) ⊎ IsRefusal (geometry_of old) s c.args.session (call.Update c.args.id c.args.bytes) c.in_err-change.field-0.0 = on_right h.0 (λ full. subst (IsRefusal (geometry_of old) s c.args.session (call.Update c.args.id c.args.bytes)) (sym full.0) (omega (arith, c.if-len-gt-MAX_RECORD_BYTES.false, len), finds, fits, full.1)) in
     replied_as old c.change.new.self front disk before s c.args.session (call.Update c.args.id c.args.bytes) c.from_residual-in_err-change.result _ c.from_residual-in_err-change.ensures.1 why
     (record { is_in = h.1; history = h.2 ∙ stays.history })

@@ -1,4 +1,3 @@
-use Rattle.shore_types.specs.declared.faults.Fault.TheVariants.{Device}
 use Rattle.std.proofs.Common.{◌≡◌, ◌+◌, length, refl, arith}
 use Rattle.shore_log.specs.PlainTails as plain
 use Rattle.shore_heap.specs.Heaps as heaps

@@ -1,4 +1,4 @@
-use Rattle.std.proofs.Common.{◌≡◌, Option, sym, subst}
+use Rattle.std.proofs.Common.{Option, sym, subst}
 use Rattle.shore_types.specs.Layout.{HasPage}
 use Rattle.shore_types.specs.declared.layout.Geometry.{Geometry}
 use Rattle.shore_dwrite.specs.Volumes.{page_number}
@@ -8,15 +8,15 @@ use Rattle.shore_heap.specs.Contents.{HasSlots}
 use Rattle.shore_heap.proofs.heap.Heap+FuseDisk+D.set_fuse.Goals as goal
 
 pub returns-clause-shows : goal.returns-clause-shows
-returns-clause-shows g c front disk S shows =
+returns-clause-shows g c K front disk S shows =
     let was = pools.geometry_of c.args.self.now.pool in
     let same = c.set_fuse.ensures.geometry in
     record {
       holds = c.set_fuse.ensures.holds front disk shows.holds;
       pages = λ id there.
           let before = shows.pages id (subst (λ (x : Geometry). HasPage x id) same there) in
-          subst (λ (x : Geometry). HasSlots (pools.frame_at c.set_fuse.new.self (page_number x id)) (disk (page_number x id)) id (S id)) (sym same)
-          (subst (λ (o : Option Frame). HasSlots o (disk (page_number was id)) id (S id)) (sym (c.set_fuse.ensures.frames (page_number was id))) before);
+          subst (λ (x : Geometry). HasSlots (pools.frame_at c.set_fuse.new.self (page_number x id)) (disk (page_number x id)) id (K id) (S id)) (sym same)
+          (subst (λ (o : Option Frame). HasSlots o (disk (page_number was id)) id (K id) (S id)) (sym (c.set_fuse.ensures.frames (page_number was id))) before);
       bounds = λ id bytes there. shows.bounds id bytes (subst (λ (x : Geometry). HasPage x id) same there);
     }
 

@@ -17,7 +17,7 @@ use Rattle.shore_heap.proofs.Showing.{frame_is, shows_by}
 use Rattle.shore_heap.proofs.heap.Heap.change.Goals as goal
 
 pub returns-then-gone-clause-shows : goal.returns-then-gone-clause-shows
-returns-then-gone-clause-shows g c front disk S shows =
+returns-then-gone-clause-shows g c K front disk S shows =
     let old = c.args.self.now in
     let g = pools.geometry_of old.pool in
     let id = c.args.id.page in
@@ -26,12 +26,12 @@ returns-then-gone-clause-shows g c front disk S shows =
     let geometry = ap settled_device.geometry_of c.change.ensures.device in
     let here = frame_is c.change.new.self g id _ geometry c.change.ensures.here in
     let held = there_is _ (pools.frame_of old.pool id) c.requires.fits in
-    let have = have_changed g (pools.frame_at old.pool) (pools.frame_at c.change.new.self) disk S id c.requires.there c.change.ensures.others shows.pages (changed c.args.lsn c.args.id.slot image) put (λ e. refl) here held in
-    shows_by c.change.new.self c.forget.new.self g front disk (with_slots S id put) c.forget.ensures.pool geometry (c.change.ensures.kept front disk shows.holds) have
+    let have = have_changed g (pools.frame_at old.pool) (pools.frame_at c.change.new.self) disk K S id c.requires.there c.change.ensures.others shows.pages (changed c.args.lsn c.args.id.slot image) put (λ e. refl) here held in
+    shows_by c.change.new.self c.forget.new.self g K front disk (with_slots S id put) c.forget.ensures.pool geometry (c.change.ensures.kept front disk shows.holds) have
     (bounds_forgot g old.free.items S shows.bounds id c.forget.new.self.free.items put c.forget.ensures.here c.forget.ensures.others)
 
 pub returns-else-gone-clause-shows : goal.returns-else-gone-clause-shows
-returns-else-gone-clause-shows g c front disk S shows =
+returns-else-gone-clause-shows g c K front disk S shows =
     let old = c.args.self.now in
     let g = pools.geometry_of old.pool in
     let id = c.args.id.page in
@@ -40,9 +40,9 @@ returns-else-gone-clause-shows g c front disk S shows =
     let geometry = ap settled_device.geometry_of c.change.ensures.device in
     let here = frame_is c.change.new.self g id _ geometry c.change.ensures.here in
     let held = there_is _ (pools.frame_of old.pool id) c.requires.fits in
-    let have = have_changed g (pools.frame_at old.pool) (pools.frame_at c.change.new.self) disk S id c.requires.there c.change.ensures.others shows.pages (changed c.args.lsn c.args.id.slot image) put (λ e. refl) here held in
-    let fits = of_shown (λ slots. Fits slots c.args.id.slot (image_len image)) (pools.frame_of old.pool id) (disk (page_number g id)) id (S id) (shows.pages id c.requires.there) c.requires.fits in
-    shows_by c.change.new.self _ g front disk (with_slots S id put) refl geometry (c.change.ensures.kept front disk shows.holds) have
+    let have = have_changed g (pools.frame_at old.pool) (pools.frame_at c.change.new.self) disk K S id c.requires.there c.change.ensures.others shows.pages (changed c.args.lsn c.args.id.slot image) put (λ e. refl) here held in
+    let fits = of_shown (λ slots. Fits slots c.args.id.slot (image_len image)) (pools.frame_of old.pool id) (disk (page_number g id)) id (K id) (S id) (shows.pages id c.requires.there) c.requires.fits in
+    shows_by c.change.new.self _ g K front disk (with_slots S id put) refl geometry (c.change.ensures.kept front disk shows.holds) have
     (bounds_put_image g old.free.items S shows.bounds id c.args.id.slot image (some_mapped _ c.args.after (c.is_none-gone.ensures ∙ ap not c.if-gone.false)) fits)
 
 pub returns-then-gone-clause-untouched : goal.returns-then-gone-clause-untouched

@@ -13,10 +13,7 @@ returns-clause-others g c =
     let old = c.args.self.now in
     (sets_bound (pools.geometry_of old.pool).stores old.free.items _ _ c.args.id _ c.index_mut.result.now c.forget.new.self old.maps c.id.view_is c.requires c.index_mut.ensures.value c.forget.ensures).others
 
-pub invariant_of-self-clause-whole : goal.invariant_of-self-clause-whole
-invariant_of-self-clause-whole g c = c.args.self.now.whole
-
-pub invariant_of-self-clause-maps : goal.invariant_of-self-clause-maps
-invariant_of-self-clause-maps g c =
+pub invariant_of-self : goal.invariant_of-self
+invariant_of-self g c =
     let old = c.args.self.now in
-    (sets_bound (pools.geometry_of old.pool).stores old.free.items _ _ c.args.id _ c.index_mut.result.now c.forget.new.self old.maps c.id.view_is c.requires c.index_mut.ensures.value c.forget.ensures).lengths ∙ old.maps
+    record { maps = (sets_bound (pools.geometry_of old.pool).stores old.free.items _ _ c.args.id _ c.index_mut.result.now c.forget.new.self old.maps c.id.view_is c.requires c.index_mut.ensures.value c.forget.ensures).lengths ∙ old.maps }

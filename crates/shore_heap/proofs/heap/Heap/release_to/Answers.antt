@@ -14,7 +14,7 @@ use Rattle.shore_heap.proofs.Showing.{frame_is, shows_by}
 use Rattle.shore_heap.proofs.heap.Heap.release_to.Goals as goal
 
 pub returns-clause-shows : goal.returns-clause-shows
-returns-clause-shows g c front disk S shows =
+returns-clause-shows g c K front disk S shows =
     let old = c.args.self.now in
     let g = pools.geometry_of old.pool in
     let id = c.args.id.page in
@@ -22,8 +22,8 @@ returns-clause-shows g c front disk S shows =
     let geometry = ap settled_device.geometry_of c.unreserve.ensures.device in
     let here = frame_is c.unreserve.new.self g id _ geometry c.unreserve.ensures.here in
     let held = there_is _ (pools.frame_of old.pool id) c.requires.slot in
-    let have = have_changed g (pools.frame_at old.pool) (pools.frame_at c.unreserve.new.self) disk S id c.requires.there c.unreserve.ensures.others shows.pages (reclaimed (lowered c.args.bytes) c.args.id.slot) lower (λ e. refl) here held in
-    shows_by c.unreserve.new.self c.forget.new.self g front disk (with_slots S id lower) c.forget.ensures.pool geometry (c.unreserve.ensures.kept front disk shows.holds).0 have
+    let have = have_changed g (pools.frame_at old.pool) (pools.frame_at c.unreserve.new.self) disk K S id c.requires.there c.unreserve.ensures.others shows.pages (reclaimed (lowered c.args.bytes) c.args.id.slot) lower (λ e. refl) here held in
+    shows_by c.unreserve.new.self c.forget.new.self g K front disk (with_slots S id lower) c.forget.ensures.pool geometry (c.unreserve.ensures.kept front disk shows.holds).0 have
     (bounds_forgot g old.free.items S shows.bounds id c.forget.new.self.free.items lower c.forget.ensures.here c.forget.ensures.others)
 
 pub returns-clause-untouched : goal.returns-clause-untouched
