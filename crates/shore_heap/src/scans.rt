@@ -36,10 +36,12 @@ impl<D: Disk> Heap<D> {
         ensures scanned { (front : List ℕ) (disk : ℕ → List ℕ) (S : PageId → List Slot) → Shows (claims_in C.Claims claims.now) self.old front disk S
             → MayFetch (claims_in C.Claims claims.now) self.old S → IfOk result (IsScan S (geometry_of self.old) store) }
         ensures kept { (front : List ℕ) (disk : ℕ → List ℕ) (S : PageId → List Slot) → Shows (claims_in C.Claims claims.now) self.old front disk S
-            → AreKept (geometry_of self.old) (claims_in C.Claims claims.now) S → MatchResult result (λ _. KeepsSlots (claims_in C.Claims claims.now) self.old self.new seen front disk S)
+            → AreKept (geometry_of self.old) (claims_in C.Claims claims.now) S
+            → MatchResult result (λ _. KeepsSlots (claims_in C.Claims claims.now) self.old self.new seen front disk S)
             (λ fault. (fault ≡ Fault.Device) ⊎ KeepsSlots (claims_in C.Claims claims.now) self.old self.new seen front disk S) }
         ensures refused { (front : List ℕ) (disk : ℕ → List ℕ) (S : PageId → List Slot) → Shows (claims_in C.Claims claims.now) self.old front disk S
-            → AreKept (geometry_of self.old) (claims_in C.Claims claims.now) S → seen ≤ last → IfErr result (λ fault. IsRefused (geometry_of self.old) disk store last fault ⊎ AsksForForce self.old seen fault) }
+            → AreKept (geometry_of self.old) (claims_in C.Claims claims.now) S → seen ≤ last
+            → IfErr result (λ fault. IsRefused (geometry_of self.old) disk store last fault ⊎ AsksForForce self.old seen fault) }
         ensures still { IsWhole self.old → (front : List ℕ) (disk : ℕ → List ℕ) (S : PageId → List Slot) → Shows (claims_in C.Claims claims.now) self.old front disk S
             → OnlyReads (claims_in C.Claims claims.now) self.old self.new front disk S }
         ensures unforced { IsWhole self.old → (front : List ℕ) (disk : ℕ → List ℕ) (S : PageId → List Slot) → Shows (claims_in C.Claims claims.now) self.old front disk S
@@ -75,10 +77,12 @@ impl<D: Disk> Heap<D> {
         ensures scanned { (front : List ℕ) (disk : ℕ → List ℕ) (S : PageId → List Slot) → Shows (claims_in C.Claims claims.now) self.old front disk S
             → MayFetch (claims_in C.Claims claims.now) self.old S → OnOk result (IsScan S (geometry_of self.old) store list.new.items) }
         ensures kept { (front : List ℕ) (disk : ℕ → List ℕ) (S : PageId → List Slot) → Shows (claims_in C.Claims claims.now) self.old front disk S
-            → AreKept (geometry_of self.old) (claims_in C.Claims claims.now) S → MatchResult result (λ _. KeepsSlots (claims_in C.Claims claims.now) self.old self.new seen front disk S)
+            → AreKept (geometry_of self.old) (claims_in C.Claims claims.now) S
+            → MatchResult result (λ _. KeepsSlots (claims_in C.Claims claims.now) self.old self.new seen front disk S)
             (λ fault. (fault ≡ Fault.Device) ⊎ KeepsSlots (claims_in C.Claims claims.now) self.old self.new seen front disk S) }
         ensures refused { (front : List ℕ) (disk : ℕ → List ℕ) (S : PageId → List Slot) → Shows (claims_in C.Claims claims.now) self.old front disk S
-            → AreKept (geometry_of self.old) (claims_in C.Claims claims.now) S → seen ≤ last → IfErr result (λ fault. IsRefused (geometry_of self.old) disk store last fault ⊎ AsksForForce self.old seen fault) }
+            → AreKept (geometry_of self.old) (claims_in C.Claims claims.now) S → seen ≤ last
+            → IfErr result (λ fault. IsRefused (geometry_of self.old) disk store last fault ⊎ AsksForForce self.old seen fault) }
         ensures still { IsWhole self.old → (front : List ℕ) (disk : ℕ → List ℕ) (S : PageId → List Slot) → Shows (claims_in C.Claims claims.now) self.old front disk S
             → OnlyReads (claims_in C.Claims claims.now) self.old self.new front disk S }
         ensures unforced { IsWhole self.old → (front : List ℕ) (disk : ℕ → List ℕ) (S : PageId → List Slot) → Shows (claims_in C.Claims claims.now) self.old front disk S
@@ -113,9 +117,11 @@ impl<D: Disk> Heap<D> {
     ) -> Result<(), Fault>
         requires { HasPage (geometry_of self.old) id }
         ensures scanned { (front : List ℕ) (disk : ℕ → List ℕ) (S : PageId → List Slot) → Shows (claims_in C.Claims claims.now) self.old front disk S
-            → MayFetch (claims_in C.Claims claims.now) self.old S → HasBefore S id.store id.page 0 list.old.items → OnOk result (HasBefore S id.store (id.page + 1) 0 list.new.items) }
+            → MayFetch (claims_in C.Claims claims.now) self.old S → HasBefore S id.store id.page 0 list.old.items
+            → OnOk result (HasBefore S id.store (id.page + 1) 0 list.new.items) }
         ensures kept { (front : List ℕ) (disk : ℕ → List ℕ) (S : PageId → List Slot) → Shows (claims_in C.Claims claims.now) self.old front disk S
-            → AreKept (geometry_of self.old) (claims_in C.Claims claims.now) S → MatchResult result (λ _. KeepsSlots (claims_in C.Claims claims.now) self.old self.new seen front disk S)
+            → AreKept (geometry_of self.old) (claims_in C.Claims claims.now) S
+            → MatchResult result (λ _. KeepsSlots (claims_in C.Claims claims.now) self.old self.new seen front disk S)
             (λ fault. (fault ≡ Fault.Device) ⊎ KeepsSlots (claims_in C.Claims claims.now) self.old self.new seen front disk S) }
         ensures refused { (front : List ℕ) (disk : ℕ → List ℕ) (S : PageId → List Slot) → Shows (claims_in C.Claims claims.now) self.old front disk S
             → IfErr result (λ fault. (fault ≡ Fault.Device) ⊎ (fault ≡ Fault.Memory)
