@@ -1,5 +1,5 @@
 -- What a heap shows, put together.
-use Rattle.std.proofs.Common.{◌≡◌, ℕ, List, Option, refl, sym, ap, subst, ◌∙◌}
+use Rattle.std.proofs.Common.{◌≡◌, ℕ, List, Option, None, Some, refl, sym, ap, subst, ◌∙◌}
 use Rattle.shore_disk.specs.declared.device.Disk.{Ghosts}
 use Rattle.shore_types.specs.declared.ids.PageId.{PageId}
 use Rattle.shore_types.specs.declared.layout.Geometry.{Geometry}
@@ -53,3 +53,16 @@ module _ {D : Type 0} {G : Ghosts D} where
     pages = λ id has. subst (HasSlots (frame_of heap id) (disk (page_number (geometry_of heap) id)) id (K id)) (sym (same id has)) (shows.pages id has);
     bounds = λ id bytes has up_to. subst (λ (slots : List Slot). TakesNone slots bytes) (sym (same id has)) (shows.bounds id bytes has up_to);
   }
+
+  -- other claims are told of pages in frames
+  pub shows_told : (heap : Heap D G) (K L : Kept) (front : List ℕ) (disk : ℕ → List ℕ) (S : PageId → List Slot) → ((id : PageId) → HasPage (geometry_of heap) id → frame_of heap id ≡ None → L id ≡ K id)
+      → Shows K heap front disk S → Shows L heap front disk S
+  shows_told heap K L front disk S same shows = record {
+    holds = shows.holds;
+    pages = λ id has. each id (frame_of heap id) (same id has) (shows.pages id has);
+    bounds = shows.bounds;
+  }
+    where
+      each : (id : PageId) (o : Option Frame) → (o ≡ None → L id ≡ K id) → HasSlots o (disk (page_number (geometry_of heap) id)) id (K id) (S id) → HasSlots o (disk (page_number (geometry_of heap) id)) id (L id) (S id)
+      each id None is has = subst (λ (kept : List (ℕ × ℕ)). HasSlots None (disk (page_number (geometry_of heap) id)) id kept (S id)) (sym (is refl)) has
+      each id (Some f) is has = has

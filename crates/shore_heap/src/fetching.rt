@@ -38,7 +38,8 @@ impl<D: Disk> Heap<D> {
         requires { HasPage (geometry_of self.old) page }
         ensures held { OnOk result (IsTrue (is_some (frame_of self.new page))) }
         ensures kept { (front : List ℕ) (disk : ℕ → List ℕ) (S : PageId → List Slot) → Shows (claims_in C.Claims claims.now) self.old front disk S
-            → AreKept (geometry_of self.old) (claims_in C.Claims claims.now) S → MatchResult result (λ _. KeepsSlots (claims_in C.Claims claims.now) self.old self.new seen front disk S)
+            → AreKept (geometry_of self.old) (claims_in C.Claims claims.now) S
+            → MatchResult result (λ _. KeepsSlots (claims_in C.Claims claims.now) self.old self.new seen front disk S)
             (λ fault. (fault ≡ Fault.Device) ⊎ KeepsSlots (claims_in C.Claims claims.now) self.old self.new seen front disk S) }
         ensures refused { (front : List ℕ) (disk : ℕ → List ℕ) → Holds (pool_of self.old) front disk
             → IfErr result (λ fault. (fault ≡ Fault.Device) ⊎ (fault ≡ Fault.Memory)

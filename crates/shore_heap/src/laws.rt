@@ -1,5 +1,5 @@
 //! Laws, as functions that do nothing: what a scan is to the model, which slots a heap shows, and which claims fit.
-ghost use Rattle.std.specs.Prelude.{◌≡◌, ◌≤◌, ℕ, List, length, map};
+ghost use Rattle.std.specs.Prelude.{◌≡◌, ◌≤◌, ℕ, List, None, length, map};
 ghost use Rattle.shore_page.specs.Room.{HasRoom};
 ghost use Rattle.shore_page.specs.Slots.{Slot, settled};
 ghost use Rattle.shore_types.specs.Images.{Image};
@@ -7,7 +7,7 @@ ghost use Rattle.shore_types.specs.Layout.{HasPage};
 ghost use Rattle.shore_types.specs.declared.ids.PageId.{PageId};
 ghost use Rattle.shore_types.specs.declared.layout.TheConstants.{MAX_SLOTS};
 ghost use Rattle.shore_heap.specs.Contents.{AreThere, FitIn, Kept, claimed_by};
-ghost use Rattle.shore_heap.specs.Heaps.{Shows, geometry_of};
+ghost use Rattle.shore_heap.specs.Heaps.{Shows, frame_of, geometry_of};
 ghost use Rattle.shore_heap.specs.Scans.{ScansAsTheModel};
 
 use crate::heap::Heap;
@@ -28,4 +28,10 @@ pub fn pages_of_the_volume_decide<D: Disk>(heap: &Heap<D>)
 pub fn claims_with_room_fit()
     ensures { (kept : List (ℕ × ℕ)) (images : List Image) → length images ≤ MAX_SLOTS → AreThere (length (map settled images)) kept
         → HasRoom (claimed_by kept (map settled images)) → FitIn kept (map settled images) }
+{}
+
+/// What may come back to the slots of pages in frames may be told otherwise: it counts for pages in no frame alone.
+pub fn claims_count_out_of_frames<D: Disk>(heap: &Heap<D>)
+    ensures { (K L : Kept) (front : List ℕ) (disk : ℕ → List ℕ) (S : PageId → List Slot) → ((id : PageId) → HasPage (geometry_of heap.now) id
+        → frame_of heap.now id ≡ None → L id ≡ K id) → Shows K heap.now front disk S → Shows L heap.now front disk S }
 {}

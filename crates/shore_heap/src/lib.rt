@@ -11,4 +11,7 @@ mod scans;
 
 pub use claims::{Claims, NoClaims};
 pub use heap::Heap;
-pub use laws::{claims_with_room_fit, pages_of_the_volume_decide, scans_are_the_models};
+pub use laws::{
+    claims_count_out_of_frames, claims_with_room_fit, pages_of_the_volume_decide,
+    scans_are_the_models,
+};

@@ -43,7 +43,8 @@ impl<D: Disk> Heap<D> {
         ensures held { IfOk result (λ found. IfSome found (λ id. IsTrue (is_some (frame_of self.new id.page)))) }
         ensures framed { IfOk result (λ found. IfSome found (λ id. IsSomeAnd (frame_of self.new id.page) (λ f. IsFree f.page.slots bytes id.slot))) }
         ensures kept { (front : List ℕ) (disk : ℕ → List ℕ) (S : PageId → List Slot) → Shows (claims_in C.Claims claims.now) self.old front disk S
-            → AreKept (geometry_of self.old) (claims_in C.Claims claims.now) S → MatchResult result (λ _. KeepsSlots (claims_in C.Claims claims.now) self.old self.new seen front disk S)
+            → AreKept (geometry_of self.old) (claims_in C.Claims claims.now) S
+            → MatchResult result (λ _. KeepsSlots (claims_in C.Claims claims.now) self.old self.new seen front disk S)
             (λ fault. (fault ≡ Fault.Device) ⊎ KeepsSlots (claims_in C.Claims claims.now) self.old self.new seen front disk S) }
         ensures refused { (front : List ℕ) (disk : ℕ → List ℕ) → Holds (pool_of self.old) front disk
             → seen ≤ last → IfErr result (λ fault. IsRefused (geometry_of self.old) disk store last fault ⊎ AsksForForce self.old seen fault) }
@@ -112,7 +113,8 @@ impl<D: Disk> Heap<D> {
         ensures held { IfOk result (λ found. IsTrue (is_some (frame_of self.new id))) }
         ensures framed { IfOk result (λ found. IfSome found (λ slot. IsSomeAnd (frame_of self.new id) (λ f. IsFree f.page.slots bytes slot))) }
         ensures kept { (front : List ℕ) (disk : ℕ → List ℕ) (S : PageId → List Slot) → Shows (claims_in C.Claims claims.now) self.old front disk S
-            → AreKept (geometry_of self.old) (claims_in C.Claims claims.now) S → MatchResult result (λ _. KeepsSlots (claims_in C.Claims claims.now) self.old self.new seen front disk S)
+            → AreKept (geometry_of self.old) (claims_in C.Claims claims.now) S
+            → MatchResult result (λ _. KeepsSlots (claims_in C.Claims claims.now) self.old self.new seen front disk S)
             (λ fault. (fault ≡ Fault.Device) ⊎ KeepsSlots (claims_in C.Claims claims.now) self.old self.new seen front disk S) }
         ensures refused { (front : List ℕ) (disk : ℕ → List ℕ) → Holds (pool_of self.old) front disk
             → IfErr result (λ fault. (fault ≡ Fault.Device) ⊎ (fault ≡ Fault.Memory)

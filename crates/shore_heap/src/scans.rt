@@ -37,7 +37,8 @@ impl<D: Disk> Heap<D> {
         ensures scanned { (front : List ℕ) (disk : ℕ → List ℕ) (S : PageId → List Slot) → Shows (claims_in C.Claims claims.now) self.old front disk S
             → MayFetch (claims_in C.Claims claims.now) self.old S → IfOk result (IsScan S (geometry_of self.old) store) }
         ensures kept { (front : List ℕ) (disk : ℕ → List ℕ) (S : PageId → List Slot) → Shows (claims_in C.Claims claims.now) self.old front disk S
-            → AreKept (geometry_of self.old) (claims_in C.Claims claims.now) S → MatchResult result (λ _. KeepsSlots (claims_in C.Claims claims.now) self.old self.new seen front disk S)
+            → AreKept (geometry_of self.old) (claims_in C.Claims claims.now) S
+            → MatchResult result (λ _. KeepsSlots (claims_in C.Claims claims.now) self.old self.new seen front disk S)
             (λ fault. (fault ≡ Fault.Device) ⊎ KeepsSlots (claims_in C.Claims claims.now) self.old self.new seen front disk S) }
         ensures refused { (front : List ℕ) (disk : ℕ → List ℕ) → Holds (pool_of self.old) front disk
             → seen ≤ last → IfErr result (λ fault. IsRefused (geometry_of self.old) disk store last fault ⊎ AsksForForce self.old seen fault) }
@@ -96,7 +97,8 @@ impl<D: Disk> Heap<D> {
         ensures scanned { (front : List ℕ) (disk : ℕ → List ℕ) (S : PageId → List Slot) → Shows (claims_in C.Claims claims.now) self.old front disk S
             → MayFetch (claims_in C.Claims claims.now) self.old S → OnOk result (IsScan S (geometry_of self.old) store list.new) }
         ensures kept { (front : List ℕ) (disk : ℕ → List ℕ) (S : PageId → List Slot) → Shows (claims_in C.Claims claims.now) self.old front disk S
-            → AreKept (geometry_of self.old) (claims_in C.Claims claims.now) S → MatchResult result (λ _. KeepsSlots (claims_in C.Claims claims.now) self.old self.new seen front disk S)
+            → AreKept (geometry_of self.old) (claims_in C.Claims claims.now) S
+            → MatchResult result (λ _. KeepsSlots (claims_in C.Claims claims.now) self.old self.new seen front disk S)
             (λ fault. (fault ≡ Fault.Device) ⊎ KeepsSlots (claims_in C.Claims claims.now) self.old self.new seen front disk S) }
         ensures refused { (front : List ℕ) (disk : ℕ → List ℕ) → Holds (pool_of self.old) front disk
             → seen ≤ last → IfErr result (λ fault. IsRefused (geometry_of self.old) disk store last fault ⊎ AsksForForce self.old seen fault) }
@@ -136,7 +138,8 @@ impl<D: Disk> Heap<D> {
         ensures scanned { (front : List ℕ) (disk : ℕ → List ℕ) (S : PageId → List Slot) → Shows (claims_in C.Claims claims.now) self.old front disk S
             → MayFetch (claims_in C.Claims claims.now) self.old S → HasBefore S id.store id.page 0 list.old → OnOk result (HasBefore S id.store (id.page + 1) 0 list.new) }
         ensures kept { (front : List ℕ) (disk : ℕ → List ℕ) (S : PageId → List Slot) → Shows (claims_in C.Claims claims.now) self.old front disk S
-            → AreKept (geometry_of self.old) (claims_in C.Claims claims.now) S → MatchResult result (λ _. KeepsSlots (claims_in C.Claims claims.now) self.old self.new seen front disk S)
+            → AreKept (geometry_of self.old) (claims_in C.Claims claims.now) S
+            → MatchResult result (λ _. KeepsSlots (claims_in C.Claims claims.now) self.old self.new seen front disk S)
             (λ fault. (fault ≡ Fault.Device) ⊎ KeepsSlots (claims_in C.Claims claims.now) self.old self.new seen front disk S) }
         ensures refused { (front : List ℕ) (disk : ℕ → List ℕ) → Holds (pool_of self.old) front disk
             → IfErr result (λ fault. (fault ≡ Fault.Device) ⊎ (fault ≡ Fault.Memory)

@@ -31,8 +31,8 @@ use shore_log::{LogDev, damaged};
 use shore_types::{Fault, Geometry};
 use std::alloc::Global;
 
-/// The heap of a volume, behind the replay of its double-write area, with no page in a frame, and a frame for each page: at least so many. With a shut
-/// area that makes no call that changes the device.
+/// The heap of a volume, behind the replay of its double-write area, with no page in a frame, and a frame for each page: at least so many. With a
+/// shut area that makes no call that changes the device.
 pub fn open_volume<D: Disk>(
     alloc: Global,
     volume: D,
