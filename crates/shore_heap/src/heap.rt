@@ -1,18 +1,14 @@
 //! The heap: records in the pages of a pool.
-ghost use Rattle.std.specs.Prelude.{[], ◌≡◌, ◌≢◌, ◌⊎◌, ◌↔◌, ◌+◌, ◌<◌, ◌≤◌, ℕ, List, IfErr, IfOk, IfSome, IsFalse, IsSomeAnd, IsTrue, None, OnErr, OnOk, Some, is_some, length, map, option_map};
-ghost use Rattle.shore_disk.specs.Cause.{HasCause};
+ghost use Rattle.std.specs.Prelude.{[], ◌≡◌, ◌≢◌, ◌↔◌, ◌+◌, ◌<◌, ◌≤◌, ℕ, List, IfErr, IfOk, IfSome, IsFalse, IsSomeAnd, IsTrue, None, Some, is_some, length, map, option_map};
 ghost use Rattle.shore_disk.specs.Device.{size};
 ghost use Rattle.shore_dwrite.specs.Settled as settled_device;
-ghost use Rattle.shore_dwrite.specs.Volumes.{HasNoPage, page_count, page_number, page_offset};
+ghost use Rattle.shore_dwrite.specs.Volumes.{page_number};
 ghost use Rattle.shore_page.specs.Room.{Fits, claim_at, lowered};
 ghost use Rattle.shore_page.specs.Slots.{Slot, image_at_slot, image_len, settled, with_change, with_image};
 ghost use Rattle.shore_page.specs.Text.{IsPageText, images_of};
 ghost use Rattle.shore_pool.specs.Pools as pools;
-ghost use Rattle.shore_pool.specs.Pools.{Holds};
 ghost use Rattle.shore_types.specs.Images.{Image};
-ghost use Rattle.shore_types.specs.Layout.{HasPage, HasStore};
-ghost use Rattle.shore_types.specs.declared.faults.Device.TheVariants as Device;
-ghost use Rattle.shore_types.specs.declared.faults.Fault.TheVariants as Fault;
+ghost use Rattle.shore_types.specs.Layout.{HasPage};
 ghost use Rattle.shore_types.specs.declared.ids.PageId.{PageId};
 ghost use Rattle.shore_types.specs.declared.layout.TheConstants.{MAX_PAGES, MAX_RECORD_BYTES, MIN_POOL_FRAMES};
 ghost use Rattle.shore_heap.specs.Contents.{FitIn, Kept, bound_of, claimed_by, unclaimed, with_slots};

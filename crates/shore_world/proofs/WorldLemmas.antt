@@ -1,5 +1,5 @@
 -- What an event leaves of a world, by what it did to the log device.
-use Rattle.std.proofs.Common.{◌≡◌, ◌≢◌, ◌⊎◌, inl, inr, ℕ, ◌+◌, ◌-◌, ◌≤◌, List, [], ◌∷◌, ◌++◌, length, take, drop, Bool, true, false, Option, Some, None, Ok, IsTrue, refl, sym, ◌∙◌, ap, subst, arith, length-append, length-drop, append-nil}
+use Rattle.std.proofs.Common.{◌≡◌, ◌≢◌, ◌⊎◌, inl, inr, ℕ, ◌+◌, ◌-◌, ◌≤◌, List, [], ◌++◌, length, take, drop, Bool, true, false, Option, Some, None, Ok, IsTrue, refl, sym, ◌∙◌, ap, subst, arith, length-append, length-drop, append-nil}
 use Rattle.std.specs.Prelude.{◌↔◌, IsSome, IsSomeAnd}
 use Rattle.std.proofs.lemmas.List.{take-append-le, length-take, length-take-le}
 use Rattle.shore_disk.specs.Device.{History, noted, synced, seen, Stands, may_leave, LeavesOnly}
@@ -8,7 +8,7 @@ use Rattle.shore_disk.proofs.Moments.{started, widened, at_end, sync_leaves}
 use Rattle.shore_model.specs.declared.log_records.LogRecord.{LogRecord}
 use Rattle.shore_calls.specs.declared.step.Step.{Step}
 use Rattle.shore_log.specs.Frames.{GivesBehind, GivesWithOrWithout, IsLongest}
-use Rattle.shore_log.specs.Settled.{records_of_log, stable, waiting, IsSettled, IsStaged}
+use Rattle.shore_log.specs.Settled.{stable, waiting, IsSettled, IsStaged}
 use Rattle.shore_log.specs.declared.device.LogDev.{LogDev}
 use Rattle.shore_log.proofs.ForceLemmas.{settled_gives}
 use Rattle.shore_log.proofs.LoggedLemmas.{take-more_group}

@@ -1,13 +1,10 @@
-use Rattle.std.proofs.Common.{◌≡◌, ◌≢◌, ◌-◌, ◌+◌, ◌≤◌, inl, inr, ℕ, List, length, take, Ok, Err, arith, IsTrue, refl, sym, ◌∙◌, ap, subst}
-use Rattle.shore_types.specs.declared.faults.Fault.TheVariants.{Damaged}
-use Rattle.shore_types.specs.declared.faults.Device.TheVariants as device
+use Rattle.std.proofs.Common.{◌≡◌, ◌-◌, ◌≤◌, inl, inr, ℕ, List, length, take, Err, arith, IsTrue, refl, sym, ◌∙◌, ap, subst}
 use Rattle.shore_types.specs.declared.layout.Geometry.{Geometry}
 use Rattle.shore_types.specs.declared.layout.TheConstants.{MAX_LOG_BYTES}
 use Rattle.shore_disk.specs.Device.{History, may_leave, seen, size}
-use Rattle.shore_disk.specs.Cause.{HasCause}
 use Rattle.shore_dwrite.specs.Checks.{RefusesArea}
 use Rattle.shore_dwrite.specs.Settled as pages
-use Rattle.shore_dwrite.specs.Shown.{IsShut, Shows}
+use Rattle.shore_dwrite.specs.Shown.{Shows}
 use Rattle.shore_dwrite.specs.Volumes.{AreEmpty, page_at}
 use Rattle.shore_heap.specs.Heaps as heaps
 use Rattle.shore_log.specs.Frames.{Gives}
@@ -15,12 +12,10 @@ use Rattle.shore_log.specs.Settled.{records_of_log, fault_of, device_of}
 use Rattle.shore_log.specs.Offsets.{IsBadAt, IsFrameOf}
 use Rattle.shore_model.specs.declared.log_records.LogRecord.{LogRecord}
 use Rattle.shore_sessions.specs.LogTells.{records_committed}
-use Rattle.shore_calls.specs.Bounds.{InBounds}
 use Rattle.shore_calls.specs.CallHistories.{IsOpened}
 use Rattle.shore_core.specs.Cores.{IsIn, waiting_of}
-use Rattle.shore_core.specs.Opened.{HasPlaces, HasTxns, IsBadRecord, ShowsEmpty, heap_left}
+use Rattle.shore_core.specs.Opened.{HasPlaces, HasTxns, IsBadRecord, ShowsEmpty}
 use Rattle.shore_format.specs.Causes.{HasCauseOfPair}
-use Rattle.shore_format.specs.Pairs.{HaveFronts, IsOutOfBounds}
 use Rattle.shore_format.specs.Volumes.{VolumeStandsFor}
 use Rattle.shore_world.proofs.OpenLemmas.{bad_within, bounds_at, each_error, in_bounds_at, is_device, log_failed, no_more, no_page_memory, no_page_record, no_page_room, no_room_comes_of_none, of_memory, of_page, of_record, of_room, pair_still_after, record_comes_of_none, still_after, volume_failed}
 use Rattle.shore_world.specs.OpenedVolumes as volumes

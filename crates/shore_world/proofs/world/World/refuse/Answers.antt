@@ -1,4 +1,4 @@
-use Rattle.std.proofs.Common.{true, false, sym, ◌∙◌}
+use Rattle.std.proofs.Common.{sym, ◌∙◌}
 use Rattle.shore_log.specs.Settled.{records_of_log}
 use Rattle.shore_world.proofs.world.World.refuse.Goals.{in-Device, in_default, then-matches, else-matches}
 use Rattle.shore_world.proofs.world.World.refuse.Goals as goal
