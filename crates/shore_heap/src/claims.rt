@@ -1,5 +1,5 @@
 //! What undecided changes may put back on pages.
-ghost use Rattle.std.specs.Prelude.{◌≡◌, ◌<◌, ℕ, None, Option};
+ghost use Rattle.std.specs.Prelude.{◌≡◌, ℕ, None, Option};
 ghost use Rattle.shore_types.specs.declared.ids.PageId.{PageId};
 
 use shore_types::PageId;
@@ -17,7 +17,6 @@ pub trait Claims {
         ensures { result ≡ places self.now };
 
     fn claim(&self, page: &PageId, place: usize) -> Option<(u16, u16)>
-        requires { place < places self.now }
         ensures { result ≡ claim self.now page.now place };
 }
 
