@@ -3,7 +3,7 @@
 ghost use Rattle.std.specs.Prelude.{◌≡◌, ◌<◌, [], ◌∷◌, length, IfOk};
 ghost use Rattle.shore_dwrite.specs.Settled as device;
 ghost use Rattle.shore_pool.specs.Pools.{geometry_of};
-ghost use Rattle.bench_parts.specs.declared.pools.TheConstants.{VOLUME_BYTES};
+ghost use Rattle.bench_works.specs.declared.pools.TheConstants.{VOLUME_BYTES};
 
 use shore_disk::MemDisk;
 use shore_dwrite::{PAGES_AT, PageDev};
