@@ -201,13 +201,15 @@ abbrev IsOrdinary : Fault → Type 0
 IsOrdinary fault.Memory = ⊥
 IsOrdinary fault.Device = ⊥
 IsOrdinary (fault.Damaged device offset) = ⊥
+IsOrdinary (fault.NeedForce n) = ⊥
 IsOrdinary _ = Unit {0}
 
 ordinary : (f : Fault) → IsOrdinary f → ComesOfState (Refused f)
 ordinary fault.Memory h = absurd h
 ordinary fault.Device h = absurd h
 ordinary (fault.Damaged device offset) h = absurd h
-ordinary f h = (not_memory f h, not_device f h, not_damaged f h)
+ordinary (fault.NeedForce n) h = absurd h
+ordinary f h = (not_memory f h, not_device f h, not_damaged f h, not_needed f h)
   where
     not_memory : (f : Fault) → IsOrdinary f → f ≢ fault.Memory
     not_memory f h e = absurd (subst IsOrdinary e h)
@@ -217,6 +219,9 @@ ordinary f h = (not_memory f h, not_device f h, not_damaged f h)
 
     not_damaged : (f : Fault) → IsOrdinary f → (device : Device) (offset : ℕ) → f ≢ fault.Damaged device offset
     not_damaged f h device offset e = absurd (subst IsOrdinary e h)
+
+    not_needed : (f : Fault) → IsOrdinary f → (n : ℕ) → f ≢ fault.NeedForce n
+    not_needed f h n e = absurd (subst IsOrdinary e h)
 
 -- ---- calls
 

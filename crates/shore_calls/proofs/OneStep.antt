@@ -107,11 +107,12 @@ one_place g s store bytes a b x y =
 
 -- ---- the tests of a call
 
-not_page_fault : (f : Fault) → ComesOfState (Refused f) → IsPageFault f → ⊥
-not_page_fault f c (inl e) = c.1 e
-not_page_fault f c (inr h) = c.2 Volume h.0 h.1
-
 module _ (g : Geometry) (s : State) (session : ℕ) where
+  not_page_fault : (f : Fault) → ComesOfState (Refused f) → IsPageFault s f → ⊥
+  not_page_fault f c (inl e) = c.1 e
+  not_page_fault f c (inr (inl h)) = c.2 Volume h.0 h.1
+  not_page_fault f c (inr (inr h)) = c.3 h.0 h.1
+
   abbrev in_txn : Test
   in_txn = test (IsInTxn s session) fault.NoTransaction
 

@@ -42,11 +42,12 @@ pub record FindsNone (s : State) (session : ℕ) (c : Call) : Type 0 where
   pub txn : IsInTxn s session
   pub absent : get s.sessions.records id ≡ None
 
-no_page_fault : IsPageFault fault.NoRecord → ⊥
-no_page_fault (inl e) = cc
-no_page_fault (inr h) = let e = h.1 in cc
-
 module _ (g : Geometry) (s : State) (session : ℕ) where
+  no_page_fault : IsPageFault s fault.NoRecord → ⊥
+  no_page_fault (inl e) = cc
+  no_page_fault (inr (inl h)) = let e = h.1 in cc
+  no_page_fault (inr (inr h)) = let e = h.1 in cc
+
   finds_none : (c : Call) → IsRefusal g s session c fault.NoRecord → FindsNone s session c
   finds_none call.Begin h = absurd h
   finds_none (call.Get id) h = record { id = id; named = refl; inner = tt; txn = h.0.0; absent = h.1 }

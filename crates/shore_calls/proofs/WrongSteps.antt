@@ -28,7 +28,7 @@ use Rattle.shore_room.specs.Claims.{SlotCounts}
 use Rattle.shore_calls.specs.CallHistories.{IsOpened}
 use Rattle.shore_calls.specs.CallSteps.{CallStep, EventMoves, Forced, MayAnswer, ResumeStep, commit_waiting}
 use Rattle.shore_room.specs.Choosing.{IsBefore}
-use Rattle.shore_calls.specs.Refusals.{CanLog, FitsAt, Refuses, Serves}
+use Rattle.shore_calls.specs.Refusals.{CanLog, FitsAt, IsPageFault, IsRefusal, Refuses, Serves}
 use Rattle.shore_calls.specs.States.{DoesNotWait, HasNoTxn, IsInTxn, IsOfSession, MayBegin, State, Waiting, next_number}
 
 pub no_record_both : (o : Option (List ℕ)) → IsSome o → o ≡ None → ⊥
@@ -314,3 +314,47 @@ module _ (g : Geometry) (s new : State) (session : ℕ) where
 
   pub refusal_that_changes : (c : Call) → new ≢ s → CallStep g s session c (Refused fault.NoRecord) new → ⊥
   refusal_that_changes c changed h = changed h.1
+
+  -- a need for a force has its cause, whatever call it refuses
+  needs_force : (n : ℕ) (c : Call) → Refuses g s session c (fault.NeedForce n) → (s.durable < n) × (n ≤ length s.log)
+  needs_force n c (inl e) = cc
+  needs_force n c (inr (inl x)) = let e = x.1 in cc
+  needs_force n c (inr (inr (inl x))) = let e = x.2 in cc
+  needs_force n c (inr (inr (inr x))) = own c x.2
+    where
+      cause : IsPageFault s (fault.NeedForce n) → (s.durable < n) × (n ≤ length s.log)
+      cause (inl e) = cc
+      cause (inr (inl h)) = let e = h.1 in cc
+      cause (inr (inr h)) = (subst (λ m. s.durable < m) (same h.0 h.1) h.2, subst (λ m. m ≤ length s.log) (same h.0 h.1) h.3)
+        where
+          same : (m : ℕ) → fault.NeedForce n ≡ fault.NeedForce m → m ≡ n
+          same m e = cc
+
+      own : (c : Call) → IsRefusal g s session c (fault.NeedForce n) → (s.durable < n) × (n ≤ length s.log)
+      own call.Begin h = absurd h
+      own (call.Get id) h = cause h.1
+      own (call.Insert store bytes) h = cause h.3
+      own (call.Update id bytes) h = cause h.1.1
+      own (call.Delete id) h = cause h.1
+      own (call.Scan store) h = cause h.2
+      own call.Commit h = let e = h.0 in cc
+      own _ h = absurd h
+
+  pub force_of_durable : (c : Call) (n : ℕ) → n ≤ s.durable → CallStep g s session c (Refused (fault.NeedForce n)) new → ⊥
+  force_of_durable c n durable h = let above = (needs_force n c h.0).0 in omega arith
+
+  pub force_beyond_log : (c : Call) (n : ℕ) → length s.log < n → CallStep g s session c (Refused (fault.NeedForce n)) new → ⊥
+  force_beyond_log c n beyond h = let within = (needs_force n c h.0).1 in omega arith
+
+  pub force_that_changes : (c : Call) (n : ℕ) → new ≢ s → CallStep g s session c (Refused (fault.NeedForce n)) new → ⊥
+  force_that_changes c n changed h = changed h.1
+
+  -- a commit comes to no page
+  pub commit_forces_none : (n : ℕ) → CallStep g s session call.Commit (Refused (fault.NeedForce n)) new → ⊥
+  commit_forces_none n h = own h.0
+    where
+      own : Refuses g s session call.Commit (fault.NeedForce n) → ⊥
+      own (inl e) = cc
+      own (inr (inl x)) = let e = x.1 in cc
+      own (inr (inr (inl x))) = let e = x.2 in cc
+      own (inr (inr (inr x))) = let e = x.2.0 in cc

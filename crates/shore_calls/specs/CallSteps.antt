@@ -120,11 +120,12 @@ CallStep g s session c (Waits wait) new =
 CallStep g s session c (Refused fault) new = Refuses g s session c fault × (new ≡ after_refusal fault s)
 CallStep g s session c Nothing new = ⊥
 
--- an answer, a wait, or a refusal that comes of the state alone: it takes no allocation that failed, and no page that could not be read
+-- an answer, a wait, or a refusal that comes of the state alone: it takes no allocation that failed, and no page that was not read
 abbrev pub ComesOfState : Step → Type 0
 ComesOfState (Done answer) = Unit {0}
 ComesOfState (Waits wait) = Unit {0}
-ComesOfState (Refused f) = (f ≢ fault.Memory) × (f ≢ fault.Device) × ((device : Device) (offset : ℕ) → f ≢ fault.Damaged device offset)
+ComesOfState (Refused f) =
+    (f ≢ fault.Memory) × (f ≢ fault.Device) × ((device : Device) (offset : ℕ) → f ≢ fault.Damaged device offset) × ((n : ℕ) → f ≢ fault.NeedForce n)
 ComesOfState Nothing = Unit {0}
 
 -- Going on with the call of a session that waits: it is answered once its record is durable, or refused once a device has failed.

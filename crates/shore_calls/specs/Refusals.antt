@@ -52,9 +52,12 @@ ReachesPage g s session id = IsInTxn s session × HasPage g id.page
 abbrev pub FindsRecord : Geometry → State → ℕ → Rid → Type 0
 FindsRecord g s session id = ReachesPage g s session id × IsSome (get s.sessions.records id)
 
--- a page could not be read: its device failed, or it is damaged
-abbrev pub IsPageFault : Fault → Type 0
-IsPageFault f = (f ≡ fault.Device) ⊎ ((offset : ℕ) × (f ≡ fault.Damaged Volume offset))
+-- a page was not read: its device failed, it is damaged, or no frame is free for it until the log is forced up to a record that is there and
+-- is not durable
+abbrev pub IsPageFault : State → Fault → Type 0
+IsPageFault s f =
+    (f ≡ fault.Device) ⊎ ((offset : ℕ) × (f ≡ fault.Damaged Volume offset))
+    ⊎ ((n : ℕ) × (f ≡ fault.NeedForce n) × (s.durable < n) × (n ≤ length s.log))
 
 -- ---- refusals
 
@@ -69,7 +72,7 @@ RecordRefusal g s session id fault.NoTransaction = HasNoTxn s session
 RecordRefusal g s session id fault.NoStore = IsInTxn s session × ¬ HasStore g id.page.store
 RecordRefusal g s session id fault.NoPage = IsInTxn s session × HasStore g id.page.store × ¬ HasPage g id.page
 RecordRefusal g s session id fault.NoRecord = ReachesPage g s session id × (get s.sessions.records id ≡ None)
-RecordRefusal g s session id f = ReachesPage g s session id × IsPageFault f
+RecordRefusal g s session id f = ReachesPage g s session id × IsPageFault s f
 
 abbrev pub InsertRefusal : Geometry → State → ℕ → ℕ → List ℕ → Fault → Type 0
 InsertRefusal g s session store bytes fault.NoTransaction = HasNoTxn s session
@@ -78,7 +81,7 @@ InsertRefusal g s session store bytes fault.NoStore = IsInTxn s session × IsSho
 InsertRefusal g s session store bytes fault.StoreFull = IsInTxn s session × IsShort bytes × HasStore g store × NoneServes g s store bytes
 InsertRefusal g s session store bytes fault.LogFull =
     IsInTxn s session × IsShort bytes × HasStore g store × ((id : Rid) × IsPlaceFor g s store bytes id × ¬ CanLog s id (Some bytes))
-InsertRefusal g s session store bytes f = IsInTxn s session × IsShort bytes × HasStore g store × IsPageFault f
+InsertRefusal g s session store bytes f = IsInTxn s session × IsShort bytes × HasStore g store × IsPageFault s f
 
 abbrev pub UpdateRefusal : Geometry → State → ℕ → Rid → List ℕ → Fault → Type 0
 UpdateRefusal g s session id bytes fault.TooLong = IsInTxn s session × (MAX_RECORD_BYTES < length bytes)
@@ -94,7 +97,7 @@ DeleteRefusal g s session id f = RecordRefusal g s session id f
 abbrev pub ScanRefusal : Geometry → State → ℕ → ℕ → Fault → Type 0
 ScanRefusal g s session store fault.NoTransaction = HasNoTxn s session
 ScanRefusal g s session store fault.NoStore = IsInTxn s session × ¬ HasStore g store
-ScanRefusal g s session store f = IsInTxn s session × HasStore g store × IsPageFault f
+ScanRefusal g s session store f = IsInTxn s session × HasStore g store × IsPageFault s f
 
 -- the call's own refusals
 abbrev pub IsRefusal : Geometry → State → ℕ → Call → Fault → Type 0

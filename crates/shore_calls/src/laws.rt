@@ -6,7 +6,7 @@ ghost use Rattle.shore_types.specs.Layout.{HasPage, HasStore};
 ghost use Rattle.shore_types.specs.declared.faults.Device.{Device};
 ghost use Rattle.shore_types.specs.declared.faults.Fault.{Fault};
 ghost use Rattle.shore_types.specs.declared.faults.Fault.TheVariants as fault;
-ghost use Rattle.shore_types.specs.declared.faults.Fault.TheVariants.{LogFull, Memory, NoPage, NoRecord, StoreFull, TooLong};
+ghost use Rattle.shore_types.specs.declared.faults.Fault.TheVariants.{LogFull, Memory, NeedForce, NoPage, NoRecord, StoreFull, TooLong};
 ghost use Rattle.shore_types.specs.declared.ids.PageId.{PageId};
 ghost use Rattle.shore_types.specs.declared.ids.Rid.{Rid};
 ghost use Rattle.shore_types.specs.declared.layout.Geometry.{Geometry};
@@ -175,7 +175,8 @@ pub fn one_session_has_short_lists()
     ensures told { (w : Waiting) → without_waiting w.session (w ∷ []) ≡ [] }
 {}
 
-/// A commit waits for its record, and waits no more once it is answered or refused. A fault of a page fails the state, and then all is refused.
+/// A commit waits for its record, and waits no more once it is answered or refused. A device that fails, and a page that is damaged, fail the state,
+/// and then all is refused.
 pub fn waits_end_and_faults_fail()
     ensures begin { (g : Geometry) (s new : State) (session : ℕ) (c : Call) (wait : Wait) →
         CallStep g s session c (Waits wait) new → IsAmong (commit_waiting session (next_number s)) new.waiting }
@@ -290,4 +291,11 @@ pub fn wrong_refusals_do_not_come()
     ensures commit_in_txn { (g : Geometry) (s new : State) (session : ℕ) (f : Fault) →
         IsInTxn s session → f ≢ Memory → s.failed ≡ false → DoesNotWait s session → CallStep g s session Commit (Refused f) new → ⊥ }
     ensures that_changes { (g : Geometry) (s new : State) (session : ℕ) (c : Call) → new ≢ s → CallStep g s session c (Refused NoRecord) new → ⊥ }
+    ensures force_of_durable { (g : Geometry) (s new : State) (session n : ℕ) (c : Call) →
+        n ≤ s.durable → CallStep g s session c (Refused (NeedForce n)) new → ⊥ }
+    ensures force_beyond { (g : Geometry) (s new : State) (session n : ℕ) (c : Call) →
+        length s.log < n → CallStep g s session c (Refused (NeedForce n)) new → ⊥ }
+    ensures force_that_changes { (g : Geometry) (s new : State) (session n : ℕ) (c : Call) →
+        new ≢ s → CallStep g s session c (Refused (NeedForce n)) new → ⊥ }
+    ensures commit_that_forces { (g : Geometry) (s new : State) (session n : ℕ) → CallStep g s session Commit (Refused (NeedForce n)) new → ⊥ }
 {}

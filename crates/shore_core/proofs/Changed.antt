@@ -1,5 +1,5 @@
 -- The pages and the room of the log, when a transaction changes a record.
-use Rattle.std.proofs.Common.{◌≡◌, ◌⊎◌, ◌≢◌, ◌+◌, ◌≤◌, ◌∷◌, [], inl, inr, ℕ, List, None, Some, Result, Ok, Err, IsErrAnd, max, refl, sym, ap, subst, ◌∙◌, arith}
+use Rattle.std.proofs.Common.{◌≡◌, ◌⊎◌, ◌≢◌, ◌+◌, ◌≤◌, ◌∷◌, [], inl, inr, ℕ, List, Option, None, Some, IsSomeAnd, IsTrue, false, true, is_some, Result, Ok, Err, IsErrAnd, max, refl, sym, ap, subst, ◌∙◌}
 use Rattle.std.specs.FinMap.{get}
 use Rattle.shore_disk.specs.declared.device.Disk as disk
 use Rattle.shore_log.specs.declared.tail.Tail as tail
@@ -16,14 +16,14 @@ use Rattle.shore_logrec.specs.Text.{ImageFits, cost_of}
 use Rattle.shore_page.specs.Room.{Fits}
 use Rattle.shore_page.specs.Slots.{image_len, with_image}
 use Rattle.shore_heap.specs.declared.heap.Heap.{Heap}
-use Rattle.shore_heap.specs.Contents.{unclaimed, with_slots}
+use Rattle.shore_heap.specs.Contents.{Kept, with_slots}
 use Rattle.shore_heap.specs.Heaps as heaps
-use Rattle.shore_heap.specs.Heaps.{Shows, geometry_of}
+use Rattle.shore_heap.specs.Heaps.{Shows, frame_of, geometry_of}
 use Rattle.shore_types.specs.declared.layout.TheConstants.{MAX_RECORD_BYTES}
 use Rattle.shore_dwrite.specs.Settled as settled_device
-use Rattle.shore_dwrite.specs.Volumes.{page_count}
+use Rattle.shore_dwrite.specs.Volumes.{page_number}
 use Rattle.shore_heap.proofs.Bounds.{cases_page, slots_here, slots_other}
-use Rattle.shore_heap.proofs.Showing.{shows_same}
+use Rattle.shore_heap.proofs.Showing.{shows_same, shows_told}
 use Rattle.shore_sessions.specs.Sessions.{SessionTxn}
 use Rattle.shore_sessions.specs.Views.{IsAmong}
 use Rattle.shore_room.specs.Claims.{Claimed, Grows, NoOthers, SlotCounts}
@@ -33,7 +33,12 @@ use Rattle.shore_room.proofs.Rooms.{change_others, change_slots}
 use Rattle.shore_room.proofs.Settled.{one_alone}
 use Rattle.shore_calls.specs.States.{State, page_slots}
 use Rattle.shore_core.specs.declared.core_calls.Core.{Core}
-use Rattle.shore_core.specs.Cores.{IsIn, history_of}
+use Rattle.shore_recovery.specs.Recovery.{RecoveryState}
+use Rattle.shore_txn.specs.declared.table.TxnTable.{TxnTable}
+use Rattle.shore_txn.specs.Tables.{kept_in}
+use Rattle.shore_pool.specs.declared.frame.Frame.{Frame}
+use Rattle.shore_page.specs.Slots.{Slot}
+use Rattle.shore_core.specs.Cores.{ComesTo}
 use Rattle.shore_core.specs.Parts.{changed}
 use Rattle.shore_core.specs.Replies.{Changes}
 
@@ -53,11 +58,11 @@ grows counts id = record { here = here (cases_page id.page id.page); others = λ
     others p apart (inr other) = refl
 
 module _ {V : Type 0} {H : disk.Ghosts V} where
-  pub pages_changed : (new : Heap V H) (front : List ℕ) (disk : ℕ → List ℕ) (s : State) (a : SessionTxn) (id : Rid) (image : Image) (counts : SlotCounts)
+  pub pages_changed : (new : Heap V H) (K : Kept) (front : List ℕ) (disk : ℕ → List ℕ) (s : State) (a : SessionTxn) (id : Rid) (image : Image) (counts : SlotCounts)
       → Claimed s.sessions.records s.sessions.active s.counts → s.sessions.active ≡ a ∷ [] → Fits (page_slots s id.page) id.slot (image_len image) → Grows s.counts counts id
-      → Shows unclaimed new front disk (with_slots (page_slots s) id.page (λ slots. with_image slots id.slot image)) → Shows unclaimed new front disk (page_slots (changed s a id image counts))
-  pages_changed new front disk s a id image counts k one fits grows shows =
-      shows_same new unclaimed front disk (with_slots (page_slots s) id.page (λ slots. with_image slots id.slot image)) (page_slots (changed s a id image counts)) each shows
+      → Shows K new front disk (with_slots (page_slots s) id.page (λ slots. with_image slots id.slot image)) → Shows K new front disk (page_slots (changed s a id image counts))
+  pages_changed new K front disk s a id image counts k one fits grows shows =
+      shows_same new K front disk (with_slots (page_slots s) id.page (λ slots. with_image slots id.slot image)) (page_slots (changed s a id image counts)) each shows
     where
       among : IsAmong a s.sessions.active
       among = subst (IsAmong a) (sym one) (inl refl)
@@ -77,6 +82,22 @@ module _ {V : Type 0} {H : disk.Ghosts V} where
             ∙ sym (slots_other (page_slots s) id.page (λ slots. with_image slots id.slot image) p other)
       ]
 
+  -- the claim of the change is told, on a page that is in its frame
+  pub claim_told : (new : Heap V H) (table later : TxnTable) (id : PageId) (front : List ℕ) (disk : ℕ → List ℕ) (S : PageId → List Slot) → IsTrue (is_some (frame_of new id))
+      → ((p : PageId) → p ≢ id → kept_in later p ≡ kept_in table p) → Shows (kept_in table) new front disk S → Shows (kept_in later) new front disk S
+  claim_told new table later id front disk S held elsewhere shows =
+      shows_told new (kept_in table) (kept_in later) front disk S (λ p has none. elsewhere p (λ same. none_held (frame_of new id) held (ap (frame_of new) (sym same) ∙ none))) shows
+    where
+      none_held : (o : Option Frame) → IsTrue (is_some o) → o ≡ None → ⊥
+      none_held (Some f) there e = absurd (some_none f e)
+        where
+          some_none : (f : Frame) → Some f ≡ None → ⊥
+          some_none f e = cc
+      none_held None there e = absurd (false_true there)
+        where
+          false_true : false ≡ true → ⊥
+          false_true e = cc
+
 -- what the record and its undo cost
 pub costs_are : (R : Records) (id : Rid) (was image : Image) (logged undo : ℕ) → logged ≡ cost_of (Change id was image) → undo ≡ cost_of (Compensation id was 0) → get R id ≡ was
     → logged + undo ≡ change_cost (get R id) image + compensation_cost (get R id)
@@ -84,13 +105,12 @@ costs_are R id was image logged undo a b found =
     ap (λ n. n + undo) (a ∙ sym (change_bytes id was image)) ∙ ap (λ n. change_cost was image + n) (b ∙ sym (compensation_bytes id was 0))
     ∙ ap (λ (w : Image). change_cost w image + compensation_cost w) (sym found)
 
-module _ {T V : Type 0} {G : tail.Ghosts T} {H : disk.Ghosts V} (old new : Core T V G H) (front : List ℕ) (disk : ℕ → List ℕ) (before : List LogRecord) (s : State) (session : ℕ)
+module _ {T V : Type 0} {G : tail.Ghosts T} {H : disk.Ghosts V} (new : Core T V G H) (front : List ℕ) (before : List LogRecord) (s : State) (store : RecoveryState) (session : ℕ)
     (id : Rid) (image : Image) where
   -- an allocation failed, and the state is as it was
-  pub changes_none : (r : Result (Unit {0}) Fault) → IsErrAnd r (λ e. e ≡ fault.Memory) → IsIn front disk before new s → history_of new ≡ history_of old
-      → Changes old new session id image r front disk before s
-  changes_none (Err e) memory is history = (inl memory, is, history)
-  changes_none (Ok u) memory is history = absurd memory
+  pub changes_none : (r : Result (Unit {0}) Fault) → IsErrAnd r (λ e. e ≡ fault.Memory) → ComesTo new front before store s → Changes new session id image r front before s store
+  changes_none (Err e) memory comes = (inl memory, comes)
+  changes_none (Ok u) memory comes = absurd memory
 
 pub image_short : (image : Image) → image_len image ≤ MAX_RECORD_BYTES → ImageFits image
 image_short None short = tt
@@ -99,8 +119,16 @@ image_short (Some bytes) short = short
 pub same_history : {V : Type 0} {H : disk.Ghosts V} (new old : Heap V H) → heaps.device_of new ≡ heaps.device_of old → heaps.history_of new ≡ heaps.history_of old
 same_history {H = H} new old same = ap (λ d. H.history (settled_device.device_of d)) same
 
--- .. with a frame for each page as before
-pub still_whole : {V : Type 0} {H : disk.Ghosts V} (new old : Heap V H) → heaps.device_of new ≡ heaps.device_of old → heaps.limit_of new ≡ heaps.limit_of old → heaps.IsWhole old → heaps.IsWhole new
-still_whole new old device limit whole =
-    let pages : page_count (geometry_of new) ≡ page_count (geometry_of old) = ap (λ d. page_count (settled_device.geometry_of d)) device in
-    omega (arith, whole, pages, limit)
+pub same_geometry : {V : Type 0} {H : disk.Ghosts V} (new old : Heap V H) → heaps.device_of new ≡ heaps.device_of old → geometry_of new ≡ geometry_of old
+same_geometry new old same = ap (λ d. settled_device.geometry_of d) same
+
+pub some_is : {A : Type 0} (P : A → Type 0) (o : Option A) → IsSomeAnd o P → IsTrue (is_some o)
+some_is P (Some x) holds = refl
+some_is P None holds = absurd holds
+
+-- a page that was in a frame is
+pub held_still : {V : Type 0} {H : disk.Ghosts V} (P : Frame → Type 0) (new old : Heap V H) (id : PageId) → heaps.device_of new ≡ heaps.device_of old
+    → ((k : ℕ) → is_some (heaps.frame_at new k) ≡ is_some (heaps.frame_at old k)) → IsSomeAnd (frame_of old id) P → IsTrue (is_some (frame_of new id))
+held_still P new old id device held there =
+    let here : is_some (frame_of new id) ≡ is_some (frame_of old id) = ap (λ g. is_some (heaps.frame_at new (page_number g id))) (same_geometry new old device) ∙ held (page_number (geometry_of old) id) in
+    subst IsTrue (sym here) (some_is P (frame_of old id) there)

@@ -16,21 +16,30 @@ module _ (g : Geometry) (disk : ℕ → List ℕ) (last : ℕ) (IsRead : PageId 
   pub says_nothing : (f : Fault) → ((d : Device) (offset : ℕ) → f ≡ fault.Damaged d offset → ⊥) → IsEarned g disk last IsRead f
   says_nothing f none d offset is = absurd (none d offset is)
 
-  pub page_earned : (id : PageId) (n : ℕ) (f : Fault) → n ≡ last → IsRead id → HasPage g id
+  pub page_earned : (X : ℕ → Type 0) (id : PageId) (n : ℕ) (f : Fault) → n ≡ last → IsRead id → HasPage g id
       → (f ≡ fault.Device) ⊎ (f ≡ fault.Memory) ⊎ ((f ≡ fault.Damaged Volume (page_offset (page_number g id))) × HasNoPage (disk (page_number g id)) id n)
-      → IsEarned g disk last IsRead f
-  page_earned id n f same read there (inl device) d offset is = absurd cc
-  page_earned id n f same read there (inr (inl memory)) d offset is = absurd cc
-  page_earned id n f same read there (inr (inr damaged)) d offset is =
+      ⊎ ((number : ℕ) × (f ≡ fault.NeedForce number) × X number) → IsEarned g disk last IsRead f
+  page_earned X id n f same read there (inl device) d offset is = absurd cc
+  page_earned X id n f same read there (inr (inl memory)) d offset is = absurd cc
+  page_earned X id n f same read there (inr (inr (inl damaged))) d offset is =
       let at : fault.Damaged d offset ≡ fault.Damaged Volume (page_offset (page_number g id)) = sym is ∙ damaged.0 in
       (cc, (id, read, there, cc, subst (HasNoPage (disk (page_number g id)) id) same damaged.1))
+  page_earned X id n f same read there (inr (inr (inr force))) d offset is = absurd (apart (sym is ∙ force.1))
+    where
+      apart : fault.Damaged d offset ≡ fault.NeedForce force.0 → ⊥
+      apart e = cc
 
-  pub store_earned : (store n : ℕ) (f : Fault) → n ≡ last → ((id : PageId) → id.store ≡ store → IsRead id) → IsRefused g disk store n f → IsEarned g disk last IsRead f
-  store_earned store n f same read (inl device) d offset is = absurd cc
-  store_earned store n f same read (inr (inl memory)) d offset is = absurd cc
-  store_earned store n f same read (inr (inr (id, there, of_store, damaged, no_page))) d offset is =
+  pub store_earned : (X : ℕ → Type 0) (store n : ℕ) (f : Fault) → n ≡ last → ((id : PageId) → id.store ≡ store → IsRead id)
+      → IsRefused g disk store n f ⊎ ((number : ℕ) × (f ≡ fault.NeedForce number) × X number) → IsEarned g disk last IsRead f
+  store_earned X store n f same read (inl (inl device)) d offset is = absurd cc
+  store_earned X store n f same read (inl (inr (inl memory))) d offset is = absurd cc
+  store_earned X store n f same read (inl (inr (inr (id, there, of_store, damaged, no_page)))) d offset is =
       let at : fault.Damaged d offset ≡ fault.Damaged Volume (page_offset (page_number g id)) = sym is ∙ damaged in
       (cc, (id, read id of_store, there, cc, subst (HasNoPage (disk (page_number g id)) id) same no_page))
+  store_earned X store n f same read (inr force) d offset is = absurd (apart (sym is ∙ force.1))
+    where
+      apart : fault.Damaged d offset ≡ fault.NeedForce force.0 → ⊥
+      apart e = cc
 
   -- a fault that is handed on
   pub earned_as : {A : Type 0} (r : Result A Fault) (f : Fault) → IsErrAnd r (λ e. e ≡ f) → IsEarned g disk last IsRead f → IfErr r (IsEarned g disk last IsRead)

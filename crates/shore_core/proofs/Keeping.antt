@@ -1,18 +1,33 @@
--- That calls one after another only read the volume.
-use Rattle.std.proofs.Common.{ap, ◌∙◌}
+-- What calls one after another keep of the volume.
+use Rattle.std.proofs.Common.{◌≡◌, ap, ◌∙◌, sym, subst}
 use Rattle.shore_disk.specs.declared.device.Disk as disk
+use Rattle.shore_disk.specs.Device.{History, LeavesOnly}
 use Rattle.shore_log.specs.declared.tail.Tail as tail
-use Rattle.shore_heap.proofs.Showing.{keeps_then}
 use Rattle.shore_core.specs.declared.core_calls.Core.{Core}
-use Rattle.shore_core.specs.Cores.{heap_of}
-use Rattle.shore_core.specs.Replies.{Keeps, OnlyReads}
+use Rattle.shore_heap.proofs.Going.{goes_nowhere}
+use Rattle.shore_heap.specs.Contents.{unclaimed}
+use Rattle.shore_heap.specs.Heaps.{LeavesPages}
+use Rattle.shore_core.specs.Cores.{durable_of, heap_of, history_of}
+use Rattle.shore_core.specs.Replies.{Keeps, MayLeave, OnlyReads}
 
--- a call that only reads, and then one that keeps what no call changes
-pub reads_then_keeps : {T V : Type 0} {G : tail.Ghosts T} {H : disk.Ghosts V} (old mid new : Core T V G H) → OnlyReads old mid → Keeps mid new → Keeps old new
-reads_then_keeps {G = G} old mid new one two = record {
-  geometry = two.geometry ∙ one.geometry;
-  durable = two.durable ∙ one.durable;
-  failed = two.failed ∙ one.failed;
-  first = two.first ∙ ap G.first one.tail;
-  volume = keeps_then (heap_of old) (heap_of mid) (heap_of new) one.volume two.volume;
-}
+module _ {T V : Type 0} {G : tail.Ghosts T} {H : disk.Ghosts V} where
+  -- a call that only reads, and then one that keeps what no call changes
+  pub reads_then_keeps : (old mid new : Core T V G H) → OnlyReads old mid → Keeps mid new → Keeps old new
+  reads_then_keeps old mid new one two = record {
+    volume = record { geometry = two.volume.geometry ∙ one.volume.geometry; honest = two.volume.honest ∙ one.volume.honest; size = two.volume.size ∙ one.volume.size };
+    durable = two.durable ∙ one.durable;
+    failed = two.failed ∙ one.failed;
+    first = two.first ∙ ap G.first one.tail;
+  }
+
+  -- the device was called no more
+  pub leaves_then : (old mid new : Core T V G H) → MayLeave old mid → history_of new ≡ history_of mid → MayLeave old new
+  leaves_then old mid new leaves same front disk holds =
+      subst (λ (h : History). LeavesOnly (history_of old) h (LeavesPages (heap_of old) (durable_of old) front disk)) (sym same) (leaves front disk holds)
+
+  -- the device was not called
+  pub nothing_leaves : (core : Core T V G H) → MayLeave core core
+  nothing_leaves core front disk holds = (goes_nowhere unclaimed (durable_of core) (heap_of core)).any_moment front disk holds
+
+  pub leaves_nothing : (old new : Core T V G H) → history_of new ≡ history_of old → MayLeave old new
+  leaves_nothing old new same = leaves_then old old new (nothing_leaves old) same

@@ -4,12 +4,11 @@ pub mod Taking
 pub mod Changed
 pub mod Refusing
 pub mod Releasing
-pub mod Inserting
+pub mod Placing
 pub mod Serving
 pub mod Earning
+pub mod Forcing
+pub mod Coming
 pub mod Keeping
 pub mod Pairs
-pub mod CommittedRecords
-pub mod Laying
-pub mod OpenedStates
-pub mod OpenErrors
+pub mod Flushed

@@ -12,20 +12,23 @@ use Rattle.shore_page.specs.Slots.{Slot, image_at_slot}
 use Rattle.shore_calls.specs.Refusals.{DeleteRefusal, IsPageFault, IsShort, RecordRefusal, UpdateRefusal}
 use Rattle.shore_calls.specs.States.{State}
 
-not_log_full : IsPageFault fault.LogFull → ⊥
-not_log_full (inl e) = clash e
+not_log_full : (s : State) → IsPageFault s fault.LogFull → ⊥
+not_log_full s (inl e) = clash e
   where
     clash : fault.LogFull ≡ fault.Device → ⊥
     clash e = cc
-not_log_full (inr (offset, e)) = cc
+not_log_full s (inr (inl (offset, e))) = cc
+not_log_full s (inr (inr (n, e, above, within))) = cc
 
-not_too_long : IsPageFault fault.TooLong → ⊥
-not_too_long (inl e) = cc
-not_too_long (inr (offset, e)) = cc
+not_too_long : (s : State) → IsPageFault s fault.TooLong → ⊥
+not_too_long s (inl e) = cc
+not_too_long s (inr (inl (offset, e))) = cc
+not_too_long s (inr (inr (n, e, above, within))) = cc
 
-not_store_full : IsPageFault fault.StoreFull → ⊥
-not_store_full (inl e) = cc
-not_store_full (inr (offset, e)) = cc
+not_store_full : (s : State) → IsPageFault s fault.StoreFull → ⊥
+not_store_full s (inl e) = cc
+not_store_full s (inr (inl (offset, e))) = cc
+not_store_full s (inr (inr (n, e, above, within))) = cc
 
 pub map_some : {A : Type 0} (P Q : A → Type 0) (o : Option A) → ((x : A) → P x → Q x) → IsSomeAnd o P → IsSomeAnd o Q
 map_some P Q (Some x) each holds = each x holds
@@ -50,7 +53,7 @@ delete_refusal g s session id fault.NoPage h = h
 delete_refusal g s session id fault.NoRecord h = h
 delete_refusal g s session id fault.TooLong h = h
 delete_refusal g s session id fault.StoreFull h = h
-delete_refusal g s session id fault.LogFull h = absurd (not_log_full h.1)
+delete_refusal g s session id fault.LogFull h = absurd (not_log_full s h.1)
 delete_refusal g s session id fault.LockTableFull h = h
 delete_refusal g s session id fault.BadMode h = h
 delete_refusal g s session id (fault.Deadlock cycle) h = h
@@ -81,9 +84,9 @@ update_refusal g s session id bytes fault.TooManyTransactions short h = (short, 
 update_refusal g s session id bytes fault.NoStore short h = (short, h)
 update_refusal g s session id bytes fault.NoPage short h = (short, h)
 update_refusal g s session id bytes fault.NoRecord short h = (short, h)
-update_refusal g s session id bytes fault.TooLong short h = absurd (not_too_long h.1)
-update_refusal g s session id bytes fault.StoreFull short h = absurd (not_store_full h.1)
-update_refusal g s session id bytes fault.LogFull short h = absurd (not_log_full h.1)
+update_refusal g s session id bytes fault.TooLong short h = absurd (not_too_long s h.1)
+update_refusal g s session id bytes fault.StoreFull short h = absurd (not_store_full s h.1)
+update_refusal g s session id bytes fault.LogFull short h = absurd (not_log_full s h.1)
 update_refusal g s session id bytes fault.LockTableFull short h = (short, h)
 update_refusal g s session id bytes fault.BadMode short h = (short, h)
 update_refusal g s session id bytes (fault.Deadlock cycle) short h = (short, h)

@@ -1,5 +1,5 @@
 -- What holds of a core that is in a state, and what a call that reads leaves of it.
-use Rattle.std.proofs.Common.{◌≡◌, ◌⊎◌, ◌≤◌, ◌∙◌, inl, inr, ℕ, List, [], Bool, Option, None, Some, IsSomeAnd, Result, Ok, Err, IfErr, IsErrAnd, true, false, nat_lt, refl, sym, ap, subst, arith}
+use Rattle.std.proofs.Common.{◌≡◌, ◌⊎◌, ◌≤◌, ◌∙◌, inl, inr, ℕ, List, Bool, Option, None, Some, IsSomeAnd, Result, Ok, Err, IfErr, IsErrAnd, true, false, nat_lt, refl, sym, ap, subst, arith}
 use Rattle.std.specs.FinMap.{get}
 use Rattle.std.specs.List.{slice_get}
 use Rattle.std.specs.Option.{option_and_then}
@@ -11,7 +11,7 @@ use Rattle.shore_model.specs.Records.{Records}
 use Rattle.shore_page.specs.Slots.{Slot, image_at_slot}
 use Rattle.shore_page.specs.Undo.{claiming}
 use Rattle.shore_pool.specs.declared.frame.Frame.{Frame}
-use Rattle.shore_heap.specs.Contents.{HasSlots, unclaimed}
+use Rattle.shore_heap.specs.Contents.{HasSlots}
 use Rattle.shore_sessions.specs.Sessions.{SessionTxn}
 use Rattle.shore_room.specs.Claims.{Claimed, SlotCounts, rid_on, slots_of, undecided_at}
 use Rattle.shore_room.proofs.Leaving.{map_each}
@@ -23,21 +23,25 @@ use Rattle.shore_types.specs.declared.faults.Device.{Device}
 use Rattle.shore_types.specs.declared.layout.Geometry.{Geometry}
 use Rattle.shore_model.specs.declared.log_records.LogRecord.{LogRecord}
 use Rattle.shore_calls.specs.Refusals.{IsPageFault, IsRefusal, ReachesPage, RecordRefusal, Refuses}
-use Rattle.shore_calls.specs.States.{DoesNotWait, State, page_slots}
+use Rattle.shore_calls.specs.States.{DoesNotWait, State}
 use Rattle.shore_calls.specs.CallSteps.{CallStep, after_refusal, with_durable, with_failure}
 use Rattle.shore_disk.specs.Cause.{HasCause}
 use Rattle.shore_disk.specs.declared.device.Disk as disk
 use Rattle.shore_log.specs.declared.tail.Tail as tail
-use Rattle.shore_heap.specs.Heaps.{Shows}
 use Rattle.shore_heap.proofs.Finding.{ok_same}
 use Rattle.shore_core.specs.declared.core_calls.Core.{Core}
-use Rattle.shore_core.specs.Cores.{IsIn, durable_of, geometry_of, has_failed, heap_of, tail_of, txns_of, waiting_of}
+use Rattle.shore_core.specs.Cores.{ComesTo, IsBeside, IsIn, IsKept, IsOver, durable_of, geometry_of, has_failed, tail_of, txns_of, waiting_of}
+use Rattle.shore_recovery.specs.Recovery.{RecoveryState}
 use Rattle.shore_calls.specs.declared.step.Step.{Step}
 use Rattle.shore_calls.specs.declared.step.Step.TheVariants.{Done, Waits, Refused, Nothing}
 use Rattle.shore_model.specs.declared.calls.Call.{Call}
-use Rattle.shore_core.specs.Replies.{Replied, Replies, Stays}
+use Rattle.shore_core.specs.Replies.{Replied, Replies}
+use Rattle.shore_core.proofs.Coming.{StaysRefused, comes_failed, stays_beside}
 use Rattle.shore_core.specs.Parts.{HasParts}
 use Rattle.shore_txn.specs.declared.table.TxnTable.{TxnTable}
+
+pub true_false : true ≡ false → ⊥
+true_false clash = cc
 
 pub map_err : {A : Type 0} (P Q : Fault → Type 0) (r : Result A Fault) → ((f : Fault) → P f → Q f) → IfErr r P → IfErr r Q
 map_err P Q (Ok x) each holds = tt
@@ -90,11 +94,12 @@ parts_told table waiting durable n failed before s was = let old = was.txns in r
 
 -- ---- records that are reached
 
-pub reaches_fault : (g : Geometry) (s : State) (session : ℕ) (id : Rid) (f : Fault) → ReachesPage g s session id → (f ≡ fault.Memory) ⊎ IsPageFault f
+pub reaches_fault : (g : Geometry) (s : State) (session : ℕ) (id : Rid) (f : Fault) → ReachesPage g s session id → (f ≡ fault.Memory) ⊎ IsPageFault s f
     → (f ≡ fault.Memory) ⊎ RecordRefusal g s session id f
 reaches_fault g s session id f reaches (inl memory) = inl memory
 reaches_fault g s session id f reaches (inr (inl device)) = inr (subst (RecordRefusal g s session id) (sym device) (reaches, inl refl))
-reaches_fault g s session id f reaches (inr (inr damaged)) = inr (subst (RecordRefusal g s session id) (sym damaged.1) (reaches, inr (damaged.0, refl)))
+reaches_fault g s session id f reaches (inr (inr (inl damaged))) = inr (subst (RecordRefusal g s session id) (sym damaged.1) (reaches, inr (inl (damaged.0, refl))))
+reaches_fault g s session id f reaches (inr (inr (inr force))) = inr (subst (RecordRefusal g s session id) (sym force.1) (reaches, inr (inr (force.0, refl, force.2, force.3))))
 
 -- a slot of a page has the image of its record
 pub image_shown : (R : Records) (undos : List SessionTxn) (counts : SlotCounts) → Claimed R undos counts → (id : Rid)
@@ -110,29 +115,49 @@ image_shown R undos counts k id = elim (nat_lt id.slot (counts id.page)) as (λ 
       ∙ sym (k.behind id behind)
 ] refl
 
-pub framed_is : (P : List Slot → Type 0) (o : Option Frame) (text : List ℕ) (id : PageId) (slots : List Slot) → HasSlots o text id [] slots → IsSomeAnd o (λ f. P f.page.slots) → P slots
-framed_is P (Some f) text id slots has holds = subst P has holds
-framed_is P None text id slots has holds = absurd holds
+pub framed_is : (P : List Slot → Type 0) (o : Option Frame) (text : List ℕ) (id : PageId) (kept : List (ℕ × ℕ)) (slots : List Slot) → HasSlots o text id kept slots → IsSomeAnd o (λ f. P f.page.slots) → P slots
+framed_is P (Some f) text id kept slots has holds = subst P has holds
+framed_is P None text id kept slots has holds = absurd holds
 
 -- ---- refusals
 
-pub true_false : true ≡ false → ⊥
-true_false clash = cc
-
 module _ {T V : Type 0} {G : tail.Ghosts T} {H : disk.Ghosts V} where
-  pub in_failed : (core : Core T V G H) (new : Core T V G H) (front : List ℕ) (disk : ℕ → List ℕ) (before : List LogRecord) (s : State) → IsIn front disk before core s
-      → heap_of new ≡ heap_of core → tail_of new ≡ tail_of core → txns_of new ≡ txns_of core → durable_of new ≡ durable_of core → has_failed new ≡ true
-      → IsIn front disk before new (with_failure s)
-  in_failed core new front disk before s is heap tail txns durable failed = record {
-    first = ap G.first tail ∙ is.first;
-    pages = subst (λ h. Shows unclaimed h front disk (page_slots s)) (sym heap) is.pages;
+  -- a failure that is noted
+  pub beside_failed : (core new : Core T V G H) (before : List LogRecord) (s : State) → IsBeside before core s → tail_of new ≡ tail_of core → txns_of new ≡ txns_of core
+      → durable_of new ≡ durable_of core → has_failed new ≡ true → IsBeside before new (with_failure s)
+  beside_failed core new before s was tail txns durable failed = record {
+    first = ap G.first tail ∙ was.first;
     parts =
         subst (λ t. HasParts t (waiting_of new) (durable_of new) (has_failed new) before (with_failure s)) (sym txns)
         (subst (λ l. HasParts (txns_of core) (G.records l) (durable_of new) (has_failed new) before (with_failure s)) (sym tail)
         (subst (λ d. HasParts (txns_of core) (waiting_of core) d (has_failed new) before (with_failure s)) (sym durable)
         (subst (λ b. HasParts (txns_of core) (waiting_of core) (durable_of core) b before (with_failure s)) (sym failed)
-        (parts_failed (txns_of core) (waiting_of core) (durable_of core) (has_failed core) before s is.parts))));
+        (parts_failed (txns_of core) (waiting_of core) (durable_of core) (has_failed core) before s was.parts))));
   }
+
+  pub in_failed : (core new : Core T V G H) (front : List ℕ) (disk : ℕ → List ℕ) (before : List LogRecord) (s : State) → IsBeside before core s
+      → tail_of new ≡ tail_of core → txns_of new ≡ txns_of core → durable_of new ≡ durable_of core → has_failed new ≡ true
+      → IsIn front disk before new (with_failure s)
+  in_failed core new front disk before s was tail txns durable failed = record { beside = beside_failed core new before s was tail txns durable failed; pages = λ works. absurd (true_false works) }
+
+-- the store of a state that has failed is the same
+pub kept_failed : (s : State) (store : RecoveryState) → IsKept s store → IsKept (with_failure s) store
+kept_failed s store kept = record { stored = record { log = kept.stored.log; durable = kept.stored.durable }; redone = kept.redone; recoverable = kept.recoverable }
+
+pub over_failed : {T V : Type 0} {G : tail.Ghosts T} {H : disk.Ghosts V} (core : Core T V G H) (disk : ℕ → List ℕ) (s : State) (store : RecoveryState) → IsKept s store → IsOver disk core (with_failure s) store
+over_failed core disk s store kept = record { kept = kept_failed s store kept; pages = λ works. absurd (true_false works) }
+
+-- a device that failed, or a page that was damaged, is noted
+pub comes_noted : {T V : Type 0} {G : tail.Ghosts T} {H : disk.Ghosts V} (old new : Core T V G H) (front : List ℕ) (before : List LogRecord) (s : State) (store : RecoveryState) (f : Fault)
+    → tail_of new ≡ tail_of old → txns_of new ≡ txns_of old → durable_of new ≡ durable_of old → has_failed new ≡ true
+    → (f ≡ fault.Device) ⊎ ((d : Device) × (offset : ℕ) × (f ≡ fault.Damaged d offset)) → IsKept s store → StaysRefused old front before s store f → ComesTo new front before store (after_refusal f s)
+comes_noted old new front before s store f tail txns durable noted why kept stays =
+    let beside = beside_failed old new before s (stays_beside old front before s store f stays) tail txns durable noted in
+    let failed : ComesTo new front before store (with_failure s) = comes_failed new front before (with_failure s) store refl beside (kept_failed s store kept) in
+    elim why [
+      | inl device ↦ subst (λ (f : Fault). ComesTo new front before store (after_refusal f s)) (sym device) failed
+      | inr damaged ↦ subst (λ (f : Fault). ComesTo new front before store (after_refusal f s)) (sym damaged.2) failed
+    ]
 
 -- no other fault is noted
 pub stays_after : (s : State) (f : Fault) → (f ≡ fault.Device → ⊥) → ((d : Device) (offset : ℕ) → f ≡ fault.Damaged d offset → ⊥) → after_refusal f s ≡ s
@@ -170,15 +195,14 @@ stays_after s (fault.Damaged d offset) device damaged = absurd (damaged d offset
 
 -- ---- replies
 
-module _ {T V : Type 0} {G : tail.Ghosts T} {H : disk.Ghosts V} (old new : Core T V G H) (front : List ℕ) (disk : ℕ → List ℕ) (before : List LogRecord) (s : State) (session : ℕ) (c : Call) where
+module _ {T V : Type 0} {G : tail.Ghosts T} {H : disk.Ghosts V} (old new : Core T V G H) (front : List ℕ) (before : List LogRecord) (s : State) (store : RecoveryState) (session : ℕ) (c : Call) where
   -- a fault that is handed on
-  pub replied_as : (r : Result Step Fault) (f : Fault) → IsErrAnd r (λ e. e ≡ f) → (f ≡ fault.Memory) ⊎ IsRefusal (geometry_of old) s session c f → Stays old new front disk before s
-      → Replied session c r old new front disk before s
+  pub replied_as : (r : Result Step Fault) (f : Fault) → IsErrAnd r (λ e. e ≡ f) → (f ≡ fault.Memory) ⊎ IsRefusal (geometry_of old) s session c f
+      → ((f ≡ fault.Device) × IsBeside before new s) ⊎ ComesTo new front before store s → Replied session c r old new front before s store
   replied_as (Err e) f same why stays = record {
     later = s;
     replies = (subst (λ x. (x ≡ fault.Memory) ⊎ IsRefusal (geometry_of old) s session c x) (sym same) why, refl);
-    is_in = stays.is_in;
-    history = stays.history;
+    comes = subst (λ x. ((x ≡ fault.Device) × IsBeside before new s) ⊎ ComesTo new front before store s) (sym same) stays;
   }
   replied_as (Ok step) f same why stays = absurd same
 
@@ -205,3 +229,17 @@ plain_cause step r old new plain cause = record {
   where
     ok_err : ◌≡◌ {A = Result (Unit {0}) Fault} (Ok tt) (Err fault.Device) → ⊥
     ok_err clash = cc
+
+-- a fault has one cause, whatever an Ok would have had
+pub refused_cause : {A B : Type 0} (f : Fault) (old new : ℕ) → HasCause {T = A} (Err f) old new → HasCause {T = B} (Err f) old new
+refused_cause {A} {B} f old new cause = record {
+  no_lower = cause.no_lower;
+  reported = λ is. cause.reported (ap Err (fault_is is));
+  unreported = λ other. cause.unreported (λ is. other (ap Err (fault_at is)));
+}
+  where
+    fault_is : ◌≡◌ {A = Result B Fault} (Err f) (Err fault.Device) → f ≡ fault.Device
+    fault_is e = cc
+
+    fault_at : ◌≡◌ {A = Result A Fault} (Err f) (Err fault.Device) → f ≡ fault.Device
+    fault_at e = cc

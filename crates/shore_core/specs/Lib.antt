@@ -1,6 +1,4 @@
 pub mod Parts
 pub mod Cores
 pub mod Replies
-pub mod Changes
-pub mod Laid
-pub mod Opened
+pub mod Flushing

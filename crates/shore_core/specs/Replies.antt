@@ -6,7 +6,11 @@ use Rattle.shore_disk.specs.declared.device.Disk as disk
 use Rattle.shore_log.specs.declared.tail.Tail as tail
 use Rattle.shore_dwrite.specs.Volumes.{HasNoPage, page_number, page_offset}
 use Rattle.shore_pool.specs.Pools.{Holds}
-use Rattle.shore_heap.specs.Heaps.{KeepsVolume, pool_of}
+use Rattle.shore_heap.specs.Heaps as heaps
+use Rattle.shore_heap.specs.Heaps.{LeavesPages, pool_of}
+use Rattle.shore_disk.specs.Device.{LeavesOnly, size}
+use Rattle.shore_pool.specs.Pools as pools
+use Rattle.shore_recovery.specs.Recovery.{RecoveryState}
 use Rattle.shore_types.specs.Layout.{HasPage}
 use Rattle.shore_types.specs.declared.faults.Device.{Device}
 use Rattle.shore_types.specs.declared.faults.Device.TheVariants.{Volume}
@@ -30,7 +34,7 @@ use Rattle.shore_room.specs.Claims.{SlotCounts}
 use Rattle.shore_core.specs.Parts.{changed}
 use Rattle.shore_calls.specs.States.{IsOfSession, State, next_number}
 use Rattle.shore_core.specs.declared.core_calls.Core.{Core}
-use Rattle.shore_core.specs.Cores.{IsIn, IsSafe, durable_of, first_of, geometry_of, has_failed, heap_of, history_of, last_of, tail_of, txns_of}
+use Rattle.shore_core.specs.Cores.{ComesTo, IsBeside, IsIn, IsOver, IsSafe, durable_of, first_of, geometry_of, has_failed, heap_of, history_of, last_of, tail_of, txns_of}
 
 -- ---- faults of the volume
 
@@ -75,48 +79,55 @@ Replies g s session c (Ok (Refused f)) new = ⊥
 Replies g s session c (Ok Nothing) new = ⊥
 
 module _ {T V : Type 0} {G : tail.Ghosts T} {H : disk.Ghosts V} where
+  -- the volume is the same device, of the same length, and as honest
+  pub record SameVolume (old new : Core T V G H) : Type 0 where
+    pub geometry : geometry_of new ≡ geometry_of old
+    pub honest : heaps.honesty_of (heap_of new) ≡ heaps.honesty_of (heap_of old)
+    pub size : size (history_of new) ≡ size (history_of old)
+
   -- what no call changes
   pub record Keeps (old new : Core T V G H) : Type 0 where
-    pub geometry : geometry_of new ≡ geometry_of old
+    pub volume : SameVolume old new
     pub durable : durable_of new ≡ durable_of old
     pub failed : has_failed new ≡ has_failed old
     pub first : first_of new ≡ first_of old
-    pub volume : KeepsVolume (heap_of old) (heap_of new)
 
-  -- a call that has read pages at most: all else is what it was
+  -- a call that has read pages at most, for which others may have been written back: all else is what it was
   pub record OnlyReads (old new : Core T V G H) : Type 0 where
-    pub geometry : geometry_of new ≡ geometry_of old
+    pub volume : SameVolume old new
     pub durable : durable_of new ≡ durable_of old
     pub failed : has_failed new ≡ has_failed old
     pub tail : tail_of new ≡ tail_of old
     pub txns : txns_of new ≡ txns_of old
-    pub volume : KeepsVolume (heap_of old) (heap_of new)
 
-  -- it is in the state that it was in, and its volume was read at most
-  pub record Stays (old new : Core T V G H) (front : List ℕ) (disk : ℕ → List ℕ) (before : List LogRecord) (s : State) : Type 0 where
-    pub is_in : IsIn front disk before new s
-    pub history : history_of new ≡ history_of old
+  -- What the volume may be left as at any moment of a call: each page as it was, or as it was in place with a durable number.
+  abbrev pub MayLeave : Core T V G H → Core T V G H → Type 0
+  MayLeave old new = (front : List ℕ) (disk : ℕ → List ℕ) → Holds (pool_of (heap_of old)) front disk
+      → LeavesOnly (history_of old) (history_of new) (LeavesPages (heap_of old) (durable_of old) front disk)
 
-  -- In whatever safe state the core was, it has come to another by such a reply, and its volume was read at most.
-  pub record Replied (session : ℕ) (c : Call) (result : Result Step Fault) (old new : Core T V G H) (front : List ℕ) (disk : ℕ → List ℕ) (before : List LogRecord) (s : State) : Type 0 where
+  -- it is in the state that it was in; but after a failure of the volume nothing is said of its pages
+  abbrev pub Stays : {A : Type 0} → Core T V G H → Result A Fault → List ℕ → List LogRecord → State → RecoveryState → Type 0
+  Stays new (Ok done) front before s store = ComesTo new front before store s
+  Stays new (Err f) front before s store = ((f ≡ fault.Device) × IsBeside before new s) ⊎ ComesTo new front before store s
+
+  -- In whatever safe state the core was, it has come to another by such a reply.
+  pub record Replied (session : ℕ) (c : Call) (result : Result Step Fault) (old new : Core T V G H) (front : List ℕ) (before : List LogRecord) (s : State) (store : RecoveryState) : Type 0 where
     pub later : State
     pub replies : Replies (geometry_of old) s session c result later
-    pub is_in : IsIn front disk before new later
-    pub history : history_of new ≡ history_of old
+    pub comes : Stays new result front before later store
 
   -- it has come to another state by a step of the manager over plain data
-  pub record Stepped (session : ℕ) (c : Call) (step : Step) (old new : Core T V G H) (front : List ℕ) (disk : ℕ → List ℕ) (before : List LogRecord) (s : State) : Type 0 where
+  pub record Stepped (session : ℕ) (c : Call) (step : Step) (old new : Core T V G H) (front : List ℕ) (before : List LogRecord) (s : State) (store : RecoveryState) : Type 0 where
     pub later : State
     pub moves : CallStep (geometry_of old) s session c step later
-    pub is_in : IsIn front disk before new later
-    pub history : history_of new ≡ history_of old
+    pub comes : ComesTo new front before store later
 
-  -- a resume has come to another state by such a step
-  pub record Resumed (session : ℕ) (step : Step) (old new : Core T V G H) (front : List ℕ) (disk : ℕ → List ℕ) (before : List LogRecord) (s : State) : Type 0 where
+  -- a resume has come to another state by such a step, over the same pages
+  pub record Resumed (session : ℕ) (step : Step) (old new : Core T V G H) (front : List ℕ) (disk : ℕ → List ℕ) (before : List LogRecord) (s : State) (store : RecoveryState) : Type 0 where
     pub later : State
     pub moves : ResumeStep s session step later
     pub is_in : IsIn front disk before new later
-    pub history : history_of new ≡ history_of old
+    pub over : IsOver disk new later store
 
   -- the session has no call that waits, and no device has failed
   pub record IsReady (core : Core T V G H) (session : ℕ) : Type 0 where
@@ -127,19 +138,23 @@ module _ {T V : Type 0} {G : tail.Ghosts T} {H : disk.Ghosts V} where
   abbrev pub Earns : {A : Type 0} → Core T V G H → (PageId → Type 0) → Result A Fault → Type 0
   Earns core IsRead r = (front : List ℕ) (disk : ℕ → List ℕ) → Holds (pool_of (heap_of core)) front disk → IfErr r (IsEarned (geometry_of core) disk (last_of core) IsRead)
 
-  -- in each safe state
-  abbrev pub InEach : ((front : List ℕ) (disk : ℕ → List ℕ) (before : List LogRecord) (s : State) → Type 0) → Core T V G H → Type 0
-  InEach P old = (front : List ℕ) (disk : ℕ → List ℕ) (before : List LogRecord) (s : State) → IsIn front disk before old s → IsSafe (geometry_of old) s → P front disk before s
+  -- .. and one by `NeedForce` by the pages in all frames: none is clean, and each has a number that is not durable. One has this number.
+  abbrev pub NeedsForce : {A : Type 0} → Core T V G H → Result A Fault → Type 0
+  NeedsForce core r = (front : List ℕ) (disk : ℕ → List ℕ) → Holds (pool_of (heap_of core)) front disk
+      → IfErr r (λ f. (number : ℕ) → f ≡ fault.NeedForce number → pools.NeedsForce (pool_of (heap_of core)) (durable_of core) number)
+
+  -- in each safe state, over each store that is its
+  abbrev pub InEach : ((front : List ℕ) (disk : ℕ → List ℕ) (before : List LogRecord) (s : State) (store : RecoveryState) → Type 0) → Core T V G H → Type 0
+  InEach P old = (front : List ℕ) (disk : ℕ → List ℕ) (before : List LogRecord) (s : State) (store : RecoveryState)
+      → IsIn front disk before old s → IsSafe (geometry_of old) s → IsOver disk old s store → P front disk before s store
 
 -- What a change of the session's transaction comes to, of an image that fits where it goes: it is logged and made; or there is no room in the
 -- log, or an allocation failed, and the state is as it was.
-abbrev pub Changes : {T V : Type 0} {G : tail.Ghosts T} {H : disk.Ghosts V} → Core T V G H → Core T V G H → ℕ → Rid → Image → Result (Unit {0}) Fault
-    → List ℕ → (ℕ → List ℕ) → List LogRecord → State → Type 0
-Changes old new session id image (Ok done) front disk before s =
-    (a : SessionTxn) × (counts : SlotCounts) × IsOfSession s session a × MayChange s id image counts × IsIn front disk before new (changed s a id image counts)
-    × (history_of new ≡ history_of old)
-Changes old new session id image (Err f) front disk before s =
-    ((f ≡ Memory) ⊎ ((f ≡ LogFull) × ¬ CanLog s id image)) × IsIn front disk before new s × (history_of new ≡ history_of old)
+abbrev pub Changes : {T V : Type 0} {G : tail.Ghosts T} {H : disk.Ghosts V} → Core T V G H → ℕ → Rid → Image → Result (Unit {0}) Fault
+    → List ℕ → List LogRecord → State → RecoveryState → Type 0
+Changes new session id image (Ok done) front before s store =
+    (a : SessionTxn) × (counts : SlotCounts) × IsOfSession s session a × MayChange s id image counts × ComesTo new front before store (changed s a id image counts)
+Changes new session id image (Err f) front before s store = ((f ≡ Memory) ⊎ ((f ≡ LogFull) × ¬ CanLog s id image)) × ComesTo new front before store s
 
 -- the fault of a step, if it is one
 abbrev pub fault_at : Step → Result (Unit {0}) Fault

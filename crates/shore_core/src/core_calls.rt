@@ -1,5 +1,5 @@
 //! The calls of a session, and what the log device tells.
-ghost use Rattle.std.specs.Prelude.{◌≡◌, ◌≢◌, ◌⊎◌, ◌↔◌, ◌+◌, ◌≤◌, ◌<◌, ◌++◌, [], ℕ, List, IsTrue, IsSome, IsSomeAnd, IfSome, IfOk, IfErr, OnOk, OnErr, None, Some, Err, Ok, is_some, length, option_map};
+ghost use Rattle.std.specs.Prelude.{◌≡◌, ◌≢◌, ◌⊎◌, ◌↔◌, ◌+◌, ◌≤◌, ◌<◌, ◌++◌, [], ℕ, List, false, IsTrue, IsSome, IsSomeAnd, IfSome, IfOk, IfErr, OnOk, OnErr, None, Some, Err, Ok, is_some, length, option_map};
 ghost use Rattle.std.specs.FinMap.{get};
 ghost use Rattle.std.specs.Option.{ForSome};
 ghost use Rattle.shore_types.specs.Layout.{HasStore, HasPage, HasSlot};
@@ -12,19 +12,21 @@ ghost use Rattle.shore_model.specs.declared.log_records.LogRecord.{LogRecord};
 ghost use Rattle.shore_disk.specs.Cause.{HasCause};
 ghost use Rattle.shore_page.specs.Room.{Fits};
 ghost use Rattle.shore_page.specs.Slots.{image_at_slot, image_len};
-ghost use Rattle.shore_heap.specs.Heaps.{IsWhole, KeepsVolume, frame_of};
+ghost use Rattle.shore_heap.specs.Heaps.{frame_of};
+ghost use Rattle.shore_recovery.specs.Recovery.{after_force};
 ghost use Rattle.shore_calls.specs.declared.step.Step.TheVariants as Step;
 ghost use Rattle.shore_txn.specs.Tables.{active_in, committing_in, room_in};
 ghost use Rattle.shore_txn.specs.Txns.{last_of, number_of};
 ghost use Rattle.shore_calls.specs.CallSteps.{IsServed, ResumeStep, after_refusal, with_durable, with_failure};
 ghost use Rattle.shore_calls.specs.Refusals.{IsPageFault, RecordRefusal};
 ghost use Rattle.shore_calls.specs.States.{State};
+ghost use Rattle.shore_recovery.specs.Recovery.{RecoveryState};
 ghost use Rattle.shore_core.specs.Parts.{IsOfOneSession};
 
 use crate::images::{bytes_of, copied, copy_of, len_of};
 use shore_calls::{Step, Wait};
 use shore_disk::Disk;
-use shore_heap::{Heap, NoClaims};
+use shore_heap::Heap;
 use shore_log::{Durable, LogDev, PlainTail, Tail};
 use shore_logrec::{LogRecord, Payload, change_cost, compensation_cost};
 use shore_model::{Answer, Call};
@@ -41,8 +43,8 @@ pub struct Core<T: Tail, V: Disk> {
     pub(crate) txns: TxnTable,
     pub(crate) durable: Lsn,
     pub(crate) failed: bool,
-    ghost whole: { IsWhole heap },
     ghost some_number: { 1 ≤ T.Tail.first tail + length (T.Tail.records tail) },
+    ghost forced: { durable < T.Tail.first tail + length (T.Tail.records tail) },
     ghost few: { T.Tail.first tail + length (T.Tail.records tail) ≤ LAST_OPENED },
     ghost number: { ForSome (active_in txns) (λ _. T.Tail.first tail + length (T.Tail.records tail) ≤ LAST_LSN + 1) },
     ghost earlier: { ForSome (active_in txns) (λ t. last_of t < T.Tail.first tail + length (T.Tail.records tail)) },
@@ -50,25 +52,33 @@ pub struct Core<T: Tail, V: Disk> {
 }
 
 impl<T: Tail, V: Disk> Core<T, V> {
-    ghost use Rattle.shore_core.specs.Cores.{IsIn, durable_of, faults_of, first_of, geometry_of, has_failed, heap_of, history_of, tail_of, txns_of, waiting_of};
-    ghost use Rattle.shore_core.specs.Replies.{Changes, Earns, InEach, IsReady, Keeps, OnlyReads, Reads, Replied, Resumed, Stays, Stepped, fault_at};
+    ghost use Rattle.shore_core.specs.Cores.{ComesTo, IsIn, IsKept, IsOver, durable_of, faults_of, first_of, geometry_of, has_failed, heap_of, history_of, tail_of, txns_of, waiting_of};
+    ghost use Rattle.shore_core.specs.Cores as cores;
+    ghost use Rattle.shore_core.specs.Replies.{Changes, Earns, Fails, InEach, IsReady, Keeps, MayLeave, NeedsForce, OnlyReads, Reads, Replied, Resumed, SameVolume, Stays, Stepped, fault_at};
 
     /// A call of a session. Refused in this order: `Failed` after a failure of a device or a damaged page, `Busy` while the session's earlier
-    /// call waits, `AlreadyActive` or `NoTransaction`, and then as the call says; `Memory` if an allocation failed. A refused call has
-    /// changed nothing; but after `Device` and `Damaged` every later call is refused.
+    /// call waits, `AlreadyActive` or `NoTransaction`, and then as the call says; `Memory` if an allocation failed, and `NeedForce(n)` if a page
+    /// needs a frame that is free once the log is forced up to number n. A refused call has changed nothing; but after `Device` and
+    /// `Damaged` every later call is refused.
     pub fn call(&mut self, alloc: Global, session: SessionId, call: Call) -> Step
         requires { IsServed session call }
 
-        // It is a step of the manager over plain data, in whatever state it was.
-        ensures step { InEach (Stepped session call result self.old self.new) self.old }
+        // It is a step of the manager over plain data, in whatever state it was, and work of the store beside it.
+        ensures step { InEach (λ front disk before s store. Stepped session call result self.old self.new front before s store) self.old }
+
+        // At any moment a page of the volume is as it was, or as it was in place with a durable number.
+        ensures any_moment { MayLeave self.old self.new }
 
         // `Damaged` names the page that could not be read, of those that the call may read.
         ensures damaged { Earns self.old (Reads call) (fault_at result) }
 
-        // The volume is only read, whatever its pages hold.
-        ensures volume { KeepsVolume (heap_of self.old) (heap_of self.new) }
+        // `NeedForce` comes only if no page may leave its frame: its number is one that is not durable.
+        ensures forced { NeedsForce self.old (fault_at result) }
+
+        // After a failure no page is touched.
+        ensures still { IsTrue (has_failed self.old) → heap_of self.new ≡ heap_of self.old }
+        ensures volume { SameVolume self.old self.new }
         ensures durable { durable_of self.new ≡ durable_of self.old }
-        ensures geometry { geometry_of self.new ≡ geometry_of self.old }
         ensures first { first_of self.new ≡ first_of self.old }
         ensures cause { HasCause (fault_at result) (faults_of self.old) (faults_of self.new) }
     {
@@ -80,28 +90,34 @@ impl<T: Tail, V: Disk> Core<T, V> {
         }
         match self.answer(alloc, session, call) {
             Ok(step) => step,
-            Err(fault) => self.refuse(fault),
+            Err(fault) => {
+                self.note_failure(&fault);
+                Step::Refused(fault)
+            }
         }
     }
 
-    // After a failure of a device, or a damaged page, every call is refused.
-    fn refuse(&mut self, fault: Fault) -> Step
-        ensures refused { result ≡ Step.Refused fault }
-        ensures left { InEach (λ front disk before s. IsIn front disk before self.new (after_refusal fault s)) self.old }
+    /// After a failure of a device, or a damaged page, every call is refused.
+    pub(crate) fn note_failure(&mut self, fault: &Fault)
+        ensures left { (front : List ℕ) (before : List LogRecord) (s : State) (store : RecoveryState) → IsKept s store
+            → Stays {A = Unit {0}} self.old (Err fault.now) front before s store → ComesTo self.new front before store (after_refusal fault.now s) }
+        ensures fails { IsTrue (has_failed self.new) ↔ (IsTrue (has_failed self.old) ⊎ Fails fault.now) }
         ensures heap { heap_of self.new ≡ heap_of self.old }
         ensures durable { durable_of self.new ≡ durable_of self.old }
-        ensures first { first_of self.new ≡ first_of self.old }
+        ensures tail { tail_of self.new ≡ tail_of self.old }
+        ensures txns { txns_of self.new ≡ txns_of self.old }
     {
         if matches!(fault, Fault::Device | Fault::Damaged { .. }) {
             self.failed = true;
         }
-        Step::Refused(fault)
     }
 
     fn answer(&mut self, alloc: Global, session: SessionId, call: Call) -> Result<Step, Fault>
         requires { IsServed session call }
-        ensures replied { IsReady self.old session → InEach (Replied session call result self.old self.new) self.old }
+        ensures replied { IsReady self.old session → InEach (λ front disk before s store. Replied session call result self.old self.new front before s store) self.old }
         ensures keeps { Keeps self.old self.new }
+        ensures any_moment { MayLeave self.old self.new }
+        ensures forced { NeedsForce self.old result }
         ensures damaged { Earns self.old (Reads call) result }
         ensures plain { IfOk result (λ step. fault_at step ≡ Ok tt) }
         ensures cause { HasCause result (faults_of self.old) (faults_of self.new) }
@@ -128,8 +144,10 @@ impl<T: Tail, V: Disk> Core<T, V> {
 
     fn begin(&mut self, alloc: Global, session: SessionId) -> Result<Step, Fault>
         requires { session ≡ 1 }
-        ensures replied { IsReady self.old session → InEach (Replied session Call.Begin result self.old self.new) self.old }
+        ensures replied { IsReady self.old session → InEach (λ front disk before s store. Replied session Call.Begin result self.old self.new front before s store) self.old }
         ensures keeps { Keeps self.old self.new }
+        ensures any_moment { MayLeave self.old self.new }
+        ensures forced { NeedsForce self.old result }
         ensures damaged { Earns self.old (Reads Call.Begin) result }
         ensures plain { IfOk result (λ step. fault_at step ≡ Ok tt) }
         ensures heap { heap_of self.new ≡ heap_of self.old }
@@ -146,8 +164,10 @@ impl<T: Tail, V: Disk> Core<T, V> {
     }
 
     fn get(&mut self, alloc: Global, session: SessionId, id: Rid) -> Result<Step, Fault>
-        ensures replied { IsReady self.old session → InEach (Replied session (Call.Get id) result self.old self.new) self.old }
+        ensures replied { IsReady self.old session → InEach (λ front disk before s store. Replied session (Call.Get id) result self.old self.new front before s store) self.old }
         ensures keeps { Keeps self.old self.new }
+        ensures any_moment { MayLeave self.old self.new }
+        ensures forced { NeedsForce self.old result }
         ensures damaged { Earns self.old (Reads (Call.Get id)) result }
         ensures plain { IfOk result (λ step. fault_at step ≡ Ok tt) }
         ensures cause { HasCause result (faults_of self.old) (faults_of self.new) }
@@ -164,8 +184,10 @@ impl<T: Tail, V: Disk> Core<T, V> {
         ensures reached { OnOk result (HasSlot (geometry_of self.old) id × IsTrue (is_some (frame_of (heap_of self.new) id.page))) }
         ensures txn { OnOk result (IsSomeAnd (active_in (txns_of self.old)) (λ t. t.session ≡ session)) }
         ensures damaged { Earns self.old (λ page. page ≡ id.page) result }
-        ensures refused { IsReady self.old session → InEach (λ front disk before s. IfErr result (λ f. (f ≡ Fault.Memory) ⊎ RecordRefusal (geometry_of self.old) s session id f)) self.old }
-        ensures stays { InEach (Stays self.old self.new) self.old }
+        ensures refused { IsReady self.old session → InEach (λ front disk before s store. IfErr result (λ f. (f ≡ Fault.Memory) ⊎ RecordRefusal (geometry_of self.old) s session id f)) self.old }
+        ensures stays { InEach (λ front disk before s store. Stays self.new result front before s store) self.old }
+        ensures any_moment { MayLeave self.old self.new }
+        ensures forced { NeedsForce self.old result }
         ensures reads { OnlyReads self.old self.new }
         ensures cause { HasCause result (faults_of self.old) (faults_of self.new) }
     {
@@ -199,51 +221,16 @@ impl<T: Tail, V: Disk> Core<T, V> {
     fn fetch(&mut self, alloc: Global, page: PageId) -> Result<(), Fault>
         requires { HasPage (geometry_of self.old) page }
         ensures there { OnOk result (IsTrue (is_some (frame_of (heap_of self.new) page))) }
-        ensures refused { InEach (λ front disk before s. IfErr result (λ f. (f ≡ Fault.Memory) ⊎ IsPageFault f)) self.old }
+        ensures refused { has_failed self.old ≡ false → InEach (λ front disk before s store. IfErr result (λ f. (f ≡ Fault.Memory) ⊎ IsPageFault s f)) self.old }
         ensures damaged { Earns self.old (λ id. id ≡ page) result }
-        ensures stays { InEach (Stays self.old self.new) self.old }
+        ensures stays { InEach (λ front disk before s store. Stays self.new result front before s store) self.old }
+        ensures any_moment { MayLeave self.old self.new }
+        ensures forced { NeedsForce self.old result }
         ensures reads { OnlyReads self.old self.new }
         ensures cause { HasCause result (faults_of self.old) (faults_of self.new) }
     {
         let last = Lsn(self.tail.next().0 - 1);
-        self.heap.fetch(alloc, page, &NoClaims, last, self.durable)
-    }
-
-    fn insert(
-        &mut self,
-        alloc: Global,
-        session: SessionId,
-        store: StoreId,
-        bytes: Bytes,
-    ) -> Result<Step, Fault>
-        ensures replied { IsReady self.old session → InEach (Replied session (Call.Insert store bytes) result self.old self.new) self.old }
-        ensures keeps { Keeps self.old self.new }
-        ensures damaged { Earns self.old (Reads (Call.Insert store bytes)) result }
-        ensures plain { IfOk result (λ step. fault_at step ≡ Ok tt) }
-        ensures cause { HasCause result (faults_of self.old) (faults_of self.new) }
-    {
-        if self.txns.txn(session).is_none() {
-            return Err(Fault::NoTransaction);
-        }
-        let len = bytes.as_slice().len();
-        if len > MAX_RECORD_BYTES {
-            return Err(Fault::TooLong);
-        }
-        if !self.heap.geometry().has_store(store) {
-            return Err(Fault::NoStore);
-        }
-        let last = Lsn(self.tail.next().0 - 1);
-        let place = self
-            .heap
-            .place_for(alloc, store, len, &NoClaims, last, self.durable)?;
-        let Some(Rid { page, slot }) = place else {
-            return Err(Fault::StoreFull);
-        };
-        let PageId { store, page } = page;
-        let id = PageId { store, page };
-        self.change(alloc, session, Rid { page: id, slot }, None, Some(bytes))?;
-        let page = PageId { store, page };
-        Ok(Step::Done(Answer::Inserted(Rid { page, slot })))
+        self.heap.fetch(alloc, page, &self.txns, last, self.durable)
     }
 
     fn update(
@@ -253,8 +240,10 @@ impl<T: Tail, V: Disk> Core<T, V> {
         id: Rid,
         bytes: Bytes,
     ) -> Result<Step, Fault>
-        ensures replied { IsReady self.old session → InEach (Replied session (Call.Update id bytes) result self.old self.new) self.old }
+        ensures replied { IsReady self.old session → InEach (λ front disk before s store. Replied session (Call.Update id bytes) result self.old self.new front before s store) self.old }
         ensures keeps { Keeps self.old self.new }
+        ensures any_moment { MayLeave self.old self.new }
+        ensures forced { NeedsForce self.old result }
         ensures damaged { Earns self.old (Reads (Call.Update id bytes)) result }
         ensures plain { IfOk result (λ step. fault_at step ≡ Ok tt) }
         ensures cause { HasCause result (faults_of self.old) (faults_of self.new) }
@@ -275,8 +264,10 @@ impl<T: Tail, V: Disk> Core<T, V> {
     }
 
     fn delete(&mut self, alloc: Global, session: SessionId, id: Rid) -> Result<Step, Fault>
-        ensures replied { IsReady self.old session → InEach (Replied session (Call.Delete id) result self.old self.new) self.old }
+        ensures replied { IsReady self.old session → InEach (λ front disk before s store. Replied session (Call.Delete id) result self.old self.new front before s store) self.old }
         ensures keeps { Keeps self.old self.new }
+        ensures any_moment { MayLeave self.old self.new }
+        ensures forced { NeedsForce self.old result }
         ensures damaged { Earns self.old (Reads (Call.Delete id)) result }
         ensures plain { IfOk result (λ step. fault_at step ≡ Ok tt) }
         ensures cause { HasCause result (faults_of self.old) (faults_of self.new) }
@@ -293,9 +284,11 @@ impl<T: Tail, V: Disk> Core<T, V> {
         ensures short { IfOk result (λ bytes. length bytes ≤ MAX_RECORD_BYTES) }
         ensures damaged { Earns self.old (λ page. page ≡ id.page) result }
         ensures txn { OnOk result (IsSomeAnd (active_in (txns_of self.old)) (λ t. t.session ≡ session)) }
-        ensures found { InEach (λ front disk before s. IfOk result (λ bytes. get s.sessions.records id ≡ Some bytes)) self.old }
-        ensures refused { IsReady self.old session → InEach (λ front disk before s. IfErr result (λ f. (f ≡ Fault.Memory) ⊎ RecordRefusal (geometry_of self.old) s session id f)) self.old }
-        ensures stays { InEach (Stays self.old self.new) self.old }
+        ensures found { has_failed self.old ≡ false → InEach (λ front disk before s store. IfOk result (λ bytes. get s.sessions.records id ≡ Some bytes)) self.old }
+        ensures refused { IsReady self.old session → InEach (λ front disk before s store. IfErr result (λ f. (f ≡ Fault.Memory) ⊎ RecordRefusal (geometry_of self.old) s session id f)) self.old }
+        ensures stays { InEach (λ front disk before s store. Stays self.new result front before s store) self.old }
+        ensures any_moment { MayLeave self.old self.new }
+        ensures forced { NeedsForce self.old result }
         ensures reads { OnlyReads self.old self.new }
         ensures cause { HasCause result (faults_of self.old) (faults_of self.new) }
     {
@@ -308,7 +301,7 @@ impl<T: Tail, V: Disk> Core<T, V> {
 
     // Logs a change of the session's transaction and makes it on its page, which is in a frame and has room. All memory is taken before the
     // record is logged, and behind that nothing can fail.
-    fn change(
+    pub(crate) fn change(
         &mut self,
         alloc: Global,
         session: SessionId,
@@ -321,7 +314,8 @@ impl<T: Tail, V: Disk> Core<T, V> {
         requires before { image_len before ≤ MAX_RECORD_BYTES }
         requires some { IsTrue (is_some before) ⊎ IsTrue (is_some after) }
         requires txn { IsSomeAnd (active_in (txns_of self.old)) (λ t. t.session ≡ session) }
-        ensures changed { InEach (λ front disk before s. Changes self.old self.new session id after result front disk before s) self.old }
+        ensures changed { has_failed self.old ≡ false → InEach (λ front disk before s store. Changes self.new session id after result front before s store) self.old }
+        ensures history { history_of self.new ≡ history_of self.old }
         ensures keeps { Keeps self.old self.new }
         ensures faults { faults_of self.new ≡ faults_of self.old }
         ensures refused { IfErr result (λ f. (f ≡ Fault.Memory) ⊎ (f ≡ Fault.LogFull)) }
@@ -357,8 +351,10 @@ impl<T: Tail, V: Disk> Core<T, V> {
     }
 
     fn scan(&mut self, alloc: Global, session: SessionId, store: StoreId) -> Result<Step, Fault>
-        ensures replied { IsReady self.old session → InEach (Replied session (Call.Scan store) result self.old self.new) self.old }
+        ensures replied { IsReady self.old session → InEach (λ front disk before s plain. Replied session (Call.Scan store) result self.old self.new front before s plain) self.old }
         ensures keeps { Keeps self.old self.new }
+        ensures any_moment { MayLeave self.old self.new }
+        ensures forced { NeedsForce self.old result }
         ensures damaged { Earns self.old (Reads (Call.Scan store)) result }
         ensures plain { IfOk result (λ step. fault_at step ≡ Ok tt) }
         ensures cause { HasCause result (faults_of self.old) (faults_of self.new) }
@@ -375,8 +371,10 @@ impl<T: Tail, V: Disk> Core<T, V> {
 
     // The record of the commit was reserved for at the begin, so it is never refused for room. The transaction's claims go with it.
     fn commit(&mut self, alloc: Global, session: SessionId) -> Result<Step, Fault>
-        ensures replied { IsReady self.old session → InEach (Replied session Call.Commit result self.old self.new) self.old }
+        ensures replied { IsReady self.old session → InEach (λ front disk before s store. Replied session Call.Commit result self.old self.new front before s store) self.old }
         ensures keeps { Keeps self.old self.new }
+        ensures any_moment { MayLeave self.old self.new }
+        ensures forced { NeedsForce self.old result }
         ensures damaged { Earns self.old (Reads Call.Commit) result }
         ensures plain { IfOk result (λ step. fault_at step ≡ Ok tt) }
         ensures faults { faults_of self.new ≡ faults_of self.old }
@@ -426,9 +424,12 @@ impl<T: Tail, V: Disk> Core<T, V> {
         Step::Done(Answer::Committed)
     }
 
-    /// The log device has forced its records up to this number.
+    /// The log device has forced its records up to this number, which is no lower than what was told before.
     pub fn told(&mut self, durable: Lsn)
-        ensures told { InEach (λ front disk before s. IsIn front disk before self.new (with_durable durable s)) self.old }
+        requires no_lower { durable_of self.old ≤ durable }
+        requires logged { durable ≤ cores.last_of self.old }
+        ensures told { InEach (λ front disk before s store. IsIn front disk before self.new (with_durable durable s)
+            × IsOver disk self.new (with_durable durable s) (after_force store durable)) self.old }
         ensures heap { heap_of self.new ≡ heap_of self.old }
         ensures tail { tail_of self.new ≡ tail_of self.old }
         ensures running { has_failed self.new ≡ has_failed self.old }
@@ -447,7 +448,7 @@ impl<T: Tail, V: Disk> Core<T, V> {
 
     /// A device has failed: every later call answers `Failed`.
     pub fn fail(&mut self)
-        ensures failed { InEach (λ front disk before s. IsIn front disk before self.new (with_failure s)) self.old }
+        ensures failed { InEach (λ front disk before s store. IsIn front disk before self.new (with_failure s) × IsOver disk self.new (with_failure s) store) self.old }
         ensures noted { IsTrue (has_failed self.new) }
         ensures heap { heap_of self.new ≡ heap_of self.old }
         ensures tail { tail_of self.new ≡ tail_of self.old }

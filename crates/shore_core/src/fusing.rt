@@ -2,6 +2,7 @@
 ghost use Rattle.std.specs.Prelude.{◌≡◌, ℕ, List};
 ghost use Rattle.shore_heap.specs.Heaps.{KeepsVolume};
 ghost use Rattle.shore_calls.specs.States.{State};
+ghost use Rattle.shore_recovery.specs.Recovery.{RecoveryState};
 ghost use Rattle.shore_model.specs.declared.log_records.LogRecord.{LogRecord};
 
 use crate::core_calls::Core;
@@ -10,13 +11,14 @@ use shore_log::Tail;
 
 impl<T: Tail, V: Disk> Core<T, FuseDisk<V>> {
     ghost use Rattle.shore_disk.specs.Fuse.{fuse_calls, fuse_inner};
-    ghost use Rattle.shore_core.specs.Cores.{IsIn, durable_of, faults_of, geometry_of, has_failed, heap_of, history_of, tail_of, volume_of};
+    ghost use Rattle.shore_core.specs.Cores.{IsIn, IsOver, durable_of, faults_of, geometry_of, has_failed, heap_of, history_of, tail_of, volume_of};
 
     /// Lets so many more writes and syncs of the volume pass; then every call of it fails.
     pub fn set_volume_fuse(&mut self, calls: u64)
         ensures calls { fuse_calls (volume_of self.new) ≡ calls }
         ensures inner { fuse_inner (volume_of self.new) ≡ fuse_inner (volume_of self.old) }
         ensures state { (front : List ℕ) (disk : ℕ → List ℕ) (before : List LogRecord) (s : State) → IsIn front disk before self.old s → IsIn front disk before self.new s }
+        ensures over { (disk : ℕ → List ℕ) (s : State) (store : RecoveryState) → IsOver disk self.old s store → IsOver disk self.new s store }
         ensures volume { KeepsVolume (heap_of self.old) (heap_of self.new) }
         ensures geometry { geometry_of self.new ≡ geometry_of self.old }
         ensures tail { tail_of self.new ≡ tail_of self.old }

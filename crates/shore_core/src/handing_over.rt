@@ -4,6 +4,7 @@ ghost use Rattle.shore_types.specs.declared.faults.Fault.TheVariants as Fault;
 ghost use Rattle.shore_log.specs.Settled.{IsSettled, records_of_log, stable};
 ghost use Rattle.shore_heap.specs.Heaps as heaps;
 ghost use Rattle.shore_calls.specs.States.{State};
+ghost use Rattle.shore_recovery.specs.Recovery.{RecoveryState};
 
 use crate::core_calls::Core;
 use shore_disk::Disk;
@@ -13,7 +14,7 @@ use shore_logrec::LogRecord;
 use shore_types::Fault;
 
 impl<V: Disk> Core<PlainTail, V> {
-    ghost use Rattle.shore_core.specs.Cores.{IsIn, durable_of, first_of, geometry_of, has_failed, heap_of, waiting_of};
+    ghost use Rattle.shore_core.specs.Cores.{IsIn, IsOver, durable_of, first_of, geometry_of, has_failed, heap_of, waiting_of};
 
     /// The records that wait in the log buffer.
     pub fn waiting(&self) -> &[LogRecord]
@@ -27,6 +28,7 @@ impl<V: Disk> Core<PlainTail, V> {
         requires { first_of self.old ≡ 1 + length (records_of_log log.old) }
         ensures state { (front : List ℕ) (disk : ℕ → List ℕ) (s : State) → IsIn front disk (records_of_log log.old) self.old s
             → IsIn front disk (records_of_log log.new) self.new s }
+        ensures over { (disk : ℕ → List ℕ) (s : State) (store : RecoveryState) → IsOver disk self.old s store → IsOver disk self.new s store }
         ensures heap { heap_of self.new ≡ heap_of self.old }
         ensures geometry { geometry_of self.new ≡ geometry_of self.old }
         ensures durable { durable_of self.new ≡ durable_of self.old }

@@ -2,16 +2,15 @@
 //! transactions, and hands the records of the log over to a log buffer.
 #![tactic(auto)]
 
-mod changes;
 mod core_calls;
 mod dumping;
+mod flushing;
 mod fusing;
 mod handing_over;
 mod images;
-mod log_sums;
-mod opening;
+mod inserting;
+mod making;
 
 pub use core_calls::Core;
-pub use opening::OpenError;
 pub use shore_calls::{Step, Wait};
 pub use shore_model::{Answer, Call};

@@ -1,11 +1,11 @@
 //! Which pages go into a batch, and their way to the volume.
 ghost use Rattle.std.specs.Prelude.{◌≡◌, ◌⊎◌, ◌+◌, ◌<◌, ◌≤◌, ℕ, [], List, All, IfErr, IfOk, MatchResult, length};
 ghost use Rattle.shore_disk.specs.Cause.{HasCause};
-ghost use Rattle.shore_disk.specs.Device.{LeavesOnly};
+ghost use Rattle.shore_disk.specs.Device.{LeavesOnly, size};
 ghost use Rattle.shore_dwrite.specs.Shown.{RiseFrom};
 ghost use Rattle.shore_types.specs.declared.faults.Fault.TheVariants as Fault;
 ghost use Rattle.shore_types.specs.declared.layout.TheConstants.{MAX_BATCH_PAGES};
-ghost use Rattle.shore_pool.specs.Pools.{Holds, LeavesPages, WroteBack, count_of, faults_of, frame_at, geometry_of, history_of, limit_of};
+ghost use Rattle.shore_pool.specs.Pools.{Holds, LeavesPages, WroteBack, count_of, faults_of, frame_at, geometry_of, history_of, honesty_of, limit_of};
 ghost use Rattle.shore_flush.specs.Batches.{pages_of};
 ghost use Rattle.shore_flush.specs.Flushes.{AreDue, AreFirst, Flushes, NoneDue};
 
@@ -60,6 +60,10 @@ pub fn flush_step<D: Disk>(alloc: Global, pool: &mut Pool<D>, seen: Lsn) -> Resu
     ensures any_moment { (front : List ℕ) (disk : ℕ → List ℕ) → Holds pool.old front disk
         → LeavesOnly (history_of pool.old) (history_of pool.new) (LeavesPages pool.old seen front disk) }
 
+    // An answer of 0 has changed nothing.
+    ensures idle { IfOk result (λ count. count ≡ 0 → pool.new ≡ pool.old) }
+    ensures honest { honesty_of pool.new ≡ honesty_of pool.old }
+    ensures size { size (history_of pool.new) ≡ size (history_of pool.old) }
     ensures count { count_of pool.new ≡ count_of pool.old }
     ensures limit { limit_of pool.new ≡ limit_of pool.old }
     ensures geometry { geometry_of pool.new ≡ geometry_of pool.old }

@@ -1,17 +1,10 @@
 -- The front of a log device, in parts.
-use Rattle.std.proofs.Common.{◌≡◌, inl, inr, true, None, Some, ◌&&◌, ◌==◌, ℕ, zero, suc, ◌+◌, ◌-◌, ◌^◌, ◌<◌, ◌≤◌, List, [], ◌∷◌, ◌++◌, length, take, drop, replicate, slice_index, Result, refl, sym, ◌∙◌, ap, subst, arith, append_assoc, length-append}
+use Rattle.std.proofs.Common.{◌≡◌, inl, inr, true, ◌&&◌, ◌==◌, ℕ, zero, suc, ◌+◌, ◌-◌, ◌^◌, ◌<◌, ◌≤◌, List, [], ◌∷◌, ◌++◌, length, take, drop, replicate, slice_index, Result, refl, sym, ◌∙◌, ap, subst, arith, append_assoc, length-append}
 use Rattle.std.proofs.lemmas.Bool.{cases_eq, and_parts, eqb-true}
 use Rattle.std.proofs.lemmas.List.{take_at, take_all, take-take, drop_at, drop-drop, drop-take, length-replicate}
-use Rattle.std.proofs.lemmas.List.Elements.{All-nil}
-use Rattle.std.specs.FinMap.{get-empty}
-use Rattle.shore_types.specs.Ids.{rid_cmp}
 use Rattle.shore_types.specs.declared.faults.Device.TheVariants.{Log}
 use Rattle.shore_types.specs.declared.layout.Geometry.{Geometry}
 use Rattle.shore_types.specs.Layout.{IsInLimits}
-use Rattle.shore_types.specs.declared.layout.TheConstants.{LAST_TXN, LONGEST_FRAME}
-use Rattle.shore_model.specs.declared.log_records.LogRecord.{LogRecord}
-use Rattle.shore_page.specs.Room.{HoldsItsImage}
-use Rattle.shore_calls.specs.Bounds.{AreInBounds, InBounds}
 use Rattle.shore_disk.specs.Device.{History, overwritten, Torn, TornFrom, Writes, Stands, LeavesOnly}
 use Rattle.shore_disk.proofs.Images.{overwritten-append}
 use Rattle.shore_disk.proofs.Moments.{at_end, started, joined, widened, write_leaves}
@@ -97,18 +90,6 @@ module _ (L Z1 N Z2 Z3 tail : List ℕ) (l : length L ≡ 511) (z1 : length Z1 �
       ∙ drop_at (OPEN ∷ (L ++ (Z1 ++ (N ++ (Z2 ++ (CLOSED ∷ Z3)))))) (CLOSED ∷ tail) 4096
       (omega (arith, length-append L (Z1 ++ (N ++ (Z2 ++ (CLOSED ∷ Z3)))), length-append Z1 (N ++ (Z2 ++ (CLOSED ∷ Z3))), length-append N (Z2 ++ (CLOSED ∷ Z3)), length-append Z2 (CLOSED ∷ Z3), l, z1, n, z2, z3))
 
--- the list of no record is in bounds
-none_in_bounds : (g : Geometry) (stream_bytes : ℕ) → LONGEST_FRAME ≤ stream_bytes → AreInBounds g stream_bytes []
-none_in_bounds g stream_bytes long n le =
-    let none : n ≡ 0 = omega (arith, le) in
-    subst (λ k. InBounds g stream_bytes (take k [])) (sym none) (record {
-      inside = λ id bytes at. let clash : None ≡ Some bytes = sym (get-empty rid_cmp id) ∙ at in absurd cc;
-      pages = λ p. (0, record { room = omega arith; each = All-nil HoldsItsImage }, λ i le. get-empty rid_cmp (record { page = p; slot = i }));
-      room = omega (arith, long);
-      numbers = omega arith;
-      txns = All-nil (λ (r : LogRecord). r.txn < LAST_TXN);
-    })
-
 -- the log of no record stands behind an open gate
 pub formatted : (g : Geometry) (device_bytes : ℕ) (tail : List ℕ) → g.pair < 2 ^ 64 → IsLogLength device_bytes → IsInLimits g
     → LogStandsFor g device_bytes [] (OPEN ∷ (label_bytes Log (log_label g device_bytes) ++ (behind_label ++ tail)))
@@ -152,7 +133,7 @@ formatted g device_bytes tail pair fits limits =
         };
       };
       log = ([], (CLOSED, tail, (λ is. absurd (omega (arith, is))), part_stream L Z1 N Z2 Z3 tail l z1 n z2 z3), refl);
-      bounds = none_in_bounds g (device_bytes - 4096) (omega (arith, fits.0));
+      long = fits;
     }
 
 pub made : (g : Geometry) (device_bytes : ℕ) (label : Label) (tail : List ℕ) → label ≡ log_label g device_bytes → label.pair < 2 ^ 64 → IsLogLength device_bytes → IsInLimits g

@@ -21,7 +21,7 @@ use Rattle.shore_dwrite.proofs.Overwrites.{length-overwritten, take_below, part_
 use Rattle.shore_dwrite.proofs.PageWrites.{page_here, page_beside}
 use Rattle.shore_format.specs.Fronts.{IsShut, log_label}
 use Rattle.shore_format.specs.Pairs.{ArePaired}
-use Rattle.shore_format.specs.Volumes.{HasEmptyPages, IsEmptyBehind, VolumeStandsFor, volume_bytes, volume_label}
+use Rattle.shore_format.specs.Volumes.{HasEmptyPages, IsEmptyBehind, IsEmptyVolume, volume_bytes, volume_label}
 use Rattle.shore_format.proofs.FrontLemmas.{label_leaves, shut_torn}
 
 -- ---- the labels of a pair
@@ -152,7 +152,7 @@ module _ (g : Geometry) (rest gated image : List ℕ) (limits : IsInLimits g) (l
 
 -- and once the gate is opened
 pub made_volume : (g : Geometry) (device_bytes : ℕ) (behind : List ℕ) → IsInLimits g → g.pair < 2 ^ 64 → device_bytes ≡ volume_bytes g → IsEmptyBehind g behind
-    → VolumeStandsFor g device_bytes (OPEN ∷ behind)
+    → IsEmptyVolume g device_bytes (OPEN ∷ behind)
 made_volume g device_bytes behind limits pair long is = record {
   label = record {
     limits = record {

@@ -1,8 +1,8 @@
 -- What stands at the front of a log device, and what its frames give behind it.
-use Rattle.std.specs.Prelude.{◌≡◌, ◌≢◌, ◌⊎◌, ◌≤◌, ◌-◌, ◌&&◌, ◌==◌, ℕ, List, [], ◌∷◌, ◌++◌, Bool, Result, Ok, Err, if◌then◌else◌, take, replicate}
+use Rattle.std.specs.Prelude.{◌≡◌, ◌≢◌, ◌⊎◌, ◌≤◌, ◌&&◌, ◌==◌, ℕ, List, [], ◌∷◌, ◌++◌, Bool, Result, Ok, Err, if◌then◌else◌, take, replicate}
 use Rattle.shore_types.specs.declared.faults.Device.TheVariants.{Log}
 use Rattle.shore_types.specs.declared.layout.Geometry.{Geometry}
-use Rattle.shore_types.specs.declared.layout.TheConstants.{LOG_FRONT_BYTES, MAX_LOG_BYTES, MIN_LOG_BYTES}
+use Rattle.shore_types.specs.declared.layout.TheConstants.{MAX_LOG_BYTES, MIN_LOG_BYTES}
 use Rattle.shore_types.specs.declared.faults.Fault.{Fault}
 use Rattle.shore_disk.specs.Device.{History, TornFrom}
 use Rattle.shore_gate.specs.declared.gates.TheConstants.{OPEN, CLOSED}
@@ -14,7 +14,6 @@ use Rattle.shore_gate.specs.Label.{HoldsLabel}
 use Rattle.shore_gate.specs.Anchor.{Counts, anchor_bytes, damaged}
 use Rattle.shore_model.specs.declared.log_records.LogRecord.{LogRecord}
 use Rattle.shore_log.specs.Frames.{Gives}
-use Rattle.shore_calls.specs.Bounds.{AreInBounds}
 
 -- a log device may be so long
 abbrev pub IsLogLength : ℕ → Type 0
@@ -43,12 +42,11 @@ abbrev pub first_checked : Result Anchors Fault → Result Unit Fault
 first_checked (Ok counting) = if is_first counting.anchor then Ok tt else Err (damaged counting.slot)
 first_checked (Err fault) = Err fault
 
--- The log's part of Stands for: the front is in order, the frames give just these records, and they are in bounds with each prefix
--- of them.
+-- The log's part of Stands for: a device of a log's length, its front is in order, and the frames give just these records.
 pub record LogStandsFor (g : Geometry) (device_bytes : ℕ) (rs : List LogRecord) (image : List ℕ) : Type 0 where
   pub front : HasFront g device_bytes image
   pub log : Gives rs image
-  pub bounds : AreInBounds g (device_bytes - LOG_FRONT_BYTES) rs
+  pub long : IsLogLength device_bytes
 
 -- ---- what a format writes and leaves
 

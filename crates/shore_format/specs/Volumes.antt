@@ -31,9 +31,8 @@ pub record IsEmptyBehind (g : Geometry) (behind : List ℕ) : Type 0 where
   pub shut : part (GATE_AT - 1) 1 behind ≡ CLOSED ∷ []
   pub empty : (gate : ℕ) → AreEmpty g (page_at (gate ∷ behind))
 
--- The volume's part of Stands for, as long as no page is written back: the label of a device of this length is in order, the
--- double-write area is shut, and every page is as the format left it.
-pub record VolumeStandsFor (g : Geometry) (device_bytes : ℕ) (image : List ℕ) : Type 0 where
+-- A volume as a format leaves it: the label of a device of this length is in order, the double-write area is shut, and every page is empty.
+pub record IsEmptyVolume (g : Geometry) (device_bytes : ℕ) (image : List ℕ) : Type 0 where
   pub label : HoldsLabel Volume device_bytes (take 512 image) (volume_label g)
   pub shut : IsShut image
   pub empty : AreEmpty g (page_at image)

@@ -6,8 +6,8 @@ ghost use Rattle.shore_gate.specs.Checks.{IsFromOutside};
 ghost use Rattle.shore_format.specs.Causes.{HasCauseOfPair};
 ghost use Rattle.shore_format.specs.Faults.{bad_setting};
 ghost use Rattle.shore_format.specs.Fronts.{IsLogLength, LeftByFormat, LogStandsFor};
-ghost use Rattle.shore_format.specs.Pairs.{StandsFor};
-ghost use Rattle.shore_format.specs.Volumes.{VolumeStandsFor, volume_bytes};
+ghost use Rattle.shore_format.specs.Pairs.{AreFormatted};
+ghost use Rattle.shore_format.specs.Volumes.{IsEmptyVolume, volume_bytes};
 
 use crate::log::{is_log_length, log_label, write_log};
 use crate::volume::{volume_bytes, volume_label, write_volume};
@@ -40,16 +40,16 @@ pub fn format<L: Disk, V: Disk>(
         → IfErr result IsFromOutside }
     ensures untouched { (setting : Setting) → result ≡ Err (bad_setting setting) → (log.new ≡ log.old) × (volume.new ≡ volume.old) }
 
-    // Each pair of images that a crash now may leave stands for the empty list.
-    ensures stands { IsTrue (L.is_honest log.old) → IsTrue (V.is_honest volume.old)
+    // Each pair of images that a crash now may leave is formatted.
+    ensures formatted { IsTrue (L.is_honest log.old) → IsTrue (V.is_honest volume.old)
         → OnOk result ((log_image volume_image : List ℕ) → may_leave (L.history log.new) log_image → may_leave (V.history volume.new) volume_image
-        → StandsFor geometry.now (size (L.history log.old)) (size (V.history volume.old)) [] log_image volume_image) }
+        → AreFormatted geometry.now (size (L.history log.old)) (size (V.history volume.old)) log_image volume_image) }
 
     // A crash at any moment of the call leaves of each device what it could have left before, a closed gate, or what it has in the end.
     ensures any_log { IsTrue (L.is_honest log.old)
         → LeavesOnly (L.history log.old) (L.history log.new) (LeftByFormat (LogStandsFor geometry.now (size (L.history log.old)) []) (L.history log.old)) }
     ensures any_volume { IsTrue (V.is_honest volume.old)
-        → LeavesOnly (V.history volume.old) (V.history volume.new) (LeftByFormat (VolumeStandsFor geometry.now (size (V.history volume.old))) (V.history volume.old)) }
+        → LeavesOnly (V.history volume.old) (V.history volume.new) (LeftByFormat (IsEmptyVolume geometry.now (size (V.history volume.old))) (V.history volume.old)) }
 
     ensures honest { (L.is_honest log.new ≡ L.is_honest log.old) × (V.is_honest volume.new ≡ V.is_honest volume.old) }
     ensures size { (size (L.history log.new) ≡ size (L.history log.old)) × (size (V.history volume.new) ≡ size (V.history volume.old)) }

@@ -1,5 +1,6 @@
 -- A page in a frame that comes to keep more, one claim after another.
-use Rattle.std.proofs.Common.{◌≡◌, ◌≢◌, ◌<◌, ◌+◌, ℕ, suc, List, Option, Some, None, option_map, length, sym, ap, subst, ◌∙◌, arith}
+use Rattle.std.proofs.Common.{◌≡◌, ◌≢◌, ◌<◌, ◌++◌, ◌∷◌, [], ℕ, List, Option, Some, option_map, option_to_list, length, refl, sym, ap, ◌∙◌}
+use Rattle.std.proofs.lemmas.List.{append_assoc}
 use Rattle.shore_disk.specs.declared.device.Disk.{Ghosts}
 use Rattle.shore_types.specs.declared.ids.PageId.{PageId}
 use Rattle.shore_dwrite.specs.Settled as settled_device
@@ -9,9 +10,9 @@ use Rattle.shore_pool.specs.Changes.{reclaimed}
 use Rattle.shore_pool.specs.Pages.{SamePages}
 use Rattle.shore_pool.specs.Pools.{Holds}
 use Rattle.shore_pool.specs.declared.frame.Frame.{Frame}
-use Rattle.shore_pool.proofs.Same.{pages_on}
+use Rattle.shore_pool.proofs.Same.{pages_on, pages_stay}
 use Rattle.shore_heap.specs.declared.heap.Heap.{Heap}
-use Rattle.shore_heap.specs.Contents.{FitIn, claimed_frame, claims_below, with_claim}
+use Rattle.shore_heap.specs.Contents.{FitIn, claimed_frame}
 use Rattle.shore_heap.specs.Heaps.{bounds_of, device_of, frame_at, frame_of, geometry_of, limit_of}
 
 module _ {D : Type 0} {G : Ghosts D} (id : PageId) where
@@ -24,30 +25,38 @@ module _ {D : Type 0} {G : Ghosts D} (id : PageId) where
     pub others : (k : ℕ) → k ≢ page_number (geometry_of old) id → frame_at new k ≡ frame_at old k
     pub pages : (front : List ℕ) (disk : ℕ → List ℕ) → Holds old.pool front disk → Holds new.pool front disk × SamePages (frame_at old) disk (frame_at new) disk
 
-  -- a place of another page
-  pub keeps_none : (at : ℕ → Option (ℕ × ℕ)) (place : ℕ) (old mid : Heap D G) → at place ≡ None → Keeps (claims_below at place) old mid → Keeps (claims_below at (place + 1)) old mid
-  keeps_none at place old mid none keeps =
-      let next : suc place ≡ place + 1 = omega arith in
-      subst (λ (n : ℕ). Keeps (claims_below at n) old mid) next (subst (λ (o : Option (ℕ × ℕ)). Keeps (with_claim o (claims_below at place)) old mid) (sym none) keeps)
+  -- no claim as yet
+  pub keeps_none : (old : Heap D G) → Keeps [] old old
+  keeps_none old = record {
+    device = refl;
+    limit = refl;
+    bounds = refl;
+    here = λ f is fit. is;
+    dirt = λ k. refl;
+    others = λ k apart. refl;
+    pages = λ front disk holds. (holds, pages_stay (frame_at old) (frame_at old) disk (λ k. refl));
+  }
 
-  -- a place of this page
-  pub keeps_one : (at : ℕ → Option (ℕ × ℕ)) (place slot bytes : ℕ) (old mid new : Heap D G) → at place ≡ Some (slot, bytes) → Keeps (claims_below at place) old mid
+  -- a claim more
+  pub keeps_one : (kept : List (ℕ × ℕ)) (slot bytes : ℕ) (old mid new : Heap D G) → Keeps kept old mid
       → device_of new ≡ device_of mid → limit_of new ≡ limit_of mid → bounds_of new ≡ bounds_of mid
       → ((f : Frame) → frame_of mid id ≡ Some f → slot < length f.page.slots → Fits f.page.slots slot bytes → frame_of new id ≡ Some (reclaimed (raised bytes) slot f))
       → ((k : ℕ) → option_map (λ f. f.recovery) (frame_at new k) ≡ option_map (λ f. f.recovery) (frame_at mid k)) → ((k : ℕ) → k ≢ page_number (geometry_of mid) id → frame_at new k ≡ frame_at mid k)
       → ((front : List ℕ) (disk : ℕ → List ℕ) → Holds mid.pool front disk → Holds new.pool front disk × SamePages (frame_at mid) disk (frame_at new) disk)
-      → Keeps (claims_below at (place + 1)) old new
-  keeps_one at place slot bytes old mid new some keeps device limit bounds here dirt others pages =
-      let next : suc place ≡ place + 1 = omega arith in
-      subst (λ (n : ℕ). Keeps (claims_below at n) old new) next (subst (λ (o : Option (ℕ × ℕ)). Keeps (with_claim o (claims_below at place)) old new) (sym some) (record {
-        device = device ∙ keeps.device;
-        limit = limit ∙ keeps.limit;
-        bounds = bounds ∙ keeps.bounds;
-        here = λ f is fit. here (claimed_frame (claims_below at place) f) (keeps.here f is fit.2) fit.0 fit.1;
-        dirt = λ k. dirt k ∙ keeps.dirt k;
-        others = λ k apart. others k (λ same. apart (same ∙ ap (λ d. page_number (settled_device.geometry_of d) id) keeps.device)) ∙ keeps.others k apart;
-        pages = λ front disk holds.
-            let one = keeps.pages front disk holds in
-            let two = pages front disk one.0 in
-            (two.0, pages_on (frame_at old) (frame_at mid) (frame_at new) disk disk disk one.1 two.1);
-      }))
+      → Keeps ((slot, bytes) ∷ kept) old new
+  keeps_one kept slot bytes old mid new keeps device limit bounds here dirt others pages = record {
+    device = device ∙ keeps.device;
+    limit = limit ∙ keeps.limit;
+    bounds = bounds ∙ keeps.bounds;
+    here = λ f is fit. here (claimed_frame kept f) (keeps.here f is fit.2) fit.0 fit.1;
+    dirt = λ k. dirt k ∙ keeps.dirt k;
+    others = λ k apart. others k (λ same. apart (same ∙ ap (λ d. page_number (settled_device.geometry_of d) id) keeps.device)) ∙ keeps.others k apart;
+    pages = λ front disk holds.
+        let one = keeps.pages front disk holds in
+        let two = pages front disk one.0 in
+        (two.0, pages_on (frame_at old) (frame_at mid) (frame_at new) disk disk disk one.1 two.1);
+  }
+
+-- what a place of a chain tells goes from what is left to what is done
+pub told_on : (all older from done : List (ℕ × ℕ)) (claim : Option (ℕ × ℕ)) → from ≡ older ++ option_to_list claim → from ++ done ≡ all → older ++ (option_to_list claim ++ done) ≡ all
+told_on all older from done claim place so_far = sym (append_assoc older (option_to_list claim) done) ∙ ap (λ (l : List (ℕ × ℕ)). l ++ done) (sym place) ∙ so_far

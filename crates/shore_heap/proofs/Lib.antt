@@ -8,4 +8,4 @@ pub mod Fetched
 pub mod Scanned
 pub mod Finding
 pub mod Released
-pub mod Fitting
+pub mod Flushed

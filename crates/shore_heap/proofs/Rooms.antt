@@ -1,30 +1,16 @@
 -- What takes a record after a change has taken it before.
 use Rattle.std.proofs.Common.{◌≡◌, ◌≢◌, ℕ, zero, suc, ◌+◌, ◌-◌, ◌<◌, ◌≤◌, max, List, [], ◌∷◌, ◌++◌, length, replicate, Some, None, refl, sym, ap, ◌∙◌, inl, inr, arith}
 use Rattle.std.proofs.lemmas.Bool.{cases_lt}
-use Rattle.std.proofs.lemmas.List.Sums.{sum_by-cons}
 use Rattle.shore_types.specs.Images.{Image}
 use Rattle.shore_page.specs.Slots.{Slot, image_len, image_at_slot, with_change, with_slot, with_image, holding, settled}
 use Rattle.shore_page.specs.Room.{claims, claim_at, Fits, IsCandidate, IsFirstCandidate}
+use Rattle.shore_page.proofs.Fitting.{IsSame, claims_changed, others_changed}
 use Rattle.shore_page.proofs.RoomLemmas.{claims-with_slot, length-with_slot}
 use Rattle.shore_page.proofs.UndoLemmas.{length-with_change}
 use Rattle.shore_heap.specs.Contents.{TakesNone}
 use Rattle.shore_heap.specs.Places.{IsFirstSlot}
 
 -- ---- one slot changed
-
-abbrev claim_of : Slot → ℕ
-claim_of s = s.claim
-
-pub claims_changed : (f : Slot → Slot) (slots : List Slot) (i : ℕ) → i < length slots → claims (with_change f slots i) + claim_at slots i ≡ claims slots + claim_at (with_change f slots i) i
-claims_changed f [] i inside = absurd (omega arith)
-claims_changed f (s ∷ slots) zero inside =
-    let new : claims (f s ∷ slots) ≡ claim_of (f s) + claims slots = sum_by-cons claim_of (f s) slots in
-    let old : claims (s ∷ slots) ≡ claim_of s + claims slots = sum_by-cons claim_of s slots in
-    omega arith
-claims_changed f (s ∷ slots) (suc i) inside =
-    let new : claims (s ∷ with_change f slots i) ≡ claim_of s + claims (with_change f slots i) = sum_by-cons claim_of s (with_change f slots i) in
-    let old : claims (s ∷ slots) ≡ claim_of s + claims slots = sum_by-cons claim_of s slots in
-    omega (arith, claims_changed f slots i (omega arith))
 
 claim_held : (image : Image) (slots : List Slot) (i : ℕ) → i < length slots → claim_at (with_change (holding image) slots i) i ≡ max (claim_at slots i) (image_len image)
 claim_held image [] i inside = absurd (omega arith)
@@ -35,16 +21,6 @@ image_held : (image : Image) (slots : List Slot) (i : ℕ) → i < length slots 
 image_held image [] i inside = absurd (omega arith)
 image_held image (s ∷ slots) zero inside = refl
 image_held image (s ∷ slots) (suc i) inside = image_held image slots i (omega arith)
-
-abbrev IsSame : List Slot → List Slot → ℕ → Type 0
-IsSame old new i = (image_at_slot new i ≡ image_at_slot old i) × (claim_at new i ≡ claim_at old i)
-
-pub others_changed : (f : Slot → Slot) (slots : List Slot) (i other : ℕ) → other ≢ i → IsSame slots (with_change f slots i) other
-others_changed f [] i other apart = (refl, refl)
-others_changed f (s ∷ slots) zero zero apart = absurd (apart refl)
-others_changed f (s ∷ slots) zero (suc other) apart = (refl, refl)
-others_changed f (s ∷ slots) (suc i) zero apart = (refl, refl)
-others_changed f (s ∷ slots) (suc i) (suc other) apart = others_changed f slots i other (λ (e : other ≡ i). apart (ap suc e))
 
 -- ---- slots up to one
 

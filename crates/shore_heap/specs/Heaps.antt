@@ -18,9 +18,9 @@ use Rattle.shore_pool.specs.declared.pool.Pool.{Pool}
 use Rattle.shore_pool.specs.Pools as pools
 use Rattle.shore_pool.specs.Pages.{SamePages}
 use Rattle.shore_pool.specs.Pools.{HasInPlace, Holds, NeedsForce}
-use Rattle.shore_heap.specs.declared.claims.Claims as claims
+use Rattle.shore_page.specs.declared.undecided.Claims as claims
 use Rattle.shore_heap.specs.declared.heap.Heap.{Heap}
-use Rattle.shore_heap.specs.Contents.{AreBounds, AreKept, HasSlots, Kept, claims_below}
+use Rattle.shore_heap.specs.Contents.{AreBounds, AreKept, HasSlots, Kept}
 
 abbrev pub pool_of : {D : Type 0} {G : Ghosts D} → Heap D G → Pool D G
 pool_of heap = heap.pool
@@ -63,7 +63,7 @@ IsWhole heap = page_count (geometry_of heap) ≤ limit_of heap
 
 -- what undecided changes may put back on each page
 abbrev pub claims_in : {C : Type 0} (G : claims.Ghosts C) → C → Kept
-claims_in G undecided id = claims_below (G.claim undecided id) (G.places undecided)
+claims_in G undecided = G.kept undecided
 
 -- The volume is settled with these texts behind this front, what is clean in a frame is there, and each page has these slots, if so much may come
 -- back to it.

@@ -14,9 +14,9 @@ ghost use Rattle.shore_types.specs.declared.faults.Fault.TheVariants as Fault;
 ghost use Rattle.shore_types.specs.declared.ids.PageId.{PageId};
 ghost use Rattle.shore_heap.specs.Contents.{AreKept, FitIn, Kept, claimed_frame};
 
-use crate::claims::Claims;
 use crate::heap::Heap;
 use shore_disk::Disk;
+use shore_page::{ChainPlace, Claims};
 use shore_pool::Fetched;
 use shore_types::{Fault, Lsn, PageId};
 use std::alloc::Global;
@@ -96,10 +96,13 @@ impl<D: Disk> Heap<D> {
         ensures limit { limit_of self.new ≡ limit_of self.old }
         ensures device { device_of self.new ≡ device_of self.old }
     {
-        for place in 0..claims.places() {
-            if let Some((slot, bytes)) = claims.claim(id, place) {
+        let mut place = claims.newest(id);
+        while place > 0 {
+            let ChainPlace { claim, older } = claims.place(id, place);
+            if let Some((slot, bytes)) = claim {
                 self.keep(id, slot, bytes as usize);
             }
+            place = older;
         }
     }
 

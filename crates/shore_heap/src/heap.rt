@@ -6,6 +6,8 @@ ghost use Rattle.shore_dwrite.specs.Volumes.{page_number};
 ghost use Rattle.shore_page.specs.Room.{Fits, claim_at, lowered};
 ghost use Rattle.shore_page.specs.Slots.{Slot, image_at_slot, image_len, settled, with_change, with_image};
 ghost use Rattle.shore_page.specs.Text.{IsPageText, images_of};
+ghost use Rattle.shore_pool.specs.Changes.{changed, reclaimed};
+ghost use Rattle.shore_pool.specs.Pages.{SamePages};
 ghost use Rattle.shore_pool.specs.Pools as pools;
 ghost use Rattle.shore_types.specs.Images.{Image};
 ghost use Rattle.shore_types.specs.Layout.{HasPage};
@@ -85,6 +87,18 @@ impl<D: Disk> Heap<D> {
         }
     }
 
+    /// The number of the last change of a page that is in a frame, 0 for none.
+    pub fn number(&self, page: PageId) -> Lsn
+        requires there { HasPage (geometry_of self.now) page }
+        requires held { IsTrue (is_some (frame_of self.now page)) }
+        ensures { IsSomeAnd (frame_of self.now page) (λ f. result ≡ f.page.number) }
+    {
+        match self.pool.page(page) {
+            Some(found) => found.number(),
+            None => Lsn(0),
+        }
+    }
+
     /// Whether a record of so many bytes can have this id, whose page is in a frame.
     pub fn fits(&self, id: Rid, bytes: usize) -> bool
         requires there { HasPage (geometry_of self.now) id.page }
@@ -116,6 +130,8 @@ impl<D: Disk> Heap<D> {
         requires fits { IsSomeAnd (frame_of self.old id.page) (λ f. Fits f.page.slots id.slot (image_len (option_map (λ bytes. bytes.now) after))) }
         ensures shows { (K : Kept) (front : List ℕ) (disk : ℕ → List ℕ) (S : PageId → List Slot) → Shows K self.old front disk S
             → Shows K self.new front disk (with_slots S id.page (λ slots. with_image slots id.slot (option_map (λ bytes. bytes.now) after.entry))) }
+        ensures frames { (frame_at self.new (page_number (geometry_of self.old) id.page) ≡ option_map (changed lsn id.slot (option_map (λ bytes. bytes.now) after.entry)) (frame_of self.old id.page))
+            × ((k : ℕ) → k ≢ page_number (geometry_of self.old) id.page → frame_at self.new k ≡ frame_at self.old k) }
         ensures held { (k : ℕ) → is_some (frame_at self.new k) ≡ is_some (frame_at self.old k) }
         ensures untouched { KeepsVolume self.old self.new }
         ensures limit { limit_of self.new ≡ limit_of self.old }
@@ -136,6 +152,7 @@ impl<D: Disk> Heap<D> {
         ensures told { (K L : Kept) (front : List ℕ) (disk : ℕ → List ℕ) (S : PageId → List Slot) → Shows K self.old front disk S
             → frame_of self.old id.page ≡ None → ((p : PageId) → p ≢ id.page → L p ≡ K p) → FitIn (L id.page) (map settled (images_of (S id.page)))
             → Shows L self.new front disk (with_slots S id.page (λ slots. claimed_by (L id.page) (map settled (images_of slots)))) }
+        ensures same { (disk : ℕ → List ℕ) → SamePages (frame_at self.old) disk (frame_at self.new) disk }
         ensures untouched { KeepsVolume self.old self.new }
         ensures held { (k : ℕ) → is_some (frame_at self.new k) ≡ is_some (frame_at self.old k) }
         ensures limit { limit_of self.new ≡ limit_of self.old }
@@ -157,6 +174,9 @@ impl<D: Disk> Heap<D> {
         requires slot { IsSomeAnd (frame_of self.old id.page) (λ f. id.slot < length f.page.slots) }
         ensures shows { (K : Kept) (front : List ℕ) (disk : ℕ → List ℕ) (S : PageId → List Slot) → Shows K self.old front disk S
             → Shows K self.new front disk (with_slots S id.page (λ slots. with_change (lowered bytes) slots id.slot)) }
+        ensures frames { (frame_at self.new (page_number (geometry_of self.old) id.page) ≡ option_map (reclaimed (lowered bytes) id.slot) (frame_of self.old id.page))
+            × ((k : ℕ) → k ≢ page_number (geometry_of self.old) id.page → frame_at self.new k ≡ frame_at self.old k) }
+        ensures same { (disk : ℕ → List ℕ) → SamePages (frame_at self.old) disk (frame_at self.new) disk }
         ensures untouched { KeepsVolume self.old self.new }
         ensures held { (k : ℕ) → is_some (frame_at self.new k) ≡ is_some (frame_at self.old k) }
         ensures limit { limit_of self.new ≡ limit_of self.old }
@@ -191,12 +211,13 @@ impl<D: Disk> Heap<D> {
 
 impl<D: Disk> Heap<FuseDisk<D>> {
     ghost use Rattle.shore_disk.specs.Fuse.{fuse_calls, fuse_inner};
-    ghost use Rattle.shore_heap.specs.Heaps.{KeepsVolume, Shows, device_of, faults_of, geometry_of, history_of, limit_of};
+    ghost use Rattle.shore_heap.specs.Heaps.{KeepsVolume, Shows, device_of, faults_of, frame_at, geometry_of, history_of, limit_of};
 
     /// Lets so many more writes and syncs of the device pass; then every call of it fails.
     pub fn set_fuse(&mut self, calls: u64)
         ensures inner { fuse_inner (settled_device.device_of (device_of self.new)) ≡ fuse_inner (settled_device.device_of (device_of self.old)) }
         ensures calls { fuse_calls (settled_device.device_of (device_of self.new)) ≡ calls }
+        ensures frames { (k : ℕ) → frame_at self.new k ≡ frame_at self.old k }
         ensures shows { (K : Kept) (front : List ℕ) (disk : ℕ → List ℕ) (S : PageId → List Slot) → Shows K self.old front disk S → Shows K self.new front disk S }
         ensures untouched { KeepsVolume self.old self.new }
         ensures limit { limit_of self.new ≡ limit_of self.old }

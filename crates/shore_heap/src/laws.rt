@@ -1,12 +1,9 @@
-//! Laws, as functions that do nothing: what a scan is to the model, which slots a heap shows, and which claims fit.
-ghost use Rattle.std.specs.Prelude.{◌≡◌, ◌≤◌, ℕ, List, None, length, map};
-ghost use Rattle.shore_page.specs.Room.{HasRoom};
-ghost use Rattle.shore_page.specs.Slots.{Slot, settled};
-ghost use Rattle.shore_types.specs.Images.{Image};
+//! Laws, as functions that do nothing: what a scan is to the model, and which slots a heap shows.
+ghost use Rattle.std.specs.Prelude.{◌≡◌, ℕ, List, None};
+ghost use Rattle.shore_page.specs.Slots.{Slot};
 ghost use Rattle.shore_types.specs.Layout.{HasPage};
 ghost use Rattle.shore_types.specs.declared.ids.PageId.{PageId};
-ghost use Rattle.shore_types.specs.declared.layout.TheConstants.{MAX_SLOTS};
-ghost use Rattle.shore_heap.specs.Contents.{AreThere, FitIn, Kept, claimed_by};
+ghost use Rattle.shore_heap.specs.Contents.{Kept};
 ghost use Rattle.shore_heap.specs.Heaps.{Shows, frame_of, geometry_of};
 ghost use Rattle.shore_heap.specs.Scans.{ScansAsTheModel};
 
@@ -22,12 +19,6 @@ pub fn scans_are_the_models()
 pub fn pages_of_the_volume_decide<D: Disk>(heap: &Heap<D>)
     ensures { (K : Kept) (front : List ℕ) (disk : ℕ → List ℕ) (S T : PageId → List Slot) → ((id : PageId) → HasPage (geometry_of heap.now) id → T id ≡ S id)
         → Shows K heap.now front disk S → Shows K heap.now front disk T }
-{}
-
-/// If a page has room for all that is told of it, each claim fits when its turn comes.
-pub fn claims_with_room_fit()
-    ensures { (kept : List (ℕ × ℕ)) (images : List Image) → length images ≤ MAX_SLOTS → AreThere (length (map settled images)) kept
-        → HasRoom (claimed_by kept (map settled images)) → FitIn kept (map settled images) }
 {}
 
 /// What may come back to the slots of pages in frames may be told otherwise: it counts for pages in no frame alone.

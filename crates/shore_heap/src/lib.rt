@@ -1,17 +1,14 @@
 //! Records in the pages of a pool: a heap file for each store of a volume.
 #![tactic(auto)]
 
-mod claims;
 mod fetching;
+mod flushing;
 mod heap;
 mod laws;
 mod maps;
 mod places;
 mod scans;
 
-pub use claims::{Claims, NoClaims};
 pub use heap::Heap;
-pub use laws::{
-    claims_count_out_of_frames, claims_with_room_fit, pages_of_the_volume_decide,
-    scans_are_the_models,
-};
+pub use laws::{claims_count_out_of_frames, pages_of_the_volume_decide, scans_are_the_models};
+pub use shore_page::{ChainPlace, Claims, NoClaims};

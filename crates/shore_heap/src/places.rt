@@ -13,9 +13,9 @@ ghost use Rattle.shore_types.specs.declared.layout.Geometry.{Geometry};
 ghost use Rattle.shore_heap.specs.Contents.{AreKept, Kept, TakesNone, bound_of};
 ghost use Rattle.shore_heap.specs.Places.{HasNoPlace, IsFirstSlot, IsFree, IsPlace, IsRefused};
 
-use crate::claims::Claims;
 use crate::heap::Heap;
 use shore_disk::Disk;
+use shore_page::Claims;
 use shore_types::{Fault, Lsn, PageId, Rid, StoreId};
 use std::alloc::Global;
 

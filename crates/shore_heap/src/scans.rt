@@ -13,10 +13,9 @@ ghost use Rattle.shore_heap.specs.Contents.{AreKept, Kept};
 ghost use Rattle.shore_heap.specs.Places.{IsRefused};
 ghost use Rattle.shore_heap.specs.Scans.{HasBefore, IsScan};
 
-use crate::claims::Claims;
 use crate::heap::Heap;
 use shore_disk::Disk;
-use shore_page::Page;
+use shore_page::{Claims, Page};
 use shore_types::layout::PAGE_ROOM;
 use shore_types::{Fault, Lsn, PageId, Pairs, Rid, StoreId};
 use std::alloc::{AllocError, Global};

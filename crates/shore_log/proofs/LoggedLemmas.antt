@@ -6,6 +6,7 @@ use Rattle.shore_log.specs.Frames.{AreNumbered, IsLongest, IsGroup}
 use Rattle.std.specs.Prelude.{IsSome, is_some, nat_lt, nat_le, All, take, drop, OnOk, OnErr, if◌then◌else◌}
 use Rattle.std.proofs.lemmas.Bool.{cases_lt}
 use Rattle.std.proofs.lemmas.Bool.Decides.{nat_tests}
+use Rattle.shore_types.specs.declared.layout.TheConstants.{MAX_FRAME_BYTES}
 use Rattle.shore_types.specs.declared.ids.Rid.{Rid}
 use Rattle.shore_types.specs.Images.{Image}
 use Rattle.shore_model.specs.declared.log_records.LogRecord.{LogRecord}
@@ -225,6 +226,18 @@ not_longer rs a b longest other = elim longest.longest [
 -- there is one longest group
 pub longest_is : (rs : List LogRecord) (a b : ℕ) → IsLongest rs a → IsLongest rs b → a ≡ b
 longest_is rs a b longest other = omega (arith, not_longer rs a b longest other, not_longer rs b a other longest)
+
+-- a group that fits is the longest, or one more fits too
+longest_from : (rs : List LogRecord) (more count : ℕ) → count + more ≡ length rs → length (texts (take count rs)) ≤ MAX_FRAME_BYTES → (n : ℕ) × IsLongest rs n
+longest_from rs zero count all fits = (count, record { within = omega (arith, all); fits = fits; longest = inl (omega (arith, all)) })
+longest_from rs (suc more) count all fits = elim (cases_lt MAX_FRAME_BYTES (length (texts (take (count + 1) rs)))) [
+  | inl over ↦ (count, record { within = omega (arith, all); fits = fits; longest = inr over })
+  | inr le ↦ longest_from rs more (count + 1) (omega (arith, all)) le
+]
+
+-- there is one of each list
+pub has_longest : (rs : List LogRecord) → (n : ℕ) × IsLongest rs n
+has_longest rs = longest_from rs (length rs) 0 (omega arith) (omega arith)
 
 -- what waits behind an index of a list that is numbered
 pub Fits-behind : (rs now : List LogRecord) (n m : ℕ) → now ≡ rs → n ≤ length rs → IsTrue (are_numbered 1 rs) → All Fits (take m (drop n now))

@@ -155,6 +155,8 @@ impl<D: Disk> LogDev<D> {
         ensures others { IfErr result (λ fault. (fault ≡ Fault.Device) ⊎ (fault ≡ Fault.Memory) ⊎ (fault ≡ Fault.LogFull)) }
         ensures full { result ≡ Err Fault.LogFull → HasNoFrameRoom self.old }
         ensures none_staged { OnErr result (self.new.staged ≡ None) }
+        ensures size { size (D.history self.new.device) ≡ size (D.history self.old.device) }
+        ensures honest { D.is_honest self.new.device ≡ D.is_honest self.old.device }
         ensures cause { HasCause result (D.faults self.old.device) (D.faults self.new.device) }
     {
         if self.staged.is_some() {
@@ -194,6 +196,8 @@ impl<D: Disk> LogDev<D> {
         ensures same { records_of_log self.new ≡ records_of_log self.old }
         ensures only_device { IfErr result (λ fault. fault ≡ Fault.Device) }
         ensures unforced { OnErr result (stable self.new ≡ stable self.old) }
+        ensures size { size (D.history self.new.device) ≡ size (D.history self.old.device) }
+        ensures honest { D.is_honest self.new.device ≡ D.is_honest self.old.device }
         ensures cause { HasCause result (D.faults self.old.device) (D.faults self.new.device) }
     {
         let Some(staged) = self.staged else {
@@ -227,6 +231,8 @@ impl<D: Disk> LogDev<D> {
         ensures refused { IfErr result (λ fault. (fault ≡ Fault.Device) ⊎ (self.new ≡ self.old)) }
         ensures others { IfErr result (λ fault. (fault ≡ Fault.Device) ⊎ (fault ≡ Fault.Memory) ⊎ (fault ≡ Fault.LogFull)) }
         ensures full { result ≡ Err Fault.LogFull → HasNoFrameRoom self.old }
+        ensures size { size (D.history self.new.device) ≡ size (D.history self.old.device) }
+        ensures honest { D.is_honest self.new.device ≡ D.is_honest self.old.device }
         ensures cause { HasCause result (D.faults self.old.device) (D.faults self.new.device) }
     {
         match self.stage(alloc)? {

@@ -89,7 +89,7 @@ module _ (g : Geometry) (s : RecoveryState) (f : MayBeFound s) (r : StoredRun) (
   tells = tells_the_committed s.log f.no_prepare
 
   -- what the open leaves is a state after no entries
-  opened : IsStateAfter s.log [] r.first
+  pub opened : IsStateAfter s.log [] r.first
   opened =
       let log = h.opens.stored.log in
       let durable = h.opens.stored.durable in

@@ -1,5 +1,6 @@
 pub mod RoomLemmas
 pub mod UndoLemmas
+pub mod Fitting
 pub mod WritingLemmas
 pub mod LayoutLemmas
 pub mod SlotsWritten

@@ -1,9 +1,11 @@
-//! Laws, as functions that do nothing: why no undo lacks room on its page, and that bytes are read in one way.
-ghost use Rattle.std.specs.Prelude.{◌≡◌, List, ℕ, ◌∷◌, Some, slice_get};
-ghost use Rattle.shore_page.specs.Slots.{image_len, with_change, with_image};
+//! Laws, as functions that do nothing: why no undo lacks room on its page, which claims fit again, and that bytes are read in one way.
+ghost use Rattle.std.specs.Prelude.{◌≡◌, ◌≤◌, List, ℕ, ◌∷◌, Some, length, map, slice_get};
+ghost use Rattle.shore_page.specs.Claims.{AreThere, FitIn, claimed_by};
+ghost use Rattle.shore_page.specs.Slots.{image_len, settled, with_change, with_image};
 ghost use Rattle.shore_types.specs.Images.{Image};
 ghost use Rattle.shore_page.specs.Room.{Fits, HasRoom, lowered};
 ghost use Rattle.shore_types.specs.declared.ids.PageId.{PageId};
+ghost use Rattle.shore_types.specs.declared.layout.TheConstants.{MAX_SLOTS};
 ghost use Rattle.shore_page.specs.Text.{IsPageText};
 ghost use Rattle.shore_page.specs.Undo.{Undecided, longest, claiming_all, with_undecided, undoing, deciding, UndoFits};
 
@@ -33,6 +35,12 @@ pub fn undo_keeps_claims()
 pub fn decision_keeps_claims()
     ensures { (slots : List Undecided) (slot : ℕ)
         → with_change (lowered 0) (claiming_all slots) slot ≡ claiming_all (with_change deciding slots slot) }
+{}
+
+/// If a page has room for all that is told of it, each claim fits when its turn comes.
+pub fn claims_with_room_fit()
+    ensures { (kept : List (ℕ × ℕ)) (images : List Image) → length images ≤ MAX_SLOTS → AreThere (length (map settled images)) kept
+        → HasRoom (claimed_by kept (map settled images)) → FitIn kept (map settled images) }
 {}
 
 /// Bytes are the text of one page at most.

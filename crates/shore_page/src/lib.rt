@@ -10,6 +10,8 @@ mod page;
 mod placing;
 mod reading;
 mod text;
+mod undecided;
 mod writing;
 
 pub use page::Page;
+pub use undecided::{ChainPlace, Claims, NoClaims};

@@ -11,8 +11,10 @@ abbrev pub IsServedCommand : Command → Type 0
 IsServedCommand (command.Ask call) = IsServed 1 call
 IsServedCommand command.Nothing = Unit {0}
 IsServedCommand command.Force = Unit {0}
+IsServedCommand command.Flush = Unit {0}
 IsServedCommand (command.Crash pick) = Unit {0}
-IsServedCommand (command.Fuse device calls) = Unit {0}
+IsServedCommand (command.Fuse fuse) = Unit {0}
+IsServedCommand (command.NextFuse fuse) = Unit {0}
 IsServedCommand command.Dump = Unit {0}
 IsServedCommand command.Log = Unit {0}
 
@@ -21,8 +23,10 @@ abbrev pub IsForFiles : Command → Type 0
 IsForFiles (command.Ask call) = Unit {0}
 IsForFiles command.Nothing = Unit {0}
 IsForFiles command.Force = Unit {0}
+IsForFiles command.Flush = Unit {0}
 IsForFiles (command.Crash pick) = pick ≡ None
-IsForFiles (command.Fuse device calls) = ⊥
+IsForFiles (command.Fuse fuse) = ⊥
+IsForFiles (command.NextFuse fuse) = ⊥
 IsForFiles command.Dump = Unit {0}
 IsForFiles command.Log = Unit {0}
 

@@ -3,6 +3,7 @@ ghost use Rattle.std.specs.Prelude.{IfOk, IfSome};
 ghost use Rattle.shore_calls.specs.CallSteps.{IsServed};
 ghost use Rattle.shore_prog.specs.Commands.{IsServedCommand};
 
+use crate::fuses::Fuse;
 use crate::words;
 use shore_disk::Pick;
 use shore_model::Call;
@@ -24,10 +25,14 @@ pub enum Command {
     Ask(Call),
     /// Every waiting record is forced.
     Force,
+    /// Every dirty page with a durable number is written back.
+    Flush,
     /// The power is lost, and the manager opened again. The line may pick what becomes of writes that were not synced.
     Crash(Option<Pick>),
-    /// The device lets so many more writes and syncs pass.
-    Fuse(Device, u64),
+    /// A device gets this fuse.
+    Fuse(Fuse),
+    /// A device gets this fuse as the next crash opens it. The last one of a device counts.
+    NextFuse(Fuse),
     /// Every record in place.
     Dump,
     /// Every record of the log.
@@ -66,15 +71,28 @@ fn plain_command(words: &[&str]) -> Option<Command>
     match words {
         [word] => match *word {
             "force" => Some(Command::Force),
+            "flush" => Some(Command::Flush),
             "crash" => Some(Command::Crash(None)),
             "dump" => Some(Command::Dump),
             "log" => Some(Command::Log),
             _ => None,
         },
         [word, pick] if *word == "crash" => Some(Command::Crash(Some(pick_of(pick)?))),
-        [word, device, calls] if *word == "fuse" => {
-            Some(Command::Fuse(device_of(device)?, words::number(calls)?))
-        }
+        [word, device, calls] => fuse_command(word, device, calls),
+        _ => None,
+    }
+}
+
+fn fuse_command(word: &str, device: &str, calls: &str) -> Option<Command>
+    ensures { IfSome result IsServedCommand }
+{
+    let fuse = Fuse {
+        device: device_of(device)?,
+        calls: words::number(calls)?,
+    };
+    match word {
+        "fuse" => Some(Command::Fuse(fuse)),
+        "nextfuse" => Some(Command::NextFuse(fuse)),
         _ => None,
     }
 }

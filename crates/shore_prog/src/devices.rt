@@ -1,14 +1,15 @@
 //! The two devices that a script works with, in memory or in files.
 ghost use Rattle.std.specs.Prelude.{◌≡◌, IfOk, IfErr, IfSome, IsOkAnd};
+ghost use Rattle.shore_disk.specs.AnyDisk.{any_history};
 ghost use Rattle.shore_disk.specs.Device.{size};
-ghost use Rattle.shore_disk.specs.Fuse.{fuse_inner};
 ghost use Rattle.shore_format.specs.Volumes.{volume_bytes};
 ghost use Rattle.shore_gate.specs.Checks.{IsFromOutside};
 ghost use Rattle.shore_settings.specs.Limits.{AreInLimits};
 ghost use Rattle.shore_settings.specs.declared.settings.Devices.TheVariants.{Memory};
 ghost use Rattle.shore_types.specs.declared.faults.Fault.TheVariants as Fault;
-ghost use Rattle.shore_prog.specs.Devices.{HaveLengths, history_of};
+ghost use Rattle.shore_prog.specs.Devices.{AreFused, HaveLengths};
 
+use crate::fuses::Fuses;
 use shore_disk::{AnyDisk, FileDisk, FuseDisk, MemDisk};
 use shore_settings::{Devices, FilePair, Settings};
 use shore_types::Fault;
@@ -22,9 +23,6 @@ pub type ScriptDisk = FuseDisk<AnyDisk>;
 
 /// The log device and the volume.
 pub type ScriptPair = (ScriptDisk, ScriptDisk);
-
-// A fuse that no run of the program blows.
-const NO_FUSE: u64 = u64::MAX;
 
 /// The devices of the settings, formatted unless they are files that are to be opened as they are.
 pub fn first_pair(
@@ -62,7 +60,7 @@ fn new_pair(
         Devices::Memory => {
             let log = zeroed(alloc, log_bytes).map_err(|_| Fault::Memory)?;
             let volume = zeroed(alloc, volume_bytes).map_err(|_| Fault::Memory)?;
-            Ok((log, volume))
+            Ok(behind_fuses(log, volume, Fuses::NONE))
         }
         Devices::Files(paths) => {
             made_anew(files, paths, log_bytes, volume_bytes).map_err(|_| Fault::Device)
@@ -70,18 +68,18 @@ fn new_pair(
     }
 }
 
-/// The devices after a crash, with no fuse: those in memory as it left them. Files are closed, and opened as they are.
+/// The devices after a crash: those in memory as it left them, behind these fuses. Files are closed, and opened as they are, with no fuse.
 pub fn pair_after_crash(
     files: &impl Files<File = File>,
     devices: &Devices,
     left: Option<(AnyDisk, AnyDisk)>,
+    fuses: Fuses,
 ) -> Result<ScriptPair, Fault>
-    ensures memory { devices.now ≡ Memory
-        → IfSome left (λ disks. IsOkAnd result (λ pair. (fuse_inner pair.0 ≡ disks.0) × (fuse_inner pair.1 ≡ disks.1))) }
+    ensures memory { devices.now ≡ Memory → IfSome left (λ disks. IsOkAnd result (AreFused fuses disks)) }
     ensures refused { IfErr result (λ fault. fault ≡ Fault.Device) }
 {
     match (devices, left) {
-        (Devices::Memory, Some((log, volume))) => Ok((fused(log), fused(volume))),
+        (Devices::Memory, Some((log, volume))) => Ok(behind_fuses(log, volume, fuses)),
         (Devices::Memory, None) => Err(Fault::Device),
         (Devices::Files(paths), left) => {
             drop(left);
@@ -103,25 +101,28 @@ fn made_anew(
     let volume = FileDisk::open_or_create(files, paths.volume.as_str())?;
     let log = log.cleared(log_bytes)?;
     let volume = volume.cleared(volume_bytes)?;
-    Ok((fused(AnyDisk::File(log)), fused(AnyDisk::File(volume))))
+    Ok(behind_fuses(AnyDisk::File(log), AnyDisk::File(volume), Fuses::NONE))
 }
 
 fn opened(files: &impl Files<File = File>, paths: &FilePair) -> io::Result<ScriptPair> {
     let log = FileDisk::open(files, paths.log.as_str())?;
     let volume = FileDisk::open(files, paths.volume.as_str())?;
-    Ok((fused(AnyDisk::File(log)), fused(AnyDisk::File(volume))))
+    Ok(behind_fuses(AnyDisk::File(log), AnyDisk::File(volume), Fuses::NONE))
 }
 
 // A device in memory of so many zeros.
-fn zeroed(alloc: Global, len: u64) -> Result<ScriptDisk, AllocError>
-    ensures { IfOk result (λ d. size (history_of d) ≡ len) }
+fn zeroed(alloc: Global, len: u64) -> Result<AnyDisk, AllocError>
+    ensures { IfOk result (λ disk. size (any_history disk) ≡ len) }
 {
     let bytes = Vec::from_elem(alloc, 0, len as usize)?;
-    Ok(fused(AnyDisk::Memory(MemDisk::new(alloc, bytes)?)))
+    Ok(AnyDisk::Memory(MemDisk::new(alloc, bytes)?))
 }
 
-fn fused(disk: AnyDisk) -> ScriptDisk
-    ensures { fuse_inner result ≡ disk }
+fn behind_fuses(log: AnyDisk, volume: AnyDisk, fuses: Fuses) -> ScriptPair
+    ensures { AreFused fuses (log, volume) result }
 {
-    FuseDisk::new(disk, NO_FUSE)
+    (
+        FuseDisk::new(log, fuses.log),
+        FuseDisk::new(volume, fuses.volume),
+    )
 }

@@ -3,6 +3,7 @@
 
 mod command;
 mod devices;
+mod fuses;
 mod lines;
 mod manager;
 mod program;

@@ -1,19 +1,22 @@
 //! The manager that a script works with: a world over two devices in memory or in files, each behind a fuse.
-ghost use Rattle.std.specs.Prelude.{◌≤◌, ◌↔◌, IsTrue};
+ghost use Rattle.std.specs.Prelude.{◌≡◌, ◌≤◌, ◌↔◌, ℕ, IsTrue, IfOk};
+ghost use Rattle.shore_types.specs.declared.faults.Fault.TheVariants.{NeedForce};
 ghost use Rattle.shore_types.specs.declared.layout.TheConstants.{MAX_PAGES, MIN_POOL_FRAMES};
 ghost use Rattle.shore_calls.specs.CallSteps.{IsServed};
 ghost use Rattle.shore_settings.specs.Limits.{AreInLimits};
 ghost use Rattle.shore_prog.specs.Commands.{IsServedCommand, IsTaken};
+ghost use Rattle.shore_prog.specs.declared.manager.Progress.TheVariants.{Again};
 
 use crate::command::{Command, SESSION};
 use crate::devices::{ScriptDisk, first_pair, pair_after_crash};
+use crate::fuses::{Fuse, Fuses};
 use crate::render;
 use crate::stop::Stop;
 use shore_disk::Pick;
-use shore_model::Call;
+use shore_model::{Answer, Call};
 use shore_settings::{Devices, Settings};
 use shore_types::layout::MAX_STORES;
-use shore_types::{Device, Fault, Pairs, StoreId};
+use shore_types::{Device, Fault, Pairs, SessionId, StoreId};
 use shore_world::{Event, Step, World, crashed};
 use std::alloc::Global;
 use std::fs::{File, Files};
@@ -23,11 +26,12 @@ use std::mem;
 /// A world over two devices.
 pub type ScriptWorld = World<ScriptDisk, ScriptDisk>;
 
-/// The manager, where its devices are, and how many frames for pages an open asks for.
+/// The manager, where its devices are, how many frames for pages an open asks for, and which fuses the next crash sets.
 #[derive(Drop)]
 pub struct Manager {
     devices: Devices,
     frames: usize,
+    next_fuses: Fuses,
     access: Access,
     ghost some: { MIN_POOL_FRAMES ≤ frames },
     ghost few: { frames ≤ MAX_PAGES },
@@ -40,6 +44,15 @@ enum Access {
     Closed(ScriptDisk, ScriptDisk),
     /// No device is at hand, since a file could not be opened.
     Lost,
+}
+
+/// How far a line came.
+#[derive(Clone, Copy, PartialEq)]
+pub enum Progress {
+    /// It is done, and its answers are written.
+    Done,
+    /// It needed a force, which was made. Nothing else was done, and nothing written: the line is to be made again.
+    Again,
 }
 
 /// A world that is open, and its one session.
@@ -66,6 +79,7 @@ impl Manager {
             None => Ok(Manager {
                 devices: settings.devices,
                 frames,
+                next_fuses: Fuses::NONE,
                 access,
             }),
             Some(fault) => Err(fault),
@@ -81,48 +95,56 @@ impl Manager {
         ensures { IsTrue result ↔ IsTaken self.now.devices command.now }
     {
         match (&self.devices, command) {
-            (Devices::Files(_), Command::Fuse(..) | Command::Crash(Some(_))) => false,
+            (
+                Devices::Files(_),
+                Command::Fuse(_) | Command::NextFuse(_) | Command::Crash(Some(_)),
+            ) => false,
             _ => true,
         }
     }
 
-    /// Does what a line asks for, and writes its answers.
+    /// Does what a line asks for, and writes its answers, or forces the log for it.
     pub fn execute<F: Files<File = File>, W: Write>(
         &mut self,
         alloc: Global,
         files: &F,
         command: Command,
         out: &mut W,
-    ) -> Result<(), Stop>
+    ) -> Result<Progress, Stop>
         requires served { IsServedCommand command }
         requires taken { IsTaken self.old.devices command }
     {
         match command {
-            Command::Nothing => Ok(()),
-            Command::Crash(pick) => self.crash(alloc, files, pick.unwrap_or(Pick::Old), out),
-            Command::Fuse(device, calls) => {
-                self.set_fuse(device, calls);
-                Ok(())
-            }
-            command => self.serve(alloc, command, out),
+            Command::Nothing => {}
+            Command::Crash(pick) => self.crash(alloc, files, pick.unwrap_or(Pick::Old), out)?,
+            Command::Fuse(fuse) => self.set_fuse(fuse),
+            Command::NextFuse(fuse) => self.next_fuses.set(fuse),
+            command => return self.serve(alloc, command, out),
         }
+        Ok(Progress::Done)
     }
 
     // A line that an open manager answers, with all that follows from it; one that is refused answers that it failed.
-    fn serve<W: Write>(&mut self, alloc: Global, command: Command, out: &mut W) -> Result<(), Stop>
+    fn serve<W: Write>(
+        &mut self,
+        alloc: Global,
+        command: Command,
+        out: &mut W,
+    ) -> Result<Progress, Stop>
         requires { IsServedCommand command }
     {
-        match &mut self.access {
-            Access::Open(Opened { world, waits }) => {
-                answer(alloc, world, waits, command, out)?;
-                settle(alloc, world, waits, out)?;
-            }
-            Access::Closed(..) | Access::Lost => render::fault(out, None, &Fault::Failed)?,
+        let Access::Open(Opened { world, waits }) = &mut self.access else {
+            render::fault(out, asker_of(&command), &Fault::Failed)?;
+            return Ok(Progress::Done);
+        };
+        let progress = answer(alloc, world, waits, command, out)?;
+        if progress == Progress::Done {
+            settle(alloc, world, waits, out)?;
         }
-        Ok(())
+        Ok(progress)
     }
 
-    // Everything in memory is lost, and the fuses go away.
+    // Everything in memory is lost, and the fuses go away, but for those that were set for this open.
     fn crash<F: Files<File = File>, W: Write>(
         &mut self,
         alloc: Global,
@@ -135,7 +157,8 @@ impl Manager {
             Access::Closed(log, volume) => Some((crashed(log, pick), crashed(volume, pick))),
             Access::Lost => None,
         };
-        let refused = match pair_after_crash(files, &self.devices, left) {
+        let fuses = mem::replace(&mut self.next_fuses, Fuses::NONE);
+        let refused = match pair_after_crash(files, &self.devices, left, fuses) {
             Ok((log, volume)) => {
                 let (access, refused) = open(alloc, log, volume, self.frames);
                 self.access = access;
@@ -150,12 +173,12 @@ impl Manager {
         Ok(())
     }
 
-    fn set_fuse(&mut self, device: Device, calls: u64) {
-        match (&mut self.access, device) {
-            (Access::Open(opened), Device::Log) => opened.world.set_log_fuse(calls),
-            (Access::Open(opened), Device::Volume) => opened.world.set_volume_fuse(calls),
-            (Access::Closed(log, _), Device::Log) => log.set_calls(calls),
-            (Access::Closed(_, volume), Device::Volume) => volume.set_calls(calls),
+    fn set_fuse(&mut self, fuse: Fuse) {
+        match (&mut self.access, fuse.device) {
+            (Access::Open(opened), Device::Log) => opened.world.set_log_fuse(fuse.calls),
+            (Access::Open(opened), Device::Volume) => opened.world.set_volume_fuse(fuse.calls),
+            (Access::Closed(log, _), Device::Log) => log.set_calls(fuse.calls),
+            (Access::Closed(_, volume), Device::Volume) => volume.set_calls(fuse.calls),
             (Access::Lost, _) => {}
         }
     }
@@ -183,23 +206,33 @@ fn open(
     }
 }
 
+// Whose call a line is.
+fn asker_of(command: &Command) -> Option<SessionId> {
+    match command {
+        Command::Ask(_) => Some(SESSION),
+        _ => None,
+    }
+}
+
 fn answer<W: Write>(
     alloc: Global,
     world: &mut ScriptWorld,
     waits: &mut bool,
     command: Command,
     out: &mut W,
-) -> io::Result<()>
+) -> io::Result<Progress>
     requires { IsServedCommand command }
 {
     match command {
-        Command::Ask(call) => ask(alloc, world, waits, call, out),
-        Command::Force => force_line(alloc, world, out),
-        Command::Log if world.has_failed() => render::fault(out, None, &Fault::Failed),
-        Command::Dump => dump(alloc, world, out),
-        Command::Log => log(world, out),
-        Command::Nothing | Command::Crash(_) | Command::Fuse(..) => Ok(()),
+        Command::Ask(call) => return ask(alloc, world, waits, call, out),
+        Command::Dump => return dump(alloc, world, out),
+        Command::Force => force_line(alloc, world, out)?,
+        Command::Flush => flush_line(alloc, world, out)?,
+        Command::Log if world.has_failed() => render::fault(out, None, &Fault::Failed)?,
+        Command::Log => log(world, out)?,
+        Command::Nothing | Command::Crash(_) | Command::Fuse(_) | Command::NextFuse(_) => {}
     }
+    Ok(Progress::Done)
 }
 
 fn ask<W: Write>(
@@ -208,16 +241,38 @@ fn ask<W: Write>(
     waits: &mut bool,
     call: Call,
     out: &mut W,
-) -> io::Result<()>
+) -> io::Result<Progress>
     requires { IsServed 1 call }
 {
     match world.step(alloc, Event::Call(SESSION, call)) {
-        Step::Waits(_) => {
-            *waits = true;
-            Ok(())
-        }
-        step => print(&step, out),
+        Step::Waits(_) => *waits = true,
+        Step::Refused(fault) => return refuse(alloc, world, Some(SESSION), fault, out),
+        step => print(&step, out)?,
     }
+    Ok(Progress::Done)
+}
+
+// A line that is refused, of a session's call or another, answers its fault. If it needs a force, which no line answers, the log is forced for
+// it; then every record is durable, and no page has to stay in its frame. A force that fails is the fault of the line.
+fn refuse<W: Write>(
+    alloc: Global,
+    world: &mut ScriptWorld,
+    session: Option<SessionId>,
+    fault: Fault,
+    out: &mut W,
+) -> io::Result<Progress>
+    // No other line is made again, so none is done twice.
+    ensures { IfOk result (λ progress. progress ≡ Again → (number : ℕ) × (fault ≡ NeedForce number)) }
+{
+    let fault = match fault {
+        Fault::NeedForce { .. } => match force(alloc, world) {
+            Ok(()) => return Ok(Progress::Again),
+            Err(fault) => fault,
+        },
+        fault => fault,
+    };
+    render::fault(out, session, &fault)?;
+    Ok(Progress::Done)
 }
 
 // A step of the session's call that has ended.
@@ -296,11 +351,34 @@ fn force_line<W: Write>(alloc: Global, world: &mut ScriptWorld, out: &mut W) -> 
     }
 }
 
-// All records are read before the first is written: a dump that is refused writes the fault alone.
-fn dump<W: Write>(alloc: Global, world: &mut ScriptWorld, out: &mut W) -> io::Result<()> {
-    match records_in_place(alloc, world) {
-        Ok(stores) => write_records(&stores, out),
+// Writes back every dirty page with a durable number, a batch at each step, and answers how many. One that fails has written some of them.
+fn flush(alloc: Global, world: &mut ScriptWorld) -> Result<u64, Fault> {
+    let mut count = 0u64;
+    for _ in 0..u64::MAX {
+        match world.step(alloc, Event::FlushStep) {
+            Step::Done(Answer::Flushed(pages)) => count = count.saturating_add(pages as u64),
+            Step::Refused(fault) => return Err(fault),
+            Step::Done(_) | Step::Nothing | Step::Waits(_) => break,
+        }
+    }
+    Ok(count)
+}
+
+fn flush_line<W: Write>(alloc: Global, world: &mut ScriptWorld, out: &mut W) -> io::Result<()> {
+    match flush(alloc, world) {
+        Ok(count) => writeln!(out, "flushed {count}"),
         Err(fault) => render::fault(out, None, &fault),
+    }
+}
+
+// All records are read before the first is written: a dump that is refused writes the fault alone.
+fn dump<W: Write>(alloc: Global, world: &mut ScriptWorld, out: &mut W) -> io::Result<Progress> {
+    match records_in_place(alloc, world) {
+        Ok(stores) => {
+            write_records(&stores, out)?;
+            Ok(Progress::Done)
+        }
+        Err(fault) => refuse(alloc, world, None, fault, out),
     }
 }
 

@@ -4,7 +4,7 @@ ghost use Rattle.shore_prog.specs.Commands.{IsServedCommand};
 
 use crate::command::{Command, parse};
 use crate::lines::{Lines, MAX_LINE_BYTES};
-use crate::manager::Manager;
+use crate::manager::{Manager, Progress};
 use crate::stop::{Status, Stop};
 use shore_settings::read_settings;
 use shore_types::{ConfigPlace, Fault};
@@ -98,14 +98,33 @@ fn run_script<F: Files<File = File>, R: Read + Drop, W: Write>(
         let Some(line) = lines.next_line()? else {
             return Ok(());
         };
-        match read_line(alloc, line)? {
-            Some(command) if manager.takes(&command) => {
-                manager.execute(alloc, files, command, output)?;
-            }
-            _ => return Err(Stop::Bad(Fault::BadConfig(ConfigPlace::Line(number)))),
+        if !run_line(alloc, files, manager, line, output)? {
+            return Err(Stop::Bad(Fault::BadConfig(ConfigPlace::Line(number))));
         }
     }
     Ok(())
+}
+
+// Whether the line is one of the script, which has been run then. One that needed a force is read again behind it, so that no call is copied
+// for the sake of a force that may not come.
+fn run_line<F: Files<File = File>, W: Write>(
+    alloc: Global,
+    files: &F,
+    manager: &mut Manager,
+    line: &[u8],
+    output: &mut W,
+) -> Result<bool, Stop> {
+    for _ in 0..u64::MAX {
+        match read_line(alloc, line)? {
+            Some(command) if manager.takes(&command) => {
+                if manager.execute(alloc, files, command, output)? == Progress::Done {
+                    return Ok(true);
+                }
+            }
+            _ => return Ok(false),
+        }
+    }
+    Ok(true)
 }
 
 // What the line asks for, unless it is too long, no UTF-8 or no line of the script.

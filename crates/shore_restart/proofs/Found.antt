@@ -1,101 +1,66 @@
--- The Changes that undo answers are among the records that the restart found: a record of undo is none.
-use Rattle.std.proofs.Common.{◌≡◌, ⊎_elim, ◌-◌, ◌<◌, ℕ, List, [], ◌∷◌, ◌++◌, Some, None, refl, sym, ap, subst, ◌∙◌, take, arith}
-use Rattle.std.specs.Prelude.{slice_get}
-use Rattle.std.proofs.lemmas.List.{take-append-le}
-use Rattle.std.proofs.lemmas.Option.{slice_get_within}
-use Rattle.shore_types.specs.Images.{Image}
-use Rattle.shore_types.specs.declared.ids.Rid.{Rid}
-use Rattle.shore_model.specs.declared.unanswered_changes.UnansweredChange.{UnansweredChange}
-use Rattle.shore_model.specs.declared.log_records.LogRecord.{LogRecord}
-use Rattle.shore_model.specs.declared.log_records.Payload.TheVariants.{Change, Compensation, End}
-use Rattle.shore_model.specs.Logs.{unanswered, undo_next_of}
-use Rattle.shore_recovery.specs.Undo.{IsUndoneTo, undo_payload, undo_record}
-use Rattle.shore_recovery.specs.UndoChains.{IsChangeAt, IsUndoChain}
-use Rattle.shore_recovery.proofs.UndoChains.{unanswered_chain}
-use Rattle.shore_analysis.proofs.MeantLogs.{own_or_last}
+-- A restart from what an open has found: through redo to undo, or stopped on the way.
+use Rattle.std.proofs.Common.{◌≡◌, ℕ, List, [], Result, Ok, Err, refl, sym, ap, subst, ◌∙◌, length}
+use Rattle.shore_disk.specs.Device.{may_leave}
+use Rattle.shore_disk.specs.declared.device.Disk.{Ghosts}
+use Rattle.shore_log.specs.declared.device.LogDev.{LogDev}
+use Rattle.shore_heap.specs.declared.heap.Heap.{Heap}
+use Rattle.shore_heap.specs.Heaps.{geometry_of}
+use Rattle.shore_recovery.specs.Recovery.{RecoveryState}
+use Rattle.shore_restart.specs.declared.errors.RestartError.{RestartError}
+use Rattle.shore_stands.specs.Moments.{GivesPrefix}
+use Rattle.shore_restart.specs.Standing.{IsFound, Moves, RedoesAll, log_history}
+use Rattle.shore_restart.proofs.Coming.{came_moved, rest_covered, rest_same}
+use Rattle.shore_restart.proofs.Standing.{stands_left}
+use Rattle.shore_restart.proofs.Undoing.{HasCome}
 
-no_change : (us : List UnansweredChange) (id : Rid) (before after : Image) → undo_payload us ≡ Change id before after → ⊥
-no_change [] id before after e = cc
-no_change (c ∷ cs) id before after e = cc
+module _ {L V : Type 0} {G : Ghosts L} {H : Ghosts V} (log_front front : List ℕ) (disk : ℕ → List ℕ) (log : LogDev L G) (heap : Heap V H) (s : RecoveryState) (found : IsFound log_front front disk log heap s) where
+  -- what a crash leaves of the log device, which redo does not call
+  pub found_covered : (c : List ℕ) → may_leave (log_history log) c → GivesPrefix log_front s c
+  found_covered = rest_covered log_front log s found.at_rest found.stands.recoverable
 
-step_back : (log : List LogRecord) (v : ℕ) (t : ℕ) (c : UnansweredChange) (cs : List UnansweredChange) → IsChangeAt (log ++ undo_record log v ∷ []) t c cs → IsChangeAt log t c cs
-step_back log v t c cs h = ⊎_elim
-    (λ old.
-    let within = slice_get_within log (c.number - 1) h.found old in
-    record {
-      is_one = h.is_one;
-      found = h.found;
-      here = old;
-      own = h.own;
-      after = h.after;
-      says = h.says;
-      before = ap (unanswered t) (sym (take-append-le (c.number - 1) log (undo_record log v ∷ []) (omega (arith, within)))) ∙ h.before;
-    })
-    (λ new. absurd (no_change (unanswered v log) c.id c.before h.after (ap (λ x. x.payload) new.1 ∙ h.says)))
-    (own_or_last log (undo_record log v) h.found (c.number - 1) h.here)
+  -- refused before a device was called
+  pub nothing_moved : {A : Type 0} (r : Result A RestartError) (e : RestartError) (Done : RecoveryState → Type 0) → r ≡ Err e → Moves r log_front front log log heap heap s Done
+  nothing_moved {A = A} r e Done is =
+      subst (λ (r : Result A RestartError). Moves r log_front front log log heap heap s Done) (sym is)
+      (record { later = s; moments = []; path = (refl, record { log = found_covered; volume = stands_left front disk heap s found.stands }); done = tt })
 
-change_found : (found : List LogRecord) (ts : List ℕ) (log : List LogRecord) → IsUndoneTo found ts log → (t : ℕ) (c : UnansweredChange) (cs : List UnansweredChange) → IsChangeAt log t c cs → IsChangeAt found t c cs
-change_found found [] log u t c cs h = subst (λ xs. IsChangeAt xs t c cs) u h
-change_found found (v ∷ ts) log u t c cs h = step_back found v t c cs (change_found (found ++ undo_record found v ∷ []) ts log u.1 t c cs h)
+  module _ (new : Heap V H) where
+    -- refused in redo
+    pub redo_stopped : {A B : Type 0} (r : Result B RestartError) (e : RestartError) (Done : RecoveryState → Type 0) → r ≡ Err e → RedoesAll {A = A} (Err e) (log_history log) log_front front heap new s
+        → Moves r log_front front log log heap new s Done
+    redo_stopped {B = B} r e Done is redoes =
+        subst (λ (r : Result B RestartError). Moves r log_front front log log heap new s Done) (sym is)
+        (record { later = redoes.later; moments = redoes.moments; path = redoes.path; done = tt })
 
-module _ (found : List LogRecord) (ts : List ℕ) (log : List LogRecord) (undone : IsUndoneTo found ts log) (t change : ℕ) (next_is : change ≡ undo_next_of (unanswered t log)) where
-  newest_found : (c : UnansweredChange) (cs : List UnansweredChange) → unanswered t log ≡ c ∷ cs → IsChangeAt found t c cs
-  newest_found c cs e =
-      let chain : IsUndoChain log t (c ∷ cs) = subst (IsUndoChain log t) e (unanswered_chain log t) in
-      change_found found ts log undone t c cs chain.0
-
-  -- its record is found
-  record Stands (c : UnansweredChange) (cs : List UnansweredChange) : Type 0 where
-    pub some : 0 < change
-    pub at : IsChangeAt found t c cs
-    pub here : slice_get found (change - 1) ≡ Some at.found
-    pub below : unanswered at.found.txn (take (change - 1) found) ≡ cs
-
-  stands : (c : UnansweredChange) (cs : List UnansweredChange) → unanswered t log ≡ c ∷ cs → Stands c cs
-  stands c cs e =
-      let at = newest_found c cs e in
-      let same : c.number ≡ change = sym (next_is ∙ ap undo_next_of e) in
+    -- all records are redone, and undo may begin
+    pub come_redone : {A : Type 0} (x : A) → RedoesAll (Ok x) (log_history log) log_front front heap new s → geometry_of new ≡ geometry_of heap → HasCome log_front front log heap s log new
+    come_redone x redoes geometry = (
+      redoes.later,
       record {
-        some = subst (λ n. 0 < n) same at.is_one;
-        at = at;
-        here = ap (λ n. slice_get found (n - 1)) (sym same) ∙ at.here;
-        below = ap (λ u. unanswered u (take (change - 1) found)) at.own ∙ ap (λ n. unanswered t (take (n - 1) found)) (sym same) ∙ at.before;
-      }
+        moments = redoes.moments;
+        path = redoes.path;
+        geometry = geometry;
+        disk = redoes.done.1;
+        ready = record {
+          at_rest = rest_same log_front log s redoes.later redoes.log_is redoes.durable found.at_rest;
+          stands = redoes.done.2;
+          redone = redoes.done.0 ∙ ap length (sym redoes.log_is);
+        };
+      },
+    )
 
-  module _ (r : LogRecord) (here : 0 < change → slice_get found (change - 1) ≡ Some r) where
-    same_record : (x : LogRecord) → slice_get found (change - 1) ≡ Some x → 0 < change → r ≡ x
-    same_record x h some = let h' = here some in cc
+module _ {L V : Type 0} {G : Ghosts L} {H : Ghosts V} (log_front front : List ℕ) (first_log : LogDev L G) (first : Heap V H) (s : RecoveryState) (log new_log : LogDev L G) (heap new : Heap V H)
+    (come : HasCome log_front front first_log first s log heap) (Done : RecoveryState → Type 0) where
+  -- it has moved from there
+  pub come_done : {A B : Type 0} (x : A) (y : B) → Moves (Ok x) log_front front log new_log heap new come.0 Done → geometry_of new ≡ geometry_of heap → Moves (Ok y) log_front front first_log new_log first new s Done
+  come_done x y m geometry =
+      let came = came_moved log_front front first_log first s log new_log heap new come.0 come.1 x Done m geometry in
+      record { later = m.later; moments = came.moments; path = came.path; done = (m.done.0, came.disk, came.ready) }
 
-    pub says_compensation : (id : Rid) (before after : Image) → (change ≡ 0 → ⊥) → r.payload ≡ Change id before after → (next : ℕ)
-        → (slice_get found (change - 1) ≡ Some r → next ≡ undo_next_of (unanswered r.txn (take (change - 1) found))) → Compensation id before next ≡ undo_payload (unanswered t log)
-    says_compensation id before after some is next named = by_newest (unanswered t log) refl
-      where
-        by_newest : (us : List UnansweredChange) → unanswered t log ≡ us → Compensation id before next ≡ undo_payload us
-        by_newest [] e = absurd (some (next_is ∙ ap undo_next_of e))
-        by_newest (c ∷ cs) e =
-            let s = stands c cs e in
-            let same = same_record s.at.found s.here s.some in
-            let says : Change id before after ≡ Change c.id c.before s.at.after = sym is ∙ ap (λ x. x.payload) same ∙ s.at.says in
-            let below : next ≡ undo_next_of cs = named (here s.some) ∙ ap (λ x. undo_next_of (unanswered x.txn (take (change - 1) found))) same ∙ ap undo_next_of s.below in
-            cc
-
-    pub says_end_otherwise : ((id : Rid) (before after : Image) → r.payload ≡ Change id before after → ⊥) → End ≡ undo_payload (unanswered t log)
-    says_end_otherwise other = by_newest (unanswered t log) refl
-      where
-        by_newest : (us : List UnansweredChange) → unanswered t log ≡ us → End ≡ undo_payload us
-        by_newest [] e = refl
-        by_newest (c ∷ cs) e =
-            let s = stands c cs e in
-            let same = same_record s.at.found s.here s.some in
-            absurd (other c.id c.before s.at.after (ap (λ x. x.payload) same ∙ s.at.says))
-
-  pub says_end : (0 < change → slice_get found (change - 1) ≡ None) → End ≡ undo_payload (unanswered t log)
-  says_end gone = by_newest (unanswered t log) refl
-    where
-      by_newest : (us : List UnansweredChange) → unanswered t log ≡ us → End ≡ undo_payload us
-      by_newest [] e = refl
-      by_newest (c ∷ cs) e =
-          let s = stands c cs e in
-          let none = gone s.some in
-          let here = s.here in
-          cc
+  -- .. and was refused behind it
+  pub come_refused : {A B : Type 0} (x : A) (r : Result B RestartError) (e : RestartError) → r ≡ Err e → Moves (Ok x) log_front front log new_log heap new come.0 Done → geometry_of new ≡ geometry_of heap
+      → Moves r log_front front first_log new_log first new s Done
+  come_refused {B = B} x r e is m geometry =
+      let came = came_moved log_front front first_log first s log new_log heap new come.0 come.1 x Done m geometry in
+      subst (λ (r : Result B RestartError). Moves r log_front front first_log new_log first new s Done) (sym is)
+      (record { later = m.later; moments = came.moments; path = came.path; done = tt })

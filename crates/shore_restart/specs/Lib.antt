@@ -1,1 +1,5 @@
-pub mod Losers
+pub mod Errors
+pub mod Room
+pub mod Standing
+pub mod Turns
+pub mod Opened

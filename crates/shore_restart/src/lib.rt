@@ -1,9 +1,17 @@
-//! Restart, as far as it works on the records of a log alone: undo of the losers (ARIES: the undo pass).
+//! Restart over the devices: it redoes each record of the log that its page does not have, undoes the losers by records of their own, forces
+//! these, and gives a core over what is left. After ARIES (Mohan et al., 1992). It may be stopped at any moment, and the next restart goes on.
 #![tactic(auto)]
 
-pub mod laws;
-mod losers;
-mod undo;
+mod errors;
+mod forcing;
+mod images;
+mod log_sums;
+mod pages;
+mod recovering;
+mod redo;
+mod restarting;
+mod turns;
 
-pub use losers::Losers;
-pub use undo::undo_all;
+pub use errors::RestartError;
+pub use recovering::Report;
+pub use restarting::restart;

@@ -42,7 +42,7 @@ pub struct Settings {
     pub geometry: Geometry,
     /// The length of the log device.
     pub log_bytes: u64,
-    /// The frames of the page pool; checked, and not used before pages are stolen.
+    /// The frames of the page pool.
     pub pool: u32,
 }
 

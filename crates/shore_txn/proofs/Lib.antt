@@ -1,1 +1,4 @@
+pub mod ChainLemmas
+pub mod ClaimLemmas
+pub mod KeptLemmas
 pub mod UndoLemmas

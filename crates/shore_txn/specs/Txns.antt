@@ -10,6 +10,11 @@ use Rattle.shore_txn.specs.UndoEntries.{images_of}
 abbrev pub entries_of : Txn → List UndoEntry
 entries_of t = t.undo.items
 
+-- .. of the one under way, none if there is none
+abbrev pub changes_of : Option Txn → List UndoEntry
+changes_of None = []
+changes_of (Some t) = entries_of t
+
 abbrev pub as_session_txn : Txn → SessionTxn
 as_session_txn t = record { session = t.session; txn = t.txn; undo = record { images = images_of (entries_of t); marks = [] } }
 

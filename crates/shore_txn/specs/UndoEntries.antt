@@ -1,10 +1,14 @@
 -- An undo list as a transaction keeps it: beside each image the claim that its slot had before the change.
-use Rattle.std.specs.Prelude.{◌≡◌, ◌≤◌, List, map, All}
+use Rattle.std.specs.Prelude.{◌≡◌, ◌≤◌, ℕ, List, [], ◌∷◌, map, All, if◌then◌else◌}
+use Rattle.std.specs.Ordering.{eq_by_cmp}
+use Rattle.shore_types.specs.Ids.{page_cmp}
 use Rattle.shore_types.specs.Images.{Image}
+use Rattle.shore_types.specs.declared.ids.PageId.{PageId}
 use Rattle.shore_types.specs.declared.ids.Rid.{Rid}
 use Rattle.shore_types.specs.declared.layout.TheConstants.{MAX_RECORD_BYTES}
 use Rattle.shore_page.specs.Slots.{image_len}
 use Rattle.shore_room.specs.Entries.{claims_before}
+use Rattle.shore_txn.specs.Chains.{bucket_of}
 use Rattle.shore_txn.specs.declared.undo.UndoEntry.{UndoEntry}
 
 abbrev pub image_of : UndoEntry → Rid × Image
@@ -20,3 +24,12 @@ HaveClaims es = map (λ e. e.claim) es ≡ claims_before (images_of es)
 -- no image is longer than a record
 abbrev pub AreShort : List UndoEntry → Type 0
 AreShort es = All (λ e. image_len e.before ≤ MAX_RECORD_BYTES) es
+
+-- What may come back to the slots of a page: of each entry that is on it the slot, and the length of the image before. The oldest first.
+abbrev pub claims_on : PageId → List UndoEntry → List (ℕ × ℕ)
+claims_on p [] = []
+claims_on p (e ∷ es) = if eq_by_cmp page_cmp p e.id.page then (e.id.slot, image_len e.before) ∷ claims_on p es else claims_on p es
+
+-- the buckets of their pages
+abbrev pub page_buckets : List UndoEntry → List ℕ
+page_buckets es = map (λ e. bucket_of e.id.page) es

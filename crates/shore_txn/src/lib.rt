@@ -1,6 +1,9 @@
 //! The table of transactions: undo lists, commits that wait, and the room of the log that the transactions share.
 #![tactic(auto)]
 
+mod chains;
+mod claims;
+pub mod laws;
 mod log_room;
 mod table;
 mod txn;

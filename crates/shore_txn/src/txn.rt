@@ -1,13 +1,14 @@
 //! A transaction under way.
-ghost use Rattle.std.specs.Prelude.{◌≡◌, ◌+◌, ◌<◌, ◌≤◌, ◌++◌, ◌∷◌, [], OnErr, OnOk};
+ghost use Rattle.std.specs.Prelude.{◌≡◌, ◌+◌, ◌<◌, ◌≤◌, ◌++◌, ◌∷◌, [], OnErr, OnOk, Some, length, option_to_list, slice_get};
 ghost use Rattle.shore_types.specs.declared.layout.TheConstants.{ENDING_COST, LAST_TXN, MAX_LOG_BYTES, MAX_RECORD_BYTES};
 ghost use Rattle.shore_page.specs.Slots.{image_len};
 ghost use Rattle.shore_room.specs.LogRooms.{compensation_cost, compensation_costs};
-ghost use Rattle.shore_txn.specs.UndoEntries.{AreShort, images_of};
+ghost use Rattle.shore_txn.specs.UndoEntries.{AreShort, claims_on, images_of};
+ghost use Rattle.shore_txn.specs.declared.undo.UndoEntry.{UndoEntry};
 
 use crate::undo::UndoEntry;
 use shore_types::layout::ENDING_COST;
-use shore_types::{Lsn, SessionId, TxnId};
+use shore_types::{Lsn, PageId, SessionId, TxnId};
 use std::alloc::{AllocError, Global};
 
 /// A transaction of a session: its last record, and what a rollback has to put back.
@@ -82,6 +83,18 @@ impl Txn {
         ensures entries { result.now ≡ entries_of self.now }
     {
         &self.undo
+    }
+
+    /// What its change of an index may put back on a page: the slot, and the length of the image before. None if the change is of another page.
+    pub fn claim(&self, index: usize, page: &PageId) -> Option<(u16, u16)>
+        requires { index < length (entries_of self.now) }
+        ensures { (e : UndoEntry) → slice_get (entries_of self.now) index ≡ Some e → option_to_list result ≡ claims_on page.now (e ∷ []) }
+    {
+        let entry = &self.undo[index];
+        if entry.id.page != *page {
+            return None;
+        }
+        Some((entry.id.slot, entry.image_len() as u16))
     }
 
     /// Takes the memory for an entry more. If that fails nothing has changed.

@@ -1,4 +1,7 @@
 //! What a rollback puts back.
+ghost use Rattle.std.specs.Prelude.{◌≡◌};
+ghost use Rattle.shore_page.specs.Slots.{image_len};
+
 use shore_types::{Bytes, Rid};
 
 /// A change of a transaction under way.
@@ -9,4 +12,16 @@ pub struct UndoEntry {
     pub before: Option<Bytes>,
     /// What the slot claimed before the change, in bytes: an undo lowers the claim to it again.
     pub claim: u16,
+}
+
+impl UndoEntry {
+    /// The length of the image before the change, 0 if there was no record.
+    pub fn image_len(&self) -> usize
+        ensures { result ≡ image_len self.now.before }
+    {
+        match &self.before {
+            Some(bytes) => bytes.as_slice().len(),
+            None => 0,
+        }
+    }
 }

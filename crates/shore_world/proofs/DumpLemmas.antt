@@ -1,11 +1,22 @@
 -- What a dump leaves: all as it was, or a world that has failed.
-use Rattle.std.proofs.Common.{◌≡◌, inl, inr, true, false, Bool, Result, Ok, Err, IfErr, IsErrAnd, IsTrue, MatchResult, refl, sym, ◌∙◌, subst}
+use Rattle.std.proofs.Common.{◌≡◌, ◌≢◌, inl, inr, true, false, ℕ, List, Bool, Result, Ok, Err, IfErr, IsErrAnd, IsTrue, MatchResult, refl, sym, ◌∙◌, ap, subst}
 use Rattle.shore_types.specs.declared.faults.Fault.{Fault}
 use Rattle.shore_types.specs.declared.faults.Fault.TheVariants as fault
+use Rattle.shore_disk.specs.declared.device.Disk.{Ghosts}
+use Rattle.shore_log.specs.Settled.{records_of_log}
+use Rattle.shore_log.specs.declared.device.LogDev.{LogDev}
 use Rattle.shore_calls.specs.CallSteps.{after_refusal, with_failure}
 use Rattle.shore_calls.specs.States.{State}
-use Rattle.shore_core.specs.Replies.{Fails}
+use Rattle.shore_recovery.specs.Recovery.{RecoveryState}
+use Rattle.shore_core.specs.Cores as cores
+use Rattle.shore_core.specs.Cores.{heap_of}
+use Rattle.shore_core.specs.Replies.{Fails, InEach, MayLeave, SameVolume}
 use Rattle.shore_core.proofs.Taking.{stays_after}
+use Rattle.shore_world.specs.declared.world.World.{World}
+use Rattle.shore_world.specs.Worlds.{ComesTo, HasFailedToRead, IsAt, IsLike, SurvivesCrashes, durable_in, failed_in, list_in, report_in}
+use Rattle.shore_world.proofs.GrowLemmas.{HasSameLog, kept_same}
+use Rattle.shore_world.proofs.VolumeLemmas.{comes_written, volume_alone, volume_written}
+use Rattle.shore_world.proofs.WorldLemmas.{kept_as_before, ready_same}
 
 pub same_truth : (a b : Bool) → (IsTrue a → IsTrue b) → (IsTrue b → IsTrue a) → a ≡ b
 same_truth true b to from = sym (to refl)
@@ -36,3 +47,69 @@ module _ {A : Type 0} where
 
   pub device_fails : (r : Result A Fault) → r ≡ Err fault.Device → IsErrAnd r Fails
   device_fails r is = subst (λ (x : Result A Fault). IsErrAnd x Fails) (sym is) (inl refl)
+
+  module _ {L V : Type 0} {G : Ghosts L} {H : Ghosts V} where
+    -- what is known of the core behind it
+    pub record HasDumped (old new : World L V G H) (r : Result A Fault) : Type 0 where
+      pub log : new.log ≡ old.log
+      pub report : report_in new ≡ report_in old
+      pub same : SameVolume old.core new.core
+      pub left : InEach (λ front disk before s store. MatchResult r (λ _. cores.ComesTo new.core front before store s) (λ f. cores.ComesTo new.core front before store (after_refusal f s))) old.core
+      pub any_moment : MayLeave old.core new.core
+      pub still : IsTrue (failed_in old) → heap_of new.core ≡ heap_of old.core
+      pub list : list_in new ≡ list_in old
+      pub durable : durable_in new ≡ durable_in old
+      pub volume_faults : r ≢ Err fault.Device → cores.faults_of new.core ≡ cores.faults_of old.core
+
+    module _ (old new : World L V G H) (r : Result A Fault) (it : HasDumped old new r) where
+      history : G.history new.log.device ≡ G.history old.log.device
+      history = ap (λ (l : LogDev L G). G.history l.device) it.log
+
+      -- the state behind it, over its own store
+      comes : (log_front front : List ℕ) (disk : ℕ → List ℕ) (s : State) (store : RecoveryState) → IsAt old log_front front disk s store → SurvivesCrashes new log_front
+          → (later : State) → HasSameLog s later → cores.ComesTo new.core front (records_of_log old.log) store later → ComesTo new log_front front store later
+      comes log_front front disk s store at kept later same left =
+          comes_written old new it.same.geometry log_front front store (volume_written old new it.any_moment it.still log_front front disk s store at) kept later
+          (subst (λ (l : LogDev L G). cores.ComesTo new.core front (records_of_log l) store later) (sym it.log) left) (λ fails. kept_same s later store same at.over.kept)
+
+      pub dumped_like : (IsErrAnd r Fails → ⊥) → failed_in new ≡ failed_in old → IsLike old new
+      dumped_like none failed =
+          let kept : (front : List ℕ) → SurvivesCrashes old front → SurvivesCrashes new front =
+          λ front k. kept_as_before old new it.list it.durable history (λ run. sym failed ∙ run) front (ready_same old.log new.log it.log front) k in
+          record {
+            geometry = it.same.geometry;
+            state = λ log_front front disk s store at safe. comes log_front front disk s store at (kept log_front at.log) s (refl, refl)
+                (stays_so (λ x. cores.ComesTo new.core front (records_of_log old.log) store x) r s none (it.left front disk (records_of_log old.log) s store at.is_in safe at.over));
+            any_moment = volume_alone old new history it.any_moment it.still;
+            list = it.list;
+            durable = it.durable;
+            failed = failed;
+            history = history;
+            staged = ap (λ (l : LogDev L G). l.staged) it.log;
+            report = it.report;
+            faults = ap (λ (l : LogDev L G). G.faults l.device) it.log;
+            same = it.same;
+            volume_faults = it.volume_faults (λ is. none (device_fails r is));
+            kept = kept;
+          }
+
+      pub dumped_fails : IsErrAnd r Fails → failed_in old ≡ false → IsTrue (failed_in new) → HasFailedToRead old new
+      dumped_fails fails running failed =
+          let kept : (front : List ℕ) → SurvivesCrashes old front → SurvivesCrashes new front =
+          λ front k. kept_as_before old new it.list it.durable history (λ run. running) front (ready_same old.log new.log it.log front) k in
+          record {
+            geometry = it.same.geometry;
+            state = λ log_front front disk s store at safe. comes log_front front disk s store at (kept log_front at.log) (with_failure s) (refl, refl)
+                (fails_then (λ x. cores.ComesTo new.core front (records_of_log old.log) store x) r s fails (it.left front disk (records_of_log old.log) s store at.is_in safe at.over));
+            any_moment = volume_alone old new history it.any_moment it.still;
+            list = it.list;
+            durable = it.durable;
+            running = running;
+            failed = failed;
+            history = history;
+            staged = ap (λ (l : LogDev L G). l.staged) it.log;
+            report = it.report;
+            faults = ap (λ (l : LogDev L G). G.faults l.device) it.log;
+            same = it.same;
+            kept = kept;
+          }

@@ -8,17 +8,20 @@ use Rattle.shore_disk.proofs.Moments.{started, widened, at_end, sync_leaves}
 use Rattle.shore_model.specs.declared.log_records.LogRecord.{LogRecord}
 use Rattle.shore_calls.specs.declared.step.Step.{Step}
 use Rattle.shore_log.specs.Frames.{GivesBehind, GivesWithOrWithout, IsLongest}
-use Rattle.shore_log.specs.Settled.{stable, waiting, IsSettled, IsStaged}
+use Rattle.shore_log.specs.Settled.{records_of_log, stable, waiting, IsSettled, IsStaged, KeepsFrames}
 use Rattle.shore_log.specs.declared.device.LogDev.{LogDev}
 use Rattle.shore_log.proofs.ForceLemmas.{settled_gives}
 use Rattle.shore_log.proofs.LoggedLemmas.{take-more_group}
 use Rattle.shore_calls.specs.States.{State}
+use Rattle.shore_recovery.specs.Recovery.{RecoveryState, after_force}
 use Rattle.shore_log.specs.declared.tail.Tail as tail
 use Rattle.shore_core.specs.declared.core_calls.Core.{Core}
-use Rattle.shore_core.specs.Cores.{IsSafe, tail_of, waiting_of}
+use Rattle.shore_core.specs.Cores.{IsBeside, IsSafe, tail_of, waiting_of}
 use Rattle.shore_world.specs.declared.event.Event.{Event}
+use Rattle.shore_world.specs.declared.event.Event.TheVariants.{FlushStep}
 use Rattle.shore_world.specs.declared.world.World.{World}
-use Rattle.shore_world.specs.Worlds.{HasStaged, IsInState, Comes, durable_in, failed_in, geometry_in, history_in, list_in, GivesBeginning, IsReady, SurvivesCrashes, Moves}
+use Rattle.shore_world.specs.Worlds.{HasStaged, IsAt, IsInState, IsOverStore, Comes, EventStep, durable_in, failed_in, geometry_in, history_in, list_in, volume_history_in, GivesBeginning, IsReady, SurvivesCrashes, Moves}
+use Rattle.shore_world.proofs.VolumeLemmas.{comes_forced, comes_unworked, log_still, volume_still}
 
 -- ---- what gives a prefix of the list
 
@@ -53,6 +56,18 @@ is_some_and o a P is p = subst (λ o. IsSomeAnd o P) (sym is) p
 module _ {L : Type 0} {G : Ghosts L} where
   pub length-stable : (log : LogDev L G) → length (stable log) ≡ log.forced
   length-stable log = length-take-le log.forced log.records.items log.forced_inside
+
+  -- it is settled, or a frame is staged
+  abbrev pub IsReadyLog : LogDev L G → List ℕ → Type 0
+  IsReadyLog log front = (IsSettled log front × (log.staged ≡ None)) ⊎ ((group : List LogRecord) × IsStaged log front group)
+
+  pub ready_same : (old new : LogDev L G) → new ≡ old → (front : List ℕ) → IsReadyLog old front → IsReadyLog new front
+  ready_same old new same front ready = subst (λ (l : LogDev L G). IsReadyLog l front) (sym same) ready
+
+  -- one whose frames are kept
+  pub ready_frames : (old new : LogDev L G) → KeepsFrames old new → (front : List ℕ) → IsReadyLog old front → IsReadyLog new front
+  ready_frames old new same front (inl s) = inl (same.settled front s.0, same.under_way ∙ s.1)
+  ready_frames old new same front (inr s) = inr (s.0, same.staged front s.0 s.1)
 
   pub none_staged : (log : LogDev L G) (is : Bool) → (IsTrue is ↔ IsSome log.staged) → is ≡ false → log.staged ≡ None
   none_staged log is tells isnt = none_where log.staged (λ some. let clash : true ≡ false = sym (tells.1 some) ∙ isnt in absurd cc)
@@ -99,11 +114,15 @@ module _ {L V : Type 0} {G : Ghosts L} {H : Ghosts V} where
     either_gives c (inl without) = stable_gives w front c without
     either_gives c (inr with) = more_gives c with
 
-  -- ---- what an event comes to, from each safe state
+  -- ---- what an event comes to, from each safe state and store
+
+  abbrev pub IsBesideOf : World L V G H → State → Type 0
+  IsBesideOf w s = IsBeside (records_of_log w.log) w.core s
 
   abbrev pub ComesFromEach : World L V G H → Event → Step → World L V G H → Type 0
   ComesFromEach old e step new =
-      (front : List ℕ) (disk : ℕ → List ℕ) (s : State) → IsInState old front disk s → IsSafe (geometry_in old) s → Comes old e step new front disk s
+      (log_front front : List ℕ) (disk : ℕ → List ℕ) (s : State) (store : RecoveryState) → IsAt old log_front front disk s store → IsSafe (geometry_in old) s
+      → Comes old e step new log_front front s store
 
   -- the list has grown at most, and what was durable stays so
   pub record ListGrows (old new : World L V G H) : Type 0 where
@@ -116,29 +135,26 @@ module _ {L V : Type 0} {G : Ghosts L} {H : Ghosts V} where
   pub none_more : (old new : World L V G H) → list_in new ≡ list_in old → durable_in new ≡ durable_in old → (failed_in new ≡ false → failed_in old ≡ false) → ListGrows old new
   none_more old new list durable running = record { more = []; list = list ∙ sym (append-nil (list_in old)); durable = durable; running = running }
 
+  -- What an event does to the log device: it is kept as it was, and so at each moment on the way.
+  pub record LogMoves (old new : World L V G H) : Type 0 where
+    pub kept : (front : List ℕ) → SurvivesCrashes old front → SurvivesCrashes new front
+    pub any_moment : (front : List ℕ) → SurvivesCrashes old front → LeavesOnly (history_in old) (history_in new) (GivesBeginning front (durable_in old) (list_in old))
+
   -- ---- an event for which the device stands still
 
-  pub unmoved : (old new : World L V G H) (e : Event) (step : Step) → geometry_in new ≡ geometry_in old → new.log.device ≡ old.log.device → ComesFromEach old e step new
-      → ((front : List ℕ) (disk : ℕ → List ℕ) (s : State) → IsInState old front disk s → IsSafe (geometry_in old) s → ListGrows old new)
-      → ((front : List ℕ) → IsReady old front → IsReady new front) → Moves old e step new
-  unmoved old new e step geometry device comes grows ready =
+  pub grown_kept : (old new : World L V G H) → new.log.device ≡ old.log.device → ListGrows old new → ((front : List ℕ) → IsReady old front → IsReady new front)
+      → (front : List ℕ) → SurvivesCrashes old front → SurvivesCrashes new front
+  grown_kept old new device g ready front k =
       let same : history_in new ≡ history_in old = ap G.history device in
       record {
-        geometry = geometry;
-        state = comes;
-        kept = λ front disk s is safe log_front k. let g = grows front disk s is safe in record {
-          images = λ c left. subst (λ n. GivesBeginning log_front n (list_in new) c) (sym g.durable)
-              (subst (λ (l : List LogRecord). GivesBeginning log_front (durable_in old) l c) (sym g.list)
-              (longer log_front (durable_in old) (list_in old) g.more c (k.images c (subst (λ (h : History). may_leave h c) same left))));
-          ready = λ running. ready log_front (k.ready (g.running running));
-        };
-        any_moment = λ front k. subst (λ (h : History). LeavesOnly (history_in old) h (GivesBeginning front (durable_in old) (list_in old))) (sym same)
-            (started (history_in old) (GivesBeginning front (durable_in old) (list_in old)) k.images);
+        images = λ c left. subst (λ n. GivesBeginning front n (list_in new) c) (sym g.durable)
+            (subst (λ (l : List LogRecord). GivesBeginning front (durable_in old) l c) (sym g.list)
+            (longer front (durable_in old) (list_in old) g.more c (k.images c (subst (λ (h : History). may_leave h c) same left))));
+        ready = λ running. ready front (k.ready (g.running running));
       }
 
-  -- an event that leaves the world as it is
-  pub nothing_done : (w : World L V G H) (e : Event) (step : Step) → ComesFromEach w e step w → Moves w e step w
-  nothing_done w e step comes = unmoved w w e step refl refl comes (λ front disk s is safe. none_more w w refl refl (λ r. r)) (λ front ready. ready)
+  pub unmoved : (old new : World L V G H) → new.log.device ≡ old.log.device → ListGrows old new → ((front : List ℕ) → IsReady old front → IsReady new front) → LogMoves old new
+  unmoved old new device grows ready = record { kept = grown_kept old new device grows ready; any_moment = log_still old new (ap G.history device) }
 
   -- records that were handed over leave a settled log settled
   pub ready_kept : (old new : World L V G H) → old.log.staged ≡ None → new.log.staged ≡ old.log.staged → ((front : List ℕ) → IsSettled old.log front → IsSettled new.log front)
@@ -147,11 +163,11 @@ module _ {L V : Type 0} {G : Ghosts L} {H : Ghosts V} where
   ready_kept old new none same settled front (inr s) = absurd (let clash = s.1.waits in cc)
 
   -- .. and do nothing else
-  pub handed : (old new : World L V G H) (e : Event) (step : Step) → geometry_in new ≡ geometry_in old → new.log.device ≡ old.log.device → ComesFromEach old e step new
+  pub handed : (old new : World L V G H) → new.log.device ≡ old.log.device
       → list_in new ≡ list_in old → durable_in new ≡ durable_in old → (failed_in new ≡ false → failed_in old ≡ false)
-      → old.log.staged ≡ None → new.log.staged ≡ old.log.staged → ((front : List ℕ) → IsSettled old.log front → IsSettled new.log front) → Moves old e step new
-  handed old new e step geometry device comes list durable running none waits settled =
-      unmoved old new e step geometry device comes (λ front disk s is safe. none_more old new list durable running) (ready_kept old new none waits settled)
+      → old.log.staged ≡ None → new.log.staged ≡ old.log.staged → ((front : List ℕ) → IsSettled old.log front → IsSettled new.log front) → LogMoves old new
+  handed old new device list durable running none waits settled =
+      unmoved old new device (none_more old new list durable running) (ready_kept old new none waits settled)
 
   -- ---- a frame is staged, or it fails as it is
 
@@ -160,13 +176,13 @@ module _ {L V : Type 0} {G : Ghosts L} {H : Ghosts V} where
   as_before old new front c list durable gives =
       subst (λ (l : List LogRecord). GivesBeginning front (durable_in new) l c) (sym list) (subst (λ n. GivesBeginning front n (list_in old) c) (sym durable) gives)
 
-  pub staging : (old new : World L V G H) (mid : LogDev L G) (e : Event) (step : Step) → geometry_in new ≡ geometry_in old → ComesFromEach old e step new
+  pub staging : (old new : World L V G H) (mid : LogDev L G)
       → failed_in old ≡ false → old.log.staged ≡ None → mid.device ≡ old.log.device → mid.staged ≡ old.log.staged → stable mid ≡ stable old.log
       → list_in new ≡ list_in old → durable_in new ≡ durable_in old
       → ((front : List ℕ) → IsSettled old.log front → IsSettled mid front)
       → ((front : List ℕ) → IsSettled mid front → mid.staged ≡ None → LeavesOnly (G.history mid.device) (history_in new) (GivesBehind front (stable mid)))
-      → ((front : List ℕ) → IsSettled mid front → failed_in new ≡ false → IsReady new front) → Moves old e step new
-  staging old new mid e step geometry comes running none device waits same list durable settled moments ready =
+      → ((front : List ℕ) → IsSettled mid front → failed_in new ≡ false → IsReady new front) → LogMoves old new
+  staging old new mid running none device waits same list durable settled moments ready =
       let settled_now : (front : List ℕ) → SurvivesCrashes old front → IsSettled old.log front = λ front k. elim (k.ready running) [
         | inl s ↦ s.0
         | inr s ↦ absurd (let clash = s.1.waits in cc)
@@ -176,9 +192,7 @@ module _ {L V : Type 0} {G : Ghosts L} {H : Ghosts V} where
       (widened (G.history mid.device) (history_in new) (GivesBehind front (stable mid)) (GivesBeginning front (durable_in old) (list_in old)) (moments front (settled front (settled_now front k)) (waits ∙ none))
       (λ c gives. stable_gives old front c (subst (λ (l : List LogRecord). GivesBehind front l c) same gives))) in
       record {
-        geometry = geometry;
-        state = comes;
-        kept = λ front disk s is safe log_front k. record {
+        kept = λ log_front k. record {
           images = λ c left. as_before old new log_front c list durable (at_end (history_in old) (history_in new) (GivesBeginning log_front (durable_in old) (list_in old)) (leaves log_front k) c left);
           ready = λ run. ready log_front (settled log_front (settled_now log_front k)) run;
         };
@@ -187,12 +201,12 @@ module _ {L V : Type 0} {G : Ghosts L} {H : Ghosts V} where
 
   -- ---- its gate is opened, or it fails
 
-  pub opening_gate : (old new : World L V G H) (e : Event) (step : Step) → geometry_in new ≡ geometry_in old → ComesFromEach old e step new
+  pub opening_gate : (old new : World L V G H)
       → failed_in old ≡ false → old.log.staged ≢ None → list_in new ≡ list_in old
       → ((front : List ℕ) (group : List LogRecord) → IsStaged old.log front group → LeavesOnly (history_in old) (history_in new) (GivesWithOrWithout front (stable old.log) group))
       → ((front : List ℕ) (group : List LogRecord) → IsStaged old.log front group → ((durable_in new ≡ durable_in old) × (failed_in new ≡ false → ⊥)) ⊎ (IsSettled new.log front × (new.log.staged ≡ None)))
-      → Moves old e step new
-  opening_gate old new e step geometry comes running some list moments after =
+      → LogMoves old new
+  opening_gate old new running some list moments after =
       let staged_now : (front : List ℕ) → SurvivesCrashes old front → (group : List LogRecord) × IsStaged old.log front group = λ front k. elim (k.ready running) [
         | inl s ↦ absurd (some s.1)
         | inr s ↦ s
@@ -202,9 +216,7 @@ module _ {L V : Type 0} {G : Ghosts L} {H : Ghosts V} where
       widened (history_in old) (history_in new) (GivesWithOrWithout front (stable old.log) s.0) (GivesBeginning front (durable_in old) (list_in old)) (moments front s.0 s.1)
       (either_gives old front s.0 s.1) in
       record {
-        geometry = geometry;
-        state = comes;
-        kept = λ _ disk state is safe front k. let s = staged_now front k in elim (after front s.0 s.1) [
+        kept = λ front k. let s = staged_now front k in elim (after front s.0 s.1) [
           | inl failed ↦ record {
             images = λ c left. as_before old new front c list failed.0 (at_end (history_in old) (history_in new) (GivesBeginning front (durable_in old) (list_in old)) (leaves front k) c left);
             ready = λ run. absurd (failed.1 run);
@@ -216,6 +228,48 @@ module _ {L V : Type 0} {G : Ghosts L} {H : Ghosts V} where
         ];
         any_moment = leaves;
       }
+
+  -- ---- an event for which the volume stands still
+
+  -- the states and stores that it comes to, over the same texts
+  pub record ComesOver (old : World L V G H) (e : Event) (step : Step) (new : World L V G H) (front : List ℕ) (disk : ℕ → List ℕ) (s : State) (store : RecoveryState) : Type 0 where
+    pub later : State
+    pub moves : EventStep (geometry_in old) s e step later
+    pub is_in : IsInState new front disk later
+    pub told : IsOverStore new disk later store ⊎ ((n : ℕ) × (store.durable ≤ n) × (n ≤ length store.log) × IsOverStore new disk later (after_force store n))
+
+  pub still_moves : (old new : World L V G H) (e : Event) (step : Step) → (e ≡ FlushStep → ⊥) → geometry_in new ≡ geometry_in old → volume_history_in new ≡ volume_history_in old
+      → ((front : List ℕ) → SurvivesCrashes old front → LeavesOnly (history_in old) (history_in new) (GivesBeginning front (durable_in old) (list_in old)))
+      → ((s later : State) → IsBesideOf old s → IsBesideOf new later → EventStep (geometry_in old) s e step later → (front : List ℕ) → SurvivesCrashes old front → SurvivesCrashes new front)
+      → ((front : List ℕ) (disk : ℕ → List ℕ) (s : State) (store : RecoveryState) → IsInState old front disk s → IsOverStore old disk s store → IsSafe (geometry_in old) s
+      → ComesOver old e step new front disk s store) → Moves old e step new
+  still_moves old new e step other geometry volume log kept comes = record {
+    geometry = geometry;
+    state = λ log_front front disk s store at safe.
+        let to = comes front disk s store at.is_in at.over safe in
+        let after : SurvivesCrashes new log_front = kept s to.later at.is_in.beside to.is_in.beside to.moves log_front at.log in
+        record {
+          later = to.later;
+          moves = to.moves;
+          comes = elim to.told [
+            | inl over ↦ comes_unworked old new volume geometry log_front front disk s store at to.later to.is_in over after
+            | inr forced ↦ comes_forced old new volume geometry log_front front disk s store at to.later forced.0 forced.1 forced.2 to.is_in forced.3 after
+          ];
+          flushes = λ is. absurd (other is);
+        };
+    any_moment = record { log = log; volume = volume_still old new volume; one = inr volume };
+  }
+
+  -- a step of a force
+  pub force_moves : (old new : World L V G H) (e : Event) (step : Step) → (e ≡ FlushStep → ⊥) → geometry_in new ≡ geometry_in old → volume_history_in new ≡ volume_history_in old → LogMoves old new
+      → ((front : List ℕ) (disk : ℕ → List ℕ) (s : State) (store : RecoveryState) → IsInState old front disk s → IsOverStore old disk s store → IsSafe (geometry_in old) s
+      → ComesOver old e step new front disk s store) → Moves old e step new
+  force_moves old new e step other geometry volume log comes = still_moves old new e step other geometry volume log.any_moment (λ s later is now moves. log.kept) comes
+
+  -- an event that leaves the world as it is
+  pub nothing_done : (w : World L V G H) (e : Event) (step : Step) → (e ≡ FlushStep → ⊥) → ((s : State) → IsBesideOf w s → EventStep (geometry_in w) s e step s) → Moves w e step w
+  nothing_done w e step other moves = force_moves w w e step other refl refl (record { kept = λ front k. k; any_moment = log_still w w refl })
+      (λ front disk s store is over safe. record { later = s; moves = moves s is.beside; is_in = is; told = inl over })
 
   -- what is staged is the longest list of what is not durable
   pub has_staged : (old new : World L V G H) (mid : LogDev L G) (n number : ℕ) → number ≡ n → durable_in old ≡ mid.forced → mid.records.items ≡ list_in old

@@ -11,7 +11,7 @@ use Rattle.shore_calls.specs.CallSteps.{ManagerEvent}
 use Rattle.shore_world.specs.declared.event.Event.{Event}
 use Rattle.shore_world.specs.declared.event.Event.TheVariants as event
 
--- a force that the device refuses is the failure that it is told of
+-- a step that its device refuses is the failure that the manager is told of
 abbrev pub failure_by : Fault → List ManagerEvent
 failure_by Device = calls.HasFailed ∷ []
 failure_by _ = []
@@ -41,7 +41,7 @@ forced_by (Anchored checkpoint tail) = []
 forced_by Moved = []
 forced_by Cut = []
 
--- a call and a resume with what they came to; of a force the number that it made durable, or the device's failure
+-- a call and a resume with what they came to; of a force the number that it made durable, or the device's failure; of a flush nothing but the volume's
 abbrev pub moves_by : Event → Step → List ManagerEvent
 moves_by (event.Call session call) step = calls.Called session call step ∷ []
 moves_by (event.Resume session) step = calls.Resumed session step ∷ []
@@ -53,6 +53,10 @@ moves_by event.ForceOpen (Done answer) = forced_by answer
 moves_by event.ForceOpen (Refused fault) = failure_by fault
 moves_by event.ForceOpen (Waits wait) = []
 moves_by event.ForceOpen Nothing = []
+moves_by event.FlushStep (Done answer) = []
+moves_by event.FlushStep (Refused fault) = failure_by fault
+moves_by event.FlushStep (Waits wait) = []
+moves_by event.FlushStep Nothing = []
 
 -- .. of all, one after another
 abbrev pub all_moves : List Event → List Step → List ManagerEvent

@@ -12,6 +12,7 @@ IsServedEvent (event.Call session call) = IsServed session call
 IsServedEvent (event.Resume session) = session ≡ 1
 IsServedEvent event.ForceStage = Unit {0}
 IsServedEvent event.ForceOpen = Unit {0}
+IsServedEvent event.FlushStep = Unit {0}
 
 -- an event that owns memory
 abbrev pub IsCall : Event → Type 0
@@ -19,20 +20,23 @@ IsCall (event.Call session call) = Unit {0}
 IsCall (event.Resume session) = ⊥
 IsCall event.ForceStage = ⊥
 IsCall event.ForceOpen = ⊥
+IsCall event.FlushStep = ⊥
 
--- an event of a session, which is no step of a force
-abbrev pub IsOfSession : Event → Type 0
-IsOfSession (event.Call session call) = Unit {0}
-IsOfSession (event.Resume session) = Unit {0}
-IsOfSession event.ForceStage = ⊥
-IsOfSession event.ForceOpen = ⊥
+-- an event that is no step of a force: it calls the volume at most
+abbrev pub IsOfPages : Event → Type 0
+IsOfPages (event.Call session call) = Unit {0}
+IsOfPages (event.Resume session) = Unit {0}
+IsOfPages event.ForceStage = ⊥
+IsOfPages event.ForceOpen = ⊥
+IsOfPages event.FlushStep = Unit {0}
 
--- .. and one that is
+-- .. and one that is: it calls the log device at most
 abbrev pub IsOfForce : Event → Type 0
 IsOfForce (event.Call session call) = ⊥
 IsOfForce (event.Resume session) = ⊥
 IsOfForce event.ForceStage = Unit {0}
 IsOfForce event.ForceOpen = Unit {0}
+IsOfForce event.FlushStep = ⊥
 
 -- the pages of the volume that an event may read
 abbrev pub ReadBy : Event → PageId → Type 0
@@ -40,3 +44,4 @@ ReadBy (event.Call session call) page = Reads call page
 ReadBy (event.Resume session) page = ⊥
 ReadBy event.ForceStage page = ⊥
 ReadBy event.ForceOpen page = ⊥
+ReadBy event.FlushStep page = ⊥

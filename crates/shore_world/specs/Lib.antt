@@ -1,5 +1,8 @@
+pub mod Crashes
 pub mod Events
 pub mod EventMoves
-pub mod Managers
 pub mod OpenedVolumes
+pub mod Opens
+pub mod Refusals
 pub mod Worlds
+pub mod Managers

@@ -1,29 +1,28 @@
--- Managers one after another over one pair of devices: each opens what the crash before it left. Each condition is what a contract says of
--- the call that it names.
-use Rattle.std.specs.Prelude.{◌≡◌, ◌≢◌, ◌⊎◌, ℕ, List, [], ◌∷◌, All, take}
+-- Managers one after another over one pair of devices: each opens what the crash before it left, and an open may itself lose power. Each condition
+-- is what a contract says of the call that it names.
+use Rattle.std.specs.Prelude.{◌≡◌, ◌≢◌, ℕ, List, [], ◌∷◌, All, take}
 use Rattle.shore_types.specs.declared.faults.Fault.TheVariants.{LogFull}
 use Rattle.shore_types.specs.declared.layout.Geometry.{Geometry}
 use Rattle.shore_types.specs.declared.layout.TheConstants.{LOG_FRONT_BYTES}
-use Rattle.shore_disk.specs.Device.{History, left_since, may_leave, moment, seen, size}
+use Rattle.shore_disk.specs.Device.{History}
 use Rattle.shore_disk.specs.declared.device.Disk.{Ghosts}
-use Rattle.shore_dwrite.specs.Shown.{Shows}
-use Rattle.shore_dwrite.specs.Volumes.{AreEmpty}
 use Rattle.shore_dwrite.specs.declared.places.TheConstants.{GATE_AT}
 use Rattle.shore_model.specs.declared.log_records.LogRecord.{LogRecord}
+use Rattle.shore_recovery.specs.Pages.{LoggedPages}
+use Rattle.shore_managers.specs.StoredRuns.{StoredRun}
 use Rattle.shore_calls.specs.declared.step.Step.{Step}
 use Rattle.shore_calls.specs.declared.step.Step.TheVariants.{Refused}
-use Rattle.shore_calls.specs.CallHistories.{Run}
 use Rattle.shore_calls.specs.CallSteps.{ManagerEvent}
-use Rattle.shore_log.specs.Frames.{Gives}
+use Rattle.shore_stays.specs.SoundStores.{managed}
+use Rattle.shore_stands.specs.Moments.{IsLostAlong, Moment, Path}
+use Rattle.shore_stands.specs.StandsFor.{StandsFor, begun_on}
 use Rattle.shore_world.specs.declared.event.Event.{Event}
 use Rattle.shore_world.specs.declared.event.Event.TheVariants as event
 use Rattle.shore_world.specs.declared.world.World.{World}
+use Rattle.shore_world.specs.Crashes.{AreLeft}
 use Rattle.shore_world.specs.Events.{IsServedEvent}
-use Rattle.shore_format.specs.Pairs.{HaveFronts}
-use Rattle.shore_format.specs.Volumes.{VolumeStandsFor}
-use Rattle.shore_world.specs.Worlds.{IsInState, IsOpenedIn, geometry_in, history_in, list_in, volume_history_in, SurvivesCrashes, Steps, Runs}
-
--- ---- one manager
+use Rattle.shore_world.specs.Opens.{AreFound, IsOpenedAt}
+use Rattle.shore_world.specs.Worlds.{IsAt, Runs}
 
 -- no force of these was refused by `LogFull`
 abbrev pub NoForceIsFull : List Event → List Step → Type 0
@@ -31,6 +30,22 @@ NoForceIsFull (e ∷ es) (step ∷ steps) = (e ≡ event.ForceStage → step ≢
 NoForceIsFull [] [] = Unit {0}
 NoForceIsFull [] (step ∷ steps) = ⊥
 NoForceIsFull (e ∷ es) [] = ⊥
+
+-- ---- one stay of the power
+
+-- an open in which power was lost, whether it had been refused by then or not: the calls of the devices that it was opened on, and what was left
+pub record CutOff : Type 0 where
+  pub log : History
+  pub volume : History
+  pub log_left : List ℕ
+  pub volume_left : List ℕ
+
+-- Power was lost at some moment of what an open says of its way.
+pub record IsCutOff (log_bytes volume_bytes : ℕ) (log_image volume_image : List ℕ) (c : CutOff) : Type 0 where
+  pub found : AreFound log_bytes volume_bytes log_image volume_image c.log c.volume
+  pub crash : (g : Geometry) (rs : List LogRecord) (pages : LoggedPages) → StandsFor g log_bytes volume_bytes rs pages log_image volume_image
+      → (path : List Moment) × (last : Moment) × Path g (take LOG_FRONT_BYTES log_image) (take GATE_AT volume_image) (begun_on c.log c.volume rs pages) path last
+      × IsLostAlong (begun_on c.log c.volume rs pages) path c.log_left c.volume_left
 
 -- One manager on a pair: it is opened on devices with these calls behind them and makes these events, which are these moves of the
 -- manager over plain data; and then a crash leaves an image of each.
@@ -45,51 +60,45 @@ pub record Manager (L V : Type 0) (G : Ghosts L) (H : Ghosts V) : Type 0 where
   pub log_left : List ℕ
   pub volume_left : List ℕ
 
--- a crash after the events, or at any moment of a further event that is under way, may leave these images: both devices lose power at
--- one moment
-abbrev pub AreLeft : {L V : Type 0} {G : Ghosts L} {H : Ghosts V} → World L V G H → List ℕ → List ℕ → Type 0
-AreLeft {L = L} {V = V} {G = G} {H = H} w log_image volume_image =
-    (may_leave (history_in w) log_image × may_leave (volume_history_in w) volume_image)
-    ⊎ ((e : Event) × (step : Step) × (later : World L V G H) × Steps w e step later × left_since (history_in later) (moment (history_in w)) log_image
-    × left_since (volume_history_in later) (moment (volume_history_in w)) volume_image)
-
--- The devices that it was opened on have these lengths and read as these images.
+-- It is opened at the end of the way of an open, makes its events, and loses power at any moment.
 pub record IsManager {L V : Type 0} {G : Ghosts L} {H : Ghosts V} (log_bytes volume_bytes : ℕ) (log_image volume_image : List ℕ) (m : Manager L V G H) : Type 0 where
-  pub lengths : (size m.log ≡ log_bytes) × (size m.volume ≡ volume_bytes)
-  pub images : (seen m.log ≡ log_image) × (seen m.volume ≡ volume_image)
-  -- what an open says
-  pub long : size (history_in m.opened) ≡ size m.log
-  pub only : (rs : List LogRecord) → Gives rs (seen m.log) → list_in m.opened ≡ rs
-  pub geometry : (g : Geometry) → HaveFronts g m.log m.volume → geometry_in m.opened ≡ g
-  pub kept : SurvivesCrashes m.opened (take LOG_FRONT_BYTES (seen m.log))
-  pub opened : (g : Geometry) (pages : ℕ → List ℕ) → HaveFronts g m.log m.volume → Shows g (seen m.volume) pages → AreEmpty g pages
-      → IsOpenedIn m.opened (take GATE_AT (seen m.volume)) pages
-  pub still : (g : Geometry) → VolumeStandsFor g (size m.volume) (seen m.volume)
-      → (c : List ℕ) → may_leave (volume_history_in m.opened) c → VolumeStandsFor g (size m.volume) c
-  -- what a run says
+  pub found : AreFound log_bytes volume_bytes log_image volume_image m.log m.volume
+  pub opens : (g : Geometry) (rs : List LogRecord) (pages : LoggedPages) → StandsFor g log_bytes volume_bytes rs pages log_image volume_image
+      → (path : List Moment) × (last : Moment) × Path g (take LOG_FRONT_BYTES log_image) (take GATE_AT volume_image) (begun_on m.log m.volume rs pages) path last
+      × IsOpenedAt m.opened g (take LOG_FRONT_BYTES log_image) (take GATE_AT volume_image) last
   pub served : All IsServedEvent m.events
   pub runs : Runs m.opened m.events m.steps m.moves m.ended
-  -- a crash at any moment
   pub crash : AreLeft m.ended m.log_left m.volume_left
 
+-- `Cut`: an open that lost power; `Up`: a manager that was opened, and lost power later
+pub data Stay (L V : Type 0) (G : Ghosts L) (H : Ghosts V) : Type 0 where
+  Cut : CutOff → Stay L V G H
+  Up : Manager L V G H → Stay L V G H
+
 -- each opens what the crash before it left
-abbrev pub AreManagers : {L V : Type 0} {G : Ghosts L} {H : Ghosts V} → ℕ → ℕ → List ℕ → List ℕ → List (Manager L V G H) → List ℕ → List ℕ → Type 0
-AreManagers log_bytes volume_bytes log_image volume_image [] log_last volume_last = (log_last ≡ log_image) × (volume_last ≡ volume_image)
-AreManagers log_bytes volume_bytes log_image volume_image (m ∷ ms) log_last volume_last =
-    IsManager log_bytes volume_bytes log_image volume_image m × AreManagers log_bytes volume_bytes m.log_left m.volume_left ms log_last volume_last
+abbrev pub AreStays : {L V : Type 0} {G : Ghosts L} {H : Ghosts V} → ℕ → ℕ → List ℕ → List ℕ → List (Stay L V G H) → List ℕ → List ℕ → Type 0
+AreStays log_bytes volume_bytes log_image volume_image [] log_last volume_last = (log_last ≡ log_image) × (volume_last ≡ volume_image)
+AreStays log_bytes volume_bytes log_image volume_image (Cut c ∷ stays) log_last volume_last =
+    IsCutOff log_bytes volume_bytes log_image volume_image c × AreStays log_bytes volume_bytes c.log_left c.volume_left stays log_last volume_last
+AreStays log_bytes volume_bytes log_image volume_image (Up m ∷ stays) log_last volume_last =
+    IsManager log_bytes volume_bytes log_image volume_image m × AreStays log_bytes volume_bytes m.log_left m.volume_left stays log_last volume_last
 
 -- ---- as runs of the manager over plain data
 
 -- The run is one from a state that the manager was opened in to one that it ended in, by its moves.
-pub record IsRunOf {L V : Type 0} {G : Ghosts L} {H : Ghosts V} (m : Manager L V G H) (run : Run) : Type 0 where
+pub record IsRunOf {L V : Type 0} {G : Ghosts L} {H : Ghosts V} (m : Manager L V G H) (run : StoredRun) : Type 0 where
+  pub log_front : List ℕ
   pub front : List ℕ
-  pub disk : ℕ → List ℕ
-  pub opened : IsInState m.opened front disk run.first
-  pub ended : IsInState m.ended front disk run.last
-  pub events : run.events ≡ m.moves
+  pub first_disk : ℕ → List ℕ
+  pub last_disk : ℕ → List ℕ
+  pub opened : IsAt m.opened log_front front first_disk run.first run.ready
+  pub moves : managed run.events ≡ m.moves
+  pub ended : IsAt m.ended log_front front last_disk run.last.state run.last.store
 
-abbrev pub AreRunsOf : {L V : Type 0} {G : Ghosts L} {H : Ghosts V} → List (Manager L V G H) → List Run → Type 0
-AreRunsOf (m ∷ ms) (run ∷ runs) = IsRunOf m run × AreRunsOf ms runs
+-- each manager has its run; an open that lost power is part of the run behind it
+abbrev pub AreRunsOf : {L V : Type 0} {G : Ghosts L} {H : Ghosts V} → List (Stay L V G H) → List StoredRun → Type 0
 AreRunsOf [] [] = Unit {0}
 AreRunsOf [] (run ∷ runs) = ⊥
-AreRunsOf (m ∷ ms) [] = ⊥
+AreRunsOf (Cut c ∷ stays) runs = AreRunsOf stays runs
+AreRunsOf (Up m ∷ stays) [] = ⊥
+AreRunsOf (Up m ∷ stays) (run ∷ runs) = IsRunOf m run × AreRunsOf stays runs

@@ -1,31 +1,36 @@
 -- What a world is, what an event does to it, and what a crash leaves of it.
-use Rattle.std.specs.Prelude.{◌≡◌, ◌⊎◌, ℕ, ◌+◌, ◌-◌, ◌<◌, ◌≤◌, List, [], ◌∷◌, ◌++◌, Bool, false, IsTrue, IsSome, IsSomeAnd, None, Result, Ok, Err, length, take, drop}
+use Rattle.std.specs.Prelude.{◌≡◌, ◌⊎◌, ℕ, ◌+◌, ◌-◌, ◌<◌, ◌≤◌, List, [], ◌∷◌, ◌++◌, Bool, false, IsTrue, IsSome, IsSomeAnd, MatchResult, None, Result, Ok, Err, length, take, drop}
 use Rattle.shore_types.specs.declared.faults.Fault.{Fault}
 use Rattle.shore_types.specs.declared.faults.Fault.TheVariants.{Device, Failed, Memory, LogFull}
 use Rattle.shore_types.specs.declared.layout.Geometry.{Geometry}
-use Rattle.shore_types.specs.declared.layout.TheConstants.{LOG_FRONT_BYTES}
+use Rattle.shore_types.specs.declared.layout.TheConstants.{LOG_FRONT_BYTES, LONGEST_FRAME}
 use Rattle.shore_disk.specs.Device.{History, size, may_leave, LeavesOnly}
 use Rattle.shore_disk.specs.declared.device.Disk.{Ghosts}
 use Rattle.shore_model.specs.declared.calls.Answer.TheVariants.{Staged, Forced}
 use Rattle.shore_model.specs.declared.log_records.LogRecord.{LogRecord}
 use Rattle.shore_calls.specs.declared.step.Step.{Step}
 use Rattle.shore_calls.specs.declared.step.Step.TheVariants.{Done, Refused, Nothing}
-use Rattle.shore_calls.specs.Bounds.{IsBounded}
-use Rattle.shore_calls.specs.CallHistories.{IsOpened}
 use Rattle.shore_calls.specs.CallSteps.{CallStep, Called, HasFailed, ManagerEvent, ResumeStep, Resumed, with_durable, with_failure}
 use Rattle.shore_calls.specs.CallSteps as calls
-use Rattle.shore_calls.specs.States.{State}
+use Rattle.shore_calls.specs.States.{State, cost_of_log}
 use Rattle.shore_log.specs.Frames.{GivesBehind, IsLongest}
 use Rattle.shore_log.specs.Settled.{records_of_log, IsSettled, IsStaged}
 use Rattle.shore_format.specs.Causes.{HasCauseOfPair}
-use Rattle.shore_heap.specs.Heaps.{KeepsVolume}
+use Rattle.shore_pool.specs.Pools.{Holds}
+use Rattle.shore_heap.specs.Heaps.{WroteBack, pool_of}
+use Rattle.shore_recovery.specs.Pages.{LoggedPages}
+use Rattle.shore_recovery.specs.Recovery.{CrashMayLeave, RecoveryEvent, RecoveryState}
+use Rattle.shore_lives.specs.ManagerSteps.{WorksTo}
+use Rattle.shore_logged.specs.LoggedHeaps.{LeavesStore}
 use Rattle.shore_core.specs.Cores as cores
-use Rattle.shore_core.specs.Cores.{IsIn, IsSafe}
-use Rattle.shore_core.specs.Replies.{Earns, fault_at}
+use Rattle.shore_core.specs.Cores.{IsIn, IsOver, IsSafe}
+use Rattle.shore_core.specs.Flushing.{AreFlushes, FlushAnswers, FlushMoves}
+use Rattle.shore_core.specs.Replies.{Earns, NeedsForce, SameVolume, fault_at}
+use Rattle.shore_restart.specs.declared.recovering.Report.{Report}
 use Rattle.shore_world.specs.declared.event.Event.{Event}
 use Rattle.shore_world.specs.declared.event.Event.TheVariants as event
 use Rattle.shore_world.specs.declared.world.World.{World}
-use Rattle.shore_world.specs.Events.{IsOfForce, IsOfSession, ReadBy}
+use Rattle.shore_world.specs.Events.{IsOfForce, IsOfPages, ReadBy}
 use Rattle.shore_world.specs.EventMoves.{moves_by}
 
 -- ---- what it has
@@ -46,6 +51,10 @@ module _ {L V : Type 0} {G : Ghosts L} {H : Ghosts V} where
   abbrev pub geometry_in : World L V G H → Geometry
   geometry_in w = cores.geometry_of w.core
 
+  -- what the restart did that opened it
+  abbrev pub report_in : World L V G H → Report
+  report_in w = w.report
+
   -- the calls of its log device
   abbrev pub history_in : World L V G H → History
   history_in w = G.history w.log.device
@@ -57,6 +66,10 @@ module _ {L V : Type 0} {G : Ghosts L} {H : Ghosts V} where
   -- It is in this state of the manager over plain data, on a volume with these texts of its pages behind this front.
   abbrev pub IsInState : World L V G H → List ℕ → (ℕ → List ℕ) → State → Type 0
   IsInState w front disk s = IsIn front disk (records_of_log w.log) w.core s
+
+  -- .. and over this store of plain data, which has its log and its pages
+  abbrev pub IsOverStore : World L V G H → (ℕ → List ℕ) → State → RecoveryState → Type 0
+  IsOverStore w disk s store = IsOver disk w.core s store
 
   -- the log is of this length, without its front
   abbrev pub stream_bytes_in : World L V G H → ℕ
@@ -77,7 +90,7 @@ OpenRefused s fault new =
     (IsTrue s.failed × (fault ≡ Failed) × (new ≡ s))
     ⊎ ((s.failed ≡ false) × (fault ≡ Device) × (new ≡ with_failure s))
 
--- A force is made in two steps, and only the second makes records durable.
+-- A force is made in two steps, and only the second makes records durable. A step of the flush leaves the state, but for a failure of the volume.
 abbrev pub EventStep : Geometry → State → Event → Step → State → Type 0
 EventStep g s (event.Call session call) step new = CallStep g s session call step new
 EventStep g s (event.Resume session) step new = ResumeStep s session step new
@@ -87,6 +100,7 @@ EventStep g s event.ForceStage (Refused fault) new = ForceRefused s fault new
 EventStep g s event.ForceOpen (Done (Forced n)) new = (s.failed ≡ false) × (s.durable < n) × (n ≤ length s.log) × (new ≡ with_durable n s)
 EventStep g s event.ForceOpen Nothing new = (s.failed ≡ false) × (new ≡ s)
 EventStep g s event.ForceOpen (Refused fault) new = OpenRefused s fault new
+EventStep g s event.FlushStep step new = FlushMoves s step new
 EventStep g s event step new = ⊥
 
 -- ---- what a crash leaves
@@ -94,6 +108,10 @@ EventStep g s event step new = ⊥
 -- behind this front the frames give a prefix of the list, of this many records at least
 abbrev pub GivesBeginning : List ℕ → ℕ → List LogRecord → List ℕ → Type 0
 GivesBeginning front least rs image = (n : ℕ) × (least ≤ n) × (n ≤ length rs) × GivesBehind front (take n rs) image
+
+-- behind this front the volume shows pages that power may be lost with over the store
+abbrev pub ShowsLeft : Geometry → List ℕ → RecoveryState → List ℕ → Type 0
+ShowsLeft g front store image = (left : LoggedPages) × CrashMayLeave store left × LeavesStore store.log g front left image
 
 module _ {L V : Type 0} {G : Ghosts L} {H : Ghosts V} where
   -- the log device is settled, or a frame of its waiting records is staged
@@ -106,37 +124,55 @@ module _ {L V : Type 0} {G : Ghosts L} {H : Ghosts V} where
     pub images : (c : List ℕ) → may_leave (history_in w) c → GivesBeginning front (durable_in w) (list_in w) c
     pub ready : failed_in w ≡ false → IsReady w front
 
+  -- The world is in this state, over this store, and a crash now leaves of both devices what the store may lose power with.
+  pub record IsAt (w : World L V G H) (log_front front : List ℕ) (disk : ℕ → List ℕ) (s : State) (store : RecoveryState) : Type 0 where
+    pub is_in : IsInState w front disk s
+    pub over : IsOverStore w disk s store
+    pub log : SurvivesCrashes w log_front
+    pub volume : (c : List ℕ) → may_leave (volume_history_in w) c → ShowsLeft (geometry_in w) front store c
+
   -- there is no frame to stage: one is under way, or every record is durable
   abbrev pub IsIdle : World L V G H → Type 0
   IsIdle w = IsSome w.log.staged ⊎ (durable_in w ≡ length (list_in w))
 
+  -- From a state and a store the world has come to others: pages may have been written back, a record appended and done on its page, or a force told.
+  pub record ComesTo (new : World L V G H) (log_front front : List ℕ) (store : RecoveryState) (later : State) : Type 0 where
+    pub left : ℕ → List ℕ
+    pub works : List RecoveryEvent
+    pub after : RecoveryState
+    pub work : WorksTo store works after
+    pub at : IsAt new log_front front left later after
+
+  -- At each moment on the way a crash leaves of the log a prefix of the list as it was before, with all that was durable then, and of the volume pages
+  -- that the store may lose power with.
+  pub record LeavesAtAnyMoment (old new : World L V G H) : Type 0 where
+    pub log : (log_front : List ℕ) → SurvivesCrashes old log_front → LeavesOnly (history_in old) (history_in new) (GivesBeginning log_front (durable_in old) (list_in old))
+    pub volume : (log_front front : List ℕ) (disk : ℕ → List ℕ) (s : State) (store : RecoveryState) → IsAt old log_front front disk s store
+        → LeavesOnly (volume_history_in old) (volume_history_in new) (ShowsLeft (geometry_in old) front store)
+    -- one device at most was touched
+    pub one : (history_in new ≡ history_in old) ⊎ (volume_history_in new ≡ volume_history_in old)
+
   -- ---- an event
 
-  -- From this state an event has come to another by a step of the manager over plain data. Nothing is written to the volume.
-  pub record Comes (old : World L V G H) (e : Event) (step : Step) (new : World L V G H) (front : List ℕ) (disk : ℕ → List ℕ) (s : State) : Type 0 where
+  -- from this state and store by a step of the manager over plain data; a step of the flush does no other work than to write pages back
+  pub record Comes (old : World L V G H) (e : Event) (step : Step) (new : World L V G H) (log_front front : List ℕ) (s : State) (store : RecoveryState) : Type 0 where
     pub later : State
     pub moves : EventStep (geometry_in old) s e step later
-    pub is_in : IsInState new front disk later
-    pub still : volume_history_in new ≡ volume_history_in old
+    pub comes : ComesTo new log_front front store later
+    pub flushes : e ≡ event.FlushStep → AreFlushes comes.works
 
-  -- What an event moves: from whatever safe state the world is in it comes to another, which a crash keeps like the one before; and at each
-  -- moment on the way a crash leaves of the log a prefix of the list as it was before, with all that was durable then.
+  -- What an event moves: from whatever safe state and store the world is at it comes to others.
   pub record Moves (old : World L V G H) (e : Event) (step : Step) (new : World L V G H) : Type 0 where
     pub geometry : geometry_in new ≡ geometry_in old
-    pub state : (front : List ℕ) (disk : ℕ → List ℕ) (s : State) → IsInState old front disk s → IsSafe (geometry_in old) s → Comes old e step new front disk s
-    pub kept : (front : List ℕ) (disk : ℕ → List ℕ) (s : State) → IsInState old front disk s → IsSafe (geometry_in old) s
-        → (log_front : List ℕ) → SurvivesCrashes old log_front → SurvivesCrashes new log_front
-    pub any_moment : (log_front : List ℕ) → SurvivesCrashes old log_front → LeavesOnly (history_in old) (history_in new) (GivesBeginning log_front (durable_in old) (list_in old))
+    pub state : (log_front front : List ℕ) (disk : ℕ → List ℕ) (s : State) (store : RecoveryState) → IsAt old log_front front disk s store → IsSafe (geometry_in old) s
+        → Comes old e step new log_front front s store
+    pub any_moment : LeavesAtAnyMoment old new
 
-  -- the world is kept behind some front, and is in a state in bounds: then the next frame has its room
+  -- the world is kept behind some front, and the log has room for all of its list and the longest frame: then the next frame has its room
   pub record HasForceRoom (w : World L V G H) : Type 0 where
     pub log_front : List ℕ
     pub kept : SurvivesCrashes w log_front
-    pub front : List ℕ
-    pub disk : ℕ → List ℕ
-    pub state : State
-    pub is_in : IsInState w front disk state
-    pub bounded : IsBounded (geometry_in w) (stream_bytes_in w) state
+    pub room : cost_of_log (list_in w) + LONGEST_FRAME ≤ stream_bytes_in w
 
   -- A frame is under way now: it has the longest list of the records not yet durable that one frame holds, the last of this number.
   pub record HasStaged (old new : World L V G H) (n : ℕ) : Type 0 where
@@ -149,52 +185,69 @@ module _ {L V : Type 0} {G : Ghosts L} {H : Ghosts V} where
     pub frame : IsSomeAnd old.log.staged (λ frame. n ≡ durable_in old + frame.count)
     pub none_left : new.log.staged ≡ None
 
-  -- One event: what it moves, what a step of a force that was made has done, when it may come to nothing, and who tells of a failure.
+  -- A step of the flush: pages with durable numbers were written, the first of the volume that are due, and the answer counts them; or none is due, and
+  -- nothing has changed. What is clean is on the volume as long as it has not failed.
+  pub record HasFlushed (old : World L V G H) (step : Step) (new : World L V G H) : Type 0 where
+    pub answers : FlushAnswers old.core step new.core
+    pub written : (front : List ℕ) (disk : ℕ → List ℕ) → Holds (pool_of (cores.heap_of old.core)) front disk
+        → MatchResult (fault_at step) (λ _. WroteBack (cores.heap_of old.core) (cores.heap_of new.core) (durable_in old) front disk)
+        (λ f. (f ≡ Device) ⊎ WroteBack (cores.heap_of old.core) (cores.heap_of new.core) (durable_in old) front disk)
+
+  -- One event: what it moves, what a step of a force or of the flush has done, when it may come to nothing, and who tells of a failure.
   pub record Steps (old : World L V G H) (e : Event) (step : Step) (new : World L V G H) : Type 0 where
     pub moves : Moves old e step new
-    -- a call and a resume make no call of the log device, and a step of a force none of the volume
-    pub still : IsOfSession e → new.log.device ≡ old.log.device
+    -- a call, a resume and a step of the flush make no call of the log device, and a step of a force none of the volume
+    pub still : IsOfPages e → new.log.device ≡ old.log.device
     pub volume : IsOfForce e → cores.heap_of new.core ≡ cores.heap_of old.core
-    -- the volume is only read, whatever its pages hold
-    pub only_read : KeepsVolume (cores.heap_of old.core) (cores.heap_of new.core)
+    pub same : SameVolume old.core new.core
     pub staged : (n : ℕ) → e ≡ event.ForceStage → step ≡ Done (Staged n) → HasStaged old new n
     pub forced : (n : ℕ) → e ≡ event.ForceOpen → step ≡ Done (Forced n) → HasForced old new n
     -- nothing is staged only if every record is durable or a frame is under way, and no gate is opened only if none is
     pub idle : e ≡ event.ForceStage → step ≡ Nothing → IsIdle old
     pub shut : e ≡ event.ForceOpen → step ≡ Nothing → old.log.staged ≡ None
     pub full : e ≡ event.ForceStage → step ≡ Refused LogFull → ¬ HasForceRoom old
-    -- `Damaged` names a page that the event may read and that has no text
+    pub flushed : e ≡ event.FlushStep → HasFlushed old step new
+    pub report : report_in new ≡ report_in old
+    -- `Damaged` names a page that the event may read and that has no text; `NeedForce` comes if no page may leave its frame
     pub damaged : Earns old.core (ReadBy e) (fault_at step)
+    pub unforced : NeedsForce old.core (fault_at step)
     pub cause : HasCauseOfPair (fault_at step) (G.faults old.log.device) (G.faults new.log.device) (cores.faults_of old.core) (cores.faults_of new.core)
 
   -- ---- between two events
 
-  -- The same but for what a device is told that changes none of its bytes, as the fuse of one that is made to fail, and for pages that were read.
+  -- The same but for what a device is told that changes none of its bytes, as the fuse of one that is made to fail, and for pages that were read and
+  -- others that were written back for them.
   pub record IsLike (old new : World L V G H) : Type 0 where
     pub geometry : geometry_in new ≡ geometry_in old
-    pub state : (front : List ℕ) (disk : ℕ → List ℕ) (s : State) → IsInState old front disk s → IsInState new front disk s
+    pub state : (log_front front : List ℕ) (disk : ℕ → List ℕ) (s : State) (store : RecoveryState) → IsAt old log_front front disk s store → IsSafe (geometry_in old) s
+        → ComesTo new log_front front store s
+    pub any_moment : LeavesAtAnyMoment old new
     pub list : list_in new ≡ list_in old
     pub durable : durable_in new ≡ durable_in old
     pub failed : failed_in new ≡ failed_in old
     pub history : history_in new ≡ history_in old
     pub staged : new.log.staged ≡ old.log.staged
+    pub report : report_in new ≡ report_in old
     pub faults : G.faults new.log.device ≡ G.faults old.log.device
-    pub volume : KeepsVolume (cores.heap_of old.core) (cores.heap_of new.core)
+    pub same : SameVolume old.core new.core
     pub volume_faults : cores.faults_of new.core ≡ cores.faults_of old.core
     pub kept : (front : List ℕ) → SurvivesCrashes old front → SurvivesCrashes new front
 
-  -- A read of the volume has failed: every later call is refused, and nothing else has changed but the count of failures of its device.
+  -- A call of the volume has failed: every later call is refused.
   pub record HasFailedToRead (old new : World L V G H) : Type 0 where
     pub geometry : geometry_in new ≡ geometry_in old
-    pub state : (front : List ℕ) (disk : ℕ → List ℕ) (s : State) → IsInState old front disk s → IsInState new front disk (with_failure s)
+    pub state : (log_front front : List ℕ) (disk : ℕ → List ℕ) (s : State) (store : RecoveryState) → IsAt old log_front front disk s store → IsSafe (geometry_in old) s
+        → ComesTo new log_front front store (with_failure s)
+    pub any_moment : LeavesAtAnyMoment old new
     pub list : list_in new ≡ list_in old
     pub durable : durable_in new ≡ durable_in old
     pub running : failed_in old ≡ false
     pub failed : IsTrue (failed_in new)
     pub history : history_in new ≡ history_in old
     pub staged : new.log.staged ≡ old.log.staged
+    pub report : report_in new ≡ report_in old
     pub faults : G.faults new.log.device ≡ G.faults old.log.device
-    pub volume : KeepsVolume (cores.heap_of old.core) (cores.heap_of new.core)
+    pub same : SameVolume old.core new.core
     pub kept : (front : List ℕ) → SurvivesCrashes old front → SurvivesCrashes new front
 
 -- Between two events fuses may be set and stores dumped. Each read of the volume that failed is a failure of the manager over plain data.
@@ -218,14 +271,6 @@ Runs old (e ∷ es) [] moves new = ⊥
 -- ---- what an open answers
 
 module _ {L V : Type 0} {G : Ghosts L} {H : Ghosts V} where
-  -- The world is in a state that an open leaves: its records are those that its list tells. Pages and log have room.
-  pub record IsOpenedIn (w : World L V G H) (front : List ℕ) (disk : ℕ → List ℕ) : Type 0 where
-    pub state : State
-    pub is_in : IsInState w front disk state
-    pub opened : IsOpened (list_in w) state
-    pub safe : IsSafe (geometry_in w) state
-    pub stream : state.stream_bytes ≡ stream_bytes_in w
-
   -- the log device, whether a world stands on it or it is handed back
   abbrev pub log_in : Result (World L V G H) (Fault × L × V) → L
   log_in (Ok w) = w.log.device

@@ -17,6 +17,8 @@ pub enum Event {
     ForceStage,
     /// The gate of the staged frame is opened.
     ForceOpen,
+    /// A batch of dirty pages with durable numbers, the first of the volume, is written back.
+    FlushStep,
 }
 
 impl Event {
@@ -30,6 +32,7 @@ impl Event {
             Event::Resume(session) => Event::Resume(*session),
             Event::ForceStage => Event::ForceStage,
             Event::ForceOpen => Event::ForceOpen,
+            Event::FlushStep => Event::FlushStep,
         })
     }
 }

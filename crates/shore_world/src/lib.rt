@@ -1,5 +1,5 @@
-//! The whole manager over its pair of devices: format, open, and one event at a time. It is the plain world of one session; nothing is
-//! written back to the volume yet: the records in place are kept in pages in memory, and an open lays them there anew from the log.
+//! The whole manager over its pair of devices: format, open, and one event at a time. It is the plain world of one session. Pages are written
+//! back whenever that suits, with undecided changes in them, and an open is a restart: it redoes what pages lack and undoes the losers.
 #![tactic(auto)]
 
 mod event;
@@ -10,4 +10,5 @@ mod world;
 pub use event::Event;
 pub use shore_core::{Step, Wait};
 pub use shore_format::{format, volume_bytes};
+pub use shore_restart::Report;
 pub use world::{World, crashed};

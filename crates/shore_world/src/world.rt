@@ -1,28 +1,17 @@
-//! The plain world: a core over its log device and its volume, one event at a time. Nothing is written back to the volume yet: an open lays
-//! the records that the log tells into empty pages.
+//! The world: a core over its log device and its volume, one event at a time.
 ghost use Rattle.std.specs.Prelude.{◌≡◌, ◌≢◌, ◌⊎◌, ◌+◌, ◌-◌, ◌≤◌, ◌++◌, ℕ, List, [], ◌∷◌, All, IsTrue, IfOk, IfErr, IsErrAnd, MatchResult, OnOk, OnErr, Err, None, length, take};
 ghost use Rattle.shore_types.specs.Layout.{HasStore};
-ghost use Rattle.shore_types.specs.declared.layout.Geometry.{Geometry};
-ghost use Rattle.shore_types.specs.declared.layout.TheConstants.{LOG_FRONT_BYTES, MAX_LOG_BYTES, MAX_PAGES, MIN_POOL_FRAMES};
-ghost use Rattle.shore_model.specs.declared.log_records.LogRecord.{LogRecord};
 ghost use Rattle.shore_model.specs.Records.{scan_of};
 ghost use Rattle.shore_disk.specs.Device.{size, seen, may_leave, LeavesOnly};
-ghost use Rattle.shore_dwrite.specs.declared.places.TheConstants.{GATE_AT};
-ghost use Rattle.shore_dwrite.specs.Settled.{device_of};
-ghost use Rattle.shore_dwrite.specs.Shown.{IsShut, Shows};
 ghost use Rattle.shore_disk.specs.Cause.{HasCause};
 ghost use Rattle.shore_disk.specs.Fuse.{fuse_inner};
 ghost use Rattle.shore_disk.specs.AnyDisk.{any_history, is_in_memory};
 ghost use Rattle.shore_disk.specs.Memory.{picked_after};
-ghost use Rattle.shore_log.specs.Frames.{Gives};
 ghost use Rattle.shore_log.specs.Settled.{records_of_log, stable};
-ghost use Rattle.shore_gate.specs.Checks.{IsFromOutside};
-ghost use Rattle.shore_pool.specs.Pools.{Holds};
-ghost use Rattle.shore_dwrite.specs.Volumes.{AreEmpty};
-ghost use Rattle.shore_heap.specs.Heaps.{KeepsVolume, pool_of};
-ghost use Rattle.shore_calls.specs.CallSteps.{after_refusal, with_failure};
+ghost use Rattle.shore_calls.specs.CallSteps.{with_failure};
 ghost use Rattle.shore_calls.specs.Refusals.{IsPageFault};
 ghost use Rattle.shore_calls.specs.States.{State};
+ghost use Rattle.shore_recovery.specs.Recovery.{RecoveryState};
 ghost use Rattle.shore_core.specs.Cores.{IsSafe, durable_of, first_of, heap_of};
 ghost use Rattle.shore_world.specs.Events.{IsServedEvent, ReadBy};
 
@@ -33,6 +22,7 @@ use shore_disk::{AnyDisk, Disk, FuseDisk, Pick};
 use shore_format::{Fronts, read_fronts};
 use shore_log::{LogDev, LogRecord, PlainTail};
 use shore_model::Answer;
+use shore_restart::{Report, restart};
 use shore_types::{Fault, Geometry, Lsn, Pairs, StoreId};
 use std::alloc::Global;
 
@@ -41,26 +31,35 @@ use std::alloc::Global;
 pub struct World<L: Disk, V: Disk> {
     core: Core<PlainTail, V>,
     log: LogDev<L>,
+    // What the restart did that opened it.
+    report: Report,
     ghost numbers: { first_of core ≡ 1 + length (records_of_log log) },
     ghost durable_agrees: { durable_of core ≡ length (stable log) },
 }
 
 impl<L: Disk, V: Disk> World<L, V> {
+    ghost use Rattle.shore_world.specs.Worlds.{IsInState, IsOverStore, Moves, HasForced, HasStaged, HasFailedToRead, IsLike, Steps, Runs, HasForceRoom, IsIdle, durable_in, failed_in, geometry_in, list_in, report_in, fault_in, log_in, volume_in};
+    ghost use Rattle.shore_world.specs.Opens.{IsReportOf, OpensAlong};
+    ghost use Rattle.shore_log.specs.Frames.{Gives};
+    ghost use Rattle.shore_world.specs.Refusals.{RefusesOpen};
+    ghost use Rattle.shore_stands.specs.StandsFor.{StandsFor};
     ghost use Rattle.shore_format.specs.Causes.{HasCauseOfPair};
-    ghost use Rattle.shore_format.specs.Fronts.{HasFront};
-    ghost use Rattle.shore_format.specs.Pairs.{HaveFronts, RefusesOpen, StandsFor};
-    ghost use Rattle.shore_format.specs.Volumes.{VolumeStandsFor};
-    ghost use Rattle.shore_world.specs.Worlds.{IsInState, IsOpenedIn, Moves, HasForced, HasStaged, HasFailedToRead, IsLike, Steps, Runs, HasForceRoom, IsIdle, SurvivesCrashes, durable_in, failed_in, geometry_in, list_in, volume_history_in, log_in, volume_in, fault_in};
-    ghost use Rattle.shore_core.specs.Replies.{Earns, Fails, fault_at};
+    ghost use Rattle.shore_format.specs.Pairs.{HaveFronts};
+    ghost use Rattle.shore_gate.specs.Checks.{IsFromOutside};
+    ghost use Rattle.shore_disk.specs.Device.{Stands};
+    ghost use Rattle.shore_recovery.specs.Pages.{LoggedPages};
+    ghost use Rattle.shore_model.specs.declared.log_records.LogRecord.{LogRecord};
+    ghost use Rattle.shore_types.specs.declared.layout.Geometry.{Geometry};
+    ghost use Rattle.shore_types.specs.declared.layout.TheConstants.{MAX_PAGES, MIN_POOL_FRAMES};
+    ghost use Rattle.shore_core.specs.Replies.{Earns, Fails, NeedsForce, SameVolume, fault_at};
     ghost use Rattle.shore_world.specs.EventMoves.{all_moves};
     ghost use Rattle.shore_core.specs.Cores.{volume_of};
 
-    /// Opens the manager of a formatted pair: a barrier on both devices, the labels, that they are of one pair, the anchors, the frames, the
-    /// double-write area, and then the records in place as the log tells them, each laid into its own slot. There are at least so many frames
-    /// for pages, and one for each page. Refused by `NotFormatted`, `WrongVersion`, `WrongPair` or `Damaged` with the device and the offset if
-    /// the pair is not in order, by `Device` if one failed, by `Memory` if an allocation failed; the devices are handed back, and may be
-    /// opened again. What is said of the records holds of a volume whose pages are as the format left them, as they are until pages are
-    /// written back.
+    /// Opens the manager of a formatted pair: a barrier on both devices, the labels, that they are of one pair, the anchors, the frames of the log, the
+    /// double-write area, and then a restart: the records of the log that pages lack are redone, the losers are undone by records of their own, and these
+    /// are forced. There are so many frames for pages. Refused by `NotFormatted`, `WrongVersion`, `WrongPair` or `Damaged` with the device and the
+    /// offset if the pair is not in order, by `Device` if one failed, by `Memory` if an allocation failed. The devices are handed back, and may be
+    /// opened again: what was made durable until then stays, and the next open goes on with it.
     pub fn open(
         alloc: Global,
         mut log: L,
@@ -70,46 +69,36 @@ impl<L: Disk, V: Disk> World<L, V> {
         requires some { MIN_POOL_FRAMES ≤ frames }
         requires most { frames ≤ MAX_PAGES }
 
-        // Its list is the one that stood there, and its geometry that of the labels.
-        ensures log { IsTrue (L.is_honest log) → IfOk result (λ w. Gives (list_in w) (seen (L.history log))) }
-        ensures only { IsTrue (L.is_honest log) → (rs : List LogRecord) → Gives rs (seen (L.history log)) → IfOk result (λ w. list_in w ≡ rs) }
+        // Its geometry is that of the labels.
         ensures fronts { IsTrue (L.is_honest log) → IsTrue (V.is_honest volume) → IfOk result (λ w. HaveFronts (geometry_in w) (L.history log) (V.history volume)) }
         ensures geometry { IsTrue (L.is_honest log) → IsTrue (V.is_honest volume) → (g : Geometry) → HaveFronts g (L.history log) (V.history volume)
             → IfOk result (λ w. geometry_in w ≡ g) }
-        ensures kept { IsTrue (L.is_honest log) → IfOk result (λ w. SurvivesCrashes w (take LOG_FRONT_BYTES (seen (L.history log)))) }
 
-        // The double-write area is replayed: the pages that the volume shows are in place behind a shut gate. Over empty pages the records in
-        // place are those that the list tells.
-        ensures pages { IsTrue (L.is_honest log) → IsTrue (V.is_honest volume) → (g : Geometry) (pages : ℕ → List ℕ)
-            → HaveFronts g (L.history log) (V.history volume) → Shows g (seen (V.history volume)) pages
-            → IfOk result (λ w. Holds (pool_of (heap_of w.core)) (take GATE_AT (seen (V.history volume))) pages) }
-        ensures opened { IsTrue (L.is_honest log) → IsTrue (V.is_honest volume) → (g : Geometry) (pages : ℕ → List ℕ)
-            → HaveFronts g (L.history log) (V.history volume) → Shows g (seen (V.history volume)) pages → AreEmpty g pages
-            → IfOk result (λ w. IsOpenedIn w (take GATE_AT (seen (V.history volume))) pages) }
+        // Of images that stand for a log and pages it makes its way by steps of a restart, at each moment of which a crash leaves what may be
+        // opened again; the world at its end has all records done and no loser.
+        ensures along { IsTrue (L.is_honest log) → IsTrue (V.is_honest volume) → (g : Geometry) (rs : List LogRecord) (pages : LoggedPages) (log_image volume_image : List ℕ)
+            → Stands (L.history log) log_image → Stands (V.history volume) volume_image
+            → StandsFor g (size (L.history log)) (size (V.history volume)) rs pages log_image volume_image
+            → OpensAlong result g (L.history log) (V.history volume) log_image volume_image rs pages }
 
-        // What is refused goes by the checks in their order. Images that stand for a list are opened, unless a device or an allocation fails.
+        // It tells what its restart did with the log that the frames give.
+        ensures report { IsTrue (L.is_honest log) → (rs : List LogRecord) → Gives rs (seen (L.history log)) → IfOk result (λ w. IsReportOf rs (report_in w)) }
+
+        // What is refused goes by the checks in their order. Images that stand for a log and pages are opened, unless a device or an allocation fails.
         ensures refused { IsTrue (L.is_honest log) → IsTrue (V.is_honest volume)
             → IfErr result (λ e. IsFromOutside e.0 ⊎ RefusesOpen (L.history log) (V.history volume) e.0) }
-        ensures stands { IsTrue (L.is_honest log) → IsTrue (V.is_honest volume) → (g : Geometry) (rs : List LogRecord)
-            → StandsFor g (size (L.history log)) (size (V.history volume)) rs (seen (L.history log)) (seen (V.history volume)) → IfErr result (λ e. IsFromOutside e.0) }
+        ensures stands { IsTrue (L.is_honest log) → IsTrue (V.is_honest volume) → (g : Geometry) (rs : List LogRecord) (pages : LoggedPages) (log_image volume_image : List ℕ)
+            → Stands (L.history log) log_image → Stands (V.history volume) volume_image
+            → StandsFor g (size (L.history log)) (size (V.history volume)) rs pages log_image volume_image → IfErr result (λ e. IsFromOutside e.0) }
 
-        // A crash leaves of the volume what stands for the same. At any moment of the call it leaves of each device what it could have left
-        // before, of a volume if its double-write area is shut.
-        ensures volume { IsTrue (V.is_honest volume) → (g : Geometry) → VolumeStandsFor g (size (V.history volume)) (seen (V.history volume))
-            → IfOk result (λ w. (c : List ℕ) → may_leave (volume_history_in w) c → VolumeStandsFor g (size (V.history volume)) c) }
-        ensures any_log { IsTrue (L.is_honest log) → LeavesOnly (L.history log) (L.history (log_in result)) (may_leave (L.history log)) }
-        ensures any_volume { IsTrue (V.is_honest volume) → IsShut (seen (V.history volume))
-            → LeavesOnly (V.history volume) (V.history (volume_in result)) (may_leave (V.history volume)) }
-
-        ensures seen { IsTrue (L.is_honest log) → seen (L.history (log_in result)) ≡ seen (L.history log) }
         ensures honest { (L.is_honest (log_in result) ≡ L.is_honest log) × (V.is_honest (volume_in result) ≡ V.is_honest volume) }
         ensures size { (size (L.history (log_in result)) ≡ size (L.history log)) × (size (V.history (volume_in result)) ≡ size (V.history volume)) }
         ensures cause { HasCauseOfPair (fault_in result) (L.faults log) (L.faults (log_in result)) (V.faults volume) (V.faults (volume_in result)) }
     {
         let Fronts {
-            geometry,
             of_pages,
             anchor_offset,
+            ..
         } = match read_fronts(alloc, &mut log, &mut volume) {
             Ok(fronts) => fronts,
             Err(fault) => return Err((fault, log, volume)),
@@ -122,9 +111,8 @@ impl<L: Disk, V: Disk> World<L, V> {
             Ok(heap) => heap,
             Err((fault, volume)) => return Err((fault, log.into_device(), volume)),
         };
-        let durable = log.durable().number();
-        match Core::open(alloc, heap, log.records(), log.stream_bytes(), durable) {
-            Ok(core) => Ok(World { core, log }),
+        match restart(alloc, &mut log, heap) {
+            Ok((core, report)) => Ok(World { core, log, report }),
             Err((error, heap)) => {
                 let fault = fault_of(error, anchor_offset, &mut log);
                 let volume = heap.into_device().into_device();
@@ -143,6 +131,13 @@ impl<L: Disk, V: Disk> World<L, V> {
         )
     }
 
+    /// What the restart did that opened it.
+    pub fn report(&self) -> Report
+        ensures { result ≡ report_in self.now }
+    {
+        self.report
+    }
+
     /// How the volume is laid out.
     pub fn geometry(&self) -> &Geometry
         ensures { result.now ≡ geometry_in self.now }
@@ -151,25 +146,24 @@ impl<L: Disk, V: Disk> World<L, V> {
     }
 
     /// The records in place of a store, decided or not, in place order. No locks are taken. Its pages are read if they are in no frame, so it
-    /// may be refused by `Device`, `Damaged` and `Memory`; and by `NoStore` and, once a device has failed, by `Failed`.
+    /// may be refused by `Device`, `Damaged` and `Memory`, and by `NeedForce(n)` if a page needs a frame that is free once the log is forced up to
+    /// number n; and by `NoStore` and, once a device has failed, by `Failed`.
     pub fn dump(&mut self, alloc: Global, store: StoreId) -> Result<Pairs, Fault>
-        ensures shown { (front : List ℕ) (disk : ℕ → List ℕ) (s : State) → IsInState self.old front disk s → IsSafe (geometry_in self.old) s
-            → IfOk result (λ pairs. pairs ≡ scan_of store s.sessions.records) }
-        ensures stays { (front : List ℕ) (disk : ℕ → List ℕ) (s : State) → IsInState self.old front disk s
-            → MatchResult result (λ _. IsInState self.new front disk s) (λ fault. IsInState self.new front disk (after_refusal fault s)) }
+        ensures shown { (front : List ℕ) (disk : ℕ → List ℕ) (s : State) (kept : RecoveryState) → IsInState self.old front disk s → IsSafe (geometry_in self.old) s
+            → IsOverStore self.old disk s kept → IfOk result (λ pairs. pairs ≡ scan_of store s.sessions.records) }
 
         // An answer by `Device` or `Damaged` is the failure of a running manager, and changes nothing else; any other changes nothing that a call or
         // a crash could tell. So runs before and behind a dump join.
         ensures like { ¬ IsErrAnd result Fails → IsLike self.old self.new }
         ensures fails { IsErrAnd result Fails → HasFailedToRead self.old self.new }
-        ensures volume { KeepsVolume (heap_of self.old.core) (heap_of self.new.core) }
         ensures damaged { Earns self.old.core (λ page. page.store ≡ store) result }
+        ensures forced { NeedsForce self.old.core result }
         ensures failed { IsTrue (failed_in self.old) → IfErr result (λ fault. fault ≡ Fault.Failed) }
         ensures served { IfOk result (λ _. HasStore (geometry_in self.old) store) }
-        ensures refused { (front : List ℕ) (disk : ℕ → List ℕ) (s : State) → IsInState self.old front disk s → IsSafe (geometry_in self.old) s
-            → IfErr result (λ fault. (IsTrue (failed_in self.old) × (fault ≡ Fault.Failed)) ⊎ ((fault ≡ Fault.NoStore) × ¬ HasStore (geometry_in self.old) store)
-            ⊎ (fault ≡ Fault.Memory) ⊎ IsPageFault fault) }
-        ensures geometry { geometry_in self.new ≡ geometry_in self.old }
+        ensures refused { (front : List ℕ) (disk : ℕ → List ℕ) (s : State) (kept : RecoveryState) → IsInState self.old front disk s → IsSafe (geometry_in self.old) s
+            → IsOverStore self.old disk s kept → IfErr result (λ fault. (IsTrue (failed_in self.old) × (fault ≡ Fault.Failed))
+            ⊎ ((fault ≡ Fault.NoStore) × ¬ HasStore (geometry_in self.old) store) ⊎ (fault ≡ Fault.Memory) ⊎ IsPageFault s fault) }
+        ensures volume { SameVolume self.old.core self.new.core }
         ensures list { list_in self.new ≡ list_in self.old }
         ensures durable { durable_in self.new ≡ durable_in self.old }
         ensures log { self.new.log ≡ self.old.log }
@@ -211,6 +205,7 @@ impl<L: Disk, V: Disk> World<L, V> {
             Event::Resume(session) => self.core.resume(session),
             Event::ForceStage => self.force_stage(alloc),
             Event::ForceOpen => self.force_open(),
+            Event::FlushStep => self.core.flush_step(alloc),
         }
     }
 
@@ -218,9 +213,11 @@ impl<L: Disk, V: Disk> World<L, V> {
         ensures moves { Moves self.old Event.ForceStage result self.new }
         ensures staged { (n : ℕ) → result ≡ Step.Done (Answer.Staged n) → HasStaged self.old self.new n }
         ensures volume { heap_of self.new.core ≡ heap_of self.old.core }
+        ensures report { report_in self.new ≡ report_in self.old }
         ensures idle { result ≡ Step.Nothing → IsIdle self.old }
         ensures full { result ≡ Step.Refused Fault.LogFull → ¬ HasForceRoom self.old }
         ensures damaged { Earns self.old.core (ReadBy Event.ForceStage) (fault_at result) }
+        ensures unforced { NeedsForce self.old.core (fault_at result) }
         ensures cause { HasCause (fault_at result) (L.faults self.old.log.device) (L.faults self.new.log.device) }
     {
         if self.core.has_failed() {
@@ -243,8 +240,10 @@ impl<L: Disk, V: Disk> World<L, V> {
         ensures moves { Moves self.old Event.ForceOpen result self.new }
         ensures forced { (n : ℕ) → result ≡ Step.Done (Answer.Forced n) → HasForced self.old self.new n }
         ensures volume { heap_of self.new.core ≡ heap_of self.old.core }
+        ensures report { report_in self.new ≡ report_in self.old }
         ensures shut { result ≡ Step.Nothing → self.old.log.staged ≡ None }
         ensures damaged { Earns self.old.core (ReadBy Event.ForceOpen) (fault_at result) }
+        ensures unforced { NeedsForce self.old.core (fault_at result) }
         ensures cause { HasCause (fault_at result) (L.faults self.old.log.device) (L.faults self.new.log.device) }
     {
         if self.core.has_failed() {
@@ -266,13 +265,14 @@ impl<L: Disk, V: Disk> World<L, V> {
     fn refuse(&mut self, fault: Fault) -> Step
         ensures refused { result ≡ Step.Refused fault }
         ensures failed { fault ≡ Fault.Device → IsTrue (failed_in self.new) }
-        ensures state { fault ≡ Fault.Device → (front : List ℕ) (disk : ℕ → List ℕ) (s : State) → IsInState self.old front disk s → IsSafe (geometry_in self.old) s
-            → IsInState self.new front disk (with_failure s) }
+        ensures state { fault ≡ Fault.Device → (front : List ℕ) (disk : ℕ → List ℕ) (s : State) (store : RecoveryState) → IsInState self.old front disk s
+            → IsSafe (geometry_in self.old) s → IsOverStore self.old disk s store → IsInState self.new front disk (with_failure s) × IsOverStore self.new disk (with_failure s) store }
         ensures other { fault ≢ Fault.Device → self.new ≡ self.old }
         ensures list { list_in self.new ≡ list_in self.old }
         ensures durable { durable_in self.new ≡ durable_in self.old }
         ensures heap { heap_of self.new.core ≡ heap_of self.old.core }
         ensures log { self.new.log ≡ self.old.log }
+        ensures report { report_in self.new ≡ report_in self.old }
     {
         if matches!(fault, Fault::Device) {
             self.core.fail();
@@ -340,7 +340,7 @@ impl<L: Disk, V: Disk> World<L, FuseDisk<V>> {
 
 impl World<FuseDisk<AnyDisk>, FuseDisk<AnyDisk>> {
     ghost use Rattle.shore_core.specs.Cores.{volume_of};
-    ghost use Rattle.shore_world.specs.Managers.{AreLeft};
+    ghost use Rattle.shore_world.specs.Crashes.{AreLeft};
     ghost use Rattle.shore_world.specs.Worlds.{history_in, volume_history_in};
 
     /// A loss of power: what is in memory is lost with the fuses, and of the writes since its last sync each device in memory keeps what is picked.

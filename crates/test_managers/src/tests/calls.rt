@@ -2,6 +2,7 @@
 mod changes;
 mod events;
 mod left;
+mod restarts;
 mod runs;
 mod shown;
 mod trouble;

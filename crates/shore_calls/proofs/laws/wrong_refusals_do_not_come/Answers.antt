@@ -1,4 +1,4 @@
-use Rattle.shore_calls.proofs.WrongSteps.{commit_refused_in_txn, full_though_served, log_before_page, no_page_of_no_store, no_record_though_there, refusal_that_changes, too_long_in_no_txn}
+use Rattle.shore_calls.proofs.WrongSteps.{commit_forces_none, commit_refused_in_txn, force_beyond_log, force_of_durable, force_that_changes, full_though_served, log_before_page, no_page_of_no_store, no_record_though_there, refusal_that_changes, too_long_in_no_txn}
 use Rattle.shore_calls.proofs.laws.wrong_refusals_do_not_come.Goals as goal
 
 pub returns-clause-full_though_served : goal.returns-clause-full_though_served
@@ -21,3 +21,15 @@ returns-clause-commit_in_txn d g s new session f mine other running idle h = com
 
 pub returns-clause-that_changes : goal.returns-clause-that_changes
 returns-clause-that_changes d g s new session c changed h = refusal_that_changes g s new session c changed h
+
+pub returns-clause-force_of_durable : goal.returns-clause-force_of_durable
+returns-clause-force_of_durable d g s new session n c durable h = force_of_durable g s new session c n durable h
+
+pub returns-clause-force_beyond : goal.returns-clause-force_beyond
+returns-clause-force_beyond d g s new session n c beyond h = force_beyond_log g s new session c n beyond h
+
+pub returns-clause-force_that_changes : goal.returns-clause-force_that_changes
+returns-clause-force_that_changes d g s new session n c changed h = force_that_changes g s new session c n changed h
+
+pub returns-clause-commit_that_forces : goal.returns-clause-commit_that_forces
+returns-clause-commit_that_forces d g s new session n h = commit_forces_none g s new session n h

@@ -3,7 +3,7 @@ use Rattle.shore_disk.specs.Device.{size, overwritten}
 use Rattle.shore_gate.specs.declared.gates.TheConstants.{OPEN}
 use Rattle.shore_gate.specs.declared.labels.Label.{Label}
 use Rattle.shore_format.specs.Fronts.{IsLogLength, LogStandsFor, log_label}
-use Rattle.shore_format.specs.Volumes.{VolumeStandsFor}
+use Rattle.shore_format.specs.Volumes.{IsEmptyVolume}
 use Rattle.shore_format.proofs.FrontLemmas.{untouched, closing, opening, made}
 use Rattle.shore_format.proofs.VolumeLemmas.{made_volume}
 use Rattle.shore_format.proofs.pairs.format.Goals as goal
@@ -12,34 +12,34 @@ pub returns-then-not-is_log_length-clause-any_log : goal.returns-then-not-is_log
 returns-then-not-is_log_length-clause-any_log g c honest = untouched (LogStandsFor c.args.geometry.now (size (g.L.Disk.history c.args.log.now)) []) (g.L.Disk.history c.args.log.now)
 
 pub returns-then-not-is_log_length-clause-any_volume : goal.returns-then-not-is_log_length-clause-any_volume
-returns-then-not-is_log_length-clause-any_volume g c honest = untouched (VolumeStandsFor c.args.geometry.now (size (g.V.Disk.history c.args.volume.now))) (g.V.Disk.history c.args.volume.now)
+returns-then-not-is_log_length-clause-any_volume g c honest = untouched (IsEmptyVolume c.args.geometry.now (size (g.V.Disk.history c.args.volume.now))) (g.V.Disk.history c.args.volume.now)
 
 pub returns-in-Some-clause-any_log : goal.returns-in-Some-clause-any_log
 returns-in-Some-clause-any_log g c honest = untouched (LogStandsFor c.args.geometry.now (size (g.L.Disk.history c.args.log.now)) []) (g.L.Disk.history c.args.log.now)
 
 pub returns-in-Some-clause-any_volume : goal.returns-in-Some-clause-any_volume
-returns-in-Some-clause-any_volume g c honest = untouched (VolumeStandsFor c.args.geometry.now (size (g.V.Disk.history c.args.volume.now))) (g.V.Disk.history c.args.volume.now)
+returns-in-Some-clause-any_volume g c honest = untouched (IsEmptyVolume c.args.geometry.now (size (g.V.Disk.history c.args.volume.now))) (g.V.Disk.history c.args.volume.now)
 
 pub returns-then-len-volume_bytes-clause-any_log : goal.returns-then-len-volume_bytes-clause-any_log
 returns-then-len-volume_bytes-clause-any_log g c honest = untouched (LogStandsFor c.args.geometry.now (size (g.L.Disk.history c.args.log.now)) []) (g.L.Disk.history c.args.log.now)
 
 pub returns-then-len-volume_bytes-clause-any_volume : goal.returns-then-len-volume_bytes-clause-any_volume
-returns-then-len-volume_bytes-clause-any_volume g c honest = untouched (VolumeStandsFor c.args.geometry.now (size (g.V.Disk.history c.args.volume.now))) (g.V.Disk.history c.args.volume.now)
+returns-then-len-volume_bytes-clause-any_volume g c honest = untouched (IsEmptyVolume c.args.geometry.now (size (g.V.Disk.history c.args.volume.now))) (g.V.Disk.history c.args.volume.now)
 
 pub returns-in_err-of_log-clause-any_log : goal.returns-in_err-of_log-clause-any_log
 returns-in_err-of_log-clause-any_log g c honest = untouched (LogStandsFor c.args.geometry.now (size (g.L.Disk.history c.args.log.now)) []) (g.L.Disk.history c.args.log.now)
 
 pub returns-in_err-of_log-clause-any_volume : goal.returns-in_err-of_log-clause-any_volume
-returns-in_err-of_log-clause-any_volume g c honest = untouched (VolumeStandsFor c.args.geometry.now (size (g.V.Disk.history c.args.volume.now))) (g.V.Disk.history c.args.volume.now)
+returns-in_err-of_log-clause-any_volume g c honest = untouched (IsEmptyVolume c.args.geometry.now (size (g.V.Disk.history c.args.volume.now))) (g.V.Disk.history c.args.volume.now)
 
 pub returns-in_err-of_volume-clause-any_log : goal.returns-in_err-of_volume-clause-any_log
 returns-in_err-of_volume-clause-any_log g c honest = untouched (LogStandsFor c.args.geometry.now (size (g.L.Disk.history c.args.log.now)) []) (g.L.Disk.history c.args.log.now)
 
 pub returns-in_err-of_volume-clause-any_volume : goal.returns-in_err-of_volume-clause-any_volume
-returns-in_err-of_volume-clause-any_volume g c honest = untouched (VolumeStandsFor c.args.geometry.now (size (g.V.Disk.history c.args.volume.now))) (g.V.Disk.history c.args.volume.now)
+returns-in_err-of_volume-clause-any_volume g c honest = untouched (IsEmptyVolume c.args.geometry.now (size (g.V.Disk.history c.args.volume.now))) (g.V.Disk.history c.args.volume.now)
 
 pub returns-in_err-close_gate-clause-any_volume : goal.returns-in_err-close_gate-clause-any_volume
-returns-in_err-close_gate-clause-any_volume g c honest = untouched (VolumeStandsFor c.args.geometry.now (size (g.V.Disk.history c.args.volume.now))) (g.V.Disk.history c.args.volume.now)
+returns-in_err-close_gate-clause-any_volume g c honest = untouched (IsEmptyVolume c.args.geometry.now (size (g.V.Disk.history c.args.volume.now))) (g.V.Disk.history c.args.volume.now)
 
 pub returns-in_err-write_log-clause-any_log : goal.returns-in_err-write_log-clause-any_log
 returns-in_err-write_log-clause-any_log g c honest =
@@ -62,7 +62,7 @@ returns-in_err-open_gate-clause-any_log g c honest =
 pub returns-in_err-write_volume-clause-any_volume : goal.returns-in_err-write_volume-clause-any_volume
 returns-in_err-write_volume-clause-any_volume g c honest =
     let volume_later = subst IsTrue (sym c.close_gate-2.ensures.honest) honest in
-    let closed = closing (VolumeStandsFor c.args.geometry.now (size (g.V.Disk.history c.args.volume.now))) _ _ _ (c.close_gate-2.ensures.any_moment honest) (c.write_volume.ensures.any_moment volume_later _ (c.in_ok-close_gate-2.ensures.closed honest)) in
+    let closed = closing (IsEmptyVolume c.args.geometry.now (size (g.V.Disk.history c.args.volume.now))) _ _ _ (c.close_gate-2.ensures.any_moment honest) (c.write_volume.ensures.any_moment volume_later _ (c.in_ok-close_gate-2.ensures.closed honest)) in
     closed
 
 pub returns-in_err-open_gate-2-clause-any_log : goal.returns-in_err-open_gate-2-clause-any_log
@@ -88,38 +88,38 @@ returns-clause-any_log g c honest =
 pub returns-in_err-open_gate-clause-any_volume : goal.returns-in_err-open_gate-clause-any_volume
 returns-in_err-open_gate-clause-any_volume g c honest =
     let volume_later = subst IsTrue (sym c.close_gate-2.ensures.honest) honest in
-    let closed = closing (VolumeStandsFor c.args.geometry.now (size (g.V.Disk.history c.args.volume.now))) _ _ _ (c.close_gate-2.ensures.any_moment honest) (c.write_volume.ensures.any_moment volume_later _ (c.in_ok-close_gate-2.ensures.closed honest)) in
+    let closed = closing (IsEmptyVolume c.args.geometry.now (size (g.V.Disk.history c.args.volume.now))) _ _ _ (c.close_gate-2.ensures.any_moment honest) (c.write_volume.ensures.any_moment volume_later _ (c.in_ok-close_gate-2.ensures.closed honest)) in
     let last = subst IsTrue (sym c.write_volume.ensures.honest) volume_later in
     let stood = c.in_ok-write_volume.ensures.stands volume_later _ (c.in_ok-close_gate-2.ensures.closed honest) in
     let label = c.in_ok-of_volume.ensures.label in
     let pair : c.args.geometry.now.pair < 2 ^ 64 = omega (arith, ap (λ (l : Label). l.pair) label, c.in_ok-of_volume.ensures.pair) in
     let made_one = made_volume c.args.geometry.now _ stood.0 (c.outside_limits.ensures.none.0 (search rules)) pair (omega (arith, c.len.ensures, c.if-len-volume_bytes.false, c.volume_bytes.ensures)) stood.2 in
-    opening (VolumeStandsFor c.args.geometry.now (size (g.V.Disk.history c.args.volume.now))) _ _ _ stood.0 closed stood.1 made_one (c.open_gate.ensures.any_moment last)
+    opening (IsEmptyVolume c.args.geometry.now (size (g.V.Disk.history c.args.volume.now))) _ _ _ stood.0 closed stood.1 made_one (c.open_gate.ensures.any_moment last)
 
 pub returns-in_err-open_gate-2-clause-any_volume : goal.returns-in_err-open_gate-2-clause-any_volume
 returns-in_err-open_gate-2-clause-any_volume g c honest =
     let volume_later = subst IsTrue (sym c.close_gate-2.ensures.honest) honest in
-    let closed = closing (VolumeStandsFor c.args.geometry.now (size (g.V.Disk.history c.args.volume.now))) _ _ _ (c.close_gate-2.ensures.any_moment honest) (c.write_volume.ensures.any_moment volume_later _ (c.in_ok-close_gate-2.ensures.closed honest)) in
+    let closed = closing (IsEmptyVolume c.args.geometry.now (size (g.V.Disk.history c.args.volume.now))) _ _ _ (c.close_gate-2.ensures.any_moment honest) (c.write_volume.ensures.any_moment volume_later _ (c.in_ok-close_gate-2.ensures.closed honest)) in
     let last = subst IsTrue (sym c.write_volume.ensures.honest) volume_later in
     let stood = c.in_ok-write_volume.ensures.stands volume_later _ (c.in_ok-close_gate-2.ensures.closed honest) in
     let label = c.in_ok-of_volume.ensures.label in
     let pair : c.args.geometry.now.pair < 2 ^ 64 = omega (arith, ap (λ (l : Label). l.pair) label, c.in_ok-of_volume.ensures.pair) in
     let made_one = made_volume c.args.geometry.now _ stood.0 (c.outside_limits.ensures.none.0 (search rules)) pair (omega (arith, c.len.ensures, c.if-len-volume_bytes.false, c.volume_bytes.ensures)) stood.2 in
-    opening (VolumeStandsFor c.args.geometry.now (size (g.V.Disk.history c.args.volume.now))) _ _ _ stood.0 closed stood.1 made_one (c.open_gate.ensures.any_moment last)
+    opening (IsEmptyVolume c.args.geometry.now (size (g.V.Disk.history c.args.volume.now))) _ _ _ stood.0 closed stood.1 made_one (c.open_gate.ensures.any_moment last)
 
 pub returns-clause-any_volume : goal.returns-clause-any_volume
 returns-clause-any_volume g c honest =
     let volume_later = subst IsTrue (sym c.close_gate-2.ensures.honest) honest in
-    let closed = closing (VolumeStandsFor c.args.geometry.now (size (g.V.Disk.history c.args.volume.now))) _ _ _ (c.close_gate-2.ensures.any_moment honest) (c.write_volume.ensures.any_moment volume_later _ (c.in_ok-close_gate-2.ensures.closed honest)) in
+    let closed = closing (IsEmptyVolume c.args.geometry.now (size (g.V.Disk.history c.args.volume.now))) _ _ _ (c.close_gate-2.ensures.any_moment honest) (c.write_volume.ensures.any_moment volume_later _ (c.in_ok-close_gate-2.ensures.closed honest)) in
     let last = subst IsTrue (sym c.write_volume.ensures.honest) volume_later in
     let stood = c.in_ok-write_volume.ensures.stands volume_later _ (c.in_ok-close_gate-2.ensures.closed honest) in
     let label = c.in_ok-of_volume.ensures.label in
     let pair : c.args.geometry.now.pair < 2 ^ 64 = omega (arith, ap (λ (l : Label). l.pair) label, c.in_ok-of_volume.ensures.pair) in
     let made_one = made_volume c.args.geometry.now _ stood.0 (c.outside_limits.ensures.none.0 (search rules)) pair (omega (arith, c.len.ensures, c.if-len-volume_bytes.false, c.volume_bytes.ensures)) stood.2 in
-    opening (VolumeStandsFor c.args.geometry.now (size (g.V.Disk.history c.args.volume.now))) _ _ _ stood.0 closed stood.1 made_one (c.open_gate.ensures.any_moment last)
+    opening (IsEmptyVolume c.args.geometry.now (size (g.V.Disk.history c.args.volume.now))) _ _ _ stood.0 closed stood.1 made_one (c.open_gate.ensures.any_moment last)
 
-pub returns-clause-stands : goal.returns-clause-stands
-returns-clause-stands g c of_log of_volume log_image volume_image log_left volume_left =
+pub returns-clause-formatted : goal.returns-clause-formatted
+returns-clause-formatted g c of_log of_volume log_image volume_image log_left volume_left =
     let geometry = c.args.geometry.now in
     let limits = c.outside_limits.ensures.none.0 (search rules) in
     let log_later = subst IsTrue (sym c.close_gate.ensures.honest) of_log in
@@ -135,5 +135,5 @@ returns-clause-stands g c of_log of_volume log_image volume_image log_left volum
     let pair : geometry.pair < 2 ^ 64 = omega (arith, ap (λ (l : Label). l.pair) c.in_ok-of_volume.ensures.label, c.in_ok-of_volume.ensures.pair) in
     record {
       log = subst (LogStandsFor geometry (size (g.L.Disk.history c.args.log.now)) []) (sym (log_opened.only log_image log_left ∙ ap (λ (i : List ℕ). overwritten i 0 (OPEN ∷ [])) log_stood.read)) made_log;
-      volume = subst (VolumeStandsFor geometry (size (g.V.Disk.history c.args.volume.now))) (sym (volume_opened.only volume_image volume_left ∙ ap (λ (i : List ℕ). overwritten i 0 (OPEN ∷ [])) stood.1.read)) (made_volume geometry _ stood.0 limits pair (omega (arith, c.len.ensures, c.if-len-volume_bytes.false, c.volume_bytes.ensures)) stood.2);
+      volume = subst (IsEmptyVolume geometry (size (g.V.Disk.history c.args.volume.now))) (sym (volume_opened.only volume_image volume_left ∙ ap (λ (i : List ℕ). overwritten i 0 (OPEN ∷ [])) stood.1.read)) (made_volume geometry _ stood.0 limits pair (omega (arith, c.len.ensures, c.if-len-volume_bytes.false, c.volume_bytes.ensures)) stood.2);
     }

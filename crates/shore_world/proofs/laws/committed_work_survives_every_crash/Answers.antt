@@ -1,26 +1,26 @@
-use Rattle.std.proofs.Common.{[], List, subst, sym}
-use Rattle.std.specs.FinMap.{empty}
-use Rattle.shore_model.specs.declared.log_records.LogRecord.{LogRecord}
-use Rattle.shore_model.specs.Lives.{IsLife}
-use Rattle.shore_model.specs.Records.{Records}
-use Rattle.shore_sessions.specs.Soundness.{opening_with}
-use Rattle.shore_calls.proofs.Crashes.{runs_are_a_life}
-use Rattle.shore_calls.proofs.Prefixes.{lists_are_fixed}
-use Rattle.shore_calls.specs.CallHistories.{AreFixed, spans_of}
-use Rattle.shore_world.proofs.ManagerLemmas.{chained}
+use Rattle.std.proofs.Common.{◌-◌, []}
+use Rattle.shore_types.specs.declared.layout.TheConstants.{LOG_FRONT_BYTES}
+use Rattle.shore_recovery.specs.Pages.{empty_page}
+use Rattle.shore_stays.proofs.Stays.{are_a_life, come, show_what_was_told}
+use Rattle.shore_stays.specs.Stays.{runs_of}
+use Rattle.shore_stands.proofs.Left.{formatted_stand}
+use Rattle.shore_world.proofs.StayLemmas.{have_stayed}
 use Rattle.shore_world.proofs.laws.committed_work_survives_every_crash.Goals as goal
 
 pub returns : goal.returns
-returns g c geometry log_bytes volume_bytes log_first volume_first log_last volume_last managers stood are =
-    let found = chained geometry log_bytes volume_bytes [] log_first volume_first managers log_last volume_last stood are in (
-      found.end,
-      found.runs,
-      found.stands.log.log,
-      found.stands,
-      found.of,
-      found.are,
-      λ shown opened.
-          subst (λ (R : Records). IsLife (opening_with empty) (spans_of [] found.runs) (opening_with R)) (sym opened.just.records)
-          (runs_are_a_life geometry [] found.runs found.end found.are),
-      subst (λ (ls : List (List LogRecord)). AreFixed ls found.end) found.opened (lists_are_fixed geometry [] found.runs found.end found.are),
+returns c d g log_bytes volume_bytes log_first volume_first log_last volume_last stays formatted are =
+    let stood = formatted_stand g log_bytes volume_bytes log_first volume_first formatted in
+    let stayed = have_stayed g log_bytes volume_bytes [] (λ p. empty_page) log_first volume_first stood stays log_last volume_last are in
+    let bytes = log_bytes - LOG_FRONT_BYTES in
+    let all = come g bytes [] (λ p. empty_page) stood.opened stayed.over stayed.last stayed.last_pages stayed.are in (
+      stayed.last,
+      stayed.last_pages,
+      runs_of [] stayed.over,
+      all.last,
+      stayed.stands,
+      stayed.of [],
+      all.are,
+      (all.works, all.restarts),
+      are_a_life g bytes [] (λ p. empty_page) stood.opened stayed.over stayed.last stayed.last_pages stayed.are,
+      show_what_was_told g bytes [] (λ p. empty_page) stood.opened stayed.over stayed.last stayed.last_pages stayed.are,
     )

@@ -1,6 +1,6 @@
 //! Events as words: `begin`, `get STORE PAGE SLOT`, `insert STORE WORD` of the word's letters, `fill STORE LENGTH` of so many letters x,
-//! `update STORE PAGE SLOT WORD`, `refill STORE PAGE SLOT LENGTH`, `delete STORE PAGE SLOT`, `scan STORE`, `commit`, `resume`, `stage` and
-//! `open`.
+//! `update STORE PAGE SLOT WORD`, `refill STORE PAGE SLOT LENGTH`, `delete STORE PAGE SLOT`, `scan STORE`, `commit`, `resume`, `stage`,
+//! `open` and `flush`.
 ghost use Rattle.std.specs.Prelude.{IfOk};
 ghost use Rattle.shore_calls.specs.CallSteps.{IsServed};
 ghost use Rattle.shore_world.specs.Events.{IsServedEvent};
@@ -46,6 +46,7 @@ pub(super) fn event(alloc: Global, words: &mut Words) -> Result<Event, Trouble>
         "resume" => Ok(Event::Resume(SESSION)),
         "stage" => Ok(Event::ForceStage),
         "open" => Ok(Event::ForceOpen),
+        "flush" => Ok(Event::FlushStep),
         kind => Ok(Event::Call(SESSION, call(alloc, kind, words)?)),
     }
 }

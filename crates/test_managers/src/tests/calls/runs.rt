@@ -1,8 +1,8 @@
 //! The runs, and what plays them.
 use super::events::{Words, end, event, number, word};
-use super::shown::{Manager, write_log, write_records, write_step};
+use super::shown::{Manager, write_log, write_records, write_report, write_step};
 use super::trouble::{Trouble, require};
-use shore_disk::{FuseDisk, MemDisk};
+use shore_disk::{FuseDisk, MemDisk, Pick};
 use shore_types::layout::MIN_POOL_FRAMES;
 use shore_types::{Fault, Geometry, Sequence};
 use shore_world::{World, format};
@@ -10,8 +10,8 @@ use std::alloc::{AllocError, Global};
 use std::test::Fail;
 
 // Each line is an event with what it comes to. `run:` opens a new manager on a formatted log device of the least length, with a
-// store of one page and a store of eight; `fuse:` lets so many more writes and syncs of a device pass; `records:` and `log:`
-// say what is shown. A page has room for 8,168 bytes: records, and 4 for each slot. The log has room for 38,505 bytes: a Change
+// store of one page and a store of eight; `fuse:` lets so many more writes and syncs of a device pass; `crash:` loses the power, with what it makes of
+// writes that were not synced, and opens again; `records:`, `log:` and `report:` say what is shown. A page has room for 8,168 bytes: records, and 4 for each slot. The log has room for 38,505 bytes: a Change
 // costs 48 and its record's bytes, its undo, which is reserved, 53; a Commit costs 34, which a begin reserves.
 const RUNS: &str = "
 run: each call outside of a transaction
@@ -194,9 +194,37 @@ fn play(alloc: Global, world: &mut Option<Manager>, line: &str) -> Result<(), Tr
         *world = Some(new_manager(alloc)?);
         return Ok(());
     }
+    if let Some(("crash", pick)) = line.split_once(": ") {
+        *world = match world.take() {
+            Some(world) => Some(crashed(alloc, world, pick_of(pick)?)?),
+            None => return Err(Trouble::NoLine),
+        };
+        return Ok(());
+    }
     match world {
         Some(world) => play_on(alloc, world, line),
         None => Err(Trouble::NoLine),
+    }
+}
+
+fn pick_of(word: &str) -> Result<Pick, Trouble> {
+    match word {
+        "old" => Ok(Pick::Old),
+        "new" => Ok(Pick::New),
+        "noise" => Ok(Pick::Noise),
+        _ => Err(Trouble::NoLine),
+    }
+}
+
+// The manager that opens what a loss of power leaves of this one.
+fn crashed(alloc: Global, world: Manager, pick: Pick) -> Result<Manager, Trouble> {
+    let (log, volume) = world.into_devices();
+    let (mut log, mut volume) = (log.into_inner(), volume.into_inner());
+    log.crash(pick);
+    volume.crash(pick);
+    match opened(alloc, log, volume) {
+        Ok(world) => Ok(world),
+        Err(_) => Err(Trouble::Untrue),
     }
 }
 
@@ -208,6 +236,7 @@ pub(super) fn play_on(alloc: Global, world: &mut Manager, line: &str) -> Result<
         Some(("fuse", rest)) => set_fuse(world, &mut rest.split_whitespace()),
         Some(("records", wanted)) => require_records(alloc, world, wanted),
         Some(("log", wanted)) => require_log(alloc, world, wanted),
+        Some(("report", wanted)) => require_report(alloc, world, wanted),
         _ => Err(Trouble::NoLine),
     }
 }
@@ -240,6 +269,12 @@ fn set_fuse(world: &mut Manager, words: &mut Words) -> Result<(), Trouble> {
 fn require_records(alloc: Global, world: &mut Manager, wanted: &str) -> Result<(), Trouble> {
     let mut shown = String::new(alloc);
     write_records(alloc, &mut shown, world)?;
+    require(shown.as_str() == wanted)
+}
+
+fn require_report(alloc: Global, world: &Manager, wanted: &str) -> Result<(), Trouble> {
+    let mut shown = String::new(alloc);
+    write_report(&mut shown, world)?;
     require(shown.as_str() == wanted)
 }
 

@@ -3,7 +3,7 @@ use shore_disk::{FuseDisk, MemDisk};
 use shore_model::{Answer, LogRecord, Payload};
 use shore_types::layout::MAX_STORES;
 use shore_types::{Bytes, Pairs, StoreId};
-use shore_world::{Step, Wait, World};
+use shore_world::{Report, Step, Wait, World};
 use std::alloc::{AllocError, Global};
 
 const MOST_LETTERS: usize = 8;
@@ -38,6 +38,7 @@ fn write_answer(out: &mut String, answer: &Answer) -> Result<(), AllocError> {
         Answer::Committed => write!(out, "committed"),
         Answer::Staged(number) => write!(out, "staged {number}"),
         Answer::Forced(number) => write!(out, "forced {number}"),
+        Answer::Flushed(count) => write!(out, "flushed {count}"),
         _ => write!(out, "another answer"),
     }
 }
@@ -84,8 +85,18 @@ pub(super) fn write_records(
     Ok(())
 }
 
+/// What the restart of an open did, as `read 3, redone 2, undone 1`.
+pub(super) fn write_report(out: &mut String, world: &Manager) -> Result<(), AllocError> {
+    let Report {
+        read,
+        redone,
+        undone,
+    } = world.report();
+    write!(out, " read {read}, redone {redone}, undone {undone}")
+}
+
 /// Each record of the log by its transaction and the number of that transaction's record before it; a change with its id and with its images,
-/// the one before and the one after, `-` if there is none. A bar parts those that the log device has from those that wait; the durable number comes last.
+/// the one before and the one after, `-` if there is none; a compensation with the one after, and the number of the record that is to be undone next. A bar parts those that the log device has from those that wait; the durable number comes last.
 pub(super) fn write_log(out: &mut String, world: &Manager) -> Result<(), AllocError> {
     let (handed_over, waiting) = world.records();
     write_list(out, handed_over)?;
@@ -107,7 +118,17 @@ fn write_list(out: &mut String, list: &[LogRecord]) -> Result<(), AllocError> {
                 write_image(out, after)?;
                 write!(out, ";")?;
             }
+            Payload::Compensation {
+                id,
+                after,
+                undo_next,
+            } => {
+                write!(out, " back {id} ")?;
+                write_image(out, after)?;
+                write!(out, " next {undo_next};")?;
+            }
             Payload::Commit => write!(out, " commit;")?,
+            Payload::End => write!(out, " end;")?,
             _ => write!(out, " another;")?,
         }
     }

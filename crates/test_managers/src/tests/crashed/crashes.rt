@@ -1,18 +1,33 @@
 //! What a crash leaves of a manager, judged by the slow functions alone.
-use super::doings::{ONE_COMMIT, STORE};
-use super::lives::{Ground, Life, Start, live};
+use super::devices::{Devices, Manager, calls_of, cut_off};
+use super::doings::{ONE_COMMIT, STORES};
+use super::lives::{Ground, Life, live};
+use super::log_copies::copy_of_log;
 use super::trouble::{Trouble, require};
-use shore_disk::{MemDisk, Pick};
-use shore_model::{Decision, Entry, LogRecord, Opening, RidMap};
-use shore_types::layout::MIN_POOL_FRAMES;
-use shore_types::{Bytes, Pairs, Sequence};
-use shore_world::World;
+use shore_disk::Pick;
+use shore_model::{Decision, Entry, LogRecord, Opening, Payload, RidMap};
+use shore_types::{Bytes, Sequence, StoreId};
 use slow_histories::decisions::{acknowledged, is_kept};
 use slow_histories::replays::{serial_records, shown_records};
 use slow_histories::sessions::is_history;
 use slow_histories::turns::is_sound;
+use slow_logs::lawful_logs::is_lawful;
 use slow_logs::recovered_records::records_told;
+use slow_logs::transaction_records::is_over;
 use std::alloc::{AllocError, Global};
+
+/// What a restart leaves.
+#[derive(Drop)]
+pub(super) struct Restarted {
+    /// What it showed.
+    pub(super) ground: Ground,
+    /// The log at its end.
+    pub(super) found: Vec<LogRecord>,
+    pub(super) devices: Devices,
+    /// How many writes and syncs of each device it made, with those of a dump.
+    pub(super) log_calls: u64,
+    pub(super) volume_calls: u64,
+}
 
 /// The history is one, and is sound.
 pub(super) fn check_history(alloc: Global, ground: &Ground, life: &Life) -> Result<(), Trouble> {
@@ -21,47 +36,76 @@ pub(super) fn check_history(alloc: Global, ground: &Ground, life: &Life) -> Resu
     require(is_sound(alloc, opening, entries)?, "not sound")
 }
 
-/// Loses the power, opens again and checks what is there. Answers what the next manager may be opened on, with the volume.
+/// Opens what a loss of power has left of a life, and checks what is there.
 pub(super) fn check_crash(
     alloc: Global,
     ground: &Ground,
     life: Life,
-    pick: Pick,
-) -> Result<(Ground, MemDisk), Trouble> {
+) -> Result<Restarted, Trouble> {
     let Life {
         entries,
         list,
         durable,
-        mut log,
-        volume,
+        devices,
         ..
     } = life;
-    log.crash(pick);
-    let image = log.bytes().to_vec(alloc)?;
-    let mut world = reopened(alloc, log, volume)?;
-    let left = Ground {
-        image,
-        opened: check_found(&world, &list, durable)?,
-        opening: Opening {
-            records: check_shown(alloc, ground, &entries, &mut world)?,
-            in_doubt: Sequence::new(alloc),
+    let mut world = devices.open(alloc)?;
+    check_found(alloc, &world, &list, durable)?;
+    let records = check_shown(alloc, ground, &entries, &mut world)?;
+    let found = copy_of_log(alloc, &world)?;
+    let (devices, log_calls, volume_calls) = cut_off(world, calls_of(None));
+    Ok(Restarted {
+        ground: Ground {
+            opening: Opening {
+                records,
+                in_doubt: Sequence::new(alloc),
+            },
+            opened: found.len(),
         },
-    };
-    let (_, volume) = world.into_devices();
-    Ok((left, volume))
+        found,
+        devices,
+        log_calls,
+        volume_calls,
+    })
 }
 
-// What was found is a prefix of the list with all that was durable. Answers how many records it has.
+// What the restart read is a prefix of the list with all that was durable. Behind it are records of undo alone, all durable, and with them each
+// transaction is over.
 fn check_found(
-    world: &World<MemDisk, MemDisk>,
+    alloc: Global,
+    world: &Manager,
     list: &[LogRecord],
     durable: usize,
-) -> Result<usize, Trouble> {
+) -> Result<(), Trouble> {
     let (found, waiting) = world.records();
     require(waiting.is_empty(), "something waits after an open")?;
-    require(list.starts_with(found), "no prefix of the list")?;
-    require(durable <= found.len(), "a durable record is gone")?;
-    Ok(found.len())
+    require(
+        world.durable().0 == found.len() as u64,
+        "a record is not durable",
+    )?;
+    require(is_lawful(alloc, found)?, "no lawful log")?;
+    let read = world.report().read as usize;
+    let (Some(kept), Some(undone)) = (found.get(..read), found.get(read..)) else {
+        return Err(Trouble::Wrong("more is read than there is"));
+    };
+    require(list.starts_with(kept), "no prefix of the list")?;
+    require(durable <= read, "a durable record is gone")?;
+    require(undone.iter().all(is_of_undo), "undo logs another record")?;
+    let mut ended = 0u64;
+    for logged in undone {
+        if matches!(logged.payload, Payload::End) {
+            ended = ended.saturating_add(1);
+        }
+    }
+    require(ended == world.report().undone, "not so many losers")?;
+    for logged in found {
+        require(is_over(found, logged.txn), "a loser is left")?;
+    }
+    Ok(())
+}
+
+fn is_of_undo(logged: &LogRecord) -> bool {
+    matches!(logged.payload, Payload::Compensation { .. } | Payload::End)
 }
 
 // The records in place are those that the list tells, and those that the decisions kept come to: these are the Commits that the
@@ -70,70 +114,85 @@ fn check_shown(
     alloc: Global,
     ground: &Ground,
     entries: &[Entry],
-    world: &mut World<MemDisk, MemDisk>,
+    world: &mut Manager,
 ) -> Result<RidMap<Bytes>, Trouble> {
-    let Ok(in_place) = world.dump(alloc, STORE) else {
-        return Err(Trouble::Wrong("the dump was refused"));
-    };
     let (found, _) = world.records();
     let shown = records_told(alloc, found)?;
-    require(are_same(&in_place, &shown), "not what the list tells")?;
     let Some(gained) = found.get(ground.opened..) else {
         return Err(Trouble::Wrong("a record of before is gone"));
     };
     let kept = commits_in(alloc, gained)?;
-    check_kept(alloc, &ground.opening, entries, &kept, &in_place)?;
+    check_kept(alloc, &ground.opening, entries, &kept, &shown)?;
+    check_in_place(alloc, world, &shown)?;
     Ok(shown)
 }
 
-// The decisions are kept ones, and the records in place are those that they come to.
+// The decisions are kept ones, and the records are those that they come to.
 fn check_kept(
     alloc: Global,
     opening: &Opening,
     entries: &[Entry],
     kept: &[Decision],
-    in_place: &Pairs,
+    records: &RidMap<Bytes>,
 ) -> Result<(), Trouble> {
     require(is_kept(alloc, entries, kept)?, "not kept")?;
     let serial = serial_records(alloc, opening, entries, kept)?;
-    require(are_same(in_place, &serial), "not the serial records")?;
+    require(are_same(alloc, records, &serial)?, "not the serial records")?;
     let all = shown_records(alloc, opening, entries, kept)?;
-    require(are_same(in_place, &all), "not what is shown")
+    require(are_same(alloc, records, &all)?, "not what is shown")
 }
 
-/// On what a crash left a record more is committed, is acknowledged, and survives another crash.
-pub(super) fn check_next_life(
+fn are_same(
     alloc: Global,
-    ground: Ground,
-    pick: Pick,
-    volume: MemDisk,
-) -> Result<MemDisk, Trouble> {
-    let start = Start {
+    some: &RidMap<Bytes>,
+    others: &RidMap<Bytes>,
+) -> Result<bool, AllocError> {
+    for store in 0..STORES {
+        let store = StoreId(store);
+        if !some.scan(alloc, store)?.equals(&others.scan(alloc, store)?) {
+            return Ok(false);
+        }
+    }
+    Ok(true)
+}
+
+/// A dump of each store has these records, and no more.
+pub(super) fn check_in_place(
+    alloc: Global,
+    world: &mut Manager,
+    records: &RidMap<Bytes>,
+) -> Result<(), Trouble> {
+    for store in 0..STORES {
+        let store = StoreId(store);
+        let Ok(in_place) = world.dump(alloc, store) else {
+            return Err(Trouble::Wrong("the dump was refused"));
+        };
+        let wanted = records.scan(alloc, store)?;
+        require(in_place.equals(&wanted), "not what the list tells")?;
+    }
+    Ok(())
+}
+
+/// On what a restart left a record more is committed, is acknowledged, and survives another crash.
+pub(super) fn check_next_life(alloc: Global, left: Restarted, pick: Pick) -> Result<(), Trouble> {
+    let Restarted {
         ground,
-        before: &[],
-    };
-    let life = live(alloc, &start, &ONE_COMMIT, None, volume)?;
-    check_history(alloc, &start.ground, &life)?;
+        mut devices,
+        ..
+    } = left;
+    devices.lose_power(pick);
+    let mut life = live(alloc, devices, &[], &ONE_COMMIT, None)?;
+    check_history(alloc, &ground, &life)?;
     check_answered(alloc, &life.entries)?;
-    let (_, volume) = check_crash(alloc, &start.ground, life, pick)?;
-    Ok(volume)
+    life.devices.lose_power(pick);
+    let _left = check_crash(alloc, &ground, life)?;
+    Ok(())
 }
 
 // One commit was acknowledged.
 fn check_answered(alloc: Global, entries: &[Entry]) -> Result<(), Trouble> {
     let answered = acknowledged(alloc, entries)?;
     require(answered.as_slice().len() == 1, "no commit is answered")
-}
-
-fn reopened(
-    alloc: Global,
-    log: MemDisk,
-    volume: MemDisk,
-) -> Result<World<MemDisk, MemDisk>, Trouble> {
-    match World::open(alloc, log, volume, MIN_POOL_FRAMES) {
-        Ok(world) => Ok(world),
-        Err(_) => Err(Trouble::Wrong("the open was refused")),
-    }
 }
 
 // The decisions that records have.
@@ -145,13 +204,4 @@ fn commits_in(alloc: Global, records: &[LogRecord]) -> Result<Vec<Decision>, All
         }
     }
     Ok(found)
-}
-
-fn are_same(in_place: &Pairs, records: &RidMap<Bytes>) -> bool {
-    for (index, (id, bytes)) in records.iter().enumerate() {
-        if in_place.get(index) != Some((*id, bytes.as_slice())) {
-            return false;
-        }
-    }
-    records.iter().count() == in_place.len()
 }

@@ -11,8 +11,11 @@ use std::alloc::{AllocError, Global};
 /// The one session that is served.
 pub(super) const SESSION: SessionId = SessionId(1);
 
-/// The one store.
-pub(super) const STORE: StoreId = StoreId(0);
+/// How many stores there are.
+pub(super) const STORES: u32 = 9;
+
+// The store that lists work with.
+const STORE: StoreId = StoreId(0);
 
 // The place of the first record.
 const FIRST: Rid = Rid {
@@ -24,10 +27,12 @@ const FIRST: Rid = Rid {
 };
 
 /// What happens to a manager next. Each insert is of one byte; an update puts two into the first record's place, and a delete is of that.
-#[derive(Clone, Copy, Debug, PartialEq, Eq)]
+#[derive(Clone, Copy, Debug)]
 pub(super) enum Doing {
     Begin,
     Insert,
+    /// An insert into another store.
+    InsertInto(u32),
     Update,
     Delete,
     Scan,
@@ -35,10 +40,11 @@ pub(super) enum Doing {
     ForceStage,
     ForceOpen,
     Resume,
+    FlushStep,
 }
 
-/// One of each.
-pub(super) const EACH: [Doing; 9] = [
+/// One of each that lists are made of.
+pub(super) const EACH: [Doing; 10] = [
     Doing::Begin,
     Doing::Insert,
     Doing::Update,
@@ -48,6 +54,7 @@ pub(super) const EACH: [Doing; 9] = [
     Doing::ForceStage,
     Doing::ForceOpen,
     Doing::Resume,
+    Doing::FlushStep,
 ];
 
 /// A record that is committed and acknowledged.
@@ -68,11 +75,14 @@ impl Doing {
         Ok(match self {
             Doing::Begin => Some(Call::Begin),
             Doing::Insert => Some(Call::Insert(STORE, bytes(alloc, &[0xaa])?)),
+            Doing::InsertInto(store) => {
+                Some(Call::Insert(StoreId(store), bytes(alloc, &[0xdd])?))
+            }
             Doing::Update => Some(Call::Update(FIRST, bytes(alloc, &[0xbb, 0xcc])?)),
             Doing::Delete => Some(Call::Delete(FIRST)),
             Doing::Scan => Some(Call::Scan(STORE)),
             Doing::Commit => Some(Call::Commit),
-            Doing::ForceStage | Doing::ForceOpen | Doing::Resume => None,
+            Doing::ForceStage | Doing::ForceOpen | Doing::Resume | Doing::FlushStep => None,
         })
     }
 
@@ -86,6 +96,7 @@ impl Doing {
         Ok(match self {
             Doing::ForceStage => Event::ForceStage,
             Doing::ForceOpen => Event::ForceOpen,
+            Doing::FlushStep => Event::FlushStep,
             _ => Event::Resume(SESSION),
         })
     }

@@ -1,36 +1,42 @@
 //! The lists of events, one after another, and the cases of each.
 use super::crashes::{check_crash, check_history, check_next_life};
+use super::cuts::check_cuts;
+use super::devices::{Fuse, Images};
 use super::doings::{Doing, EACH};
-use super::lives::{Fuse, Life, Start, live};
+use super::lives::{Life, Start, live};
 use super::trouble::Trouble;
-use shore_disk::{MemDisk, Pick};
+use shore_disk::Pick;
 use std::alloc::{AllocError, Global};
 use std::test::Fail;
 
+// They are all the same if the events made no call of a device: what was done before them has been synced.
 const PICKS: [Pick; 3] = [Pick::Old, Pick::New, Pick::Noise];
 
-// How many lists there are of no event, of one, and so on.
-const LISTS_BY_LENGTH: [(u32, u32); 4] = [(0, 1), (1, 9), (2, 81), (3, 729)];
+// Restarts are cut off behind lists of up to so many events.
+const MOST_EVENTS_BEFORE_CUTS: usize = 1;
 
-/// How much was run: lists of events, and for each of them a case for each fuse and pick.
+// How many lists there are of no event, of one, and so on.
+const LISTS_BY_LENGTH: [(u32, u32); 3] = [(0, 1), (1, 10), (2, 100)];
+
+/// How much was run: lists of events, for each of them a case for each fuse and each pick that may differ, and restarts that are cut off.
 #[derive(Drop)]
 pub(super) struct Counts {
     pub(super) lists: u64,
     pub(super) cases: u64,
+    pub(super) cuts: u64,
 }
 
-/// Every list of up to three events, with each fuse and each pick. The volume goes from one manager to the next.
-pub(super) fn check_lists(alloc: Global, start: &Start, volume: MemDisk) -> Result<Counts, Fail> {
-    let Life {
-        calls_left,
-        mut volume,
-        ..
-    } = live(alloc, start, &[], None, volume)?;
-    let mut counts = Counts { lists: 0, cases: 0 };
+/// Every list of up to two events, with each fuse and each pick.
+pub(super) fn check_lists(alloc: Global, start: &Start) -> Result<Counts, Fail> {
+    let mut counts = Counts {
+        lists: 0,
+        cases: 0,
+        cuts: 0,
+    };
     for (length, lists) in LISTS_BY_LENGTH {
         for number in 0..lists {
             let list = list_of(alloc, length, number)?;
-            volume = check_list(alloc, start, &list, calls_left, &mut counts, volume)?;
+            check_list(alloc, start, &list, &mut counts)?;
         }
     }
     Ok(counts)
@@ -41,31 +47,39 @@ fn list_of(alloc: Global, length: u32, number: u32) -> Result<Vec<Doing>, AllocE
     let mut list = Vec::new(alloc);
     let mut digits = number;
     for _ in 0..length {
-        list.push(EACH[(digits % 9) as usize])?;
-        digits /= 9;
+        list.push(EACH[(digits % 10) as usize])?;
+        digits /= 10;
     }
     Ok(list)
 }
 
-// The list with no fuse, with a volume that fails, and with a fuse for each number of its calls of the log device. Before it so many of
-// these were left.
+// The list with no fuse, and with a fuse for each number of its calls of a device.
 fn check_list(
     alloc: Global,
     start: &Start,
     list: &[Doing],
-    calls_left: u64,
     counts: &mut Counts,
-    volume: MemDisk,
-) -> Result<MemDisk, Fail> {
-    let whole = live(alloc, start, list, None, volume)?;
-    let calls = calls_left.saturating_sub(whole.calls_left);
-    let mut volume = check_picks(alloc, start, list, None, counts, whole.volume)?;
-    volume = check_picks(alloc, start, list, Some(Fuse::Volume), counts, volume)?;
-    for fuse in 0..=calls {
-        volume = check_picks(alloc, start, list, Some(Fuse::Log(fuse)), counts, volume)?;
+) -> Result<(), Fail> {
+    let Life {
+        log_calls,
+        volume_calls,
+        ..
+    } = live(
+        alloc,
+        start.images.devices(alloc)?,
+        start.before,
+        list,
+        None,
+    )?;
+    check_picks(alloc, start, list, None, counts)?;
+    for calls in 0..=log_calls {
+        check_picks(alloc, start, list, Some(Fuse::Log(calls)), counts)?;
+    }
+    for calls in 0..=volume_calls {
+        check_picks(alloc, start, list, Some(Fuse::Volume(calls)), counts)?;
     }
     counts.lists = counts.lists.saturating_add(1);
-    Ok(volume)
+    Ok(())
 }
 
 fn check_picks(
@@ -74,32 +88,45 @@ fn check_picks(
     list: &[Doing],
     fuse: Option<Fuse>,
     counts: &mut Counts,
-    mut volume: MemDisk,
-) -> Result<MemDisk, Fail> {
+) -> Result<(), Fail> {
     for pick in PICKS {
-        volume = match check_case(alloc, start, list, fuse, pick, volume) {
-            Ok(volume) => volume,
+        match check_case(alloc, start, list, fuse, pick, counts) {
+            Ok(true) => {}
+            Ok(false) => break,
             Err(trouble) => {
                 return Err(Fail::new(format_args!(
                     "{trouble:?}: {list:?}, fuse {fuse:?}, pick {pick:?}"
                 )));
             }
-        };
-        counts.cases = counts.cases.saturating_add(1);
+        }
     }
-    Ok(volume)
+    Ok(())
 }
 
+// Answers whether a call of a device passed, so that picks can differ.
 fn check_case(
     alloc: Global,
     start: &Start,
     list: &[Doing],
     fuse: Option<Fuse>,
     pick: Pick,
-    volume: MemDisk,
-) -> Result<MemDisk, Trouble> {
-    let life = live(alloc, start, list, fuse, volume)?;
+    counts: &mut Counts,
+) -> Result<bool, Trouble> {
+    let devices = start.images.devices(alloc)?;
+    let mut life = live(alloc, devices, start.before, list, fuse)?;
     check_history(alloc, &start.ground, &life)?;
-    let (left, volume) = check_crash(alloc, &start.ground, life, pick)?;
-    check_next_life(alloc, left, pick, volume)
+    let is_written = life.log_calls > 0 || life.volume_calls > 0;
+    life.devices.lose_power(pick);
+    counts.cases = counts.cases.saturating_add(1);
+    if list.len() <= MOST_EVENTS_BEFORE_CUTS {
+        let images = Images::of(alloc, &life.devices)?;
+        let left = check_crash(alloc, &start.ground, life)?;
+        let cuts = check_cuts(alloc, &images, &left, pick)?;
+        counts.cuts = counts.cuts.saturating_add(cuts);
+        check_next_life(alloc, left, pick)?;
+    } else {
+        let left = check_crash(alloc, &start.ground, life)?;
+        check_next_life(alloc, left, pick)?;
+    }
+    Ok(is_written)
 }

@@ -1,69 +1,55 @@
 //! A manager from its open to the loss of power.
+use super::devices::{Devices, Fuse, Images, Manager, calls_of, cut_off};
 use super::doings::Doing;
+use super::log_copies::copy_of_log;
 use super::short_histories::ShortHistory;
-use super::trouble::{Trouble, require};
-use shore_disk::{FuseDisk, MemDisk};
-use shore_model::rid_map::copy_image;
-use shore_model::{Entry, LogRecord, Opening, Payload, RidMap};
-use shore_types::layout::MIN_POOL_FRAMES;
+use super::trouble::Trouble;
+use shore_disk::MemDisk;
+use shore_model::{Entry, LogRecord, Opening, RidMap};
 use shore_types::{Geometry, Sequence};
-use shore_world::{World, format};
+use shore_world::format;
 use std::alloc::Global;
 
-/// What a manager was opened on: the log device's bytes, what they show, and how many records of the log stand there.
+/// What the log of a pair told as a manager was opened on it, and how many records it had then.
 #[derive(Drop)]
 pub(super) struct Ground {
-    pub(super) image: Vec<u8>,
     pub(super) opening: Opening,
     pub(super) opened: usize,
 }
 
-/// Where lists of events begin: a ground, and what is done on it first.
+/// Where lists of events begin: a pair, what its log told at its last open, and what is done on it first.
 #[derive(Drop)]
 pub(super) struct Start {
+    pub(super) images: Images,
     pub(super) ground: Ground,
     pub(super) before: &'static [Doing],
 }
 
-/// What fails.
-#[derive(Clone, Copy, Debug)]
-pub(super) enum Fuse {
-    /// The log device, once so many more writes and syncs of it have passed.
-    Log(u64),
-    /// The volume, at once. It is only read as yet.
-    Volume,
-}
-
-// A fuse that no list blows.
-const NO_FUSE: u64 = u64::MAX;
-
-// An open syncs the volume, and writes nothing.
-const OPENING_CALLS: u64 = 1;
-
-/// A log device of the least length and a volume of two pages, formatted.
-pub(super) fn formatted(alloc: Global) -> Result<(Ground, MemDisk), Trouble> {
+/// A log device of the least length and a volume of a store of two pages and eight of one, formatted: more pages than a manager has frames.
+pub(super) fn formatted(alloc: Global) -> Result<Devices, Trouble> {
     let mut log = MemDisk::new(alloc, Vec::from_elem(alloc, 0u8, 135168)?)?;
-    let mut volume = MemDisk::new(alloc, Vec::from_elem(alloc, 0u8, 286720)?)?;
+    let mut volume = MemDisk::new(alloc, Vec::from_elem(alloc, 0u8, 352256)?)?;
     let geometry = Geometry {
         pair: 1,
         max_locks: 1024,
-        stores: Sequence::from_vec(Vec::from_slice(alloc, &[2u32])?),
+        stores: Sequence::from_vec(Vec::from_slice(alloc, &[2u32, 1, 1, 1, 1, 1, 1, 1, 1])?),
     };
     if format(alloc, &mut log, &mut volume, &geometry).is_err() {
         return Err(Trouble::Wrong("the format was refused"));
     }
-    let ground = Ground {
-        image: log.bytes().to_vec(alloc)?,
+    Ok(Devices { log, volume })
+}
+
+/// The ground of a pair that was formatted.
+pub(super) fn no_ground(alloc: Global) -> Ground {
+    Ground {
         opening: Opening {
             records: RidMap::new(alloc),
             in_doubt: Sequence::new(alloc),
         },
         opened: 0,
-    };
-    Ok((ground, volume))
+    }
 }
-
-type Manager = World<FuseDisk<MemDisk>, FuseDisk<MemDisk>>;
 
 /// What a manager leaves when it is cut off.
 #[derive(Drop)]
@@ -72,69 +58,38 @@ pub(super) struct Life {
     /// The records of the log, forced or not.
     pub(super) list: Vec<LogRecord>,
     pub(super) durable: usize,
-    /// How many more writes and syncs of the log device a fuse would have let pass.
-    pub(super) calls_left: u64,
-    pub(super) log: MemDisk,
-    /// No call has written on it, so no loss of power changes it.
-    pub(super) volume: MemDisk,
+    pub(super) devices: Devices,
+    /// How many writes and syncs of each device passed in the events behind the fuse.
+    pub(super) log_calls: u64,
+    pub(super) volume_calls: u64,
 }
 
-/// Opens a manager on a copy of the ground's image and on this volume, and makes the events of the start and then these. A fuse lets so
-/// many writes and syncs of its device pass in these.
+/// Opens a manager on these devices, makes the first events, and then the others behind a fuse.
 pub(super) fn live(
     alloc: Global,
-    start: &Start,
+    devices: Devices,
+    before: &[Doing],
     doings: &[Doing],
     fuse: Option<Fuse>,
-    volume: MemDisk,
 ) -> Result<Life, Trouble> {
-    let mut world = opened(alloc, &start.ground.image, volume)?;
+    let mut world = devices.open(alloc)?;
     let mut history = ShortHistory::new(alloc);
-    make(alloc, &mut world, &mut history, start.before)?;
-    match fuse {
-        Some(Fuse::Log(calls)) => world.set_log_fuse(calls),
-        Some(Fuse::Volume) => world.set_volume_fuse(0),
-        None => {}
-    }
+    make(alloc, &mut world, &mut history, before)?;
+    let (of_log, of_volume) = calls_of(fuse);
+    world.set_log_fuse(of_log);
+    world.set_volume_fuse(of_volume);
     make(alloc, &mut world, &mut history, doings)?;
     let list = copy_of_log(alloc, &world)?;
     let durable = world.durable().0 as usize;
-    let (log, volume) = world.into_devices();
+    let (devices, log_calls, volume_calls) = cut_off(world, (of_log, of_volume));
     Ok(Life {
         entries: history.into_entries(),
         list,
         durable,
-        calls_left: log.calls_left(),
-        log: log.into_inner(),
-        volume: unwritten(volume, fuse)?,
+        devices,
+        log_calls,
+        volume_calls,
     })
-}
-
-fn opened(alloc: Global, image: &[u8], volume: MemDisk) -> Result<Manager, Trouble> {
-    let log = MemDisk::new(alloc, image.to_vec(alloc)?)?;
-    let (log, volume) = (FuseDisk::new(log, NO_FUSE), FuseDisk::new(volume, NO_FUSE));
-    match World::open(alloc, log, volume, MIN_POOL_FRAMES) {
-        Ok(world) => Ok(world),
-        Err(_) => Err(Trouble::Wrong("no open")),
-    }
-}
-
-// The volume, which made no call that its fuse counts but those of its open.
-fn unwritten(volume: FuseDisk<MemDisk>, fuse: Option<Fuse>) -> Result<MemDisk, Trouble> {
-    let wanted = match fuse {
-        Some(Fuse::Volume) => 0,
-        _ => NO_FUSE - OPENING_CALLS,
-    };
-    require(volume.calls_left() == wanted, "the volume is written")?;
-    Ok(volume.into_inner())
-}
-
-fn copy_of_log(alloc: Global, world: &Manager) -> Result<Vec<LogRecord>, Trouble> {
-    let mut list = Vec::new(alloc);
-    let (handed_over, waiting) = world.records();
-    push_copies(alloc, &mut list, handed_over)?;
-    push_copies(alloc, &mut list, waiting)?;
-    Ok(list)
 }
 
 // Makes events and notes what each comes to.
@@ -149,32 +104,4 @@ fn make(
         history.note(alloc, *doing, step)?;
     }
     Ok(())
-}
-
-fn push_copies(
-    alloc: Global,
-    list: &mut Vec<LogRecord>,
-    records: &[LogRecord],
-) -> Result<(), Trouble> {
-    for logged in records {
-        list.push(copy_of(alloc, logged)?)?;
-    }
-    Ok(())
-}
-
-fn copy_of(alloc: Global, logged: &LogRecord) -> Result<LogRecord, Trouble> {
-    let payload = match &logged.payload {
-        Payload::Change { id, before, after } => Payload::Change {
-            id: *id,
-            before: copy_image(alloc, before)?,
-            after: copy_image(alloc, after)?,
-        },
-        Payload::Commit => Payload::Commit,
-        _ => return Err(Trouble::Wrong("a record that is not written as yet")),
-    };
-    Ok(LogRecord {
-        txn: logged.txn,
-        previous: logged.previous,
-        payload,
-    })
 }

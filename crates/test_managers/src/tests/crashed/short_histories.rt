@@ -25,11 +25,11 @@ impl ShortHistory {
         self.entries
     }
 
-    /// Notes what was done and what it came to. A force adds nothing.
+    /// Notes what was done and what it came to. A force and a flush add nothing.
     pub(super) fn note(&mut self, alloc: Global, doing: Doing, step: Step) -> Result<(), Trouble> {
         match doing.call(alloc)? {
             Some(call) => self.note_call(call, step),
-            None if doing == Doing::Resume => self.note_resume(alloc, step),
+            None if matches!(doing, Doing::Resume) => self.note_resume(alloc, step),
             None => Ok(()),
         }
     }

@@ -18,32 +18,32 @@ pub unreachable-unreachable : goal.unreachable-unreachable
 unreachable-unreachable g c = c.unreachable.result
 
 pub returns-in-Begin-clause-replied : goal.returns-in-Begin-clause-replied
-returns-in-Begin-clause-replied g c ready front disk before s is safe =
-    subst (λ (it : Call). Replied c.args.session it c.begin.result c.args.self.now c.begin.new.self front disk before s) (sym c.in-Begin.is) (c.begin.ensures.replied ready front disk before s is safe)
+returns-in-Begin-clause-replied g c ready front disk before s store is safe over =
+    subst (λ (it : Call). Replied c.args.session it c.begin.result c.args.self.now c.begin.new.self front before s store) (sym c.in-Begin.is) (c.begin.ensures.replied ready front disk before s store is safe over)
 
 pub returns-in-Get-clause-replied : goal.returns-in-Get-clause-replied
-returns-in-Get-clause-replied g c ready front disk before s is safe =
-    subst (λ (it : Call). Replied c.args.session it c.get.result c.args.self.now c.get.new.self front disk before s) (sym c.in-Get.is) (c.get.ensures.replied ready front disk before s is safe)
+returns-in-Get-clause-replied g c ready front disk before s store is safe over =
+    subst (λ (it : Call). Replied c.args.session it c.get.result c.args.self.now c.get.new.self front before s store) (sym c.in-Get.is) (c.get.ensures.replied ready front disk before s store is safe over)
 
 pub returns-in-Insert-clause-replied : goal.returns-in-Insert-clause-replied
-returns-in-Insert-clause-replied g c ready front disk before s is safe =
-    subst (λ (it : Call). Replied c.args.session it c.insert.result c.args.self.now c.insert.new.self front disk before s) (sym c.in-Insert.is) (c.insert.ensures.replied ready front disk before s is safe)
+returns-in-Insert-clause-replied g c ready front disk before s store is safe over =
+    subst (λ (it : Call). Replied c.args.session it c.insert.result c.args.self.now c.insert.new.self front before s store) (sym c.in-Insert.is) (c.insert.ensures.replied ready front disk before s store is safe over)
 
 pub returns-in-Update-clause-replied : goal.returns-in-Update-clause-replied
-returns-in-Update-clause-replied g c ready front disk before s is safe =
-    subst (λ (it : Call). Replied c.args.session it c.update.result c.args.self.now c.update.new.self front disk before s) (sym c.in-Update.is) (c.update.ensures.replied ready front disk before s is safe)
+returns-in-Update-clause-replied g c ready front disk before s store is safe over =
+    subst (λ (it : Call). Replied c.args.session it c.update.result c.args.self.now c.update.new.self front before s store) (sym c.in-Update.is) (c.update.ensures.replied ready front disk before s store is safe over)
 
 pub returns-in-Delete-clause-replied : goal.returns-in-Delete-clause-replied
-returns-in-Delete-clause-replied g c ready front disk before s is safe =
-    subst (λ (it : Call). Replied c.args.session it c.delete.result c.args.self.now c.delete.new.self front disk before s) (sym c.in-Delete.is) (c.delete.ensures.replied ready front disk before s is safe)
+returns-in-Delete-clause-replied g c ready front disk before s store is safe over =
+    subst (λ (it : Call). Replied c.args.session it c.delete.result c.args.self.now c.delete.new.self front before s store) (sym c.in-Delete.is) (c.delete.ensures.replied ready front disk before s store is safe over)
 
 pub returns-in-Scan-clause-replied : goal.returns-in-Scan-clause-replied
-returns-in-Scan-clause-replied g c ready front disk before s is safe =
-    subst (λ (it : Call). Replied c.args.session it c.scan.result c.args.self.now c.scan.new.self front disk before s) (sym c.in-Scan.is) (c.scan.ensures.replied ready front disk before s is safe)
+returns-in-Scan-clause-replied g c ready front disk before s store is safe over =
+    subst (λ (it : Call). Replied c.args.session it c.scan.result c.args.self.now c.scan.new.self front before s store) (sym c.in-Scan.is) (c.scan.ensures.replied ready front disk before s store is safe over)
 
 pub returns-in-Commit-clause-replied : goal.returns-in-Commit-clause-replied
-returns-in-Commit-clause-replied g c ready front disk before s is safe =
-    subst (λ (it : Call). Replied c.args.session it c.commit.result c.args.self.now c.commit.new.self front disk before s) (sym c.in-Commit.is) (c.commit.ensures.replied ready front disk before s is safe)
+returns-in-Commit-clause-replied g c ready front disk before s store is safe over =
+    subst (λ (it : Call). Replied c.args.session it c.commit.result c.args.self.now c.commit.new.self front before s store) (sym c.in-Commit.is) (c.commit.ensures.replied ready front disk before s store is safe over)
 
 pub returns-in-Begin-clause-damaged : goal.returns-in-Begin-clause-damaged
 returns-in-Begin-clause-damaged g c front disk holds =

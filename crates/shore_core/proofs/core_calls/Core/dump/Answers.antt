@@ -1,20 +1,43 @@
-use Rattle.std.proofs.Common.{◌≡◌, ◌⊎◌, inr, IsTrue}
+use Rattle.std.proofs.Common.{◌≡◌, ◌⊎◌, inr, IsTrue, MatchResult, ap, sym, subst}
 use Rattle.shore_types.specs.Layout.{HasStore}
 use Rattle.shore_types.specs.declared.faults.Fault.{Fault}
 use Rattle.shore_types.specs.declared.faults.Fault.TheVariants as fault
+use Rattle.shore_calls.specs.CallSteps.{after_refusal}
 use Rattle.shore_calls.specs.Refusals.{IsPageFault}
-use Rattle.shore_core.specs.Cores.{geometry_of, has_failed}
+use Rattle.shore_core.specs.Cores.{ComesTo, geometry_of, has_failed}
+use Rattle.shore_core.specs.Replies.{Stays}
 use Rattle.shore_core.proofs.Taking.{map_err}
+use Rattle.shore_heap.specs.Heaps as heaps
+use Rattle.shore_core.proofs.Keeping.{leaves_then, nothing_leaves}
 use Rattle.shore_core.proofs.core_calls.Core.dump.Goals as goal
 
-pub returns-then-matches-clause-refused : goal.returns-then-matches-clause-refused
-returns-then-matches-clause-refused g c front disk before s is safe =
-    map_err (λ (f : Fault). (f ≡ fault.Memory) ⊎ IsPageFault f)
-    (λ (f : Fault). (IsTrue (has_failed c.args.self.now) × (f ≡ fault.Failed)) ⊎ ((f ≡ fault.NoStore) × ¬ HasStore (geometry_of c.args.self.now) c.args.store) ⊎ (f ≡ fault.Memory) ⊎ IsPageFault f)
-    c.pairs_of-pairs.result (λ f other. inr (inr other)) (c.pairs_of-pairs.ensures.refused front disk before s is safe)
+pub returns-then-self-clause-any_moment : goal.returns-then-self-clause-any_moment
+returns-then-self-clause-any_moment g c = nothing_leaves c.args.self.now
 
-pub returns-else-matches-clause-refused : goal.returns-else-matches-clause-refused
-returns-else-matches-clause-refused g c front disk before s is safe =
-    map_err (λ (f : Fault). (f ≡ fault.Memory) ⊎ IsPageFault f)
-    (λ (f : Fault). (IsTrue (has_failed c.args.self.now) × (f ≡ fault.Failed)) ⊎ ((f ≡ fault.NoStore) × ¬ HasStore (geometry_of c.args.self.now) c.args.store) ⊎ (f ≡ fault.Memory) ⊎ IsPageFault f)
-    c.pairs_of-pairs.result (λ f other. inr (inr other)) (c.pairs_of-pairs.ensures.refused front disk before s is safe)
+pub returns-then-not-has_store-clause-any_moment : goal.returns-then-not-has_store-clause-any_moment
+returns-then-not-has_store-clause-any_moment g c = nothing_leaves c.args.self.now
+
+pub returns-in-Err-clause-any_moment : goal.returns-in-Err-clause-any_moment
+returns-in-Err-clause-any_moment g c = leaves_then c.args.self.now c.pairs_of-pairs.new.self c.note_failure.new.self c.pairs_of-pairs.ensures.any_moment (ap heaps.history_of c.note_failure.ensures.heap)
+
+pub returns-in-Err-clause-left : goal.returns-in-Err-clause-left
+returns-in-Err-clause-left g c front disk before s plain is safe over =
+    let mid = c.pairs_of-pairs.new.self in
+    let stays = subst (λ r. Stays mid r front before s plain) c.in-Err.is (c.pairs_of-pairs.ensures.stays front disk before s plain is safe over) in
+    subst (λ r. MatchResult r (λ _. ComesTo c.note_failure.new.self front before plain s) (λ f. ComesTo c.note_failure.new.self front before plain (after_refusal f s))) (sym c.in-Err.is)
+    (c.note_failure.ensures.left front before s plain over.kept stays)
+
+pub returns-in-Err-clause-refused : goal.returns-in-Err-clause-refused
+returns-in-Err-clause-refused g c front disk before s plain is safe over =
+    map_err (λ (f : Fault). (f ≡ fault.Memory) ⊎ IsPageFault s f)
+    (λ (f : Fault). (IsTrue (has_failed c.args.self.now) × (f ≡ fault.Failed)) ⊎ ((f ≡ fault.NoStore) × ¬ HasStore (geometry_of c.args.self.now) c.args.store) ⊎ (f ≡ fault.Memory) ⊎ IsPageFault s f)
+    c.pairs_of-pairs.result (λ f other. inr (inr other)) (c.pairs_of-pairs.ensures.refused c.if-self.false front disk before s plain is safe over)
+
+pub returns-in_default-clause-left : goal.returns-in_default-clause-left
+returns-in_default-clause-left g c front disk before s plain is safe over =
+    let mid = c.pairs_of-pairs.new.self in
+    let stays = subst (λ r. Stays mid r front before s plain) c.in_default.is (c.pairs_of-pairs.ensures.stays front disk before s plain is safe over) in
+    subst (λ r. MatchResult r (λ _. ComesTo mid front before plain s) (λ f. ComesTo mid front before plain (after_refusal f s))) (sym c.in_default.is) stays
+
+pub returns-in_default-clause-shown : goal.returns-in_default-clause-shown
+returns-in_default-clause-shown g c front disk before s plain is safe over = c.pairs_of-pairs.ensures.pairs c.if-self.false front disk before s plain is safe over

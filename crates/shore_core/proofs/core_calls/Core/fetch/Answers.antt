@@ -1,28 +1,46 @@
-use Rattle.std.proofs.Common.{◌≡◌, ◌⊎◌, ◌-◌, inl, inr, refl, ap, ◌∙◌}
+use Rattle.std.proofs.Common.{◌≡◌, ◌⊎◌, ◌-◌, refl, sym, ap, ◌∙◌}
 use Rattle.shore_types.specs.declared.faults.Fault.TheVariants as fault
 use Rattle.shore_calls.specs.Refusals.{IsPageFault}
 use Rattle.shore_calls.specs.States.{page_slots}
+use Rattle.shore_pool.specs.Pools.{NeedsForce}
 use Rattle.shore_core.proofs.Taking.{map_err}
-use Rattle.shore_core.specs.Cores.{geometry_of, last_of}
+use Rattle.shore_core.proofs.Coming.{pages_may_go, stays_read}
+use Rattle.shore_core.proofs.Forcing.{fetch_force, page_fault}
+use Rattle.shore_core.specs.Cores.{durable_of, geometry_of, heap_of, last_of}
 use Rattle.shore_core.proofs.Earning.{page_earned}
 use Rattle.shore_core.proofs.core_calls.Core.fetch.Goals as goal
 
 pub returns-clause-refused : goal.returns-clause-refused
-returns-clause-refused g c front disk before s is safe =
-    map_err _ (λ f. (f ≡ fault.Memory) ⊎ IsPageFault f) c.fetch.result (λ f. elim [
-      | inl device ↦ inr (inl device)
-      | inr other ↦ elim other [ inl memory ↦ inl memory | inr damaged ↦ inr (inr (_, damaged.0)) ]
-    ]) (c.fetch.ensures.unforced c.args.self.now.whole front disk is.pages.holds)
+returns-clause-refused g c running front disk before s store is safe over =
+    let old = c.args.self.now in
+    let works = is.beside.parts.failed_is ∙ running in
+    map_err _ (λ f. (f ≡ fault.Memory) ⊎ IsPageFault s f) c.fetch.result
+    (λ f. page_fault (heap_of old) s store disk over.kept (over.pages works) (durable_of old) _ c.args.page f (sym is.beside.parts.durable_is))
+    (c.fetch.ensures.refused front disk (is.pages works).holds)
 
 pub returns-clause-stays : goal.returns-clause-stays
-returns-clause-stays g c front disk before s is safe =
-    let still = c.fetch.ensures.still c.args.self.now.whole front disk (page_slots s) is.pages in
-    record { is_in = record { first = is.first; pages = still.shows; parts = is.parts }; history = still.history }
+returns-clause-stays g c front disk before s store is safe over =
+    let old = c.args.self.now in
+    stays_read old _ front disk before s store is over
+    (record { volume = record { geometry = c.fetch.ensures.geometry; honest = c.fetch.ensures.honest; size = c.fetch.ensures.size }; durable = refl; failed = refl; tail = refl; txns = refl })
+    c.fetch.result (λ works. c.fetch.ensures.kept front disk (page_slots s) (is.pages works) (pages_may_go old before s is.beside safe))
 
 pub returns-clause-damaged : goal.returns-clause-damaged
 returns-clause-damaged g c front disk holds =
-    map_err _ _ c.fetch.result (λ f. page_earned (geometry_of c.args.self.now) disk (last_of c.args.self.now) (λ id. id ≡ c.args.page) c.args.page _ f (ap (λ n. n - 1) (c.last.view_is ∙ c.next.ensures)) refl c.requires)
-    (c.fetch.ensures.unforced c.args.self.now.whole front disk holds)
+    let old = c.args.self.now in
+    map_err _ _ c.fetch.result (λ f. page_earned (geometry_of old) disk (last_of old) (λ id. id ≡ c.args.page) (NeedsForce (heap_of old).pool (durable_of old)) c.args.page _ f (ap (λ n. n - 1) (c.last.view_is ∙ c.next.ensures)) refl c.requires)
+    (c.fetch.ensures.refused front disk holds)
+
+pub returns-clause-forced : goal.returns-clause-forced
+returns-clause-forced g c front disk holds =
+    let old = c.args.self.now in
+    map_err _ _ c.fetch.result (λ f. fetch_force (heap_of old) (durable_of old) (geometry_of old) disk _ c.args.page f) (c.fetch.ensures.refused front disk holds)
 
 pub returns-clause-reads : goal.returns-clause-reads
-returns-clause-reads g c = record { geometry = c.fetch.ensures.geometry; durable = refl; failed = refl; tail = refl; txns = refl; volume = c.fetch.ensures.untouched c.args.self.now.whole }
+returns-clause-reads g c = record {
+  volume = record { geometry = c.fetch.ensures.geometry; honest = c.fetch.ensures.honest; size = c.fetch.ensures.size };
+  durable = refl;
+  failed = refl;
+  tail = refl;
+  txns = refl;
+}

@@ -1,33 +1,58 @@
-use Rattle.std.proofs.Common.{◌≡◌, ◌⊎◌, ◌-◌, inl, refl, ap, ◌∙◌}
+use Rattle.std.proofs.Common.{◌≡◌, ◌⊎◌, ◌-◌, inr, refl, sym, ap, ◌∙◌, arith}
 use Rattle.shore_types.specs.declared.faults.Fault.TheVariants as fault
 use Rattle.shore_model.specs.Records.{scan_of}
+use Rattle.shore_pool.specs.Pools.{NeedsForce}
 use Rattle.shore_calls.specs.Refusals.{IsPageFault}
 use Rattle.shore_calls.specs.States.{page_slots}
-use Rattle.shore_core.specs.Cores.{geometry_of, last_of}
+use Rattle.shore_core.specs.Cores.{durable_of, geometry_of, heap_of, last_of}
+use Rattle.shore_core.proofs.Coming.{pages_may_go, stays_read}
+use Rattle.shore_core.proofs.Forcing.{store_fault, store_force}
 use Rattle.shore_core.proofs.Pairs.{map_ok}
-use Rattle.shore_core.proofs.Inserting.{scan_is, store_fault}
+use Rattle.shore_core.proofs.Placing.{scan_is}
 use Rattle.shore_core.proofs.Taking.{map_err}
 use Rattle.shore_core.proofs.Earning.{store_earned}
 use Rattle.shore_core.proofs.core_calls.Core.pairs_of.Goals as goal
 
 pub returns-clause-pairs : goal.returns-clause-pairs
-returns-clause-pairs g c front disk before s is safe =
-    map_ok _ (λ pairs. pairs ≡ scan_of c.args.store s.sessions.records) c.scan.result (λ pairs scan. scan_is (geometry_of c.args.self.now) s safe.roomy.pages c.args.store safe.inside pairs scan)
-    (c.scan.ensures.scanned front disk (page_slots s) is.pages (inl c.args.self.now.whole))
+returns-clause-pairs g c running front disk before s plain is safe over =
+    let old = c.args.self.now in
+    let works = is.beside.parts.failed_is ∙ running in
+    map_ok _ (λ pairs. pairs ≡ scan_of c.args.store s.sessions.records) c.scan.result (λ pairs scan. scan_is (geometry_of old) s safe.roomy.pages c.args.store safe.inside pairs scan)
+    (c.scan.ensures.scanned front disk (page_slots s) (is.pages works) (inr (pages_may_go old before s is.beside safe)))
 
 pub returns-clause-refused : goal.returns-clause-refused
-returns-clause-refused g c front disk before s is safe =
-    map_err _ (λ f. (f ≡ fault.Memory) ⊎ IsPageFault f) c.scan.result (store_fault (geometry_of c.args.self.now) disk c.args.store _) (c.scan.ensures.unforced c.args.self.now.whole front disk is.pages.holds)
+returns-clause-refused g c running front disk before s plain is safe over =
+    let old = c.args.self.now in
+    let works = is.beside.parts.failed_is ∙ running in
+    map_err _ (λ f. (f ≡ fault.Memory) ⊎ IsPageFault s f) c.scan.result
+    (λ f. store_fault (heap_of old) s plain disk over.kept (over.pages works) (durable_of old) _ c.args.store f (sym is.beside.parts.durable_is))
+    (c.scan.ensures.refused front disk (is.pages works).holds (omega (arith, old.forced, c.last.view_is, c.next.ensures)))
 
 pub returns-clause-stays : goal.returns-clause-stays
-returns-clause-stays g c front disk before s is =
-    let still = c.scan.ensures.still c.args.self.now.whole front disk (page_slots s) is.pages in
-    record { is_in = record { first = is.first; pages = still.shows; parts = is.parts }; history = still.history }
+returns-clause-stays g c front disk before s plain is safe over =
+    let old = c.args.self.now in
+    stays_read old _ front disk before s plain is over
+    (record { volume = record { geometry = c.scan.ensures.geometry; honest = c.scan.ensures.honest; size = c.scan.ensures.size }; durable = refl; failed = refl; tail = refl; txns = refl })
+    c.scan.result (λ works. c.scan.ensures.kept front disk (page_slots s) (is.pages works) (pages_may_go old before s is.beside safe))
 
 pub returns-clause-damaged : goal.returns-clause-damaged
 returns-clause-damaged g c front disk holds =
-    map_err _ _ c.scan.result (λ f. store_earned (geometry_of c.args.self.now) disk (last_of c.args.self.now) (λ page. page.store ≡ c.args.store) c.args.store _ f (ap (λ n. n - 1) (c.last.view_is ∙ c.next.ensures)) (λ id of_store. of_store))
-    (c.scan.ensures.unforced c.args.self.now.whole front disk holds)
+    let old = c.args.self.now in
+    map_err _ _ c.scan.result
+    (λ f. store_earned (geometry_of old) disk (last_of old) (λ page. page.store ≡ c.args.store) (NeedsForce (heap_of old).pool (durable_of old)) c.args.store _ f (ap (λ n. n - 1) (c.last.view_is ∙ c.next.ensures)) (λ id of_store. of_store))
+    (c.scan.ensures.refused front disk holds (omega (arith, old.forced, c.last.view_is, c.next.ensures)))
+
+pub returns-clause-forced : goal.returns-clause-forced
+returns-clause-forced g c front disk holds =
+    let old = c.args.self.now in
+    map_err _ _ c.scan.result (λ f. store_force (heap_of old) (durable_of old) (geometry_of old) disk _ c.args.store f)
+    (c.scan.ensures.refused front disk holds (omega (arith, old.forced, c.last.view_is, c.next.ensures)))
 
 pub returns-clause-reads : goal.returns-clause-reads
-returns-clause-reads g c = record { geometry = c.scan.ensures.geometry; durable = refl; failed = refl; tail = refl; txns = refl; volume = c.scan.ensures.untouched c.args.self.now.whole }
+returns-clause-reads g c = record {
+  volume = record { geometry = c.scan.ensures.geometry; honest = c.scan.ensures.honest; size = c.scan.ensures.size };
+  durable = refl;
+  failed = refl;
+  tail = refl;
+  txns = refl;
+}

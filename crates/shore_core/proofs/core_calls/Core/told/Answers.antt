@@ -1,8 +1,28 @@
+use Rattle.std.proofs.Common.{◌≡◌, ◌≤◌, ◌+◌, length, length-append, refl, sym, ap, ◌∙◌, arith}
+use Rattle.shore_recovery.proofs.Invariant.{event_kept}
+use Rattle.shore_recovery.specs.Recovery.{ForceLog, after_force}
 use Rattle.shore_core.specs.Cores.{durable_of, has_failed, waiting_of}
 use Rattle.shore_core.proofs.Taking.{parts_told}
 use Rattle.shore_core.proofs.core_calls.Core.told.Goals as goal
 
 pub returns-clause-told : goal.returns-clause-told
-returns-clause-told g c front disk before s is safe =
+returns-clause-told g c front disk before s store is safe over =
     let old = c.args.self.now in
-    record { first = is.first; pages = is.pages; parts = parts_told old.txns (waiting_of old) (durable_of old) c.args.durable (has_failed old) before s is.parts }
+    let n = c.args.durable in
+    let told : store.durable ≡ durable_of old = over.kept.stored.durable ∙ is.beside.parts.durable_is in
+    let long : length store.log ≡ length before + length (waiting_of old) = ap length (over.kept.stored.log ∙ is.beside.parts.log) ∙ length-append before (waiting_of old) in
+    let more : store.durable ≤ n = omega (arith, told, c.requires.no_lower) in
+    let within : n ≤ length store.log = omega (arith, long, is.beside.first, c.requires.logged) in (
+      record {
+        beside = record { first = is.beside.first; parts = parts_told old.txns (waiting_of old) (durable_of old) n (has_failed old) before s is.beside.parts };
+        pages = is.pages;
+      },
+      record {
+        kept = record {
+          stored = record { log = over.kept.stored.log; durable = refl };
+          redone = over.kept.redone;
+          recoverable = event_kept store (ForceLog n) (after_force store n) over.kept.recoverable (more, within, refl);
+        };
+        pages = λ works. let pages = over.pages works in record { volume = pages.volume; in_place = pages.in_place; inside = pages.inside; done = pages.done };
+      },
+    )

@@ -1,6 +1,13 @@
-use Rattle.shore_heap.specs.Contents.{claims_below}
+use Rattle.std.proofs.Common.{◌≡◌, ◌++◌, [], ℕ, List}
 use Rattle.shore_heap.proofs.Keeping.{Keeps}
 use Rattle.shore_heap.proofs.heap.Heap.keep_claims.Given as goal
 
 abbrev pub invariant-loop-place : goal.invariant-loop-place
-invariant-loop-place g l = Keeps l.id (claims_below (g.C.Claims.claim l.claims l.id) l.place) l.initial.self l.self
+invariant-loop-place g l = record {
+  chain : g.C.Claims.IsOnChain l.claims l.id l.place;
+  end : g.C.Claims.kept_from l.claims l.id 0 ≡ [];
+  so_far : (done : List (ℕ × ℕ)) × (g.C.Claims.kept_from l.claims l.id l.place ++ done ≡ g.C.Claims.kept l.claims l.id) × Keeps l.id done l.initial.self l.self;
+}
+
+abbrev pub decreases-loop-place : goal.decreases-loop-place
+decreases-loop-place g l = l.place

@@ -6,7 +6,9 @@ use Rattle.shore_pool.specs.Changes.{reclaimed}
 use Rattle.shore_pool.specs.Pools as pools
 use Rattle.shore_pool.specs.declared.pool.Pool.{Pool}
 use Rattle.shore_dwrite.specs.declared.device.PageDev.{PageDev}
-use Rattle.shore_pool.proofs.Same.{there_is}
+use Rattle.shore_dwrite.specs.Volumes.{page_number}
+use Rattle.shore_pool.specs.Pages.{SamePages}
+use Rattle.shore_pool.proofs.Same.{claims_stay, there_is}
 use Rattle.shore_heap.specs.Contents.{with_slots}
 use Rattle.shore_heap.proofs.Bounds.{bounds_forgot}
 use Rattle.shore_heap.proofs.Frames.{have_changed}
@@ -31,3 +33,12 @@ returns-clause-untouched g c front disk holds = (
   subst (λ (p : Pool _ g.D.Disk). pools.Holds p front disk) (sym c.forget.ensures.pool) (c.unreserve.ensures.kept front disk holds).0,
   ap (λ (p : Pool _ g.D.Disk). pools.history_of p) c.forget.ensures.pool ∙ ap (λ (d : PageDev _ g.D.Disk). g.D.Disk.history (settled_device.device_of d)) c.unreserve.ensures.device,
 )
+
+pub returns-clause-same : goal.returns-clause-same
+returns-clause-same g c disk =
+    let old = c.args.self.now in
+    let volume = pools.geometry_of old.pool in
+    let id = c.args.id.page in
+    let here = frame_is c.unreserve.new.self volume id _ (ap settled_device.geometry_of c.unreserve.ensures.device) c.unreserve.ensures.here in
+    subst (λ (p : Pool _ g.D.Disk). SamePages (pools.frame_at old.pool) disk (pools.frame_at p) disk) (sym c.forget.ensures.pool)
+    (claims_stay (pools.frame_at old.pool) (pools.frame_at c.unreserve.new.self) disk (page_number volume id) c.args.id.slot (lowered c.args.bytes) (λ s. refl) here c.unreserve.ensures.others)

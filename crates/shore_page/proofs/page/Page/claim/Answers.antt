@@ -1,6 +1,6 @@
-use Rattle.std.proofs.Common.{◌≡◌, ◌<◌, List, get_or, length, sym, ap, ◌∙◌, arith}
+use Rattle.std.proofs.Common.{◌≡◌, ◌<◌, get_or, length, sym, ap, ◌∙◌, arith}
 use Rattle.std.proofs.lemmas.List.{get_or_default}
-use Rattle.shore_page.specs.Slots.{PageState, Slot}
+use Rattle.shore_page.specs.Slots.{PageState}
 use Rattle.shore_page.specs.Room.{claim_at}
 use Rattle.shore_page.proofs.PageLemmas.{claim_at-slots, length-slots}
 use Rattle.shore_page.proofs.page.Page.claim.Goals as goal

@@ -1,5 +1,4 @@
 use Rattle.std.proofs.Common.{◌≡◌, inl, inr, ◌-◌, ◌≤◌, ◌++◌, [], List, None, length, take, append-nil, Ok, Err, refl, sym, ◌∙◌, ap, subst, arith, length-append, length-drop}
-use Rattle.std.proofs.lemmas.List.{take_all}
 use Rattle.shore_disk.specs.Device.{LeavesOnly, size}
 use Rattle.shore_heap.specs.Heaps as heaps
 use Rattle.shore_types.specs.declared.layout.Geometry.{Geometry}
@@ -13,22 +12,19 @@ use Rattle.shore_calls.specs.States.{cost_of_log}
 use Rattle.shore_core.specs.Cores.{IsIn, IsSafe, waiting_of}
 use Rattle.shore_world.specs.declared.event.Event.TheVariants.{ForceStage}
 use Rattle.shore_world.specs.declared.world.World.{World}
-use Rattle.shore_world.specs.Worlds.{IsInState, durable_in, failed_in, list_in}
-use Rattle.shore_world.proofs.WorldLemmas.{failed_runs, handed, has_staged, is_some_and, length-stable, none_staged, not_left, nothing_done, staging}
+use Rattle.shore_world.specs.Worlds.{IsInState, IsOverStore, durable_in, failed_in, list_in}
+use Rattle.shore_world.proofs.RunLemmas.{stage_is_no_flush}
+use Rattle.shore_world.proofs.WorldLemmas.{failed_runs, force_moves, handed, has_staged, is_some_and, length-stable, none_staged, not_left, nothing_done, staging}
 use Rattle.shore_world.proofs.RoomLemmas.{cost_append, frame_has_room, other_is_no_device, ready_settled, refused_is}
 use Rattle.shore_world.proofs.world.World.force_stage.Goals as goal
 
 pub returns-then-has_failed-clause-moves : goal.returns-then-has_failed-clause-moves
 returns-then-has_failed-clause-moves g c =
-    let old = c.args.self.now in
-    nothing_done old ForceStage _
-    (λ front disk s is safe. record { later = s; moves = inl (is.parts.failed_is ∙ sym c.has_failed.ensures ∙ c.if-has_failed.true, refl, refl); is_in = is; still = refl })
+    nothing_done c.args.self.now ForceStage _ stage_is_no_flush (λ s is. inl (is.parts.failed_is ∙ sym c.has_failed.ensures ∙ c.if-has_failed.true, refl, refl))
 
 pub returns-then-is_staged-clause-moves : goal.returns-then-is_staged-clause-moves
 returns-then-is_staged-clause-moves g c =
-    let old = c.args.self.now in
-    nothing_done old ForceStage _
-    (λ front disk s is safe. record { later = s; moves = (is.parts.failed_is ∙ sym c.has_failed.ensures ∙ c.if-has_failed.false, refl); is_in = is; still = refl })
+    nothing_done c.args.self.now ForceStage _ stage_is_no_flush (λ s is. (is.parts.failed_is ∙ sym c.has_failed.ensures ∙ c.if-has_failed.false, refl))
 
 pub returns-in-Err-clause-moves : goal.returns-in-Err-clause-moves
 returns-in-Err-clause-moves g c =
@@ -36,14 +32,14 @@ returns-in-Err-clause-moves g c =
     let none = none_staged old.log c.is_staged.result c.is_staged.ensures c.if-is_staged.false in
     let running = sym c.has_failed.ensures ∙ c.if-has_failed.false in
     let h = c.hand_over.ensures in
-    handed old _ ForceStage _ (ap heaps.geometry_of h.heap) h.still.0
-    (λ front disk s is safe. record {
+    force_moves old _ ForceStage _ stage_is_no_flush (ap heaps.geometry_of h.heap) (ap heaps.history_of h.heap)
+    (handed old _ h.still.0 h.list h.durable (λ r. sym h.running ∙ r) none h.still.1 h.settled)
+    (λ front disk s store is over safe. record {
       later = s;
-      moves = inr (inr (is.parts.failed_is ∙ running, inl c.in-Err.ensures.only_memory, refl));
+      moves = inr (inr (is.beside.parts.failed_is ∙ running, inl c.in-Err.ensures.only_memory, refl));
       is_in = h.state front disk s is;
-      still = ap heaps.history_of h.heap;
+      told = inl (h.over disk s store over);
     })
-    h.list h.durable (λ r. sym h.running ∙ r) none h.still.1 h.settled
 
 pub returns-in-Ok-None-clause-moves : goal.returns-in-Ok-None-clause-moves
 returns-in-Ok-None-clause-moves g c =
@@ -53,16 +49,17 @@ returns-in-Ok-None-clause-moves g c =
     let h = c.hand_over.ensures in
     let unchanged = c.stage.ensures.nothing (c.in-Ok-None.is ∙ ap (λ n. Ok n) c.in-Ok-None.field-0-is) in
     let same = c.stage.ensures.same.0 in
-    handed old _ ForceStage _ (ap heaps.geometry_of h.heap) (ap (λ (l : LogDev g.row.L.Denot g.L.Disk). l.device) unchanged ∙ h.still.0)
-    (λ front disk s is safe. record {
-      later = s;
-      moves = (is.parts.failed_is ∙ running, refl);
-      is_in = subst (λ (l : List LogRecord). IsIn front disk l c.hand_over.new.self s) (sym same) (h.state front disk s is);
-      still = ap heaps.history_of h.heap;
-    })
+    force_moves old _ ForceStage _ stage_is_no_flush (ap heaps.geometry_of h.heap) (ap heaps.history_of h.heap)
+    (handed old _ (ap (λ (l : LogDev g.row.L.Denot g.L.Disk). l.device) unchanged ∙ h.still.0)
     (ap (λ (l : List LogRecord). l ++ waiting_of c.hand_over.new.self) same ∙ h.list) h.durable (λ r. sym h.running ∙ r) none
     (ap (λ (l : LogDev g.row.L.Denot g.L.Disk). l.staged) unchanged ∙ h.still.1)
-    (λ front s. subst (λ (l : LogDev g.row.L.Denot g.L.Disk). IsSettled l front) (sym unchanged) (h.settled front s))
+    (λ front s. subst (λ (l : LogDev g.row.L.Denot g.L.Disk). IsSettled l front) (sym unchanged) (h.settled front s)))
+    (λ front disk s store is over safe. record {
+      later = s;
+      moves = (is.beside.parts.failed_is ∙ running, refl);
+      is_in = subst (λ (l : List LogRecord). IsIn front disk l c.hand_over.new.self s) (sym same) (h.state front disk s is);
+      told = inl (h.over disk s store over);
+    })
 
 pub returns-in-Ok-Some-clause-moves : goal.returns-in-Ok-Some-clause-moves
 returns-in-Ok-Some-clause-moves g c =
@@ -76,20 +73,22 @@ returns-in-Ok-Some-clause-moves g c =
     let longest = rw c.in-Ok-Some.field-0-is at (c.in-Ok-Some.ensures.longest (still.1 ∙ none)) in
     let forced : durable_in old ≡ mid.forced = old.durable_agrees ∙ sym (ap length still.2) ∙ length-stable mid in
     let all : length (mid.records.items) ≤ length (list_in old) = omega (arith, ap length h.list, length-append mid.records.items (waiting_of c.hand_over.new.self)) in
-    staging old _ mid ForceStage _ (ap heaps.geometry_of h.heap)
-    (λ front disk s is safe. record {
+    force_moves old _ ForceStage _ stage_is_no_flush (ap heaps.geometry_of h.heap) (ap heaps.history_of h.heap)
+    (staging old _ mid running none still.0 still.1 still.2 (ap (λ (l : List LogRecord). l ++ waiting_of c.hand_over.new.self) same ∙ h.list) h.durable h.settled c.stage.ensures.any_moment
+    (λ front s run. inr (take (c.in-Ok-Some.number - mid.forced) (waiting mid), rw c.in-Ok-Some.field-0-is at (c.in-Ok-Some.ensures.staged front s (still.1 ∙ none)))))
+    (λ front disk s store is over safe.
+    let parts = is.beside.parts in
+    record {
       later = s;
       moves = (
-        is.parts.failed_is ∙ running,
-        omega (arith, is.parts.durable_is, forced, longest.0),
-        omega (arith, ap length is.parts.log, all, longest.0, longest.1.within, length-drop mid.forced mid.records.items),
+        parts.failed_is ∙ running,
+        omega (arith, parts.durable_is, forced, longest.0),
+        omega (arith, ap length parts.log, all, longest.0, longest.1.within, length-drop mid.forced mid.records.items),
         refl,
       );
       is_in = subst (λ (l : List LogRecord). IsIn front disk l c.hand_over.new.self s) (sym same) (h.state front disk s is);
-      still = ap heaps.history_of h.heap;
+      told = inl (h.over disk s store over);
     })
-    running none still.0 still.1 still.2 (ap (λ (l : List LogRecord). l ++ waiting_of c.hand_over.new.self) same ∙ h.list) h.durable h.settled c.stage.ensures.any_moment
-    (λ front s run. inr (take (c.in-Ok-Some.number - mid.forced) (waiting mid), rw c.in-Ok-Some.field-0-is at (c.in-Ok-Some.ensures.staged front s (still.1 ∙ none))))
 
 pub returns-in-Err-stage-clause-moves : goal.returns-in-Err-stage-clause-moves
 returns-in-Err-stage-clause-moves g c =
@@ -108,39 +107,41 @@ returns-in-Err-stage-clause-moves g c =
     let durable = r.durable ∙ h.durable in
     rw r.refused (elim c.in-Err-stage.ensures.others [
       | inl device ↦
-          staging old new mid ForceStage _ geometry
-          (λ front disk s is safe. record {
-            later = with_failure s;
-            moves = inr (inl (is.parts.failed_is ∙ running, device, refl));
-            is_in = r.state device front disk s (subst (λ (l : List LogRecord). IsIn front disk l c.hand_over.new.self s) (sym same) (h.state front disk s is))
-                (subst (λ (x : Geometry). IsSafe x s) (sym (ap heaps.geometry_of h.heap)) safe);
-            still = volume;
-          })
-          running none still.0 still.1 still.2 list durable h.settled
+          force_moves old new ForceStage _ stage_is_no_flush geometry volume
+          (staging old new mid running none still.0 still.1 still.2 list durable h.settled
           (λ front s waits. subst (λ (l : LogDev g.row.L.Denot g.L.Disk). LeavesOnly (g.L.Disk.history mid.device) (g.L.Disk.history l.device) (GivesBehind front (stable mid))) (sym r.log) (c.stage.ensures.any_moment front s waits))
-          (λ front s run. absurd (failed_runs _ (r.failed device) run))
+          (λ front s run. absurd (failed_runs _ (r.failed device) run)))
+          (λ front disk s store is over safe.
+          let failed = r.state device front disk s store (subst (λ (l : List LogRecord). IsIn front disk l c.hand_over.new.self s) (sym same) (h.state front disk s is))
+          (subst (λ (x : Geometry). IsSafe x s) (sym (ap heaps.geometry_of h.heap)) safe) (h.over disk s store over) in
+          record {
+            later = with_failure s;
+            moves = inr (inl (is.beside.parts.failed_is ∙ running, device, refl));
+            is_in = failed.0;
+            told = inl failed.1;
+          })
       | inr other ↦
           let isnt = other_is_no_device _ other in
           let whole = r.other isnt in
           let unchanged = r.log ∙ not_left c.in-Err-stage.ensures.refused isnt in
-          handed old new ForceStage _ geometry (ap (λ (l : LogDev g.row.L.Denot g.L.Disk). l.device) unchanged ∙ still.0)
-          (λ front disk s is safe. record {
-            later = s;
-            moves = inr (inr (is.parts.failed_is ∙ running, other, refl));
-            is_in = subst (λ (w : World g.row.L.Denot g.row.V.Denot g.L.Disk g.V.Disk). IsInState w front disk s) (sym whole)
-                (subst (λ (l : List LogRecord). IsIn front disk l c.hand_over.new.self s) (sym same) (h.state front disk s is));
-            still = volume;
-          })
+          force_moves old new ForceStage _ stage_is_no_flush geometry volume
+          (handed old new (ap (λ (l : LogDev g.row.L.Denot g.L.Disk). l.device) unchanged ∙ still.0)
           list durable (λ run. sym h.running ∙ sym (ap (λ (w : World g.row.L.Denot g.row.V.Denot g.L.Disk g.V.Disk). failed_in w) whole) ∙ run) none
           (ap (λ (l : LogDev g.row.L.Denot g.L.Disk). l.staged) unchanged ∙ still.1)
-          (λ front s. subst (λ (l : LogDev g.row.L.Denot g.L.Disk). IsSettled l front) (sym unchanged) (h.settled front s))
+          (λ front s. subst (λ (l : LogDev g.row.L.Denot g.L.Disk). IsSettled l front) (sym unchanged) (h.settled front s)))
+          (λ front disk s store is over safe. record {
+            later = s;
+            moves = inr (inr (is.beside.parts.failed_is ∙ running, other, refl));
+            is_in = subst (λ (w : World g.row.L.Denot g.row.V.Denot g.L.Disk g.V.Disk). IsInState w front disk s) (sym whole)
+                (subst (λ (l : List LogRecord). IsIn front disk l c.hand_over.new.self s) (sym same) (h.state front disk s is));
+            told = inl (subst (λ (w : World g.row.L.Denot g.row.V.Denot g.L.Disk g.V.Disk). IsOverStore w disk s store) (sym whole) (h.over disk s store over));
+          })
     ])
 
 pub returns-in-Err-stage-clause-full : goal.returns-in-Err-stage-clause-full
 returns-in-Err-stage-clause-full g c refused has_room =
     let old = c.args.self.now in
     let front = has_room.log_front in
-    let s = has_room.state in
     let mid = c.hand_over.new.log in
     let none = none_staged old.log c.is_staged.result c.is_staged.ensures c.if-is_staged.false in
     let running = sym c.has_failed.ensures ∙ c.if-has_failed.false in
@@ -148,10 +149,9 @@ returns-in-Err-stage-clause-full g c refused has_room =
     let fault : c.in-Err-stage.fault ≡ LogFull = refused_is _ _ _ c.refuse.ensures.refused refused in
     let full = c.in-Err-stage.ensures.full (ap (λ f. Err f) fault) in
     let room = frame_has_room mid front settled full.count full.some full.longest.within in
-    let bounds = (has_room.bounded.beginnings (length s.log) (omega arith)).room in
-    let whole = ap cost_of_log (take_all (length s.log) s.log (omega arith) ∙ has_room.is_in.parts.log ∙ sym c.hand_over.ensures.list) in
+    let whole = ap cost_of_log c.hand_over.ensures.list in
     let longer = cost_append (records_of_log mid) (waiting_of c.hand_over.new.self) in
-    omega (arith, room, full.full, bounds, whole, longer, mid.as_long, ap (λ d. size (g.L.Disk.history d)) c.hand_over.ensures.still.0)
+    omega (arith, room, full.full, has_room.room, whole, longer, mid.as_long, ap (λ d. size (g.L.Disk.history d)) c.hand_over.ensures.still.0)
 
 pub returns-in-Ok-Some-clause-staged : goal.returns-in-Ok-Some-clause-staged
 returns-in-Ok-Some-clause-staged g c n is =

@@ -1,11 +1,11 @@
-use Rattle.std.proofs.Common.{◌≡◌, ◌+◌, List, [], ◌∷◌, ◌++◌, take, sym, ap, ◌∙◌, subst, append_assoc, arith}
+use Rattle.std.proofs.Common.{◌≡◌, ◌+◌, List, [], ◌∷◌, ◌++◌, take, sym, ap, ◌∙◌, subst, append-nil, append_assoc, arith}
 use Rattle.std.proofs.lemmas.List.{take_all, take_more}
 use Rattle.shore_calls.specs.declared.step.Step.{Step}
 use Rattle.shore_world.specs.declared.event.Event.{Event}
 use Rattle.shore_world.specs.Worlds.{Runs}
 use Rattle.shore_calls.specs.CallSteps.{ManagerEvent}
 use Rattle.shore_world.specs.EventMoves.{all_moves}
-use Rattle.shore_world.proofs.RunLemmas.{all_further, one_more}
+use Rattle.shore_world.proofs.RunLemmas.{all_further, no_event, one_more}
 use Rattle.shore_world.proofs.world.World.run.Goals as goal
 
 pub returns-clause-runs : goal.returns-clause-runs
@@ -15,6 +15,12 @@ returns-clause-runs g c =
       r.1 ∙ ap (λ (l : List Step). l ++ r.0) c.reserve.ensures.items,
       subst (λ (l : List Event). Runs c.args.self.now l r.0 (all_moves l r.0) c.loop-event.self) (take_all c.loop-event.event-index c.args.events.now c.loop-event-test.false) r.2,
     )
+
+pub loop-event-init : goal.loop-event-init
+loop-event-init g c = record {
+  room = omega (arith, c.in_ok-reserve.ensures.ok);
+  runs = ([], sym (append-nil c.reserve.new.self.items), no_event c.args.self.now);
+}
 
 pub loop-event-preserved : goal.loop-event-preserved
 loop-event-preserved g c =

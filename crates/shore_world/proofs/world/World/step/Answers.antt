@@ -1,67 +1,77 @@
-use Rattle.std.proofs.Common.{IfErr, refl, subst, sym, ap}
+use Rattle.std.proofs.Common.{inl, refl, ap}
 use Rattle.shore_heap.specs.Heaps as heaps
-use Rattle.shore_log.specs.Settled.{records_of_log}
-use Rattle.shore_core.specs.Cores.{last_of}
-use Rattle.shore_core.specs.Replies.{IsEarned, fault_at}
-use Rattle.shore_world.specs.declared.event.Event.{Event}
-use Rattle.shore_world.specs.Events.{IsOfSession, ReadBy}
-use Rattle.shore_world.specs.Worlds.{geometry_in}
-use Rattle.shore_world.proofs.GrowLemmas.{call_grows, resume_grows}
-use Rattle.shore_world.proofs.RunLemmas.{failed_says_nothing, log_cause, no_force, open_is_no_stage, stage_is_no_open, same_keeps}
+use Rattle.shore_world.specs.declared.event.Event.TheVariants as event
+use Rattle.shore_world.proofs.CallLemmas.{call_moves, flush_moves, resume_moves}
+use Rattle.shore_world.proofs.DumpLemmas.{never_true}
+use Rattle.shore_world.proofs.RunLemmas.{call_is_no_flush, failed_asks_nothing, failed_says_nothing, flush_asks_nothing, flush_faults, flush_says_nothing, log_cause, no_force, open_is_no_flush, open_is_no_stage, resume_is_no_flush, same_volume, stage_is_no_flush, stage_is_no_open}
+use Rattle.shore_world.proofs.WorldLemmas.{failed_runs}
+use Rattle.shore_world.specs.Worlds.{failed_in}
 use Rattle.shore_world.proofs.world.World.step.Goals as goal
 
 pub returns-in-Call : goal.returns-in-Call
 returns-in-Call g c =
     let old = c.args.self.now in
+    let e = c.call.ensures in
     let served = rw c.in-Call.is at c.requires in
-    no_force old _ _ _ (subst IsOfSession (sym c.in-Call.is) tt) c.call.ensures.geometry refl
-    (λ front disk s is safe. let moved = c.call.ensures.step front disk (records_of_log old.log) s is safe in
-    rw c.in-Call.is (record { later = moved.later; moves = moved.moves; is_in = moved.is_in; still = moved.history }))
-    (λ front disk s is safe. let moved = c.call.ensures.step front disk (records_of_log old.log) s is safe in
-    call_grows old _ front disk s moved.later _ _ _ served is moved.is_in moved.moves c.call.ensures.durable)
-    (λ front ready. ready) c.call.ensures.volume
-    (λ front disk holds. subst (λ (e : Event). IfErr (fault_at c.call.result) (IsEarned (geometry_in old) disk (last_of old.core) (ReadBy e))) (sym c.in-Call.is) (c.call.ensures.damaged front disk holds))
-    c.call.ensures.cause
+    rw c.in-Call.is (
+    no_force old _ _ _ tt refl refl (call_moves old _ _ _ _ served e.volume.geometry refl e.step e.any_moment e.still e.durable) e.volume
+    (λ is. absurd (call_is_no_flush (event.Call c.in-Call.session c.in-Call.call) tt is)) e.damaged e.forced e.cause)
 
 pub returns-in-Resume : goal.returns-in-Resume
 returns-in-Resume g c =
     let old = c.args.self.now in
+    let e = c.resume.ensures in
     let served = rw c.in-Resume.is at c.requires in
-    no_force old _ _ _ (subst IsOfSession (sym c.in-Resume.is) tt) (ap heaps.geometry_of c.resume.ensures.heap) refl
-    (λ front disk s is safe. let moved = c.resume.ensures.step front disk (records_of_log old.log) s is safe in
-    rw c.in-Resume.is (record { later = moved.later; moves = moved.moves; is_in = moved.is_in; still = moved.history }))
-    (λ front disk s is safe. let moved = c.resume.ensures.step front disk (records_of_log old.log) s is safe in
-    resume_grows old _ front disk s moved.later _ _ served is moved.is_in moved.moves c.resume.ensures.durable)
-    (λ front ready. ready) (same_keeps _ _ c.resume.ensures.heap) (failed_says_nothing old _ _ c.resume.ensures.refused) c.resume.ensures.cause
+    rw c.in-Resume.is (
+    no_force old _ _ _ tt refl refl (resume_moves old _ _ _ served (ap heaps.geometry_of e.heap) refl e.step e.heap e.durable) (same_volume _ _ e.heap)
+    (λ is. absurd (resume_is_no_flush c.in-Resume.session is)) (failed_says_nothing old (event.Resume c.in-Resume.session) _ e.refused) (failed_asks_nothing old c.resume.result e.refused) e.cause)
 
 pub returns-in-ForceStage : goal.returns-in-ForceStage
 returns-in-ForceStage g c =
+    let e = c.force_stage.ensures in
     rw c.in-ForceStage.is (record {
-      moves = c.force_stage.ensures.moves;
+      moves = e.moves;
       still = λ is. absurd is;
-      volume = λ is. c.force_stage.ensures.volume;
-      staged = λ n is done. c.force_stage.ensures.staged n done;
+      volume = λ is. e.volume;
+      same = same_volume _ _ e.volume;
+      staged = λ n is done. e.staged n done;
       forced = λ n is done. absurd (stage_is_no_open is);
-      idle = λ is nothing. c.force_stage.ensures.idle nothing;
+      idle = λ is nothing. e.idle nothing;
       shut = λ is nothing. absurd (stage_is_no_open is);
-      full = λ is refused. c.force_stage.ensures.full refused;
-      only_read = same_keeps _ _ c.force_stage.ensures.volume;
-      damaged = c.force_stage.ensures.damaged;
-      cause = log_cause c.force_stage.result _ _ _ _ (ap heaps.faults_of c.force_stage.ensures.volume) c.force_stage.ensures.cause;
+      full = λ is refused. e.full refused;
+      flushed = λ is. absurd (stage_is_no_flush is);
+      report = e.report;
+      damaged = e.damaged;
+      unforced = e.unforced;
+      cause = log_cause c.force_stage.result _ _ _ _ (ap heaps.faults_of e.volume) e.cause;
     })
 
 pub returns-in-ForceOpen : goal.returns-in-ForceOpen
 returns-in-ForceOpen g c =
+    let e = c.force_open.ensures in
     rw c.in-ForceOpen.is (record {
-      moves = c.force_open.ensures.moves;
+      moves = e.moves;
       still = λ is. absurd is;
-      volume = λ is. c.force_open.ensures.volume;
+      volume = λ is. e.volume;
+      same = same_volume _ _ e.volume;
       staged = λ n is. absurd (open_is_no_stage is);
-      forced = λ n is done. c.force_open.ensures.forced n done;
+      forced = λ n is done. e.forced n done;
       idle = λ is. absurd (open_is_no_stage is);
-      shut = λ is nothing. c.force_open.ensures.shut nothing;
+      shut = λ is nothing. e.shut nothing;
       full = λ is. absurd (open_is_no_stage is);
-      only_read = same_keeps _ _ c.force_open.ensures.volume;
-      damaged = c.force_open.ensures.damaged;
-      cause = log_cause c.force_open.result _ _ _ _ (ap heaps.faults_of c.force_open.ensures.volume) c.force_open.ensures.cause;
+      flushed = λ is. absurd (open_is_no_flush is);
+      report = e.report;
+      damaged = e.damaged;
+      unforced = e.unforced;
+      cause = log_cause c.force_open.result _ _ _ _ (ap heaps.faults_of e.volume) e.cause;
     })
+
+pub returns-in-FlushStep : goal.returns-in-FlushStep
+returns-in-FlushStep g c =
+    let old = c.args.self.now in
+    let e = c.flush_step.ensures in
+    let faults = flush_faults old.core c.flush_step.new.self c.flush_step.result e.answers in
+    rw c.in-FlushStep.is (
+    no_force old _ _ _ tt refl refl
+    (flush_moves old _ _ e.volume.geometry refl e.tail e.step e.any_moment e.still e.durable (λ run. never_true (failed_in old) (λ before. failed_runs _ (e.fails.1 (inl before)) run)))
+    e.volume (λ is. record { answers = e.answers; written = e.written }) (flush_says_nothing old event.FlushStep _ faults) (flush_asks_nothing old _ faults) e.cause)

@@ -1,0 +1,334 @@
+//! The works, each over a pair of files of a folder.
+use crate::devices::CountDisk;
+use crate::figures::Figure;
+use crate::plan::Plan;
+use crate::store::{
+    Manager, STORE, begin, bytes, commit, force, insert, nanos_since, new_manager, now,
+    open_manager, scan, update, write_back,
+};
+use shore_disk::{Disk, FileDisk};
+use shore_types::{Fault, Pairs, Rid};
+use std::alloc::Global;
+
+const MILLION: u64 = 1_000_000;
+
+/// What a run does.
+#[derive(Clone, Copy)]
+pub enum Work {
+    /// Updates, each in a transaction that is answered once it is durable, in turns with a plain write and sync of as many bytes.
+    Durable,
+    /// Inserts, in one transaction.
+    Insert,
+    /// A scan of all records.
+    Scan,
+    /// Updates as `Durable` makes, and one more that is not committed. The files are left as they are then: no call closes a manager.
+    Crash,
+    /// An open of what a crash left.
+    Recover,
+    /// What an open shows of what a crash left, against what was acknowledged.
+    Verify,
+    /// Updates in one transaction that is not committed, all of them written back. The files are left as they are then.
+    Lose,
+    /// An open of what `Lose` left, which undoes all of it, and shows the records as they were before.
+    Undo,
+}
+
+impl Work {
+    pub fn of(name: &str) -> Option<Work> {
+        match name {
+            "durable" => Some(Work::Durable),
+            "insert" => Some(Work::Insert),
+            "scan" => Some(Work::Scan),
+            "crash" => Some(Work::Crash),
+            "recover" => Some(Work::Recover),
+            "verify" => Some(Work::Verify),
+            "lose" => Some(Work::Lose),
+            "undo" => Some(Work::Undo),
+            _ => None,
+        }
+    }
+
+    /// How many calls are made if nothing is said.
+    pub fn default_count(self) -> u64 {
+        match self {
+            Work::Insert | Work::Scan => 100_000,
+            Work::Durable | Work::Crash | Work::Recover | Work::Verify | Work::Lose | Work::Undo =>
+                1_000,
+        }
+    }
+}
+
+/// Does a work. A record that is missing or has other bytes is the fault `NoRecord`.
+pub fn perform(rt: &HostRuntime, work: Work, plan: &Plan) -> Result<Vec<Figure>, Fault> {
+    match work {
+        Work::Durable => durable(rt, plan),
+        Work::Insert => inserts(rt, plan),
+        Work::Scan => scanned(rt, plan),
+        Work::Crash => crash(rt, plan),
+        Work::Recover => recover(rt, plan),
+        Work::Verify => verify(rt, plan),
+        Work::Lose => lose(rt, plan),
+        Work::Undo => undo(rt, plan),
+    }
+}
+
+// A new manager with so many records, in one transaction that is committed. Record I tells the number I.
+fn filled(rt: &HostRuntime, plan: &Plan, records: u64) -> Result<Manager, Fault> {
+    let mut manager = new_manager(rt, plan)?;
+    begin(rt.alloc(), &mut manager)?;
+    for number in 0..records {
+        insert(rt.alloc(), &mut manager, number, plan.size)?;
+    }
+    commit(rt.alloc(), &mut manager)?;
+    Ok(manager)
+}
+
+// The ids of all records, in place order.
+fn ids_of(alloc: Global, manager: &mut Manager) -> Result<Vec<Rid>, Fault> {
+    let pairs = manager.dump(alloc, STORE)?;
+    let mut ids = Vec::new(alloc);
+    for index in 0..pairs.len() {
+        if let Some((id, _)) = pairs.get(index) {
+            ids.push(id)?;
+        }
+    }
+    Ok(ids)
+}
+
+// Update N is of record N, counted round and round.
+fn update_one(
+    alloc: Global,
+    manager: &mut Manager,
+    plan: &Plan,
+    ids: &[Rid],
+    number: u64,
+) -> Result<(), Fault> {
+    let place = number % (ids.len() as u64).max(1);
+    match ids.get(place as usize) {
+        Some(id) => update(alloc, manager, *id, told(plan, number), plan.size),
+        None => Err(Fault::NoRecord),
+    }
+}
+
+// What the record tells behind update N: a number that no insert has.
+fn told(plan: &Plan, number: u64) -> u64 {
+    number.saturating_add(plan.updated_records())
+}
+
+fn update_and_commit(
+    alloc: Global,
+    manager: &mut Manager,
+    plan: &Plan,
+    ids: &[Rid],
+    number: u64,
+) -> Result<(), Fault> {
+    begin(alloc, manager)?;
+    update_one(alloc, manager, plan, ids, number)?;
+    commit(alloc, manager)
+}
+
+fn durable(rt: &HostRuntime, plan: &Plan) -> Result<Vec<Figure>, Fault> {
+    let alloc = rt.alloc();
+    let mut manager = filled(rt, plan, plan.updated_records())?;
+    let ids = ids_of(alloc, &mut manager)?;
+    let mut raw = raw_file(rt, plan)?;
+    let text = bytes(alloc, 0, plan.size)?;
+    let (mut commits, mut syncs) = (0u64, 0u64);
+    for number in 0..plan.count {
+        let start = now(rt)?;
+        update_and_commit(alloc, &mut manager, plan, &ids, number)?;
+        commits = commits.saturating_add(nanos_since(rt, &start)?);
+        let start = now(rt)?;
+        write_raw(&mut raw, number, text.as_slice())?;
+        syncs = syncs.saturating_add(nanos_since(rt, &start)?);
+    }
+    let second = 1_000 * 1_000 * MILLION;
+    let figures = [
+        Figure::ratio("durable", plan.count, commits, second, "commits_per_second"),
+        Figure::ratio("durable_raw", plan.count, syncs, second, "syncs_per_second"),
+        Figure::ratio("durable_ratio", syncs, commits, 1_000, "commits_per_sync"),
+    ];
+    Ok(Vec::from_slice(alloc, &figures)?)
+}
+
+// A file with room for every plain write, one behind another, as a log has it.
+fn raw_file(rt: &HostRuntime, plan: &Plan) -> Result<FileDisk, Fault> {
+    let len = plan.count.saturating_mul(plan.size as u64);
+    let file = FileDisk::open_or_create(rt, &plan.raw).map_err(|_| Fault::Device)?;
+    file.cleared(len).map_err(|_| Fault::Device)
+}
+
+fn write_raw(raw: &mut FileDisk, number: u64, text: &[u8]) -> Result<(), Fault> {
+    let at = number.saturating_mul(text.len() as u64);
+    match at.checked_add(text.len() as u64) {
+        Some(end) if end <= raw.len() => raw.write_at(at, text)?,
+        _ => return Err(Fault::Device),
+    }
+    raw.sync()?;
+    Ok(())
+}
+
+fn inserts(rt: &HostRuntime, plan: &Plan) -> Result<Vec<Figure>, Fault> {
+    let alloc = rt.alloc();
+    let mut manager = new_manager(rt, plan)?;
+    let start = now(rt)?;
+    begin(alloc, &mut manager)?;
+    for number in 0..plan.count {
+        insert(alloc, &mut manager, number, plan.size)?;
+    }
+    let inserted = nanos_since(rt, &start)?;
+    commit(alloc, &mut manager)?;
+    let committed = nanos_since(rt, &start)?;
+    let (log, volume) = manager.into_devices();
+    let records = plan.count.saturating_mul(plan.size as u64);
+    let figures = [
+        Figure::ratio("insert", inserted, plan.count, 1, "microseconds_per_record"),
+        Figure::ratio(
+            "insert_and_commit",
+            committed,
+            plan.count,
+            1,
+            "microseconds_per_record",
+        ),
+        written("insert_log", &log, records),
+        written("insert_volume", &volume, records),
+    ];
+    Ok(Vec::from_slice(alloc, &figures)?)
+}
+
+// How many bytes were written for each byte of a record.
+fn written(name: &'static str, device: &CountDisk, records: u64) -> Figure {
+    Figure::ratio(name, device.written(), records, 1_000, "bytes_per_byte")
+}
+
+fn scanned(rt: &HostRuntime, plan: &Plan) -> Result<Vec<Figure>, Fault> {
+    let alloc = rt.alloc();
+    let mut manager = filled(rt, plan, plan.count)?;
+    begin(alloc, &mut manager)?;
+    let start = now(rt)?;
+    let pairs = scan(alloc, &mut manager)?;
+    let nanos = nanos_since(rt, &start)?;
+    let count = pairs.len() as u64;
+    let figures = [
+        Figure::ratio("scan", nanos, count, 1, "microseconds_per_record"),
+        Figure::whole("scan_shown", count, "records"),
+    ];
+    Ok(Vec::from_slice(alloc, &figures)?)
+}
+
+fn crash(rt: &HostRuntime, plan: &Plan) -> Result<Vec<Figure>, Fault> {
+    let alloc = rt.alloc();
+    let mut manager = filled(rt, plan, plan.updated_records())?;
+    let ids = ids_of(alloc, &mut manager)?;
+    for number in 0..plan.count {
+        update_and_commit(alloc, &mut manager, plan, &ids, number)?;
+    }
+    begin(alloc, &mut manager)?;
+    update_one(alloc, &mut manager, plan, &ids, plan.count)?;
+    let figures = [Figure::whole("crash", plan.count, "acknowledged_updates")];
+    Ok(Vec::from_slice(alloc, &figures)?)
+}
+
+fn recover(rt: &HostRuntime, plan: &Plan) -> Result<Vec<Figure>, Fault> {
+    let start = now(rt)?;
+    let manager = open_manager(rt, plan)?;
+    let nanos = nanos_since(rt, &start)?;
+    let report = manager.report();
+    let figures = [
+        Figure::ratio(
+            "recover",
+            nanos,
+            report.read,
+            1,
+            "microseconds_per_log_record",
+        ),
+        Figure::whole("recover_log", report.read, "records"),
+        Figure::whole("recover_redone", report.redone, "records"),
+        Figure::ratio("recover_open", nanos, MILLION, 1_000, "milliseconds"),
+    ];
+    Ok(Vec::from_slice(rt.alloc(), &figures)?)
+}
+
+fn verify(rt: &HostRuntime, plan: &Plan) -> Result<Vec<Figure>, Fault> {
+    let mut manager = open_manager(rt, plan)?;
+    let pairs = manager.dump(rt.alloc(), STORE)?;
+    check(rt.alloc(), plan, &pairs)?;
+    let figures = [Figure::whole("verify", pairs.len() as u64, "records_as_acknowledged")];
+    Ok(Vec::from_slice(rt.alloc(), &figures)?)
+}
+
+fn lose(rt: &HostRuntime, plan: &Plan) -> Result<Vec<Figure>, Fault> {
+    let alloc = rt.alloc();
+    let mut manager = filled(rt, plan, plan.updated_records())?;
+    let ids = ids_of(alloc, &mut manager)?;
+    begin(alloc, &mut manager)?;
+    for number in 0..plan.count {
+        update_one(alloc, &mut manager, plan, &ids, number)?;
+    }
+    force(alloc, &mut manager)?;
+    write_back(alloc, &mut manager)?;
+    let figures = [Figure::whole("lose", plan.count, "undecided_updates")];
+    Ok(Vec::from_slice(alloc, &figures)?)
+}
+
+fn undo(rt: &HostRuntime, plan: &Plan) -> Result<Vec<Figure>, Fault> {
+    let start = now(rt)?;
+    let mut manager = open_manager(rt, plan)?;
+    let nanos = nanos_since(rt, &start)?;
+    let report = manager.report();
+    let (forced, _) = manager.records();
+    let logged = (forced.len() as u64).saturating_sub(report.read);
+    let pairs = manager.dump(rt.alloc(), STORE)?;
+    check_undone(rt.alloc(), plan, &pairs)?;
+    let figures = [
+        Figure::ratio("undo", nanos, plan.count, 1, "microseconds_per_update"),
+        Figure::whole("undo_log", report.read, "records"),
+        Figure::whole("undo_redone", report.redone, "records"),
+        Figure::whole("undo_logged", logged, "records"),
+        Figure::ratio("undo_open", nanos, MILLION, 1_000, "milliseconds"),
+        Figure::whole("undo_shown", pairs.len() as u64, "records_as_before"),
+    ];
+    Ok(Vec::from_slice(rt.alloc(), &figures)?)
+}
+
+// Each record tells what its insert did, and none is missing.
+fn check_undone(alloc: Global, plan: &Plan, pairs: &Pairs) -> Result<(), Fault> {
+    if pairs.len() as u64 != plan.updated_records() {
+        return Err(Fault::NoRecord);
+    }
+    for index in 0..pairs.len() {
+        let wanted = bytes(alloc, index as u64, plan.size)?;
+        match pairs.get(index) {
+            Some((_, found)) if found == wanted.as_slice() => {}
+            _ => return Err(Fault::NoRecord),
+        }
+    }
+    Ok(())
+}
+
+// Each record tells the last update of it that was acknowledged, and none is missing.
+fn check(alloc: Global, plan: &Plan, pairs: &Pairs) -> Result<(), Fault> {
+    let records = plan.updated_records();
+    if pairs.len() as u64 != records {
+        return Err(Fault::NoRecord);
+    }
+    for index in 0..pairs.len() {
+        let wanted = bytes(
+            alloc,
+            told(plan, last_update(plan, index as u64)),
+            plan.size,
+        )?;
+        match pairs.get(index) {
+            Some((_, found)) if found == wanted.as_slice() => {}
+            _ => return Err(Fault::NoRecord),
+        }
+    }
+    Ok(())
+}
+
+// The last of the updates that is of a record.
+fn last_update(plan: &Plan, record: u64) -> u64 {
+    let records = plan.updated_records().max(1);
+    let rounds = plan.count.saturating_sub(record.saturating_add(1)) / records;
+    record.saturating_add(rounds.saturating_mul(records))
+}

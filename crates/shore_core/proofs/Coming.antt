@@ -1,0 +1,215 @@
+-- What a call that reads pages leaves of a state and of its store: others may have been written back.
+use Rattle.std.proofs.Common.{◌≡◌, ◌⊎◌, ◌++◌, ◌∷◌, ◌∙◌, inl, inr, ℕ, List, [], Bool, Result, Ok, Err, IsErrAnd, MatchResult, true, false, refl, sym, ap, subst, length-append, map, arith}
+use Rattle.shore_types.specs.declared.faults.Fault.{Fault}
+use Rattle.shore_types.specs.declared.faults.Fault.TheVariants as fault
+use Rattle.shore_model.specs.declared.log_records.LogRecord.{LogRecord}
+use Rattle.shore_disk.specs.declared.device.Disk as disk
+use Rattle.shore_log.specs.declared.tail.Tail as tail
+use Rattle.shore_page.specs.Slots.{Slot, settled}
+use Rattle.shore_page.specs.Text.{images_of}
+use Rattle.shore_heap.specs.Contents.{AreKept, FitIn, claimed_by}
+use Rattle.shore_txn.proofs.KeptLemmas.{back_again, fit_again}
+use Rattle.shore_heap.specs.Heaps as heaps
+use Rattle.shore_heap.specs.Heaps.{KeepsSlots, Shows}
+use Rattle.shore_lives.specs.ManagerSteps.{WorksTo}
+use Rattle.shore_recovery.specs.Recovery.{AppendRecord, LeadsTo, RecoveryEvent, RecoveryState, after_append}
+use Rattle.shore_recovery.proofs.Invariant.{event_kept}
+use Rattle.shore_lives.proofs.Works.{all_work}
+use Rattle.shore_logged.proofs.Flushes.{work_of}
+use Rattle.shore_logged.proofs.Stores.{store_over}
+use Rattle.shore_logged.specs.LoggedHeaps.{IsStoreOf}
+use Rattle.shore_heap.specs.declared.heap.Heap.{Heap}
+use Rattle.shore_heap.proofs.Showing.{shows_told}
+use Rattle.shore_pool.proofs.Same.{pages_stay}
+use Rattle.shore_pool.specs.Pages.{SamePages}
+use Rattle.shore_txn.specs.declared.table.TxnTable.{TxnTable}
+use Rattle.shore_types.specs.declared.ids.PageId.{PageId}
+use Rattle.shore_calls.specs.States.{State, page_slots}
+use Rattle.shore_txn.specs.Tables.{active_in, kept_in, undos_in}
+use Rattle.shore_room.specs.Claims.{Claimed, slots_of}
+use Rattle.shore_core.specs.declared.core_calls.Core.{Core}
+use Rattle.shore_core.specs.Cores.{ComesTo, IsBeside, IsIn, IsKept, IsOver, IsSafe, durable_of, geometry_of, has_failed, heap_of, tail_of, txns_of, waiting_of}
+use Rattle.shore_core.specs.Parts.{HasParts}
+use Rattle.shore_core.specs.Replies.{OnlyReads, Stays}
+
+-- a state runs, or has failed
+pub runs_or_failed : (b : Bool) → (b ≡ false) ⊎ (b ≡ true)
+runs_or_failed false = inl refl
+runs_or_failed true = inr refl
+
+pub never_both : {P : Type 0} (b : Bool) → b ≡ true → b ≡ false → P
+never_both b fails works = absurd (clash (sym fails ∙ works))
+  where
+    clash : true ≡ false → ⊥
+    clash e = cc
+
+-- the store is the state's, if it was before such works
+pub kept_after : (s : State) (store later : RecoveryState) (works : List RecoveryEvent) → IsKept s store → WorksTo store works later → later.log ≡ store.log → later.durable ≡ store.durable → IsKept s later
+kept_after s store later works kept work log durable =
+    let worked = all_work store works later kept.recoverable kept.redone work in
+    record {
+      stored = record { log = log ∙ kept.stored.log; durable = durable ∙ kept.stored.durable };
+      redone = worked.redone;
+      recoverable = worked.recoverable;
+    }
+
+module _ {T V : Type 0} {G : tail.Ghosts T} {H : disk.Ghosts V} where
+  -- beside its pages the core is that of the state
+  pub beside_same : (old new : Core T V G H) (before : List LogRecord) (s : State) → tail_of new ≡ tail_of old → txns_of new ≡ txns_of old → durable_of new ≡ durable_of old
+      → has_failed new ≡ has_failed old → IsBeside before old s → IsBeside before new s
+  beside_same old new before s tail txns durable failed was = record {
+    first = ap G.first tail ∙ was.first;
+    parts =
+        subst (λ t. HasParts t (waiting_of new) (durable_of new) (has_failed new) before s) (sym txns)
+        (subst (λ l. HasParts (txns_of old) (G.records l) (durable_of new) (has_failed new) before s) (sym tail)
+        (subst (λ d. HasParts (txns_of old) (waiting_of old) d (has_failed new) before s) (sym durable)
+        (subst (λ b. HasParts (txns_of old) (waiting_of old) (durable_of old) b before s) (sym failed) was.parts)));
+  }
+
+  -- nothing was done
+  pub comes_same : (new : Core T V G H) (front : List ℕ) (disk : ℕ → List ℕ) (before : List LogRecord) (s : State) (store : RecoveryState)
+      → IsIn front disk before new s → IsOver disk new s store → ComesTo new front before store s
+  comes_same new front disk before s store is over = record { left = disk; is_in = is; works = []; after = store; work = refl; over = over }
+
+  -- a core that has failed is in each state beside
+  pub comes_failed : (new : Core T V G H) (front : List ℕ) (before : List LogRecord) (s : State) (store : RecoveryState) → s.failed ≡ true
+      → IsBeside before new s → IsKept s store → ComesTo new front before store s
+  comes_failed new front before s store fails beside kept = record {
+    left = λ k. [];
+    is_in = record { beside = beside; pages = λ works. never_both s.failed fails works };
+    works = [];
+    after = store;
+    work = refl;
+    over = record { kept = kept; pages = λ works. never_both s.failed fails works };
+  }
+
+  module _ (old new : Core T V G H) (front : List ℕ) (disk : ℕ → List ℕ) (before : List LogRecord) (s : State) (store : RecoveryState)
+      (is : IsIn front disk before old s) (over : IsOver disk old s store) (reads : OnlyReads old new) where
+    beside : IsBeside before new s
+    beside = beside_same old new before s reads.tail reads.txns reads.durable reads.failed is.beside
+
+    pub read_failed : s.failed ≡ true → ComesTo new front before store s
+    read_failed fails = comes_failed new front before s store fails beside over.kept
+
+    -- pages were written back, and all are in place as they were
+    pub read_running : s.failed ≡ false → KeepsSlots (kept_in (txns_of old)) (heap_of old) (heap_of new) (durable_of old) front disk (page_slots s) → ComesTo new front before store s
+    read_running works (left, shows, stay) =
+        let durable : durable_of old ≡ store.durable = sym (over.kept.stored.durable ∙ is.beside.parts.durable_is) in
+        let back = work_of (heap_of old) (heap_of new) (durable_of old) disk left store (over.pages works) stay (omega (arith, durable)) reads.volume.geometry in
+        record {
+          left = left;
+          is_in = record { beside = beside; pages = λ w. subst (λ t. Shows (kept_in t) (heap_of new) front left (page_slots s)) (sym reads.txns) shows };
+          works = back.0;
+          after = back.1;
+          work = back.2;
+          over = record { kept = kept_after s store back.1 back.0 over.kept back.2 back.5 back.6; pages = λ w. back.4 };
+        }
+
+    -- .. by a call that was not refused, or was for another reason than the device
+    pub stays_read : {A : Type 0} (r : Result A Fault) → (s.failed ≡ false → MatchResult r (λ _. KeepsSlots (kept_in (txns_of old)) (heap_of old) (heap_of new) (durable_of old) front disk (page_slots s))
+        (λ f. (f ≡ fault.Device) ⊎ KeepsSlots (kept_in (txns_of old)) (heap_of old) (heap_of new) (durable_of old) front disk (page_slots s))) → Stays new r front before s store
+    stays_read (Ok x) kept = elim (runs_or_failed s.failed) [ inl works ↦ read_running works (kept works) | inr fails ↦ read_failed fails ]
+    stays_read (Err f) kept = elim (runs_or_failed s.failed) [
+      | inl works ↦ elim (kept works) [ inl device ↦ inl (device, beside) | inr slots ↦ inr (read_running works slots) ]
+      | inr fails ↦ inr (read_failed fails)
+    ]
+
+-- the pages of a safe state may leave their frames
+pub pages_may_go : {T V : Type 0} {G : tail.Ghosts T} {H : disk.Ghosts V} (core : Core T V G H) (before : List LogRecord) (s : State) → IsBeside before core s → IsSafe (geometry_of core) s
+    → AreKept (geometry_of core) (kept_in (txns_of core)) (page_slots s)
+pages_may_go core before s was safe id has =
+    let undos : undos_in (txns_of core) ≡ s.sessions.active = sym was.parts.txns.active in
+    let claimed = subst (λ us. Claimed s.sessions.records us s.counts) (sym undos) safe.roomy.pages in
+    let active = active_in (txns_of core) in
+    subst (λ us. (slots_of s.sessions.records us id (s.counts id) ≡ claimed_by (kept_in (txns_of core) id) (map settled (images_of (slots_of s.sessions.records us id (s.counts id)))))
+    × FitIn (kept_in (txns_of core) id) (map settled (images_of (slots_of s.sessions.records us id (s.counts id))))) undos
+    (back_again active s.sessions.records s.counts id claimed, fit_again active s.sessions.records s.counts id claimed)
+
+-- ---- stays
+
+module _ {T V : Type 0} {G : tail.Ghosts T} {H : disk.Ghosts V} (new : Core T V G H) (front : List ℕ) (before : List LogRecord) (s : State) (store : RecoveryState) where
+  -- a call that was refused
+  abbrev pub StaysRefused : Fault → Type 0
+  StaysRefused f = ((f ≡ fault.Device) × IsBeside before new s) ⊎ ComesTo new front before store s
+
+  pub stays_beside : (f : Fault) → StaysRefused f → IsBeside before new s
+  stays_beside f (inl device) = device.1
+  stays_beside f (inr comes) = comes.is_in.beside
+
+  -- .. and not for the device
+  pub stays_comes : (f : Fault) → (f ≡ fault.Device → ⊥) → StaysRefused f → ComesTo new front before store s
+  stays_comes f other (inl device) = absurd (other device.0)
+  stays_comes f other (inr comes) = comes
+
+  -- a fault that is handed on
+  pub stays_as : {A : Type 0} (r : Result A Fault) (f : Fault) → IsErrAnd r (λ e. e ≡ f) → StaysRefused f → Stays new r front before s store
+  stays_as (Err e) f same stays = subst StaysRefused (sym same) stays
+  stays_as (Ok x) f same stays = absurd same
+
+-- ---- a state and a store over the same pages
+
+module _ {T V : Type 0} {G : tail.Ghosts T} {H : disk.Ghosts V} where
+  -- the heap is the same, and the state has the same log
+  pub over_as : (old new : Core T V G H) (disk : ℕ → List ℕ) (s later : State) (store : RecoveryState) → heap_of new ≡ heap_of old → later.log ≡ s.log → later.durable ≡ s.durable → later.failed ≡ s.failed
+      → IsOver disk old s store → IsOver disk new later store
+  over_as old new disk s later store heap log durable failed over = record {
+    kept = record { stored = record { log = over.kept.stored.log ∙ sym log; durable = over.kept.stored.durable ∙ sym durable }; redone = over.kept.redone; recoverable = over.kept.recoverable };
+    pages = λ works. subst (λ h. IsStoreOf h disk store) (sym heap) (over.pages (sym failed ∙ works));
+  }
+
+-- ---- one call after another
+
+works_then : (s mid last : RecoveryState) (one two : List RecoveryEvent) → WorksTo s one mid → WorksTo mid two last → WorksTo s (one ++ two) last
+works_then s mid last [] two first second = subst (λ x. WorksTo x two last) first second
+works_then s mid last (e ∷ one) two first second = (first.0, first.1, first.2, works_then first.1 mid last one two first.3 second)
+
+pub comes_then : {T V : Type 0} {G : tail.Ghosts T} {H : disk.Ghosts V} (mid new : Core T V G H) (front : List ℕ) (before : List LogRecord) (s later : State) (store : RecoveryState)
+    → (one : ComesTo mid front before store s) → ComesTo new front before one.after later → ComesTo new front before store later
+comes_then mid new front before s later store one two = record {
+  left = two.left;
+  is_in = two.is_in;
+  works = one.works ++ two.works;
+  after = two.after;
+  work = works_then store one.after two.after one.works two.works one.work two.work;
+  over = two.over;
+}
+
+-- ---- a record
+
+module _ {T V : Type 0} {G : tail.Ghosts T} {H : disk.Ghosts V} (new : Core T V G H) (front : List ℕ) (disk : ℕ → List ℕ) (before : List LogRecord) (s later : State) (store : RecoveryState) (r : LogRecord) where
+  -- a record was appended, and done on its page
+  pub comes_appended : IsKept s store → later.log ≡ s.log ++ r ∷ [] → later.durable ≡ s.durable → IsIn front disk before new later
+      → (later.failed ≡ false → IsStoreOf (heap_of new) disk (after_append store r)) → ComesTo new front before store later
+  comes_appended kept log durable is pages =
+      let leads : LeadsTo store (AppendRecord r) (after_append store r) = (kept.redone, refl) in
+      let long = length-append store.log (r ∷ []) in
+      record {
+        left = disk;
+        is_in = is;
+        works = AppendRecord r ∷ [];
+        after = after_append store r;
+        work = (tt, after_append store r, leads, refl);
+        over = record {
+          kept = record {
+            stored = record { log = ap (λ l. l ++ r ∷ []) kept.stored.log ∙ sym log; durable = kept.stored.durable ∙ sym durable };
+            redone = omega (arith, kept.redone, long);
+            recoverable = event_kept store (AppendRecord r) (after_append store r) kept.recoverable leads;
+          };
+          pages = pages;
+        };
+      }
+
+-- a table that keeps as much as another
+pub pages_told : {V : Type 0} {H : disk.Ghosts V} (heap : Heap V H) (table new : TxnTable) (front : List ℕ) (disk : ℕ → List ℕ) (S : PageId → List Slot)
+    → ((p : PageId) → kept_in new p ≡ kept_in table p) → Shows (kept_in table) heap front disk S → Shows (kept_in new) heap front disk S
+pages_told heap table new front disk S same shows = shows_told heap (kept_in table) (kept_in new) front disk S (λ p has none. same p) shows
+
+-- the frames are the same
+pub same_store : {V : Type 0} {H : disk.Ghosts V} (old new : Heap V H) (disk : ℕ → List ℕ) (store : RecoveryState) → ((k : ℕ) → heaps.frame_at new k ≡ heaps.frame_at old k) → heaps.geometry_of new ≡ heaps.geometry_of old
+    → IsStoreOf old disk store → IsStoreOf new disk store
+same_store old new disk store frames geometry over = store_over old new disk disk store over geometry store.volume (pages_stay (heaps.frame_at old) (heaps.frame_at new) disk frames) over.volume
+
+-- the pages are the same, be they in frames or not
+pub pages_same : {V : Type 0} {H : disk.Ghosts V} (old new : Heap V H) (disk : ℕ → List ℕ) (store : RecoveryState) → SamePages (heaps.frame_at old) disk (heaps.frame_at new) disk → heaps.geometry_of new ≡ heaps.geometry_of old
+    → IsStoreOf old disk store → IsStoreOf new disk store
+pages_same old new disk store same geometry over = store_over old new disk disk store over geometry store.volume same over.volume

@@ -1,0 +1,78 @@
+use Rattle.std.proofs.Common.{◌≡◌, ◌⊎◌, ◌-◌, inl, inr, Ok, Err, refl, sym, ap, ◌∙◌, arith}
+use Rattle.shore_types.specs.declared.faults.Fault.{Fault}
+use Rattle.shore_types.specs.declared.faults.Fault.TheVariants as fault
+use Rattle.shore_pool.specs.Pools.{NeedsForce}
+use Rattle.shore_heap.specs.Places.{HasNoPlace, IsPlace}
+use Rattle.shore_heap.proofs.Finding.{if_none_at, if_some_at}
+use Rattle.shore_calls.specs.Refusals.{IsPageFault}
+use Rattle.shore_calls.specs.States.{page_slots}
+use Rattle.shore_core.specs.Cores.{durable_of, geometry_of, heap_of, last_of}
+use Rattle.shore_core.proofs.Coming.{pages_may_go, stays_as, stays_read}
+use Rattle.shore_core.proofs.Forcing.{forced_as, store_fault, store_force}
+use Rattle.shore_core.proofs.Pairs.{match_as}
+use Rattle.shore_core.proofs.Earning.{earned_as, store_earned}
+use Rattle.shore_core.proofs.core_calls.Core.find_place.Goals as goal
+
+pub returns-in-Some-clause-found : goal.returns-in-Some-clause-found
+returns-in-Some-clause-found g c running front disk before s plain is safe over =
+    let old = c.args.self.now in
+    let works = is.beside.parts.failed_is ∙ running in
+    if_some_at (IsPlace (geometry_of old) (page_slots s) c.args.store c.args.len) c.in_ok-place.place c.in-Some.id c.in-Some.is
+    (c.in_ok-place.ensures.found front disk (page_slots s) (is.pages works) (inr (pages_may_go old before s is.beside safe)))
+
+pub returns-in-None-clause-found : goal.returns-in-None-clause-found
+returns-in-None-clause-found g c running front disk before s plain is safe over =
+    let old = c.args.self.now in
+    let works = is.beside.parts.failed_is ∙ running in
+    inl (
+      refl,
+      if_none_at (HasNoPlace (geometry_of old) (page_slots s) c.args.store c.args.len) c.in_ok-place.place c.in-None.is
+          (c.in_ok-place.ensures.none front disk (page_slots s) (is.pages works) (inr (pages_may_go old before s is.beside safe))),
+    )
+
+pub returns-in_err-place-clause-found : goal.returns-in_err-place-clause-found
+returns-in_err-place-clause-found g c running front disk before s plain is safe over =
+    let old = c.args.self.now in
+    let works = is.beside.parts.failed_is ∙ running in
+    match_as (IsPlace (geometry_of old) (page_slots s) c.args.store c.args.len)
+    (λ (f : Fault). ((f ≡ fault.StoreFull) × HasNoPlace (geometry_of old) (page_slots s) c.args.store c.args.len) ⊎ (f ≡ fault.Memory) ⊎ IsPageFault s f) c.from_residual.result _ c.from_residual.ensures.1
+    (inr (store_fault (heap_of old) s plain disk over.kept (over.pages works) (durable_of old) _ c.args.store _ (sym is.beside.parts.durable_is)
+    (c.in_err-place.ensures.refused front disk (is.pages works).holds (omega (arith, old.forced, c.last.view_is, c.next.ensures)))))
+
+pub returns-in-Some-clause-stays : goal.returns-in-Some-clause-stays
+returns-in-Some-clause-stays g c front disk before s plain is safe over =
+    stays_read c.args.self.now _ front disk before s plain is over (record { volume = record { geometry = c.place_for.ensures.geometry; honest = c.place_for.ensures.honest; size = c.place_for.ensures.size }; durable = refl; failed = refl; tail = refl; txns = refl }) (Ok c.in_ok-place.place)
+    (λ runs. c.in_ok-place.ensures.kept front disk (page_slots s) (is.pages runs) (pages_may_go c.args.self.now before s is.beside safe))
+
+pub returns-in-None-clause-stays : goal.returns-in-None-clause-stays
+returns-in-None-clause-stays g c front disk before s plain is safe over =
+    inr (stays_read c.args.self.now _ front disk before s plain is over (record { volume = record { geometry = c.place_for.ensures.geometry; honest = c.place_for.ensures.honest; size = c.place_for.ensures.size }; durable = refl; failed = refl; tail = refl; txns = refl }) (Ok c.in_ok-place.place)
+    (λ runs. c.in_ok-place.ensures.kept front disk (page_slots s) (is.pages runs) (pages_may_go c.args.self.now before s is.beside safe)))
+
+pub returns-in_err-place-clause-stays : goal.returns-in_err-place-clause-stays
+returns-in_err-place-clause-stays g c front disk before s plain is safe over =
+    stays_as _ front before s plain c.from_residual.result _ c.from_residual.ensures.1
+    (stays_read c.args.self.now _ front disk before s plain is over (record { volume = record { geometry = c.place_for.ensures.geometry; honest = c.place_for.ensures.honest; size = c.place_for.ensures.size }; durable = refl; failed = refl; tail = refl; txns = refl }) {A = Unit {0}} (Err c.in_err-place.field-0.0)
+    (λ runs. c.in_err-place.ensures.kept front disk (page_slots s) (is.pages runs) (pages_may_go c.args.self.now before s is.beside safe)))
+
+pub returns-in_err-place-clause-damaged : goal.returns-in_err-place-clause-damaged
+returns-in_err-place-clause-damaged g c front disk holds =
+    let old = c.args.self.now in
+    earned_as (geometry_of old) disk (last_of old) (λ page. page.store ≡ c.args.store) c.from_residual.result _ c.from_residual.ensures.1
+    (store_earned (geometry_of old) disk (last_of old) (λ page. page.store ≡ c.args.store) (NeedsForce (heap_of old).pool (durable_of old)) c.args.store _ _ (ap (λ n. n - 1) (c.last.view_is ∙ c.next.ensures)) (λ id of_store. of_store)
+    (c.in_err-place.ensures.refused front disk holds (omega (arith, old.forced, c.last.view_is, c.next.ensures))))
+
+pub returns-in_err-place-clause-forced : goal.returns-in_err-place-clause-forced
+returns-in_err-place-clause-forced g c front disk holds =
+    let old = c.args.self.now in
+    forced_as (NeedsForce (heap_of old).pool (durable_of old)) c.from_residual.result _ c.from_residual.ensures.1
+    (store_force (heap_of old) (durable_of old) (geometry_of old) disk _ c.args.store _ (c.in_err-place.ensures.refused front disk holds (omega (arith, old.forced, c.last.view_is, c.next.ensures))))
+
+pub returns-in-Some-clause-reads : goal.returns-in-Some-clause-reads
+returns-in-Some-clause-reads g c = record { volume = record { geometry = c.place_for.ensures.geometry; honest = c.place_for.ensures.honest; size = c.place_for.ensures.size }; durable = refl; failed = refl; tail = refl; txns = refl }
+
+pub returns-in-None-clause-reads : goal.returns-in-None-clause-reads
+returns-in-None-clause-reads g c = record { volume = record { geometry = c.place_for.ensures.geometry; honest = c.place_for.ensures.honest; size = c.place_for.ensures.size }; durable = refl; failed = refl; tail = refl; txns = refl }
+
+pub returns-in_err-place-clause-reads : goal.returns-in_err-place-clause-reads
+returns-in_err-place-clause-reads g c = record { volume = record { geometry = c.place_for.ensures.geometry; honest = c.place_for.ensures.honest; size = c.place_for.ensures.size }; durable = refl; failed = refl; tail = refl; txns = refl }

@@ -1,0 +1,55 @@
+-- What a step of the flush is answered, and what it leaves.
+use Rattle.std.specs.Prelude.{◌≡◌, ◌⊎◌, ◌<◌, ℕ, List, [], ◌∷◌, IsTrue, false}
+use Rattle.shore_types.specs.declared.faults.Fault.TheVariants as fault
+use Rattle.shore_model.specs.declared.calls.Answer.TheVariants.{Flushed}
+use Rattle.shore_model.specs.declared.log_records.LogRecord.{LogRecord}
+use Rattle.shore_disk.specs.declared.device.Disk as disk
+use Rattle.shore_log.specs.declared.tail.Tail as tail
+use Rattle.shore_flush.specs.Flushes.{Flushes, NoneDue}
+use Rattle.shore_heap.specs.Heaps.{bounds_of, frame_at, pool_of}
+use Rattle.shore_recovery.specs.Recovery.{AppendRecord, FlushPage, ForceLog, LosePower, RecoveryEvent, RecoveryState, RedoRecord}
+use Rattle.shore_calls.specs.CallSteps.{with_failure}
+use Rattle.shore_calls.specs.States.{State}
+use Rattle.shore_calls.specs.declared.step.Step.{Step}
+use Rattle.shore_calls.specs.declared.step.Step.TheVariants.{Done, Waits, Refused, Nothing}
+use Rattle.shore_core.specs.declared.core_calls.Core.{Core}
+use Rattle.shore_core.specs.Cores.{ComesTo, durable_of, has_failed, heap_of}
+
+-- the state is what it was, but that a failure of the volume is noted; once a device has failed the step is refused
+abbrev pub FlushMoves : State → Step → State → Type 0
+FlushMoves s (Done answer) new = (s.failed ≡ false) × ((count : ℕ) × (0 < count) × (answer ≡ Flushed count)) × (new ≡ s)
+FlushMoves s (Waits wait) new = ⊥
+FlushMoves s (Refused f) new =
+    (IsTrue s.failed × (f ≡ fault.Failed) × (new ≡ s))
+    ⊎ ((s.failed ≡ false) × (((f ≡ fault.Memory) × (new ≡ s)) ⊎ ((f ≡ fault.Device) × (new ≡ with_failure s))))
+FlushMoves s Nothing new = (s.failed ≡ false) × (new ≡ s)
+
+-- works that write pages back, and do nothing else
+abbrev pub IsFlush : RecoveryEvent → Type 0
+IsFlush (FlushPage p) = Unit {0}
+IsFlush (AppendRecord r) = ⊥
+IsFlush (ForceLog n) = ⊥
+IsFlush RedoRecord = ⊥
+IsFlush (LosePower n left begin) = ⊥
+
+abbrev pub AreFlushes : List RecoveryEvent → Type 0
+AreFlushes [] = Unit {0}
+AreFlushes (e ∷ works) = IsFlush e × AreFlushes works
+
+module _ {T V : Type 0} {G : tail.Ghosts T} {H : disk.Ghosts V} where
+  -- it has come to another state by such a step, and its store to another by flushes of pages alone
+  pub record FlushSteps (step : Step) (new : Core T V G H) (front : List ℕ) (before : List LogRecord) (s : State) (store : RecoveryState) : Type 0 where
+    pub later : State
+    pub moves : FlushMoves s step later
+    pub comes : ComesTo new front before store later
+    pub flushes : AreFlushes comes.works
+
+  -- Pages with durable numbers were written, the first of the volume that are due, and are clean now: the answer counts them. Or none is due, and
+  -- nothing has changed. A refusal has changed no frame.
+  abbrev pub FlushAnswers : Core T V G H → Step → Core T V G H → Type 0
+  FlushAnswers old (Done answer) new = (count : ℕ) × (0 < count) × (answer ≡ Flushed count) × Flushes (pool_of (heap_of old)) (pool_of (heap_of new)) (durable_of old) count
+  FlushAnswers old (Waits wait) new = ⊥
+  FlushAnswers old (Refused f) new =
+      ((IsTrue (has_failed old) × (f ≡ fault.Failed)) ⊎ (f ≡ fault.Device) ⊎ (f ≡ fault.Memory)) × ((k : ℕ) → frame_at (heap_of new) k ≡ frame_at (heap_of old) k)
+  FlushAnswers old Nothing new =
+      NoneDue (pool_of (heap_of old)) (durable_of old) × (pool_of (heap_of new) ≡ pool_of (heap_of old)) × (bounds_of (heap_of new) ≡ bounds_of (heap_of old))

@@ -1,0 +1,73 @@
+//! The flush: dirty pages go back to the volume between the calls of sessions.
+ghost use Rattle.std.specs.Prelude.{◌≡◌, ◌⊎◌, ◌↔◌, ℕ, List, IsErrAnd, IsTrue, MatchResult};
+ghost use Rattle.shore_types.specs.declared.faults.Fault.TheVariants as Fault;
+ghost use Rattle.shore_disk.specs.Cause.{HasCause};
+ghost use Rattle.shore_pool.specs.Pools.{Holds};
+ghost use Rattle.shore_heap.specs.Heaps.{WroteBack, pool_of};
+ghost use Rattle.shore_calls.specs.declared.step.Step.TheVariants as Step;
+
+use crate::core_calls::Core;
+use shore_calls::Step;
+use shore_disk::Disk;
+use shore_log::Tail;
+use shore_model::Answer;
+use shore_types::Fault;
+use std::alloc::Global;
+
+impl<T: Tail, V: Disk> Core<T, V> {
+    ghost use Rattle.shore_core.specs.Cores.{durable_of, faults_of, first_of, has_failed, heap_of, tail_of, txns_of};
+    ghost use Rattle.shore_core.specs.Flushing.{FlushAnswers, FlushSteps};
+    ghost use Rattle.shore_core.specs.Replies.{InEach, MayLeave, SameVolume, fault_at};
+
+    /// A step of the flush: writes a batch of dirty pages with durable numbers back, the first of the volume, and answers how many. `Nothing` if no
+    /// page is due: then nothing has changed. `Failed` after a failure of a device or a damaged page. `Memory` if an allocation failed: no frame has
+    /// changed. After `Device` every later call is refused.
+    pub fn flush_step(&mut self, alloc: Global) -> Step
+        // In whatever state it was, it is in the same, but for a failure. The store beside it comes to another by flushes of pages alone.
+        ensures step { InEach (λ front disk before s store. FlushSteps result self.new front before s store) self.old }
+        ensures answers { FlushAnswers self.old result self.new }
+        ensures failed { IsTrue (has_failed self.old) → result ≡ Step.Refused Fault.Failed }
+
+        // What is clean is on the volume; so what was counted is, as long as the volume has not failed.
+        ensures written { (front : List ℕ) (disk : ℕ → List ℕ) → Holds (pool_of (heap_of self.old)) front disk
+            → MatchResult (fault_at result) (λ _. WroteBack (heap_of self.old) (heap_of self.new) (durable_of self.old) front disk)
+            (λ f. (f ≡ Fault.Device) ⊎ WroteBack (heap_of self.old) (heap_of self.new) (durable_of self.old) front disk) }
+
+        // At any moment a page of the volume is as it was, or as it was in place with a durable number.
+        ensures any_moment { MayLeave self.old self.new }
+
+        // After a failure no page is touched.
+        ensures still { IsTrue (has_failed self.old) → heap_of self.new ≡ heap_of self.old }
+        ensures fails { IsTrue (has_failed self.new) ↔ (IsTrue (has_failed self.old) ⊎ IsErrAnd (fault_at result) (λ f. f ≡ Fault.Device)) }
+        ensures volume { SameVolume self.old self.new }
+        ensures durable { durable_of self.new ≡ durable_of self.old }
+        ensures first { first_of self.new ≡ first_of self.old }
+        ensures tail { tail_of self.new ≡ tail_of self.old }
+        ensures txns { txns_of self.new ≡ txns_of self.old }
+        ensures cause { HasCause (fault_at result) (faults_of self.old) (faults_of self.new) }
+    {
+        if self.failed {
+            return Step::Refused(Fault::Failed);
+        }
+        match self.heap.flush(alloc, self.durable) {
+            Ok(0) => Step::Nothing,
+            Ok(count) => Step::Done(Answer::Flushed(count)),
+            Err(fault) => self.refuse_flush(fault),
+        }
+    }
+
+    // After a failure of the volume every call is refused.
+    fn refuse_flush(&mut self, fault: Fault) -> Step
+        ensures refused { result ≡ Step.Refused fault }
+        ensures fails { IsTrue (has_failed self.new) ↔ (IsTrue (has_failed self.old) ⊎ (fault ≡ Fault.Device)) }
+        ensures heap { heap_of self.new ≡ heap_of self.old }
+        ensures durable { durable_of self.new ≡ durable_of self.old }
+        ensures tail { tail_of self.new ≡ tail_of self.old }
+        ensures txns { txns_of self.new ≡ txns_of self.old }
+    {
+        if matches!(fault, Fault::Device) {
+            self.failed = true;
+        }
+        Step::Refused(fault)
+    }
+}

@@ -1,5 +1,0 @@
-use Rattle.shore_heap.proofs.Fitting.{fit_in_room}
-use Rattle.shore_heap.proofs.laws.claims_with_room_fit.Goals as goal
-
-pub returns : goal.returns
-returns c = fit_in_room

@@ -1,0 +1,150 @@
+-- The state that a core over a restart opens in: what the log leaves is in place, and nobody is in a transaction.
+use Rattle.std.proofs.Common.{◌≡◌, ◌+◌, ◌<◌, ℕ, List, [], ◌∷◌, ◌++◌, false, Option, None, Some, refl, sym, ap, subst, ◌∙◌, length, arith, All}
+use Rattle.std.specs.FinMap.{get}
+use Rattle.std.specs.List.{AllByRecursion}
+use Rattle.std.specs.Option.{ForSome}
+use Rattle.std.proofs.lemmas.List.Elements.{recursion_from_All}
+use Rattle.shore_disk.specs.declared.device.Disk as disk
+use Rattle.shore_types.specs.Layout.{HasPage}
+use Rattle.shore_types.specs.declared.ids.PageId.{PageId}
+use Rattle.shore_types.specs.declared.ids.Rid.{Rid}
+use Rattle.shore_model.specs.declared.log_records.LogRecord.{LogRecord}
+use Rattle.shore_model.specs.Logs.{Lawful, image_of_record, records_told}
+use Rattle.shore_sessions.proofs.Lists.{recursion-at, recursion-push}
+use Rattle.shore_sessions.specs.Sessions.{SessionTxn}
+use Rattle.shore_page.specs.Slots.{Slot, settled}
+use Rattle.shore_room.specs.Claims.{rid_on, slots_of}
+use Rattle.shore_room.specs.Settling.{settled_slots}
+use Rattle.shore_room.proofs.Lists.{each_alike}
+use Rattle.shore_room.proofs.Settled.{claims_settled}
+use Rattle.shore_calls.specs.States.{State, page_slots}
+use Rattle.shore_recovery.specs.Recovery.{IsRecoverable, RecoveryState}
+use Rattle.shore_recovery.specs.Undo.{HasNoLosers, IsLoser, IsUndoneTo, undo_record}
+use Rattle.shore_recovery.proofs.Invariant.{redone_whole}
+use Rattle.shore_recovery.proofs.UndoRecords.{undone_lawful}
+use Rattle.shore_recovery.proofs.WritersTold.{leaves_told}
+use Rattle.shore_lives.specs.ManagerSteps.{OpensOver}
+use Rattle.shore_managers.specs.StoredRuns.{IsOpenedOver}
+use Rattle.shore_analysis.specs.Tables.{IsNext}
+use Rattle.shore_analysis.proofs.Counted.{last_is_one}
+use Rattle.shore_bounds.specs.SlotCounts.{slot_count, slots_left}
+use Rattle.shore_txn.specs.declared.table.TxnTable.{TxnTable}
+use Rattle.shore_txn.specs.Tables.{active_in, committing_in, next_in, room_in}
+use Rattle.shore_txn.specs.Txns.{as_session_txns}
+use Rattle.shore_heap.specs.declared.heap.Heap.{Heap}
+use Rattle.shore_heap.specs.Contents.{unclaimed}
+use Rattle.shore_heap.specs.Heaps.{Shows, geometry_of}
+use Rattle.shore_heap.proofs.Showing.{shows_same}
+use Rattle.shore_logged.proofs.SettledSlots.{shows_only, slots_done}
+use Rattle.shore_logged.specs.LoggedHeaps.{IsStoreOf}
+use Rattle.shore_log.specs.declared.tail.Tail as tail
+use Rattle.shore_core.specs.declared.core_calls.Core.{Core}
+use Rattle.shore_core.specs.Cores.{IsIn, IsKept, IsOver}
+use Rattle.shore_core.specs.Parts.{AreCommitting, HasTxns, waiting_for}
+use Rattle.shore_restart.specs.Opened.{OpensIn}
+use Rattle.shore_restart.specs.Room.{IsRoomBehind}
+use Rattle.shore_restart.specs.Standing.{Stands}
+
+-- ---- numbers of transactions
+
+-- records of undo are of transactions that the log had
+pub below_undone : (n : ℕ) (log : List LogRecord) (turns : List ℕ) (last : List LogRecord) → IsUndoneTo log turns last → AllByRecursion (λ r. r.txn < n) log
+    → AllByRecursion (λ r. r.txn < n) last
+below_undone n log [] last undone all = subst (AllByRecursion (λ r. r.txn < n)) (sym undone) all
+below_undone n log (t ∷ turns) last undone all =
+    let one = last_is_one log t undone.0.known in
+    let here = recursion-at (λ (r : LogRecord). r.txn < n) log one.at one.found all one.here in
+    below_undone n (log ++ undo_record log t ∷ []) turns last undone.1
+    (recursion-push (λ (r : LogRecord). r.txn < n) log (undo_record log t) all (subst (λ k. k < n) one.own here))
+
+-- ---- the state
+
+module _ (ready : RecoveryState) (table : TxnTable) (stream_bytes : ℕ) where
+  abbrev pub opened_state : State
+  opened_state = record {
+    sessions = record { records = records_told ready.log; active = []; committing = []; held = []; next_txn = next_in table };
+    counts = slot_count ready.log;
+    log = ready.log;
+    durable = ready.durable;
+    stream_bytes = stream_bytes;
+    waiting = [];
+    failed = false;
+  }
+
+  module _ (kept : IsRecoverable ready) (redone : ready.redone ≡ length ready.log) (lawful : Lawful ready.log) (quiet : HasNoLosers ready.log) where
+    pub opened_over : (found : List LogRecord) (turns : List ℕ) → IsUndoneTo found turns ready.log → IsNext found (next_in table) → IsOpenedOver ready opened_state
+    opened_over found turns undone next = record {
+      sessions = record {
+        records = λ id. sym (redone_whole ready kept redone id.page id.slot ∙ leaves_told ready.log lawful quiet id);
+        active = refl;
+        committing = refl;
+        held = refl;
+        some = next.some;
+        below = below_undone (next_in table) found turns ready.log undone (recursion_from_All (λ (r : LogRecord). r.txn < next_in table) found next.above);
+      };
+      stored = record { log = refl; durable = refl };
+      waiting = refl;
+      running = refl;
+    }
+
+    -- the slots of its pages are those that the log leaves
+    slots_told : (p : PageId) → page_slots opened_state p ≡ slots_left ready.log p
+    slots_told p =
+        sym (claims_settled (records_told ready.log) p (slot_count ready.log p))
+        ∙ each_alike (λ i. settled (get (records_told ready.log) (rid_on p i))) (λ i. settled (image_of_record ready.log (rid_on p i))) 0 (slot_count ready.log p)
+        (λ i least most. ap settled (sym (leaves_told ready.log lawful quiet (rid_on p i))))
+
+    pub opened_shows : {V : Type 0} {H : disk.Ghosts V} (heap : Heap V H) (front : List ℕ) (disk : ℕ → List ℕ) → Stands front disk heap ready
+        → Shows unclaimed heap front disk (page_slots opened_state)
+    opened_shows heap front disk stands =
+        shows_same heap unclaimed front disk stands.slots (page_slots opened_state)
+        (λ p has. slots_told p ∙ sym (slots_done ready p kept (stands.store.done p) redone) ∙ sym (shows_only heap disk ready stands.store stands.settled front stands.slots stands.shows p has))
+        stands.shows
+
+  pub opened_txns : active_in table ≡ None → committing_in table ≡ None → IsRoomBehind ready.log stream_bytes (room_in table)
+      → AllByRecursion (λ r. r.txn < next_in table) ready.log → HasTxns table opened_state
+  opened_txns none no_commit room below = record {
+    active = sym (ap as_session_txns none);
+    committing = λ running. subst (λ o. AreCommitting o []) (sym no_commit) refl;
+    waiting = sym (ap waiting_for no_commit);
+    next = refl;
+    stream = sym room.stream;
+    kept = sym room.kept;
+    last = λ t is. absurd (none_some t (sym none ∙ is));
+    claims = λ t is. absurd (none_some t (sym none ∙ is));
+    below = λ t is. absurd (none_some t (sym none ∙ is));
+    above = below;
+  }
+    where
+      none_some : {A : Type 0} (t : A) → ◌≡◌ {A = Option A} None (Some t) → ⊥
+      none_some t e = cc
+
+-- ---- the core
+
+module _ {T V : Type 0} {G : tail.Ghosts T} {H : disk.Ghosts V} (core : Core T V G H) (heap : Heap V H) (table : TxnTable) (front : List ℕ) (left : ℕ → List ℕ)
+    (found log : List LogRecord) (stream_bytes : ℕ) (ready : RecoveryState) where
+  -- what is made of a heap and a table that a restart has left opens over its store
+  pub opens_in : ready.log ≡ log → Lawful found → (undone : (turns : List ℕ) × IsUndoneTo found turns log) → HasNoLosers log → ready.redone ≡ length ready.log
+      → Stands front left heap ready → active_in table ≡ None → committing_in table ≡ None → IsNext found (next_in table) → IsRoomBehind log stream_bytes (room_in table)
+      → ((s : State) → s.log ≡ ready.log → s.durable ≡ ready.durable → s.failed ≡ false → HasTxns table s → Shows unclaimed heap front left (page_slots s)
+      → IsIn front left s.log core s)
+      → ((s : State) (store : RecoveryState) → IsKept s store → IsStoreOf heap left store → IsOver left core s store) → OpensIn core front left found log stream_bytes ready
+  opens_in same lawful undone quiet redone stands none no_commit next room in_state over_store =
+      let s = opened_state ready table stream_bytes in
+      let here : IsUndoneTo found undone.0 ready.log = subst (IsUndoneTo found undone.0) (sym same) undone.1 in
+      let kept = stands.recoverable in
+      let still_lawful = undone_lawful found undone.0 ready.log here lawful in
+      let quiet_here = subst HasNoLosers (sym same) quiet in
+      let behind = subst (λ (l : List LogRecord). IsRoomBehind l stream_bytes (room_in table)) (sym same) room in
+      let below = below_undone (next_in table) found undone.0 ready.log here (recursion_from_All (λ (r : LogRecord). r.txn < next_in table) found next.above) in
+      record {
+        first = s;
+        opened = opened_over ready table stream_bytes kept redone still_lawful quiet_here found undone.0 here next;
+        counts = λ p. refl;
+        stream = refl;
+        next = next;
+        is_in = subst (λ (l : List LogRecord). IsIn front left l core s) same
+            (in_state s refl refl refl (opened_txns ready table stream_bytes none no_commit behind below)
+            (opened_shows ready table stream_bytes kept redone still_lawful quiet_here heap front left stands));
+        over = over_store s ready (record { stored = record { log = refl; durable = refl }; redone = redone; recoverable = kept }) stands.store;
+      }

@@ -1,0 +1,76 @@
+-- A loser's next record of undo has a text and means what it has to, if the records of its log do.
+use Rattle.std.proofs.Common.{◌≡◌, ◌≤◌, ◌<◌, ◌-◌, ◌^◌, ⊎_elim, ℕ, List, [], ◌∷◌, ◌++◌, Some, ap, subst, length, arith}
+use Rattle.std.specs.Prelude.{All, slice_get}
+use Rattle.std.proofs.lemmas.List.{length-append}
+use Rattle.std.proofs.lemmas.Option.{get_or_from_slice_get, slice_get_within}
+use Rattle.shore_types.specs.Layout.{HasSlot}
+use Rattle.shore_types.specs.declared.ids.Rid.{Rid}
+use Rattle.shore_types.specs.declared.layout.Geometry.{Geometry}
+use Rattle.shore_types.specs.declared.layout.TheConstants.{LAST_OPENED}
+use Rattle.shore_model.specs.declared.unanswered_changes.UnansweredChange.{UnansweredChange}
+use Rattle.shore_model.specs.declared.log_records.LogRecord.{LogRecord}
+use Rattle.shore_model.specs.declared.log_records.Payload.TheVariants.{Change}
+use Rattle.shore_model.specs.Logs.{first_number, id_in, last_of, unanswered, undo_next_of}
+use Rattle.shore_logrec.specs.Text.{Fits, PayloadFits}
+use Rattle.shore_recovery.specs.Undo.{IsLoser, undo_payload, undo_record}
+use Rattle.shore_recovery.specs.UndoChains.{IsUndoChain}
+use Rattle.shore_recovery.proofs.Numbers.{last_own, newest_other}
+use Rattle.shore_recovery.proofs.OneMore.{by_push}
+use Rattle.shore_recovery.proofs.UndoChains.{unanswered_chain}
+use Rattle.shore_recovery.proofs.Writers.{same_or_not}
+use Rattle.shore_analysis.specs.Meant.{AreMeant}
+use Rattle.shore_analysis.proofs.Counted.{last_is_one}
+use Rattle.shore_analysis.proofs.MeantLogs.{AreMeant-push}
+use Rattle.shore_analysis.proofs.Undone.{undo_goes_on, undo_meant}
+use Rattle.shore_restart.proofs.Redoing.{id_meant}
+
+all_at : {A : Type 0} (P : A → Type 0) (xs : List A) (n : ℕ) (x : A) → All P xs → slice_get xs n ≡ Some x → P x
+all_at P xs n x all at = subst P (get_or_from_slice_get xs n x x at) (all n x (slice_get_within xs n x at))
+
+-- the number of a transaction's last record is one of the log
+pub last_low : (log : List LogRecord) (t : ℕ) → last_of t log ≤ length log
+last_low = by_push (λ log. (t : ℕ) → last_of t log ≤ length log) (λ t. omega arith) one_more
+  where
+    one_more : (log : List LogRecord) (r : LogRecord) → ((t : ℕ) → last_of t log ≤ length log) → (t : ℕ) → last_of t (log ++ r ∷ []) ≤ length (log ++ r ∷ [])
+    one_more log r known t =
+        let long = length-append log (r ∷ []) in
+        ⊎_elim
+        (λ own. let last = last_own log r in subst (λ u. last_of u (log ++ r ∷ []) ≤ length (log ++ r ∷ [])) own (omega (arith, last, long)))
+        (λ ne.
+        let before = known t in
+        let same : last_of t (log ++ r ∷ []) ≡ last_of t log = ap first_number (newest_other log r t ne) in
+        omega (arith, before, same, long))
+        (same_or_not r.txn t)
+
+module _ (log : List LogRecord) (t : ℕ) (fit : All Fits log) (short : length log < LAST_OPENED) where
+  next_low : (cs : List UnansweredChange) → IsUndoChain log t cs → undo_next_of cs < 2 ^ 64
+  next_low [] chain = omega arith
+  next_low (c ∷ cs) chain =
+      let within : c.number - 1 < length log = slice_get_within log (c.number - 1) chain.0.found chain.0.here in
+      omega (arith, within, short)
+
+  payload_fits : (cs : List UnansweredChange) → IsUndoChain log t cs → PayloadFits (undo_payload cs)
+  payload_fits [] chain = tt
+  payload_fits (c ∷ cs) chain =
+      let k = chain.0 in
+      let change : PayloadFits (Change c.id c.before k.after) = subst PayloadFits k.says (all_at Fits log (c.number - 1) k.found fit k.here).payload_fits in
+      record { rid = change.rid; image = change.old; next = next_low cs chain.1 }
+
+  pub undo_fits : IsLoser log t → Fits (undo_record log t)
+  undo_fits loser =
+      let one = last_is_one log t loser.known in
+      let last = last_low log t in
+      record {
+        some = loser.is_one;
+        txn_fits = subst (λ u. u < 2 ^ 64) one.own (all_at Fits log one.at one.found fit one.here).txn_fits;
+        previous_fits = omega (arith, last, short);
+        payload_fits = payload_fits (unanswered t log) (unanswered_chain log t);
+      }
+
+-- what it changes lies in the geometry
+pub undo_there : (g : Geometry) (log : List LogRecord) (t : ℕ) → AreMeant g log → IsLoser log t → (id : Rid) → id_in (undo_record log t).payload ≡ Some id → HasSlot g id
+undo_there g log t meant loser id says = id_meant g log t (undo_record log t).payload id (undo_meant g log t meant loser).says says
+
+-- with it the log means what it has to
+pub undo_kept_meant : (g : Geometry) (log : List LogRecord) (t : ℕ) → AreMeant g log → IsLoser log t → AreMeant g (log ++ undo_record log t ∷ [])
+undo_kept_meant g log t meant loser = AreMeant-push g log (undo_record log t) meant (undo_goes_on g log t meant loser)

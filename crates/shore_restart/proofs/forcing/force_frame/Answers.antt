@@ -1,0 +1,28 @@
+use Rattle.std.proofs.Common.{inl, inr, sym, ap, ◌∙◌, Err}
+use Rattle.shore_types.specs.declared.faults.Fault.{Fault}
+use Rattle.shore_restart.proofs.Frames.{frame_forced, frame_stopped}
+use Rattle.shore_restart.proofs.LogErrors.{log_is}
+use Rattle.shore_restart.proofs.Rooms.{fits_frame}
+use Rattle.shore_restart.proofs.forcing.force_frame.Goals as goal
+
+pub returns-in-Ok-clause-forces : goal.returns-in-Ok-clause-forces
+returns-in-Ok-clause-forces g c log_front s rest geometry front volume covered =
+    let settled = c.in-Ok.ensures.settled log_front rest.settled rest.none_staged in
+    frame_forced geometry log_front front volume c.args.log.now c.append_frame.new.self s rest covered c.is_some.result (c.in-Ok.ensures.any_moment log_front rest.settled rest.none_staged)
+    (c.in-Ok.ensures.forced log_front rest.settled rest.none_staged) c.append_frame.ensures.same settled.0 settled.1
+
+pub returns-in-Err-clause-forces : goal.returns-in-Err-clause-forces
+returns-in-Err-clause-forces g c log_front s rest geometry front volume covered =
+    frame_stopped geometry log_front front volume c.args.log.now c.append_frame.new.self s rest covered c.log_error.result
+    (c.in-Err.ensures.any_moment log_front rest.settled rest.none_staged) c.append_frame.ensures.same
+
+pub returns-in-Err-clause-device : goal.returns-in-Err-clause-device
+returns-in-Err-clause-device g c log_front settled none f is =
+    let of = log_is c.in-Err.fault f c.log_error.result c.log_error.ensures is in
+    elim c.in-Err.ensures.others [
+      | inl device ↦ sym of.0 ∙ device
+      | inr other ↦ elim other [
+        | inl memory ↦ absurd (of.1 memory)
+        | inr full ↦ absurd (fits_frame c.args.log.now log_front settled c.requires.room (c.in-Err.ensures.full (ap (λ (h : Fault). Err h) full)))
+      ]
+    ]

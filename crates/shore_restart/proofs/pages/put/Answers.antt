@@ -1,0 +1,27 @@
+use Rattle.std.proofs.Common.{subst}
+use Rattle.shore_types.specs.Images.{Image}
+use Rattle.shore_heap.specs.Contents.{unclaimed}
+use Rattle.shore_logged.specs.LoggedHeaps.{IsMade}
+use Rattle.shore_restart.proofs.Putting.{put_appended, put_redone, slot_there}
+use Rattle.shore_restart.proofs.pages.put.Goals as goal
+
+pub release_to-requires-clause-slot : goal.release_to-requires-clause-slot
+release_to-requires-clause-slot g c = slot_there c.args.heap.now c.change.new.self c.args.number c.args.id _ _ c.change.ensures.device c.requires.fits c.change.ensures.frames.0
+
+pub returns-clause-redone : goal.returns-clause-redone
+returns-clause-redone g c front disk s r stands next says number due =
+    let old = c.args.heap.now in
+    let mid = c.change.new.self in
+    let made = subst (λ (image : Image). IsMade old mid c.args.number c.args.id image) c.bytes_of.ensures c.change.ensures.frames in
+    put_redone front disk old mid c.release_to.new.self s r c.args.id c.args.number c.args.image.now stands c.requires.there c.requires.fits made c.change.ensures.device
+    c.release_to.ensures.frames c.release_to.ensures.device c.release_to.ensures.same
+    (_, c.release_to.ensures.shows unclaimed front disk _ (c.change.ensures.shows unclaimed front disk stands.slots stands.shows)) next says number due
+
+pub returns-clause-appended : goal.returns-clause-appended
+returns-clause-appended g c front disk s r stands all says number =
+    let old = c.args.heap.now in
+    let mid = c.change.new.self in
+    let made = subst (λ (image : Image). IsMade old mid c.args.number c.args.id image) c.bytes_of.ensures c.change.ensures.frames in
+    put_appended front disk old mid c.release_to.new.self s r c.args.id c.args.number c.args.image.now stands c.requires.there c.requires.fits made c.change.ensures.device
+    c.release_to.ensures.frames c.release_to.ensures.device c.release_to.ensures.same
+    (_, c.release_to.ensures.shows unclaimed front disk _ (c.change.ensures.shows unclaimed front disk stands.slots stands.shows)) all says number

@@ -1,0 +1,135 @@
+use Rattle.std.proofs.Common.{◌≡◌, ℕ, List, Err, inl, inr, refl, sym, ap, subst, ◌∙◌, arith}
+use Rattle.shore_dwrite.proofs.Moves.{if_err}
+use Rattle.shore_types.specs.declared.layout.Geometry.{Geometry}
+use Rattle.shore_model.specs.declared.log_records.LogRecord.{LogRecord}
+use Rattle.shore_log.specs.Settled.{records_of_log}
+use Rattle.shore_analysis.specs.declared.analysis.Tables.{Tables}
+use Rattle.shore_analysis.specs.Meant.{AreMeant}
+use Rattle.shore_analysis.specs.Tables.{AreTables}
+use Rattle.shore_restart.specs.declared.errors.RestartError.TheVariants.{Memory, NoRoom}
+use Rattle.shore_restart.specs.Errors.{DoesNotFit}
+use Rattle.shore_restart.specs.Room.{IsRoomBehind}
+use Rattle.shore_restart.specs.Standing.{log_history, stream_bytes_of}
+use Rattle.shore_restart.proofs.Found.{come_done, come_redone, come_refused, found_covered, nothing_moved, redo_stopped}
+use Rattle.shore_restart.proofs.PageErrors.{err_with}
+use Rattle.shore_restart.proofs.Undoing.{come_stop}
+use Rattle.shore_restart.proofs.recovering.recover.Goals as goal
+
+-- ---- before a device is called
+
+pub returns-in_err-tables-clause-moves : goal.returns-in_err-tables-clause-moves
+returns-in_err-tables-clause-moves g c log_front front disk s found =
+    let e = c.in_err-tables.field-0.0 in
+    nothing_moved log_front front disk c.args.log.now c.args.heap.now s found c.from_residual.result e _ (err_with c.from_residual.result e c.from_residual.ensures.1)
+
+pub returns-in_default-clause-moves : goal.returns-in_default-clause-moves
+returns-in_default-clause-moves g c log_front front disk s found = nothing_moved log_front front disk c.args.log.now c.args.heap.now s found (Err NoRoom) NoRoom _ refl
+
+-- ---- redo
+
+pub redo-requires : goal.redo-requires
+redo-requires g c = record {
+  meant =
+      subst (λ (g : Geometry). AreMeant g c.records-4.result.now) c.geometry.ensures
+      (subst (AreMeant c.geometry.result.now) (c.records.ensures.log ∙ sym c.records-4.ensures.log) c.in_ok-tables.ensures.meant);
+}
+
+pub returns-in_err-redone-clause-moves : goal.returns-in_err-redone-clause-moves
+returns-in_err-redone-clause-moves g c log_front front disk s found =
+    let log = c.args.log.now in
+    let heap = c.args.heap.now in
+    let e = c.in_err-redone.field-0.0 in
+    redo_stopped log_front front disk log heap s found c.redo.new.heap {A = ℕ} c.from_residual-in_err-redone.result e _ (err_with c.from_residual-in_err-redone.result e c.from_residual-in_err-redone.ensures.1)
+    (c.in_err-redone.ensures.redone front disk s found.stands (found.at_rest.records ∙ sym c.records-4.ensures.log) found.durable found.redone (log_history log) log_front
+    (found_covered log_front front disk log heap s found))
+
+pub returns-in_err-redone-clause-bad : goal.returns-in_err-redone-clause-bad
+returns-in_err-redone-clause-bad g c log_front front disk s found =
+    let log_is = found.at_rest.records ∙ sym c.records-4.ensures.log in
+    if_err c.from_residual-in_err-redone.result c.from_residual-in_err-redone.ensures.1 (λ error same n is. inr (inl (subst (λ (log : List LogRecord). DoesNotFit log n) c.records-4.ensures.log
+    (c.in_err-redone.ensures.bad front disk s found.stands log_is found.durable found.redone n (sym same ∙ is)))))
+
+pub returns-in_err-redone-clause-device : goal.returns-in_err-redone-clause-device
+returns-in_err-redone-clause-device g c log_front front disk s found =
+    let log_is = found.at_rest.records ∙ sym c.records-4.ensures.log in
+    if_err c.from_residual-in_err-redone.result c.from_residual-in_err-redone.ensures.1 (λ error same f is.
+    c.in_err-redone.ensures.device front disk s found.stands log_is found.durable found.redone f (sym same ∙ is))
+
+-- ---- undo
+
+pub undo_all-requires : goal.undo_all-requires
+undo_all-requires g c =
+    let rs = records_of_log c.args.log.now in
+    let meant : AreMeant c.geometry.result.now rs = subst (AreMeant c.geometry.result.now) c.records.ensures.log c.in_ok-tables.ensures.meant in
+    let tables : AreTables rs c.in_ok-tables.tables = subst (λ (rs : List LogRecord). AreTables rs c.in_ok-tables.tables) c.records.ensures.log c.in_ok-tables.ensures.tables in
+    let stream : c.stream_bytes.result ≡ stream_bytes_of c.args.log.now = let as_long = c.args.log.now.as_long in let rest = c.stream_bytes.ensures in omega (arith, as_long, rest) in
+    record {
+      meant = subst (λ (g : Geometry). AreMeant g rs) (c.geometry.ensures ∙ sym c.redo.ensures.volume.geometry) meant;
+      losers = c.of.ensures c.geometry.result.now rs c.in_ok-tables.tables meant tables (ap (λ (t : Tables). t.txns) (sym c.tables.view_is));
+      room =
+          subst (λ (n : ℕ). IsRoomBehind rs n c.in-Some.room) stream
+          (subst (λ (rs : List LogRecord). IsRoomBehind rs c.stream_bytes.result c.in-Some.room) c.records-2.ensures.log c.in-Some.ensures.some);
+    }
+
+pub returns-in_err-undo_all-clause-moves : goal.returns-in_err-undo_all-clause-moves
+returns-in_err-undo_all-clause-moves g c log_front front disk s found =
+    let log = c.args.log.now in
+    let heap = c.args.heap.now in
+    let redoes = c.in_ok-redone.ensures.redone front disk s found.stands (found.at_rest.records ∙ sym c.records-4.ensures.log) found.durable found.redone (log_history log) log_front
+    (found_covered log_front front disk log heap s found) in
+    let come = come_redone log_front front disk log heap s found c.redo.new.heap c.in_ok-redone.redone redoes c.redo.ensures.volume.geometry in
+    let e = c.in_err-undo_all.field-0.0 in
+    come_stop log_front front log heap s e c.from_residual-in_err-undo_all.result log c.undo_all.new.log c.redo.new.heap c.undo_all.new.heap _ _ come
+    (err_with c.from_residual-in_err-undo_all.result e c.from_residual-in_err-undo_all.ensures.1) (c.in_err-undo_all.ensures.moves log_front front come.1.disk come.0 come.1.ready)
+
+pub returns-in_err-undo_all-clause-bad : goal.returns-in_err-undo_all-clause-bad
+returns-in_err-undo_all-clause-bad g c log_front front disk s found =
+    let log = c.args.log.now in
+    let heap = c.args.heap.now in
+    let redoes = c.in_ok-redone.ensures.redone front disk s found.stands (found.at_rest.records ∙ sym c.records-4.ensures.log) found.durable found.redone (log_history log) log_front
+    (found_covered log_front front disk log heap s found) in
+    let come = come_redone log_front front disk log heap s found c.redo.new.heap c.in_ok-redone.redone redoes c.redo.ensures.volume.geometry in
+    if_err c.from_residual-in_err-undo_all.result c.from_residual-in_err-undo_all.ensures.1 (λ error same n is.
+    inr (inr (c.in_err-undo_all.ensures.bad log_front front come.1.disk come.0 come.1.ready n (sym same ∙ is))))
+
+pub returns-in_err-undo_all-clause-device : goal.returns-in_err-undo_all-clause-device
+returns-in_err-undo_all-clause-device g c log_front front disk s found =
+    let log = c.args.log.now in
+    let heap = c.args.heap.now in
+    let redoes = c.in_ok-redone.ensures.redone front disk s found.stands (found.at_rest.records ∙ sym c.records-4.ensures.log) found.durable found.redone (log_history log) log_front
+    (found_covered log_front front disk log heap s found) in
+    let come = come_redone log_front front disk log heap s found c.redo.new.heap c.in_ok-redone.redone redoes c.redo.ensures.volume.geometry in
+    if_err c.from_residual-in_err-undo_all.result c.from_residual-in_err-undo_all.ensures.1 (λ error same f is.
+    c.in_err-undo_all.ensures.device log_front front come.1.disk come.0 come.1.ready f (sym same ∙ is))
+
+pub returns-in_err-undo_all-clause-log_device : goal.returns-in_err-undo_all-clause-log_device
+returns-in_err-undo_all-clause-log_device g c log_front front disk s found =
+    let log = c.args.log.now in
+    let heap = c.args.heap.now in
+    let redoes = c.in_ok-redone.ensures.redone front disk s found.stands (found.at_rest.records ∙ sym c.records-4.ensures.log) found.durable found.redone (log_history log) log_front
+    (found_covered log_front front disk log heap s found) in
+    let come = come_redone log_front front disk log heap s found c.redo.new.heap c.in_ok-redone.redone redoes c.redo.ensures.volume.geometry in
+    if_err c.from_residual-in_err-undo_all.result c.from_residual-in_err-undo_all.ensures.1 (λ error same f is.
+    c.in_err-undo_all.ensures.log_device log_front front come.1.disk come.0 come.1.ready f (sym same ∙ is))
+
+-- ---- the table
+
+pub returns-in_err-new-clause-moves : goal.returns-in_err-new-clause-moves
+returns-in_err-new-clause-moves g c log_front front disk s found =
+    let log = c.args.log.now in
+    let heap = c.args.heap.now in
+    let redoes = c.in_ok-redone.ensures.redone front disk s found.stands (found.at_rest.records ∙ sym c.records-4.ensures.log) found.durable found.redone (log_history log) log_front
+    (found_covered log_front front disk log heap s found) in
+    let come = come_redone log_front front disk log heap s found c.redo.new.heap c.in_ok-redone.redone redoes c.redo.ensures.volume.geometry in
+    come_refused log_front front log heap s log c.undo_all.new.log c.redo.new.heap c.undo_all.new.heap come _ c.in_ok-undo_all.field-0 c.from_residual-in_err-new.result Memory
+    (err_with c.from_residual-in_err-new.result Memory c.from_residual-in_err-new.ensures.1) (c.in_ok-undo_all.ensures.moves log_front front come.1.disk come.0 come.1.ready) c.undo_all.ensures.volume.geometry
+
+pub returns-clause-moves : goal.returns-clause-moves
+returns-clause-moves g c log_front front disk s found =
+    let log = c.args.log.now in
+    let heap = c.args.heap.now in
+    let redoes = c.in_ok-redone.ensures.redone front disk s found.stands (found.at_rest.records ∙ sym c.records-4.ensures.log) found.durable found.redone (log_history log) log_front
+    (found_covered log_front front disk log heap s found) in
+    let come = come_redone log_front front disk log heap s found c.redo.new.heap c.in_ok-redone.redone redoes c.redo.ensures.volume.geometry in
+    come_done log_front front log heap s log c.undo_all.new.log c.redo.new.heap c.undo_all.new.heap come _ c.in_ok-undo_all.field-0 _ (c.in_ok-undo_all.ensures.moves log_front front come.1.disk come.0 come.1.ready)
+    c.undo_all.ensures.volume.geometry

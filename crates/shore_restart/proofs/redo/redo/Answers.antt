@@ -1,0 +1,133 @@
+use Rattle.std.proofs.Common.{◌≡◌, ◌<◌, ℕ, List, Bool, Some, Result, refl, sym, ap, subst, ◌∙◌, length, arith}
+use Rattle.std.specs.Prelude.{slice_get}
+use Rattle.std.proofs.lemmas.Option.{slice_get_read}
+use Rattle.shore_types.specs.Layout.{HasSlot}
+use Rattle.shore_types.specs.declared.layout.Geometry.{Geometry}
+use Rattle.shore_dwrite.proofs.Moves.{if_err}
+use Rattle.shore_model.specs.declared.log_records.LogRecord.{LogRecord}
+use Rattle.shore_heap.specs.Heaps.{faults_of, geometry_of}
+use Rattle.shore_restart.specs.declared.errors.RestartError.{RestartError}
+use Rattle.shore_restart.specs.Errors.{DoesNotFit}
+use Rattle.shore_restart.specs.Standing.{RedoesAll}
+use Rattle.shore_restart.proofs.PageErrors.{err_with, passed_cause}
+use Rattle.shore_restart.proofs.RedoAll.{all_done, all_durable, long, next_is, none_so_far, now_next, one_more, same_again, stopped}
+use Rattle.shore_restart.proofs.Redoing.{meant_there}
+use Rattle.shore_restart.proofs.redo.redo.Goals as goal
+use Rattle.shore_restart.proofs.redo.redo.Goals.{then-branch, else-branch}
+
+pub loop-index-init : goal.loop-index-init
+loop-index-init g c = record {
+  so_far = λ front disk s stands log durable none h log_front covered. none_so_far h log_front front disk c.args.heap.now s stands none covered;
+  now = λ front disk s stands log durable none. record { later = s; log_is = refl; durable = refl; redone = none; left = disk; stands = stands };
+  volume = record { geometry = refl; honest = refl; size = refl };
+  faults = refl;
+  most = omega arith;
+}
+
+pub redo_record-requires : goal.redo_record-requires
+redo_record-requires g c = record {
+  there = λ id is.
+      let rs = c.args.log.now in
+      let i = c.loop-index.index in
+      let within : i < length rs = omega arith in
+      let r = c.index-log-index.result in
+      let at : slice_get rs i ≡ Some r = slice_get_read rs (length rs) i r refl within c.index-log-index.is in
+      subst (λ (g : Geometry). HasSlot g id) (sym c.loop-index.invariant.volume.geometry) (meant_there (geometry_of c.args.heap.now) rs i r id c.requires.meant at is);
+}
+
+pub loop-index-preserved : goal.loop-index-preserved
+loop-index-preserved g c =
+    let rs = c.args.log.now in
+    let i = c.loop-index.index in
+    let within : i < length rs = omega arith in
+    let r = c.index-log-index.result in
+    let at : slice_get rs i ≡ Some r = slice_get_read rs (length rs) i r refl within c.index-log-index.is in
+    let invariant = c.loop-index.invariant in
+    record {
+      so_far = λ front disk s stands log durable none h log_front covered.
+          let so_far = invariant.so_far front disk s stands log durable none h log_front covered in
+          let done = so_far.redone in
+          let next : slice_get so_far.later.log so_far.later.redone ≡ Some r =
+          ap (λ (n : ℕ). slice_get so_far.later.log n) done ∙ ap (λ (l : List LogRecord). slice_get l i) (so_far.log_is ∙ log) ∙ at in
+          let long : length rs ≡ length so_far.later.log = ap length (sym (so_far.log_is ∙ log)) in
+          let all : so_far.later.durable ≡ length so_far.later.log = so_far.durable ∙ durable ∙ ap length (sym so_far.log_is) in
+          one_more h log_front front c.args.heap.now c.loop-index.heap c.redo_record.new.heap s i so_far invariant.volume.geometry c.in_ok-redo_record.field-0
+          (c.in_ok-redo_record.ensures.redone front so_far.left so_far.later so_far.stands next (omega (arith, done)) long all);
+      now = λ front disk s stands log durable none.
+          let heap = c.loop-index.heap in
+          let now = invariant.now front disk s stands log durable none in
+          let done = now.redone in
+          now_next front heap c.redo_record.new.heap s i c.in_ok-redo_record.field-0 now
+          (c.in_ok-redo_record.ensures.redone front now.left now.later now.stands (next_is front heap s i rs r now log durable at) (omega (arith, done)) (long front heap s i rs r now log durable at)
+          (all_durable front heap s i rs r now log durable at));
+      volume = same_again c.args.heap.now c.loop-index.heap c.redo_record.new.heap invariant.volume c.redo_record.ensures.volume;
+      faults = c.in_ok-redo_record.ensures.cause.unreported (λ e. cc) ∙ invariant.faults;
+      most = elim c.if-branch.branch [
+        | then-branch w ↦ let more = w.redone-is in omega (arith, more, invariant.most)
+        | else-branch w ↦ let same = w.redone-is in omega (arith, same, invariant.most)
+      ];
+    }
+
+pub returns-in_err-redo_record-clause-redone : goal.returns-in_err-redo_record-clause-redone
+returns-in_err-redo_record-clause-redone g c front disk s stands log durable none h log_front covered =
+    let rs = c.args.log.now in
+    let i = c.loop-index.index in
+    let within : i < length rs = omega arith in
+    let r = c.index-log-index.result in
+    let at : slice_get rs i ≡ Some r = slice_get_read rs (length rs) i r refl within c.index-log-index.is in
+    let invariant = c.loop-index.invariant in
+    let so_far = invariant.so_far front disk s stands log durable none h log_front covered in
+    let done = so_far.redone in
+    let next : slice_get so_far.later.log so_far.later.redone ≡ Some r =
+    ap (λ (n : ℕ). slice_get so_far.later.log n) done ∙ ap (λ (l : List LogRecord). slice_get l i) (so_far.log_is ∙ log) ∙ at in
+    let long : length rs ≡ length so_far.later.log = ap length (sym (so_far.log_is ∙ log)) in
+    let all : so_far.later.durable ≡ length so_far.later.log = so_far.durable ∙ durable ∙ ap length (sym so_far.log_is) in
+    subst (λ (result : Result ℕ RestartError). RedoesAll result h log_front front c.args.heap.now c.redo_record.new.heap s)
+    (sym (err_with c.from_residual.result c.in_err-redo_record.field-0.0 c.from_residual.ensures.1))
+    (stopped h log_front front c.args.heap.now c.loop-index.heap c.redo_record.new.heap s i so_far invariant.volume.geometry ℕ c.in_err-redo_record.field-0.0 c.in_err-redo_record.field-0.0
+    (c.in_err-redo_record.ensures.redone front so_far.left so_far.later so_far.stands next (omega (arith, done)) long all))
+
+pub returns-in_err-redo_record-clause-bad : goal.returns-in_err-redo_record-clause-bad
+returns-in_err-redo_record-clause-bad g c front disk s stands log durable none =
+    let rs = c.args.log.now in
+    let i = c.loop-index.index in
+    let within : i < length rs = omega arith in
+    let r = c.index-log-index.result in
+    let at : slice_get rs i ≡ Some r = slice_get_read rs (length rs) i r refl within c.index-log-index.is in
+    let heap = c.loop-index.heap in
+    let now = c.loop-index.invariant.now front disk s stands log durable none in
+    let done = now.redone in
+    if_err c.from_residual.result c.from_residual.ensures.1 (λ error same n is.
+    subst (λ (l : List LogRecord). DoesNotFit l n) (now.log_is ∙ log)
+    (c.in_err-redo_record.ensures.bad front now.left now.later now.stands (next_is front heap s i rs r now log durable at) (omega (arith, done)) (long front heap s i rs r now log durable at)
+    (all_durable front heap s i rs r now log durable at) n (sym same ∙ is)))
+
+pub returns-in_err-redo_record-clause-device : goal.returns-in_err-redo_record-clause-device
+returns-in_err-redo_record-clause-device g c front disk s stands log durable none =
+    let rs = c.args.log.now in
+    let i = c.loop-index.index in
+    let within : i < length rs = omega arith in
+    let r = c.index-log-index.result in
+    let at : slice_get rs i ≡ Some r = slice_get_read rs (length rs) i r refl within c.index-log-index.is in
+    let heap = c.loop-index.heap in
+    let now = c.loop-index.invariant.now front disk s stands log durable none in
+    if_err c.from_residual.result c.from_residual.ensures.1 (λ error same f is.
+    c.in_err-redo_record.ensures.device front now.left now.later now.stands (long front heap s i rs r now log durable at) (all_durable front heap s i rs r now log durable at) f (sym same ∙ is))
+
+pub returns-in_err-redo_record-clause-cause : goal.returns-in_err-redo_record-clause-cause
+returns-in_err-redo_record-clause-cause g c =
+    passed_cause ℕ Bool c.from_residual.result c.in_err-redo_record.field-0.0 (faults_of c.args.heap.now) (faults_of c.loop-index.heap) (faults_of c.redo_record.new.heap) c.loop-index.invariant.faults
+    c.from_residual.ensures.1 c.in_err-redo_record.ensures.cause
+
+pub returns-in_err-redo_record-clause-volume : goal.returns-in_err-redo_record-clause-volume
+returns-in_err-redo_record-clause-volume g c = same_again c.args.heap.now c.loop-index.heap c.redo_record.new.heap c.loop-index.invariant.volume c.redo_record.ensures.volume
+
+pub returns-clause-redone : goal.returns-clause-redone
+returns-clause-redone g c front disk s stands log durable none h log_front covered =
+    all_done ℕ _ h log_front front c.args.heap.now c.loop-index.heap s c.loop-index.index (c.loop-index.invariant.so_far front disk s stands log durable none h log_front covered) (omega (arith, ap length log))
+
+pub returns-clause-most : goal.returns-clause-most
+returns-clause-most g c = omega (arith, c.loop-index.invariant.most)
+
+pub returns-clause-volume : goal.returns-clause-volume
+returns-clause-volume g c = c.loop-index.invariant.volume

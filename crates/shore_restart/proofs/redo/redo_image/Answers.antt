@@ -1,0 +1,79 @@
+use Rattle.std.proofs.Common.{◌≡◌, ◌≤◌, ◌<◌, ℕ, List, Bool, Some, Result, inl, inr, true, false, sym, ap, subst, ◌∙◌, arith}
+use Rattle.std.specs.Prelude.{IsSomeAnd, slice_get}
+use Rattle.shore_page.specs.Room.{Fits}
+use Rattle.shore_heap.specs.Heaps.{frame_of}
+use Rattle.shore_dwrite.proofs.Moves.{if_err}
+use Rattle.shore_model.specs.declared.log_records.LogRecord.{LogRecord}
+use Rattle.shore_types.specs.Layout.{HasPage}
+use Rattle.shore_types.specs.declared.layout.Geometry.{Geometry}
+use Rattle.shore_restart.specs.declared.errors.RestartError.{RestartError}
+use Rattle.shore_restart.specs.declared.errors.RestartError.TheVariants.{BadRecord}
+use Rattle.shore_restart.specs.Standing.{Redoes}
+use Rattle.shore_restart.proofs.PageErrors.{err_with}
+use Rattle.shore_restart.proofs.Redoing.{does_not_fit, number_is, passed_behind, redo_stops, redone_behind, stood}
+use Rattle.shore_restart.proofs.redo.redo_image.Goals as goal
+
+pub returns-in_err-fetch-clause-redone : goal.returns-in_err-fetch-clause-redone
+returns-in_err-fetch-clause-redone g c front disk s r stands next says number last durable =
+    subst (λ (result : Result Bool RestartError). Redoes result front c.args.heap.now c.fetch.new.heap s)
+    (sym (err_with c.from_residual.result c.in_err-fetch.field-0.0 c.from_residual.ensures.1))
+    (redo_stops Bool front c.args.heap.now c.fetch.new.heap s _ c.in_err-fetch.field-0.0 (c.in_err-fetch.ensures.fetches front disk s stands (omega (arith, last, durable))))
+
+pub returns-in_err-fetch-clause-device : goal.returns-in_err-fetch-clause-device
+returns-in_err-fetch-clause-device g c front disk s stands last durable =
+    if_err c.from_residual.result c.from_residual.ensures.1 (λ error same f is. elim (c.in_err-fetch.ensures.device front disk s stands (omega (arith, last)) f (sym same ∙ is)) [
+      | inl device ↦ device
+      | inr force ↦ let above = force.2 in let within = force.3 in absurd (omega (arith, above, within, last))
+    ])
+
+pub returns-then-not-fits-clause-redone : goal.returns-then-not-fits-clause-redone
+returns-then-not-fits-clause-redone g c front disk s r stands next says number last durable =
+    redo_stops Bool front c.args.heap.now c.fetch.new.heap s _ (BadRecord c.args.number) (c.in_ok-fetch.ensures.fetches front disk s stands (omega (arith, last, durable)))
+
+pub returns-then-found-number-clause-redone : goal.returns-then-found-number-clause-redone
+returns-then-found-number-clause-redone g c front disk s r stands next says number last durable =
+    let old = c.args.heap.now in
+    let mid = c.fetch.new.heap in
+    let f = c.in_ok-fetch.ensures.fetches front disk s stands (omega (arith, last, durable)) in
+    let is = stood front old mid s f in
+    let there = subst (λ (g : Geometry). HasPage g c.args.id.page) (sym c.fetch.ensures.volume.geometry) c.requires in
+    let page = number_is front is.0 mid f.later c.args.id.page c.number-found.result is.1 there c.number-found.ensures in
+    let found_is : c.found.inside.0 ≡ c.number-found.result = c.found.view_is in
+    let number_is_this : c.number.inside.0 ≡ c.args.number = c.number.view_is in
+    let ge : c.args.number ≤ c.number-found.result = omega (arith, c.if-found-number.true, found_is, number_is_this) in
+    passed_behind front old mid s r f false c.args.id c.args.image.now next says (omega (arith, ge, page, number)) c.fetch.ensures.volume.geometry
+
+pub returns-then-not-fits-clause-bad : goal.returns-then-not-fits-clause-bad
+returns-then-not-fits-clause-bad g c front disk s r stands next says number last durable n is =
+    let old = c.args.heap.now in
+    let mid = c.fetch.new.heap in
+    let f = c.in_ok-fetch.ensures.fetches front disk s stands (omega (arith, last, durable)) in
+    let stood_there = stood front old mid s f in
+    let there = subst (λ (g : Geometry). HasPage g c.args.id.page) (sym c.fetch.ensures.volume.geometry) c.requires in
+    let page = number_is front stood_there.0 mid f.later c.args.id.page c.number-found.result stood_there.1 there c.number-found.ensures in
+    let found_is : c.found.inside.0 ≡ c.number-found.result = c.found.view_is in
+    let number_is_this : c.number.inside.0 ≡ c.args.number = c.number.view_is in
+    let lt : c.number-found.result < c.args.number = omega (arith, c.if-found-number.false, found_is, number_is_this) in
+    let same : c.args.number ≡ n = cc in
+    does_not_fit front old mid s r f c.args.id c.args.image.now c.number-found.result n (sym same ∙ number) next says stood_there there c.number-found.ensures (omega (arith, lt, page, number))
+    (λ fits.
+    let yes = c.fits.ensures.framed.1 (subst (λ (b : ℕ). IsSomeAnd (frame_of mid c.args.id.page) (λ f. Fits f.page.slots c.args.id.slot b)) (sym c.len_of.ensures) fits) in
+    let no : c.fits.result ≡ false = c.if-not-fits.true in
+    let clash : true ≡ false = sym yes ∙ no in
+    cc)
+
+pub returns-clause-redone : goal.returns-clause-redone
+returns-clause-redone g c front disk s r stands next says number last durable =
+    let old = c.args.heap.now in
+    let mid = c.fetch.new.heap in
+    let f = c.in_ok-fetch.ensures.fetches front disk s stands (omega (arith, last, durable)) in
+    let is = stood front old mid s f in
+    let there = subst (λ (g : Geometry). HasPage g c.args.id.page) (sym c.fetch.ensures.volume.geometry) c.requires in
+    let page = number_is front is.0 mid f.later c.args.id.page c.number-found.result is.1 there c.number-found.ensures in
+    let found_is : c.found.inside.0 ≡ c.number-found.result = c.found.view_is in
+    let number_is_this : c.number.inside.0 ≡ c.args.number = c.number.view_is in
+    let lt : c.number-found.result < c.args.number = omega (arith, c.if-found-number.false, found_is, number_is_this) in
+    let redone = f.same.redone in
+    let next_now : slice_get f.later.log f.later.redone ≡ Some r = ap (λ (l : List LogRecord). slice_get l f.later.redone) f.same.log ∙ ap (slice_get s.log) f.same.redone ∙ next in
+    let m = c.put.ensures.redone front is.0 f.later r is.1 next_now says (omega (arith, number, redone)) (omega (arith, lt, page, number, redone)) in
+    redone_behind front old mid s r f c.put.new.heap true is.0 m.0 m.1 c.put.ensures.history (c.put.ensures.volume.geometry ∙ c.fetch.ensures.volume.geometry)

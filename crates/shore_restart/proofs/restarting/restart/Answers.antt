@@ -1,0 +1,44 @@
+use Rattle.std.proofs.Common.{List, sym, ap, subst, ◌∙◌, length}
+use Rattle.shore_heap.specs.declared.heap.Heap.{Heap}
+use Rattle.shore_heap.specs.Heaps.{geometry_of}
+use Rattle.shore_model.specs.declared.log_records.LogRecord.{LogRecord}
+use Rattle.shore_model.specs.Logs.{Lawful}
+use Rattle.shore_recovery.specs.Undo.{HasNoLosers}
+use Rattle.shore_log.specs.Settled.{records_of_log}
+use Rattle.shore_stands.specs.Moments.{Path}
+use Rattle.shore_restart.specs.Standing.{log_history, moment_of, stream_bytes_of}
+use Rattle.shore_restart.proofs.Opens.{opens_in}
+use Rattle.shore_restart.proofs.restarting.restart.Goals as goal
+
+pub returns-in-Ok-clause-restarts : goal.returns-in-Ok-clause-restarts
+returns-in-Ok-clause-restarts g c log_front front disk s found =
+    let m = c.in-Ok.ensures.moves log_front front disk s found in
+    let new = c.recover.new.log in
+    let table = c.in-Ok.ensures.table in
+    record {
+      ready = m.later;
+      moments = m.moments;
+      path = subst (λ (heap : Heap g.row.V.Denot g.V.Disk). Path (geometry_of c.args.heap) log_front front (moment_of (log_history c.args.log.now) c.args.heap s) m.moments
+          (moment_of (log_history new) heap m.later)) (sym c.over.ensures.heap) m.path;
+      opens = λ lawful.
+          let was : Lawful (records_of_log c.args.log.now) = subst Lawful found.at_rest.records lawful in
+          let ready = m.done.2 in
+          let quiet = c.in-Ok.ensures.done was in
+          let same = ready.at_rest.records in (
+            ready.redone,
+            subst HasNoLosers (sym same) quiet,
+            m.done.0,
+            ready.at_rest,
+            m.done.1,
+            opens_in c.over.result c.recover.new.heap c.in-Ok.field-0.txns front m.done.1 (records_of_log c.args.log.now) (records_of_log new) (stream_bytes_of new) m.later
+                same was c.in-Ok.ensures.undone quiet ready.redone ready.stands table.0 table.1 table.2 table.3
+                (λ st log durable running txns shows. c.over.ensures.state front m.done.1 st
+                (ap length (log ∙ same ∙ sym c.records.ensures.log)) (durable ∙ ready.at_rest.durable ∙ sym c.durable.ensures ∙ sym c.number-durable.ensures) running txns shows)
+                (c.over.ensures.over m.done.1),
+          );
+    }
+
+pub returns-in-Err-clause-restarts : goal.returns-in-Err-clause-restarts
+returns-in-Err-clause-restarts g c log_front front disk s found =
+    let m = c.in-Err.ensures.moves log_front front disk s found in
+    record { ready = m.later; moments = m.moments; path = m.path; opens = λ lawful. tt }

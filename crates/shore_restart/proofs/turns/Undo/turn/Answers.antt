@@ -1,0 +1,168 @@
+use Rattle.std.proofs.Common.{◌≡◌, ◌+◌, ◌-◌, ℕ, List, [], ◌∷◌, ◌++◌, Bool, false, Result, Ok, Err, refl, sym, ap, subst, ◌∙◌, length}
+use Rattle.shore_types.specs.declared.layout.TheConstants.{LOG_FRONT_BYTES}
+use Rattle.shore_disk.specs.Device.{size}
+use Rattle.shore_dwrite.proofs.Moves.{if_err}
+use Rattle.shore_model.specs.declared.log_records.LogRecord.{LogRecord}
+use Rattle.shore_log.specs.Settled.{records_of_log}
+use Rattle.shore_heap.specs.Heaps.{geometry_of}
+use Rattle.shore_recovery.specs.Undo.{HasNoLosers, IsLoser, undo_record}
+use Rattle.shore_restart.specs.declared.errors.RestartError.{RestartError}
+use Rattle.shore_restart.specs.declared.errors.RestartError.TheVariants.{NoRoom}
+use Rattle.shore_restart.specs.Standing.{Moves, stream_bytes_of}
+use Rattle.shore_restart.proofs.LogTurns.{if_none, no_some, turn_cannot, turn_fits, turn_kept, turn_lacks_room, turn_loser, turn_of, turn_previous, turn_record, turn_says, turn_takes, turn_there}
+use Rattle.shore_restart.proofs.PageErrors.{err_with}
+use Rattle.shore_restart.proofs.Turning.{moves_none, turn_stops, turned}
+use Rattle.shore_restart.proofs.turns.Undo.turn.Goals as goal
+
+-- ---- no turn
+
+pub returns-in_err-logged-clause-moves : goal.returns-in_err-logged-clause-moves
+returns-in_err-logged-clause-moves g c log_front front disk s ready =
+    subst (λ (result : Result Bool RestartError). Moves result log_front front c.args.log.now c.args.log.now c.args.heap.now c.args.heap.now s (λ later. later.log ≡ records_of_log c.args.log.now))
+    (sym (err_with c.from_residual.result _ c.from_residual.ensures.1))
+    (moves_none log_front front c.args.log.now c.args.heap.now s (Err _) disk (λ later. later.log ≡ records_of_log c.args.log.now) ready ready.at_rest.records)
+
+pub returns-in_default-clause-none : goal.returns-in_default-clause-none
+returns-in_default-clause-none g c none_left =
+    let log = records_of_log c.args.log.now in
+    let has = c.requires.losers in (
+      refl,
+      if_none ((t : ℕ) → IsLoser log t → ⊥) c.in_ok-logged.field-0 c.in_default.is (c.in_ok-logged.ensures.none log has),
+      λ lawful. if_none (HasNoLosers log) c.in_ok-logged.field-0 c.in_default.is (c.in_ok-logged.ensures.done log lawful has),
+    )
+
+pub returns-in_default-clause-moves : goal.returns-in_default-clause-moves
+returns-in_default-clause-moves g c log_front front disk s ready =
+    moves_none log_front front c.args.log.now c.args.heap.now s {A = Bool} (Ok false) disk (λ later. later.log ≡ records_of_log c.args.log.now) ready ready.at_rest.records
+
+-- ---- no room for one
+
+pub room_with-requires : goal.room_with-requires
+room_with-requires g c =
+    let log = records_of_log c.args.log.now in
+    let bytes = stream_bytes_of c.args.log.now in
+    let r = c.in-Some.logged in
+    let turn = turn_of (geometry_of c.args.heap.now) log bytes c.args.self.now c.requires c.records.result.now c.records.ensures.log c.in_ok-logged.field-0 r c.in-Some.is
+    c.in_ok-logged.ensures.loser c.in_ok-logged.ensures.greatest c.in_ok-logged.ensures.undoes in
+    turn_fits (geometry_of c.args.heap.now) log bytes c.args.self.now c.requires r turn c.records.result.now c.records.ensures.log c.records.ensures.fit
+
+pub returns-in_default-room_with-clause-moves : goal.returns-in_default-room_with-clause-moves
+returns-in_default-room_with-clause-moves g c log_front front disk s ready =
+    moves_none log_front front c.args.log.now c.args.heap.now s {A = Bool} (Err NoRoom) disk (λ later. later.log ≡ records_of_log c.args.log.now) ready ready.at_rest.records
+
+pub returns-in_default-room_with-clause-no_room : goal.returns-in_default-room_with-clause-no_room
+returns-in_default-room_with-clause-no_room g c is =
+    let log = records_of_log c.args.log.now in
+    let bytes = stream_bytes_of c.args.log.now in
+    let r = c.in-Some.logged in
+    let turn = turn_of (geometry_of c.args.heap.now) log bytes c.args.self.now c.requires c.records.result.now c.records.ensures.log c.in_ok-logged.field-0 r c.in-Some.is
+    c.in_ok-logged.ensures.loser c.in_ok-logged.ensures.greatest c.in_ok-logged.ensures.undoes in
+    turn_lacks_room (geometry_of c.args.heap.now) log bytes c.args.self.now c.requires r turn
+    (λ leaves. no_some c.room_with.result c.in_default-room_with.is ((c.room_with.ensures.none log bytes c.requires.room (ap length c.records-2.ensures.log)).1 leaves))
+
+-- ---- the record is appended
+
+pub append-requires-clause-there : goal.append-requires-clause-there
+append-requires-clause-there g c =
+    let log = records_of_log c.args.log.now in
+    let bytes = stream_bytes_of c.args.log.now in
+    let r = c.in-Some.logged in
+    let turn = turn_of (geometry_of c.args.heap.now) log bytes c.args.self.now c.requires c.records.result.now c.records.ensures.log c.in_ok-logged.field-0 r c.in-Some.is
+    c.in_ok-logged.ensures.loser c.in_ok-logged.ensures.greatest c.in_ok-logged.ensures.undoes in
+    turn_there (geometry_of c.args.heap.now) log bytes c.args.self.now c.requires r turn
+
+pub returns-in_err-append-clause-moves : goal.returns-in_err-append-clause-moves
+returns-in_err-append-clause-moves g c log_front front disk s ready =
+    let log = records_of_log c.args.log.now in
+    let bytes = stream_bytes_of c.args.log.now in
+    let r = c.in-Some.logged in
+    let turn = turn_of (geometry_of c.args.heap.now) log bytes c.args.self.now c.requires c.records.result.now c.records.ensures.log c.in_ok-logged.field-0 r c.in-Some.is
+    c.in_ok-logged.ensures.loser c.in_ok-logged.ensures.greatest c.in_ok-logged.ensures.undoes in
+    let records = ready.at_rest.records in
+    let says = turn_says (geometry_of c.args.heap.now) log bytes c.args.self.now c.requires r turn s.log records in
+    let number = ap (λ (rs : List LogRecord). length rs + 1) (c.records-2.ensures.log ∙ sym records) in
+    let e = c.in_err-append.field-0.0 in
+    subst (λ (result : Result Bool RestartError). Moves result log_front front c.args.log.now c.append.new.log c.args.heap.now c.append.new.heap s (λ later. later.log ≡ records_of_log c.append.new.log))
+    (sym (err_with c.from_residual-in_err-append.result e c.from_residual-in_err-append.ensures.1))
+    (turn_stops log_front front c.args.log.now c.args.heap.now s e e c.append.new.log c.append.new.heap (undo_record s.log r.txn) (λ later. later.log ≡ records_of_log c.append.new.log)
+    (c.in_err-append.ensures.appends log_front front disk s r.txn ready says number))
+
+pub returns-in_err-append-clause-bad : goal.returns-in_err-append-clause-bad
+returns-in_err-append-clause-bad g c log_front front disk s ready =
+    let log = records_of_log c.args.log.now in
+    let bytes = stream_bytes_of c.args.log.now in
+    let r = c.in-Some.logged in
+    let turn = turn_of (geometry_of c.args.heap.now) log bytes c.args.self.now c.requires c.records.result.now c.records.ensures.log c.in_ok-logged.field-0 r c.in-Some.is
+    c.in_ok-logged.ensures.loser c.in_ok-logged.ensures.greatest c.in_ok-logged.ensures.undoes in
+    if_err c.from_residual-in_err-append.result c.from_residual-in_err-append.ensures.1 (λ error same n is.
+    let bad = c.in_err-append.ensures.bad log_front front disk s ready n (sym same ∙ is) in
+    turn_cannot (geometry_of c.args.heap.now) log bytes c.args.self.now c.requires r turn s.log ready.at_rest.records n
+    (bad.0 ∙ c.next_change.ensures log r.txn c.requires.losers turn.loser turn.next) bad.1)
+
+pub returns-in_err-append-clause-device : goal.returns-in_err-append-clause-device
+returns-in_err-append-clause-device g c log_front front disk s ready =
+    if_err c.from_residual-in_err-append.result c.from_residual-in_err-append.ensures.1 (λ error same f is. c.in_err-append.ensures.device log_front front disk s ready f (sym same ∙ is))
+
+pub returns-in_err-append-clause-log_device : goal.returns-in_err-append-clause-log_device
+returns-in_err-append-clause-log_device g c log_front front disk s ready =
+    if_err c.from_residual-in_err-append.result c.from_residual-in_err-append.ensures.1 (λ error same f is. c.in_err-append.ensures.log_device log_front front disk s ready f (sym same ∙ is))
+
+-- ---- .. and taken
+
+pub take-requires-clause-text : goal.take-requires-clause-text
+take-requires-clause-text g c =
+    let log = records_of_log c.args.log.now in
+    let bytes = stream_bytes_of c.args.log.now in
+    let r = c.in-Some.logged in
+    let turn = turn_of (geometry_of c.args.heap.now) log bytes c.args.self.now c.requires c.records.result.now c.records.ensures.log c.in_ok-logged.field-0 r c.in-Some.is
+    c.in_ok-logged.ensures.loser c.in_ok-logged.ensures.greatest c.in_ok-logged.ensures.undoes in
+    turn_fits (geometry_of c.args.heap.now) log bytes c.args.self.now c.requires r turn c.records.result.now c.records.ensures.log c.records.ensures.fit
+
+pub take-requires-clause-previous : goal.take-requires-clause-previous
+take-requires-clause-previous g c =
+    let log = records_of_log c.args.log.now in
+    let bytes = stream_bytes_of c.args.log.now in
+    let r = c.in-Some.logged in
+    let turn = turn_of (geometry_of c.args.heap.now) log bytes c.args.self.now c.requires c.records.result.now c.records.ensures.log c.in_ok-logged.field-0 r c.in-Some.is
+    c.in_ok-logged.ensures.loser c.in_ok-logged.ensures.greatest c.in_ok-logged.ensures.undoes in
+    turn_previous (geometry_of c.args.heap.now) log bytes c.args.self.now c.requires r turn (records_of_log c.append.new.log) c.append.ensures.same
+
+pub returns-clause-turn : goal.returns-clause-turn
+returns-clause-turn g c taken =
+    let log = records_of_log c.args.log.now in
+    let bytes = stream_bytes_of c.args.log.now in
+    let r = c.in-Some.logged in
+    let turn = turn_of (geometry_of c.args.heap.now) log bytes c.args.self.now c.requires c.records.result.now c.records.ensures.log c.in_ok-logged.field-0 r c.in-Some.is
+    c.in_ok-logged.ensures.loser c.in_ok-logged.ensures.greatest c.in_ok-logged.ensures.undoes in
+    turn_takes (geometry_of c.args.heap.now) log bytes c.args.self.now c.requires r turn (records_of_log c.take.new.self) _
+    (c.take.ensures.taken ∙ ap (λ (rs : List LogRecord). rs ++ r ∷ []) c.append.ensures.same) (c.note_logged.ensures.fewer log c.requires.losers turn.loser turn.is)
+
+pub returns-clause-undo : goal.returns-clause-undo
+returns-clause-undo g c =
+    let log = records_of_log c.args.log.now in
+    let bytes = stream_bytes_of c.args.log.now in
+    let r = c.in-Some.logged in
+    let turn = turn_of (geometry_of c.args.heap.now) log bytes c.args.self.now c.requires c.records.result.now c.records.ensures.log c.in_ok-logged.field-0 r c.in-Some.is
+    c.in_ok-logged.ensures.loser c.in_ok-logged.ensures.greatest c.in_ok-logged.ensures.undoes in
+    turn_kept (geometry_of c.args.heap.now) log bytes c.args.self.now c.requires r turn (geometry_of c.append.new.heap) (records_of_log c.take.new.self) (stream_bytes_of c.take.new.self) _
+    c.append.ensures.volume.geometry (c.take.ensures.taken ∙ ap (λ (rs : List LogRecord). rs ++ r ∷ []) c.append.ensures.same)
+    (ap (λ (device : g.row.L.Denot). size (g.L.Disk.history device) - LOG_FRONT_BYTES) c.take.ensures.device ∙ ap (λ (long : ℕ). long - LOG_FRONT_BYTES) c.append.ensures.log.size)
+    (c.note_logged.ensures.losers log c.requires.losers turn.loser turn.is (ap (λ (rs : List LogRecord). length rs + 1) c.records-2.ensures.log))
+    (c.in-Some-room_with.ensures.some log bytes c.requires.room (ap length c.records-2.ensures.log))
+
+pub returns-clause-moves : goal.returns-clause-moves
+returns-clause-moves g c log_front front disk s ready =
+    let log = records_of_log c.args.log.now in
+    let bytes = stream_bytes_of c.args.log.now in
+    let r = c.in-Some.logged in
+    let turn = turn_of (geometry_of c.args.heap.now) log bytes c.args.self.now c.requires c.records.result.now c.records.ensures.log c.in_ok-logged.field-0 r c.in-Some.is
+    c.in_ok-logged.ensures.loser c.in_ok-logged.ensures.greatest c.in_ok-logged.ensures.undoes in
+    let records = ready.at_rest.records in
+    let says = turn_says (geometry_of c.args.heap.now) log bytes c.args.self.now c.requires r turn s.log records in
+    let same = turn_record (geometry_of c.args.heap.now) log bytes c.args.self.now c.requires r turn s.log records in
+    let loser = turn_loser (geometry_of c.args.heap.now) log bytes c.args.self.now c.requires r turn s.log records in
+    let number = ap (λ (rs : List LogRecord). length rs + 1) (c.records-2.ensures.log ∙ sym records) in
+    turned log_front front c.args.log.now c.args.heap.now s c.append.new.log c.take.new.self c.append.new.heap (undo_record s.log r.txn)
+    (c.in_ok-append.ensures.appends log_front front disk s r.txn ready says number) c.take.ensures.frames
+    (c.take.ensures.taken ∙ ap (λ (x : LogRecord). records_of_log c.append.new.log ++ x ∷ []) same) (ap (λ (device : g.row.L.Denot). g.L.Disk.history device) c.take.ensures.device)
+    c.append.ensures.volume.geometry r.txn loser refl

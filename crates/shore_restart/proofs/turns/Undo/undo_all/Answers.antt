@@ -1,0 +1,186 @@
+use Rattle.std.proofs.Common.{ℕ, List, [], Bool, inl, inr, refl, sym, subst, ◌∙◌}
+use Rattle.shore_dwrite.proofs.Moves.{if_err}
+use Rattle.shore_model.specs.declared.log_records.LogRecord.{LogRecord}
+use Rattle.shore_heap.specs.Heaps.{faults_of, geometry_of, history_of}
+use Rattle.shore_log.specs.Settled.{records_of_log}
+use Rattle.shore_recovery.specs.Undo.{HasNoLosers, IsLoser}
+use Rattle.shore_restart.specs.Standing.{log_faults, stream_bytes_of}
+use Rattle.shore_restart.specs.Turns.{HasNoTurnRoom, IsUndoOf, IsUndoneSoFar}
+use Rattle.shore_disk.specs.Cause.{HasCause}
+use Rattle.shore_restart.specs.Errors.{log_answer}
+use Rattle.shore_restart.proofs.Causes.{err_to, no_page_cause, passed_log_cause}
+use Rattle.shore_restart.proofs.Coming.{came_here}
+use Rattle.shore_restart.proofs.Frames.{same_on}
+use Rattle.shore_restart.proofs.PageErrors.{err_with, passed_cause}
+use Rattle.shore_restart.proofs.RedoAll.{same_again}
+use Rattle.shore_restart.proofs.Standing.{left_by}
+use Rattle.shore_restart.proofs.Undoing.{come_on, come_stop, force_last, lawful_so_far, on_ok, stream_same, undone_and}
+use Rattle.shore_restart.proofs.turns.Undo.undo_all.Goals as goal
+
+pub loop-init : goal.loop-init
+loop-init g c = record {
+  undo = c.requires;
+  so_far = ([], refl);
+  come = λ log_front front disk s ready. (s, came_here log_front front disk c.args.log.now c.args.heap.now s ready);
+  volume = record { geometry = refl; honest = refl; size = refl };
+  log = record { honest = refl; size = refl };
+  volume_faults = refl;
+  log_faults = refl;
+}
+
+pub loop-preserved : goal.loop-preserved
+loop-preserved g c =
+    let invariant = c.loop.invariant in
+    let taken = c.in_ok-turn.ensures.turn c.if-branch.true in
+    record {
+      undo = c.in_ok-turn.ensures.undo;
+      so_far = undone_and (records_of_log c.args.log.now) (records_of_log c.loop.log) (records_of_log c.turn.new.log) taken.loser invariant.so_far taken.is_one taken.logged;
+      come = λ log_front front disk s ready.
+          let come = invariant.come log_front front disk s ready in
+          come_on log_front front c.args.log.now c.args.heap.now s c.in_ok-turn.field-0 c.loop.log c.turn.new.log c.loop.heap c.turn.new.heap _ come
+          (c.in_ok-turn.ensures.moves log_front front come.1.disk come.0 come.1.ready) c.turn.ensures.volume.geometry;
+      volume = same_again c.args.heap.now c.loop.heap c.turn.new.heap invariant.volume c.turn.ensures.volume;
+      log = same_on c.args.log.now c.loop.log c.turn.new.log invariant.log c.turn.ensures.log;
+      volume_faults = c.in_ok-turn.ensures.volume_cause.unreported (λ e. cc) ∙ invariant.volume_faults;
+      log_faults = c.in_ok-turn.ensures.log_cause.unreported (λ e. cc) ∙ invariant.log_faults;
+    }
+
+pub loop-smaller : goal.loop-smaller
+loop-smaller g c = (c.in_ok-turn.ensures.turn c.if-branch.true).fewer
+
+pub force-requires : goal.force-requires
+force-requires g c = record { room = c.in_ok-turn.ensures.undo.room.leaves }
+
+-- ---- a turn was refused
+
+pub returns-in_err-turn-clause-moves : goal.returns-in_err-turn-clause-moves
+returns-in_err-turn-clause-moves g c log_front front disk s ready =
+    let e = c.in_err-turn.field-0.0 in
+    let come = c.loop.invariant.come log_front front disk s ready in
+    come_stop log_front front c.args.log.now c.args.heap.now s e c.from_residual.result c.loop.log c.turn.new.log c.loop.heap c.turn.new.heap _ _ come (err_with c.from_residual.result e c.from_residual.ensures.1)
+    (c.in_err-turn.ensures.moves log_front front come.1.disk come.0 come.1.ready)
+
+pub returns-in_err-turn-clause-no_room : goal.returns-in_err-turn-clause-no_room
+returns-in_err-turn-clause-no_room g c =
+    let invariant = c.loop.invariant in
+    if_err c.from_residual.result c.from_residual.ensures.1 (λ error same is. (
+      records_of_log c.loop.log,
+      invariant.so_far,
+      subst (λ (n : ℕ). HasNoTurnRoom (records_of_log c.loop.log) n) (stream_same c.args.log.now c.loop.log invariant.log) (c.in_err-turn.ensures.no_room (sym same ∙ is)),
+    ))
+
+pub returns-in_err-turn-clause-bad : goal.returns-in_err-turn-clause-bad
+returns-in_err-turn-clause-bad g c log_front front disk s ready =
+    let come = c.loop.invariant.come log_front front disk s ready in
+    if_err c.from_residual.result c.from_residual.ensures.1 (λ error same n is. (
+      records_of_log c.loop.log,
+      c.loop.invariant.so_far,
+      c.in_err-turn.ensures.bad log_front front come.1.disk come.0 come.1.ready n (sym same ∙ is),
+    ))
+
+pub returns-in_err-turn-clause-device : goal.returns-in_err-turn-clause-device
+returns-in_err-turn-clause-device g c log_front front disk s ready =
+    let come = c.loop.invariant.come log_front front disk s ready in
+    if_err c.from_residual.result c.from_residual.ensures.1 (λ error same f is. c.in_err-turn.ensures.device log_front front come.1.disk come.0 come.1.ready f (sym same ∙ is))
+
+pub returns-in_err-turn-clause-log_device : goal.returns-in_err-turn-clause-log_device
+returns-in_err-turn-clause-log_device g c log_front front disk s ready =
+    let come = c.loop.invariant.come log_front front disk s ready in
+    if_err c.from_residual.result c.from_residual.ensures.1 (λ error same f is. c.in_err-turn.ensures.log_device log_front front come.1.disk come.0 come.1.ready f (sym same ∙ is))
+
+pub returns-in_err-turn-clause-volume : goal.returns-in_err-turn-clause-volume
+returns-in_err-turn-clause-volume g c = same_again c.args.heap.now c.loop.heap c.turn.new.heap c.loop.invariant.volume c.turn.ensures.volume
+
+pub returns-in_err-turn-clause-log : goal.returns-in_err-turn-clause-log
+returns-in_err-turn-clause-log g c = same_on c.args.log.now c.loop.log c.turn.new.log c.loop.invariant.log c.turn.ensures.log
+
+pub returns-in_err-turn-clause-volume_cause : goal.returns-in_err-turn-clause-volume_cause
+returns-in_err-turn-clause-volume_cause g c =
+    passed_cause (Unit {0}) Bool c.from_residual.result c.in_err-turn.field-0.0 (faults_of c.args.heap.now) (faults_of c.loop.heap) (faults_of c.turn.new.heap) c.loop.invariant.volume_faults
+    c.from_residual.ensures.1 c.in_err-turn.ensures.volume_cause
+
+pub returns-in_err-turn-clause-log_cause : goal.returns-in_err-turn-clause-log_cause
+returns-in_err-turn-clause-log_cause g c =
+    passed_log_cause (Unit {0}) Bool c.from_residual.result c.in_err-turn.field-0.0 (log_faults c.args.log.now) (log_faults c.loop.log) (log_faults c.turn.new.log) c.loop.invariant.log_faults
+    c.from_residual.ensures.1 c.in_err-turn.ensures.log_cause
+
+-- ---- nobody is left
+
+pub returns-clause-undone : goal.returns-clause-undone
+returns-clause-undone g c =
+    let none = c.in_ok-turn.ensures.none c.if-branch.false in
+    on_ok c.force.result (subst (IsUndoneSoFar (records_of_log c.args.log.now)) (sym none.0 ∙ sym c.force.ensures.same) c.loop.invariant.so_far)
+
+pub returns-clause-none : goal.returns-clause-none
+returns-clause-none g c =
+    let none = c.in_ok-turn.ensures.none c.if-branch.false in
+    on_ok c.force.result (subst (λ (log : List LogRecord). (t : ℕ) → IsLoser log t → ⊥) (sym c.force.ensures.same) none.1)
+
+pub returns-clause-done : goal.returns-clause-done
+returns-clause-done g c lawful =
+    let none = c.in_ok-turn.ensures.none c.if-branch.false in
+    on_ok c.force.result (subst HasNoLosers (sym c.force.ensures.same) (none.2 (lawful_so_far (records_of_log c.args.log.now) (records_of_log c.loop.log) c.loop.invariant.so_far lawful)))
+
+pub returns-clause-undo : goal.returns-clause-undo
+returns-clause-undo g c =
+    on_ok c.force.result (subst (λ (n : ℕ). IsUndoOf (geometry_of c.turn.new.heap) (records_of_log c.force.new.log) n c.turn.new.self) (sym (stream_same c.turn.new.log c.force.new.log c.force.ensures.log))
+    (subst (λ (log : List LogRecord). IsUndoOf (geometry_of c.turn.new.heap) log (stream_bytes_of c.turn.new.log) c.turn.new.self) (sym c.force.ensures.same) c.in_ok-turn.ensures.undo))
+
+pub returns-clause-moves : goal.returns-clause-moves
+returns-clause-moves g c log_front front disk s ready =
+    let before = c.loop.invariant.come log_front front disk s ready in
+    let come = come_on log_front front c.args.log.now c.args.heap.now s c.in_ok-turn.field-0 c.loop.log c.turn.new.log c.loop.heap c.turn.new.heap _ before
+    (c.in_ok-turn.ensures.moves log_front front before.1.disk before.0 before.1.ready) c.turn.ensures.volume.geometry in
+    let now = come.1 in
+    force_last log_front front c.args.log.now c.args.heap.now s c.force.result c.turn.new.log c.force.new.log c.turn.new.heap come.0 now
+    (c.force.ensures.forces log_front come.0 now.ready.at_rest now.ready.redone (geometry_of c.args.heap.now) front (history_of c.turn.new.heap)
+    (left_by front now.disk c.args.heap.now c.turn.new.heap come.0 now.geometry now.ready.stands))
+
+pub returns-clause-no_room : goal.returns-clause-no_room
+returns-clause-no_room g c = err_to c.force.result c.force.ensures.refused (λ error is none. elim is [
+  | inl memory ↦ let clash = sym memory ∙ none in absurd cc
+  | inr (inl device) ↦ let clash = sym device ∙ none in absurd cc
+  | inr (inr full) ↦ let clash = sym full ∙ none in absurd cc
+])
+
+pub returns-clause-bad : goal.returns-clause-bad
+returns-clause-bad g c log_front front disk s ready = err_to c.force.result c.force.ensures.refused (λ error is n bad. elim is [
+  | inl memory ↦ let clash = sym memory ∙ bad in absurd cc
+  | inr (inl device) ↦ let clash = sym device ∙ bad in absurd cc
+  | inr (inr full) ↦ let clash = sym full ∙ bad in absurd cc
+])
+
+pub returns-clause-device : goal.returns-clause-device
+returns-clause-device g c log_front front disk s ready = err_to c.force.result c.force.ensures.refused (λ error is f page. elim is [
+  | inl memory ↦ let clash = sym memory ∙ page in absurd cc
+  | inr (inl device) ↦ let clash = sym device ∙ page in absurd cc
+  | inr (inr full) ↦ let clash = sym full ∙ page in absurd cc
+])
+
+pub returns-clause-log_device : goal.returns-clause-log_device
+returns-clause-log_device g c log_front front disk s ready =
+    let before = c.loop.invariant.come log_front front disk s ready in
+    let come = come_on log_front front c.args.log.now c.args.heap.now s c.in_ok-turn.field-0 c.loop.log c.turn.new.log c.loop.heap c.turn.new.heap _ before
+    (c.in_ok-turn.ensures.moves log_front front before.1.disk before.0 before.1.ready) c.turn.ensures.volume.geometry in
+    c.force.ensures.device log_front come.1.ready.at_rest.settled come.1.ready.at_rest.none_staged
+
+pub returns-clause-volume : goal.returns-clause-volume
+returns-clause-volume g c = same_again c.args.heap.now c.loop.heap c.turn.new.heap c.loop.invariant.volume c.turn.ensures.volume
+
+pub returns-clause-log : goal.returns-clause-log
+returns-clause-log g c =
+    same_on c.args.log.now c.turn.new.log c.force.new.log (same_on c.args.log.now c.loop.log c.turn.new.log c.loop.invariant.log c.turn.ensures.log) c.force.ensures.log
+
+pub returns-clause-volume_cause : goal.returns-clause-volume_cause
+returns-clause-volume_cause g c =
+    no_page_cause (Unit {0}) c.force.result (faults_of c.args.heap.now) (faults_of c.turn.new.heap) (c.in_ok-turn.ensures.volume_cause.unreported (λ e. cc) ∙ c.loop.invariant.volume_faults)
+    (err_to c.force.result c.force.ensures.refused (λ error is f page. elim is [
+      | inl memory ↦ let clash = sym memory ∙ page in cc
+      | inr (inl device) ↦ let clash = sym device ∙ page in cc
+      | inr (inr full) ↦ let clash = sym full ∙ page in cc
+    ]))
+
+pub returns-clause-log_cause : goal.returns-clause-log_cause
+returns-clause-log_cause g c =
+    let same = c.in_ok-turn.ensures.log_cause.unreported (λ e. cc) ∙ c.loop.invariant.log_faults in
+    subst (λ (n : ℕ). HasCause (log_answer c.force.result) n (log_faults c.force.new.log)) same c.force.ensures.cause

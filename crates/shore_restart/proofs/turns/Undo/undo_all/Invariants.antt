@@ -1,0 +1,23 @@
+use Rattle.std.proofs.Common.{◌≡◌, ℕ, List}
+use Rattle.shore_heap.specs.Heaps.{faults_of, geometry_of}
+use Rattle.shore_log.specs.Settled.{records_of_log}
+use Rattle.shore_recovery.specs.Recovery.{RecoveryState}
+use Rattle.shore_losers.specs.Losers.{turns_left}
+use Rattle.shore_restart.specs.Standing.{IsReady, SameLog, SameVolume, log_faults, stream_bytes_of}
+use Rattle.shore_restart.specs.Turns.{IsUndoOf, IsUndoneSoFar}
+use Rattle.shore_restart.proofs.Undoing.{HasCome}
+use Rattle.shore_restart.proofs.turns.Undo.undo_all.Given as goal
+
+abbrev pub invariant-loop : goal.invariant-loop
+invariant-loop g l = record {
+  undo : IsUndoOf (geometry_of l.heap) (records_of_log l.log) (stream_bytes_of l.log) l.self;
+  so_far : IsUndoneSoFar (records_of_log l.initial.log) (records_of_log l.log);
+  come : (log_front front : List ℕ) (disk : ℕ → List ℕ) (s : RecoveryState) → IsReady log_front front disk l.initial.log l.initial.heap s → HasCome log_front front l.initial.log l.initial.heap s l.log l.heap;
+  volume : SameVolume l.initial.heap l.heap;
+  log : SameLog l.initial.log l.log;
+  volume_faults : faults_of l.heap ≡ faults_of l.initial.heap;
+  log_faults : log_faults l.log ≡ log_faults l.initial.log;
+}
+
+abbrev pub decreases-loop : goal.decreases-loop
+decreases-loop g l = turns_left (records_of_log l.log) l.self.losers

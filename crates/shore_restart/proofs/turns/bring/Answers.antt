@@ -1,0 +1,87 @@
+use Rattle.std.proofs.Common.{◌≡◌, Result, false, true, refl, sym, ap, subst, ◌∙◌, length, arith}
+use Rattle.shore_dwrite.proofs.Moves.{if_err}
+use Rattle.shore_log.specs.Settled.{records_of_log}
+use Rattle.shore_heap.specs.Heaps.{geometry_of, history_of}
+use Rattle.shore_recovery.specs.Recovery.{after_force}
+use Rattle.shore_restart.specs.declared.errors.RestartError.{RestartError}
+use Rattle.shore_restart.specs.Standing.{Moves, log_history, moment_of}
+use Rattle.shore_restart.proofs.Causes.{device_alone, force_runs, none_above}
+use Rattle.shore_restart.proofs.Coming.{came_fetched, came_forced, came_here, fetch_moves, force_stops}
+use Rattle.shore_restart.proofs.PageErrors.{err_with}
+use Rattle.shore_restart.proofs.turns.bring.Goals as goal
+
+pub returns-then-not-needs_force-clause-moves : goal.returns-then-not-needs_force-clause-moves
+returns-then-not-needs_force-clause-moves g c log_front front disk s ready =
+    let log = c.args.log.now in
+    let heap = c.args.heap.now in
+    let durable = ready.at_rest.durable in
+    let seen = c.number-seen.ensures ∙ c.durable.ensures in
+    fetch_moves log_front front log heap s c.fetch-fetched.result log heap c.fetch-fetched.new.heap s (came_here log_front front disk log heap s ready)
+    (c.fetch-fetched.ensures.fetches front disk s ready.stands (omega (arith, durable, seen))) c.fetch-fetched.ensures.volume.geometry refl refl
+
+pub returns-then-not-needs_force-clause-device : goal.returns-then-not-needs_force-clause-device
+returns-then-not-needs_force-clause-device g c log_front front disk s ready =
+    let no : c.needs_force.result ≡ false = c.if-not-needs_force.true in
+    let records : length s.log ≡ length (records_of_log c.args.log.now) = ap length ready.at_rest.records in
+    let found : length c.records.result.now ≡ length (records_of_log c.args.log.now) = ap length c.records.ensures.log in
+    device_alone c.fetch-fetched.result c.number-seen.result (length s.log) (λ force. let yes : c.needs_force.result ≡ true = c.needs_force.ensures.1 force in let clash : true ≡ false = sym yes ∙ no in cc)
+    (c.fetch-fetched.ensures.device front disk s ready.stands (omega (arith, records, found)))
+
+pub returns-in_err-force-clause-moves : goal.returns-in_err-force-clause-moves
+returns-in_err-force-clause-moves g c log_front front disk s ready =
+    let log = c.args.log.now in
+    let heap = c.args.heap.now in
+    let mid = c.fetch-fetched.new.heap in
+    let durable = ready.at_rest.durable in
+    let seen = c.number-seen.ensures ∙ c.durable.ensures in
+    let needed = c.needs_force.ensures.0 c.if-not-needs_force.false in
+    let first = moment_of (log_history log) heap s in
+    let f = c.fetch-fetched.ensures.fetches front disk s ready.stands (omega (arith, durable, seen)) in
+    let came = came_fetched (geometry_of heap) log_front front first log heap mid s c.fetch-fetched.result (came_here log_front front disk log heap s ready) f
+    (force_runs c.fetch-fetched.result needed.0 needed.1) c.fetch-fetched.ensures.volume.geometry in
+    let e = c.in_err-force.field-0.0 in
+    subst (λ (result : Result (Unit {0}) RestartError). Moves result log_front front log c.force.new.log heap mid s (λ later. (later.log ≡ s.log) × (later.in_place ≡ s.in_place)))
+    (sym (err_with c.from_residual.result e c.from_residual.ensures.1))
+    (force_stops log_front front log heap s e e log c.force.new.log mid f.later (λ later. (later.log ≡ s.log) × (later.in_place ≡ s.in_place)) came
+    (c.in_err-force.ensures.forces log_front f.later came.ready.at_rest came.ready.redone (geometry_of heap) front (history_of mid) f.work.left))
+
+pub returns-clause-moves : goal.returns-clause-moves
+returns-clause-moves g c log_front front disk s ready =
+    let log = c.args.log.now in
+    let heap = c.args.heap.now in
+    let mid = c.fetch-fetched.new.heap in
+    let durable = ready.at_rest.durable in
+    let seen = c.number-seen.ensures ∙ c.durable.ensures in
+    let needed = c.needs_force.ensures.0 c.if-not-needs_force.false in
+    let first = moment_of (log_history log) heap s in
+    let f = c.fetch-fetched.ensures.fetches front disk s ready.stands (omega (arith, durable, seen)) in
+    let came = came_fetched (geometry_of heap) log_front front first log heap mid s c.fetch-fetched.result (came_here log_front front disk log heap s ready) f
+    (force_runs c.fetch-fetched.result needed.0 needed.1) c.fetch-fetched.ensures.volume.geometry in
+    let forces = c.in_ok-force.ensures.forces log_front f.later came.ready.at_rest came.ready.redone (geometry_of heap) front (history_of mid) f.work.left in
+    let forced = came_forced (geometry_of heap) log_front front first log c.force.new.log mid f.later came forces in
+    let all = forces.done.0 in
+    let records : length f.later.log ≡ length (records_of_log c.args.log.now) = ap length (f.same.log ∙ ready.at_rest.records) in
+    let found : length c.records.result.now ≡ length (records_of_log c.args.log.now) = ap length c.records.ensures.log in
+    fetch_moves log_front front log heap s c.fetch.result c.force.new.log mid c.fetch.new.heap (after_force f.later forces.durable) forced
+    (c.fetch.ensures.fetches front forced.disk (after_force f.later forces.durable) forced.ready.stands (omega (arith, all, records, found))) c.fetch.ensures.volume.geometry f.same.log f.same.in_place
+
+pub returns-clause-device : goal.returns-clause-device
+returns-clause-device g c log_front front disk s ready =
+    let log = c.args.log.now in
+    let heap = c.args.heap.now in
+    let mid = c.fetch-fetched.new.heap in
+    let durable = ready.at_rest.durable in
+    let seen = c.number-seen.ensures ∙ c.durable.ensures in
+    let needed = c.needs_force.ensures.0 c.if-not-needs_force.false in
+    let first = moment_of (log_history log) heap s in
+    let f = c.fetch-fetched.ensures.fetches front disk s ready.stands (omega (arith, durable, seen)) in
+    let came = came_fetched (geometry_of heap) log_front front first log heap mid s c.fetch-fetched.result (came_here log_front front disk log heap s ready) f
+    (force_runs c.fetch-fetched.result needed.0 needed.1) c.fetch-fetched.ensures.volume.geometry in
+    let records : length f.later.log ≡ length (records_of_log c.args.log.now) = ap length (f.same.log ∙ ready.at_rest.records) in
+    let found : length c.records.result.now ≡ length (records_of_log c.args.log.now) = ap length c.records.ensures.log in
+    none_above c.fetch.result (length c.records.result.now) (length f.later.log) (omega (arith, records, found))
+    (c.fetch.ensures.device front came.disk f.later came.ready.stands (omega (arith, records, found)))
+
+pub returns-in_err-force-clause-log_device : goal.returns-in_err-force-clause-log_device
+returns-in_err-force-clause-log_device g c log_front front disk s ready =
+    if_err c.from_residual.result c.from_residual.ensures.1 (λ error same f is. c.in_err-force.ensures.device log_front ready.at_rest.settled ready.at_rest.none_staged f (sym same ∙ is))

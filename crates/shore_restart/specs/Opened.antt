@@ -1,0 +1,63 @@
+-- The core that a restart gives, and what it leaves if it gives none.
+use Rattle.std.specs.Prelude.{◌≡◌, ℕ, List, Result, Ok, Err, IfOk, length}
+use Rattle.shore_types.specs.declared.faults.Fault.{Fault}
+use Rattle.shore_types.specs.declared.ids.PageId.{PageId}
+use Rattle.shore_disk.specs.declared.device.Disk.{Ghosts}
+use Rattle.shore_model.specs.declared.log_records.LogRecord.{LogRecord}
+use Rattle.shore_model.specs.Logs.{Lawful}
+use Rattle.shore_log.specs.declared.device.LogDev.{LogDev}
+use Rattle.shore_log.specs.declared.tail.Tail as tail
+use Rattle.shore_log.specs.Settled.{records_of_log}
+use Rattle.shore_heap.specs.declared.heap.Heap.{Heap}
+use Rattle.shore_heap.specs.Heaps as heaps
+use Rattle.shore_analysis.specs.Tables.{IsNext}
+use Rattle.shore_recovery.specs.Recovery.{RecoveryState}
+use Rattle.shore_recovery.specs.Undo.{HasNoLosers}
+use Rattle.shore_calls.specs.States.{State}
+use Rattle.shore_managers.specs.StoredRuns.{IsOpenedOver}
+use Rattle.shore_bounds.specs.SlotCounts.{slot_count}
+use Rattle.shore_core.specs.declared.core_calls.Core.{Core}
+use Rattle.shore_core.specs.Cores.{IsIn, IsOver, heap_of}
+use Rattle.shore_restart.specs.declared.errors.RestartError.{RestartError}
+use Rattle.shore_restart.specs.declared.recovering.Report.{Report}
+use Rattle.shore_restart.specs.Errors.{log_answer, volume_answer}
+use Rattle.shore_stands.specs.Moments.{Moment, Path}
+use Rattle.shore_restart.specs.Standing.{IsAtRest, log_history, moment_of, stream_bytes_of}
+
+module _ {T V : Type 0} {G : tail.Ghosts T} {H : Ghosts V} where
+  -- the heap, in a core or handed back
+  abbrev pub heap_left : Result (Core T V G H × Report) (RestartError × Heap V H) → Heap V H
+  heap_left (Ok done) = heap_of done.0
+  heap_left (Err refused) = refused.1
+
+  -- the answer with no heap at the error
+  abbrev pub answer_of : Result (Core T V G H × Report) (RestartError × Heap V H) → Result (Unit {0}) RestartError
+  answer_of (Ok done) = Ok tt
+  answer_of (Err refused) = Err refused.0
+
+  -- what the volume answered, and the log device
+  abbrev pub volume_fault_left : Result (Core T V G H × Report) (RestartError × Heap V H) → Result (Unit {0}) Fault
+  volume_fault_left result = volume_answer (answer_of result)
+
+  abbrev pub log_fault_left : Result (Core T V G H × Report) (RestartError × Heap V H) → Result (Unit {0}) Fault
+  log_fault_left result = log_answer (answer_of result)
+
+  -- The core is in the state of a manager that opens over such a store, behind a volume with these texts of its pages and a log stream of this
+  -- length. Pages have the slots that records of the log have used, and the next transaction has the number that follows those of the log found.
+  pub record OpensIn (core : Core T V G H) (front : List ℕ) (disk : ℕ → List ℕ) (found log : List LogRecord) (stream_bytes : ℕ) (ready : RecoveryState) : Type 0 where
+    pub first : State
+    pub opened : IsOpenedOver ready first
+    pub counts : (p : PageId) → first.counts p ≡ slot_count ready.log p
+    pub stream : first.stream_bytes ≡ stream_bytes
+    pub next : IsNext found first.sessions.next_txn
+    pub is_in : IsIn front disk log core first
+    pub over : IsOver disk core first ready
+
+  -- From the moment of an open a restart has come to another. If it gave a core, and the log is lawful, all records are done then, no loser is
+  -- left, all of the log is durable and on its device, and the core has opened over that.
+  pub record Restarts {L : Type 0} {M : Ghosts L} (result : Result (Core T V G H × Report) (RestartError × Heap V H)) (log_front front : List ℕ) (old new : LogDev L M) (heap : Heap V H) (s : RecoveryState) : Type 0 where
+    pub ready : RecoveryState
+    pub moments : List Moment
+    pub path : Path (heaps.geometry_of heap) log_front front (moment_of (log_history old) heap s) moments (moment_of (log_history new) (heap_left result) ready)
+    pub opens : Lawful s.log → IfOk result (λ done. (ready.redone ≡ length ready.log) × HasNoLosers ready.log × (ready.durable ≡ length ready.log) × IsAtRest log_front new ready
+        × (left : ℕ → List ℕ) × OpensIn done.0 front left (records_of_log old) (records_of_log new) (stream_bytes_of new) ready)

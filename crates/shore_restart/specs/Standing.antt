@@ -1,0 +1,150 @@
+-- What the devices of a restart stand for between two steps: the log device for a log, and the heap for the pages of a store.
+use Rattle.std.specs.Prelude.{◌≡◌, ◌⊎◌, ◌+◌, ◌-◌, ◌≤◌, ℕ, List, Bool, None, Result, Err, OnOk, length}
+use Rattle.shore_types.specs.declared.faults.Fault.TheVariants as fault
+use Rattle.shore_types.specs.declared.ids.PageId.{PageId}
+use Rattle.shore_types.specs.declared.layout.Geometry.{Geometry}
+use Rattle.shore_types.specs.declared.layout.TheConstants.{LOG_FRONT_BYTES}
+use Rattle.shore_disk.specs.Device.{History, LeavesOnly, may_leave, size}
+use Rattle.shore_disk.specs.declared.device.Disk.{Ghosts}
+use Rattle.shore_log.specs.Settled.{IsSettled, records_of_log, stable}
+use Rattle.shore_log.specs.declared.device.LogDev.{LogDev}
+use Rattle.shore_page.specs.Slots.{Slot}
+use Rattle.shore_heap.specs.declared.heap.Heap.{Heap}
+use Rattle.shore_heap.specs.Contents.{unclaimed}
+use Rattle.shore_heap.specs.Heaps as heaps
+use Rattle.shore_heap.specs.Heaps.{Shows}
+use Rattle.shore_recovery.specs.Recovery.{AppendRecord, IsRecoverable, LeadsTo, RecoveryEvent, RecoveryState, after_append, after_force}
+use Rattle.shore_model.specs.declared.log_records.LogRecord.{LogRecord}
+use Rattle.shore_recovery.specs.Restarts.{RestartsTo}
+use Rattle.shore_logged.specs.LoggedHeaps.{AreSettled, IsStoreOf}
+use Rattle.shore_restart.specs.declared.errors.RestartError.{RestartError}
+use Rattle.shore_restart.specs.declared.errors.RestartError.TheVariants.{Page}
+use Rattle.shore_stands.specs.Moments.{GoesOn, IsCovered, Moment, Path, ShowsLeft}
+
+-- ---- the log device
+
+-- it is at rest: it has the store's log, as much of it is durable, and no frame is under way
+pub record IsAtRest {L : Type 0} {G : Ghosts L} (log_front : List ℕ) (log : LogDev L G) (s : RecoveryState) : Type 0 where
+  pub settled : IsSettled log log_front
+  pub none_staged : log.staged ≡ None
+  pub records : s.log ≡ records_of_log log
+  pub durable : s.durable ≡ length (stable log)
+
+-- the calls of its device
+abbrev pub log_history : {L : Type 0} {G : Ghosts L} → LogDev L G → History
+log_history {G = G} log = G.history log.device
+
+abbrev pub log_faults : {L : Type 0} {G : Ghosts L} → LogDev L G → ℕ
+log_faults {G = G} log = G.faults log.device
+
+-- the length of its stream
+abbrev pub stream_bytes_of : {L : Type 0} {G : Ghosts L} → LogDev L G → ℕ
+stream_bytes_of log = size (log_history log) - LOG_FRONT_BYTES
+
+-- its device is as honest and as long
+pub record SameLog {L : Type 0} {G : Ghosts L} (old new : LogDev L G) : Type 0 where
+  pub honest : G.is_honest new.device ≡ G.is_honest old.device
+  pub size : size (log_history new) ≡ size (log_history old)
+
+-- A force of the log device, beside a volume with such calls, on which it was not called. At its end all of the log is durable.
+pub record Forces {L : Type 0} {G : Ghosts L} {A : Type 0} (result : Result A RestartError) (g : Geometry) (log_front front : List ℕ) (volume : History) (old new : LogDev L G) (s : RecoveryState) : Type 0 where
+  pub durable : ℕ
+  pub moments : List Moment
+  pub path : Path g log_front front (record { log = log_history old; volume = volume; store = s }) moments (record { log = log_history new; volume = volume; store = after_force s durable })
+  pub done : OnOk result ((durable ≡ length s.log) × IsAtRest log_front new (after_force s durable))
+
+-- one frame of it, if a record waited
+pub record ForcesFrame {L : Type 0} {G : Ghosts L} (result : Result Bool RestartError) (g : Geometry) (log_front front : List ℕ) (volume : History) (old new : LogDev L G) (s : RecoveryState) : Type 0 where
+  pub durable : ℕ
+  pub no_lower : s.durable ≤ durable
+  pub goes_on : GoesOn g log_front front (record { log = log_history old; volume = volume; store = s }) (record { log = log_history new; volume = volume; store = after_force s durable })
+  pub covered : IsCovered g log_front front (record { log = log_history new; volume = volume; store = after_force s durable })
+  pub done : OnOk result (IsAtRest log_front new (after_force s durable))
+
+-- ---- the heap
+
+-- one store is another but for the pages of the volume
+pub record SameInPlace (s later : RecoveryState) : Type 0 where
+  pub log : later.log ≡ s.log
+  pub durable : later.durable ≡ s.durable
+  pub redone : later.redone ≡ s.redone
+  pub in_place : later.in_place ≡ s.in_place
+
+module _ {V : Type 0} {H : Ghosts V} where
+  -- The heap is the store's, over a volume that is settled with these texts of its pages behind this front. Each slot of a frame claims what
+  -- its record takes, and nothing besides, and the pages are shown.
+  pub record Stands (front : List ℕ) (disk : ℕ → List ℕ) (heap : Heap V H) (s : RecoveryState) : Type 0 where
+    pub store : IsStoreOf heap disk s
+    pub settled : AreSettled heap
+    pub recoverable : IsRecoverable s
+    pub slots : PageId → List Slot
+    pub shows : Shows unclaimed heap front disk slots
+
+  -- Work of a restart on the pages leads from one store to another. A crash at any moment of it leaves pages of the one before, and at its end
+  -- pages of the one after too.
+  pub record Worked (front : List ℕ) (old new : Heap V H) (s later : RecoveryState) : Type 0 where
+    pub works : List RecoveryEvent
+    pub work : RestartsTo s works later
+    pub volume : LeavesOnly (heaps.history_of old) (heaps.history_of new) (ShowsLeft (heaps.geometry_of old) front s)
+    pub left : (c : List ℕ) → may_leave (heaps.history_of new) c → ShowsLeft (heaps.geometry_of old) front later c
+
+  -- Pages were written back at most, and unless the device failed the heap stands for the same store over what is left of them.
+  pub record Fetches (result : Result (Unit {0}) RestartError) (front : List ℕ) (old new : Heap V H) (s : RecoveryState) : Type 0 where
+    pub later : RecoveryState
+    pub work : Worked front old new s later
+    pub same : SameInPlace s later
+    pub stands : (result ≡ Err (Page fault.Device)) ⊎ ((left : ℕ → List ℕ) × Stands front left new later)
+
+  -- The next record is redone, if its page did not have it, and the heap stands for the store that comes of it.
+  pub record Redoes {A : Type 0} (result : Result A RestartError) (front : List ℕ) (old new : Heap V H) (s : RecoveryState) : Type 0 where
+    pub later : RecoveryState
+    pub work : Worked front old new s later
+    pub log : later.log ≡ s.log
+    pub durable : later.durable ≡ s.durable
+    pub done : OnOk result ((later.redone ≡ s.redone + 1) × (left : ℕ → List ℕ) × Stands front left new later)
+
+  -- the moment of a heap, beside a log device with such calls
+  abbrev pub moment_of : History → Heap V H → RecoveryState → Moment
+  moment_of log heap s = record { log = log; volume = heaps.history_of heap; store = s }
+
+  -- All records are redone, one after another, while the log device is not called. The heap stands for a store of the same log then.
+  pub record RedoesAll {A : Type 0} (result : Result A RestartError) (log : History) (log_front front : List ℕ) (old new : Heap V H) (s : RecoveryState) : Type 0 where
+    pub later : RecoveryState
+    pub moments : List Moment
+    pub path : Path (heaps.geometry_of old) log_front front (moment_of log old s) moments (moment_of log new later)
+    pub log_is : later.log ≡ s.log
+    pub durable : later.durable ≡ s.durable
+    pub done : OnOk result ((later.redone ≡ length s.log) × (left : ℕ → List ℕ) × Stands front left new later)
+
+  -- the volume is of the same layout and length, and as honest
+  pub record SameVolume (old new : Heap V H) : Type 0 where
+    pub geometry : heaps.geometry_of new ≡ heaps.geometry_of old
+    pub honest : heaps.honesty_of new ≡ heaps.honesty_of old
+    pub size : size (heaps.history_of new) ≡ size (heaps.history_of old)
+
+  -- what a step on both devices has at first: the log device at rest, and a heap with all records done
+  pub record IsReady {L : Type 0} {G : Ghosts L} (log_front front : List ℕ) (disk : ℕ → List ℕ) (log : LogDev L G) (heap : Heap V H) (s : RecoveryState) : Type 0 where
+    pub at_rest : IsAtRest log_front log s
+    pub stands : Stands front disk heap s
+    pub redone : s.redone ≡ length s.log
+
+  -- Both devices may have been called, one after another. If it was not refused they are so again, over a store of which this holds.
+  pub record Moves {L : Type 0} {G : Ghosts L} {A : Type 0} (result : Result A RestartError) (log_front front : List ℕ) (old_log new_log : LogDev L G) (old new : Heap V H) (s : RecoveryState) (Done : RecoveryState → Type 0) : Type 0 where
+    pub later : RecoveryState
+    pub moments : List Moment
+    pub path : Path (heaps.geometry_of old) log_front front (moment_of (log_history old_log) old s) moments (moment_of (log_history new_log) new later)
+    pub done : OnOk result (Done later × (left : ℕ → List ℕ) × IsReady log_front front left new_log new later)
+
+  -- A record of undo is done on its page, and not yet in the log: the heap stands for the store that comes of it.
+  pub record Appends {L : Type 0} {G : Ghosts L} {A : Type 0} (result : Result A RestartError) (log_front front : List ℕ) (old_log new_log : LogDev L G) (old new : Heap V H) (s : RecoveryState) (r : LogRecord) : Type 0 where
+    pub later : RecoveryState
+    pub moments : List Moment
+    pub path : Path (heaps.geometry_of old) log_front front (moment_of (log_history old_log) old s) moments (moment_of (log_history new_log) new later)
+    pub done : OnOk result ((later.log ≡ s.log) × (later.redone ≡ length later.log) × IsAtRest log_front new_log later × LeadsTo later (AppendRecord r) (after_append later r) × (left : ℕ → List ℕ) × Stands front left new (after_append later r))
+
+  -- what an open has found: all of the log is durable and on its device at rest, and no record is redone on the pages of the heap
+  pub record IsFound {L : Type 0} {G : Ghosts L} (log_front front : List ℕ) (disk : ℕ → List ℕ) (log : LogDev L G) (heap : Heap V H) (s : RecoveryState) : Type 0 where
+    pub at_rest : IsAtRest log_front log s
+    pub stands : Stands front disk heap s
+    pub durable : s.durable ≡ length s.log
+    pub redone : s.redone ≡ 0

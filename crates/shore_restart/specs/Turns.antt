@@ -1,0 +1,48 @@
+-- The turns of undo: what undo works with, and why it may end before a loser is undone.
+use Rattle.std.specs.Prelude.{◌≡◌, ◌⊎◌, ◌<◌, ◌++◌, ◌∷◌, [], ℕ, List}
+use Rattle.shore_types.specs.declared.layout.Geometry.{Geometry}
+use Rattle.shore_model.specs.declared.log_records.LogRecord.{LogRecord}
+use Rattle.shore_model.specs.Logs.{unanswered, undo_next_of}
+use Rattle.shore_recovery.specs.Undo.{IsLoser, IsUndoneTo, undo_record}
+use Rattle.shore_analysis.specs.Meant.{AreMeant, IsFirstUnmeant}
+use Rattle.shore_bounds.specs.SlotCounts.{FitsBehind}
+use Rattle.shore_losers.specs.Losers.{HasLosers, IsNextToUndo, turns_left}
+use Rattle.shore_restart.specs.declared.turns.Undo.{Undo}
+use Rattle.shore_restart.specs.Errors.{DoesNotFit}
+use Rattle.shore_restart.specs.Room.{IsRoomBehind, LeavesRoom}
+
+-- a log that analysis takes, its losers, and its room in a stream of this length
+pub record IsUndoOf (g : Geometry) (log : List LogRecord) (stream_bytes : ℕ) (undo : Undo) : Type 0 where
+  pub meant : AreMeant g log
+  pub losers : HasLosers log undo.losers
+  pub room : IsRoomBehind log stream_bytes undo.room
+
+-- the log is one that was found, with turns of undo behind it
+abbrev pub IsUndoneSoFar : List LogRecord → List LogRecord → Type 0
+IsUndoneSoFar found log = (turns : List ℕ) × IsUndoneTo found turns log
+
+-- a loser's next record of undo was appended, and fewer turns are left
+pub record TakesTurn (log later : List LogRecord) (old new : Undo) : Type 0 where
+  pub loser : ℕ
+  pub is_one : IsLoser log loser
+  pub logged : later ≡ log ++ undo_record log loser ∷ []
+  pub fewer : turns_left later new.losers < turns_left log old.losers
+
+-- a loser's next record of undo leaves no room in a stream of this length
+abbrev pub HasNoTurnRoom : List LogRecord → ℕ → Type 0
+HasNoTurnRoom log stream_bytes = (t : ℕ) × IsLoser log t × (LeavesRoom (log ++ undo_record log t ∷ []) stream_bytes → ⊥)
+
+-- the Change of this number is to be undone next, and what its undo brings back does not fit its page
+abbrev pub CannotUndo : List LogRecord → ℕ → Type 0
+CannotUndo log n = (t : ℕ) × IsLoser log t × IsNextToUndo log t × (n ≡ undo_next_of (unanswered t log)) × (FitsBehind log (undo_record log t).payload → ⊥)
+
+-- ---- why a restart is refused
+
+-- The record of this number is the first that does not mean what it has to; or it does not fit its page; or what its undo brings back does not,
+-- behind the records of undo so far.
+abbrev pub IsBadRecord : Geometry → List LogRecord → ℕ → Type 0
+IsBadRecord g log n = IsFirstUnmeant g log n ⊎ DoesNotFit log n ⊎ ((so_far : List LogRecord) × IsUndoneSoFar log so_far × CannotUndo so_far n)
+
+-- the log leaves no room in a stream of this length, or it does with the records of undo so far but not with one more
+abbrev pub LacksRoom : List LogRecord → ℕ → Type 0
+LacksRoom log stream_bytes = (LeavesRoom log stream_bytes → ⊥) ⊎ ((so_far : List LogRecord) × IsUndoneSoFar log so_far × HasNoTurnRoom so_far stream_bytes)

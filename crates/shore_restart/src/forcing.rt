@@ -1,0 +1,61 @@
+//! The force of the records of undo.
+ghost use Rattle.std.specs.Prelude.{◌≡◌, ◌⊎◌, ◌<◌, [], ℕ, List, IfErr, IfOk, IsFalse, IsTrue, None, OnOk, length};
+ghost use Rattle.shore_disk.specs.Cause.{HasCause};
+ghost use Rattle.shore_disk.specs.Device.{History, may_leave};
+ghost use Rattle.shore_types.specs.declared.faults.Fault.{Fault};
+ghost use Rattle.shore_types.specs.declared.faults.Fault.TheVariants as Fault;
+ghost use Rattle.shore_types.specs.declared.layout.Geometry.{Geometry};
+ghost use Rattle.shore_types.specs.declared.layout.TheConstants.{LOG_FRONT_BYTES};
+ghost use Rattle.shore_log.specs.Settled.{IsSettled, records_of_log, waiting};
+ghost use Rattle.shore_recovery.specs.Recovery.{RecoveryState};
+ghost use Rattle.shore_restart.specs.declared.errors.RestartError.TheVariants as RestartError;
+ghost use Rattle.shore_restart.specs.Errors.{log_answer};
+ghost use Rattle.shore_stands.specs.Moments.{ShowsLeft};
+ghost use Rattle.shore_restart.specs.Room.{LeavesRoom};
+ghost use Rattle.shore_restart.specs.Standing.{Forces, ForcesFrame, IsAtRest, SameLog, log_faults, stream_bytes_of};
+
+use crate::errors::{RestartError, log_error};
+use shore_disk::Disk;
+use shore_log::LogDev;
+use std::alloc::Global;
+
+/// Forces all records that wait, frame by frame. `Memory` if an allocation failed, `Log` if the device failed (`Device`) or has no room for a frame
+/// (`LogFull`, which a settled log with this room never has); the frames that were forced until then stay.
+pub fn force<L: Disk>(alloc: Global, log: &mut LogDev<L>) -> Result<(), RestartError>
+    requires room { LeavesRoom (records_of_log log.old) (stream_bytes_of log.old) }
+    ensures forces { (log_front : List ℕ) (s : RecoveryState) → IsAtRest log_front log.old s → s.redone ≡ length s.log
+        → (g : Geometry) (front : List ℕ) (h : History) → ((c : List ℕ) → may_leave h c → ShowsLeft g front s c)
+        → Forces result g log_front front h log.old log.new s }
+    ensures refused { IfErr result (λ error. (error ≡ RestartError.Memory) ⊎ (error ≡ RestartError.Log Fault.Device) ⊎ (error ≡ RestartError.Log Fault.LogFull)) }
+    ensures device { (log_front : List ℕ) → IsSettled log.old log_front → log.old.staged ≡ None
+        → IfErr result (λ error. (f : Fault) → error ≡ RestartError.Log f → f ≡ Fault.Device) }
+    ensures same { records_of_log log.new ≡ records_of_log log.old }
+    ensures log { SameLog log.old log.new }
+    ensures cause { HasCause (log_answer result) (log_faults log.old) (log_faults log.new) }
+{
+    while force_frame(alloc, log)? {}
+    Ok(())
+}
+
+// Forces one frame, and answers whether a record waited for it.
+fn force_frame<L: Disk>(alloc: Global, log: &mut LogDev<L>) -> Result<bool, RestartError>
+    requires room { LeavesRoom (records_of_log log.old) (stream_bytes_of log.old) }
+    ensures forces { (log_front : List ℕ) (s : RecoveryState) → IsAtRest log_front log.old s
+        → (g : Geometry) (front : List ℕ) (h : History) → ((c : List ℕ) → may_leave h c → ShowsLeft g front s c)
+        → ForcesFrame result g log_front front h log.old log.new s }
+    ensures fewer { IfOk result (λ more. IsTrue more → length (waiting log.new) < length (waiting log.old)) }
+    ensures none { IfOk result (λ more. IsFalse more → log.old.staged ≡ None → log.new ≡ log.old × (waiting log.old ≡ [])) }
+    ensures settled { (log_front : List ℕ) → IsSettled log.old log_front → log.old.staged ≡ None
+        → OnOk result (IsSettled log.new log_front × (log.new.staged ≡ None)) }
+    ensures refused { IfErr result (λ error. (error ≡ RestartError.Memory) ⊎ (error ≡ RestartError.Log Fault.Device) ⊎ (error ≡ RestartError.Log Fault.LogFull)) }
+    ensures device { (log_front : List ℕ) → IsSettled log.old log_front → log.old.staged ≡ None
+        → IfErr result (λ error. (f : Fault) → error ≡ RestartError.Log f → f ≡ Fault.Device) }
+    ensures same { records_of_log log.new ≡ records_of_log log.old }
+    ensures log { SameLog log.old log.new }
+    ensures cause { HasCause (log_answer result) (log_faults log.old) (log_faults log.new) }
+{
+    match log.append_frame(alloc) {
+        Ok(forced) => Ok(forced.is_some()),
+        Err(fault) => Err(log_error(fault)),
+    }
+}

@@ -1,0 +1,129 @@
+//! What a restart does with its two devices: analysis, redo, undo, and the force of undo's records.
+ghost use Rattle.std.specs.Prelude.{◌≡◌, ◌⊎◌, ◌≤◌, ℕ, List, IfErr, IfOk, None, OnOk, length};
+ghost use Rattle.shore_disk.specs.Cause.{HasCause};
+ghost use Rattle.shore_types.specs.declared.faults.Fault.{Fault};
+ghost use Rattle.shore_types.specs.declared.faults.Fault.TheVariants as Fault;
+ghost use Rattle.shore_model.specs.declared.log_records.LogRecord.{LogRecord};
+ghost use Rattle.shore_model.specs.Logs.{Lawful};
+ghost use Rattle.shore_log.specs.Settled.{records_of_log};
+ghost use Rattle.shore_heap.specs.Heaps.{faults_of, geometry_of};
+ghost use Rattle.shore_txn.specs.Tables.{active_in, committing_in, next_in, room_in};
+ghost use Rattle.shore_recovery.specs.Recovery.{RecoveryState};
+ghost use Rattle.shore_recovery.specs.Undo.{HasNoLosers, IsLoser};
+ghost use Rattle.shore_analysis.specs.declared.analysis.NotAnalysed.TheVariants as NotAnalysed;
+ghost use Rattle.shore_analysis.specs.declared.analysis.Tables.{Tables};
+ghost use Rattle.shore_analysis.specs.Meant.{AreMeant, IsFirstUnmeant};
+ghost use Rattle.shore_analysis.specs.Tables.{AreTables, IsNext};
+ghost use Rattle.shore_restart.specs.declared.errors.RestartError.{RestartError};
+ghost use Rattle.shore_restart.specs.declared.errors.RestartError.TheVariants as RestartError;
+ghost use Rattle.shore_restart.specs.Errors.{log_answer, volume_answer};
+ghost use Rattle.shore_restart.specs.Room.{IsRoomBehind};
+ghost use Rattle.shore_restart.specs.Standing.{IsFound, Moves, SameLog, SameVolume, log_faults, stream_bytes_of};
+ghost use Rattle.shore_restart.specs.Turns.{IsBadRecord, IsUndoneSoFar, LacksRoom};
+
+use crate::errors::RestartError;
+use crate::log_sums::room_of;
+use crate::redo::redo;
+use crate::turns::Undo;
+use shore_analysis::{NotAnalysed, Tables, analyse};
+use shore_disk::Disk;
+use shore_heap::Heap;
+use shore_log::LogDev;
+use shore_logrec::LogRecord;
+use shore_losers::Losers;
+use shore_txn::TxnTable;
+use shore_types::Geometry;
+use std::alloc::Global;
+
+/// What a restart did.
+#[derive(Clone, Copy)]
+pub struct Report {
+    /// How many records the log had.
+    pub read: u64,
+    /// How many of them were missing on their pages.
+    pub redone: u64,
+    /// How many losers were ended.
+    pub undone: u64,
+}
+
+/// What a restart leaves beside its devices.
+#[derive(Drop)]
+pub struct Recovered {
+    pub txns: TxnTable,
+    pub report: Report,
+}
+
+/// Redoes the log that the device has, undoes its losers, and forces the records of that.
+pub fn recover<L: Disk, V: Disk>(
+    alloc: Global,
+    log: &mut LogDev<L>,
+    heap: &mut Heap<V>,
+) -> Result<Recovered, RestartError>
+    ensures moves { (log_front front : List ℕ) (disk : ℕ → List ℕ) (s : RecoveryState) → IsFound log_front front disk log.old heap.old s
+        → Moves result log_front front log.old log.new heap.old heap.new s (λ later. later.durable ≡ length later.log) }
+    ensures undone { OnOk result (IsUndoneSoFar (records_of_log log.old) (records_of_log log.new)) }
+    ensures none { OnOk result ((t : ℕ) → IsLoser (records_of_log log.new) t → ⊥) }
+    ensures done { Lawful (records_of_log log.old) → OnOk result (HasNoLosers (records_of_log log.new)) }
+    ensures table { IfOk result (λ left. (active_in left.txns ≡ None) × (committing_in left.txns ≡ None) × IsNext (records_of_log log.old) (next_in left.txns)
+        × IsRoomBehind (records_of_log log.new) (stream_bytes_of log.new) (room_in left.txns)) }
+    ensures report { IfOk result (λ left. (left.report.read ≡ length (records_of_log log.old)) × (left.report.redone ≤ left.report.read)
+        × ((tables : Tables) × AreTables (records_of_log log.old) tables × (left.report.undone ≡ length tables.txns))) }
+    ensures bad { (log_front front : List ℕ) (disk : ℕ → List ℕ) (s : RecoveryState) → IsFound log_front front disk log.old heap.old s
+        → IfErr result (λ error. (n : ℕ) → error ≡ RestartError.BadRecord n → IsBadRecord (geometry_of heap.old) (records_of_log log.old) n) }
+    ensures no_room { IfErr result (λ error. error ≡ RestartError.NoRoom → LacksRoom (records_of_log log.old) (stream_bytes_of log.old)) }
+    ensures device { (log_front front : List ℕ) (disk : ℕ → List ℕ) (s : RecoveryState) → IsFound log_front front disk log.old heap.old s
+        → IfErr result (λ error. (f : Fault) → error ≡ RestartError.Page f → f ≡ Fault.Device) }
+    ensures log_device { (log_front front : List ℕ) (disk : ℕ → List ℕ) (s : RecoveryState) → IsFound log_front front disk log.old heap.old s
+        → IfErr result (λ error. (f : Fault) → error ≡ RestartError.Log f → f ≡ Fault.Device) }
+    ensures volume { SameVolume heap.old heap.new }
+    ensures log { SameLog log.old log.new }
+    ensures volume_cause { HasCause (volume_answer result) (faults_of heap.old) (faults_of heap.new) }
+    ensures log_cause { HasCause (log_answer result) (log_faults log.old) (log_faults log.new) }
+{
+    let tables = tables_of(alloc, heap.geometry(), log.records())?;
+    let Some(room) = room_of(log.records(), log.stream_bytes()) else {
+        return Err(RestartError::NoRoom);
+    };
+    let read = log.records().len() as u64;
+    let redone = redo(alloc, heap, log.records())?;
+    let undone = tables.txns.as_slice().len() as u64;
+    let mut undo = Undo {
+        losers: Losers::of(tables.txns),
+        room,
+    };
+    undo.undo_all(alloc, log, heap)?;
+    Ok(Recovered {
+        txns: TxnTable::new(alloc, undo.room, tables.next.0)?,
+        report: Report {
+            read,
+            redone,
+            undone,
+        },
+    })
+}
+
+// The tables of a log.
+fn tables_of(
+    alloc: Global,
+    geometry: &Geometry,
+    records: &[LogRecord],
+) -> Result<Tables, RestartError>
+    ensures meant { OnOk result (AreMeant geometry.now records.now) }
+    ensures tables { IfOk result (AreTables records.now) }
+    ensures refused { IfErr result (λ error. (error ≡ RestartError.Memory) ⊎ ((n : ℕ) × (error ≡ RestartError.BadRecord n) × IsFirstUnmeant geometry.now records.now n)) }
+{
+    match analyse(alloc, geometry, records) {
+        Ok(tables) => Ok(tables),
+        Err(error) => Err(refusal(error)),
+    }
+}
+
+// The error that a log has which analysis refuses.
+fn refusal(error: NotAnalysed) -> RestartError
+    ensures { ((error ≡ NotAnalysed.Memory) × (result ≡ RestartError.Memory)) ⊎ ((n : ℕ) × (error ≡ NotAnalysed.Unlawful n) × (result ≡ RestartError.BadRecord n)) }
+{
+    match error {
+        NotAnalysed::Memory => RestartError::Memory,
+        NotAnalysed::Unlawful(number) => RestartError::BadRecord(number),
+    }
+}

@@ -1,0 +1,125 @@
+//! Redo: each record of the log that its page does not have is done on it again (ARIES: the redo pass, which repeats history).
+ghost use Rattle.std.specs.Prelude.{◌≡◌, ◌≢◌, ◌+◌, ◌≤◌, ℕ, List, IfErr, IfOk, Some, length, slice_get};
+ghost use Rattle.shore_disk.specs.Cause.{HasCause};
+ghost use Rattle.shore_disk.specs.Device.{History, may_leave};
+ghost use Rattle.shore_types.specs.Layout.{HasPage, HasSlot};
+ghost use Rattle.shore_types.specs.declared.faults.Fault.{Fault};
+ghost use Rattle.shore_types.specs.declared.faults.Fault.TheVariants as Fault;
+ghost use Rattle.shore_types.specs.declared.ids.Rid.{Rid};
+ghost use Rattle.shore_model.specs.declared.log_records.LogRecord.{LogRecord};
+ghost use Rattle.shore_model.specs.Logs.{id_in, image_in};
+ghost use Rattle.shore_heap.specs.Heaps.{faults_of, geometry_of};
+ghost use Rattle.shore_recovery.specs.Recovery.{RecoveryState};
+ghost use Rattle.shore_analysis.specs.Meant.{AreMeant};
+ghost use Rattle.shore_restart.specs.declared.errors.RestartError.{RestartError};
+ghost use Rattle.shore_restart.specs.declared.errors.RestartError.TheVariants as RestartError;
+ghost use Rattle.shore_restart.specs.Errors.{DoesNotFit, volume_answer};
+ghost use Rattle.shore_stands.specs.Moments.{GivesPrefix};
+ghost use Rattle.shore_restart.specs.Standing.{Redoes, RedoesAll, SameVolume, Stands};
+
+use crate::errors::RestartError;
+use crate::images::len_of;
+use crate::pages::{fetch, put};
+use shore_disk::Disk;
+use shore_heap::Heap;
+use shore_logrec::{LogRecord, Payload};
+use shore_types::{Bytes, Lsn, PageId, Rid};
+use std::alloc::Global;
+
+/// Redoes each record of a log whose records are all durable, first to last, and answers how many were missing on their pages.
+pub fn redo<V: Disk>(
+    alloc: Global,
+    heap: &mut Heap<V>,
+    log: &[LogRecord],
+) -> Result<u64, RestartError>
+    requires meant { AreMeant (geometry_of heap.old) log.now }
+    ensures redone { (front : List ℕ) (disk : ℕ → List ℕ) (s : RecoveryState) → Stands front disk heap.old s → s.log ≡ log.now → s.durable ≡ length s.log → s.redone ≡ 0
+        → (h : History) (log_front : List ℕ) → ((c : List ℕ) → may_leave h c → GivesPrefix log_front s c) → RedoesAll result h log_front front heap.old heap.new s }
+    ensures bad { (front : List ℕ) (disk : ℕ → List ℕ) (s : RecoveryState) → Stands front disk heap.old s → s.log ≡ log.now → s.durable ≡ length s.log → s.redone ≡ 0
+        → IfErr result (λ error. (n : ℕ) → error ≡ RestartError.BadRecord n → DoesNotFit log.now n) }
+    ensures device { (front : List ℕ) (disk : ℕ → List ℕ) (s : RecoveryState) → Stands front disk heap.old s → s.log ≡ log.now → s.durable ≡ length s.log → s.redone ≡ 0
+        → IfErr result (λ error. (f : Fault) → error ≡ RestartError.Page f → f ≡ Fault.Device) }
+    ensures others { IfErr result (λ error. (error ≢ RestartError.NoRoom) × ((f : Fault) → error ≢ RestartError.Log f)) }
+    ensures most { IfOk result (λ redone. redone ≤ length log.now) }
+    ensures volume { SameVolume heap.old heap.new }
+    ensures cause { HasCause (volume_answer result) (faults_of heap.old) (faults_of heap.new) }
+{
+    let last = Lsn(log.len() as u64);
+    let mut redone = 0u64;
+    for index in 0..log.len() {
+        if redo_record(alloc, heap, &log[index], Lsn(index as u64 + 1), last)? {
+            redone += 1;
+        }
+    }
+    Ok(redone)
+}
+
+// Redoes a record on its page, if it has one and the page does not have the record, and answers whether it did.
+fn redo_record<V: Disk>(
+    alloc: Global,
+    heap: &mut Heap<V>,
+    logged: &LogRecord,
+    number: Lsn,
+    last: Lsn,
+) -> Result<bool, RestartError>
+    requires there { (id : Rid) → id_in logged.now.payload ≡ Some id → HasSlot (geometry_of heap.old) id }
+    ensures redone { (front : List ℕ) (disk : ℕ → List ℕ) (s : RecoveryState) → Stands front disk heap.old s → slice_get s.log s.redone ≡ Some logged.now
+        → number ≡ s.redone + 1 → last ≡ length s.log → s.durable ≡ length s.log → Redoes result front heap.old heap.new s }
+    ensures bad { (front : List ℕ) (disk : ℕ → List ℕ) (s : RecoveryState) → Stands front disk heap.old s → slice_get s.log s.redone ≡ Some logged.now
+        → number ≡ s.redone + 1 → last ≡ length s.log → s.durable ≡ length s.log → IfErr result (λ error. (n : ℕ) → error ≡ RestartError.BadRecord n → DoesNotFit s.log n) }
+    ensures device { (front : List ℕ) (disk : ℕ → List ℕ) (s : RecoveryState) → Stands front disk heap.old s → last ≡ length s.log → s.durable ≡ length s.log
+        → IfErr result (λ error. (f : Fault) → error ≡ RestartError.Page f → f ≡ Fault.Device) }
+    ensures others { IfErr result (λ error. (error ≢ RestartError.NoRoom) × ((f : Fault) → error ≢ RestartError.Log f)) }
+    ensures volume { SameVolume heap.old heap.new }
+    ensures cause { HasCause (volume_answer result) (faults_of heap.old) (faults_of heap.new) }
+{
+    match &logged.payload {
+        Payload::Change { id, after, .. } | Payload::Compensation { id, after, .. } => {
+            redo_image(alloc, heap, *id, after, number, last)
+        }
+        _ => Ok(false),
+    }
+}
+
+// Redoes a record with an image, if its page does not have it.
+fn redo_image<V: Disk>(
+    alloc: Global,
+    heap: &mut Heap<V>,
+    id: Rid,
+    image: &Option<Bytes>,
+    number: Lsn,
+    last: Lsn,
+) -> Result<bool, RestartError>
+    requires { HasPage (geometry_of heap.old) id.page }
+    ensures redone { (front : List ℕ) (disk : ℕ → List ℕ) (s : RecoveryState) (r : LogRecord) → Stands front disk heap.old s → slice_get s.log s.redone ≡ Some r
+        → image_in r.payload ≡ Some (id, image.now) → number ≡ s.redone + 1 → last ≡ length s.log → s.durable ≡ length s.log → Redoes result front heap.old heap.new s }
+    ensures bad { (front : List ℕ) (disk : ℕ → List ℕ) (s : RecoveryState) (r : LogRecord) → Stands front disk heap.old s → slice_get s.log s.redone ≡ Some r
+        → image_in r.payload ≡ Some (id, image.now) → number ≡ s.redone + 1 → last ≡ length s.log → s.durable ≡ length s.log
+        → IfErr result (λ error. (n : ℕ) → error ≡ RestartError.BadRecord n → DoesNotFit s.log n) }
+    ensures device { (front : List ℕ) (disk : ℕ → List ℕ) (s : RecoveryState) → Stands front disk heap.old s → last ≡ length s.log → s.durable ≡ length s.log
+        → IfErr result (λ error. (f : Fault) → error ≡ RestartError.Page f → f ≡ Fault.Device) }
+    ensures others { IfErr result (λ error. (error ≢ RestartError.NoRoom) × ((f : Fault) → error ≢ RestartError.Log f)) }
+    ensures volume { SameVolume heap.old heap.new }
+    ensures cause { HasCause (volume_answer result) (faults_of heap.old) (faults_of heap.new) }
+{
+    let Rid { page, slot } = id;
+    let PageId { store, page } = page;
+    fetch(alloc, heap, PageId { store, page }, last, last)?;
+    let found = heap.number(PageId { store, page });
+    if found.0 >= number.0 {
+        return Ok(false);
+    }
+    let there = Rid {
+        page: PageId { store, page },
+        slot,
+    };
+    if !heap.fits(there, len_of(image)) {
+        return Err(RestartError::BadRecord(number));
+    }
+    let there = Rid {
+        page: PageId { store, page },
+        slot,
+    };
+    put(heap, there, number, image);
+    Ok(true)
+}

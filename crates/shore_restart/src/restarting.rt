@@ -1,0 +1,66 @@
+//! A restart, from what an open has found to a core.
+ghost use Rattle.std.specs.Prelude.{◌≡◌, ◌≤◌, ◌+◌, ℕ, List, IfErr, IfOk, OnOk, length};
+ghost use Rattle.shore_disk.specs.Cause.{HasCause};
+ghost use Rattle.shore_types.specs.declared.faults.Fault.{Fault};
+ghost use Rattle.shore_types.specs.declared.faults.Fault.TheVariants as Fault;
+ghost use Rattle.shore_log.specs.Settled.{records_of_log, stable};
+ghost use Rattle.shore_heap.specs.Heaps.{faults_of, geometry_of};
+ghost use Rattle.shore_core.specs.Cores.{durable_of, first_of};
+ghost use Rattle.shore_recovery.specs.Recovery.{RecoveryState};
+ghost use Rattle.shore_analysis.specs.declared.analysis.Tables.{Tables};
+ghost use Rattle.shore_analysis.specs.Tables.{AreTables};
+ghost use Rattle.shore_restart.specs.declared.errors.RestartError.{RestartError};
+ghost use Rattle.shore_restart.specs.declared.errors.RestartError.TheVariants as RestartError;
+ghost use Rattle.shore_restart.specs.Opened.{Restarts, heap_left, log_fault_left, volume_fault_left};
+ghost use Rattle.shore_restart.specs.Standing.{IsFound, SameLog, SameVolume, log_faults, stream_bytes_of};
+ghost use Rattle.shore_restart.specs.Turns.{IsBadRecord, LacksRoom};
+
+use crate::errors::RestartError;
+use crate::recovering::{Recovered, Report, recover};
+use shore_core::Core;
+use shore_disk::Disk;
+use shore_heap::Heap;
+use shore_log::{LogDev, PlainTail};
+use shore_types::Lsn;
+use std::alloc::Global;
+
+/// Restarts on what an open of both devices has found: redoes the records of the log that their pages do not have, undoes the losers and forces the
+/// records of that, and makes a core over what is left. It may be stopped at any moment; the next restart goes on. If there is no core the heap is
+/// handed back, and is of no use but for its device.
+pub fn restart<L: Disk, V: Disk>(
+    alloc: Global,
+    log: &mut LogDev<L>,
+    heap: Heap<V>,
+) -> Result<(Core<PlainTail, V>, Report), (RestartError, Heap<V>)>
+    // From what was found to what is left, a crash at any moment leaves what a crash may make of a store on the way. Of a lawful log that is
+    // one with all records done and no loser, durable and shown by the core.
+    ensures restarts { (log_front front : List ℕ) (disk : ℕ → List ℕ) (s : RecoveryState) → IsFound log_front front disk log.old heap s
+        → Restarts result log_front front log.old log.new heap s }
+    ensures report { IfOk result (λ done. (done.1.read ≡ length (records_of_log log.old)) × (done.1.redone ≤ done.1.read)
+        × ((tables : Tables) × AreTables (records_of_log log.old) tables × (done.1.undone ≡ length tables.txns))) }
+
+    // A refusal names a record that does not mean what it has to or does not fit, or there is no room, or a device has failed.
+    ensures bad { (log_front front : List ℕ) (disk : ℕ → List ℕ) (s : RecoveryState) → IsFound log_front front disk log.old heap s
+        → IfErr result (λ refused. (n : ℕ) → refused.0 ≡ RestartError.BadRecord n → IsBadRecord (geometry_of heap) (records_of_log log.old) n) }
+    ensures no_room { IfErr result (λ refused. refused.0 ≡ RestartError.NoRoom → LacksRoom (records_of_log log.old) (stream_bytes_of log.old)) }
+    ensures device { (log_front front : List ℕ) (disk : ℕ → List ℕ) (s : RecoveryState) → IsFound log_front front disk log.old heap s
+        → IfErr result (λ refused. (f : Fault) → refused.0 ≡ RestartError.Page f → f ≡ Fault.Device) }
+    ensures log_device { (log_front front : List ℕ) (disk : ℕ → List ℕ) (s : RecoveryState) → IsFound log_front front disk log.old heap s
+        → IfErr result (λ refused. (f : Fault) → refused.0 ≡ RestartError.Log f → f ≡ Fault.Device) }
+    // The core's buffer is empty and begins behind the log, all of which is durable: any core.
+    ensures numbers { IfOk result (λ done. (first_of done.0 ≡ 1 + length (records_of_log log.new)) × (durable_of done.0 ≡ length (stable log.new))) }
+    ensures volume { SameVolume heap (heap_left result) }
+    ensures log { SameLog log.old log.new }
+    ensures volume_cause { HasCause (volume_fault_left result) (faults_of heap) (faults_of (heap_left result)) }
+    ensures log_cause { HasCause (log_fault_left result) (log_faults log.old) (log_faults log.new) }
+{
+    let mut heap = heap;
+    match recover(alloc, log, &mut heap) {
+        Ok(Recovered { txns, report }) => {
+            let last = Lsn(log.records().len() as u64);
+            let durable = log.durable().number();
+            Ok((Core::over(alloc, heap, txns, last, durable), report))
+        }
+        Err(error) => Err((error, heap)),
+    }
+}

@@ -1,0 +1,274 @@
+//! Undo: the losers' turns, a record of undo in each (ARIES: the undo pass).
+ghost use Rattle.std.specs.Prelude.{◌≡◌, ◌≢◌, ◌+◌, ◌↔◌, ℕ, List, Err, IfErr, IfOk, IsFalse, IsTrue, OnOk, Some, is_some, length};
+ghost use Rattle.shore_disk.specs.Cause.{HasCause};
+ghost use Rattle.shore_types.specs.Layout.{HasPage, HasSlot};
+ghost use Rattle.shore_types.specs.declared.faults.Fault.{Fault};
+ghost use Rattle.shore_types.specs.declared.faults.Fault.TheVariants as Fault;
+ghost use Rattle.shore_model.specs.declared.log_records.LogRecord.{LogRecord};
+ghost use Rattle.shore_model.specs.Logs.{Lawful, id_in, image_in, unanswered};
+ghost use Rattle.shore_page.specs.Room.{Fits};
+ghost use Rattle.shore_page.specs.Slots.{image_len};
+ghost use Rattle.shore_heap.specs.Heaps.{faults_of, frame_of, geometry_of};
+ghost use Rattle.shore_log.specs.Settled.{HasRecordRoom, records_of_log};
+ghost use Rattle.shore_recovery.specs.Recovery.{RecoveryState};
+ghost use Rattle.shore_recovery.specs.Undo.{HasNoLosers, IsLoser, undo_payload, undo_record};
+ghost use Rattle.shore_bounds.specs.SlotCounts.{FitsBehind, slots_left};
+ghost use Rattle.shore_types.specs.declared.ids.Rid.{Rid};
+ghost use Rattle.shore_restart.specs.declared.errors.RestartError.{RestartError};
+ghost use Rattle.shore_restart.specs.declared.errors.RestartError.TheVariants as RestartError;
+ghost use Rattle.shore_restart.specs.Errors.{log_answer, volume_answer};
+ghost use Rattle.shore_restart.specs.Standing.{Appends, IsAtRest, IsReady, Moves, SameLog, SameVolume, log_faults, log_history, stream_bytes_of};
+ghost use Rattle.shore_restart.specs.Room.{LeavesRoom};
+ghost use Rattle.shore_restart.specs.Turns.{CannotUndo, HasNoTurnRoom, IsUndoOf, IsUndoneSoFar, TakesTurn};
+
+use crate::errors::RestartError;
+use crate::forcing::force;
+use crate::images::len_of;
+use crate::log_sums::room_with;
+use crate::pages::{fetch, put};
+use shore_disk::Disk;
+use shore_heap::Heap;
+use shore_log::LogDev;
+use shore_logrec::{LogRecord, Payload};
+use shore_losers::Losers;
+use shore_txn::LogRoom;
+use shore_types::{Bytes, Fault, Lsn, PageId, Rid};
+use std::alloc::Global;
+
+/// What undo works with: the losers that are left, and the room of the log with the records of undo so far.
+#[derive(Drop)]
+pub struct Undo {
+    pub losers: Losers,
+    pub room: LogRoom,
+}
+
+impl Undo {
+    /// Undoes all losers and forces the records of it. If it is stopped, what is forced stays, and the next restart goes on with that.
+    pub fn undo_all<L: Disk, V: Disk>(
+        &mut self,
+        alloc: Global,
+        log: &mut LogDev<L>,
+        heap: &mut Heap<V>,
+    ) -> Result<(), RestartError>
+        requires { IsUndoOf (geometry_of heap.old) (records_of_log log.old) (stream_bytes_of log.old) self.old }
+        ensures undone { OnOk result (IsUndoneSoFar (records_of_log log.old) (records_of_log log.new)) }
+        ensures none { OnOk result ((t : ℕ) → IsLoser (records_of_log log.new) t → ⊥) }
+        ensures done { Lawful (records_of_log log.old) → OnOk result (HasNoLosers (records_of_log log.new)) }
+        ensures undo { OnOk result (IsUndoOf (geometry_of heap.new) (records_of_log log.new) (stream_bytes_of log.new) self.new) }
+        ensures moves { (log_front front : List ℕ) (disk : ℕ → List ℕ) (s : RecoveryState) → IsReady log_front front disk log.old heap.old s
+            → Moves result log_front front log.old log.new heap.old heap.new s (λ later. later.durable ≡ length later.log) }
+        ensures no_room { IfErr result (λ error. error ≡ RestartError.NoRoom → (so_far : List LogRecord) × IsUndoneSoFar (records_of_log log.old) so_far × HasNoTurnRoom so_far (stream_bytes_of log.old)) }
+        ensures bad { (log_front front : List ℕ) (disk : ℕ → List ℕ) (s : RecoveryState) → IsReady log_front front disk log.old heap.old s
+            → IfErr result (λ error. (n : ℕ) → error ≡ RestartError.BadRecord n → (so_far : List LogRecord) × IsUndoneSoFar (records_of_log log.old) so_far × CannotUndo so_far n) }
+        ensures device { (log_front front : List ℕ) (disk : ℕ → List ℕ) (s : RecoveryState) → IsReady log_front front disk log.old heap.old s
+            → IfErr result (λ error. (f : Fault) → error ≡ RestartError.Page f → f ≡ Fault.Device) }
+        ensures log_device { (log_front front : List ℕ) (disk : ℕ → List ℕ) (s : RecoveryState) → IsReady log_front front disk log.old heap.old s
+            → IfErr result (λ error. (f : Fault) → error ≡ RestartError.Log f → f ≡ Fault.Device) }
+        ensures volume { SameVolume heap.old heap.new }
+        ensures log { SameLog log.old log.new }
+        ensures volume_cause { HasCause (volume_answer result) (faults_of heap.old) (faults_of heap.new) }
+        ensures log_cause { HasCause (log_answer result) (log_faults log.old) (log_faults log.new) }
+    {
+        while self.turn(alloc, log, heap)? {}
+        force(alloc, log)
+    }
+
+    // Appends the next record of undo and does it on its page, and answers whether there was one.
+    fn turn<L: Disk, V: Disk>(
+        &mut self,
+        alloc: Global,
+        log: &mut LogDev<L>,
+        heap: &mut Heap<V>,
+    ) -> Result<bool, RestartError>
+        requires { IsUndoOf (geometry_of heap.old) (records_of_log log.old) (stream_bytes_of log.old) self.old }
+        ensures turn { IfOk result (λ more. IsTrue more → TakesTurn (records_of_log log.old) (records_of_log log.new) self.old self.new) }
+        ensures undo { OnOk result (IsUndoOf (geometry_of heap.new) (records_of_log log.new) (stream_bytes_of log.new) self.new) }
+        ensures none { IfOk result (λ more. IsFalse more → (records_of_log log.new ≡ records_of_log log.old) × ((t : ℕ) → IsLoser (records_of_log log.new) t → ⊥)
+            × (Lawful (records_of_log log.old) → HasNoLosers (records_of_log log.new))) }
+        ensures moves { (log_front front : List ℕ) (disk : ℕ → List ℕ) (s : RecoveryState) → IsReady log_front front disk log.old heap.old s
+            → Moves result log_front front log.old log.new heap.old heap.new s (λ later. later.log ≡ records_of_log log.new) }
+        ensures no_room { IfErr result (λ error. error ≡ RestartError.NoRoom → HasNoTurnRoom (records_of_log log.old) (stream_bytes_of log.old)) }
+        ensures bad { (log_front front : List ℕ) (disk : ℕ → List ℕ) (s : RecoveryState) → IsReady log_front front disk log.old heap.old s
+            → IfErr result (λ error. (n : ℕ) → error ≡ RestartError.BadRecord n → CannotUndo (records_of_log log.old) n) }
+        ensures device { (log_front front : List ℕ) (disk : ℕ → List ℕ) (s : RecoveryState) → IsReady log_front front disk log.old heap.old s
+            → IfErr result (λ error. (f : Fault) → error ≡ RestartError.Page f → f ≡ Fault.Device) }
+        ensures log_device { (log_front front : List ℕ) (disk : ℕ → List ℕ) (s : RecoveryState) → IsReady log_front front disk log.old heap.old s
+            → IfErr result (λ error. (f : Fault) → error ≡ RestartError.Log f → f ≡ Fault.Device) }
+        ensures volume { SameVolume heap.old heap.new }
+        ensures log { SameLog log.old log.new }
+        ensures volume_cause { HasCause (volume_answer result) (faults_of heap.old) (faults_of heap.new) }
+        ensures log_cause { HasCause (log_answer result) (log_faults log.old) (log_faults log.new) }
+    {
+        let Some(logged) = self.losers.next_record(alloc, log.records())? else {
+            return Ok(false);
+        };
+        let records = log.records().len() as u64;
+        let Some(room) = room_with(&self.room, &logged, records) else {
+            return Err(RestartError::NoRoom);
+        };
+        let number = Lsn(records + 1);
+        append(
+            alloc,
+            log,
+            heap,
+            &logged.payload,
+            number,
+            self.losers.next_change(),
+        )?;
+        self.losers.note_logged(&logged, number);
+        self.room = room;
+        log.take(logged);
+        Ok(true)
+    }
+}
+
+// Does a record of undo on its page, if it is of one, and takes the memory for it in the log. `undone` is the number of the Change that it undoes.
+fn append<L: Disk, V: Disk>(
+    alloc: Global,
+    log: &mut LogDev<L>,
+    heap: &mut Heap<V>,
+    payload: &Payload,
+    number: Lsn,
+    undone: Lsn,
+) -> Result<(), RestartError>
+    requires there { (id : Rid) → id_in payload.now ≡ Some id → HasSlot (geometry_of heap.old) id }
+    requires room { LeavesRoom (records_of_log log.old) (stream_bytes_of log.old) }
+    ensures appends { (log_front front : List ℕ) (disk : ℕ → List ℕ) (s : RecoveryState) (t : ℕ) → IsReady log_front front disk log.old heap.old s
+        → payload.now ≡ undo_payload (unanswered t s.log) → number ≡ length s.log + 1
+        → Appends result log_front front log.old log.new heap.old heap.new s (undo_record s.log t) }
+    ensures reserved { OnOk result (HasRecordRoom log.new 1) }
+    ensures bad { (log_front front : List ℕ) (disk : ℕ → List ℕ) (s : RecoveryState) → IsReady log_front front disk log.old heap.old s
+        → IfErr result (λ error. (n : ℕ) → error ≡ RestartError.BadRecord n → (n ≡ undone) × (FitsBehind s.log payload.now → ⊥)) }
+    ensures device { (log_front front : List ℕ) (disk : ℕ → List ℕ) (s : RecoveryState) → IsReady log_front front disk log.old heap.old s
+        → IfErr result (λ error. (f : Fault) → error ≡ RestartError.Page f → f ≡ Fault.Device) }
+    ensures log_device { (log_front front : List ℕ) (disk : ℕ → List ℕ) (s : RecoveryState) → IsReady log_front front disk log.old heap.old s
+        → IfErr result (λ error. (f : Fault) → error ≡ RestartError.Log f → f ≡ Fault.Device) }
+    ensures others { IfErr result (λ error. error ≢ RestartError.NoRoom) }
+    ensures same { records_of_log log.new ≡ records_of_log log.old }
+    ensures log { SameLog log.old log.new }
+    ensures volume { SameVolume heap.old heap.new }
+    ensures volume_cause { HasCause (volume_answer result) (faults_of heap.old) (faults_of heap.new) }
+    ensures log_cause { HasCause (log_answer result) (log_faults log.old) (log_faults log.new) }
+{
+    match payload {
+        Payload::Compensation { id, after, .. } => {
+            put_back(alloc, log, heap, *id, after, number, undone)
+        }
+        _ => reserve(log),
+    }
+}
+
+// Puts an image back by a record of undo of this number, and takes the memory for the record in the log.
+fn put_back<L: Disk, V: Disk>(
+    alloc: Global,
+    log: &mut LogDev<L>,
+    heap: &mut Heap<V>,
+    id: Rid,
+    image: &Option<Bytes>,
+    number: Lsn,
+    undone: Lsn,
+) -> Result<(), RestartError>
+    requires there { HasPage (geometry_of heap.old) id.page }
+    requires room { LeavesRoom (records_of_log log.old) (stream_bytes_of log.old) }
+    ensures appends { (log_front front : List ℕ) (disk : ℕ → List ℕ) (s : RecoveryState) (r : LogRecord) → IsReady log_front front disk log.old heap.old s
+        → image_in r.payload ≡ Some (id, image.now) → number ≡ length s.log + 1 → Appends result log_front front log.old log.new heap.old heap.new s r }
+    ensures reserved { OnOk result (HasRecordRoom log.new 1) }
+    ensures bad { (log_front front : List ℕ) (disk : ℕ → List ℕ) (s : RecoveryState) → IsReady log_front front disk log.old heap.old s
+        → IfErr result (λ error. (n : ℕ) → error ≡ RestartError.BadRecord n → (n ≡ undone) × (Fits (slots_left s.log id.page) id.slot (image_len image.now) → ⊥)) }
+    ensures device { (log_front front : List ℕ) (disk : ℕ → List ℕ) (s : RecoveryState) → IsReady log_front front disk log.old heap.old s
+        → IfErr result (λ error. (f : Fault) → error ≡ RestartError.Page f → f ≡ Fault.Device) }
+    ensures log_device { (log_front front : List ℕ) (disk : ℕ → List ℕ) (s : RecoveryState) → IsReady log_front front disk log.old heap.old s
+        → IfErr result (λ error. (f : Fault) → error ≡ RestartError.Log f → f ≡ Fault.Device) }
+    ensures others { IfErr result (λ error. error ≢ RestartError.NoRoom) }
+    ensures same { records_of_log log.new ≡ records_of_log log.old }
+    ensures log { SameLog log.old log.new }
+    ensures volume { SameVolume heap.old heap.new }
+    ensures volume_cause { HasCause (volume_answer result) (faults_of heap.old) (faults_of heap.new) }
+    ensures log_cause { HasCause (log_answer result) (log_faults log.old) (log_faults log.new) }
+{
+    let Rid { page, slot } = id;
+    let PageId { store, page } = page;
+    bring(alloc, log, heap, PageId { store, page })?;
+    let there = Rid {
+        page: PageId { store, page },
+        slot,
+    };
+    if !heap.fits(there, len_of(image)) {
+        return Err(RestartError::BadRecord(undone));
+    }
+    reserve(log)?;
+    let there = Rid {
+        page: PageId { store, page },
+        slot,
+    };
+    put(heap, there, number, image);
+    Ok(())
+}
+
+// Brings a page into a frame. If a force is needed for that, the records of undo so far are forced first.
+fn bring<L: Disk, V: Disk>(
+    alloc: Global,
+    log: &mut LogDev<L>,
+    heap: &mut Heap<V>,
+    page: PageId,
+) -> Result<(), RestartError>
+    requires there { HasPage (geometry_of heap.old) page }
+    requires room { LeavesRoom (records_of_log log.old) (stream_bytes_of log.old) }
+    ensures held { OnOk result (IsTrue (is_some (frame_of heap.new page))) }
+    ensures moves { (log_front front : List ℕ) (disk : ℕ → List ℕ) (s : RecoveryState) → IsReady log_front front disk log.old heap.old s
+        → Moves result log_front front log.old log.new heap.old heap.new s (λ later. (later.log ≡ s.log) × (later.in_place ≡ s.in_place)) }
+    ensures no_record { IfErr result (λ error. (n : ℕ) → error ≢ RestartError.BadRecord n) }
+    ensures device { (log_front front : List ℕ) (disk : ℕ → List ℕ) (s : RecoveryState) → IsReady log_front front disk log.old heap.old s
+        → IfErr result (λ error. (f : Fault) → error ≡ RestartError.Page f → f ≡ Fault.Device) }
+    ensures log_device { (log_front front : List ℕ) (disk : ℕ → List ℕ) (s : RecoveryState) → IsReady log_front front disk log.old heap.old s
+        → IfErr result (λ error. (f : Fault) → error ≡ RestartError.Log f → f ≡ Fault.Device) }
+    ensures others { IfErr result (λ error. error ≢ RestartError.NoRoom) }
+    ensures same { records_of_log log.new ≡ records_of_log log.old }
+    ensures log { SameLog log.old log.new }
+    ensures volume { SameVolume heap.old heap.new }
+    ensures volume_cause { HasCause (volume_answer result) (faults_of heap.old) (faults_of heap.new) }
+    ensures log_cause { HasCause (log_answer result) (log_faults log.old) (log_faults log.new) }
+{
+    let last = Lsn(log.records().len() as u64);
+    let seen = log.durable().number();
+    let PageId { store, page } = page;
+    let fetched = fetch(alloc, heap, PageId { store, page }, last, seen);
+    if !needs_force(&fetched) {
+        return fetched;
+    }
+    force(alloc, log)?;
+    fetch(alloc, heap, PageId { store, page }, last, last)
+}
+
+// Whether a page was refused since the log has to be forced first.
+fn needs_force(fetched: &Result<(), RestartError>) -> bool
+    ensures { IsTrue result ↔ ((n : ℕ) × (fetched.now ≡ Err (RestartError.Page (Fault.NeedForce n)))) }
+{
+    match fetched {
+        Err(error) => is_force(error),
+        Ok(()) => false,
+    }
+}
+
+fn is_force(error: &RestartError) -> bool
+    ensures { IsTrue result ↔ ((n : ℕ) × (error.now ≡ RestartError.Page (Fault.NeedForce n))) }
+{
+    match error {
+        RestartError::Page(fault) => matches!(fault, Fault::NeedForce { .. }),
+        _ => false,
+    }
+}
+
+// Takes the memory for a record more in the log.
+fn reserve<L: Disk>(log: &mut LogDev<L>) -> Result<(), RestartError>
+    ensures room { OnOk result (HasRecordRoom log.new 1) }
+    ensures at_rest { (log_front : List ℕ) (s : RecoveryState) → IsAtRest log_front log.old s → IsAtRest log_front log.new s }
+    ensures refused { IfErr result (λ error. error ≡ RestartError.Memory) }
+    ensures same { (records_of_log log.new ≡ records_of_log log.old) × (log_history log.new ≡ log_history log.old) × (log_faults log.new ≡ log_faults log.old) }
+    ensures log { SameLog log.old log.new }
+{
+    match log.reserve(1) {
+        Ok(()) => Ok(()),
+        Err(_) => Err(RestartError::Memory),
+    }
+}

@@ -1,0 +1,3 @@
+pub mod SoundStores
+pub mod Stays
+pub mod UnderWay

@@ -1,0 +1,2 @@
+pub mod SoundStores
+pub mod Stays

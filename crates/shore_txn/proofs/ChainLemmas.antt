@@ -1,0 +1,141 @@
+-- Chains of places: one place more, and what a step to an older one passes.
+use Rattle.std.proofs.Common.{◌≡◌, ◌<◌, ◌≤◌, ◌+◌, ◌++◌, ℕ, zero, suc, Bool, true, false, List, [], ◌∷◌, Some, length, replicate, take, drop, get_or, set, refl, sym, ap, subst, ◌∙◌, inl, inr, arith, below_more}
+use Rattle.std.specs.Prelude.{◌==◌}
+use Rattle.std.proofs.Math.ListN.{get_or-append}
+use Rattle.std.proofs.Math.Seq.{get_or-append_seam, take-append_seam}
+use Rattle.std.proofs.lemmas.Bool.{cases_eq}
+use Rattle.std.proofs.lemmas.Bool.Decides.{Decides-eqb}
+use Rattle.std.proofs.lemmas.List.{get_or-replicate, length-replicate, drop_all, drop_more, length-map, length-set, length_push, map-append, get_or-set_same, get_or-set_other, take-append-le}
+use Rattle.shore_txn.specs.declared.chains.Link.{Link}
+use Rattle.shore_txn.specs.Chains.{IsChained, IsEmptied, IsLink, IsOfBucket, buckets_of, link_at, newest_in, place_behind}
+
+-- a test of two numbers that are one, and of two that are not
+same_test : (a b : ℕ) → a ≡ b → (a == b) ≡ true
+same_test a b is = (Decides-eqb a b).1 is
+
+pub other_test : (a b : ℕ) → (a ≡ b → ⊥) → (a == b) ≡ false
+other_test a b apart = each (a == b) (Decides-eqb a b).0
+  where
+    each : (t : Bool) → (t ≡ true → a ≡ b) → t ≡ false
+    each true is = absurd (apart (is refl))
+    each false is = refl
+
+-- ---- the newest place
+
+pub newest_push : (buckets : List ℕ) (b : ℕ) → newest_in b (buckets ++ b ∷ []) ≡ length buckets + 1
+newest_push [] b = ap (λ t. place_behind t 0) (same_test b b refl)
+newest_push (x ∷ buckets) b =
+    let more : length buckets + 1 ≡ suc (length buckets) = omega arith in
+    let long : suc (suc (length buckets)) ≡ length (x ∷ buckets) + 1 = omega arith in
+    ap (place_behind (x == b)) (newest_push buckets b ∙ more) ∙ long
+
+pub newest_other : (buckets : List ℕ) (b c : ℕ) → (c ≡ b → ⊥) → newest_in b (buckets ++ c ∷ []) ≡ newest_in b buckets
+newest_other [] b c apart = ap (λ t. place_behind t 0) (other_test c b apart)
+newest_other (x ∷ buckets) b c apart = ap (place_behind (x == b)) (newest_other buckets b c apart)
+
+behind_within : (t : Bool) (later n : ℕ) → later ≤ n → place_behind t later ≤ suc n
+behind_within true zero n le = omega (arith, le)
+behind_within false zero n le = omega (arith, le)
+behind_within true (suc later) n le = omega (arith, le)
+behind_within false (suc later) n le = omega (arith, le)
+
+pub newest_within : (buckets : List ℕ) (b : ℕ) → newest_in b buckets ≤ length buckets
+newest_within [] b = omega arith
+newest_within (x ∷ buckets) b = behind_within (x == b) (newest_in b buckets) (length buckets) (newest_within buckets b)
+
+pub newest_is : (buckets : List ℕ) (b : ℕ) → IsOfBucket buckets b (newest_in b buckets)
+newest_is [] b = tt
+newest_is (x ∷ buckets) b = each (x == b) (Decides-eqb x b).0 (newest_in b buckets) (newest_is buckets b)
+  where
+    each : (t : Bool) → (t ≡ true → x ≡ b) → (later : ℕ) → IsOfBucket buckets b later → IsOfBucket (x ∷ buckets) b (place_behind t later)
+    each true same zero is = ap Some (same refl)
+    each false same zero is = tt
+    each true same (suc later) is = is
+    each false same (suc later) is = is
+
+-- ---- one place more
+
+module _ (links : List Link) (heads : List ℕ) (link : Link) (chained : IsChained links heads) (inside : link.bucket < 1024) (leads : link.older ≡ get_or heads link.bucket 0) where
+  abbrev longer : List Link
+  longer = links ++ link ∷ []
+
+  abbrev no_link : Link
+  no_link = record { bucket = 0; older = 0 }
+
+  buckets_more : buckets_of longer ≡ buckets_of links ++ link.bucket ∷ []
+  buckets_more = map-append (λ (l : Link). l.bucket) links (link ∷ [])
+
+  count : length (buckets_of links) ≡ length links
+  count = length-map links (λ (l : Link). l.bucket)
+
+  newest_more : (b : ℕ) → b < 1024 → get_or (set heads link.bucket (length longer)) b 0 ≡ newest_in b (buckets_of longer)
+  newest_more b below = elim (cases_eq link.bucket b) [
+    | inl same ↦ subst (λ (n : ℕ). get_or (set heads link.bucket (length longer)) n 0 ≡ newest_in n (buckets_of longer)) same
+        (get_or-set_same heads link.bucket (length longer) 0 (let c = chained.count in omega (arith, c, inside)) ∙ length_push links link ∙ ap (λ n. n + 1) (sym count) ∙ sym (ap (newest_in link.bucket) buckets_more ∙ newest_push (buckets_of links) link.bucket))
+    | inr apart ↦ get_or-set_other heads link.bucket b (length longer) 0 (λ is. apart (sym is)) ∙ chained.newest b below ∙ sym (ap (newest_in b) buckets_more ∙ newest_other (buckets_of links) b link.bucket apart)
+  ]
+
+  older_more : (k : ℕ) → k < length longer → IsLink (take k (buckets_of longer)) (link_at longer k)
+  older_more k below = below_more (λ k. IsLink (take k (buckets_of longer)) (link_at longer k)) (length links)
+      (λ k less. subst (λ (l : Link). IsLink (take k (buckets_of longer)) l) (sym (get_or-append links (link ∷ []) no_link k less))
+      (subst (λ (bs : List ℕ). IsLink bs (link_at links k)) (sym (ap (take k) buckets_more ∙ take-append-le k (buckets_of links) (link.bucket ∷ []) (omega (arith, less, count)))) (chained.older k less)))
+      (subst (λ (l : Link). IsLink (take (length links) (buckets_of longer)) l) (sym (get_or-append_seam links link [] no_link))
+      (subst (λ (bs : List ℕ). IsLink bs link) (sym (ap (take (length links)) buckets_more ∙ ap (λ n. take n (buckets_of links ++ link.bucket ∷ [])) (sym count) ∙ take-append_seam (buckets_of links) (link.bucket ∷ [])))
+      (record { inside = inside; leads = leads ∙ chained.newest link.bucket inside })))
+      k (omega (arith, below, length_push links link))
+
+  pub chained_more : IsChained longer (set heads link.bucket (length longer))
+  chained_more = record { count = length-set heads link.bucket (length longer) ∙ chained.count; newest = newest_more; older = older_more }
+
+-- ---- no place any more
+
+-- each bucket that still leads to a place is one of those that come
+pub record IsEmptying (links : List Link) (heads : List ℕ) (done : ℕ) : Type 0 where
+  pub count : length heads ≡ 1024
+  pub rest : (b : ℕ) → b < 1024 → newest_in b (drop done (buckets_of links)) ≡ 0 → get_or heads b 0 ≡ 0
+
+pub bucket_at : (links : List Link) (k : ℕ) → get_or (buckets_of links) k 0 ≡ (link_at links k).bucket
+bucket_at [] k = refl
+bucket_at (l ∷ links) zero = refl
+bucket_at (l ∷ links) (suc k) = bucket_at links k
+
+module _ (links : List Link) (heads : List ℕ) (index : ℕ) (here : index < length links) (emptying : IsEmptying links heads index) where
+  abbrev pub its_bucket : ℕ
+  its_bucket = (link_at links index).bucket
+
+  -- a place less
+  passed : (b : ℕ) → (its_bucket ≡ b → ⊥) → newest_in b (drop (index + 1) (buckets_of links)) ≡ 0 → newest_in b (drop index (buckets_of links)) ≡ 0
+  passed b apart gone =
+      let step : drop index (buckets_of links) ≡ get_or (buckets_of links) index 0 ∷ drop (index + 1) (buckets_of links) = drop_more (buckets_of links) index 0 (omega (arith, here, length-map links (λ (l : Link). l.bucket))) in
+      let read : get_or (buckets_of links) index 0 ≡ its_bucket = bucket_at links index in
+      ap (newest_in b) step ∙ ap (λ (n : ℕ). place_behind (n == b) (newest_in b (drop (index + 1) (buckets_of links)))) read ∙ ap (λ t. place_behind t (newest_in b (drop (index + 1) (buckets_of links)))) (other_test its_bucket b apart) ∙ ap (place_behind false) gone
+
+  pub emptying_on : its_bucket < 1024 → IsEmptying links (set heads its_bucket 0) (index + 1)
+  emptying_on inside = record {
+    count = length-set heads its_bucket 0 ∙ emptying.count;
+    rest = λ b below none. elim (cases_eq its_bucket b) [
+      | inl same ↦ subst (λ (n : ℕ). get_or (set heads its_bucket 0) n 0 ≡ 0) same (get_or-set_same heads its_bucket 0 0 (let c = emptying.count in omega (arith, c, inside)))
+      | inr apart ↦ get_or-set_other heads its_bucket b 0 0 (λ is. apart (sym is)) ∙ emptying.rest b below (passed b apart none)
+    ];
+  }
+
+pub emptying_first : (links : List Link) (heads : List ℕ) → IsChained links heads → IsEmptying links heads 0
+emptying_first links heads chained = record { count = chained.count; rest = λ b below none. chained.newest b below ∙ none }
+
+pub emptied : (links : List Link) (heads : List ℕ) (n : ℕ) → length links ≤ n → IsEmptying links heads n → IsEmptied heads
+emptied links heads n long emptying = record {
+  count = emptying.count;
+  none = λ b below. emptying.rest b below (ap (newest_in b) (drop_all n (buckets_of links) (omega (arith, long, length-map links (λ (l : Link). l.bucket)))));
+}
+
+-- no place is chained
+pub none_chained : (heads : List ℕ) → IsEmptied heads → IsChained [] heads
+none_chained heads is = record { count = is.count; newest = is.none; older = λ k below. absurd (omega (arith, below)) }
+
+pub fresh_chained : (heads : List ℕ) → heads ≡ replicate 1024 0 → IsChained [] heads
+fresh_chained heads is =
+    let long : length (replicate {A = ℕ} 1024 0) ≡ 1024 = length-replicate {A = ℕ} 1024 0 in
+    none_chained heads (record {
+      count = ap length is ∙ long;
+      none = λ b below. ap (λ (l : List ℕ). get_or l b 0) is ∙ get_or-replicate {A = ℕ} 1024 b 0 0 below;
+    })

@@ -1,0 +1,205 @@
+-- The way of an open: both devices are synced, the double-write area is replayed, and a restart goes on from there.
+use Rattle.std.proofs.Common.{◌≡◌, ◌⊎◌, inl, inr, ◌+◌, ◌-◌, ◌∷◌, [], ℕ, suc, List, None, Err, length, take, map, refl, sym, ap, subst, ◌∙◌, arith}
+use Rattle.std.specs.Prelude.{slice_index_or}
+use Rattle.std.proofs.lemmas.List.{take_all}
+use Rattle.shore_types.specs.declared.layout.Geometry.{Geometry}
+use Rattle.shore_types.specs.declared.layout.TheConstants.{LOG_FRONT_BYTES}
+use Rattle.shore_types.specs.declared.faults.Device.TheVariants.{Volume}
+use Rattle.shore_types.specs.declared.faults.Fault.{Fault}
+use Rattle.shore_types.specs.declared.ids.PageId.{PageId}
+use Rattle.shore_types.specs.Images.{Image}
+use Rattle.shore_types.specs.Layout.{HasPage}
+use Rattle.shore_disk.specs.Device.{History, LeavesOnly, Stands, may_leave, noted, seen, size, synced}
+use Rattle.shore_disk.specs.declared.device.Disk.{Ghosts}
+use Rattle.shore_disk.proofs.Moments.{at_end, joined, widened}
+use Rattle.shore_gate.specs.Label.{HoldsLabel}
+use Rattle.shore_model.specs.declared.log_records.LogRecord.{LogRecord}
+use Rattle.shore_log.specs.Frames.{Gives}
+use Rattle.shore_log.specs.Settled.{IsSettled, records_of_log, stable}
+use Rattle.shore_log.specs.declared.device.LogDev.{LogDev}
+use Rattle.shore_page.specs.Slots.{settled}
+use Rattle.shore_page.specs.Text.{IsPageText}
+use Rattle.shore_dwrite.specs.Shown.{Shows, ShowsBehind}
+use Rattle.shore_dwrite.specs.Volumes.{page_number}
+use Rattle.shore_dwrite.specs.declared.places.TheConstants.{GATE_AT}
+use Rattle.shore_heap.specs.Contents.{unclaimed}
+use Rattle.shore_heap.specs.declared.heap.Heap.{Heap}
+use Rattle.shore_heap.specs.Heaps as heaps
+use Rattle.shore_room.specs.Claims.{each_from}
+use Rattle.shore_bounds.specs.SlotCounts.{slot_count}
+use Rattle.shore_recovery.specs.Pages.{LoggedPages}
+use Rattle.shore_recovery.specs.Recovery.{RecoveryState}
+use Rattle.shore_stays.proofs.SoundStores.{found_sound}
+use Rattle.shore_stays.specs.SoundStores.{found_state}
+use Rattle.shore_logged.specs.LoggedHeaps.{AreTextsOf, HasImages}
+use Rattle.shore_logged.proofs.Left.{opened_is}
+use Rattle.shore_format.specs.Fronts.{HasFront}
+use Rattle.shore_format.specs.Pairs.{HaveFronts}
+use Rattle.shore_format.specs.Volumes.{volume_label}
+use Rattle.shore_stands.specs.Moments.{GivesPrefix, Moment, Path, ShowsLeft}
+use Rattle.shore_stands.specs.StandsFor.{StandsFor, begun_on}
+use Rattle.shore_gate.specs.Checks.{IsFromOutside}
+use Rattle.shore_types.specs.declared.faults.Fault.TheVariants as fault
+use Rattle.shore_restart.specs.declared.errors.RestartError.{RestartError}
+use Rattle.shore_restart.specs.declared.errors.RestartError.TheVariants as error
+use Rattle.shore_restart.specs.Standing.{IsFound, log_history, stream_bytes_of}
+use Rattle.shore_restart.specs.Turns.{IsBadRecord, LacksRoom}
+use Rattle.shore_world.proofs.RestartRefusals.{refused_from_outside}
+use Rattle.shore_restart.proofs.Paths.{path_on, step_log, step_volume}
+use Rattle.shore_world.specs.Opens.{OpensAlong}
+use Rattle.shore_world.proofs.WorldLemmas.{synced_only, synced_stands}
+
+-- a device that is synced at most holds what it held
+pub still_stands : (old new : History) (image : List ℕ) → (new ≡ old) ⊎ (new ≡ noted old synced) → Stands old image → Stands new image
+still_stands old new image (inl same) stands = subst (λ (h : History). Stands h image) (sym same) stands
+still_stands old new image (inr is) stands = subst (Stands new) stands.read (synced_stands old new is)
+
+-- the images of a page, one for each slot that it has
+images_from : (f : ℕ → Image) (first : ℕ) (images : List Image) → ((i : ℕ) → f (first + i) ≡ slice_index_or images i None) → images ≡ each_from f first (length images)
+images_from f first [] same = refl
+images_from f first (image ∷ images) same =
+    let at : first + 0 ≡ first = omega arith in
+    ap (λ x. x ∷ images) (sym (same 0) ∙ ap f at)
+    ∙ ap (λ l. f first ∷ l) (images_from f (suc first) images (λ i. let on : suc first + i ≡ first + suc i = omega arith in ap f on ∙ same (suc i)))
+
+abbrev pub told_images : List LogRecord → LoggedPages → PageId → List Image
+told_images rs pages p = each_from (pages p).slots 0 (slot_count (take (pages p).number rs) p)
+
+told_as : (rs : List LogRecord) (pages : LoggedPages) (p : PageId) (images : List Image) → HasImages rs p (pages p) images → images ≡ told_images rs pages p
+told_as rs pages p images has =
+    images_from (pages p).slots 0 images (λ i. let at : 0 + i ≡ i = omega arith in ap (pages p).slots at ∙ has.slots i)
+    ∙ ap (λ (n : ℕ). each_from (pages p).slots 0 n) has.count
+
+module _ (g : Geometry) (log_bytes volume_bytes : ℕ) (rs : List LogRecord) (pages : LoggedPages) (log_image volume_image : List ℕ)
+    (stood : StandsFor g log_bytes volume_bytes rs pages log_image volume_image) where
+  abbrev log_front : List ℕ
+  log_front = take LOG_FRONT_BYTES log_image
+
+  abbrev front : List ℕ
+  front = take GATE_AT volume_image
+
+  abbrev s : RecoveryState
+  s = found_state rs pages
+
+  -- the texts of the pages
+  abbrev pub texts : ℕ → List ℕ
+  texts = stood.volume.shows.0
+
+  pub shown : Shows g volume_image texts
+  shown = stood.volume.shows.1.1
+
+  pub texts_are : (p : PageId) → HasPage g p → IsPageText (texts (page_number g p)) p (pages p).number (told_images rs pages p)
+  texts_are p has =
+      let is = stood.volume.shows.2.each p has in
+      subst (IsPageText (texts (page_number g p)) p (pages p).number) (told_as rs pages p is.images is.has) is.text
+
+  all_records : take (length rs) rs ≡ rs
+  all_records = take_all (length rs) rs (omega arith)
+
+  log_covered : (c : List ℕ) → c ≡ log_image → GivesPrefix log_front s c
+  log_covered c is =
+      subst (GivesPrefix log_front s) (sym is)
+      (length rs, omega arith, omega arith, (refl, subst (λ (l : List LogRecord). Gives l log_image) (sym all_records) stood.log.log))
+
+  volume_covered : (c : List ℕ) → c ≡ volume_image → ShowsLeft g front s c
+  volume_covered c is = subst (ShowsLeft g front s) (sym is) (pages, (λ p. inl refl), stood.volume.shows)
+
+  pub have_fronts : (log volume : History) → size log ≡ log_bytes → size volume ≡ volume_bytes → seen log ≡ log_image → seen volume ≡ volume_image → HaveFronts g log volume
+  have_fronts log volume log_long volume_long log_read volume_read = (
+    subst (λ n. HasFront g n (seen log)) (sym log_long) (subst (HasFront g log_bytes) (sym log_read) stood.log.front),
+    subst (λ n. HoldsLabel Volume n (take 512 (seen volume)) (volume_label g)) (sym volume_long)
+        (subst (λ i. HoldsLabel Volume volume_bytes (take 512 i) (volume_label g)) (sym volume_read) stood.volume.label),
+  )
+
+  -- by the geometry that the fronts told
+  pub shown_at : (h : Geometry) → h ≡ g → Shows h volume_image texts
+  shown_at h same = subst (λ (x : Geometry). Shows x volume_image texts) (sym same) shown
+
+  pub texts_at : (h : Geometry) → h ≡ g → (p : PageId) → HasPage h p → IsPageText (texts (page_number h p)) p (pages p).number (told_images rs pages p)
+  texts_at h same = subst (λ (x : Geometry). (p : PageId) → HasPage x p → IsPageText (texts (page_number x p)) p (pages p).number (told_images rs pages p)) (sym same) texts_are
+
+  pub replay_at : (h : Geometry) → h ≡ g → (mid now : History) → LeavesOnly mid now (ShowsBehind h front texts) → LeavesOnly mid now (ShowsBehind g front texts)
+  replay_at h same mid now leaves = subst (λ (x : Geometry). LeavesOnly mid now (ShowsBehind x front texts)) same leaves
+
+  module _ (log volume : History) (log_stands : Stands log log_image) (volume_stands : Stands volume volume_image) where
+    abbrev pub first : Moment
+    first = begun_on log volume rs pages
+
+    -- a device that is synced at most leaves what it was opened with
+    pub log_synced : (now : History) → (now ≡ log) ⊎ (now ≡ noted log synced) → LeavesOnly log now (GivesPrefix log_front s)
+    log_synced now is = widened log now (may_leave log) (GivesPrefix log_front s) (synced_only log now is) (λ c left. log_covered c (log_stands.only c left))
+
+    pub volume_synced : (now : History) → (now ≡ volume) ⊎ (now ≡ noted volume synced) → LeavesOnly volume now (ShowsLeft g front s)
+    volume_synced now is = widened volume now (may_leave volume) (ShowsLeft g front s) (synced_only volume now is) (λ c left. volume_covered c (volume_stands.only c left))
+
+    -- .. and so does a replay
+    pub volume_replayed : (mid now : History) → (mid ≡ volume) ⊎ (mid ≡ noted volume synced) → LeavesOnly mid now (ShowsBehind g front texts) → LeavesOnly volume now (ShowsLeft g front s)
+    volume_replayed mid now is replay =
+        joined volume mid now (ShowsLeft g front s) (volume_synced mid is)
+        (widened mid now (ShowsBehind g front texts) (ShowsLeft g front s) replay (λ c shows. (pages, (λ p. inl refl), (texts, shows, stood.volume.shows.2))))
+
+    -- where both devices stand then
+    abbrev pub at : History → History → Moment
+    at log_now volume_now = record { log = log_now; volume = volume_now; store = s }
+
+    pub way : (log_now volume_now : History) → LeavesOnly log log_now (GivesPrefix log_front s) → LeavesOnly volume volume_now (ShowsLeft g front s)
+        → Path g log_front front first (at log_now volume ∷ at log_now volume_now ∷ []) (at log_now volume_now)
+    way log_now volume_now of_log of_volume =
+        let log_covers = at_end log log_now (GivesPrefix log_front s) of_log in
+        let volume_covers = at_end volume volume_now (ShowsLeft g front s) of_volume in (
+          step_log g log_front front volume log log_now s s [] (λ c left. volume_covered c (volume_stands.only c left)) refl of_log,
+          (step_volume g log_front front log_now volume volume_now s s [] log_covers refl of_volume, (refl, record { log = log_covers; volume = volume_covers })),
+        )
+
+    -- .. and on from there
+    pub way_on : (log_now volume_now : History) → LeavesOnly log log_now (GivesPrefix log_front s) → LeavesOnly volume volume_now (ShowsLeft g front s)
+        → (moments : List Moment) (last : Moment) → Path g log_front front (at log_now volume_now) moments last
+        → Path g log_front front first (at log_now volume ∷ at log_now volume_now ∷ moments) last
+    way_on log_now volume_now of_log of_volume moments last on =
+        path_on g log_front front first (at log_now volume ∷ at log_now volume_now ∷ []) (at log_now volume_now) moments last (way log_now volume_now of_log of_volume) on
+
+    -- an open that was refused before its restart, or by it
+    pub stopped : {L V : Type 0} {G : Ghosts L} {H : Ghosts V} (f : Fault) (log_now : L) (volume_now : V) → LeavesOnly log (G.history log_now) (GivesPrefix log_front s)
+        → LeavesOnly volume (H.history volume_now) (ShowsLeft g front s) → OpensAlong {L = L} {V = V} {G = G} {H = H} (Err (f, log_now, volume_now)) g log volume log_image volume_image rs pages
+    stopped {G = G} {H = H} f log_now volume_now of_log of_volume = record {
+      moments = at (G.history log_now) volume ∷ at (G.history log_now) (H.history volume_now) ∷ [];
+      last = at (G.history log_now) (H.history volume_now);
+      path = way (G.history log_now) (H.history volume_now) of_log of_volume;
+      of_log = refl;
+      of_volume = refl;
+      opened = tt;
+    }
+
+  -- ---- what a restart finds
+
+  pub found : {L V : Type 0} {G : Ghosts L} {H : Ghosts V} (log : LogDev L G) (heap : Heap V H) → IsSettled log log_front → log.staged ≡ None → stable log ≡ records_of_log log
+      → records_of_log log ≡ rs → heaps.geometry_of heap ≡ g → ((k : ℕ) → heaps.frame_at heap k ≡ None)
+      → heaps.Shows unclaimed heap front texts (λ p. map settled (told_images rs pages p)) → IsFound log_front front texts log heap s
+  found log heap log_settled none all list geometry frames shows =
+      let store = opened_is heap rs texts pages (subst (λ (x : Geometry). AreTextsOf rs x texts pages) (sym geometry) stood.volume.shows.2) frames in
+      record {
+        at_rest = record { settled = log_settled; none_staged = none; records = sym list; durable = sym (ap length (all ∙ list)) };
+        stands = record {
+          store = store.0;
+          settled = store.1;
+          recoverable = (found_sound g (log_bytes - LOG_FRONT_BYTES) rs pages stood.opened).recoverable;
+          slots = λ p. map settled (told_images rs pages p);
+          shows = shows;
+        };
+        durable = refl;
+        redone = refl;
+      }
+
+  -- so it is refused by what comes from outside alone
+  pub restart_outside : {L V : Type 0} {G : Ghosts L} {H : Ghosts V} (log : LogDev L G) (heap : Heap V H) → IsFound log_front front texts log heap s → heaps.geometry_of heap ≡ g
+      → size (log_history log) ≡ log_bytes → (e : RestartError) (f : Fault) → ((n : ℕ) → e ≡ error.BadRecord n → IsBadRecord (heaps.geometry_of heap) (records_of_log log) n)
+      → (e ≡ error.NoRoom → LacksRoom (records_of_log log) (stream_bytes_of log)) → ((h : Fault) → e ≡ error.Page h → h ≡ fault.Device)
+      → ((h : Fault) → e ≡ error.Log h → h ≡ fault.Device) → (e ≡ error.Memory → f ≡ fault.Memory) → ((h : Fault) → e ≡ error.Page h → f ≡ h)
+      → ((h : Fault) → e ≡ error.Log h → f ≡ h) → IsFromOutside f
+  restart_outside log heap is geometry long e f bad room page force memory on_page on_log =
+      let list : records_of_log log ≡ rs = sym is.at_rest.records in
+      let most = stood.log.long.1 in
+      refused_from_outside g (log_bytes - LOG_FRONT_BYTES) (omega (arith, most)) rs stood.opened.roomy stood.opened.lawful e f
+      (λ n at. subst (λ (l : List LogRecord). IsBadRecord g l n) list (subst (λ (x : Geometry). IsBadRecord x (records_of_log log) n) geometry (bad n at)))
+      (λ at. subst (λ (l : List LogRecord). LacksRoom l (log_bytes - LOG_FRONT_BYTES)) list (subst (λ n. LacksRoom (records_of_log log) (n - LOG_FRONT_BYTES)) long (room at)))
+      page force memory on_page on_log

@@ -1,0 +1,53 @@
+//! Copies of a manager's log.
+use super::devices::Manager;
+use super::trouble::Trouble;
+use shore_model::rid_map::copy_image;
+use shore_model::{LogRecord, Payload};
+use std::alloc::Global;
+
+/// The records of the log, forced or not.
+pub(super) fn copy_of_log(alloc: Global, world: &Manager) -> Result<Vec<LogRecord>, Trouble> {
+    let mut list = Vec::new(alloc);
+    let (handed_over, waiting) = world.records();
+    push_copies(alloc, &mut list, handed_over)?;
+    push_copies(alloc, &mut list, waiting)?;
+    Ok(list)
+}
+
+fn push_copies(
+    alloc: Global,
+    list: &mut Vec<LogRecord>,
+    records: &[LogRecord],
+) -> Result<(), Trouble> {
+    for logged in records {
+        list.push(copy_of(alloc, logged)?)?;
+    }
+    Ok(())
+}
+
+fn copy_of(alloc: Global, logged: &LogRecord) -> Result<LogRecord, Trouble> {
+    let payload = match &logged.payload {
+        Payload::Change { id, before, after } => Payload::Change {
+            id: *id,
+            before: copy_image(alloc, before)?,
+            after: copy_image(alloc, after)?,
+        },
+        Payload::Compensation {
+            id,
+            after,
+            undo_next,
+        } => Payload::Compensation {
+            id: *id,
+            after: copy_image(alloc, after)?,
+            undo_next: *undo_next,
+        },
+        Payload::Commit => Payload::Commit,
+        Payload::End => Payload::End,
+        _ => return Err(Trouble::Wrong("a record that is not written as yet")),
+    };
+    Ok(LogRecord {
+        txn: logged.txn,
+        previous: logged.previous,
+        payload,
+    })
+}
