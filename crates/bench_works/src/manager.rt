@@ -3,7 +3,6 @@ ghost use Rattle.shore_calls.specs.CallSteps.{IsServed};
 
 use shore_disk::{MemDisk, Pick};
 use shore_model::{Answer, Call};
-use shore_types::layout::MIN_POOL_FRAMES;
 use shore_types::{Bytes, Fault, Geometry, PageId, Rid, Sequence, SessionId, StoreId};
 use shore_world::{Event, Step, World, format};
 use std::alloc::{AllocError, Global};
@@ -18,6 +17,9 @@ const RECORDS_OF_A_PAGE: u64 = 78;
 const LOG_BYTES: usize = 1 << 26;
 
 pub type Manager = World<MemDisk, MemDisk>;
+
+/// As many as the greatest store has pages, so that each call is measured with its pages in memory.
+const FRAMES: usize = 4_096;
 
 fn geometry(alloc: Global, pages: u16) -> Result<Geometry, AllocError> {
     Ok(Geometry {
@@ -42,7 +44,7 @@ pub fn new_manager(alloc: Global, pages: u16) -> Result<Manager, Fault> {
 
 /// The manager of a pair of devices.
 pub fn opened(alloc: Global, log: MemDisk, volume: MemDisk) -> Result<Manager, Fault> {
-    match World::open(alloc, log, volume, MIN_POOL_FRAMES) {
+    match World::open(alloc, log, volume, FRAMES) {
         Ok(world) => Ok(world),
         Err((fault, _, _)) => Err(fault),
     }

@@ -1,8 +1,8 @@
 //! Every list of up to two events, with a fuse at each call of either device, and with each pick of a crash: of a manager of a formatted pair, of one
 //! that has begun on a committed record, of one with a commit of changes under way, of one that has written an undecided change back, and of one with
 //! undecided changes in all of its frames. A manager that is opened behind the crash then commits a record, and is crashed too. Behind lists of up to one
-//! event the restart is also cut off at each call of a device, twice in a row, and then made whole. How many cases and
-//! cut restarts there were is printed.
+//! event the restart is also cut off at each call of a device, twice in a row, and then made whole. The counts are those of the first
+//! run: another one says that an event or a restart makes other calls than it did.
 mod crashes;
 mod cuts;
 mod devices;
@@ -13,7 +13,7 @@ mod log_copies;
 mod short_histories;
 mod trouble;
 
-use crashes::check_crash;
+use crashes::{Restarted, check_crash};
 use devices::{Devices, Images};
 use doings::{Doing, ONE_COMMIT};
 use lists::{Counts, check_lists};
@@ -47,30 +47,38 @@ fn on_none(alloc: Global, before: &'static [Doing]) -> Result<Start, Trouble> {
 fn on_a_record(alloc: Global, before: &'static [Doing]) -> Result<Start, Trouble> {
     let mut life = live(alloc, formatted(alloc)?, &[], &ONE_COMMIT, None)?;
     life.devices.lose_power(Pick::Old);
-    let left = check_crash(alloc, &no_ground(alloc), life)?;
-    start_on(alloc, &left.devices, left.ground, before)
+    let Restarted {
+        ground,
+        devices,
+        ..
+    } = check_crash(alloc, &no_ground(alloc), life)?;
+    start_on(alloc, &devices, ground, before)
 }
 
-/// All lists on a start: there are so many.
-fn check_start(rt: &HostRuntime, start: Start, name: &str, wanted: u64) -> Result<(), Fail> {
+/// All lists on a start: there are so many, so many cases of them, and so many restarts that are cut off.
+fn check_start(rt: &HostRuntime, start: Start, name: &str, wanted: Counts) -> Result<(), Fail> {
     let Counts { lists, cases, cuts } = check_lists(rt.alloc(), &start)?;
     println!(rt; "{name}: {lists} lists, {cases} cases, {cuts} restarts cut off")?;
-    if lists != wanted {
-        return Err(Fail::new(format_args!("wanted {wanted} lists")));
+    if lists != wanted.lists || cases != wanted.cases || cuts != wanted.cuts {
+        return Err(Fail::new(format_args!("{name}: other counts are wanted")));
     }
     Ok(())
+}
+
+fn counts(lists: u64, cases: u64, cuts: u64) -> Counts {
+    Counts { lists, cases, cuts }
 }
 
 #[test]
 fn on_an_empty_log(rt: HostRuntime) -> Result<(), Fail> {
     let start = on_none(rt.alloc(), &[])?;
-    check_start(&rt, start, "on an empty log", 111)
+    check_start(&rt, start, "on an empty log", counts(111, 333, 0))
 }
 
 #[test]
 fn in_a_transaction(rt: HostRuntime) -> Result<(), Fail> {
     let start = on_a_record(rt.alloc(), &[Doing::Begin])?;
-    check_start(&rt, start, "in a transaction", 111)
+    check_start(&rt, start, "in a transaction", counts(111, 900, 44))
 }
 
 #[test]
@@ -83,7 +91,7 @@ fn with_a_commit_under_way(rt: HostRuntime) -> Result<(), Fail> {
         Doing::Commit,
     ];
     let start = on_a_record(rt.alloc(), before)?;
-    check_start(&rt, start, "with a commit under way", 111)
+    check_start(&rt, start, "with a commit under way", counts(111, 539, 0))
 }
 
 #[test]
@@ -97,7 +105,12 @@ fn with_a_change_written_back(rt: HostRuntime) -> Result<(), Fail> {
         Doing::Insert,
     ];
     let start = on_a_record(rt.alloc(), before)?;
-    check_start(&rt, start, "with a change written back", 111)
+    check_start(
+        &rt,
+        start,
+        "with a change written back",
+        counts(111, 537, 172),
+    )
 }
 
 // The first page of the first store is in no frame, and comes to one if a changed page is written back.
@@ -117,5 +130,10 @@ fn with_changes_in_all_frames(rt: HostRuntime) -> Result<(), Fail> {
         Doing::ForceOpen,
     ];
     let start = on_none(rt.alloc(), before)?;
-    check_start(&rt, start, "with changes in all frames", 111)
+    check_start(
+        &rt,
+        start,
+        "with changes in all frames",
+        counts(111, 3248, 3245),
+    )
 }
