@@ -1,7 +1,6 @@
 pub mod Acknowledged
 pub mod Answering
 pub mod Beginning
-pub mod Bounds
 pub mod Committing
 pub mod Crashes
 pub mod Deciding

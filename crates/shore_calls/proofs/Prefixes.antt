@@ -1,27 +1,24 @@
--- The log only grows, so that what an open found is a prefix of all that is found later.
+-- The log only grows with each event.
 use Rattle.std.proofs.Common.{◌≡◌, inl, inr, ◌++◌, ◌≤◌, ℕ, zero, suc, List, [], ◌∷◌, refl, sym, ap, subst, ◌∙◌, length, take, arith, append-nil, append_assoc}
-use Rattle.std.specs.List.{AllByRecursion}
 use Rattle.shore_types.specs.declared.faults.Fault.{Fault}
 use Rattle.shore_types.specs.declared.faults.Fault.TheVariants as fault
 use Rattle.shore_types.specs.declared.layout.Geometry.{Geometry}
 use Rattle.shore_model.specs.declared.calls.Answer.{Answer}
 use Rattle.shore_model.specs.declared.calls.Call.{Call}
-use Rattle.shore_model.specs.declared.histories.Entry.{Entry}
 use Rattle.shore_model.specs.declared.log_records.LogRecord.{LogRecord}
 use Rattle.shore_calls.specs.declared.step.Step.{Step}
 use Rattle.shore_calls.specs.declared.step.Step.TheVariants.{Done, Waits, Refused, Nothing}
 use Rattle.shore_calls.proofs.Answering.{inner_answer}
-use Rattle.shore_calls.proofs.Crashes.{run_is_state}
-use Rattle.shore_calls.specs.CallHistories.{AreFixed, AreRuns, IsPrefix, IsRun, MovesMaking, Run, list_left, lists_found}
+use Rattle.shore_calls.specs.CallHistories.{IsPrefix}
 use Rattle.shore_calls.specs.CallSteps.{Answers, CallStep, Called, EventMoves, Forced, HasFailed, ManagerEvent, ResumeStep, Resumed, after_refusal}
 use Rattle.shore_calls.specs.States.{State}
 
 -- ---- prefixes
 
-whole_prefix : (rs : List LogRecord) → IsPrefix rs rs
+pub whole_prefix : (rs : List LogRecord) → IsPrefix rs rs
 whole_prefix rs = ([], sym (append-nil rs))
 
-prefix_on : (rs mid all : List LogRecord) → IsPrefix rs mid → IsPrefix mid all → IsPrefix rs all
+pub prefix_on : (rs mid all : List LogRecord) → IsPrefix rs mid → IsPrefix mid all → IsPrefix rs all
 prefix_on rs mid all a b = (a.0 ++ b.0, b.1 ∙ ap (λ xs. xs ++ b.0) a.1 ∙ append_assoc rs a.0 b.0)
 
 take_on : (n : ℕ) (rs more : List LogRecord) → length rs ≤ n → IsPrefix rs (take n (rs ++ more))
@@ -64,33 +61,3 @@ event_goes_on g s new (Called session c step) h = call_goes_on g s new session c
 event_goes_on g s new (Resumed session step) h = same_log s new (resume_log s new session step h.1)
 event_goes_on g s new (Forced n) h = same_log s new (ap (λ (s : State). s.log) h.2)
 event_goes_on g s new HasFailed h = same_log s new (ap (λ (s : State). s.log) h)
-
-events_go_on : (g : Geometry) (s : State) (events : List ManagerEvent) (last : State) (made : List Entry) → MovesMaking g s events last made
-    → IsPrefix s.log last.log
-events_go_on g s [] last made h = same_log s last (ap (λ (s : State). s.log) h.0)
-events_go_on g s (e ∷ events) last made h =
-    prefix_on s.log h.0.log last.log (event_goes_on g s h.0 e h.2) (events_go_on g h.0 events last h.1 h.3)
-
--- ---- runs
-
-run_goes_on : (g : Geometry) (found : List LogRecord) (r : Run) → IsRun g found r → IsPrefix found (list_left r)
-run_goes_on g found r h =
-    let k = run_is_state g found r h in
-    let least = k.forced.least in
-    let durable = h.2.0 in
-    prefix_left r.kept found r.last.log (subst (λ log. IsPrefix log r.last.log) h.0.log (events_go_on g r.first r.events r.last r.made h.1)) (omega arith)
-
-found_is_prefix : (g : Geometry) (rs found : List LogRecord) (runs : List Run) (last : List LogRecord) → IsPrefix rs found → AreRuns g found runs last
-    → AllByRecursion (IsPrefix rs) (lists_found runs) × IsPrefix rs last
-found_is_prefix g rs found [] last p h = (tt, subst (IsPrefix rs) (sym h) p)
-found_is_prefix g rs found (r ∷ runs) last p h =
-    let rest = found_is_prefix g rs (list_left r) runs last (prefix_on rs found (list_left r) p (run_goes_on g found r h.0)) h.1 in
-    ((subst (IsPrefix rs) (sym h.0.0.log) p, rest.0), rest.1)
-
-pub lists_are_fixed : (g : Geometry) (found : List LogRecord) (runs : List Run) (last : List LogRecord) → AreRuns g found runs last
-    → AreFixed (lists_found runs) last
-lists_are_fixed g found [] last h = tt
-lists_are_fixed g found (r ∷ runs) last h =
-    let later = found_is_prefix g r.first.log (list_left r) runs last
-    (subst (λ log. IsPrefix log (list_left r)) (sym h.0.0.log) (run_goes_on g found r h.0)) h.1 in
-    (later.0, later.1, lists_are_fixed g (list_left r) runs last h.1)

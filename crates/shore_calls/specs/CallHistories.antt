@@ -1,6 +1,6 @@
 -- The history that calls make, and what holds of a state after it. No value keeps the history: it is spoken of as what was called and
 -- answered since an open.
-use Rattle.std.specs.Prelude.{◌≡◌, ◌<◌, ◌≤◌, ◌==◌, ℕ, List, [], ◌∷◌, ◌++◌, Ok, Err, All, Contains, false, if◌then◌else◌, length, map, take}
+use Rattle.std.specs.Prelude.{◌≡◌, ◌<◌, ◌≤◌, ◌==◌, ℕ, List, [], ◌∷◌, ◌++◌, Ok, Err, All, Contains, false, if◌then◌else◌, length, take}
 use Rattle.std.specs.List.{AllByRecursion}
 use Rattle.shore_types.specs.declared.layout.TheConstants.{LONGEST_FRAME}
 use Rattle.shore_types.specs.declared.layout.Geometry.{Geometry}
@@ -12,7 +12,6 @@ use Rattle.shore_model.specs.declared.histories.Entry.TheVariants.{Decided, Exch
 use Rattle.shore_model.specs.declared.holds.Hold.{Hold}
 use Rattle.shore_model.specs.declared.log_records.LogRecord.{LogRecord}
 use Rattle.shore_model.specs.Histories.{acknowledged}
-use Rattle.shore_model.specs.Lives.{Span}
 use Rattle.shore_calls.specs.declared.step.Step.{Step}
 use Rattle.shore_calls.specs.declared.step.Step.TheVariants.{Done, Waits, Refused, Nothing}
 use Rattle.shore_sessions.specs.LogPrefixes.{LogDecides, decisions_in}
@@ -123,49 +122,6 @@ MovesMaking g s (e ∷ events) last made = (new : State) × (later : List Entry)
 abbrev pub KeepsDurable : State → ℕ → Type 0
 KeepsDurable s n = (s.durable ≤ n) × (n ≤ length s.log)
 
--- one manager from its open to a crash: the state that the open left, the events, the entries that they made, the state that they led to, and
--- how many records of its log the crash kept
-pub record Run : Type 0 where
-  pub first : State
-  pub events : List ManagerEvent
-  pub made : List Entry
-  pub last : State
-  pub kept : ℕ
-
--- a run of a manager that was opened on a list
-abbrev pub IsRun : Geometry → List LogRecord → Run → Type 0
-IsRun g found r = IsOpened found r.first × MovesMaking g r.first r.events r.last r.made × KeepsDurable r.last r.kept
-
-abbrev pub list_left : Run → List LogRecord
-list_left r = take r.kept r.last.log
-
--- the span of a life that a run is: its entries, and the decisions that the crash kept
-abbrev pub span_of : List LogRecord → Run → Span
-span_of found r = record { entries = r.made; kept = decisions_in (length found) (list_left r) }
-
--- runs one after another from a list: each opens what the crash before it kept
-abbrev pub AreRuns : Geometry → List LogRecord → List Run → List LogRecord → Type 0
-AreRuns g found [] last = last ≡ found
-AreRuns g found (r ∷ runs) last = IsRun g found r × AreRuns g (list_left r) runs last
-
-abbrev pub spans_of : List LogRecord → List Run → List Span
-spans_of found [] = []
-spans_of found (r ∷ runs) = span_of found r ∷ spans_of (list_left r) runs
-
--- each open shows what the list tells that its run was opened on
-abbrev pub OpensShow : List LogRecord → List Run → Type 0
-OpensShow found [] = Unit {0}
-OpensShow found (r ∷ runs) = (r.first.sessions.records ≡ records_committed found) × OpensShow (list_left r) runs
-
 -- a list is the other's prefix
 abbrev pub IsPrefix : List LogRecord → List LogRecord → Type 0
 IsPrefix rs all = (more : List LogRecord) × (all ≡ rs ++ more)
-
--- each of these lists is a prefix of every later one, and of the last
-abbrev pub AreFixed : List (List LogRecord) → List LogRecord → Type 0
-AreFixed [] last = Unit {0}
-AreFixed (rs ∷ later) last = AllByRecursion (IsPrefix rs) later × IsPrefix rs last × AreFixed later last
-
--- the lists that runs were opened on
-abbrev pub lists_found : List Run → List (List LogRecord)
-lists_found runs = map (λ r. r.first.log) runs

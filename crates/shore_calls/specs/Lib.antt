@@ -2,5 +2,4 @@ pub mod States
 pub mod Refusals
 pub mod CallSteps
 pub mod CallHistories
-pub mod Bounds
 pub mod WorkedRun

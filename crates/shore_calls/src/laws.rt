@@ -19,7 +19,6 @@ ghost use Rattle.shore_model.specs.declared.histories.Decision.TheVariants as de
 ghost use Rattle.shore_model.specs.declared.histories.Entry.{Entry};
 ghost use Rattle.shore_model.specs.declared.log_records.LogRecord.{LogRecord};
 ghost use Rattle.shore_model.specs.Histories.{IsHistory, Kept, RunsAloneAfter, Sound, acknowledged, decisions, serial};
-ghost use Rattle.shore_model.specs.Lives.{IsLife};
 ghost use Rattle.shore_model.specs.Records.{scan_of};
 ghost use Rattle.shore_calls.specs.declared.step.Step.{Step};
 ghost use Rattle.shore_calls.specs.declared.step.Step.TheVariants.{Done, Nothing, Refused, Waits};
@@ -33,8 +32,7 @@ ghost use Rattle.shore_sessions.specs.Soundness.{history_from, opening_with, ser
 ghost use Rattle.shore_sessions.specs.Sessions.{EachOnce, SessionTxn, txns_of, with_undo, without_txn};
 ghost use Rattle.shore_sessions.specs.UndoLists.{UndoList};
 ghost use Rattle.shore_sessions.specs.Views.{IsAmong};
-ghost use Rattle.shore_calls.specs.Bounds.{AreInBounds, IsBounded};
-ghost use Rattle.shore_calls.specs.CallHistories.{AreFixed, AreRuns, IsOpened, IsRoomyState, IsStateAfter, KeepsDurable, MovesMaking, OpensShow, Run, entries_of_call, entries_of_resume, lists_found, spans_of};
+ghost use Rattle.shore_calls.specs.CallHistories.{IsOpened, IsRoomyState, IsStateAfter, KeepsDurable, MovesMaking, entries_of_call, entries_of_resume};
 ghost use Rattle.shore_calls.specs.CallSteps.{CallStep, ComesOfState, EventMoves, EventsMove, Forced, IsServed, ManagerEvent, ResumeStep, answered, commit_waiting, with_durable, with_failure};
 ghost use Rattle.shore_room.specs.Choosing.{IsBefore};
 ghost use Rattle.shore_calls.specs.Refusals.{CanLog, FitsAt, IsPlaceFor, NoneServes, Serves};
@@ -88,15 +86,6 @@ pub fn events_keep_state()
         IsOpened found first → MovesMaking g first events last made → IsStateAfter found made last }
 {}
 
-/// A format, and then any number of runs, each opened on what the crash before it kept: they are a life. Each open shows what the kept log tells;
-/// and what a run was opened on is fixed: it is a prefix of what every later one is opened on.
-pub fn committed_work_survives_every_run()
-    ensures life { (g : Geometry) (runs : List Run) (last : List LogRecord) → AreRuns g [] runs last →
-        IsLife (opening_with empty) (spans_of [] runs) (opening_with (records_committed last)) }
-    ensures shown { (g : Geometry) (runs : List Run) (last : List LogRecord) → AreRuns g [] runs last → OpensShow [] runs }
-    ensures fixed { (g : Geometry) (runs : List Run) (last : List LogRecord) → AreRuns g [] runs last → AreFixed (lists_found runs) last }
-{}
-
 /// Each event leaves room on pages and in the log for all that stands and all that may come back. So does an open whose pages and log have
 /// place for what they hold.
 pub fn calls_keep_room()
@@ -108,19 +97,6 @@ pub fn calls_keep_room()
     ensures open { (found : List LogRecord) (s : State) → IsOpened found s → ((p : PageId) → HasRoom (slots_of s.sessions.records [] p (s.counts p)))
         → ((id : Rid) → s.counts id.page ≤ id.slot → get s.sessions.records id ≡ None) → cost_of_log found + LONGEST_FRAME ≤ s.stream_bytes
         → length found < LAST_OPENED → s.stream_bytes ≤ MAX_LOG_BYTES → IsRoomyState s }
-{}
-
-/// Each event keeps what a crash leaves in bounds, so that the next open takes it. A state is so that was opened on such a log.
-pub fn steps_keep_bounds()
-    ensures steps { (g : Geometry) (stream_bytes : ℕ) (found : List LogRecord) (es : List Entry) (old new : State) (e : ManagerEvent) →
-        IsStateAfter found es old → IsRoomyState old → IsBounded g stream_bytes old → EventMoves g old e new → IsBounded g stream_bytes new }
-    ensures open { (g : Geometry) (stream_bytes : ℕ) (found : List LogRecord) (s : State) →
-        IsOpened found s → AreInBounds g stream_bytes found → s.stream_bytes ≡ stream_bytes → IsBounded g stream_bytes s }
-    ensures runs { (g : Geometry) (stream_bytes : ℕ) (found : List LogRecord) (first last : State) (events : List ManagerEvent) (made : List Entry) →
-        IsOpened found first → IsRoomyState first → IsBounded g stream_bytes first → MovesMaking g first events last made →
-        IsRoomyState last × IsBounded g stream_bytes last }
-    ensures crash { (g : Geometry) (stream_bytes : ℕ) (s : State) (n : ℕ) →
-        IsBounded g stream_bytes s → KeepsDurable s n → AreInBounds g stream_bytes (take n s.log) }
 {}
 
 /// The log tells the serial records of all decisions. An answered call adds nothing to what it tells, and a Commit all that is in place.

@@ -1,3 +1,4 @@
 pub mod CanStore
 pub mod Events
+pub mod Fixed
 pub mod Runs

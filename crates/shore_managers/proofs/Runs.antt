@@ -7,7 +7,7 @@ use Rattle.shore_types.specs.declared.ids.Rid.{Rid}
 use Rattle.shore_types.specs.declared.layout.Geometry.{Geometry}
 use Rattle.shore_model.specs.declared.histories.Entry.{Entry}
 use Rattle.shore_model.specs.declared.log_records.LogRecord.{LogRecord}
-use Rattle.shore_model.specs.Lives.{IsLife}
+use Rattle.shore_model.specs.Lives.{IsLife, next_opening}
 use Rattle.shore_model.specs.Logs.{records_told}
 use Rattle.shore_recovery.specs.Recovery.{RecoveryState}
 use Rattle.shore_sessions.specs.LogPrefixes.{LogDecides, decisions_in}
@@ -19,12 +19,13 @@ use Rattle.shore_calls.specs.CallHistories.{IsStateAfter}
 use Rattle.shore_lives.proofs.AtWork.{IsAtWork, all_stay_at_work, pages_have_records}
 use Rattle.shore_lives.proofs.Lives.{stretches_are_a_life}
 use Rattle.shore_lives.proofs.Openings.{opens_at_work}
+use Rattle.shore_lives.proofs.Stretches.{up_shows_found}
 use Rattle.shore_lives.proofs.WholeLogs.{tells_the_committed}
 use Rattle.shore_lives.specs.ManagerSteps.{ManagerEvent, ManagerRunsTo, ManagerState}
 use Rattle.shore_lives.specs.Stretches as lives
 use Rattle.shore_lives.specs.Stretches.{AreStretches, IsStretch, MayBeFound, Stretch, opening_told}
 use Rattle.shore_managers.proofs.Events.{event_comes, over, rest_comes}
-use Rattle.shore_managers.specs.StoredRuns.{AreStoredRuns, IsStored, IsStoredRun, Manage, OpensShow, StoredEvent, StoredMoves, StoredRun, StoredState, StoredSteps, Tend, entries_made, left_by_crash, spans_of}
+use Rattle.shore_managers.specs.StoredRuns.{AreStoredRuns, IsStored, IsStoredRun, Manage, OpensShow, StoredEvent, StoredMoves, StoredRun, StoredState, StoredSteps, Tend, entries_made, left_by_crash, span_of, spans_of}
 
 -- ---- events one after another
 
@@ -119,7 +120,7 @@ module _ (g : Geometry) (s : RecoveryState) (f : MayBeFound s) (r : StoredRun) (
         };
       }
 
-  come : HasCome s.log [] (record { state = r.first; store = r.ready }) r.last r.made
+  pub come : HasCome s.log [] (record { state = r.first; store = r.ready }) r.last r.made
   come = events_come g s.log [] (record { state = r.first; store = r.ready }) h.opens.stored opened r.events r.last r.made h.moves
 
   pub state_after : IsStateAfter s.log r.made r.last.state
@@ -167,10 +168,9 @@ pub record AreOneLife (s : RecoveryState) (runs : List StoredRun) (last : Recove
   pub are : AreStretches s stretches
   pub spans : lives.spans_of s stretches ≡ spans_of s runs
   pub left : lives.left_at_last s stretches ≡ last
-  pub shown : lives.OpensShow s stretches → OpensShow s runs
 
 one_life : (g : Geometry) (s : RecoveryState) (runs : List StoredRun) (last : RecoveryState) → MayBeFound s → AreStoredRuns g s runs last → AreOneLife s runs last
-one_life g s [] last f h = record { stretches = []; are = tt; spans = refl; left = sym h; shown = λ t. tt }
+one_life g s [] last f h = record { stretches = []; are = tt; spans = refl; left = sym h }
 one_life g s (r ∷ runs) last f h =
     let rest = one_life g (left_by_crash r) runs last (found_next g s f r h.0) h.1 in
     record {
@@ -178,7 +178,6 @@ one_life g s (r ∷ runs) last f h =
       are = (is_stretch g s f r h.0, rest.are);
       spans = ap (λ spans. lives.span_of s (stretch g s f r h.0) ∷ spans) rest.spans;
       left = rest.left;
-      shown = λ t. (t.0, rest.shown t.1);
     }
 
 module _ (g : Geometry) (s : RecoveryState) (runs : List StoredRun) (last : RecoveryState) (f : MayBeFound s) (h : AreStoredRuns g s runs last) where
@@ -191,8 +190,23 @@ module _ (g : Geometry) (s : RecoveryState) (runs : List StoredRun) (last : Reco
       (subst (λ (x : RecoveryState). IsLife (opening_told s.log) (lives.spans_of s whole.stretches) (opening_told x.log)) whole.left
       (stretches_are_a_life s whole.stretches f whole.are).0)
 
-  pub opens_show : OpensShow s runs
-  opens_show = whole.shown (stretches_are_a_life s whole.stretches f whole.are).1
-
   pub may_be_found : MayBeFound last
   may_be_found = subst MayBeFound whole.left (stretches_are_a_life s whole.stretches f whole.are).2
+
+-- ---- what opens show
+
+module _ (g : Geometry) where
+  -- the records that a restart found are what the life has come to
+  open_shows : (s : RecoveryState) (f : MayBeFound s) (r : StoredRun) → IsStoredRun g s r → r.first.sessions.records ≡ records_told s.log
+  open_shows s f r h = up_shows_found s f (stretch g s f r h) (is_stretch g s f r h).up
+
+  -- .. and the life goes on to what its crash left
+  life_goes_on : (s : RecoveryState) (f : MayBeFound s) (r : StoredRun) → IsStoredRun g s r → next_opening (opening_told s.log) (span_of s r) ≡ opening_told (left_by_crash r).log
+  life_goes_on s f r h = sym (is_a_life g s (r ∷ []) (left_by_crash r) f (h, refl)).3
+
+  pub opens_show : (s : RecoveryState) (runs : List StoredRun) (last : RecoveryState) → MayBeFound s → AreStoredRuns g s runs last → OpensShow (opening_told s.log) s runs
+  opens_show s [] last f h = tt
+  opens_show s (r ∷ runs) last f h = (
+    open_shows s f r h.0,
+    subst (λ o. OpensShow o (left_by_crash r) runs) (sym (life_goes_on s f r h.0)) (opens_show (left_by_crash r) runs last (found_next g s f r h.0) h.1),
+  )

@@ -1,16 +1,18 @@
 -- A manager with its store: the calls of `shore_calls` above, the log and the pages of `shore_recovery` below. They meet in two numbers
 -- and a list: the log is one, and as much of it is durable as the manager was told.
 use Rattle.std.specs.Prelude.{◌≡◌, ◌++◌, ℕ, List, [], ◌∷◌, false, length, take}
+use Rattle.std.specs.List.{AllByRecursion}
 use Rattle.shore_types.specs.declared.layout.Geometry.{Geometry}
 use Rattle.shore_model.specs.declared.histories.Entry.{Entry}
-use Rattle.shore_model.specs.Lives.{Span}
-use Rattle.shore_model.specs.Logs.{records_told}
+use Rattle.shore_model.specs.declared.histories.Opening.{Opening}
+use Rattle.shore_model.specs.declared.log_records.LogRecord.{LogRecord}
+use Rattle.shore_model.specs.Lives.{Span, next_opening}
 use Rattle.shore_recovery.specs.Pages.{LoggedPages}
 use Rattle.shore_recovery.specs.Recovery.{MayCrash, RecoveryEvent, RecoveryState, after_crash}
 use Rattle.shore_recovery.specs.Restarts.{RestartsTo}
 use Rattle.shore_recovery.specs.Undo.{HasNoLosers}
 use Rattle.shore_sessions.specs.LogPrefixes.{decisions_in}
-use Rattle.shore_calls.specs.CallHistories.{entries_of}
+use Rattle.shore_calls.specs.CallHistories.{IsPrefix, entries_of}
 use Rattle.shore_calls.specs.CallSteps.{EventMoves, ManagerEvent}
 use Rattle.shore_calls.specs.States.{State}
 use Rattle.shore_lives.specs.ManagerSteps.{OpensOver, WorksTo}
@@ -92,7 +94,20 @@ abbrev pub spans_of : RecoveryState → List StoredRun → List Span
 spans_of s [] = []
 spans_of s (r ∷ runs) = span_of s r ∷ spans_of (left_by_crash r) runs
 
--- each open shows what the log tells that its restart found
-abbrev pub OpensShow : RecoveryState → List StoredRun → Type 0
-OpensShow s [] = Unit {0}
-OpensShow s (r ∷ runs) = (r.first.sessions.records ≡ records_told s.log) × OpensShow (left_by_crash r) runs
+-- Each open shows the records that the life has come to by then, and the next one is counted from what the crash kept behind it: so what an open
+-- has shown is never taken back.
+abbrev pub OpensShow : Opening → RecoveryState → List StoredRun → Type 0
+OpensShow o s [] = Unit {0}
+OpensShow o s (r ∷ runs) = (r.first.sessions.records ≡ o.records) × OpensShow (next_opening o (span_of s r)) (left_by_crash r) runs
+
+-- ---- what opens find
+
+-- each of these lists is a prefix of every later one, and of the last
+abbrev pub AreFixed : List (List LogRecord) → List LogRecord → Type 0
+AreFixed [] last = Unit {0}
+AreFixed (rs ∷ later) last = AllByRecursion (IsPrefix rs) later × IsPrefix rs last × AreFixed later last
+
+-- the logs that the restarts of runs have found
+abbrev pub lists_found : RecoveryState → List StoredRun → List (List LogRecord)
+lists_found s [] = []
+lists_found s (r ∷ runs) = s.log ∷ lists_found (left_by_crash r) runs

@@ -10,7 +10,7 @@ ghost use Rattle.shore_lives.specs.Stretches.{MayBeFound, opening_told};
 ghost use Rattle.shore_calls.specs.CallHistories.{IsStateAfter};
 ghost use Rattle.shore_calls.specs.CallSteps.{EventMoves, ManagerEvent};
 ghost use Rattle.shore_calls.specs.States.{State};
-ghost use Rattle.shore_managers.specs.StoredRuns.{AreStoredRuns, IsStored, IsStoredRun, Manage, OpensShow, StoredRun, StoredState, StoredSteps, spans_of};
+ghost use Rattle.shore_managers.specs.StoredRuns.{AreFixed, AreStoredRuns, IsStored, IsStoredRun, Manage, OpensShow, StoredRun, StoredState, StoredSteps, lists_found, spans_of};
 
 /// A manager that opens over a restart is in a state after its calls, as one is that opens over a log alone: its history is sound, and whatever
 /// the laws of calls say holds of it. Its log is lawful, its store recoverable, and the pages have the records in place.
@@ -23,12 +23,16 @@ pub fn managers_work_over_their_stores()
 {}
 
 /// Any number of managers one after another, each over what the crash before it left, are a life: each history is sound, each crash keeps what
-/// was acknowledged, the kept decisions make the records of the next opening, and each open shows what its log told. Pages are written back
-/// whenever the write-ahead rule lets them be, with undecided changes in them, and power may be lost in a restart as well.
+/// was acknowledged, and the kept decisions make the records of the next opening, which each open shows. The log that a restart has found is a prefix
+/// of what every later one finds. Pages are written back whenever the write-ahead rule lets them be, with undecided changes in them, and power may be
+/// lost in a restart as well.
 pub fn committed_work_survives_stolen_pages()
     ensures life { (g : Geometry) (s : RecoveryState) (runs : List StoredRun) (last : RecoveryState) → MayBeFound s → AreStoredRuns g s runs last →
         IsLife (opening_told s.log) (spans_of s runs) (opening_told last.log) }
-    ensures shown { (g : Geometry) (s : RecoveryState) (runs : List StoredRun) (last : RecoveryState) → MayBeFound s → AreStoredRuns g s runs last → OpensShow s runs }
+    ensures shown { (g : Geometry) (s : RecoveryState) (runs : List StoredRun) (last : RecoveryState) → MayBeFound s → AreStoredRuns g s runs last →
+        OpensShow (opening_told s.log) s runs }
+    ensures fixed { (g : Geometry) (s : RecoveryState) (runs : List StoredRun) (last : RecoveryState) → MayBeFound s → AreStoredRuns g s runs last →
+        AreFixed (lists_found s runs) last.log }
     ensures left { (g : Geometry) (s : RecoveryState) (runs : List StoredRun) (last : RecoveryState) → MayBeFound s → AreStoredRuns g s runs last → MayBeFound last }
 {}
 

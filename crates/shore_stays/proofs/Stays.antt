@@ -4,14 +4,15 @@ use Rattle.shore_types.specs.declared.layout.Geometry.{Geometry}
 use Rattle.shore_model.specs.declared.log_records.LogRecord.{LogRecord}
 use Rattle.shore_model.specs.Lives.{IsLife}
 use Rattle.shore_recovery.proofs.Restarts.{events_restart}
-use Rattle.shore_recovery.proofs.UndoRecords.{undone_tells}
+use Rattle.shore_recovery.proofs.UndoRecords.{undone_grows, undone_tells}
 use Rattle.shore_recovery.specs.Pages.{LoggedPages}
 use Rattle.shore_recovery.specs.Recovery.{LosePower, MayCrash, RecoveryEvent, RecoveryState, after_crash}
-use Rattle.shore_recovery.specs.Restarts.{RestartsTo}
+use Rattle.shore_recovery.specs.Restarts.{IsRestartOf, RestartsTo}
 use Rattle.shore_sessions.specs.Soundness.{opening_with}
 use Rattle.shore_lives.specs.Stretches.{MayBeFound, opening_told}
+use Rattle.shore_managers.proofs.Fixed.{fixed_on, lists_are_fixed}
 use Rattle.shore_managers.proofs.Runs.{found_next, is_a_life, may_be_found, opens_show}
-use Rattle.shore_managers.specs.StoredRuns.{AreStoredRuns, IsStoredRun, OpensShow, StoredRun, spans_of}
+use Rattle.shore_managers.specs.StoredRuns.{AreFixed, AreStoredRuns, IsStoredRun, OpensShow, StoredRun, lists_found, spans_of}
 use Rattle.shore_bounds.specs.RoomyLogs.{AreRoomy}
 use Rattle.shore_stays.proofs.SoundStores.{found_may_be_found, found_sound, left_is_found, left_may_be_opened, may_crash, restart_sound, restarts_join}
 use Rattle.shore_stays.proofs.UnderWay.{moves_under_way, opens_under_way, under_way_sound}
@@ -108,19 +109,25 @@ module _ (g : Geometry) (stream_bytes : ℕ) where
     pub come : HaveComeTo g stream_bytes (found_state rs pages) (runs_of [] stays) last last_pages
     come = stays_come (found_state rs pages) found o.roomy [] rs pages refl o stays last last_pages h
 
-    -- restarts that lost power tell what the last run left
-    tells_same : opening_told last ≡ opening_told come.last.log
-    tells_same =
+    -- restarts that lost power have appended records of undo, and told the same as what the last run left
+    restarted : IsRestartOf come.last.log (found_state last last_pages)
+    restarted =
         let left = may_be_found g (found_state rs pages) (runs_of [] stays) come.last found come.are in
-        let restarted =
-        events_restart come.last.log come.last come.works (found_state last last_pages) left.recoverable
-        (record { turns = []; undone = refl; durable = left.durable }) come.restarts in
-        ap opening_with (undone_tells come.last.log restarted.1.turns last restarted.1.undone)
+        (events_restart come.last.log come.last come.works (found_state last last_pages) left.recoverable
+        (record { turns = []; undone = refl; durable = left.durable }) come.restarts).1
+
+    tells_same : opening_told last ≡ opening_told come.last.log
+    tells_same = ap opening_with (undone_tells come.last.log restarted.turns last restarted.undone)
 
     pub are_a_life : IsLife (opening_told rs) (spans_of (found_state rs pages) (runs_of [] stays)) (opening_told last)
     are_a_life =
         subst (IsLife (opening_told rs) (spans_of (found_state rs pages) (runs_of [] stays))) (sym tells_same)
         (is_a_life g (found_state rs pages) (runs_of [] stays) come.last found come.are)
 
-    pub show_what_was_told : OpensShow (found_state rs pages) (runs_of [] stays)
+    pub show_what_was_told : OpensShow (opening_told rs) (found_state rs pages) (runs_of [] stays)
     show_what_was_told = opens_show g (found_state rs pages) (runs_of [] stays) come.last found come.are
+
+    pub keep_what_was_found : AreFixed (lists_found (found_state rs pages) (runs_of [] stays)) last
+    keep_what_was_found =
+        fixed_on (lists_found (found_state rs pages) (runs_of [] stays)) come.last.log last (undone_grows come.last.log restarted.turns last restarted.undone)
+        (lists_are_fixed g (found_state rs pages) (runs_of [] stays) come.last found come.are)

@@ -13,7 +13,7 @@ ghost use Rattle.shore_recovery.specs.Undo.{HasNoLosers};
 ghost use Rattle.shore_lives.specs.Stretches.{MayBeFound, opening_told};
 ghost use Rattle.shore_calls.specs.CallHistories.{IsRoomyState};
 ghost use Rattle.shore_calls.specs.States.{State};
-ghost use Rattle.shore_managers.specs.StoredRuns.{AreStoredRuns, IsOpenedOver, OpensShow, StoredEvent, StoredMoves, StoredState, StoredSteps, entries_made, spans_of};
+ghost use Rattle.shore_managers.specs.StoredRuns.{AreFixed, AreStoredRuns, IsOpenedOver, OpensShow, StoredEvent, StoredMoves, StoredState, StoredSteps, entries_made, lists_found, spans_of};
 ghost use Rattle.shore_bounds.specs.RoomyLogs.{AreRoomy};
 ghost use Rattle.shore_bounds.specs.RoomyStates.{IsOpenedFrom};
 ghost use Rattle.shore_stays.specs.SoundStores.{IsLost, IsSoundStore, IsUnderWay, MayBeOpened, found_state, managed};
@@ -64,7 +64,8 @@ pub fn events_join()
 
 /// Any number of stays of the power, opens that lose power among them, from a log and pages that may be opened: what is left may be opened. The stays
 /// are runs of managers, and then restarts that lost power. They are a life: each history is sound, each crash keeps what was
-/// acknowledged, and the kept decisions make the records of the next opening. Each open shows what its log told.
+/// acknowledged, and the kept decisions make the records of the next opening, which each open shows. The log that a restart has found is a prefix of
+/// what every later one finds.
 pub fn committed_work_survives_every_stay()
     ensures left { (g : Geometry) (stream_bytes : ℕ) (rs last : List LogRecord) (pages last_pages : LoggedPages) (stays : List StoredStay) →
         MayBeOpened g stream_bytes rs pages → AreStoredStays g stream_bytes rs pages stays last last_pages → MayBeOpened g stream_bytes last last_pages }
@@ -76,5 +77,8 @@ pub fn committed_work_survives_every_stay()
         MayBeOpened g stream_bytes rs pages → AreStoredStays g stream_bytes rs pages stays last last_pages →
         IsLife (opening_told rs) (spans_of (found_state rs pages) (runs_of [] stays)) (opening_told last) }
     ensures shown { (g : Geometry) (stream_bytes : ℕ) (rs last : List LogRecord) (pages last_pages : LoggedPages) (stays : List StoredStay) →
-        MayBeOpened g stream_bytes rs pages → AreStoredStays g stream_bytes rs pages stays last last_pages → OpensShow (found_state rs pages) (runs_of [] stays) }
+        MayBeOpened g stream_bytes rs pages → AreStoredStays g stream_bytes rs pages stays last last_pages →
+        OpensShow (opening_told rs) (found_state rs pages) (runs_of [] stays) }
+    ensures fixed { (g : Geometry) (stream_bytes : ℕ) (rs last : List LogRecord) (pages last_pages : LoggedPages) (stays : List StoredStay) →
+        MayBeOpened g stream_bytes rs pages → AreStoredStays g stream_bytes rs pages stays last last_pages → AreFixed (lists_found (found_state rs pages) (runs_of [] stays)) last }
 {}

@@ -1,4 +1,4 @@
-use Rattle.shore_stays.proofs.Stays.{are_a_life, come, show_what_was_told}
+use Rattle.shore_stays.proofs.Stays.{are_a_life, come, keep_what_was_found, show_what_was_told}
 use Rattle.shore_stays.proofs.laws.committed_work_survives_every_stay.Goals as goal
 
 pub returns-clause-left : goal.returns-clause-left
@@ -14,3 +14,6 @@ returns-clause-life c g stream_bytes rs last pages last_pages stays o h = are_a_
 
 pub returns-clause-shown : goal.returns-clause-shown
 returns-clause-shown c g stream_bytes rs last pages last_pages stays o h = show_what_was_told g stream_bytes rs pages o stays last last_pages h
+
+pub returns-clause-fixed : goal.returns-clause-fixed
+returns-clause-fixed c g stream_bytes rs last pages last_pages stays o h = keep_what_was_found g stream_bytes rs pages o stays last last_pages h
