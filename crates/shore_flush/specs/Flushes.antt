@@ -1,10 +1,11 @@
 -- What a flush does to the frames of a pool.
-use Rattle.std.specs.Prelude.{◌≡◌, ◌⊎◌, ◌<◌, ℕ, List, All, Contains, IsSomeAnd, Some, length, option_map}
+use Rattle.std.specs.Prelude.{◌≡◌, ◌⊎◌, ◌<◌, ℕ, List, All, Contains, Some, length, option_map}
 use Rattle.shore_disk.specs.declared.device.Disk.{Ghosts}
 use Rattle.shore_dwrite.specs.Shown.{RiseFrom}
 use Rattle.shore_types.specs.declared.layout.TheConstants.{MAX_BATCH_PAGES}
 use Rattle.shore_pool.specs.declared.frame.Frame.{Frame}
 use Rattle.shore_pool.specs.declared.pool.Pool.{Pool}
+use Rattle.shore_pool.specs.Batches.{AreDue}
 use Rattle.shore_pool.specs.Changes.{settled}
 use Rattle.shore_pool.specs.FrameMaps.{IsDue}
 use Rattle.shore_pool.specs.Pools.{frame_at}
@@ -12,10 +13,6 @@ use Rattle.shore_pool.specs.Pools.{frame_at}
 -- no page is dirty with a number up to this one
 abbrev pub NoneDue : {D : Type 0} {G : Ghosts D} → Pool D G → ℕ → Type 0
 NoneDue pool seen = (k : ℕ) (f : Frame) → frame_at pool k ≡ Some f → IsDue seen f → ⊥
-
--- these pages are
-abbrev pub AreDue : {D : Type 0} {G : Ghosts D} → Pool D G → ℕ → List ℕ → Type 0
-AreDue pool seen numbers = All (λ k. IsSomeAnd (frame_at pool k) (IsDue seen)) numbers
 
 -- each page that is due is one of these, or these are as many as a batch may have, and all before it
 abbrev pub AreFirst : {D : Type 0} {G : Ghosts D} → Pool D G → ℕ → List ℕ → Type 0

@@ -5,13 +5,13 @@ ghost use Rattle.shore_disk.specs.Device.{LeavesOnly, size};
 ghost use Rattle.shore_dwrite.specs.Shown.{RiseFrom};
 ghost use Rattle.shore_types.specs.declared.faults.Fault.TheVariants as Fault;
 ghost use Rattle.shore_types.specs.declared.layout.TheConstants.{MAX_BATCH_PAGES};
+ghost use Rattle.shore_pool.specs.Batches.{AreDue};
 ghost use Rattle.shore_pool.specs.Pools.{Holds, LeavesPages, WroteBack, count_of, faults_of, frame_at, geometry_of, history_of, honesty_of, limit_of};
 ghost use Rattle.shore_flush.specs.Batches.{pages_of};
-ghost use Rattle.shore_flush.specs.Flushes.{AreDue, AreFirst, Flushes, NoneDue};
+ghost use Rattle.shore_flush.specs.Flushes.{AreFirst, Flushes, NoneDue};
 
 use shore_disk::Disk;
 use shore_pool::Pool;
-use shore_types::layout::MAX_BATCH_PAGES;
 use shore_types::{Fault, Lsn};
 use std::alloc::{AllocError, Global};
 
@@ -37,16 +37,9 @@ pub fn choose<D: Disk>(alloc: Global, pool: &Pool<D>, seen: Lsn) -> Result<Batch
     ensures first { IfOk result (λ batch. AreFirst pool.now seen (pages_of batch)) }
     ensures none { IfOk result (λ batch. pages_of batch ≡ [] → NoneDue pool.now seen) }
 {
-    let mut pages = Vec::with_capacity(alloc, MAX_BATCH_PAGES)?;
-    let mut from = 0;
-    for _ in 0..MAX_BATCH_PAGES {
-        let Some(number) = pool.next_due(from, seen) else {
-            return Ok(Batch { pages });
-        };
-        pages.push(number)?;
-        from = number + 1;
-    }
-    Ok(Batch { pages })
+    Ok(Batch {
+        pages: pool.due(alloc, 0, seen)?,
+    })
 }
 
 /// Writes a batch of pages back, and answers how many. `Memory` if an allocation failed; nothing has changed then.

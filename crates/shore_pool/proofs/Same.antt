@@ -88,14 +88,6 @@ pub there_is : (P : Frame → Type 0) (slot : Option Frame) → IsSomeAnd slot P
 there_is P None p = absurd p
 there_is P (Some f) p = refl
 
--- a batch of one page
-pub one_up_to : (at : ℕ → Option Frame) (n seen : ℕ) → IsSomeAnd (at n) (IsDue seen) → AreUpTo at seen (n ∷ [])
-one_up_to at n seen due = All-cons (λ k. IsSomeAnd (at k) (λ f. f.page.number ≤ seen)) n [] (each (at n) due) (All-nil (λ k. IsSomeAnd (at k) (λ f. f.page.number ≤ seen)))
-  where
-    each : (slot : Option Frame) → IsSomeAnd slot (IsDue seen) → IsSomeAnd slot (λ f. f.page.number ≤ seen)
-    each None is = absurd is
-    each (Some f) is = is.1
-
 pub contains_one : (n k : ℕ) → Contains (n ∷ []) k → n ≡ k
 contains_one n k (zero, inside, is) = is
 contains_one n k (suc i, inside, is) = absurd (omega arith)

@@ -4,3 +4,4 @@ pub mod Frames
 pub mod FrameMaps
 pub mod Pages
 pub mod Pools
+pub mod Batches

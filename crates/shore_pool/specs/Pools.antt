@@ -1,5 +1,5 @@
 -- What a pool holds over a volume, and what a call leaves of both.
-use Rattle.std.specs.Prelude.{◌≡◌, ◌≢◌, ◌⊎◌, ◌<◌, Bool, ℕ, List, Option, Some, None, IsSomeAnd}
+use Rattle.std.specs.Prelude.{◌≡◌, ◌≢◌, ◌⊎◌, ◌<◌, Bool, ℕ, List, Option, Some, None, IsSomeAnd, option_map}
 use Rattle.shore_disk.specs.Device.{History}
 use Rattle.shore_disk.specs.declared.device.Disk.{Ghosts}
 use Rattle.shore_types.specs.declared.ids.PageId.{PageId}
@@ -12,6 +12,7 @@ use Rattle.shore_dwrite.specs.Shown.{ShowsBehind}
 use Rattle.shore_dwrite.specs.Volumes.{page_number}
 use Rattle.shore_pool.specs.declared.frame.Frame.{Frame}
 use Rattle.shore_pool.specs.declared.pool.Pool.{Pool}
+use Rattle.shore_pool.specs.Changes.{settled}
 use Rattle.shore_pool.specs.FrameMaps as frames
 use Rattle.shore_pool.specs.Pages.{AreWritten, IsPage, MayBeLeft, SamePages}
 
@@ -75,9 +76,13 @@ pub record NeedsForce {D : Type 0} {G : Ghosts D} (pool : Pool D G) (seen number
   pub one : (k : ℕ) × IsSomeAnd (frame_at pool k) (λ f. f.page.number ≡ number)
   pub all : (k : ℕ) (f : Frame) → frame_at pool k ≡ Some f → (f.recovery ≢ None) × (seen < f.page.number)
 
--- each other frame keeps its page, its claims and its recovery number, or went
+-- a frame keeps its page and its claims, though it may have become clean, or it went
+abbrev pub StaysOrGoes : Option Frame → Option Frame → Type 0
+StaysOrGoes at now = (now ≡ at) ⊎ (now ≡ option_map settled at) ⊎ (now ≡ None)
+
+-- so does each
 abbrev pub StayOrGo : {D : Type 0} {G : Ghosts D} → Pool D G → Pool D G → Type 0
-StayOrGo old new = (k : ℕ) → (frame_at new k ≡ frame_at old k) ⊎ (frame_at new k ≡ None)
+StayOrGo old new = (k : ℕ) → StaysOrGoes (frame_at old k) (frame_at new k)
 
 -- What a fetch leaves that wrote nothing back: the page may have come into a frame, each other is where it was, and the device is as it was.
 pub record ReadsOnly {D : Type 0} {G : Ghosts D} (old new : Pool D G) (id : PageId) (front : List ℕ) (disk : ℕ → List ℕ) : Type 0 where

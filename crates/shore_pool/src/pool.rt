@@ -28,6 +28,7 @@ use shore_disk::{Disk, FuseDisk};
 use shore_dwrite::{PageDev, PageImages};
 use shore_model::DirtyPage;
 use shore_page::Page;
+use shore_types::layout::MAX_BATCH_PAGES;
 use shore_types::{Fault, Geometry, Lsn, PageId};
 use std::alloc::{AllocError, Global};
 
@@ -54,7 +55,8 @@ pub struct Pool<D: Disk> {
 }
 
 impl<D: Disk> Pool<D> {
-    ghost use Rattle.shore_pool.specs.Pools.{HasInPlace, Holds, LeavesPages, NeedsForce, ReadsOnly, StayOrGo, WroteBack, count_of, device_of, faults_of, frame_at, frame_of, geometry_of, history_of, honesty_of, limit_of};
+    ghost use Rattle.shore_pool.specs.Batches.{AreDue, AreFirstFrom};
+    ghost use Rattle.shore_pool.specs.Pools.{HasInPlace, Holds, LeavesPages, NeedsForce, ReadsOnly, StayOrGo, StaysOrGoes, WroteBack, count_of, device_of, faults_of, frame_at, frame_of, geometry_of, history_of, honesty_of, limit_of};
 
     /// A pool of so many frames, with all its memory but that of pages. The device is handed back if an allocation failed.
     pub fn new(alloc: Global, device: PageDev<D>, frames: usize) -> Result<Pool<D>, PageDev<D>>
@@ -104,7 +106,7 @@ impl<D: Disk> Pool<D> {
     }
 
     /// Brings a page into a frame, if it is in none. `last` is the number of the log's last record, and `seen` that up to which it is
-    /// durable. A refused fetch leaves all pages as they were, though one may have been written back to make room.
+    /// durable. A refused fetch leaves all pages as they were, though some may have been written back to make room.
     pub fn fetch(
         &mut self,
         alloc: Global,
@@ -117,7 +119,7 @@ impl<D: Disk> Pool<D> {
         ensures held { IfOk result (λ how. how ≡ Fetched.Held → (frame_of self.new id ≡ frame_of self.old id) × IsTrue (is_some (frame_of self.old id))) }
         ensures read { (front : List ℕ) (disk : ℕ → List ℕ) → Holds self.old front disk → IfOk result (λ how. how ≡ Fetched.Read → (frame_of self.old id ≡ None)
             × IsSomeAnd (frame_of self.new id) (λ f. (f.page ≡ settled_page id f.page.number (images_of f.page.slots)) × (f.page.number ≤ last) × (f.recovery ≡ None))) }
-        ensures others { (k : ℕ) → k ≢ page_number (geometry_of self.old) id → (frame_at self.new k ≡ frame_at self.old k) ⊎ (frame_at self.new k ≡ None) }
+        ensures others { (k : ℕ) → k ≢ page_number (geometry_of self.old) id → StaysOrGoes (frame_at self.old k) (frame_at self.new k) }
         ensures all { IfOk result (λ how. how ≡ Fetched.Held → (k : ℕ) → frame_at self.new k ≡ frame_at self.old k) }
         ensures stay { OnErr result (StayOrGo self.old self.new) }
         ensures kept { (front : List ℕ) (disk : ℕ → List ℕ) → Holds self.old front disk
@@ -153,13 +155,13 @@ impl<D: Disk> Pool<D> {
         if self.frames.touch(number) {
             return Ok(Fetched::Held);
         }
-        self.make_room(seen)?;
+        self.make_room(alloc, seen)?;
         self.read(alloc, id, last)?;
         Ok(Fetched::Read)
     }
 
     // Sees to it that a frame is free.
-    fn make_room(&mut self, seen: Lsn) -> Result<(), Fault>
+    fn make_room(&mut self, alloc: Global, seen: Lsn) -> Result<(), Fault>
         ensures room { OnOk result (count_of self.new < limit_of self.new) }
         ensures idle { count_of self.old < limit_of self.old → IsOk result × (self.new ≡ self.old) }
         ensures frames { StayOrGo self.old self.new }
@@ -176,7 +178,7 @@ impl<D: Disk> Pool<D> {
         ensures cause { HasCause result (faults_of self.old) (faults_of self.new) }
     {
         if self.frames.is_full() {
-            return self.evict(seen);
+            return self.evict(alloc, seen);
         }
         Ok(())
     }
@@ -278,10 +280,30 @@ impl<D: Disk> Pool<D> {
         self.frames.next_due(from, seen)
     }
 
+    /// The first dirty pages of the volume from one on, of those with numbers up to this one: all of them, or as many as a batch may have.
+    pub fn due(&self, alloc: Global, from: u32, seen: Lsn) -> Result<Vec<u32>, AllocError>
+        ensures rise { IfOk result (λ pages. RiseFrom 0 pages.items) }
+        ensures most { IfOk result (λ pages. length pages.items ≤ MAX_BATCH_PAGES) }
+        ensures least { IfOk result (λ pages. All (λ k. from ≤ k) pages.items) }
+        ensures due { IfOk result (λ pages. AreDue self.now seen pages.items) }
+        ensures first { IfOk result (λ pages. AreFirstFrom self.now from seen pages.items) }
+    {
+        let mut pages = Vec::with_capacity(alloc, MAX_BATCH_PAGES)?;
+        let mut next = from;
+        for _ in 0..MAX_BATCH_PAGES {
+            let Some(number) = self.next_due(next, seen) else {
+                return Ok(pages);
+            };
+            pages.push(number)?;
+            next = number + 1;
+        }
+        Ok(pages)
+    }
+
     /// Frees a frame: one of a clean page that was not used for a while, if there is a clean page; else that of the page whose changes are
-    /// oldest among those with numbers up to the durable one, which is written first. `NeedForce` with the number of a page if none has
-    /// such a number. A pool with no page in a frame stays as it is.
-    pub fn evict(&mut self, seen: Lsn) -> Result<(), Fault>
+    /// oldest among those with numbers up to the durable one. That page is written first, and with it, for a batch costs as many syncs as a page, those
+    /// behind it on the volume that may be. `NeedForce` with the number of a page if none has such a number. A pool with no page in a frame stays as it is.
+    pub fn evict(&mut self, alloc: Global, seen: Lsn) -> Result<(), Fault>
         ensures freed { OnOk result (count_of self.new ≡ count_of self.old - 1) }
         ensures frames { StayOrGo self.old self.new }
         ensures kept { (front : List ℕ) (disk : ℕ → List ℕ) → Holds self.old front disk
@@ -303,11 +325,11 @@ impl<D: Disk> Pool<D> {
             self.free(number);
             return Ok(());
         }
-        self.steal(seen)
+        self.steal(alloc, seen)
     }
 
-    // Frees the frame of the page whose changes are oldest among those with numbers up to this one. The page is written first.
-    fn steal(&mut self, seen: Lsn) -> Result<(), Fault>
+    // Frees the frame of the page whose changes are oldest among those with numbers up to this one. The page is written first, and others with it.
+    fn steal(&mut self, alloc: Global, seen: Lsn) -> Result<(), Fault>
         ensures freed { OnOk result (count_of self.new ≡ count_of self.old - 1) }
         ensures frames { StayOrGo self.old self.new }
         ensures kept { (front : List ℕ) (disk : ℕ → List ℕ) → Holds self.old front disk
@@ -323,7 +345,8 @@ impl<D: Disk> Pool<D> {
         ensures cause { HasCause result (faults_of self.old) (faults_of self.new) }
     {
         if let Some(number) = self.frames.oldest_due(seen) {
-            self.write(&[number])?;
+            let pages = self.due(alloc, number, seen)?;
+            self.write(&pages)?;
             self.free(number);
             return Ok(());
         }

@@ -1,13 +1,13 @@
-use Rattle.std.proofs.Common.{◌+◌, ℕ, List, sym, subst, arith}
-use Rattle.shore_flush.specs.Choosing.{IsChosen}
-use Rattle.shore_flush.proofs.Choices.{chosen_more, cut_batch}
+use Rattle.std.proofs.Common.{ℕ, List, inl, inr, length, ap, ◌∙◌, arith}
 use Rattle.shore_flush.proofs.flush.choose.Goals as goal
 
-pub loop-preserved : goal.loop-preserved
-loop-preserved g c =
-    let n = c.in-Some.number in
-    subst (λ (pages : List ℕ). IsChosen c.args.pool.now c.args.seen pages (n + 1) (c.loop.counter + 1)) (sym c.in_ok-push.ensures.items)
-    (chosen_more c.args.pool.now c.args.seen c.loop.pages.items c.loop.from c.loop.counter n c.loop.invariant c.in-Some.ensures.rises c.in-Some.ensures.due c.in-Some.ensures.least)
-
 pub returns-clause-first : goal.returns-clause-first
-returns-clause-first g c = cut_batch c.args.pool.now c.args.seen c.loop.pages.items c.loop.from c.loop.counter c.loop.invariant (omega (arith, c.loop-test.false, c.loop.auto.counter-end))
+returns-clause-first g c k f is due = c.in_ok-due.ensures.first k f is due (omega arith)
+
+pub returns-clause-none : goal.returns-clause-none
+returns-clause-none g c empty k f is due =
+    let none = ap (λ (l : List ℕ). length l) empty in
+    elim (c.in_ok-due.ensures.first k f is due (omega arith)) [
+      | inl (i, inside, at) ↦ omega (arith, inside, none)
+      | inr (long, below) ↦ omega (arith, long, none)
+    ]

@@ -2,9 +2,9 @@ use Rattle.std.proofs.Common.{◌≡◌, ◌==◌, ℕ, true, false, inl, inr, L
 use Rattle.std.proofs.lemmas.Bool.{cases_eq, ne_eqb}
 use Rattle.shore_pool.specs.Pages.{AreUpTo}
 use Rattle.shore_pool.specs.Pools.{device_of, frame_at}
+use Rattle.shore_pool.proofs.Choices.{up_to}
 use Rattle.shore_pool.proofs.Moments.{while_still}
 use Rattle.shore_flush.specs.Batches.{pages_of}
-use Rattle.shore_flush.proofs.Choices.{up_to}
 use Rattle.shore_flush.proofs.flush.flush_step.Goals as goal
 
 pub returns-in_err-batch-clause-any_moment : goal.returns-in_err-batch-clause-any_moment
