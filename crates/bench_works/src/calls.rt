@@ -87,14 +87,10 @@ pub fn count(rt: &HostRuntime) -> io::Result<()> {
 fn round_of(alloc: Global, manager: &mut Manager, work: Work, round: u64) -> Result<u64, Fault> {
     let done = match work {
         Work::Get => ask(alloc, manager, Call::Get(record_of(round))),
-        Work::Insert | Work::InsertFar => ask(
-            alloc,
-            manager,
-            Call::Insert(STORE, bytes(alloc, round)?),
-        ),
+        Work::Insert | Work::InsertFar => ask(alloc, manager, Call::Insert(STORE, bytes(alloc)?)),
         Work::Update => {
             let id = record_of(round);
-            ask(alloc, manager, Call::Update(id, bytes(alloc, round)?))
+            ask(alloc, manager, Call::Update(id, bytes(alloc)?))
         }
         Work::Scan => scanned(alloc, manager) == 1_000,
         Work::Commit => ask(alloc, manager, Call::Begin) && commit(alloc, manager),

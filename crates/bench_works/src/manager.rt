@@ -16,6 +16,8 @@ const RECORDS_OF_A_PAGE: u64 = 78;
 
 const LOG_BYTES: usize = 1 << 26;
 
+const RECORD: [u8; 100] = [0x5A; 100];
+
 pub type Manager = World<MemDisk, MemDisk>;
 
 /// As many as the greatest store has pages, so that each call is measured with its pages in memory.
@@ -79,9 +81,9 @@ pub fn record_of(round: u64) -> Rid {
     }
 }
 
-/// A hundred bytes.
-pub fn bytes(alloc: Global, number: u64) -> Result<Bytes, AllocError> {
-    Ok(Sequence::from_vec(Vec::from_elem(alloc, (number % 256) as u8, 100)?))
+/// A hundred bytes, copied from a record at hand: filled one by one they would cost more than a call.
+pub fn bytes(alloc: Global) -> Result<Bytes, AllocError> {
+    Ok(Sequence::from_vec(Vec::from_slice(alloc, &RECORD)?))
 }
 
 /// Whether the call was answered, or waits.
@@ -105,8 +107,8 @@ pub fn scanned(alloc: Global, manager: &mut Manager) -> u64 {
 /// Begins a transaction and makes so many records in it.
 pub fn begin_with(alloc: Global, manager: &mut Manager, records: u64) -> Result<(), Fault> {
     ask(alloc, manager, Call::Begin);
-    for number in 0..records {
-        ask(alloc, manager, Call::Insert(STORE, bytes(alloc, number)?));
+    for _ in 0..records {
+        ask(alloc, manager, Call::Insert(STORE, bytes(alloc)?));
     }
     Ok(())
 }

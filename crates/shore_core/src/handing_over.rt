@@ -1,5 +1,5 @@
 //! What a core hands over: its records to the log device, and at its end the volume.
-ghost use Rattle.std.specs.Prelude.{◌≡◌, ◌+◌, ◌++◌, [], ℕ, List, IfErr, OnOk, length};
+ghost use Rattle.std.specs.Prelude.{◌≡◌, ◌+◌, ◌++◌, [], ℕ, List, IfErr, OnErr, OnOk, length};
 ghost use Rattle.shore_types.specs.declared.faults.Fault.TheVariants as Fault;
 ghost use Rattle.shore_log.specs.Settled.{IsSettled, records_of_log, stable};
 ghost use Rattle.shore_heap.specs.Heaps as heaps;
@@ -36,6 +36,7 @@ impl<V: Disk> Core<PlainTail, V> {
         ensures list { records_of_log log.new ++ waiting_of self.new ≡ records_of_log log.old ++ waiting_of self.old }
         ensures emptied { OnOk result (waiting_of self.new ≡ []) }
         ensures numbers { first_of self.new ≡ 1 + length (records_of_log log.new) }
+        ensures refused { OnErr result ((records_of_log log.new ≡ records_of_log log.old) × (waiting_of self.new ≡ waiting_of self.old)) }
         ensures only_memory { IfErr result (λ fault. fault ≡ Fault.Memory) }
         ensures still { (log.new.device ≡ log.old.device) × (log.new.staged ≡ log.old.staged) × (stable log.new ≡ stable log.old) }
         ensures settled { (front : List ℕ) → IsSettled log.old front → IsSettled log.new front }

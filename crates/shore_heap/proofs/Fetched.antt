@@ -13,6 +13,7 @@ use Rattle.shore_dwrite.specs.Volumes.{page_number}
 use Rattle.shore_page.specs.Slots.{Slot}
 use Rattle.shore_pool.specs.declared.frame.Frame.{Frame}
 use Rattle.shore_pool.specs.declared.pool.Pool.{Pool}
+use Rattle.shore_pool.specs.Changes as changes
 use Rattle.shore_pool.specs.Pages.{SamePages}
 use Rattle.shore_pool.specs.Pools as pools
 use Rattle.shore_pool.specs.Pools.{Holds, NeedsForce, ReadsOnly}
@@ -58,11 +59,21 @@ came_by old mid new id K last number read here geometry = record {
 }
 
 pub others_by : {D : Type 0} {G : Ghosts D} (old : Heap D G) (mid : Pool D G) (new : Heap D G) (id : PageId) (number : page_number (pools.geometry_of mid) id ≡ page_number (geometry_of old) id)
-    → ((k : ℕ) → k ≢ page_number (geometry_of old) id → (pools.frame_at mid k ≡ frame_at old k) ⊎ (pools.frame_at mid k ≡ None)) → ((k : ℕ) → k ≢ page_number (pools.geometry_of mid) id → frame_at new k ≡ pools.frame_at mid k)
-    → (k : ℕ) → k ≢ page_number (geometry_of old) id → (frame_at new k ≡ frame_at old k) ⊎ (frame_at new k ≡ None)
+    → ((k : ℕ) → k ≢ page_number (geometry_of old) id → pools.StaysOrGoes (frame_at old k) (pools.frame_at mid k)) → ((k : ℕ) → k ≢ page_number (pools.geometry_of mid) id → frame_at new k ≡ pools.frame_at mid k)
+    → (k : ℕ) → k ≢ page_number (geometry_of old) id → pools.StaysOrGoes (frame_at old k) (frame_at new k)
 others_by old mid new id number first second k apart =
     let same = second k (λ is. apart (is ∙ number)) in
-    elim (first k apart) [ inl stays ↦ inl (same ∙ stays) | inr gone ↦ inr (same ∙ gone) ]
+    elim (first k apart) [ inl stays ↦ inl (same ∙ stays) | inr (inl clean) ↦ inr (inl (same ∙ clean)) | inr (inr gone) ↦ inr (inr (same ∙ gone)) ]
+
+-- a frame with a change that the volume does not have was there before
+pub there_before : (was now : Option Frame) (f : Frame) → pools.StaysOrGoes was now → now ≡ Some f → f.recovery ≢ None → was ≡ Some f
+there_before was now f (inl stays) is dirty = sym stays ∙ is
+there_before was now f (inr (inl clean)) is dirty = absurd (dirty (each was (sym is ∙ clean)))
+  where
+    each : (o : Option Frame) → Some f ≡ option_map changes.settled o → f.recovery ≡ None
+    each None same = cc
+    each (Some e) same = let it : f ≡ changes.settled e = cc in ap (λ (f : Frame). f.recovery) it
+there_before was now f (inr (inr gone)) is dirty = let clash : None ≡ Some f = sym gone ∙ is in absurd cc
 
 -- ---- a call
 
@@ -90,8 +101,8 @@ module _ {D : Type 0} {G : Ghosts D} (old : Heap D G) (mid : Pool D G) (seen : �
     bounds_stay S are = subst (λ (free : List (List ℕ)). AreBounds (geometry_of old) free S) (sym bounds) are
 
     -- .. and the slots
-    pub kept_of : ((k : ℕ) → k ≢ page_number (geometry_of old) id → (frame_at new k ≡ frame_at old k) ⊎ (frame_at new k ≡ None))
-        → ((frame_at new (page_number (geometry_of old) id) ≡ frame_at old (page_number (geometry_of old) id)) ⊎ (frame_at new (page_number (geometry_of old) id) ≡ None)) ⊎ Came (frame_at old) (pools.frame_at mid) (frame_at new) (page_number (geometry_of old) id) id (K id) last
+    pub kept_of : ((k : ℕ) → k ≢ page_number (geometry_of old) id → pools.StaysOrGoes (frame_at old k) (frame_at new k))
+        → pools.StaysOrGoes (frame_at old (page_number (geometry_of old) id)) (frame_at new (page_number (geometry_of old) id)) ⊎ Came (frame_at old) (pools.frame_at mid) (frame_at new) (page_number (geometry_of old) id) id (K id) last
         → (front : List ℕ) (disk : ℕ → List ℕ) (S : PageId → List Slot) → Shows K old front disk S → AreKept (geometry_of old) K S
         → (w : pools.WroteBack old.pool mid seen front disk) → Holds new.pool front w.left × SamePages (pools.frame_at mid) w.left (frame_at new) w.left → KeepsSlots K old new seen front disk S
     kept_of others come front disk S shows are w more =
@@ -127,3 +138,17 @@ module _ {D : Type 0} {G : Ghosts D} (old : Heap D G) (mid : Pool D G) (seen : �
         each None e is clean dirt = clean
         each (Some f) None is clean dirt = let clash : None ≡ Some f.recovery = dirt in cc
         each (Some f) (Some e) is clean dirt = let same : e.recovery ≡ f.recovery = cc in (needs.all (page_number (geometry_of old) id) e is).0 (same ∙ clean)
+
+    -- .. and what is dirty was in its frame before
+    pub dirty_of : ((k : ℕ) → k ≢ page_number (geometry_of old) id → pools.StaysOrGoes (frame_at old k) (frame_at new k)) → IsSomeAnd (pools.frame_at mid (page_number (geometry_of old) id)) (λ f. f.recovery ≡ None)
+        → option_map (λ f. f.recovery) (frame_at new (page_number (geometry_of old) id)) ≡ option_map (λ f. f.recovery) (pools.frame_at mid (page_number (geometry_of old) id))
+        → (k : ℕ) (f : Frame) → frame_at new k ≡ Some f → f.recovery ≢ None → frame_at old k ≡ Some f
+    dirty_of others clean dirt k f is dirty = elim (cases_eq k (page_number (geometry_of old) id)) [
+      | inl same ↦ absurd (each (pools.frame_at mid (page_number (geometry_of old) id)) (frame_at new (page_number (geometry_of old) id)) (ap (frame_at new) (sym same) ∙ is) clean dirt)
+      | inr apart ↦ there_before (frame_at old k) (frame_at new k) f (others k apart) is dirty
+    ]
+      where
+        each : (o e : Option Frame) → e ≡ Some f → IsSomeAnd o (λ f. f.recovery ≡ None) → option_map (λ f. f.recovery) e ≡ option_map (λ f. f.recovery) o → ⊥
+        each None e is clean dirt = clean
+        each (Some g) None is clean dirt = let clash : None ≡ Some g.recovery = dirt in cc
+        each (Some g) (Some e) is clean dirt = let same : e.recovery ≡ g.recovery = cc in let it : e ≡ f = cc in dirty (ap (λ (f : Frame). f.recovery) (sym it) ∙ same ∙ clean)

@@ -10,7 +10,9 @@ use Rattle.shore_page.specs.Slots.{PageState, Slot, settled}
 use Rattle.shore_page.specs.Text.{IsPageText, images_of, settled_page}
 use Rattle.shore_pool.specs.declared.frame.Frame.{Frame}
 use Rattle.shore_pool.specs.declared.pool.Fetched.{Fetched}
+use Rattle.shore_pool.specs.Changes as changes
 use Rattle.shore_pool.specs.Pages.{AreInOrder, AreWritten, IsPage, SamePages}
+use Rattle.shore_pool.specs.Pools.{StaysOrGoes}
 use Rattle.shore_pool.proofs.Same.{one_text}
 use Rattle.shore_heap.specs.Contents.{AreKept, FitIn, HasSlots, Kept, claimed_by, claimed_frame, with_slots}
 use Rattle.shore_heap.proofs.Bounds.{cases_page, slots_here, slots_other}
@@ -122,23 +124,28 @@ module _ (g : Geometry) (at now : ℕ → Option Frame) (disk left : ℕ → Lis
           (f.page.number, images_of (S p), subst (λ (l : List Slot). IsPageText (left (page_number g p)) p f.page.number (images_of l)) slots text, told.0, told.1)
 
   -- .. or has the one that it had
-  pub have_left : (p : PageId) → HasPage g p → (now (page_number g p) ≡ at (page_number g p)) ⊎ (now (page_number g p) ≡ None) → HasSlots (now (page_number g p)) (left (page_number g p)) p (K p) (S p)
+  pub have_left : (p : PageId) → HasPage g p → StaysOrGoes (at (page_number g p)) (now (page_number g p)) → HasSlots (now (page_number g p)) (left (page_number g p)) p (K p) (S p)
   have_left p has stays = each (now (page_number g p)) refl stays
     where
-      each : (o : Option Frame) → now (page_number g p) ≡ o → (now (page_number g p) ≡ at (page_number g p)) ⊎ (now (page_number g p) ≡ None) → HasSlots o (left (page_number g p)) p (K p) (S p)
+      clean_slots : (o : Option Frame) (f : Frame) → option_map changes.settled o ≡ Some f → HasSlots o (disk (page_number g p)) p (K p) (S p) → HasSlots (Some f) (left (page_number g p)) p (K p) (S p)
+      clean_slots None f is slots = let clash : None ≡ Some f = is in absurd cc
+      clean_slots (Some e) f is slots = subst (λ (o : Option Frame). HasSlots o (left (page_number g p)) p (K p) (S p)) is slots
+
+      each : (o : Option Frame) → now (page_number g p) ≡ o → StaysOrGoes (at (page_number g p)) (now (page_number g p)) → HasSlots o (left (page_number g p)) p (K p) (S p)
       each None is it = have_gone p has is
       each (Some f) is (inl stay) = subst (λ (o : Option Frame). HasSlots o (disk (page_number g p)) p (K p) (S p)) (sym stay ∙ is) (have p has)
-      each (Some f) is (inr gone) = let clash : None ≡ Some f = sym gone ∙ is in absurd cc
+      each (Some f) is (inr (inl clean)) = clean_slots (at (page_number g p)) f (sym clean ∙ is) (have p has)
+      each (Some f) is (inr (inr gone)) = let clash : None ≡ Some f = sym gone ∙ is in absurd cc
 
   -- .. after one page was fetched
-  pub have_fetched : (mid : ℕ → Option Frame) (id : PageId) (last : ℕ) → HasPage g id → SamePages at disk mid left → ((k : ℕ) → k ≢ page_number g id → (now k ≡ at k) ⊎ (now k ≡ None))
-      → ((now (page_number g id) ≡ at (page_number g id)) ⊎ (now (page_number g id) ≡ None)) ⊎ Came at mid now (page_number g id) id (K id) last → Have g now left K S
+  pub have_fetched : (mid : ℕ → Option Frame) (id : PageId) (last : ℕ) → HasPage g id → SamePages at disk mid left → ((k : ℕ) → k ≢ page_number g id → StaysOrGoes (at k) (now k))
+      → StaysOrGoes (at (page_number g id)) (now (page_number g id)) ⊎ Came at mid now (page_number g id) id (K id) last → Have g now left K S
   have_fetched mid id last there pages others come p has = elim (cases_page p id) [
     | inl here ↦ subst (λ (q : PageId). HasSlots (now (page_number g q)) (left (page_number g q)) q (K q) (S q)) (sym here) (its come)
     | inr other ↦ have_left p has (others (page_number g p) (λ one. other (one_page g p id has there one)))
   ]
     where
-      its : ((now (page_number g id) ≡ at (page_number g id)) ⊎ (now (page_number g id) ≡ None)) ⊎ Came at mid now (page_number g id) id (K id) last → HasSlots (now (page_number g id)) (left (page_number g id)) id (K id) (S id)
+      its : StaysOrGoes (at (page_number g id)) (now (page_number g id)) ⊎ Came at mid now (page_number g id) id (K id) last → HasSlots (now (page_number g id)) (left (page_number g id)) id (K id) (S id)
       its (inl stays) = have_left id there stays
       its (inr came) = came_slots at mid now (page_number g id) id (K id) last (disk (page_number g id)) (left (page_number g id)) (S id) came (have id there)
           (λ f images is read number text.

@@ -1,5 +1,5 @@
 //! Pages as they come into frames, and out of them.
-ghost use Rattle.std.specs.Prelude.{◌≡◌, ◌≢◌, ◌⊎◌, ◌<◌, ◌↔◌, ℕ, List, IfErr, IsSomeAnd, IsTrue, MatchResult, OnErr, OnOk, Some, is_some, length, option_map};
+ghost use Rattle.std.specs.Prelude.{◌≡◌, ◌≢◌, ◌⊎◌, ◌<◌, ◌↔◌, ℕ, List, IfErr, IsSomeAnd, IsTrue, MatchResult, None, OnErr, OnOk, Some, is_some, length, option_map};
 ghost use Rattle.shore_disk.specs.Cause.{HasCause};
 ghost use Rattle.shore_disk.specs.Device.{LeavesOnly, size};
 ghost use Rattle.shore_dwrite.specs.Volumes.{HasNoPage, page_number, page_offset};
@@ -62,6 +62,10 @@ impl<D: Disk> Heap<D> {
             → MatchResult result (λ _. WroteBack self.old self.new seen front disk) (λ fault. (fault ≡ Fault.Device) ⊎ WroteBack self.old self.new seen front disk) }
         ensures any_moment { (front : List ℕ) (disk : ℕ → List ℕ) → Holds (pool_of self.old) front disk
             → LeavesOnly (history_of self.old) (history_of self.new) (LeavesPages self.old seen front disk) }
+
+        // A page with a change that the volume does not have was in its frame before.
+        ensures dirty { (front : List ℕ) (disk : ℕ → List ℕ) → Holds (pool_of self.old) front disk
+            → (k : ℕ) (f : Frame) → frame_at self.new k ≡ Some f → f.recovery ≢ None → frame_at self.old k ≡ Some f }
 
         // A page that was read may go again, so no force is needed then that was not needed before.
         ensures forced { (front : List ℕ) (disk : ℕ → List ℕ) → Holds (pool_of self.old) front disk

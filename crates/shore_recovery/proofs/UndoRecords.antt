@@ -88,7 +88,7 @@ pub undone_more : (log : List LogRecord) (ts : List ℕ) (mid : List LogRecord) 
 undone_more log [] mid t u loser = (subst (λ xs. IsLoser xs t) u loser, ap (λ xs. xs ++ undo_record xs t ∷ []) u)
 undone_more log (v ∷ ts) mid t u loser = (u.0, undone_more (log ++ undo_record log v ∷ []) ts mid t u.1 loser)
 
-undone_grows : (log : List LogRecord) (ts : List ℕ) (last : List LogRecord) → IsUndoneTo log ts last → (more : List LogRecord) × (last ≡ log ++ more)
+pub undone_grows : (log : List LogRecord) (ts : List ℕ) (last : List LogRecord) → IsUndoneTo log ts last → (more : List LogRecord) × (last ≡ log ++ more)
 undone_grows log [] last u = ([], u ∙ sym (append-nil log))
 undone_grows log (t ∷ ts) last u =
     let g = undone_grows (log ++ undo_record log t ∷ []) ts last u.1 in

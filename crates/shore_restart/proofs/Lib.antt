@@ -1,7 +1,9 @@
 pub mod Paths
 pub mod Standing
 pub mod PageErrors
+pub mod HeldPages
 pub mod LogErrors
+pub mod QuietLogs
 pub mod Rooms
 pub mod Frames
 pub mod Putting
@@ -12,6 +14,7 @@ pub mod UndoTexts
 pub mod Causes
 pub mod Turning
 pub mod LogTurns
+pub mod BadNumbers
 pub mod Undoing
 pub mod Found
 pub mod Opens

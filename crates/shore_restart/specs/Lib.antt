@@ -1,4 +1,6 @@
 pub mod Errors
+pub mod Held
+pub mod Quiet
 pub mod Room
 pub mod Standing
 pub mod Turns

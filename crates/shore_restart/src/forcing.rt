@@ -11,6 +11,7 @@ ghost use Rattle.shore_recovery.specs.Recovery.{RecoveryState};
 ghost use Rattle.shore_restart.specs.declared.errors.RestartError.TheVariants as RestartError;
 ghost use Rattle.shore_restart.specs.Errors.{log_answer};
 ghost use Rattle.shore_stands.specs.Moments.{ShowsLeft};
+ghost use Rattle.shore_restart.specs.Quiet.{IsQuiet, StaysQuiet};
 ghost use Rattle.shore_restart.specs.Room.{LeavesRoom};
 ghost use Rattle.shore_restart.specs.Standing.{Forces, ForcesFrame, IsAtRest, SameLog, log_faults, stream_bytes_of};
 
@@ -27,8 +28,7 @@ pub fn force<L: Disk>(alloc: Global, log: &mut LogDev<L>) -> Result<(), RestartE
         → (g : Geometry) (front : List ℕ) (h : History) → ((c : List ℕ) → may_leave h c → ShowsLeft g front s c)
         → Forces result g log_front front h log.old log.new s }
     ensures refused { IfErr result (λ error. (error ≡ RestartError.Memory) ⊎ (error ≡ RestartError.Log Fault.Device) ⊎ (error ≡ RestartError.Log Fault.LogFull)) }
-    ensures device { (log_front : List ℕ) → IsSettled log.old log_front → log.old.staged ≡ None
-        → IfErr result (λ error. (f : Fault) → error ≡ RestartError.Log f → f ≡ Fault.Device) }
+    ensures log_device { (log_front : List ℕ) → IsQuiet log_front log.old → StaysQuiet result log_front log.old log.new }
     ensures same { records_of_log log.new ≡ records_of_log log.old }
     ensures log { SameLog log.old log.new }
     ensures cause { HasCause (log_answer result) (log_faults log.old) (log_faults log.new) }
@@ -45,11 +45,8 @@ fn force_frame<L: Disk>(alloc: Global, log: &mut LogDev<L>) -> Result<bool, Rest
         → ForcesFrame result g log_front front h log.old log.new s }
     ensures fewer { IfOk result (λ more. IsTrue more → length (waiting log.new) < length (waiting log.old)) }
     ensures none { IfOk result (λ more. IsFalse more → log.old.staged ≡ None → log.new ≡ log.old × (waiting log.old ≡ [])) }
-    ensures settled { (log_front : List ℕ) → IsSettled log.old log_front → log.old.staged ≡ None
-        → OnOk result (IsSettled log.new log_front × (log.new.staged ≡ None)) }
     ensures refused { IfErr result (λ error. (error ≡ RestartError.Memory) ⊎ (error ≡ RestartError.Log Fault.Device) ⊎ (error ≡ RestartError.Log Fault.LogFull)) }
-    ensures device { (log_front : List ℕ) → IsSettled log.old log_front → log.old.staged ≡ None
-        → IfErr result (λ error. (f : Fault) → error ≡ RestartError.Log f → f ≡ Fault.Device) }
+    ensures log_device { (log_front : List ℕ) → IsQuiet log_front log.old → StaysQuiet result log_front log.old log.new }
     ensures same { records_of_log log.new ≡ records_of_log log.old }
     ensures log { SameLog log.old log.new }
     ensures cause { HasCause (log_answer result) (log_faults log.old) (log_faults log.new) }

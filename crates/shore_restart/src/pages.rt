@@ -15,6 +15,7 @@ ghost use Rattle.shore_recovery.specs.Recovery.{AppendRecord, LeadsTo, RecoveryS
 ghost use Rattle.shore_restart.specs.declared.errors.RestartError.{RestartError};
 ghost use Rattle.shore_restart.specs.declared.errors.RestartError.TheVariants as RestartError;
 ghost use Rattle.shore_restart.specs.Errors.{IsEarned, volume_answer};
+ghost use Rattle.shore_restart.specs.Held.{FetchesHeld, IsHeld};
 ghost use Rattle.shore_restart.specs.Standing.{Fetches, SameVolume, Stands};
 
 use crate::errors::{RestartError, page_error};
@@ -39,6 +40,7 @@ pub fn fetch<V: Disk>(
     ensures device { (front : List ℕ) (disk : ℕ → List ℕ) (s : RecoveryState) → Stands front disk heap.old s → length s.log ≤ last
         → IfErr result (λ error. (f : Fault) → error ≡ RestartError.Page f → (f ≡ Fault.Device) ⊎ ((n : ℕ) × (f ≡ Fault.NeedForce n) × (seen < n) × (n ≤ length s.log))) }
     ensures earned { (front : List ℕ) (disk : ℕ → List ℕ) → Holds (pool_of heap.old) front disk → IfErr result (IsEarned (geometry_of heap.old) disk last) }
+    ensures any_pages { (front : List ℕ) (disk : ℕ → List ℕ) → IsHeld front disk heap.old last → seen ≤ last → FetchesHeld result front disk heap.old heap.new last seen }
     ensures others { IfErr result (λ error. (error ≢ RestartError.NoRoom) × ((n : ℕ) → error ≢ RestartError.BadRecord n) × ((f : Fault) → error ≢ RestartError.Log f)) }
     ensures volume { SameVolume heap.old heap.new }
     ensures cause { HasCause (volume_answer result) (faults_of heap.old) (faults_of heap.new) }
@@ -60,6 +62,7 @@ pub fn put<V: Disk>(heap: &mut Heap<V>, id: Rid, number: Lsn, image: &Option<Byt
     ensures appended { (front : List ℕ) (disk : ℕ → List ℕ) (s : RecoveryState) (r : LogRecord) → Stands front disk heap.old s → s.redone ≡ length s.log
         → image_in r.payload ≡ Some (id, image.now) → number ≡ length s.log + 1
         → LeadsTo s (AppendRecord r) (after_append s r) × Stands front disk heap.new (after_append s r) }
+    ensures any_pages { (front : List ℕ) (disk : ℕ → List ℕ) (last : ℕ) → IsHeld front disk heap.old last → number ≤ last → IsHeld front disk heap.new last }
     ensures history { history_of heap.new ≡ history_of heap.old }
     ensures faults { faults_of heap.new ≡ faults_of heap.old }
     ensures volume { SameVolume heap.old heap.new }

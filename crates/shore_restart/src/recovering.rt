@@ -1,5 +1,5 @@
 //! What a restart does with its two devices: analysis, redo, undo, and the force of undo's records.
-ghost use Rattle.std.specs.Prelude.{◌≡◌, ◌⊎◌, ◌≤◌, ℕ, List, IfErr, IfOk, None, OnOk, length};
+ghost use Rattle.std.specs.Prelude.{◌≡◌, ◌⊎◌, ◌<◌, ◌≤◌, ℕ, List, IfErr, IfOk, None, OnOk, length};
 ghost use Rattle.shore_disk.specs.Cause.{HasCause};
 ghost use Rattle.shore_types.specs.declared.faults.Fault.{Fault};
 ghost use Rattle.shore_types.specs.declared.faults.Fault.TheVariants as Fault;
@@ -17,6 +17,8 @@ ghost use Rattle.shore_analysis.specs.Tables.{AreTables, IsNext};
 ghost use Rattle.shore_restart.specs.declared.errors.RestartError.{RestartError};
 ghost use Rattle.shore_restart.specs.declared.errors.RestartError.TheVariants as RestartError;
 ghost use Rattle.shore_restart.specs.Errors.{log_answer, volume_answer};
+ghost use Rattle.shore_restart.specs.Held.{IsHeld, IsPageFault};
+ghost use Rattle.shore_restart.specs.Quiet.{IsQuiet, StaysQuiet};
 ghost use Rattle.shore_restart.specs.Room.{IsRoomBehind};
 ghost use Rattle.shore_restart.specs.Standing.{IsFound, Moves, SameLog, SameVolume, log_faults, stream_bytes_of};
 ghost use Rattle.shore_restart.specs.Turns.{IsBadRecord, IsUndoneSoFar, LacksRoom};
@@ -73,8 +75,9 @@ pub fn recover<L: Disk, V: Disk>(
     ensures no_room { IfErr result (λ error. error ≡ RestartError.NoRoom → LacksRoom (records_of_log log.old) (stream_bytes_of log.old)) }
     ensures device { (log_front front : List ℕ) (disk : ℕ → List ℕ) (s : RecoveryState) → IsFound log_front front disk log.old heap.old s
         → IfErr result (λ error. (f : Fault) → error ≡ RestartError.Page f → f ≡ Fault.Device) }
-    ensures log_device { (log_front front : List ℕ) (disk : ℕ → List ℕ) (s : RecoveryState) → IsFound log_front front disk log.old heap.old s
-        → IfErr result (λ error. (f : Fault) → error ≡ RestartError.Log f → f ≡ Fault.Device) }
+    ensures log_device { (log_front : List ℕ) → IsQuiet log_front log.old → StaysQuiet result log_front log.old log.new }
+    ensures bad_number { IfErr result (λ error. (n : ℕ) → error ≡ RestartError.BadRecord n → (0 < n) × (n ≤ length (records_of_log log.old))) }
+    ensures any_pages { (front : List ℕ) (disk : ℕ → List ℕ) → IsHeld front disk heap.old (length (records_of_log log.old)) → IfErr result (λ error. (f : Fault) → error ≡ RestartError.Page f → IsPageFault (geometry_of heap.old) disk (length (records_of_log log.old)) f) }
     ensures volume { SameVolume heap.old heap.new }
     ensures log { SameLog log.old log.new }
     ensures volume_cause { HasCause (volume_answer result) (faults_of heap.old) (faults_of heap.new) }

@@ -1,5 +1,5 @@
 //! Redo: each record of the log that its page does not have is done on it again (ARIES: the redo pass, which repeats history).
-ghost use Rattle.std.specs.Prelude.{◌≡◌, ◌≢◌, ◌+◌, ◌≤◌, ℕ, List, IfErr, IfOk, Some, length, slice_get};
+ghost use Rattle.std.specs.Prelude.{◌≡◌, ◌≢◌, ◌+◌, ◌<◌, ◌≤◌, ℕ, List, IfErr, IfOk, Some, length, slice_get};
 ghost use Rattle.shore_disk.specs.Cause.{HasCause};
 ghost use Rattle.shore_disk.specs.Device.{History, may_leave};
 ghost use Rattle.shore_types.specs.Layout.{HasPage, HasSlot};
@@ -15,6 +15,7 @@ ghost use Rattle.shore_restart.specs.declared.errors.RestartError.{RestartError}
 ghost use Rattle.shore_restart.specs.declared.errors.RestartError.TheVariants as RestartError;
 ghost use Rattle.shore_restart.specs.Errors.{DoesNotFit, volume_answer};
 ghost use Rattle.shore_stands.specs.Moments.{GivesPrefix};
+ghost use Rattle.shore_restart.specs.Held.{IsHeld, WorksHeld};
 ghost use Rattle.shore_restart.specs.Standing.{Redoes, RedoesAll, SameVolume, Stands};
 
 use crate::errors::RestartError;
@@ -39,6 +40,8 @@ pub fn redo<V: Disk>(
         → IfErr result (λ error. (n : ℕ) → error ≡ RestartError.BadRecord n → DoesNotFit log.now n) }
     ensures device { (front : List ℕ) (disk : ℕ → List ℕ) (s : RecoveryState) → Stands front disk heap.old s → s.log ≡ log.now → s.durable ≡ length s.log → s.redone ≡ 0
         → IfErr result (λ error. (f : Fault) → error ≡ RestartError.Page f → f ≡ Fault.Device) }
+    ensures bad_number { IfErr result (λ error. (n : ℕ) → error ≡ RestartError.BadRecord n → (0 < n) × (n ≤ length log.now)) }
+    ensures any_pages { (front : List ℕ) (disk : ℕ → List ℕ) → IsHeld front disk heap.old (length log.now) → WorksHeld result front disk heap.old heap.new (length log.now) (length log.now) }
     ensures others { IfErr result (λ error. (error ≢ RestartError.NoRoom) × ((f : Fault) → error ≢ RestartError.Log f)) }
     ensures most { IfOk result (λ redone. redone ≤ length log.now) }
     ensures volume { SameVolume heap.old heap.new }
@@ -69,6 +72,8 @@ fn redo_record<V: Disk>(
         → number ≡ s.redone + 1 → last ≡ length s.log → s.durable ≡ length s.log → IfErr result (λ error. (n : ℕ) → error ≡ RestartError.BadRecord n → DoesNotFit s.log n) }
     ensures device { (front : List ℕ) (disk : ℕ → List ℕ) (s : RecoveryState) → Stands front disk heap.old s → last ≡ length s.log → s.durable ≡ length s.log
         → IfErr result (λ error. (f : Fault) → error ≡ RestartError.Page f → f ≡ Fault.Device) }
+    ensures bad_number { IfErr result (λ error. (n : ℕ) → error ≡ RestartError.BadRecord n → n ≡ number) }
+    ensures any_pages { (front : List ℕ) (disk : ℕ → List ℕ) → IsHeld front disk heap.old last → number ≤ last → WorksHeld result front disk heap.old heap.new last last }
     ensures others { IfErr result (λ error. (error ≢ RestartError.NoRoom) × ((f : Fault) → error ≢ RestartError.Log f)) }
     ensures volume { SameVolume heap.old heap.new }
     ensures cause { HasCause (volume_answer result) (faults_of heap.old) (faults_of heap.new) }
@@ -98,6 +103,8 @@ fn redo_image<V: Disk>(
         → IfErr result (λ error. (n : ℕ) → error ≡ RestartError.BadRecord n → DoesNotFit s.log n) }
     ensures device { (front : List ℕ) (disk : ℕ → List ℕ) (s : RecoveryState) → Stands front disk heap.old s → last ≡ length s.log → s.durable ≡ length s.log
         → IfErr result (λ error. (f : Fault) → error ≡ RestartError.Page f → f ≡ Fault.Device) }
+    ensures bad_number { IfErr result (λ error. (n : ℕ) → error ≡ RestartError.BadRecord n → n ≡ number) }
+    ensures any_pages { (front : List ℕ) (disk : ℕ → List ℕ) → IsHeld front disk heap.old last → number ≤ last → WorksHeld result front disk heap.old heap.new last last }
     ensures others { IfErr result (λ error. (error ≢ RestartError.NoRoom) × ((f : Fault) → error ≢ RestartError.Log f)) }
     ensures volume { SameVolume heap.old heap.new }
     ensures cause { HasCause (volume_answer result) (faults_of heap.old) (faults_of heap.new) }

@@ -1,5 +1,5 @@
 //! A restart, from what an open has found to a core.
-ghost use Rattle.std.specs.Prelude.{◌≡◌, ◌≤◌, ◌+◌, ℕ, List, IfErr, IfOk, OnOk, length};
+ghost use Rattle.std.specs.Prelude.{◌≡◌, ◌<◌, ◌≤◌, ◌+◌, ℕ, List, IfErr, IfOk, OnOk, length};
 ghost use Rattle.shore_disk.specs.Cause.{HasCause};
 ghost use Rattle.shore_types.specs.declared.faults.Fault.{Fault};
 ghost use Rattle.shore_types.specs.declared.faults.Fault.TheVariants as Fault;
@@ -11,7 +11,9 @@ ghost use Rattle.shore_analysis.specs.declared.analysis.Tables.{Tables};
 ghost use Rattle.shore_analysis.specs.Tables.{AreTables};
 ghost use Rattle.shore_restart.specs.declared.errors.RestartError.{RestartError};
 ghost use Rattle.shore_restart.specs.declared.errors.RestartError.TheVariants as RestartError;
-ghost use Rattle.shore_restart.specs.Opened.{Restarts, heap_left, log_fault_left, volume_fault_left};
+ghost use Rattle.shore_restart.specs.Held.{IsHeld, IsPageFault};
+ghost use Rattle.shore_restart.specs.Opened.{Restarts, answer_of, heap_left, log_fault_left, volume_fault_left};
+ghost use Rattle.shore_restart.specs.Quiet.{IsQuiet, StaysQuiet};
 ghost use Rattle.shore_restart.specs.Standing.{IsFound, SameLog, SameVolume, log_faults, stream_bytes_of};
 ghost use Rattle.shore_restart.specs.Turns.{IsBadRecord, LacksRoom};
 
@@ -45,8 +47,11 @@ pub fn restart<L: Disk, V: Disk>(
     ensures no_room { IfErr result (λ refused. refused.0 ≡ RestartError.NoRoom → LacksRoom (records_of_log log.old) (stream_bytes_of log.old)) }
     ensures device { (log_front front : List ℕ) (disk : ℕ → List ℕ) (s : RecoveryState) → IsFound log_front front disk log.old heap s
         → IfErr result (λ refused. (f : Fault) → refused.0 ≡ RestartError.Page f → f ≡ Fault.Device) }
-    ensures log_device { (log_front front : List ℕ) (disk : ℕ → List ℕ) (s : RecoveryState) → IsFound log_front front disk log.old heap s
-        → IfErr result (λ refused. (f : Fault) → refused.0 ≡ RestartError.Log f → f ≡ Fault.Device) }
+    ensures log_device { (log_front : List ℕ) → IsQuiet log_front log.old → StaysQuiet (answer_of result) log_front log.old log.new }
+    // .. and whatever the pages hold, a page is named that has no text of it with a number up to the log's last.
+    ensures bad_number { IfErr result (λ refused. (n : ℕ) → refused.0 ≡ RestartError.BadRecord n → (0 < n) × (n ≤ length (records_of_log log.old))) }
+    ensures any_pages { (front : List ℕ) (disk : ℕ → List ℕ) → IsHeld front disk heap (length (records_of_log log.old))
+        → IfErr result (λ refused. (f : Fault) → refused.0 ≡ RestartError.Page f → IsPageFault (geometry_of heap) disk (length (records_of_log log.old)) f) }
     // The core's buffer is empty and begins behind the log, all of which is durable: any core.
     ensures numbers { IfOk result (λ done. (first_of done.0 ≡ 1 + length (records_of_log log.new)) × (durable_of done.0 ≡ length (stable log.new))) }
     ensures volume { SameVolume heap (heap_left result) }

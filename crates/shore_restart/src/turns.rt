@@ -1,5 +1,5 @@
 //! Undo: the losers' turns, a record of undo in each (ARIES: the undo pass).
-ghost use Rattle.std.specs.Prelude.{◌≡◌, ◌≢◌, ◌+◌, ◌↔◌, ℕ, List, Err, IfErr, IfOk, IsFalse, IsTrue, OnOk, Some, is_some, length};
+ghost use Rattle.std.specs.Prelude.{◌≡◌, ◌≢◌, ◌<◌, ◌≤◌, ◌+◌, ◌↔◌, ℕ, List, Err, IfErr, IfOk, IsFalse, IsSome, IsTrue, OnOk, Some, is_some, length};
 ghost use Rattle.shore_disk.specs.Cause.{HasCause};
 ghost use Rattle.shore_types.specs.Layout.{HasPage, HasSlot};
 ghost use Rattle.shore_types.specs.declared.faults.Fault.{Fault};
@@ -17,7 +17,9 @@ ghost use Rattle.shore_types.specs.declared.ids.Rid.{Rid};
 ghost use Rattle.shore_restart.specs.declared.errors.RestartError.{RestartError};
 ghost use Rattle.shore_restart.specs.declared.errors.RestartError.TheVariants as RestartError;
 ghost use Rattle.shore_restart.specs.Errors.{log_answer, volume_answer};
+ghost use Rattle.shore_restart.specs.Held.{IsHeld, WorksHeld};
 ghost use Rattle.shore_restart.specs.Standing.{Appends, IsAtRest, IsReady, Moves, SameLog, SameVolume, log_faults, log_history, stream_bytes_of};
+ghost use Rattle.shore_restart.specs.Quiet.{IsQuiet, StaysQuiet};
 ghost use Rattle.shore_restart.specs.Room.{LeavesRoom};
 ghost use Rattle.shore_restart.specs.Turns.{CannotUndo, HasNoTurnRoom, IsUndoOf, IsUndoneSoFar, TakesTurn};
 
@@ -62,8 +64,9 @@ impl Undo {
             → IfErr result (λ error. (n : ℕ) → error ≡ RestartError.BadRecord n → (so_far : List LogRecord) × IsUndoneSoFar (records_of_log log.old) so_far × CannotUndo so_far n) }
         ensures device { (log_front front : List ℕ) (disk : ℕ → List ℕ) (s : RecoveryState) → IsReady log_front front disk log.old heap.old s
             → IfErr result (λ error. (f : Fault) → error ≡ RestartError.Page f → f ≡ Fault.Device) }
-        ensures log_device { (log_front front : List ℕ) (disk : ℕ → List ℕ) (s : RecoveryState) → IsReady log_front front disk log.old heap.old s
-            → IfErr result (λ error. (f : Fault) → error ≡ RestartError.Log f → f ≡ Fault.Device) }
+        ensures log_device { (log_front : List ℕ) → IsQuiet log_front log.old → StaysQuiet result log_front log.old log.new }
+        ensures bad_number { IfErr result (λ error. (n : ℕ) → error ≡ RestartError.BadRecord n → (0 < n) × (n ≤ length (records_of_log log.old))) }
+        ensures any_pages { (front : List ℕ) (disk : ℕ → List ℕ) → IsHeld front disk heap.old (length (records_of_log log.old)) → WorksHeld result front disk heap.old heap.new (length (records_of_log log.old)) (length (records_of_log log.new)) }
         ensures volume { SameVolume heap.old heap.new }
         ensures log { SameLog log.old log.new }
         ensures volume_cause { HasCause (volume_answer result) (faults_of heap.old) (faults_of heap.new) }
@@ -92,8 +95,9 @@ impl Undo {
             → IfErr result (λ error. (n : ℕ) → error ≡ RestartError.BadRecord n → CannotUndo (records_of_log log.old) n) }
         ensures device { (log_front front : List ℕ) (disk : ℕ → List ℕ) (s : RecoveryState) → IsReady log_front front disk log.old heap.old s
             → IfErr result (λ error. (f : Fault) → error ≡ RestartError.Page f → f ≡ Fault.Device) }
-        ensures log_device { (log_front front : List ℕ) (disk : ℕ → List ℕ) (s : RecoveryState) → IsReady log_front front disk log.old heap.old s
-            → IfErr result (λ error. (f : Fault) → error ≡ RestartError.Log f → f ≡ Fault.Device) }
+        ensures log_device { (log_front : List ℕ) → IsQuiet log_front log.old → StaysQuiet result log_front log.old log.new }
+        ensures bad_number { (found : List LogRecord) → IsUndoneSoFar found (records_of_log log.old) → IfErr result (λ error. (n : ℕ) → error ≡ RestartError.BadRecord n → (0 < n) × (n ≤ length found)) }
+        ensures any_pages { (front : List ℕ) (disk : ℕ → List ℕ) → IsHeld front disk heap.old (length (records_of_log log.old)) → WorksHeld result front disk heap.old heap.new (length (records_of_log log.old)) (length (records_of_log log.new)) }
         ensures volume { SameVolume heap.old heap.new }
         ensures log { SameLog log.old log.new }
         ensures volume_cause { HasCause (volume_answer result) (faults_of heap.old) (faults_of heap.new) }
@@ -141,11 +145,13 @@ fn append<L: Disk, V: Disk>(
         → IfErr result (λ error. (n : ℕ) → error ≡ RestartError.BadRecord n → (n ≡ undone) × (FitsBehind s.log payload.now → ⊥)) }
     ensures device { (log_front front : List ℕ) (disk : ℕ → List ℕ) (s : RecoveryState) → IsReady log_front front disk log.old heap.old s
         → IfErr result (λ error. (f : Fault) → error ≡ RestartError.Page f → f ≡ Fault.Device) }
-    ensures log_device { (log_front front : List ℕ) (disk : ℕ → List ℕ) (s : RecoveryState) → IsReady log_front front disk log.old heap.old s
-        → IfErr result (λ error. (f : Fault) → error ≡ RestartError.Log f → f ≡ Fault.Device) }
+    ensures log_device { (log_front : List ℕ) → IsQuiet log_front log.old → StaysQuiet result log_front log.old log.new }
     ensures others { IfErr result (λ error. error ≢ RestartError.NoRoom) }
     ensures same { records_of_log log.new ≡ records_of_log log.old }
     ensures log { SameLog log.old log.new }
+    ensures bad_number { IfErr result (λ error. (n : ℕ) → error ≡ RestartError.BadRecord n → (n ≡ undone) × IsSome (id_in payload.now)) }
+    ensures any_pages { (front : List ℕ) (disk : ℕ → List ℕ) → IsHeld front disk heap.old (length (records_of_log log.old)) → number ≤ length (records_of_log log.old) + 1
+        → WorksHeld result front disk heap.old heap.new (length (records_of_log log.old)) (length (records_of_log log.old) + 1) }
     ensures volume { SameVolume heap.old heap.new }
     ensures volume_cause { HasCause (volume_answer result) (faults_of heap.old) (faults_of heap.new) }
     ensures log_cause { HasCause (log_answer result) (log_faults log.old) (log_faults log.new) }
@@ -177,11 +183,13 @@ fn put_back<L: Disk, V: Disk>(
         → IfErr result (λ error. (n : ℕ) → error ≡ RestartError.BadRecord n → (n ≡ undone) × (Fits (slots_left s.log id.page) id.slot (image_len image.now) → ⊥)) }
     ensures device { (log_front front : List ℕ) (disk : ℕ → List ℕ) (s : RecoveryState) → IsReady log_front front disk log.old heap.old s
         → IfErr result (λ error. (f : Fault) → error ≡ RestartError.Page f → f ≡ Fault.Device) }
-    ensures log_device { (log_front front : List ℕ) (disk : ℕ → List ℕ) (s : RecoveryState) → IsReady log_front front disk log.old heap.old s
-        → IfErr result (λ error. (f : Fault) → error ≡ RestartError.Log f → f ≡ Fault.Device) }
+    ensures log_device { (log_front : List ℕ) → IsQuiet log_front log.old → StaysQuiet result log_front log.old log.new }
     ensures others { IfErr result (λ error. error ≢ RestartError.NoRoom) }
     ensures same { records_of_log log.new ≡ records_of_log log.old }
     ensures log { SameLog log.old log.new }
+    ensures bad_number { IfErr result (λ error. (n : ℕ) → error ≡ RestartError.BadRecord n → n ≡ undone) }
+    ensures any_pages { (front : List ℕ) (disk : ℕ → List ℕ) → IsHeld front disk heap.old (length (records_of_log log.old)) → number ≤ length (records_of_log log.old) + 1
+        → WorksHeld result front disk heap.old heap.new (length (records_of_log log.old)) (length (records_of_log log.old) + 1) }
     ensures volume { SameVolume heap.old heap.new }
     ensures volume_cause { HasCause (volume_answer result) (faults_of heap.old) (faults_of heap.new) }
     ensures log_cause { HasCause (log_answer result) (log_faults log.old) (log_faults log.new) }
@@ -220,11 +228,11 @@ fn bring<L: Disk, V: Disk>(
     ensures no_record { IfErr result (λ error. (n : ℕ) → error ≢ RestartError.BadRecord n) }
     ensures device { (log_front front : List ℕ) (disk : ℕ → List ℕ) (s : RecoveryState) → IsReady log_front front disk log.old heap.old s
         → IfErr result (λ error. (f : Fault) → error ≡ RestartError.Page f → f ≡ Fault.Device) }
-    ensures log_device { (log_front front : List ℕ) (disk : ℕ → List ℕ) (s : RecoveryState) → IsReady log_front front disk log.old heap.old s
-        → IfErr result (λ error. (f : Fault) → error ≡ RestartError.Log f → f ≡ Fault.Device) }
+    ensures log_device { (log_front : List ℕ) → IsQuiet log_front log.old → StaysQuiet result log_front log.old log.new }
     ensures others { IfErr result (λ error. error ≢ RestartError.NoRoom) }
     ensures same { records_of_log log.new ≡ records_of_log log.old }
     ensures log { SameLog log.old log.new }
+    ensures any_pages { (front : List ℕ) (disk : ℕ → List ℕ) → IsHeld front disk heap.old (length (records_of_log log.old)) → WorksHeld result front disk heap.old heap.new (length (records_of_log log.old)) (length (records_of_log log.old)) }
     ensures volume { SameVolume heap.old heap.new }
     ensures volume_cause { HasCause (volume_answer result) (faults_of heap.old) (faults_of heap.new) }
     ensures log_cause { HasCause (log_answer result) (log_faults log.old) (log_faults log.new) }
@@ -263,6 +271,7 @@ fn is_force(error: &RestartError) -> bool
 fn reserve<L: Disk>(log: &mut LogDev<L>) -> Result<(), RestartError>
     ensures room { OnOk result (HasRecordRoom log.new 1) }
     ensures at_rest { (log_front : List ℕ) (s : RecoveryState) → IsAtRest log_front log.old s → IsAtRest log_front log.new s }
+    ensures log_device { (log_front : List ℕ) → IsQuiet log_front log.old → StaysQuiet result log_front log.old log.new }
     ensures refused { IfErr result (λ error. error ≡ RestartError.Memory) }
     ensures same { (records_of_log log.new ≡ records_of_log log.old) × (log_history log.new ≡ log_history log.old) × (log_faults log.new ≡ log_faults log.old) }
     ensures log { SameLog log.old log.new }

@@ -14,3 +14,4 @@ pub mod AreaLemmas
 pub mod RestartRefusals
 pub mod OpenPaths
 pub mod OpenedLemmas
+pub mod RestartNames

@@ -1,32 +1,54 @@
 -- What an open is refused with, beside a failure of a device or of an allocation.
-use Rattle.std.specs.Prelude.{◌≡◌, ◌⊎◌, ◌∷◌, [], ℕ, List}
-use Rattle.shore_types.specs.declared.faults.Device.TheVariants.{Log}
+use Rattle.std.specs.Prelude.{◌≡◌, ◌⊎◌, ◌<◌, ◌≤◌, ◌-◌, ◌∷◌, [], ℕ, List, length}
+use Rattle.shore_types.specs.declared.faults.Device.TheVariants.{Log, Volume}
 use Rattle.shore_types.specs.declared.faults.Fault.{Fault}
 use Rattle.shore_types.specs.declared.faults.Fault.TheVariants.{Damaged}
+use Rattle.shore_types.specs.Layout.{HasPage}
+use Rattle.shore_types.specs.declared.ids.PageId.{PageId}
 use Rattle.shore_types.specs.declared.layout.Geometry.{Geometry}
 use Rattle.shore_types.specs.declared.layout.TheConstants.{LOG_FRONT_BYTES}
 use Rattle.shore_disk.specs.Device.{History, seen, size}
+use Rattle.shore_gate.specs.Anchor.{offset_of}
 use Rattle.shore_gate.specs.declared.gates.TheConstants.{OPEN}
 use Rattle.shore_model.specs.declared.log_records.LogRecord.{LogRecord}
 use Rattle.shore_log.specs.Frames.{Gives}
-use Rattle.shore_log.specs.Offsets.{IsBadAt}
+use Rattle.shore_log.specs.Offsets.{IsBadAt, IsFrameOf}
 use Rattle.shore_dwrite.specs.Checks.{RefusesArea}
-use Rattle.shore_dwrite.specs.Volumes.{part}
+use Rattle.shore_dwrite.specs.Shown.{Shows}
+use Rattle.shore_dwrite.specs.Volumes.{HasNoPage, page_number, page_offset, part}
 use Rattle.shore_dwrite.specs.declared.places.TheConstants.{GATE_AT}
 use Rattle.shore_format.specs.Pairs.{HaveFronts, RefusesFronts}
 use Rattle.shore_recovery.specs.Pages.{LoggedPages}
+use Rattle.shore_restart.specs.Turns.{LacksRoom}
 use Rattle.shore_stands.specs.StandsFor.{StandsFor}
 
--- The frames give a log, and no restart may be handed it with what the volume shows: the devices stand for no log and pages.
-abbrev pub RefusesRestart : Geometry → History → History → Type 0
-RefusesRestart g log volume = ((rs : List LogRecord) × Gives rs (seen log))
-    × ((rs : List LogRecord) (pages : LoggedPages) → StandsFor g (size log) (size volume) rs pages (seen log) (seen volume) → ⊥)
+-- by a record of the log: its frame is at the offset, on the log device as it is handed back
+abbrev pub NamesRecord : List LogRecord → History → Fault → Type 0
+NamesRecord rs left fault = (n : ℕ) × (offset : ℕ) × (0 < n) × (n ≤ length rs) × (fault ≡ Damaged Log offset) × IsFrameOf LOG_FRONT_BYTES (seen left) n offset
+
+-- by the anchor that counts: the log lacks room for itself or for the records of undo
+abbrev pub NamesAnchor : List LogRecord → ℕ → ℕ → Fault → Type 0
+NamesAnchor rs stream_bytes anchor fault = (fault ≡ Damaged Log anchor) × LacksRoom rs stream_bytes
+
+-- by a page: what the volume shows as that is no text of it with a number up to the log's last
+abbrev pub NamesPage : Geometry → List LogRecord → History → Fault → Type 0
+NamesPage g rs volume fault = (pages : ℕ → List ℕ) × Shows g (seen volume) pages
+    × ((id : PageId) × HasPage g id × (fault ≡ Damaged Volume (page_offset (page_number g id))) × HasNoPage (pages (page_number g id)) id (length rs))
+
+-- The frames give a log, and no restart may be handed it with what the volume shows: the devices stand for no log and pages. It is told by a
+-- record, by the anchor or by a page.
+pub record RefusesRestart (g : Geometry) (anchor : ℕ) (log volume left : History) (fault : Fault) : Type 0 where
+  pub rs : List LogRecord
+  pub gives : Gives rs (seen log)
+  pub none : (rs : List LogRecord) (pages : LoggedPages) → StandsFor g (size log) (size volume) rs pages (seen log) (seen volume) → ⊥
+  pub names : NamesRecord rs left fault ⊎ NamesAnchor rs (size log - LOG_FRONT_BYTES) anchor fault ⊎ NamesPage g rs volume fault
 
 -- By the first check of the fronts that is not passed; if all are, by the first byte of the log where neither a closed gate nor a frame stands; if
--- there is none, by an open double-write area that is not in order; and if it is, or is shut, only if the devices stand for nothing.
-abbrev pub RefusesOpen : History → History → Fault → Type 0
-RefusesOpen log volume fault =
+-- there is none, by an open double-write area that is not in order; and if it is, or is shut, by the restart, and only if the devices stand for nothing.
+-- The log device that is handed back is left with these calls.
+abbrev pub RefusesOpen : History → History → History → Fault → Type 0
+RefusesOpen log volume left fault =
     RefusesFronts log volume fault
-    ⊎ ((g : Geometry) × HaveFronts g log volume × (((offset : ℕ) × (fault ≡ Damaged Log offset) × IsBadAt LOG_FRONT_BYTES (seen log) offset)
+    ⊎ ((g : Geometry) × (have : HaveFronts g log volume) × (((offset : ℕ) × (fault ≡ Damaged Log offset) × IsBadAt LOG_FRONT_BYTES (seen log) offset)
     ⊎ ((part GATE_AT 1 (seen volume) ≡ OPEN ∷ []) × RefusesArea g (seen volume) fault)
-    ⊎ RefusesRestart g log volume))
+    ⊎ RefusesRestart g (offset_of have.0.slot) log volume left fault))

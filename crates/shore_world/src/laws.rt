@@ -13,7 +13,7 @@ ghost use Rattle.shore_recovery.specs.Restarts.{RestartsTo};
 ghost use Rattle.shore_lives.specs.Stretches.{just_formatted, opening_told};
 ghost use Rattle.shore_calls.specs.declared.step.Step.{Step};
 ghost use Rattle.shore_calls.specs.CallSteps.{ManagerEvent};
-ghost use Rattle.shore_managers.specs.StoredRuns.{AreStoredRuns, OpensShow, StoredEvent, StoredMoves, StoredRun, StoredState, spans_of};
+ghost use Rattle.shore_managers.specs.StoredRuns.{AreFixed, AreStoredRuns, OpensShow, StoredEvent, StoredMoves, StoredRun, StoredState, lists_found, spans_of};
 ghost use Rattle.shore_format.specs.Pairs.{AreFormatted};
 ghost use Rattle.shore_stays.specs.SoundStores.{IsUnderWay, found_state, managed};
 ghost use Rattle.shore_stays.specs.Stays.{IsStoredUp};
@@ -40,14 +40,16 @@ pub fn runs_are_stored_runs<L: Disk, V: Disk>()
 /// Format, and then any number of opens, runs and crashes at any moment, in opens too, both devices losing power at once. The pair that is left stands for
 /// a log, and for pages with whatever of undecided transactions was written back: so its open answers unless a device or an allocation fails. What that log
 /// tells is the empty store with the committed transactions of each run applied in turn, those of a prefix of the run's decisions that
-/// holds every acknowledged one, each transaction alone, in the order of the commits. Each open on the way showed what its log told.
+/// holds every acknowledged one, each transaction alone, in the order of the commits. Each open on the way showed the records of its life so far, on which what came behind it goes
+/// on, and the log that it found is a prefix of every later one: nothing that an open has shown is taken back.
 /// `log_first` and `volume_first` are what the format leaves, `log_last` and `volume_last` what is left in the end.
 pub fn committed_work_survives_every_crash<L: Disk, V: Disk>()
     ensures { (g : Geometry) (log_bytes volume_bytes : ℕ) (log_first volume_first log_last volume_last : List ℕ) (stays : List (Stay L V L.Disk V.Disk)) →
         AreFormatted g log_bytes volume_bytes log_first volume_first → AreStays log_bytes volume_bytes log_first volume_first stays log_last volume_last →
         (rs : List LogRecord) × (pages : LoggedPages) × (runs : List StoredRun) × (end : RecoveryState) × StandsFor g log_bytes volume_bytes rs pages log_last volume_last
         × AreRunsOf stays runs × AreStoredRuns g just_formatted runs end × ((works : List RecoveryEvent) × RestartsTo end works (found_state rs pages))
-        × IsLife (opening_with empty) (spans_of just_formatted runs) (opening_told rs) × OpensShow just_formatted runs }
+        × IsLife (opening_with empty) (spans_of just_formatted runs) (opening_told rs) × OpensShow (opening_with empty) just_formatted runs
+        × AreFixed (lists_found just_formatted runs) rs }
 {}
 
 /// A manager on a pair that stands for a log and pages is a stay of the power over plain data, and no force of it is refused by `LogFull`.

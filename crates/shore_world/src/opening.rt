@@ -23,6 +23,7 @@ ghost use Rattle.shore_log.specs.Offsets.{IsFrameOf};
 ghost use Rattle.shore_log.specs.Settled as logs;
 ghost use Rattle.shore_log.specs.Settled.{stable};
 ghost use Rattle.shore_restart.specs.declared.errors.RestartError.TheVariants as RestartError;
+ghost use Rattle.shore_restart.specs.Held.{IsHeld};
 ghost use Rattle.shore_world.specs.OpenedVolumes.{fault_of_volume, volume_of};
 
 use shore_disk::Disk;
@@ -52,6 +53,8 @@ pub fn open_volume<D: Disk>(
         → Stands (D.history volume) image → Shows geometry image texts
         → ((id : PageId) → HasPage geometry id → IsPageText (texts (page_number geometry id)) id (number id) (images id))
         → IfOk result (λ heap. heaps.Shows unclaimed heap (take GATE_AT image) texts (λ id. map settled (images id))) }
+    ensures held { IsTrue (D.is_honest volume) → (image : List ℕ) (texts : ℕ → List ℕ) → Stands (D.history volume) image → Shows geometry image texts
+        → IfOk result (λ heap. (last : ℕ) → IsHeld (take GATE_AT image) texts heap last) }
     ensures any_moment { IsTrue (D.is_honest volume) → (image : List ℕ) (texts : ℕ → List ℕ) → Stands (D.history volume) image → Shows geometry image texts
         → LeavesOnly (D.history volume) (D.history (volume_of result)) (ShowsBehind geometry (take GATE_AT image) texts) }
     ensures none { IfOk result (λ heap. (k : ℕ) → frame_at heap k ≡ None) }

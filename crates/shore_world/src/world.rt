@@ -12,7 +12,7 @@ ghost use Rattle.shore_calls.specs.CallSteps.{with_failure};
 ghost use Rattle.shore_calls.specs.Refusals.{IsPageFault};
 ghost use Rattle.shore_calls.specs.States.{State};
 ghost use Rattle.shore_recovery.specs.Recovery.{RecoveryState};
-ghost use Rattle.shore_core.specs.Cores.{IsSafe, durable_of, first_of, heap_of};
+ghost use Rattle.shore_core.specs.Cores.{IsSafe, durable_of, first_of, heap_of, waiting_of};
 ghost use Rattle.shore_world.specs.Events.{IsServedEvent, ReadBy};
 
 use crate::Event;
@@ -47,6 +47,7 @@ impl<L: Disk, V: Disk> World<L, V> {
     ghost use Rattle.shore_format.specs.Pairs.{HaveFronts};
     ghost use Rattle.shore_gate.specs.Checks.{IsFromOutside};
     ghost use Rattle.shore_disk.specs.Device.{Stands};
+    ghost use Rattle.shore_dwrite.specs.Shown.{Shows};
     ghost use Rattle.shore_recovery.specs.Pages.{LoggedPages};
     ghost use Rattle.shore_model.specs.declared.log_records.LogRecord.{LogRecord};
     ghost use Rattle.shore_types.specs.declared.layout.Geometry.{Geometry};
@@ -84,9 +85,13 @@ impl<L: Disk, V: Disk> World<L, V> {
         // It tells what its restart did with the log that the frames give.
         ensures report { IsTrue (L.is_honest log) → (rs : List LogRecord) → Gives rs (seen (L.history log)) → IfOk result (λ w. IsReportOf rs (report_in w)) }
 
+        // What is opened was in order: the frames give the log, and the volume shows pages.
+        ensures in_order { IsTrue (L.is_honest log) → IsTrue (V.is_honest volume) → IfOk result (λ w. ((rs : List LogRecord) × Gives rs (seen (L.history log)))
+            × ((pages : ℕ → List ℕ) × Shows (geometry_in w) (seen (V.history volume)) pages)) }
+
         // What is refused goes by the checks in their order. Images that stand for a log and pages are opened, unless a device or an allocation fails.
         ensures refused { IsTrue (L.is_honest log) → IsTrue (V.is_honest volume)
-            → IfErr result (λ e. IsFromOutside e.0 ⊎ RefusesOpen (L.history log) (V.history volume) e.0) }
+            → IfErr result (λ e. IsFromOutside e.0 ⊎ RefusesOpen (L.history log) (V.history volume) (L.history e.1) e.0) }
         ensures stands { IsTrue (L.is_honest log) → IsTrue (V.is_honest volume) → (g : Geometry) (rs : List LogRecord) (pages : LoggedPages) (log_image volume_image : List ℕ)
             → Stands (L.history log) log_image → Stands (V.history volume) volume_image
             → StandsFor g (size (L.history log)) (size (V.history volume)) rs pages log_image volume_image → IfErr result (λ e. IsFromOutside e.0) }
@@ -175,7 +180,8 @@ impl<L: Disk, V: Disk> World<L, V> {
     /// Every record of the log from the oldest kept number on, in two parts: those that the log device has, and those that have not
     /// been handed to it yet.
     pub fn records(&self) -> (&[LogRecord], &[LogRecord])
-        ensures { result.0.now ++ result.1.now ≡ list_in self.now }
+        ensures list { result.0.now ++ result.1.now ≡ list_in self.now }
+        ensures parts { (result.0.now ≡ records_of_log self.now.log) × (result.1.now ≡ waiting_of self.now.core) }
     {
         (self.log.records(), self.core.waiting())
     }
@@ -356,6 +362,9 @@ impl World<FuseDisk<AnyDisk>, FuseDisk<AnyDisk>> {
             → ((c : List ℕ) → may_leave (any_history result.0) c → c ≡ seen (any_history result.0))
             × ((c : List ℕ) → may_leave (any_history result.1) c → c ≡ seen (any_history result.1)) }
         ensures size { (size (any_history result.0) ≡ size (history_in self)) × (size (any_history result.1) ≡ size (volume_history_in self)) }
+        ensures memory { (is_in_memory result.0 ≡ is_in_memory (fuse_inner self.log.device)) × (is_in_memory result.1 ≡ is_in_memory (fuse_inner (volume_of self.core))) }
+        ensures files { (¬ IsTrue (is_in_memory (fuse_inner self.log.device)) → result.0 ≡ fuse_inner self.log.device)
+            × (¬ IsTrue (is_in_memory (fuse_inner (volume_of self.core))) → result.1 ≡ fuse_inner (volume_of self.core)) }
     {
         let (log, volume) = self.into_devices();
         (crashed(log, pick), crashed(volume, pick))
@@ -368,6 +377,8 @@ pub fn crashed(device: FuseDisk<AnyDisk>, pick: Pick) -> AnyDisk
         ≡ record { first = picked_after pick (any_history (fuse_inner device)).first (any_history (fuse_inner device)).calls; calls = [] } }
     ensures left { IsTrue (is_in_memory (fuse_inner device)) → may_leave (any_history (fuse_inner device)) (any_history result).first }
     ensures size { size (any_history result) ≡ size (any_history (fuse_inner device)) }
+    ensures memory { is_in_memory result ≡ is_in_memory (fuse_inner device) }
+    ensures file { ¬ IsTrue (is_in_memory (fuse_inner device)) → result ≡ fuse_inner device }
 {
     let mut disk = device.into_inner();
     disk.crash(pick);

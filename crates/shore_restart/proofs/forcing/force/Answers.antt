@@ -1,4 +1,4 @@
-use Rattle.std.proofs.Common.{◌-◌, ℕ, List, Bool, Result, refl, sym, ap, subst, ◌∙◌}
+use Rattle.std.proofs.Common.{arith, inr, ◌-◌, ℕ, List, Bool, Result, refl, sym, ap, subst, ◌∙◌}
 use Rattle.shore_dwrite.proofs.Moves.{if_err}
 use Rattle.shore_types.specs.declared.layout.TheConstants.{LOG_FRONT_BYTES}
 use Rattle.shore_model.specs.declared.log_records.LogRecord.{LogRecord}
@@ -11,12 +11,13 @@ use Rattle.shore_restart.specs.Standing.{Forces, log_faults, stream_bytes_of}
 use Rattle.shore_restart.proofs.Frames.{all_forced, none_so_far, one_more, same_on, shown_so_far, stopped}
 use Rattle.shore_restart.proofs.LogErrors.{passed_log_cause}
 use Rattle.shore_restart.proofs.PageErrors.{err_with}
+use Rattle.shore_restart.proofs.QuietLogs.{quiet_err, quiet_of}
 use Rattle.shore_restart.proofs.forcing.force.Goals as goal
 
 pub loop-init : goal.loop-init
 loop-init g c = record {
   so_far = λ log_front s rest geometry front h covered. none_so_far geometry log_front front h c.args.log.now s rest covered;
-  settled = λ log_front settled none. (settled, none);
+  quiet = λ log_front quiet. (quiet, omega arith);
   records = refl;
   same = record { honest = refl; size = refl };
   faults = refl;
@@ -40,9 +41,12 @@ loop-preserved g c =
           let so_far = invariant.so_far log_front s rest geometry front h covered in
           one_more geometry log_front front h first old s so_far c.in_ok-force_frame.field-0 c.force_frame.new.log
           (c.in_ok-force_frame.ensures.forces log_front (after_force s so_far.durable) so_far.at_rest geometry front h (shown_so_far geometry log_front front h first old s so_far));
-      settled = λ log_front settled none.
-          let now = invariant.settled log_front settled none in
-          c.in_ok-force_frame.ensures.settled log_front now.0 now.1;
+      quiet = λ log_front quiet.
+          let now = invariant.quiet log_front quiet in
+          let on = quiet_of log_front old c.force_frame.new.log c.in_ok-force_frame.field-0 (c.in_ok-force_frame.ensures.log_device log_front now.0) in
+          let more = now.1 in
+          let longer = on.1 in
+          (on.0, omega (arith, more, longer));
       records = c.force_frame.ensures.same ∙ invariant.records;
       same = same_on first old c.force_frame.new.log invariant.same c.force_frame.ensures.log;
       faults = c.in_ok-force_frame.ensures.cause.unreported (λ e. cc) ∙ invariant.faults;
@@ -58,11 +62,6 @@ returns-in_err-force_frame-clause-forces g c log_front s rest redone geometry fr
     (sym (err_with c.from_residual.result error c.from_residual.ensures.1))
     (stopped geometry log_front front h first old s so_far (Unit {0}) error error c.force_frame.new.log
     (c.in_err-force_frame.ensures.forces log_front (after_force s so_far.durable) so_far.at_rest geometry front h (shown_so_far geometry log_front front h first old s so_far)))
-
-pub returns-in_err-force_frame-clause-device : goal.returns-in_err-force_frame-clause-device
-returns-in_err-force_frame-clause-device g c log_front settled none =
-    let now = c.loop.invariant.settled log_front settled none in
-    if_err c.from_residual.result c.from_residual.ensures.1 (λ error same f is. c.in_err-force_frame.ensures.device log_front now.0 now.1 f (sym same ∙ is))
 
 pub returns-in_err-force_frame-clause-same : goal.returns-in_err-force_frame-clause-same
 returns-in_err-force_frame-clause-same g c =
@@ -93,3 +92,16 @@ returns-clause-same g c =
 
 pub returns-clause-log : goal.returns-clause-log
 returns-clause-log g c = same_on c.args.log.now c.loop.log c.force_frame.new.log c.loop.invariant.same c.force_frame.ensures.log
+
+pub returns-in_err-force_frame-clause-log_device : goal.returns-in_err-force_frame-clause-log_device
+returns-in_err-force_frame-clause-log_device g c log_front quiet =
+    let now = c.loop.invariant.quiet log_front quiet in
+    quiet_err log_front c.args.log.now c.loop.log c.force_frame.new.log now.1 c.from_residual.result c.in_err-force_frame.field-0.0 c.from_residual.ensures.1 (c.in_err-force_frame.ensures.log_device log_front now.0)
+
+pub returns-clause-log_device : goal.returns-clause-log_device
+returns-clause-log_device g c log_front quiet =
+    let now = c.loop.invariant.quiet log_front quiet in
+    let on = quiet_of log_front c.loop.log c.force_frame.new.log c.in_ok-force_frame.field-0 (c.in_ok-force_frame.ensures.log_device log_front now.0) in
+    let more = now.1 in
+    let longer = on.1 in
+    record { named = tt; quiet = inr (on.0, omega (arith, more, longer)) }

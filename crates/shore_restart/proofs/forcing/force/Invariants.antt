@@ -1,9 +1,10 @@
-use Rattle.std.proofs.Common.{◌≡◌, ℕ, List, None, length}
+use Rattle.std.proofs.Common.{◌≡◌, ◌≤◌, ℕ, List, length}
 use Rattle.shore_types.specs.declared.layout.Geometry.{Geometry}
 use Rattle.shore_disk.specs.Device.{History, may_leave}
-use Rattle.shore_log.specs.Settled.{IsSettled, records_of_log, waiting}
+use Rattle.shore_log.specs.Settled.{records_of_log, stable, waiting}
 use Rattle.shore_recovery.specs.Recovery.{RecoveryState}
 use Rattle.shore_stands.specs.Moments.{ShowsLeft}
+use Rattle.shore_restart.specs.Quiet.{IsQuiet}
 use Rattle.shore_restart.specs.Standing.{IsAtRest, SameLog, log_faults}
 use Rattle.shore_restart.proofs.Frames.{SoFar}
 use Rattle.shore_restart.proofs.forcing.force.Given as goal
@@ -12,7 +13,7 @@ abbrev pub invariant-loop : goal.invariant-loop
 invariant-loop g l = record {
   so_far : (log_front : List ℕ) (s : RecoveryState) → IsAtRest log_front l.initial.log s → (geometry : Geometry) (front : List ℕ) (h : History)
       → ((c : List ℕ) → may_leave h c → ShowsLeft geometry front s c) → SoFar geometry log_front front h l.initial.log l.log s;
-  settled : (log_front : List ℕ) → IsSettled l.initial.log log_front → l.initial.log.staged ≡ None → IsSettled l.log log_front × (l.log.staged ≡ None);
+  quiet : (log_front : List ℕ) → IsQuiet log_front l.initial.log → IsQuiet log_front l.log × (length (stable l.initial.log) ≤ length (stable l.log));
   records : records_of_log l.log ≡ records_of_log l.initial.log;
   same : SameLog l.initial.log l.log;
   faults : log_faults l.log ≡ log_faults l.initial.log;

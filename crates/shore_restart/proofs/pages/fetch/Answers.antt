@@ -2,6 +2,7 @@ use Rattle.std.proofs.Common.{Ok, Err, inl, inr, refl, ap}
 use Rattle.shore_heap.specs.Heaps.{faults_of}
 use Rattle.shore_restart.proofs.PageErrors.{device_error, earned_page, page_cause, refused_page}
 use Rattle.shore_restart.proofs.Standing.{fetched, stands_kept, stops}
+use Rattle.shore_restart.proofs.HeldPages.{fetch_leaves, fetch_names}
 use Rattle.shore_restart.proofs.pages.fetch.Goals as goal
 
 pub returns-in-Ok-clause-fetches : goal.returns-in-Ok-clause-fetches
@@ -36,3 +37,19 @@ returns-in-Err-clause-earned g c front disk holds =
 pub returns-in-Err-clause-cause : goal.returns-in-Err-clause-cause
 returns-in-Err-clause-cause g c =
     page_cause (Unit {0}) c.in-Err.fault c.page_error.result (faults_of c.args.heap.now) (faults_of c.fetch.new.self) c.page_error.ensures c.in-Err.ensures.cause
+
+pub returns-in-Ok-clause-any_pages : goal.returns-in-Ok-clause-any_pages
+returns-in-Ok-clause-any_pages g c front disk held low = record {
+  named = tt;
+  stays = inr (fetch_leaves front disk c.args.heap.now c.fetch.new.self c.args.last c.args.seen held low (c.in-Ok.ensures.wrote front disk held.holds) (c.fetch.ensures.dirty front disk held.holds));
+}
+
+pub returns-in-Err-clause-any_pages : goal.returns-in-Err-clause-any_pages
+returns-in-Err-clause-any_pages g c front disk held low = record {
+  named = λ f is. fetch_names front disk c.args.heap.now c.args.page c.args.last c.args.seen c.in-Err.fault f c.page_error.result c.requires held
+      (c.in-Err.ensures.refused front disk held.holds) c.page_error.ensures is;
+  stays = elim (c.in-Err.ensures.wrote front disk held.holds) [
+    | inl device ↦ inl (ap Err (device_error c.in-Err.fault c.page_error.result c.page_error.ensures device))
+    | inr wrote ↦ inr (fetch_leaves front disk c.args.heap.now c.fetch.new.self c.args.last c.args.seen held low wrote (c.fetch.ensures.dirty front disk held.holds))
+  ];
+}

@@ -3,6 +3,7 @@ use Rattle.shore_types.specs.Images.{Image}
 use Rattle.shore_heap.specs.Contents.{unclaimed}
 use Rattle.shore_logged.specs.LoggedHeaps.{IsMade}
 use Rattle.shore_restart.proofs.Putting.{put_appended, put_redone, slot_there}
+use Rattle.shore_restart.proofs.HeldPages.{put_held}
 use Rattle.shore_restart.proofs.pages.put.Goals as goal
 
 pub release_to-requires-clause-slot : goal.release_to-requires-clause-slot
@@ -25,3 +26,8 @@ returns-clause-appended g c front disk s r stands all says number =
     put_appended front disk old mid c.release_to.new.self s r c.args.id c.args.number c.args.image.now stands c.requires.there c.requires.fits made c.change.ensures.device
     c.release_to.ensures.frames c.release_to.ensures.device c.release_to.ensures.same
     (_, c.release_to.ensures.shows unclaimed front disk _ (c.change.ensures.shows unclaimed front disk stands.slots stands.shows)) all says number
+
+pub returns-clause-any_pages : goal.returns-clause-any_pages
+returns-clause-any_pages g c front disk last held low =
+    put_held front disk c.args.heap.now c.change.new.self c.release_to.new.self c.args.id _ c.args.number last c.change.ensures.frames c.release_to.ensures.frames c.change.ensures.untouched
+    c.release_to.ensures.untouched held low

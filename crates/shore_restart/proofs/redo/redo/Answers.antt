@@ -12,6 +12,7 @@ use Rattle.shore_restart.specs.Standing.{RedoesAll}
 use Rattle.shore_restart.proofs.PageErrors.{err_with, passed_cause}
 use Rattle.shore_restart.proofs.RedoAll.{all_done, all_durable, long, next_is, none_so_far, now_next, one_more, same_again, stopped}
 use Rattle.shore_restart.proofs.Redoing.{meant_there}
+use Rattle.shore_restart.proofs.HeldPages.{held_behind, held_err, held_here, held_then}
 use Rattle.shore_restart.proofs.redo.redo.Goals as goal
 use Rattle.shore_restart.proofs.redo.redo.Goals.{then-branch, else-branch}
 
@@ -19,6 +20,7 @@ pub loop-index-init : goal.loop-index-init
 loop-index-init g c = record {
   so_far = λ front disk s stands log durable none h log_front covered. none_so_far h log_front front disk c.args.heap.now s stands none covered;
   now = λ front disk s stands log durable none. record { later = s; log_is = refl; durable = refl; redone = none; left = disk; stands = stands };
+  any_pages = λ front disk held. held_here front disk c.args.heap.now (length c.args.log.now) (length c.args.log.now) (omega arith) held;
   volume = record { geometry = refl; honest = refl; size = refl };
   faults = refl;
   most = omega arith;
@@ -60,6 +62,10 @@ loop-index-preserved g c =
           now_next front heap c.redo_record.new.heap s i c.in_ok-redo_record.field-0 now
           (c.in_ok-redo_record.ensures.redone front now.left now.later now.stands (next_is front heap s i rs r now log durable at) (omega (arith, done)) (long front heap s i rs r now log durable at)
           (all_durable front heap s i rs r now log durable at));
+      any_pages = λ front disk held.
+          let s = invariant.any_pages front disk held in
+          held_then front disk c.args.heap.now c.loop-index.heap (length rs) (length rs) s c.redo_record.new.heap (length rs) invariant.volume.geometry
+          (c.in_ok-redo_record.ensures.any_pages front s.left s.held (omega (arith, within))).stays;
       volume = same_again c.args.heap.now c.loop-index.heap c.redo_record.new.heap invariant.volume c.redo_record.ensures.volume;
       faults = c.in_ok-redo_record.ensures.cause.unreported (λ e. cc) ∙ invariant.faults;
       most = elim c.if-branch.branch [
@@ -131,3 +137,26 @@ returns-clause-most g c = omega (arith, c.loop-index.invariant.most)
 
 pub returns-clause-volume : goal.returns-clause-volume
 returns-clause-volume g c = c.loop-index.invariant.volume
+
+pub returns-in_err-redo_record-clause-any_pages : goal.returns-in_err-redo_record-clause-any_pages
+returns-in_err-redo_record-clause-any_pages g c front disk held =
+    let rs = c.args.log.now in
+    let i = c.loop-index.index in
+    let within : i < length rs = omega arith in
+    let invariant = c.loop-index.invariant in
+    let s = invariant.any_pages front disk held in
+    held_err front disk c.args.heap.now c.redo_record.new.heap (length rs) (length rs) (length rs) c.from_residual.result c.in_err-redo_record.field-0.0 c.from_residual.ensures.1
+    (held_behind front disk c.args.heap.now c.loop-index.heap (length rs) (length rs) s _ c.redo_record.new.heap (length rs) invariant.volume.geometry
+    (c.in_err-redo_record.ensures.any_pages front s.left s.held (omega (arith, within))))
+
+pub returns-clause-any_pages : goal.returns-clause-any_pages
+returns-clause-any_pages g c front disk held = record { named = tt; stays = c.loop-index.invariant.any_pages front disk held }
+
+pub returns-in_err-redo_record-clause-bad_number : goal.returns-in_err-redo_record-clause-bad_number
+returns-in_err-redo_record-clause-bad_number g c =
+    let rs = c.args.log.now in
+    let i = c.loop-index.index in
+    let within : i < length rs = omega arith in
+    if_err c.from_residual.result c.from_residual.ensures.1 (λ error same n is.
+    let number = c.in_err-redo_record.ensures.bad_number n (sym same ∙ is) in
+    (omega (arith, number), omega (arith, number, within)))

@@ -3,6 +3,7 @@ use Rattle.shore_disk.specs.Device.{History, may_leave}
 use Rattle.shore_heap.specs.Heaps.{faults_of}
 use Rattle.shore_recovery.specs.Recovery.{RecoveryState}
 use Rattle.shore_stands.specs.Moments.{GivesPrefix}
+use Rattle.shore_restart.specs.Held.{IsHeld, StaysHeld}
 use Rattle.shore_restart.specs.Standing.{SameVolume, Stands}
 use Rattle.shore_restart.proofs.RedoAll.{Now, SoFar}
 use Rattle.shore_restart.proofs.redo.redo.Given as goal
@@ -12,6 +13,7 @@ invariant-loop-index g l = record {
   so_far : (front : List ℕ) (disk : ℕ → List ℕ) (s : RecoveryState) → Stands front disk l.initial.heap s → s.log ≡ l.log → s.durable ≡ length s.log → s.redone ≡ 0
       → (h : History) (log_front : List ℕ) → ((c : List ℕ) → may_leave h c → GivesPrefix log_front s c) → SoFar h log_front front l.initial.heap l.heap s l.index;
   now : (front : List ℕ) (disk : ℕ → List ℕ) (s : RecoveryState) → Stands front disk l.initial.heap s → s.log ≡ l.log → s.durable ≡ length s.log → s.redone ≡ 0 → Now front l.heap s l.index;
+  any_pages : (front : List ℕ) (disk : ℕ → List ℕ) → IsHeld front disk l.initial.heap (length l.log) → StaysHeld front disk l.initial.heap l.heap (length l.log) (length l.log);
   volume : SameVolume l.initial.heap l.heap;
   faults : faults_of l.heap ≡ faults_of l.initial.heap;
   most : l.redone ≤ l.index;

@@ -11,6 +11,7 @@ use Rattle.shore_restart.specs.declared.errors.RestartError.TheVariants.{BadReco
 use Rattle.shore_restart.specs.Standing.{Redoes}
 use Rattle.shore_restart.proofs.PageErrors.{err_with}
 use Rattle.shore_restart.proofs.Redoing.{does_not_fit, number_is, passed_behind, redo_stops, redone_behind, stood}
+use Rattle.shore_restart.proofs.HeldPages.{fetch_done, fetch_seen, held_changed, held_err}
 use Rattle.shore_restart.proofs.redo.redo_image.Goals as goal
 
 pub returns-in_err-fetch-clause-redone : goal.returns-in_err-fetch-clause-redone
@@ -77,3 +78,30 @@ returns-clause-redone g c front disk s r stands next says number last durable =
     let next_now : slice_get f.later.log f.later.redone ≡ Some r = ap (λ (l : List LogRecord). slice_get l f.later.redone) f.same.log ∙ ap (slice_get s.log) f.same.redone ∙ next in
     let m = c.put.ensures.redone front is.0 f.later r is.1 next_now says (omega (arith, number, redone)) (omega (arith, lt, page, number, redone)) in
     redone_behind front old mid s r f c.put.new.heap true is.0 m.0 m.1 c.put.ensures.history (c.put.ensures.volume.geometry ∙ c.fetch.ensures.volume.geometry)
+
+pub returns-in_err-fetch-clause-any_pages : goal.returns-in_err-fetch-clause-any_pages
+returns-in_err-fetch-clause-any_pages g c front disk held low =
+    let f = c.in_err-fetch.ensures.any_pages front disk held (omega arith) in
+    held_err front disk c.args.heap.now c.fetch.new.heap c.args.last c.args.last c.args.last c.from_residual.result c.in_err-fetch.field-0.0 c.from_residual.ensures.1
+    (fetch_seen front disk c.args.heap.now c.fetch.new.heap c.args.last _ f)
+
+pub returns-then-found-number-clause-any_pages : goal.returns-then-found-number-clause-any_pages
+returns-then-found-number-clause-any_pages g c front disk held low = record {
+  named = tt;
+  stays = fetch_done front disk c.args.heap.now c.fetch.new.heap c.args.last c.args.last _ (c.in_ok-fetch.ensures.any_pages front disk held (omega arith));
+}
+
+pub returns-then-not-fits-clause-any_pages : goal.returns-then-not-fits-clause-any_pages
+returns-then-not-fits-clause-any_pages g c front disk held low = record { named = λ f is. absurd cc; stays = tt }
+
+pub returns-clause-any_pages : goal.returns-clause-any_pages
+returns-clause-any_pages g c front disk held low =
+    let s = fetch_done front disk c.args.heap.now c.fetch.new.heap c.args.last c.args.last _ (c.in_ok-fetch.ensures.any_pages front disk held (omega arith)) in
+    record {
+      named = tt;
+      stays = held_changed front disk c.args.heap.now c.fetch.new.heap c.args.last c.args.last s c.put.new.heap c.args.last (omega arith) (c.put.ensures.any_pages front s.left c.args.last s.held low);
+    }
+
+pub returns-in_err-fetch-clause-bad_number : goal.returns-in_err-fetch-clause-bad_number
+returns-in_err-fetch-clause-bad_number g c =
+    if_err c.from_residual.result c.from_residual.ensures.1 (λ error same n is. absurd (c.in_err-fetch.ensures.others.1 n (sym same ∙ is)))

@@ -1,4 +1,4 @@
-use Rattle.std.proofs.Common.{List, sym, ap, subst, ◌∙◌, length}
+use Rattle.std.proofs.Common.{Err, arith, refl, List, sym, ap, subst, ◌∙◌, length}
 use Rattle.shore_heap.specs.declared.heap.Heap.{Heap}
 use Rattle.shore_heap.specs.Heaps.{geometry_of}
 use Rattle.shore_model.specs.declared.log_records.LogRecord.{LogRecord}
@@ -8,6 +8,7 @@ use Rattle.shore_log.specs.Settled.{records_of_log}
 use Rattle.shore_stands.specs.Moments.{Path}
 use Rattle.shore_restart.specs.Standing.{log_history, moment_of, stream_bytes_of}
 use Rattle.shore_restart.proofs.Opens.{opens_in}
+use Rattle.shore_restart.proofs.QuietLogs.{quiet_beside, quiet_err, quiet_of}
 use Rattle.shore_restart.proofs.restarting.restart.Goals as goal
 
 pub returns-in-Ok-clause-restarts : goal.returns-in-Ok-clause-restarts
@@ -42,3 +43,15 @@ pub returns-in-Err-clause-restarts : goal.returns-in-Err-clause-restarts
 returns-in-Err-clause-restarts g c log_front front disk s found =
     let m = c.in-Err.ensures.moves log_front front disk s found in
     record { ready = m.later; moments = m.moments; path = m.path; opens = λ lawful. tt }
+
+pub returns-in-Err-clause-any_pages : goal.returns-in-Err-clause-any_pages
+returns-in-Err-clause-any_pages g c front disk held = c.in-Err.ensures.any_pages front disk held
+
+pub returns-in-Ok-clause-log_device : goal.returns-in-Ok-clause-log_device
+returns-in-Ok-clause-log_device g c log_front quiet =
+    let on = quiet_of log_front c.args.log.now c.recover.new.log c.in-Ok.field-0 (c.in-Ok.ensures.log_device log_front quiet) in
+    quiet_beside log_front {A = Unit {0}} c.args.log.now c.recover.new.log _ tt on.0 on.1
+
+pub returns-in-Err-clause-log_device : goal.returns-in-Err-clause-log_device
+returns-in-Err-clause-log_device g c log_front quiet =
+    quiet_err log_front c.args.log.now c.args.log.now c.recover.new.log (omega arith) (Err c.in-Err.error) c.in-Err.error refl (c.in-Err.ensures.log_device log_front quiet)

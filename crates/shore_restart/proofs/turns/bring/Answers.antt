@@ -1,13 +1,16 @@
-use Rattle.std.proofs.Common.{◌≡◌, Result, false, true, refl, sym, ap, subst, ◌∙◌, length, arith}
+use Rattle.std.proofs.Common.{◌≡◌, ℕ, inl, inr, Result, false, true, refl, sym, ap, subst, ◌∙◌, length, arith}
 use Rattle.shore_dwrite.proofs.Moves.{if_err}
 use Rattle.shore_log.specs.Settled.{records_of_log}
 use Rattle.shore_heap.specs.Heaps.{geometry_of, history_of}
 use Rattle.shore_recovery.specs.Recovery.{after_force}
 use Rattle.shore_restart.specs.declared.errors.RestartError.{RestartError}
 use Rattle.shore_restart.specs.Standing.{Moves, log_history, moment_of}
-use Rattle.shore_restart.proofs.Causes.{device_alone, force_runs, none_above}
+use Rattle.shore_restart.proofs.Causes.{device_alone, err_to, force_runs, none_above}
 use Rattle.shore_restart.proofs.Coming.{came_fetched, came_forced, came_here, fetch_moves, force_stops}
 use Rattle.shore_restart.proofs.PageErrors.{err_with}
+use Rattle.shore_restart.proofs.HeldPages.{fetch_alone, fetch_forced, fetch_seen, held_behind, held_other, stable_short}
+use Rattle.shore_restart.specs.Held.{FetchesHeld, IsHeld}
+use Rattle.shore_restart.proofs.QuietLogs.{quiet_beside, quiet_err, quiet_of}
 use Rattle.shore_restart.proofs.turns.bring.Goals as goal
 
 pub returns-then-not-needs_force-clause-moves : goal.returns-then-not-needs_force-clause-moves
@@ -82,6 +85,55 @@ returns-clause-device g c log_front front disk s ready =
     none_above c.fetch.result (length c.records.result.now) (length f.later.log) (omega (arith, records, found))
     (c.fetch.ensures.device front came.disk f.later came.ready.stands (omega (arith, records, found)))
 
+pub returns-then-not-needs_force-clause-any_pages : goal.returns-then-not-needs_force-clause-any_pages
+returns-then-not-needs_force-clause-any_pages g c front disk held =
+    let log = c.args.log.now in
+    let heap = c.args.heap.now in
+    let n = length (records_of_log log) in
+    let mid = c.fetch-fetched.new.heap in
+    let found : length c.records.result.now ≡ n = ap length c.records.ensures.log in
+    let short = stable_short log in
+    let seen = c.number-seen.ensures ∙ c.durable.ensures in
+    let fetched = subst (λ (last : ℕ). FetchesHeld c.fetch-fetched.result front disk heap mid last c.number-seen.result) found
+    (c.fetch-fetched.ensures.any_pages front disk (subst (λ (last : ℕ). IsHeld front disk heap last) (sym found) held) (omega (arith, found, short, seen))) in
+    let no : c.needs_force.result ≡ false = c.if-not-needs_force.true in
+    fetch_alone front disk heap mid n c.number-seen.result c.fetch-fetched.result (λ force. let yes : c.needs_force.result ≡ true = c.needs_force.ensures.1 force in let clash : true ≡ false = sym yes ∙ no in cc) fetched
+
+pub returns-in_err-force-clause-any_pages : goal.returns-in_err-force-clause-any_pages
+returns-in_err-force-clause-any_pages g c front disk held =
+    let n = length (records_of_log c.args.log.now) in
+    held_other front disk c.args.heap.now c.fetch-fetched.new.heap n n c.from_residual.result c.in_err-force.field-0.0 c.from_residual.ensures.1 (λ f page. elim c.in_err-force.ensures.refused [
+      | inl memory ↦ let clash = sym memory ∙ page in cc
+      | inr (inl device) ↦ let clash = sym device ∙ page in cc
+      | inr (inr full) ↦ let clash = sym full ∙ page in cc
+    ])
+
+pub returns-clause-any_pages : goal.returns-clause-any_pages
+returns-clause-any_pages g c front disk held =
+    let log = c.args.log.now in
+    let heap = c.args.heap.now in
+    let n = length (records_of_log log) in
+    let mid = c.fetch-fetched.new.heap in
+    let found : length c.records.result.now ≡ n = ap length c.records.ensures.log in
+    let short = stable_short log in
+    let seen = c.number-seen.ensures ∙ c.durable.ensures in
+    let fetched = subst (λ (last : ℕ). FetchesHeld c.fetch-fetched.result front disk heap mid last c.number-seen.result) found
+    (c.fetch-fetched.ensures.any_pages front disk (subst (λ (last : ℕ). IsHeld front disk heap last) (sym found) held) (omega (arith, found, short, seen))) in
+    let needed = c.needs_force.ensures.0 c.if-not-needs_force.false in
+    let s = fetch_forced front disk heap mid n c.number-seen.result c.fetch-fetched.result needed.0 needed.1 fetched in
+    let again = subst (λ (last : ℕ). FetchesHeld c.fetch.result front s.left mid c.fetch.new.heap last last) found
+    (c.fetch.ensures.any_pages front s.left (subst (λ (last : ℕ). IsHeld front s.left mid last) (sym found) s.held) (omega arith)) in
+    held_behind front disk heap mid n n s c.fetch.result c.fetch.new.heap n c.fetch-fetched.ensures.volume.geometry (fetch_seen front s.left mid c.fetch.new.heap n c.fetch.result again)
+
+pub returns-then-not-needs_force-clause-log_device : goal.returns-then-not-needs_force-clause-log_device
+returns-then-not-needs_force-clause-log_device g c log_front quiet =
+    quiet_beside log_front c.args.log.now c.args.log.now c.fetch-fetched.result (err_to c.fetch-fetched.result c.fetch-fetched.ensures.others (λ error others. others.2)) quiet (omega arith)
+
 pub returns-in_err-force-clause-log_device : goal.returns-in_err-force-clause-log_device
-returns-in_err-force-clause-log_device g c log_front front disk s ready =
-    if_err c.from_residual.result c.from_residual.ensures.1 (λ error same f is. c.in_err-force.ensures.device log_front ready.at_rest.settled ready.at_rest.none_staged f (sym same ∙ is))
+returns-in_err-force-clause-log_device g c log_front quiet =
+    quiet_err log_front c.args.log.now c.args.log.now c.force.new.log (omega arith) c.from_residual.result c.in_err-force.field-0.0 c.from_residual.ensures.1 (c.in_err-force.ensures.log_device log_front quiet)
+
+pub returns-clause-log_device : goal.returns-clause-log_device
+returns-clause-log_device g c log_front quiet =
+    let on = quiet_of log_front c.args.log.now c.force.new.log c.in_ok-force.field-0 (c.in_ok-force.ensures.log_device log_front quiet) in
+    quiet_beside log_front c.args.log.now c.force.new.log c.fetch.result (err_to c.fetch.result c.fetch.ensures.others (λ error others. others.2)) on.0 on.1

@@ -1,7 +1,7 @@
 use Rattle.std.proofs.Common.{◌-◌, []}
 use Rattle.shore_types.specs.declared.layout.TheConstants.{LOG_FRONT_BYTES}
 use Rattle.shore_recovery.specs.Pages.{empty_page}
-use Rattle.shore_stays.proofs.Stays.{are_a_life, come, show_what_was_told}
+use Rattle.shore_stays.proofs.Stays.{are_a_life, come, keep_what_was_found, show_what_was_told}
 use Rattle.shore_stays.specs.Stays.{runs_of}
 use Rattle.shore_stands.proofs.Left.{formatted_stand}
 use Rattle.shore_world.proofs.StayLemmas.{have_stayed}
@@ -23,4 +23,5 @@ returns c d g log_bytes volume_bytes log_first volume_first log_last volume_last
       (all.works, all.restarts),
       are_a_life g bytes [] (λ p. empty_page) stood.opened stayed.over stayed.last stayed.last_pages stayed.are,
       show_what_was_told g bytes [] (λ p. empty_page) stood.opened stayed.over stayed.last stayed.last_pages stayed.are,
+      keep_what_was_found g bytes [] (λ p. empty_page) stood.opened stayed.over stayed.last stayed.last_pages stayed.are,
     )

@@ -12,6 +12,7 @@ use Rattle.shore_dwrite.specs.Volumes.{page_number, part}
 use Rattle.shore_gate.specs.Checks.{IsFromOutside}
 use Rattle.shore_gate.specs.declared.gates.TheConstants.{OPEN}
 use Rattle.shore_world.proofs.StableLemmas.{shown_on, stable_on}
+use Rattle.shore_world.proofs.RestartNames.{held_empty}
 use Rattle.shore_world.proofs.opening.open_volume.Goals as goal
 
 pub returns-in-Err-clause-refused : goal.returns-in-Err-clause-refused
@@ -53,3 +54,10 @@ returns-in-Ok-clause-shows g c honest image texts number images stands shows eac
     let geometry = c.new-pages.ensures.geometry in
     c.in-Ok.ensures.shows _ texts number images (c.in_default.ensures.replayed _ texts (stable_on c.args.volume c.new-pages.result _ same geometry honest image texts stands shows))
     (subst (λ (x : Geometry). (id : PageId) → HasPage x id → IsPageText (texts (page_number x id)) id (number id) (images id)) (sym (c.replay.ensures.geometry ∙ geometry)) each)
+
+pub returns-in-Ok-clause-held : goal.returns-in-Ok-clause-held
+returns-in-Ok-clause-held g c honest image texts stands shows last =
+    let same = c.new-pages.ensures.device in
+    let geometry = c.new-pages.ensures.geometry in
+    held_empty (take GATE_AT image) texts c.in-Ok.heap _ last c.in-Ok.ensures.device c.in-Ok.ensures.none
+    (c.in_default.ensures.replayed (take GATE_AT image) texts (stable_on c.args.volume c.new-pages.result _ same geometry honest image texts stands shows))

@@ -5,7 +5,7 @@ use Rattle.shore_pool.specs.Pools as pools
 use Rattle.shore_pool.proofs.Same.{pages_stay}
 use Rattle.shore_pool.proofs.Steps.{alike, force_from, match_err}
 use Rattle.shore_heap.specs.Heaps.{LeavesPages, claims_in, history_of}
-use Rattle.shore_heap.proofs.Fetched.{came_by, clean_by, forced_of, geometry_by, history_by, kept_of, moment_of, number_is, others_by, still_of, wrote_of}
+use Rattle.shore_heap.proofs.Fetched.{came_by, clean_by, dirty_of, forced_of, geometry_by, history_by, kept_of, moment_of, number_is, others_by, still_of, there_before, wrote_of}
 use Rattle.shore_heap.proofs.heap.Heap.fetch.Goals as goal
 
 pub returns-in_err-fetch-clause-kept : goal.returns-in_err-fetch-clause-kept
@@ -166,3 +166,21 @@ returns-in-Read-clause-forced g c front disk holds number needs =
     let read = c.in_ok-fetch.ensures.read front disk holds c.in-Read.is in
     let clean = clean_by old mid id c.args.last (number_is mid id c.fetch.ensures.geometry) read in
     absurd (forced_of old mid c.args.seen id (claims_in g.C.Claims c.args.claims.now) c.args.last c.requires new (geometry_by new mid c.keep_claims.ensures.device ∙ c.fetch.ensures.geometry) c.keep_claims.ensures.bounds clean (c.keep_claims.ensures.dirt _) number needs)
+
+pub returns-in_err-fetch-clause-dirty : goal.returns-in_err-fetch-clause-dirty
+returns-in_err-fetch-clause-dirty g c front disk holds k f is dirty = there_before _ _ f (c.in_err-fetch.ensures.stay k) is dirty
+
+pub returns-in-Held-clause-dirty : goal.returns-in-Held-clause-dirty
+returns-in-Held-clause-dirty g c front disk holds k f is dirty = there_before _ _ f (inl (c.in_ok-fetch.ensures.all c.in-Held.is k)) is dirty
+
+pub returns-in-Read-clause-dirty : goal.returns-in-Read-clause-dirty
+returns-in-Read-clause-dirty g c front disk holds =
+    let old = c.args.self.now in
+    let mid = c.fetch.new.self in
+    let new = c.keep_claims.new.self in
+    let id = c.args.page in
+    let read = c.in_ok-fetch.ensures.read front disk holds c.in-Read.is in
+    let number = number_is mid id c.fetch.ensures.geometry in
+    let clean = clean_by old mid id c.args.last number read in
+    dirty_of old mid c.args.seen id (claims_in g.C.Claims c.args.claims.now) c.args.last c.requires new (geometry_by new mid c.keep_claims.ensures.device ∙ c.fetch.ensures.geometry) c.keep_claims.ensures.bounds
+    (others_by old mid new id number c.fetch.ensures.others c.keep_claims.ensures.others) clean (c.keep_claims.ensures.dirt _)

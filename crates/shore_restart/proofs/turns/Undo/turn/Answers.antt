@@ -1,4 +1,4 @@
-use Rattle.std.proofs.Common.{◌≡◌, ◌+◌, ◌-◌, ℕ, List, [], ◌∷◌, ◌++◌, Bool, false, Result, Ok, Err, refl, sym, ap, subst, ◌∙◌, length}
+use Rattle.std.proofs.Common.{arith, ◌≡◌, ◌+◌, ◌-◌, ℕ, List, [], ◌∷◌, ◌++◌, Bool, false, true, Result, Ok, Err, refl, sym, ap, subst, ◌∙◌, length}
 use Rattle.shore_types.specs.declared.layout.TheConstants.{LOG_FRONT_BYTES}
 use Rattle.shore_disk.specs.Device.{size}
 use Rattle.shore_dwrite.proofs.Moves.{if_err}
@@ -7,11 +7,15 @@ use Rattle.shore_log.specs.Settled.{records_of_log}
 use Rattle.shore_heap.specs.Heaps.{geometry_of}
 use Rattle.shore_recovery.specs.Undo.{HasNoLosers, IsLoser, undo_record}
 use Rattle.shore_restart.specs.declared.errors.RestartError.{RestartError}
-use Rattle.shore_restart.specs.declared.errors.RestartError.TheVariants.{NoRoom}
+use Rattle.shore_restart.specs.declared.errors.RestartError.TheVariants.{Memory, NoRoom}
 use Rattle.shore_restart.specs.Standing.{Moves, stream_bytes_of}
 use Rattle.shore_restart.proofs.LogTurns.{if_none, no_some, turn_cannot, turn_fits, turn_kept, turn_lacks_room, turn_loser, turn_of, turn_previous, turn_record, turn_says, turn_takes, turn_there}
 use Rattle.shore_restart.proofs.PageErrors.{err_with}
 use Rattle.shore_restart.proofs.Turning.{moves_none, turn_stops, turned}
+use Rattle.shore_restart.proofs.HeldPages.{held_err, held_here, held_other, one_longer}
+use Rattle.shore_restart.specs.Held.{StaysHeld}
+use Rattle.shore_restart.proofs.BadNumbers.{undone_within}
+use Rattle.shore_restart.proofs.QuietLogs.{quiet_beside, quiet_err, quiet_kept, quiet_of, quiet_other}
 use Rattle.shore_restart.proofs.turns.Undo.turn.Goals as goal
 
 -- ---- no turn
@@ -103,10 +107,6 @@ pub returns-in_err-append-clause-device : goal.returns-in_err-append-clause-devi
 returns-in_err-append-clause-device g c log_front front disk s ready =
     if_err c.from_residual-in_err-append.result c.from_residual-in_err-append.ensures.1 (λ error same f is. c.in_err-append.ensures.device log_front front disk s ready f (sym same ∙ is))
 
-pub returns-in_err-append-clause-log_device : goal.returns-in_err-append-clause-log_device
-returns-in_err-append-clause-log_device g c log_front front disk s ready =
-    if_err c.from_residual-in_err-append.result c.from_residual-in_err-append.ensures.1 (λ error same f is. c.in_err-append.ensures.log_device log_front front disk s ready f (sym same ∙ is))
-
 -- ---- .. and taken
 
 pub take-requires-clause-text : goal.take-requires-clause-text
@@ -166,3 +166,76 @@ returns-clause-moves g c log_front front disk s ready =
     (c.in_ok-append.ensures.appends log_front front disk s r.txn ready says number) c.take.ensures.frames
     (c.take.ensures.taken ∙ ap (λ (x : LogRecord). records_of_log c.append.new.log ++ x ∷ []) same) (ap (λ (device : g.row.L.Denot). g.L.Disk.history device) c.take.ensures.device)
     c.append.ensures.volume.geometry r.txn loser refl
+
+-- ---- whatever the pages hold
+
+pub returns-in_err-logged-clause-any_pages : goal.returns-in_err-logged-clause-any_pages
+returns-in_err-logged-clause-any_pages g c front disk held =
+    let n = length (records_of_log c.args.log.now) in
+    held_other front disk c.args.heap.now c.args.heap.now n n c.from_residual.result Memory c.from_residual.ensures.1 (λ f page. cc)
+
+pub returns-in_default-clause-any_pages : goal.returns-in_default-clause-any_pages
+returns-in_default-clause-any_pages g c front disk held =
+    let n = length (records_of_log c.args.log.now) in
+    record { named = tt; stays = held_here front disk c.args.heap.now n n (omega arith) held }
+
+pub returns-in_default-room_with-clause-any_pages : goal.returns-in_default-room_with-clause-any_pages
+returns-in_default-room_with-clause-any_pages g c front disk held = record { named = λ f is. absurd cc; stays = tt }
+
+pub returns-in_err-append-clause-any_pages : goal.returns-in_err-append-clause-any_pages
+returns-in_err-append-clause-any_pages g c front disk held =
+    let n = length (records_of_log c.args.log.now) in
+    let number = ap (λ (rs : List LogRecord). length rs + 1) c.records-2.ensures.log in
+    held_err front disk c.args.heap.now c.append.new.heap n (n + 1) (length (records_of_log c.append.new.log)) c.from_residual-in_err-append.result c.in_err-append.field-0.0
+    c.from_residual-in_err-append.ensures.1 (c.in_err-append.ensures.any_pages front disk held (omega (arith, number)))
+
+pub returns-clause-any_pages : goal.returns-clause-any_pages
+returns-clause-any_pages g c front disk held =
+    let n = length (records_of_log c.args.log.now) in
+    let r = c.in-Some.logged in
+    let number = ap (λ (rs : List LogRecord). length rs + 1) c.records-2.ensures.log in
+    let taken = c.take.ensures.taken ∙ ap (λ (rs : List LogRecord). rs ++ r ∷ []) c.append.ensures.same in
+    let long = one_longer (records_of_log c.args.log.now) (records_of_log c.take.new.self) r taken in
+    record {
+      named = tt;
+      stays = subst (λ (later : ℕ). StaysHeld front disk c.args.heap.now c.append.new.heap n later) (sym long) (c.in_ok-append.ensures.any_pages front disk held (omega (arith, number))).stays;
+    }
+
+pub returns-in_err-logged-clause-log_device : goal.returns-in_err-logged-clause-log_device
+returns-in_err-logged-clause-log_device g c log_front quiet =
+    quiet_other log_front c.args.log.now c.args.log.now c.args.log.now (omega arith) c.from_residual.result Memory c.from_residual.ensures.1 (λ f is. cc) quiet (omega arith)
+
+pub returns-in_default-clause-log_device : goal.returns-in_default-clause-log_device
+returns-in_default-clause-log_device g c log_front quiet = quiet_beside log_front {A = Bool} c.args.log.now c.args.log.now (Ok false) tt quiet (omega arith)
+
+pub returns-in_default-room_with-clause-log_device : goal.returns-in_default-room_with-clause-log_device
+returns-in_default-room_with-clause-log_device g c log_front quiet = quiet_beside log_front {A = Bool} c.args.log.now c.args.log.now (Err NoRoom) (λ f is. cc) quiet (omega arith)
+
+pub returns-in_err-append-clause-log_device : goal.returns-in_err-append-clause-log_device
+returns-in_err-append-clause-log_device g c log_front quiet =
+    quiet_err log_front c.args.log.now c.args.log.now c.append.new.log (omega arith) c.from_residual-in_err-append.result c.in_err-append.field-0.0 c.from_residual-in_err-append.ensures.1
+    (c.in_err-append.ensures.log_device log_front quiet)
+
+pub returns-clause-log_device : goal.returns-clause-log_device
+returns-clause-log_device g c log_front quiet =
+    let on = quiet_of log_front c.args.log.now c.append.new.log c.in_ok-append.field-0 (c.in_ok-append.ensures.log_device log_front quiet) in
+    let taken = quiet_kept log_front c.append.new.log c.take.new.self c.take.ensures.frames on.0 in
+    let more = on.1 in
+    let longer = taken.1 in
+    quiet_beside log_front {A = Bool} c.args.log.now c.take.new.self (Ok true) tt taken.0 (omega (arith, more, longer))
+
+-- ---- the record that is named
+
+pub returns-in_err-logged-clause-bad_number : goal.returns-in_err-logged-clause-bad_number
+returns-in_err-logged-clause-bad_number g c found so_far = if_err c.from_residual.result c.from_residual.ensures.1 (λ error same n is. let clash = sym same ∙ is in absurd cc)
+
+pub returns-in_err-append-clause-bad_number : goal.returns-in_err-append-clause-bad_number
+returns-in_err-append-clause-bad_number g c found so_far =
+    let log = records_of_log c.args.log.now in
+    let bytes = stream_bytes_of c.args.log.now in
+    let r = c.in-Some.logged in
+    let turn = turn_of (geometry_of c.args.heap.now) log bytes c.args.self.now c.requires c.records.result.now c.records.ensures.log c.in_ok-logged.field-0 r c.in-Some.is
+    c.in_ok-logged.ensures.loser c.in_ok-logged.ensures.greatest c.in_ok-logged.ensures.undoes in
+    if_err c.from_residual-in_err-append.result c.from_residual-in_err-append.ensures.1 (λ error same n is.
+    let bad = c.in_err-append.ensures.bad_number n (sym same ∙ is) in
+    undone_within found log r turn so_far n (bad.0 ∙ c.next_change.ensures log r.txn c.requires.losers turn.loser turn.next) bad.1)

@@ -1,4 +1,4 @@
-use Rattle.std.proofs.Common.{ℕ, List, [], Bool, inl, inr, refl, sym, subst, ◌∙◌}
+use Rattle.std.proofs.Common.{Err, length, arith, ℕ, List, [], Bool, inl, inr, refl, sym, subst, ◌∙◌}
 use Rattle.shore_dwrite.proofs.Moves.{if_err}
 use Rattle.shore_model.specs.declared.log_records.LogRecord.{LogRecord}
 use Rattle.shore_heap.specs.Heaps.{faults_of, geometry_of, history_of}
@@ -15,6 +15,9 @@ use Rattle.shore_restart.proofs.PageErrors.{err_with, passed_cause}
 use Rattle.shore_restart.proofs.RedoAll.{same_again}
 use Rattle.shore_restart.proofs.Standing.{left_by}
 use Rattle.shore_restart.proofs.Undoing.{come_on, come_stop, force_last, lawful_so_far, on_ok, stream_same, undone_and}
+use Rattle.shore_restart.proofs.HeldPages.{held_behind, held_beside, held_err, held_here, held_then}
+use Rattle.shore_restart.specs.Held.{StaysHeld}
+use Rattle.shore_restart.proofs.QuietLogs.{quiet_err, quiet_of, quiet_then}
 use Rattle.shore_restart.proofs.turns.Undo.undo_all.Goals as goal
 
 pub loop-init : goal.loop-init
@@ -22,6 +25,8 @@ loop-init g c = record {
   undo = c.requires;
   so_far = ([], refl);
   come = λ log_front front disk s ready. (s, came_here log_front front disk c.args.log.now c.args.heap.now s ready);
+  quiet = λ log_front quiet. (quiet, omega arith);
+  any_pages = λ front disk held. held_here front disk c.args.heap.now (length (records_of_log c.args.log.now)) (length (records_of_log c.args.log.now)) (omega arith) held;
   volume = record { geometry = refl; honest = refl; size = refl };
   log = record { honest = refl; size = refl };
   volume_faults = refl;
@@ -39,6 +44,16 @@ loop-preserved g c =
           let come = invariant.come log_front front disk s ready in
           come_on log_front front c.args.log.now c.args.heap.now s c.in_ok-turn.field-0 c.loop.log c.turn.new.log c.loop.heap c.turn.new.heap _ come
           (c.in_ok-turn.ensures.moves log_front front come.1.disk come.0 come.1.ready) c.turn.ensures.volume.geometry;
+      quiet = λ log_front quiet.
+          let now = invariant.quiet log_front quiet in
+          let on = quiet_of log_front c.loop.log c.turn.new.log c.in_ok-turn.field-0 (c.in_ok-turn.ensures.log_device log_front now.0) in
+          let more = now.1 in
+          let longer = on.1 in
+          (on.0, omega (arith, more, longer));
+      any_pages = λ front disk held.
+          let s = invariant.any_pages front disk held in
+          held_then front disk c.args.heap.now c.loop.heap (length (records_of_log c.args.log.now)) (length (records_of_log c.loop.log)) s c.turn.new.heap (length (records_of_log c.turn.new.log))
+          invariant.volume.geometry (c.in_ok-turn.ensures.any_pages front s.left s.held).stays;
       volume = same_again c.args.heap.now c.loop.heap c.turn.new.heap invariant.volume c.turn.ensures.volume;
       log = same_on c.args.log.now c.loop.log c.turn.new.log invariant.log c.turn.ensures.log;
       volume_faults = c.in_ok-turn.ensures.volume_cause.unreported (λ e. cc) ∙ invariant.volume_faults;
@@ -82,11 +97,6 @@ pub returns-in_err-turn-clause-device : goal.returns-in_err-turn-clause-device
 returns-in_err-turn-clause-device g c log_front front disk s ready =
     let come = c.loop.invariant.come log_front front disk s ready in
     if_err c.from_residual.result c.from_residual.ensures.1 (λ error same f is. c.in_err-turn.ensures.device log_front front come.1.disk come.0 come.1.ready f (sym same ∙ is))
-
-pub returns-in_err-turn-clause-log_device : goal.returns-in_err-turn-clause-log_device
-returns-in_err-turn-clause-log_device g c log_front front disk s ready =
-    let come = c.loop.invariant.come log_front front disk s ready in
-    if_err c.from_residual.result c.from_residual.ensures.1 (λ error same f is. c.in_err-turn.ensures.log_device log_front front come.1.disk come.0 come.1.ready f (sym same ∙ is))
 
 pub returns-in_err-turn-clause-volume : goal.returns-in_err-turn-clause-volume
 returns-in_err-turn-clause-volume g c = same_again c.args.heap.now c.loop.heap c.turn.new.heap c.loop.invariant.volume c.turn.ensures.volume
@@ -157,13 +167,6 @@ returns-clause-device g c log_front front disk s ready = err_to c.force.result c
   | inr (inr full) ↦ let clash = sym full ∙ page in absurd cc
 ])
 
-pub returns-clause-log_device : goal.returns-clause-log_device
-returns-clause-log_device g c log_front front disk s ready =
-    let before = c.loop.invariant.come log_front front disk s ready in
-    let come = come_on log_front front c.args.log.now c.args.heap.now s c.in_ok-turn.field-0 c.loop.log c.turn.new.log c.loop.heap c.turn.new.heap _ before
-    (c.in_ok-turn.ensures.moves log_front front before.1.disk before.0 before.1.ready) c.turn.ensures.volume.geometry in
-    c.force.ensures.device log_front come.1.ready.at_rest.settled come.1.ready.at_rest.none_staged
-
 pub returns-clause-volume : goal.returns-clause-volume
 returns-clause-volume g c = same_again c.args.heap.now c.loop.heap c.turn.new.heap c.loop.invariant.volume c.turn.ensures.volume
 
@@ -184,3 +187,54 @@ pub returns-clause-log_cause : goal.returns-clause-log_cause
 returns-clause-log_cause g c =
     let same = c.in_ok-turn.ensures.log_cause.unreported (λ e. cc) ∙ c.loop.invariant.log_faults in
     subst (λ (n : ℕ). HasCause (log_answer c.force.result) n (log_faults c.force.new.log)) same c.force.ensures.cause
+
+-- ---- whatever the pages hold
+
+pub returns-in_err-turn-clause-any_pages : goal.returns-in_err-turn-clause-any_pages
+returns-in_err-turn-clause-any_pages g c front disk held =
+    let n = length (records_of_log c.args.log.now) in
+    let now = length (records_of_log c.loop.log) in
+    let later = length (records_of_log c.turn.new.log) in
+    let invariant = c.loop.invariant in
+    let s = invariant.any_pages front disk held in
+    held_err front disk c.args.heap.now c.turn.new.heap n later later c.from_residual.result c.in_err-turn.field-0.0 c.from_residual.ensures.1
+    (held_behind front disk c.args.heap.now c.loop.heap n now s {A = Bool} (Err c.in_err-turn.field-0.0) c.turn.new.heap later invariant.volume.geometry (c.in_err-turn.ensures.any_pages front s.left s.held))
+
+pub returns-clause-any_pages : goal.returns-clause-any_pages
+returns-clause-any_pages g c front disk held =
+    let heap = c.args.heap.now in
+    let n = length (records_of_log c.args.log.now) in
+    let now = length (records_of_log c.loop.log) in
+    let later = length (records_of_log c.turn.new.log) in
+    let invariant = c.loop.invariant in
+    let s = invariant.any_pages front disk held in
+    let stays = held_then front disk heap c.loop.heap n now s c.turn.new.heap later invariant.volume.geometry (c.in_ok-turn.ensures.any_pages front s.left s.held).stays in
+    held_beside front disk heap c.turn.new.heap n (length (records_of_log c.force.new.log)) c.force.result (err_to c.force.result c.force.ensures.refused (λ error is f page. elim is [
+      | inl memory ↦ let clash = sym memory ∙ page in cc
+      | inr (inl device) ↦ let clash = sym device ∙ page in cc
+      | inr (inr full) ↦ let clash = sym full ∙ page in cc
+    ])) (subst (λ (log : List LogRecord). StaysHeld front disk heap c.turn.new.heap n (length log)) (sym c.force.ensures.same) stays)
+
+pub returns-in_err-turn-clause-log_device : goal.returns-in_err-turn-clause-log_device
+returns-in_err-turn-clause-log_device g c log_front quiet =
+    let now = c.loop.invariant.quiet log_front quiet in
+    quiet_err log_front c.args.log.now c.loop.log c.turn.new.log now.1 c.from_residual.result c.in_err-turn.field-0.0 c.from_residual.ensures.1 (c.in_err-turn.ensures.log_device log_front now.0)
+
+pub returns-clause-log_device : goal.returns-clause-log_device
+returns-clause-log_device g c log_front quiet =
+    let now = c.loop.invariant.quiet log_front quiet in
+    let on = quiet_of log_front c.loop.log c.turn.new.log c.in_ok-turn.field-0 (c.in_ok-turn.ensures.log_device log_front now.0) in
+    let more = now.1 in
+    let longer = on.1 in
+    quiet_then log_front c.args.log.now c.turn.new.log c.force.new.log (omega (arith, more, longer)) c.force.result (c.force.ensures.log_device log_front on.0)
+
+pub returns-in_err-turn-clause-bad_number : goal.returns-in_err-turn-clause-bad_number
+returns-in_err-turn-clause-bad_number g c =
+    if_err c.from_residual.result c.from_residual.ensures.1 (λ error same n is. c.in_err-turn.ensures.bad_number (records_of_log c.args.log.now) c.loop.invariant.so_far n (sym same ∙ is))
+
+pub returns-clause-bad_number : goal.returns-clause-bad_number
+returns-clause-bad_number g c = err_to c.force.result c.force.ensures.refused (λ error is n bad. elim is [
+  | inl memory ↦ let clash = sym memory ∙ bad in absurd cc
+  | inr (inl device) ↦ let clash = sym device ∙ bad in absurd cc
+  | inr (inr full) ↦ let clash = sym full ∙ bad in absurd cc
+])

@@ -1,9 +1,10 @@
-use Rattle.std.proofs.Common.{◌≡◌, ◌∷◌, inl, inr, ℕ, List, Err, arith, IsTrue, length, take, refl, sym, ◌∙◌, ap, subst}
+use Rattle.std.proofs.Common.{◌≡◌, ◌-◌, ◌∷◌, inl, inr, ℕ, List, Err, arith, IsTrue, length, take, refl, sym, ◌∙◌, ap, subst}
 use Rattle.shore_types.specs.declared.layout.Geometry.{Geometry}
 use Rattle.shore_disk.specs.Device.{History, seen, size}
 use Rattle.shore_dwrite.specs.Checks.{RefusesArea}
 use Rattle.shore_analysis.specs.Tables.{AreTables}
 use Rattle.shore_dwrite.specs.Settled as pages_of
+use Rattle.shore_dwrite.specs.Shown.{Shows}
 use Rattle.shore_format.specs.Causes.{HasCauseOfPair}
 use Rattle.shore_heap.specs.Heaps as heaps
 use Rattle.shore_log.specs.Frames.{Gives}
@@ -18,7 +19,14 @@ use Rattle.shore_stands.specs.StandsFor.{begun_on}
 use Rattle.shore_stays.specs.SoundStores.{found_state}
 use Rattle.shore_world.specs.OpenedVolumes as volumes
 use Rattle.shore_world.specs.declared.world.World.{World}
-use Rattle.shore_log.specs.Offsets.{IsBadAt}
+use Rattle.shore_log.specs.Offsets.{IsBadAt, IsFrameOf}
+use Rattle.shore_types.specs.declared.faults.Device.TheVariants.{Log as DeviceLog}
+use Rattle.shore_types.specs.declared.faults.Fault.TheVariants.{Damaged}
+use Rattle.shore_gate.specs.Anchor.{offset_of}
+use Rattle.shore_dwrite.specs.Shown.{Shows}
+use Rattle.shore_restart.specs.Held.{IsPageFault}
+use Rattle.shore_restart.specs.Turns.{LacksRoom}
+use Rattle.shore_world.proofs.RestartNames.{names_of, settled_left}
 use Rattle.shore_world.proofs.AreaLemmas.{shown_not_refused}
 use Rattle.shore_world.proofs.OpenLemmas.{outside_or_not, pair_still_after, still_after, told_of}
 use Rattle.shore_world.proofs.OpenPaths.{found, have_fronts, log_synced, replay_at, restart_outside, shown, shown_at, still_stands, stopped, texts, texts_at, told_images, volume_replayed, volume_synced, way_on}
@@ -192,6 +200,17 @@ returns-in-Ok-restart-clause-report g c of_log rs gives =
       undone = told.2.2;
     }
 
+pub returns-in-Ok-restart-clause-in_order : goal.returns-in-Ok-restart-clause-in_order
+returns-in-Ok-restart-clause-in_order g c of_log of_volume =
+    let log_later = subst IsTrue (sym c.read_fronts.ensures.honest.0) of_log in
+    let later = subst IsTrue (sym c.read_fronts.ensures.honest.1) of_volume in
+    let same : seen (g.L.Disk.history c.read_fronts.new.log) ≡ seen (g.L.Disk.history c.args.log) = ap (λ (h : History). seen h) (c.in-Ok.ensures.log_synced of_log) in
+    let shown = c.in-Ok-open_volume.ensures.in_order later _ (synced_stands _ _ (c.in-Ok.ensures.volume_synced of_volume)) in
+    let at = c.in-Ok-restart.ensures.volume.geometry ∙ c.in-Ok-open_volume.ensures.geometry in (
+      (records_of_log c.in-Ok-open.log, subst (Gives (records_of_log c.in-Ok-open.log)) same (c.in-Ok-open.ensures.found log_later)),
+      (shown.0, subst (λ (x : Geometry). Shows x (seen (g.V.Disk.history c.args.volume)) shown.0) (sym at) shown.1),
+    )
+
 pub returns-in-Err-restart-clause-along : goal.returns-in-Err-restart-clause-along
 returns-in-Err-restart-clause-along g c of_log of_volume geometry rs pages log_image volume_image log_stands volume_stands stood =
     let log = g.L.Disk.history c.args.log in
@@ -252,9 +271,10 @@ returns-in-Err-restart-clause-refused g c of_log of_volume = elim (outside_or_no
       inr (inr (
         c.in-Ok.fronts.geometry,
         front.0,
-        inr (inr (
-          (records_of_log c.in-Ok-open.log, subst (Gives (records_of_log c.in-Ok-open.log)) same (c.in-Ok-open.ensures.found log_later)),
-          λ rs pages stood.
+        inr (inr (record {
+          rs = records_of_log c.in-Ok-open.log;
+          gives = subst (Gives (records_of_log c.in-Ok-open.log)) same (c.in-Ok-open.ensures.found log_later);
+          none = λ rs pages stood.
               let later = subst IsTrue (sym c.read_fronts.ensures.honest.1) of_volume in
               let at : c.in-Ok.fronts.of_pages ≡ geometry = c.in-Ok.ensures.limits.1 in
               let log_held = synced_stands log (g.L.Disk.history c.read_fronts.new.log) (c.in-Ok.ensures.log_synced of_log) in
@@ -274,9 +294,39 @@ returns-in-Err-restart-clause-refused g c of_log of_volume = elim (outside_or_no
               isnt (restart_outside geometry (size log) (size volume) rs pages log_image volume_image stood dev heap is heap_at (c.in-Ok-open.ensures.size ∙ c.read_fronts.ensures.size.0) c.in-Err-restart.error c.fault_of-fault.result
               (e.bad (take 4096 log_image) (take 4096 volume_image) (texts geometry (size log) (size volume) rs pages log_image volume_image stood) (found_state rs pages) is) e.no_room
               (e.device (take 4096 log_image) (take 4096 volume_image) (texts geometry (size log) (size volume) rs pages log_image volume_image stood) (found_state rs pages) is)
-              (e.log_device (take 4096 log_image) (take 4096 volume_image) (texts geometry (size log) (size volume) rs pages log_image volume_image stood) (found_state rs pages) is)
-              f.memory (λ h at. (f.page h at).0) (λ h at. (f.force h at).0)),
-        )),
+              (e.log_device (take 4096 log_image) (is.at_rest.settled, is.at_rest.none_staged)).named
+              f.memory (λ h at. (f.page h at).0) (λ h at. (f.force h at).0));
+          names =
+              let later = subst IsTrue (sym c.read_fronts.ensures.honest.1) of_volume in
+              let at : c.in-Ok.fronts.of_pages ≡ geometry = c.in-Ok.ensures.limits.1 in
+              let log_held = synced_stands log (g.L.Disk.history c.read_fronts.new.log) (c.in-Ok.ensures.log_synced of_log) in
+              let held = synced_stands volume (g.V.Disk.history c.read_fronts.new.volume) (c.in-Ok.ensures.volume_synced of_volume) in
+              let dev = c.in-Ok-open.log in
+              let heap = c.in-Ok-open_volume.heap in
+              let none = c.in-Ok-open.ensures.none_waits in
+              let rs = records_of_log dev in
+              let shown = c.in-Ok-open_volume.ensures.in_order later volume_image held in
+              let is_held = c.in-Ok-open_volume.ensures.held later volume_image shown.0 held shown.1 (length rs) in
+              let heap_at : heaps.geometry_of heap ≡ geometry = c.in-Ok-open_volume.ensures.geometry ∙ at in
+              let e = c.in-Err-restart.ensures in
+              let f = c.fault_of-fault.ensures in
+              let quiet = e.log_device (take 4096 log_image) (c.in-Ok-open.ensures.settled log_later log_image log_held, none.0) in
+              names_of geometry rs (size log - 4096) (offset_of front.0.0.slot) volume (g.L.Disk.history c.into_device-in-Err-restart-2.result) shown.0
+              (subst (λ (x : Geometry). Shows x volume_image shown.0) at shown.1) c.in-Err-restart.error c.fault_of-fault.result isnt
+              (λ is. subst (λ (n : ℕ). LacksRoom rs (n - 4096)) (c.in-Ok-open.ensures.size ∙ c.read_fronts.ensures.size.0) (e.no_room is)) e.bad_number
+              (λ h is. subst (λ (x : Geometry). IsPageFault x shown.0 (length rs) h) heap_at (e.any_pages (take 4096 volume_image) shown.0 is_held h is)) quiet.named
+              f.memory (λ is. f.room is ∙ ap (λ (n : ℕ). Damaged DeviceLog n) front.1)
+              (λ n is. elim (f.record_of n is) [
+                | inl device ↦ inl device
+                | inr (offset, told, frame) ↦ inr (
+                  offset,
+                  told,
+                  λ some most.
+                      let left = settled_left (take 4096 log_image) dev c.restart.new.log c.in-Err-restart.error n is quiet none.1 in
+                      subst (λ (h : History). IsFrameOf 4096 (seen h) n offset) (sym (ap g.L.Disk.history c.into_device-in-Err-restart-2.ensures ∙ f.still left.0.honest)) (frame (take 4096 log_image) left.0 some (left.1 most)),
+                )
+              ]) (λ h is. (f.page h is).0) (λ h is. (f.force h is).0);
+        })),
       ))
 ]
 
@@ -309,7 +359,7 @@ returns-in-Err-restart-clause-stands g c of_log of_volume geometry rs pages log_
     restart_outside geometry (size log) (size volume) rs pages log_image volume_image stood dev heap is heap_at (c.in-Ok-open.ensures.size ∙ c.read_fronts.ensures.size.0) c.in-Err-restart.error c.fault_of-fault.result
     (e.bad (take 4096 log_image) (take 4096 volume_image) (texts geometry (size log) (size volume) rs pages log_image volume_image stood) (found_state rs pages) is) e.no_room
     (e.device (take 4096 log_image) (take 4096 volume_image) (texts geometry (size log) (size volume) rs pages log_image volume_image stood) (found_state rs pages) is)
-    (e.log_device (take 4096 log_image) (take 4096 volume_image) (texts geometry (size log) (size volume) rs pages log_image volume_image stood) (found_state rs pages) is)
+    (e.log_device (take 4096 log_image) (is.at_rest.settled, is.at_rest.none_staged)).named
     f.memory (λ h at. (f.page h at).0) (λ h at. (f.force h at).0)
 
 pub returns-in-Err-restart-clause-cause : goal.returns-in-Err-restart-clause-cause
