@@ -1,5 +1,5 @@
 -- The record that a restart names is one of those that were found.
-use Rattle.std.proofs.Common.{take, ◌≡◌, ⊎_elim, ◌-◌, ◌<◌, ◌≤◌, ℕ, List, [], ◌∷◌, ◌++◌, Option, Some, None, Result, Ok, Err, refl, sym, ap, subst, ◌∙◌, length, arith}
+use Rattle.std.proofs.Common.{take, ◌≡◌, ⊎_elim, ◌-◌, ◌<◌, ◌≤◌, ℕ, List, [], ◌∷◌, ◌++◌, Option, Some, None, refl, ap, subst, ◌∙◌, length, arith}
 use Rattle.std.specs.Prelude.{IsSome, IsSomeAnd, slice_get}
 use Rattle.std.proofs.lemmas.Option.{slice_get_within}
 use Rattle.shore_types.specs.Images.{Image}

@@ -22,10 +22,10 @@ use Rattle.shore_heap.specs.declared.heap.Heap.{Heap}
 use Rattle.shore_heap.specs.Heaps.{KeepsVolume, WroteBack, frame_at, geometry_of}
 use Rattle.shore_logged.specs.LoggedHeaps.{IsMade, IsReleased}
 use Rattle.shore_restart.specs.declared.errors.RestartError.{RestartError}
-use Rattle.shore_restart.specs.declared.errors.RestartError.TheVariants.{BadRecord, Log, Memory, NoRoom, Page}
+use Rattle.shore_restart.specs.declared.errors.RestartError.TheVariants.{Page}
 use Rattle.shore_restart.specs.Errors.{IsPageError}
 use Rattle.shore_restart.specs.Held.{FetchesHeld, IsHeld, IsPageFault, StaysHeld, WorksHeld}
-use Rattle.shore_restart.proofs.PageErrors.{Refuses, device_error, err_with, page_is}
+use Rattle.shore_restart.proofs.PageErrors.{Refuses, page_is}
 
 -- the error is of no page
 abbrev pub IsNoPage : RestartError → Type 0

@@ -8,6 +8,7 @@ pub mod Rooms
 pub mod Frames
 pub mod Putting
 pub mod Redoing
+pub mod Missing
 pub mod RedoAll
 pub mod Coming
 pub mod UndoTexts

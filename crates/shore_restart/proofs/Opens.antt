@@ -1,29 +1,23 @@
 -- The state that a core over a restart opens in: what the log leaves is in place, and nobody is in a transaction.
-use Rattle.std.proofs.Common.{◌≡◌, ◌+◌, ◌<◌, ℕ, List, [], ◌∷◌, ◌++◌, false, Option, None, Some, refl, sym, ap, subst, ◌∙◌, length, arith, All}
+use Rattle.std.proofs.Common.{◌≡◌, ◌<◌, ℕ, List, [], ◌∷◌, ◌++◌, false, Option, None, Some, refl, sym, ap, subst, ◌∙◌, length}
 use Rattle.std.specs.FinMap.{get}
 use Rattle.std.specs.List.{AllByRecursion}
-use Rattle.std.specs.Option.{ForSome}
 use Rattle.std.proofs.lemmas.List.Elements.{recursion_from_All}
 use Rattle.shore_disk.specs.declared.device.Disk as disk
-use Rattle.shore_types.specs.Layout.{HasPage}
 use Rattle.shore_types.specs.declared.ids.PageId.{PageId}
-use Rattle.shore_types.specs.declared.ids.Rid.{Rid}
 use Rattle.shore_model.specs.declared.log_records.LogRecord.{LogRecord}
 use Rattle.shore_model.specs.Logs.{Lawful, image_of_record, records_told}
 use Rattle.shore_sessions.proofs.Lists.{recursion-at, recursion-push}
-use Rattle.shore_sessions.specs.Sessions.{SessionTxn}
-use Rattle.shore_page.specs.Slots.{Slot, settled}
-use Rattle.shore_room.specs.Claims.{rid_on, slots_of}
-use Rattle.shore_room.specs.Settling.{settled_slots}
+use Rattle.shore_page.specs.Slots.{settled}
+use Rattle.shore_room.specs.Claims.{rid_on}
 use Rattle.shore_room.proofs.Lists.{each_alike}
 use Rattle.shore_room.proofs.Settled.{claims_settled}
 use Rattle.shore_calls.specs.States.{State, page_slots}
 use Rattle.shore_recovery.specs.Recovery.{IsRecoverable, RecoveryState}
-use Rattle.shore_recovery.specs.Undo.{HasNoLosers, IsLoser, IsUndoneTo, undo_record}
+use Rattle.shore_recovery.specs.Undo.{HasNoLosers, IsUndoneTo, undo_record}
 use Rattle.shore_recovery.proofs.Invariant.{redone_whole}
 use Rattle.shore_recovery.proofs.UndoRecords.{undone_lawful}
 use Rattle.shore_recovery.proofs.WritersTold.{leaves_told}
-use Rattle.shore_lives.specs.ManagerSteps.{OpensOver}
 use Rattle.shore_managers.specs.StoredRuns.{IsOpenedOver}
 use Rattle.shore_analysis.specs.Tables.{IsNext}
 use Rattle.shore_analysis.proofs.Counted.{last_is_one}
@@ -33,7 +27,7 @@ use Rattle.shore_txn.specs.Tables.{active_in, committing_in, next_in, room_in}
 use Rattle.shore_txn.specs.Txns.{as_session_txns}
 use Rattle.shore_heap.specs.declared.heap.Heap.{Heap}
 use Rattle.shore_heap.specs.Contents.{unclaimed}
-use Rattle.shore_heap.specs.Heaps.{Shows, geometry_of}
+use Rattle.shore_heap.specs.Heaps.{Shows}
 use Rattle.shore_heap.proofs.Showing.{shows_same}
 use Rattle.shore_logged.proofs.SettledSlots.{shows_only, slots_done}
 use Rattle.shore_logged.specs.LoggedHeaps.{IsStoreOf}

@@ -1,5 +1,5 @@
 -- The log device of a restart, whatever the pages hold: what calls leave of it.
-use Rattle.std.proofs.Common.{◌≡◌, ◌⊎◌, ◌≤◌, ◌++◌, ℕ, List, Result, Ok, Err, inl, inr, refl, sym, ap, subst, ◌∙◌, length, length-append, take, arith}
+use Rattle.std.proofs.Common.{◌≡◌, ◌≤◌, ◌++◌, ℕ, List, Result, Ok, Err, inl, inr, sym, ap, ◌∙◌, length, length-append, take, arith}
 use Rattle.std.specs.Prelude.{IfErr, IsErrAnd}
 use Rattle.shore_types.specs.declared.faults.Fault.{Fault}
 use Rattle.shore_types.specs.declared.faults.Fault.TheVariants as fault
@@ -9,7 +9,7 @@ use Rattle.shore_log.specs.Frames.{IsLongest}
 use Rattle.shore_log.specs.Settled.{KeepsFrames, stable, waiting}
 use Rattle.shore_log.specs.declared.device.LogDev.{LogDev}
 use Rattle.shore_restart.specs.declared.errors.RestartError.{RestartError}
-use Rattle.shore_restart.specs.declared.errors.RestartError.TheVariants.{BadRecord, Log, Memory, NoRoom, Page}
+use Rattle.shore_restart.specs.declared.errors.RestartError.TheVariants.{Log}
 use Rattle.shore_restart.specs.Errors.{IsLogError}
 use Rattle.shore_restart.specs.Quiet.{IsQuiet, StaysQuiet}
 

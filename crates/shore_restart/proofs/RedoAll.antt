@@ -1,16 +1,20 @@
 -- Redo of all records, one after another.
-use Rattle.std.proofs.Common.{◌≡◌, ◌+◌, ℕ, List, [], ◌∷◌, ◌++◌, Bool, Some, Ok, Err, refl, sym, ap, subst, ◌∙◌, length}
-use Rattle.std.specs.Prelude.{slice_get}
+use Rattle.std.proofs.Common.{◌≡◌, ◌+◌, ℕ, List, [], ◌∷◌, ◌++◌, Bool, Some, Ok, Err, refl, sym, ap, subst, ◌∙◌, length, drop}
+use Rattle.std.specs.Prelude.{if◌then◌else◌, slice_get}
 use Rattle.shore_types.specs.declared.layout.Geometry.{Geometry}
 use Rattle.shore_disk.specs.Device.{History, LeavesOnly, may_leave}
 use Rattle.shore_disk.specs.declared.device.Disk.{Ghosts}
 use Rattle.shore_model.specs.declared.log_records.LogRecord.{LogRecord}
 use Rattle.shore_heap.specs.declared.heap.Heap.{Heap}
 use Rattle.shore_heap.specs.Heaps.{geometry_of, history_of}
+use Rattle.shore_model.specs.Logs.{image_in}
+use Rattle.shore_recovery.specs.Pages.{redone_on_all}
 use Rattle.shore_recovery.specs.Recovery.{RecoveryState}
 use Rattle.shore_restart.specs.declared.errors.RestartError.{RestartError}
 use Rattle.shore_stands.specs.Moments.{GivesPrefix, Moment, Path, ShowsLeft}
+use Rattle.shore_restart.specs.Missing.{is_missing, missing_behind, missing_on}
 use Rattle.shore_restart.specs.Standing.{Redoes, RedoesAll, SameVolume, Stands, Worked, moment_of}
+use Rattle.shore_restart.proofs.Missing.{count_next}
 use Rattle.shore_restart.proofs.Paths.{path_and, path_covered, prefix_same, step_volume}
 use Rattle.shore_restart.proofs.Standing.{stands_left}
 
@@ -86,28 +90,35 @@ module _ {V : Type 0} {H : Ghosts V} where
   }
 
   -- .. without the way there
-  pub record Now (front : List ℕ) (heap : Heap V H) (s : RecoveryState) (n : ℕ) : Type 0 where
+  pub record Now (front : List ℕ) (heap : Heap V H) (s : RecoveryState) (n count : ℕ) : Type 0 where
     pub later : RecoveryState
     pub log_is : later.log ≡ s.log
     pub durable : later.durable ≡ s.durable
     pub redone : later.redone ≡ n
     pub left : ℕ → List ℕ
     pub stands : Stands front left heap later
+    pub counted : count + missing_behind n (drop n s.log) later.in_place ≡ missing_on s.log s.in_place
 
-  pub now_next : (front : List ℕ) (heap new : Heap V H) (s : RecoveryState) (n : ℕ) (b : Bool) → (now : Now front heap s n) → Redoes (Ok b) front heap new now.later → Now front new s (n + 1)
-  now_next front heap new s n b now r = record {
-    later = r.later;
-    log_is = r.log ∙ now.log_is;
-    durable = r.durable ∙ now.durable;
-    redone = r.done.0 ∙ ap (λ (k : ℕ). k + 1) now.redone;
-    left = r.done.1;
-    stands = r.done.2;
-  }
+  pub now_next : (front : List ℕ) (heap new : Heap V H) (s : RecoveryState) (n count : ℕ) (b : Bool) → (now : Now front heap s n count) → (x : LogRecord) → slice_get s.log n ≡ Some x
+      → b ≡ is_missing now.later.in_place (n + 1) (image_in x.payload) → Redoes (Ok b) front heap new now.later → Now front new s (n + 1) ((if b then 1 else 0) + count)
+  now_next front heap new s n count b now x at did r =
+      let next : slice_get now.later.log now.later.redone ≡ Some x = ap (slice_get now.later.log) now.redone ∙ ap (λ (l : List LogRecord). slice_get l n) now.log_is ∙ at in
+      record {
+        later = r.later;
+        log_is = r.log ∙ now.log_is;
+        durable = r.durable ∙ now.durable;
+        redone = r.done.0 ∙ ap (λ (k : ℕ). k + 1) now.redone;
+        left = r.done.1;
+        stands = r.done.2;
+        counted =
+            count_next s.log n count b x now.later.in_place r.later.in_place (missing_on s.log s.in_place) at did
+            (r.pages x next ∙ ap (λ (k : ℕ). redone_on_all (k + 1) x now.later.in_place) now.redone) now.counted;
+      }
 
   pub same_again : (a b c : Heap V H) → SameVolume a b → SameVolume b c → SameVolume a c
-  same_again a b c one two = record { geometry = two.geometry ∙ one.geometry; honest = two.honest ∙ one.honest; size = two.size ∙ one.size }
+  same_again a b c one two = record { geometry = two.geometry ∙ one.geometry; honest = two.honest ∙ one.honest; size = two.size ∙ one.size; frames = two.frames ∙ one.frames }
 
-  module _ (front : List ℕ) (heap : Heap V H) (s : RecoveryState) (n : ℕ) (rs : List LogRecord) (r : LogRecord) (now : Now front heap s n) (log : s.log ≡ rs) (whole : s.durable ≡ length s.log) (at : slice_get rs n ≡ Some r) where
+  module _ (front : List ℕ) (heap : Heap V H) (s : RecoveryState) (n count : ℕ) (rs : List LogRecord) (r : LogRecord) (now : Now front heap s n count) (log : s.log ≡ rs) (whole : s.durable ≡ length s.log) (at : slice_get rs n ≡ Some r) where
     pub next_is : slice_get now.later.log now.later.redone ≡ Some r
     next_is = ap (slice_get now.later.log) now.redone ∙ ap (λ (l : List LogRecord). slice_get l n) (now.log_is ∙ log) ∙ at
 

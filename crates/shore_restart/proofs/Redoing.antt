@@ -18,6 +18,7 @@ use Rattle.shore_page.specs.Slots.{Slot, image_len}
 use Rattle.shore_pool.specs.declared.frame.Frame.{Frame}
 use Rattle.shore_heap.specs.declared.heap.Heap.{Heap}
 use Rattle.shore_heap.specs.Heaps.{frame_of, geometry_of, history_of}
+use Rattle.shore_recovery.specs.Pages.{redone_on_all}
 use Rattle.shore_recovery.specs.Recovery.{LeadsTo, RecoveryState, RedoRecord, after_redo}
 use Rattle.shore_recovery.proofs.Invariant.{event_kept}
 use Rattle.shore_bounds.specs.SlotCounts.{FitsBehind, slots_left}
@@ -30,6 +31,9 @@ use Rattle.shore_restart.specs.Standing.{Fetches, Redoes, Stands}
 use Rattle.shore_disk.proofs.Moments.{started}
 use Rattle.shore_restart.proofs.Paths.{work_and}
 use Rattle.shore_restart.proofs.Standing.{left_by, stands_left}
+
+some_same : {A : Type 0} {o : Option A} {x y : A} → o ≡ Some x → o ≡ Some y → x ≡ y
+some_same one two = cc
 
 -- a record that is neither a Change nor a Compensation has no image
 pub no_image : (p : Payload) → ((id : Rid) (before after : Image) → p ≡ payload.Change id before after → ⊥) → ((id : Rid) (after : Image) (undo_next : ℕ) → p ≡ payload.Compensation id after undo_next → ⊥)
@@ -94,9 +98,9 @@ module _ {V : Type 0} {H : Ghosts V} where
 
   module _ (front : List ℕ) (old mid : Heap V H) (s : RecoveryState) (r : LogRecord) (f : Fetches (Ok tt) front old mid s) where
     -- a record that was done on its page
-    pub redone_behind : (new : Heap V H) (b : Bool) (left : ℕ → List ℕ) → LeadsTo f.later RedoRecord (after_redo f.later r) → Stands front left new (after_redo f.later r) → history_of new ≡ history_of mid
+    pub redone_behind : (new : Heap V H) (b : Bool) (left : ℕ → List ℕ) → slice_get s.log s.redone ≡ Some r → LeadsTo f.later RedoRecord (after_redo f.later r) → Stands front left new (after_redo f.later r) → history_of new ≡ history_of mid
         → geometry_of new ≡ geometry_of old → Redoes (Ok b) front old new s
-    redone_behind new b left leads stands history same = record {
+    redone_behind new b left next leads stands history same = record {
       later = after_redo f.later r;
       work = record {
         works = f.work.works ++ RedoRecord ∷ [];
@@ -107,6 +111,9 @@ module _ {V : Type 0} {H : Ghosts V} where
       log = f.same.log;
       durable = f.same.durable;
       done = (ap (λ (n : ℕ). n + 1) f.same.redone, left, stands);
+      pages = λ x at.
+          let it : r ≡ x = some_same next at in
+          ap (λ (n : ℕ). redone_on_all (n + 1) r f.later.in_place) f.same.redone ∙ ap (redone_on_all (s.redone + 1) r) f.same.in_place ∙ ap (λ (q : LogRecord). redone_on_all (s.redone + 1) q s.in_place) it;
     }
 
     next_now : slice_get s.log s.redone ≡ Some r → slice_get f.later.log f.later.redone ≡ Some r
@@ -120,7 +127,7 @@ module _ {V : Type 0} {H : Ghosts V} where
         let stands = is.1 in
         let same = f.same.redone in
         let m = passed_is mid is.0 f.later r id image stands.store (next_now next) says (omega (arith, above, same)) in
-        redone_behind mid b is.0 m.0 (record { store = m.1; settled = stands.settled; recoverable = event_kept f.later RedoRecord (after_redo f.later r) stands.recoverable m.0; slots = stands.slots; shows = stands.shows }) refl geometry
+        redone_behind mid b is.0 next m.0 (record { store = m.1; settled = stands.settled; recoverable = event_kept f.later RedoRecord (after_redo f.later r) stands.recoverable m.0; slots = stands.slots; shows = stands.shows }) refl geometry
 
   -- a record that changes no page
   pub redone_without : (front : List ℕ) (disk : ℕ → List ℕ) (heap : Heap V H) (s : RecoveryState) (r : LogRecord) (b : Bool) → Stands front disk heap s → slice_get s.log s.redone ≡ Some r → image_in r.payload ≡ None
@@ -139,12 +146,13 @@ module _ {V : Type 0} {H : Ghosts V} where
         log = refl;
         durable = refl;
         done = (refl, disk, now);
+        pages = λ x at. ap (λ (q : LogRecord). redone_on_all (s.redone + 1) q s.in_place) (some_same next at);
       }
 
   -- an error, behind a fetch or without one
   pub redo_stops : (A : Type 0) (front : List ℕ) (old mid : Heap V H) (s : RecoveryState) (result : Result (Unit {0}) RestartError) (error : RestartError) → Fetches result front old mid s
       → Redoes {A = A} (Err error) front old mid s
-  redo_stops A front old mid s result error f = record { later = f.later; work = f.work; log = f.same.log; durable = f.same.durable; done = tt }
+  redo_stops A front old mid s result error f = record { later = f.later; work = f.work; log = f.same.log; durable = f.same.durable; done = tt; pages = tt }
 
   -- a record that does not fit the frame does not fit behind the records before it
   pub does_not_fit : (front : List ℕ) (old mid : Heap V H) (s : RecoveryState) (r : LogRecord) → (f : Fetches (Ok tt) front old mid s) → (id : Rid) (image : Image) (number n : ℕ) → n ≡ s.redone + 1

@@ -1,5 +1,5 @@
 -- What the devices of a restart stand for between two steps: the log device for a log, and the heap for the pages of a store.
-use Rattle.std.specs.Prelude.{◌≡◌, ◌⊎◌, ◌+◌, ◌-◌, ◌≤◌, ℕ, List, Bool, None, Result, Err, OnOk, length}
+use Rattle.std.specs.Prelude.{◌≡◌, ◌⊎◌, ◌+◌, ◌-◌, ◌≤◌, ℕ, List, Bool, Some, None, Result, Err, OnOk, length, slice_get}
 use Rattle.shore_types.specs.declared.faults.Fault.TheVariants as fault
 use Rattle.shore_types.specs.declared.ids.PageId.{PageId}
 use Rattle.shore_types.specs.declared.layout.Geometry.{Geometry}
@@ -13,6 +13,7 @@ use Rattle.shore_heap.specs.declared.heap.Heap.{Heap}
 use Rattle.shore_heap.specs.Contents.{unclaimed}
 use Rattle.shore_heap.specs.Heaps as heaps
 use Rattle.shore_heap.specs.Heaps.{Shows}
+use Rattle.shore_recovery.specs.Pages.{redone_on_all}
 use Rattle.shore_recovery.specs.Recovery.{AppendRecord, IsRecoverable, LeadsTo, RecoveryEvent, RecoveryState, after_append, after_force}
 use Rattle.shore_model.specs.declared.log_records.LogRecord.{LogRecord}
 use Rattle.shore_recovery.specs.Restarts.{RestartsTo}
@@ -102,6 +103,7 @@ module _ {V : Type 0} {H : Ghosts V} where
     pub log : later.log ≡ s.log
     pub durable : later.durable ≡ s.durable
     pub done : OnOk result ((later.redone ≡ s.redone + 1) × (left : ℕ → List ℕ) × Stands front left new later)
+    pub pages : OnOk result ((r : LogRecord) → slice_get s.log s.redone ≡ Some r → later.in_place ≡ redone_on_all (s.redone + 1) r s.in_place)
 
   -- the moment of a heap, beside a log device with such calls
   abbrev pub moment_of : History → Heap V H → RecoveryState → Moment
@@ -116,11 +118,12 @@ module _ {V : Type 0} {H : Ghosts V} where
     pub durable : later.durable ≡ s.durable
     pub done : OnOk result ((later.redone ≡ length s.log) × (left : ℕ → List ℕ) × Stands front left new later)
 
-  -- the volume is of the same layout and length, and as honest
+  -- the volume is of the same layout and length, and as honest, and there are as many frames
   pub record SameVolume (old new : Heap V H) : Type 0 where
     pub geometry : heaps.geometry_of new ≡ heaps.geometry_of old
     pub honest : heaps.honesty_of new ≡ heaps.honesty_of old
     pub size : size (heaps.history_of new) ≡ size (heaps.history_of old)
+    pub frames : heaps.limit_of new ≡ heaps.limit_of old
 
   -- what a step on both devices has at first: the log device at rest, and a heap with all records done
   pub record IsReady {L : Type 0} {G : Ghosts L} (log_front front : List ℕ) (disk : ℕ → List ℕ) (log : LogDev L G) (heap : Heap V H) (s : RecoveryState) : Type 0 where

@@ -18,6 +18,7 @@ ghost use Rattle.shore_restart.specs.declared.errors.RestartError.{RestartError}
 ghost use Rattle.shore_restart.specs.declared.errors.RestartError.TheVariants as RestartError;
 ghost use Rattle.shore_restart.specs.Errors.{log_answer, volume_answer};
 ghost use Rattle.shore_restart.specs.Held.{IsHeld, IsPageFault};
+ghost use Rattle.shore_restart.specs.Missing.{missing_on};
 ghost use Rattle.shore_restart.specs.Quiet.{IsQuiet, StaysQuiet};
 ghost use Rattle.shore_restart.specs.Room.{IsRoomBehind};
 ghost use Rattle.shore_restart.specs.Standing.{IsFound, Moves, SameLog, SameVolume, log_faults, stream_bytes_of};
@@ -70,6 +71,8 @@ pub fn recover<L: Disk, V: Disk>(
         × IsRoomBehind (records_of_log log.new) (stream_bytes_of log.new) (room_in left.txns)) }
     ensures report { IfOk result (λ left. (left.report.read ≡ length (records_of_log log.old)) × (left.report.redone ≤ left.report.read)
         × ((tables : Tables) × AreTables (records_of_log log.old) tables × (left.report.undone ≡ length tables.txns))) }
+    ensures missing { (log_front front : List ℕ) (disk : ℕ → List ℕ) (s : RecoveryState) → IsFound log_front front disk log.old heap.old s
+        → IfOk result (λ left. left.report.redone ≡ missing_on s.log s.in_place) }
     ensures bad { (log_front front : List ℕ) (disk : ℕ → List ℕ) (s : RecoveryState) → IsFound log_front front disk log.old heap.old s
         → IfErr result (λ error. (n : ℕ) → error ≡ RestartError.BadRecord n → IsBadRecord (geometry_of heap.old) (records_of_log log.old) n) }
     ensures no_room { IfErr result (λ error. error ≡ RestartError.NoRoom → LacksRoom (records_of_log log.old) (stream_bytes_of log.old)) }

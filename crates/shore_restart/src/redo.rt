@@ -16,6 +16,7 @@ ghost use Rattle.shore_restart.specs.declared.errors.RestartError.TheVariants as
 ghost use Rattle.shore_restart.specs.Errors.{DoesNotFit, volume_answer};
 ghost use Rattle.shore_stands.specs.Moments.{GivesPrefix};
 ghost use Rattle.shore_restart.specs.Held.{IsHeld, WorksHeld};
+ghost use Rattle.shore_restart.specs.Missing.{is_missing, missing_on};
 ghost use Rattle.shore_restart.specs.Standing.{Redoes, RedoesAll, SameVolume, Stands};
 
 use crate::errors::RestartError;
@@ -36,6 +37,8 @@ pub fn redo<V: Disk>(
     requires meant { AreMeant (geometry_of heap.old) log.now }
     ensures redone { (front : List ℕ) (disk : ℕ → List ℕ) (s : RecoveryState) → Stands front disk heap.old s → s.log ≡ log.now → s.durable ≡ length s.log → s.redone ≡ 0
         → (h : History) (log_front : List ℕ) → ((c : List ℕ) → may_leave h c → GivesPrefix log_front s c) → RedoesAll result h log_front front heap.old heap.new s }
+    ensures missing { (front : List ℕ) (disk : ℕ → List ℕ) (s : RecoveryState) → Stands front disk heap.old s → s.log ≡ log.now → s.durable ≡ length s.log → s.redone ≡ 0
+        → IfOk result (λ redone. redone ≡ missing_on log.now s.in_place) }
     ensures bad { (front : List ℕ) (disk : ℕ → List ℕ) (s : RecoveryState) → Stands front disk heap.old s → s.log ≡ log.now → s.durable ≡ length s.log → s.redone ≡ 0
         → IfErr result (λ error. (n : ℕ) → error ≡ RestartError.BadRecord n → DoesNotFit log.now n) }
     ensures device { (front : List ℕ) (disk : ℕ → List ℕ) (s : RecoveryState) → Stands front disk heap.old s → s.log ≡ log.now → s.durable ≡ length s.log → s.redone ≡ 0
@@ -68,6 +71,8 @@ fn redo_record<V: Disk>(
     requires there { (id : Rid) → id_in logged.now.payload ≡ Some id → HasSlot (geometry_of heap.old) id }
     ensures redone { (front : List ℕ) (disk : ℕ → List ℕ) (s : RecoveryState) → Stands front disk heap.old s → slice_get s.log s.redone ≡ Some logged.now
         → number ≡ s.redone + 1 → last ≡ length s.log → s.durable ≡ length s.log → Redoes result front heap.old heap.new s }
+    ensures missing { (front : List ℕ) (disk : ℕ → List ℕ) (s : RecoveryState) → Stands front disk heap.old s → slice_get s.log s.redone ≡ Some logged.now
+        → number ≡ s.redone + 1 → last ≡ length s.log → s.durable ≡ length s.log → IfOk result (λ did. did ≡ is_missing s.in_place number (image_in logged.now.payload)) }
     ensures bad { (front : List ℕ) (disk : ℕ → List ℕ) (s : RecoveryState) → Stands front disk heap.old s → slice_get s.log s.redone ≡ Some logged.now
         → number ≡ s.redone + 1 → last ≡ length s.log → s.durable ≡ length s.log → IfErr result (λ error. (n : ℕ) → error ≡ RestartError.BadRecord n → DoesNotFit s.log n) }
     ensures device { (front : List ℕ) (disk : ℕ → List ℕ) (s : RecoveryState) → Stands front disk heap.old s → last ≡ length s.log → s.durable ≡ length s.log
@@ -98,6 +103,8 @@ fn redo_image<V: Disk>(
     requires { HasPage (geometry_of heap.old) id.page }
     ensures redone { (front : List ℕ) (disk : ℕ → List ℕ) (s : RecoveryState) (r : LogRecord) → Stands front disk heap.old s → slice_get s.log s.redone ≡ Some r
         → image_in r.payload ≡ Some (id, image.now) → number ≡ s.redone + 1 → last ≡ length s.log → s.durable ≡ length s.log → Redoes result front heap.old heap.new s }
+    ensures missing { (front : List ℕ) (disk : ℕ → List ℕ) (s : RecoveryState) → Stands front disk heap.old s → last ≡ length s.log → s.durable ≡ length s.log
+        → IfOk result (λ did. did ≡ is_missing s.in_place number (Some (id, image.now))) }
     ensures bad { (front : List ℕ) (disk : ℕ → List ℕ) (s : RecoveryState) (r : LogRecord) → Stands front disk heap.old s → slice_get s.log s.redone ≡ Some r
         → image_in r.payload ≡ Some (id, image.now) → number ≡ s.redone + 1 → last ≡ length s.log → s.durable ≡ length s.log
         → IfErr result (λ error. (n : ℕ) → error ≡ RestartError.BadRecord n → DoesNotFit s.log n) }

@@ -13,6 +13,7 @@ ghost use Rattle.shore_restart.specs.declared.errors.RestartError.{RestartError}
 ghost use Rattle.shore_restart.specs.declared.errors.RestartError.TheVariants as RestartError;
 ghost use Rattle.shore_restart.specs.Held.{IsHeld, IsPageFault};
 ghost use Rattle.shore_restart.specs.Opened.{Restarts, answer_of, heap_left, log_fault_left, volume_fault_left};
+ghost use Rattle.shore_restart.specs.Missing.{missing_on};
 ghost use Rattle.shore_restart.specs.Quiet.{IsQuiet, StaysQuiet};
 ghost use Rattle.shore_restart.specs.Standing.{IsFound, SameLog, SameVolume, log_faults, stream_bytes_of};
 ghost use Rattle.shore_restart.specs.Turns.{IsBadRecord, LacksRoom};
@@ -40,6 +41,9 @@ pub fn restart<L: Disk, V: Disk>(
         → Restarts result log_front front log.old log.new heap s }
     ensures report { IfOk result (λ done. (done.1.read ≡ length (records_of_log log.old)) × (done.1.redone ≤ done.1.read)
         × ((tables : Tables) × AreTables (records_of_log log.old) tables × (done.1.undone ≡ length tables.txns))) }
+    // .. and of a store that was found, how many of the log's records its pages did not have.
+    ensures missing { (log_front front : List ℕ) (disk : ℕ → List ℕ) (s : RecoveryState) → IsFound log_front front disk log.old heap s
+        → IfOk result (λ done. done.1.redone ≡ missing_on s.log s.in_place) }
 
     // A refusal names a record that does not mean what it has to or does not fit, or there is no room, or a device has failed.
     ensures bad { (log_front front : List ℕ) (disk : ℕ → List ℕ) (s : RecoveryState) → IsFound log_front front disk log.old heap s

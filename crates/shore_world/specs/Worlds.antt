@@ -17,7 +17,7 @@ use Rattle.shore_log.specs.Frames.{GivesBehind, IsLongest}
 use Rattle.shore_log.specs.Settled.{records_of_log, IsSettled, IsStaged}
 use Rattle.shore_format.specs.Causes.{HasCauseOfPair}
 use Rattle.shore_pool.specs.Pools.{Holds}
-use Rattle.shore_heap.specs.Heaps.{WroteBack, pool_of}
+use Rattle.shore_heap.specs.Heaps.{WroteBack, limit_of, pool_of}
 use Rattle.shore_recovery.specs.Pages.{LoggedPages}
 use Rattle.shore_recovery.specs.Recovery.{CrashMayLeave, RecoveryEvent, RecoveryState}
 use Rattle.shore_lives.specs.ManagerSteps.{WorksTo}
@@ -50,6 +50,10 @@ module _ {L V : Type 0} {G : Ghosts L} {H : Ghosts V} where
 
   abbrev pub geometry_in : World L V G H → Geometry
   geometry_in w = cores.geometry_of w.core
+
+  -- how many frames it has for pages
+  abbrev pub frames_in : World L V G H → ℕ
+  frames_in w = limit_of (cores.heap_of w.core)
 
   -- what the restart did that opened it
   abbrev pub report_in : World L V G H → Report

@@ -38,10 +38,11 @@ pub struct World<L: Disk, V: Disk> {
 }
 
 impl<L: Disk, V: Disk> World<L, V> {
-    ghost use Rattle.shore_world.specs.Worlds.{IsInState, IsOverStore, Moves, HasForced, HasStaged, HasFailedToRead, IsLike, Steps, Runs, HasForceRoom, IsIdle, durable_in, failed_in, geometry_in, list_in, report_in, fault_in, log_in, volume_in};
+    ghost use Rattle.shore_world.specs.Worlds.{IsInState, IsOverStore, Moves, HasForced, HasStaged, HasFailedToRead, IsLike, Steps, Runs, HasForceRoom, IsIdle, durable_in, failed_in, frames_in, geometry_in, list_in, report_in, fault_in, log_in, volume_in};
     ghost use Rattle.shore_world.specs.Opens.{IsReportOf, OpensAlong};
     ghost use Rattle.shore_log.specs.Frames.{Gives};
     ghost use Rattle.shore_world.specs.Refusals.{RefusesOpen};
+    ghost use Rattle.shore_restart.specs.Missing.{missing_on};
     ghost use Rattle.shore_stands.specs.StandsFor.{StandsFor};
     ghost use Rattle.shore_format.specs.Causes.{HasCauseOfPair};
     ghost use Rattle.shore_format.specs.Pairs.{HaveFronts};
@@ -84,6 +85,11 @@ impl<L: Disk, V: Disk> World<L, V> {
 
         // It tells what its restart did with the log that the frames give.
         ensures report { IsTrue (L.is_honest log) → (rs : List LogRecord) → Gives rs (seen (L.history log)) → IfOk result (λ w. IsReportOf rs (report_in w)) }
+        // .. of which so many were missing on the pages.
+        ensures redone { IsTrue (L.is_honest log) → IsTrue (V.is_honest volume) → (g : Geometry) (rs : List LogRecord) (pages : LoggedPages) (log_image volume_image : List ℕ)
+            → Stands (L.history log) log_image → Stands (V.history volume) volume_image
+            → StandsFor g (size (L.history log)) (size (V.history volume)) rs pages log_image volume_image → IfOk result (λ w. (report_in w).redone ≡ missing_on rs pages) }
+        ensures frames { IfOk result (λ w. frames_in w ≡ frames) }
 
         // What is opened was in order: the frames give the log, and the volume shows pages.
         ensures in_order { IsTrue (L.is_honest log) → IsTrue (V.is_honest volume) → IfOk result (λ w. ((rs : List LogRecord) × Gives rs (seen (L.history log)))

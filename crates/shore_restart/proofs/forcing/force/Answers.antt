@@ -1,5 +1,4 @@
 use Rattle.std.proofs.Common.{arith, inr, ◌-◌, ℕ, List, Bool, Result, refl, sym, ap, subst, ◌∙◌}
-use Rattle.shore_dwrite.proofs.Moves.{if_err}
 use Rattle.shore_types.specs.declared.layout.TheConstants.{LOG_FRONT_BYTES}
 use Rattle.shore_model.specs.declared.log_records.LogRecord.{LogRecord}
 use Rattle.shore_log.specs.Settled.{records_of_log, waiting}

@@ -8,6 +8,7 @@ use Rattle.shore_analysis.specs.Meant.{AreMeant}
 use Rattle.shore_analysis.specs.Tables.{AreTables}
 use Rattle.shore_restart.specs.declared.errors.RestartError.TheVariants.{Memory, NoRoom}
 use Rattle.shore_restart.specs.Errors.{DoesNotFit}
+use Rattle.shore_restart.specs.Missing.{missing_on}
 use Rattle.shore_restart.specs.Room.{IsRoomBehind}
 use Rattle.shore_restart.specs.Standing.{log_history, stream_bytes_of}
 use Rattle.shore_restart.proofs.Found.{come_done, come_redone, come_refused, found_covered, nothing_moved, redo_stopped}
@@ -16,7 +17,7 @@ use Rattle.shore_restart.proofs.Undoing.{come_stop}
 use Rattle.shore_restart.proofs.HeldPages.{held_behind}
 use Rattle.shore_restart.specs.Held.{IsHeld, WorksHeld}
 use Rattle.shore_restart.proofs.BadNumbers.{one_number, unmeant_within}
-use Rattle.shore_restart.proofs.QuietLogs.{quiet_beside, quiet_err, quiet_of, quiet_other, quiet_then}
+use Rattle.shore_restart.proofs.QuietLogs.{quiet_beside, quiet_err, quiet_of, quiet_other}
 use Rattle.shore_restart.proofs.recovering.recover.Goals as goal
 
 -- ---- before a device is called
@@ -127,6 +128,11 @@ returns-clause-moves g c log_front front disk s found =
     let come = come_redone log_front front disk log heap s found c.redo.new.heap c.in_ok-redone.redone redoes c.redo.ensures.volume.geometry in
     come_done log_front front log heap s log c.undo_all.new.log c.redo.new.heap c.undo_all.new.heap come _ c.in_ok-undo_all.field-0 _ (c.in_ok-undo_all.ensures.moves log_front front come.1.disk come.0 come.1.ready)
     c.undo_all.ensures.volume.geometry
+
+pub returns-clause-missing : goal.returns-clause-missing
+returns-clause-missing g c log_front front disk s found =
+    let log_is = found.at_rest.records ∙ sym c.records-4.ensures.log in
+    c.in_ok-redone.ensures.missing front disk s found.stands log_is found.durable found.redone ∙ ap (λ (l : List LogRecord). missing_on l s.in_place) (sym log_is)
 
 -- ---- whatever the pages hold
 

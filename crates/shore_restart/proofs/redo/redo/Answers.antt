@@ -1,5 +1,6 @@
-use Rattle.std.proofs.Common.{◌≡◌, ◌<◌, ℕ, List, Bool, Some, Result, refl, sym, ap, subst, ◌∙◌, length, arith}
-use Rattle.std.specs.Prelude.{slice_get}
+use Rattle.std.proofs.Common.{◌≡◌, ◌<◌, ◌+◌, ℕ, List, Bool, Some, Result, refl, sym, ap, subst, ◌∙◌, length, arith}
+use Rattle.std.specs.Prelude.{if◌then◌else◌, slice_get}
+use Rattle.std.proofs.lemmas.List.{at_drop_all}
 use Rattle.std.proofs.lemmas.Option.{slice_get_read}
 use Rattle.shore_types.specs.Layout.{HasSlot}
 use Rattle.shore_types.specs.declared.layout.Geometry.{Geometry}
@@ -8,9 +9,10 @@ use Rattle.shore_model.specs.declared.log_records.LogRecord.{LogRecord}
 use Rattle.shore_heap.specs.Heaps.{faults_of, geometry_of}
 use Rattle.shore_restart.specs.declared.errors.RestartError.{RestartError}
 use Rattle.shore_restart.specs.Errors.{DoesNotFit}
+use Rattle.shore_restart.specs.Missing.{missing_behind, missing_on}
 use Rattle.shore_restart.specs.Standing.{RedoesAll}
 use Rattle.shore_restart.proofs.PageErrors.{err_with, passed_cause}
-use Rattle.shore_restart.proofs.RedoAll.{all_done, all_durable, long, next_is, none_so_far, now_next, one_more, same_again, stopped}
+use Rattle.shore_restart.proofs.RedoAll.{Now, all_done, all_durable, long, next_is, none_so_far, now_next, one_more, same_again, stopped}
 use Rattle.shore_restart.proofs.Redoing.{meant_there}
 use Rattle.shore_restart.proofs.HeldPages.{held_behind, held_err, held_here, held_then}
 use Rattle.shore_restart.proofs.redo.redo.Goals as goal
@@ -19,9 +21,9 @@ use Rattle.shore_restart.proofs.redo.redo.Goals.{then-branch, else-branch}
 pub loop-index-init : goal.loop-index-init
 loop-index-init g c = record {
   so_far = λ front disk s stands log durable none h log_front covered. none_so_far h log_front front disk c.args.heap.now s stands none covered;
-  now = λ front disk s stands log durable none. record { later = s; log_is = refl; durable = refl; redone = none; left = disk; stands = stands };
+  now = λ front disk s stands log durable none. record { later = s; log_is = refl; durable = refl; redone = none; left = disk; stands = stands; counted = omega arith };
   any_pages = λ front disk held. held_here front disk c.args.heap.now (length c.args.log.now) (length c.args.log.now) (omega arith) held;
-  volume = record { geometry = refl; honest = refl; size = refl };
+  volume = record { geometry = refl; honest = refl; size = refl; frames = refl };
   faults = refl;
   most = omega arith;
 }
@@ -59,9 +61,23 @@ loop-index-preserved g c =
           let heap = c.loop-index.heap in
           let now = invariant.now front disk s stands log durable none in
           let done = now.redone in
-          now_next front heap c.redo_record.new.heap s i c.in_ok-redo_record.field-0 now
-          (c.in_ok-redo_record.ensures.redone front now.left now.later now.stands (next_is front heap s i rs r now log durable at) (omega (arith, done)) (long front heap s i rs r now log durable at)
-          (all_durable front heap s i rs r now log durable at));
+          let next = next_is front heap s i c.loop-index.redone rs r now log durable at in
+          let number : i + 1 ≡ now.later.redone + 1 = omega (arith, done) in
+          let last = long front heap s i c.loop-index.redone rs r now log durable at in
+          let all = all_durable front heap s i c.loop-index.redone rs r now log durable at in
+          let did = c.in_ok-redo_record.ensures.missing front now.left now.later now.stands next number last all in
+          let one = now_next front heap c.redo_record.new.heap s i c.loop-index.redone c.in_ok-redo_record.field-0 now r (ap (λ (l : List LogRecord). slice_get l i) log ∙ at) did
+          (c.in_ok-redo_record.ensures.redone front now.left now.later now.stands next number last all) in
+          elim c.if-branch.branch [
+            | then-branch w ↦
+                let more = w.redone-is in
+                let counted : 1 + c.loop-index.redone ≡ c.if-branch.redone = omega (arith, more) in
+                subst (Now front c.redo_record.new.heap s (i + 1)) (ap (λ (b : Bool). (if b then 1 else 0) + c.loop-index.redone) w.if-branch.true ∙ counted) one
+            | else-branch w ↦
+                let same = w.redone-is in
+                let counted : 0 + c.loop-index.redone ≡ c.if-branch.redone = omega (arith, same) in
+                subst (Now front c.redo_record.new.heap s (i + 1)) (ap (λ (b : Bool). (if b then 1 else 0) + c.loop-index.redone) w.if-branch.false ∙ counted) one
+          ];
       any_pages = λ front disk held.
           let s = invariant.any_pages front disk held in
           held_then front disk c.args.heap.now c.loop-index.heap (length rs) (length rs) s c.redo_record.new.heap (length rs) invariant.volume.geometry
@@ -105,8 +121,8 @@ returns-in_err-redo_record-clause-bad g c front disk s stands log durable none =
     let done = now.redone in
     if_err c.from_residual.result c.from_residual.ensures.1 (λ error same n is.
     subst (λ (l : List LogRecord). DoesNotFit l n) (now.log_is ∙ log)
-    (c.in_err-redo_record.ensures.bad front now.left now.later now.stands (next_is front heap s i rs r now log durable at) (omega (arith, done)) (long front heap s i rs r now log durable at)
-    (all_durable front heap s i rs r now log durable at) n (sym same ∙ is)))
+    (c.in_err-redo_record.ensures.bad front now.left now.later now.stands (next_is front heap s i c.loop-index.redone rs r now log durable at) (omega (arith, done)) (long front heap s i c.loop-index.redone rs r now log durable at)
+    (all_durable front heap s i c.loop-index.redone rs r now log durable at) n (sym same ∙ is)))
 
 pub returns-in_err-redo_record-clause-device : goal.returns-in_err-redo_record-clause-device
 returns-in_err-redo_record-clause-device g c front disk s stands log durable none =
@@ -118,7 +134,7 @@ returns-in_err-redo_record-clause-device g c front disk s stands log durable non
     let heap = c.loop-index.heap in
     let now = c.loop-index.invariant.now front disk s stands log durable none in
     if_err c.from_residual.result c.from_residual.ensures.1 (λ error same f is.
-    c.in_err-redo_record.ensures.device front now.left now.later now.stands (long front heap s i rs r now log durable at) (all_durable front heap s i rs r now log durable at) f (sym same ∙ is))
+    c.in_err-redo_record.ensures.device front now.left now.later now.stands (long front heap s i c.loop-index.redone rs r now log durable at) (all_durable front heap s i c.loop-index.redone rs r now log durable at) f (sym same ∙ is))
 
 pub returns-in_err-redo_record-clause-cause : goal.returns-in_err-redo_record-clause-cause
 returns-in_err-redo_record-clause-cause g c =
@@ -160,3 +176,11 @@ returns-in_err-redo_record-clause-bad_number g c =
     if_err c.from_residual.result c.from_residual.ensures.1 (λ error same n is.
     let number = c.in_err-redo_record.ensures.bad_number n (sym same ∙ is) in
     (omega (arith, number), omega (arith, number, within)))
+
+pub returns-clause-missing : goal.returns-clause-missing
+returns-clause-missing g c front disk s stands log durable none =
+    let now = c.loop-index.invariant.now front disk s stands log durable none in
+    let rest = at_drop_all (λ (l : List LogRecord). missing_behind c.loop-index.index l now.later.in_place) s.log c.loop-index.index (omega (arith, ap length log)) in
+    let counted = now.counted in
+    let all : c.loop-index.redone ≡ missing_on s.log s.in_place = omega (arith, rest, counted) in
+    all ∙ ap (λ (l : List LogRecord). missing_on l s.in_place) log

@@ -12,7 +12,7 @@ abbrev pub invariant-loop-index : goal.invariant-loop-index
 invariant-loop-index g l = record {
   so_far : (front : List ℕ) (disk : ℕ → List ℕ) (s : RecoveryState) → Stands front disk l.initial.heap s → s.log ≡ l.log → s.durable ≡ length s.log → s.redone ≡ 0
       → (h : History) (log_front : List ℕ) → ((c : List ℕ) → may_leave h c → GivesPrefix log_front s c) → SoFar h log_front front l.initial.heap l.heap s l.index;
-  now : (front : List ℕ) (disk : ℕ → List ℕ) (s : RecoveryState) → Stands front disk l.initial.heap s → s.log ≡ l.log → s.durable ≡ length s.log → s.redone ≡ 0 → Now front l.heap s l.index;
+  now : (front : List ℕ) (disk : ℕ → List ℕ) (s : RecoveryState) → Stands front disk l.initial.heap s → s.log ≡ l.log → s.durable ≡ length s.log → s.redone ≡ 0 → Now front l.heap s l.index l.redone;
   any_pages : (front : List ℕ) (disk : ℕ → List ℕ) → IsHeld front disk l.initial.heap (length l.log) → StaysHeld front disk l.initial.heap l.heap (length l.log) (length l.log);
   volume : SameVolume l.initial.heap l.heap;
   faults : faults_of l.heap ≡ faults_of l.initial.heap;

@@ -1,11 +1,13 @@
 use Rattle.std.proofs.Common.{◌≡◌, ◌≤◌, ◌<◌, ℕ, List, Bool, Some, Result, inl, inr, true, false, sym, ap, subst, ◌∙◌, arith}
 use Rattle.std.specs.Prelude.{IsSomeAnd, slice_get}
+use Rattle.std.proofs.lemmas.Bool.{le-ltb, lt-ltb}
 use Rattle.shore_page.specs.Room.{Fits}
 use Rattle.shore_heap.specs.Heaps.{frame_of}
 use Rattle.shore_dwrite.proofs.Moves.{if_err}
 use Rattle.shore_model.specs.declared.log_records.LogRecord.{LogRecord}
 use Rattle.shore_types.specs.Layout.{HasPage}
 use Rattle.shore_types.specs.declared.layout.Geometry.{Geometry}
+use Rattle.shore_recovery.specs.Pages.{LoggedPages}
 use Rattle.shore_restart.specs.declared.errors.RestartError.{RestartError}
 use Rattle.shore_restart.specs.declared.errors.RestartError.TheVariants.{BadRecord}
 use Rattle.shore_restart.specs.Standing.{Redoes}
@@ -77,7 +79,7 @@ returns-clause-redone g c front disk s r stands next says number last durable =
     let redone = f.same.redone in
     let next_now : slice_get f.later.log f.later.redone ≡ Some r = ap (λ (l : List LogRecord). slice_get l f.later.redone) f.same.log ∙ ap (slice_get s.log) f.same.redone ∙ next in
     let m = c.put.ensures.redone front is.0 f.later r is.1 next_now says (omega (arith, number, redone)) (omega (arith, lt, page, number, redone)) in
-    redone_behind front old mid s r f c.put.new.heap true is.0 m.0 m.1 c.put.ensures.history (c.put.ensures.volume.geometry ∙ c.fetch.ensures.volume.geometry)
+    redone_behind front old mid s r f c.put.new.heap true is.0 next m.0 m.1 c.put.ensures.history (c.put.ensures.volume.geometry ∙ c.fetch.ensures.volume.geometry)
 
 pub returns-in_err-fetch-clause-any_pages : goal.returns-in_err-fetch-clause-any_pages
 returns-in_err-fetch-clause-any_pages g c front disk held low =
@@ -105,3 +107,31 @@ returns-clause-any_pages g c front disk held low =
 pub returns-in_err-fetch-clause-bad_number : goal.returns-in_err-fetch-clause-bad_number
 returns-in_err-fetch-clause-bad_number g c =
     if_err c.from_residual.result c.from_residual.ensures.1 (λ error same n is. absurd (c.in_err-fetch.ensures.others.1 n (sym same ∙ is)))
+
+pub returns-then-found-number-clause-missing : goal.returns-then-found-number-clause-missing
+returns-then-found-number-clause-missing g c front disk s stands last durable =
+    let old = c.args.heap.now in
+    let mid = c.fetch.new.heap in
+    let f = c.in_ok-fetch.ensures.fetches front disk s stands (omega (arith, last, durable)) in
+    let is = stood front old mid s f in
+    let there = subst (λ (g : Geometry). HasPage g c.args.id.page) (sym c.fetch.ensures.volume.geometry) c.requires in
+    let page = number_is front is.0 mid f.later c.args.id.page c.number-found.result is.1 there c.number-found.ensures in
+    let before : (f.later.in_place c.args.id.page).number ≡ (s.in_place c.args.id.page).number = ap (λ (pages : LoggedPages). (pages c.args.id.page).number) f.same.in_place in
+    let found_is : c.found.inside.0 ≡ c.number-found.result = c.found.view_is in
+    let number_is_this : c.number.inside.0 ≡ c.args.number = c.number.view_is in
+    let ge : c.args.number ≤ c.number-found.result = omega (arith, c.if-found-number.true, found_is, number_is_this) in
+    sym (le-ltb (s.in_place c.args.id.page).number c.args.number (omega (arith, ge, page, before)))
+
+pub returns-clause-missing : goal.returns-clause-missing
+returns-clause-missing g c front disk s stands last durable =
+    let old = c.args.heap.now in
+    let mid = c.fetch.new.heap in
+    let f = c.in_ok-fetch.ensures.fetches front disk s stands (omega (arith, last, durable)) in
+    let is = stood front old mid s f in
+    let there = subst (λ (g : Geometry). HasPage g c.args.id.page) (sym c.fetch.ensures.volume.geometry) c.requires in
+    let page = number_is front is.0 mid f.later c.args.id.page c.number-found.result is.1 there c.number-found.ensures in
+    let before : (f.later.in_place c.args.id.page).number ≡ (s.in_place c.args.id.page).number = ap (λ (pages : LoggedPages). (pages c.args.id.page).number) f.same.in_place in
+    let found_is : c.found.inside.0 ≡ c.number-found.result = c.found.view_is in
+    let number_is_this : c.number.inside.0 ≡ c.args.number = c.number.view_is in
+    let lt : c.number-found.result < c.args.number = omega (arith, c.if-found-number.false, found_is, number_is_this) in
+    sym (lt-ltb (s.in_place c.args.id.page).number c.args.number (omega (arith, lt, page, before)))

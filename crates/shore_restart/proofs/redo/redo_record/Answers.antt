@@ -1,5 +1,9 @@
-use Rattle.std.proofs.Common.{false, arith}
+use Rattle.std.proofs.Common.{◌≡◌, Option, false, sym, ap, subst, arith}
+use Rattle.std.specs.Prelude.{IfOk}
+use Rattle.shore_types.specs.Images.{Image}
+use Rattle.shore_types.specs.declared.ids.Rid.{Rid}
 use Rattle.shore_restart.proofs.Redoing.{has_image, no_image, redone_without}
+use Rattle.shore_restart.specs.Missing.{is_missing}
 use Rattle.shore_restart.proofs.HeldPages.{held_here}
 use Rattle.shore_restart.proofs.redo.redo_record.Goals as goal
 
@@ -20,3 +24,12 @@ returns-in_default-clause-any_pages g c front disk held low = record { named = t
 
 pub returns-in-Change-clause-any_pages : goal.returns-in-Change-clause-any_pages
 returns-in-Change-clause-any_pages g c front disk held low = c.redo_image.ensures.any_pages front disk held low
+
+pub returns-in_default-clause-missing : goal.returns-in_default-clause-missing
+returns-in_default-clause-missing g c front disk s stands next number last durable =
+    sym (ap (is_missing s.in_place c.args.number) (no_image c.args.logged.now.payload c.in_default.not-Change c.in_default.not-Compensation))
+
+pub returns-in-Change-clause-missing : goal.returns-in-Change-clause-missing
+returns-in-Change-clause-missing g c front disk s stands next number last durable =
+    let image = has_image c.args.logged.now.payload c.in-Change.id c.in-Change.after c.in-Change.is in
+    subst (λ (o : Option (Rid × Image)). IfOk c.redo_image.result (λ did. did ≡ is_missing s.in_place c.args.number o)) (sym image) (c.redo_image.ensures.missing front disk s stands last durable)

@@ -1,7 +1,6 @@
-use Rattle.std.proofs.Common.{Err, arith, refl, List, sym, ap, subst, ◌∙◌, length}
+use Rattle.std.proofs.Common.{Err, arith, refl, sym, ap, subst, ◌∙◌, length}
 use Rattle.shore_heap.specs.declared.heap.Heap.{Heap}
 use Rattle.shore_heap.specs.Heaps.{geometry_of}
-use Rattle.shore_model.specs.declared.log_records.LogRecord.{LogRecord}
 use Rattle.shore_model.specs.Logs.{Lawful}
 use Rattle.shore_recovery.specs.Undo.{HasNoLosers}
 use Rattle.shore_log.specs.Settled.{records_of_log}

@@ -1,5 +1,4 @@
 use Rattle.std.proofs.Common.{◌≡◌, ℕ, inl, inr, Result, false, true, refl, sym, ap, subst, ◌∙◌, length, arith}
-use Rattle.shore_dwrite.proofs.Moves.{if_err}
 use Rattle.shore_log.specs.Settled.{records_of_log}
 use Rattle.shore_heap.specs.Heaps.{geometry_of, history_of}
 use Rattle.shore_recovery.specs.Recovery.{after_force}

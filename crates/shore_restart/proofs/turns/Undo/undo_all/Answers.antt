@@ -27,7 +27,7 @@ loop-init g c = record {
   come = λ log_front front disk s ready. (s, came_here log_front front disk c.args.log.now c.args.heap.now s ready);
   quiet = λ log_front quiet. (quiet, omega arith);
   any_pages = λ front disk held. held_here front disk c.args.heap.now (length (records_of_log c.args.log.now)) (length (records_of_log c.args.log.now)) (omega arith) held;
-  volume = record { geometry = refl; honest = refl; size = refl };
+  volume = record { geometry = refl; honest = refl; size = refl; frames = refl };
   log = record { honest = refl; size = refl };
   volume_faults = refl;
   log_faults = refl;

@@ -200,6 +200,35 @@ returns-in-Ok-restart-clause-report g c of_log rs gives =
       undone = told.2.2;
     }
 
+pub returns-in-Ok-restart-clause-redone : goal.returns-in-Ok-restart-clause-redone
+returns-in-Ok-restart-clause-redone g c of_log of_volume geometry rs pages log_image volume_image log_stands volume_stands stood =
+    let log = g.L.Disk.history c.args.log in
+    let volume = g.V.Disk.history c.args.volume in
+    let log_read = log_stands.read in
+    let volume_read = volume_stands.read in
+    let log_later = subst IsTrue (sym c.read_fronts.ensures.honest.0) of_log in
+    let later = subst IsTrue (sym c.read_fronts.ensures.honest.1) of_volume in
+    let log_synced_is = c.in-Ok.ensures.log_synced of_log in
+    let volume_synced_is = c.in-Ok.ensures.volume_synced of_volume in
+    let fronts = have_fronts geometry (size log) (size volume) rs pages log_image volume_image stood log volume refl refl log_read volume_read in
+    let at : c.in-Ok.fronts.of_pages ≡ geometry = c.in-Ok.ensures.limits.1 ∙ c.in-Ok.ensures.only of_log of_volume geometry fronts in
+    let log_held = still_stands log (g.L.Disk.history c.read_fronts.new.log) log_image (inr log_synced_is) log_stands in
+    let held = still_stands volume (g.V.Disk.history c.read_fronts.new.volume) volume_image (inr volume_synced_is) volume_stands in
+    let dev = c.in-Ok-open.log in
+    let heap = c.in-Ok-open_volume.heap in
+    let none = c.in-Ok-open.ensures.none_waits in
+    let list : records_of_log dev ≡ rs = c.in-Ok-open.ensures.only log_later rs (subst (Gives rs) (sym log_held.read) stood.log.log) in
+    let shows = c.in-Ok-open_volume.ensures.shows later volume_image (texts geometry (size log) (size volume) rs pages log_image volume_image stood) (λ p. (pages p).number) (told_images rs pages) held
+    (shown_at geometry (size log) (size volume) rs pages log_image volume_image stood c.in-Ok.fronts.of_pages at)
+    (texts_at geometry (size log) (size volume) rs pages log_image volume_image stood c.in-Ok.fronts.of_pages at) in
+    let heap_at : heaps.geometry_of heap ≡ geometry = c.in-Ok-open_volume.ensures.geometry ∙ at in
+    let is = found geometry (size log) (size volume) rs pages log_image volume_image stood dev heap (c.in-Ok-open.ensures.settled log_later log_image log_held) none.0 none.1 list heap_at
+    c.in-Ok-open_volume.ensures.none shows in
+    c.in-Ok-restart.ensures.missing (take 4096 log_image) (take 4096 volume_image) (texts geometry (size log) (size volume) rs pages log_image volume_image stood) (found_state rs pages) is
+
+pub returns-in-Ok-restart-clause-frames : goal.returns-in-Ok-restart-clause-frames
+returns-in-Ok-restart-clause-frames g c = c.in-Ok-restart.ensures.volume.frames ∙ c.in-Ok-open_volume.ensures.limit
+
 pub returns-in-Ok-restart-clause-in_order : goal.returns-in-Ok-restart-clause-in_order
 returns-in-Ok-restart-clause-in_order g c of_log of_volume =
     let log_later = subst IsTrue (sym c.read_fronts.ensures.honest.0) of_log in
