@@ -1,8 +1,10 @@
-//! Every list of up to two events, with a fuse at each call of either device, and with each pick of a crash: of a manager of a formatted pair, of one
+//! Every list of up to three events, with a fuse at each call of either device, and with each pick of a crash: of a manager of a formatted pair, of one
 //! that has begun on a committed record, of one with a commit of changes under way, of one that has written an undecided change back, and of one with
-//! undecided changes in all of its frames. A manager that is opened behind the crash then commits a record, and is crashed too. Behind lists of up to one
-//! event the restart is also cut off at each call of a device, twice in a row, and then made whole. The counts are those of the first
-//! run: another one says that an event or a restart makes other calls than it did.
+//! undecided changes in all of its frames. A manager that is opened behind the crash then commits a record, and is crashed too. Behind the shorter lists
+//! the restart is also cut off at each call of a device, twice in a row, and then made whole; behind two starts it is cut off three times in a row, at
+//! each call of each restart. Then there are random runs. The counts are those of the first run: another one says that an event or a restart makes
+//! other calls than it did.
+mod chances;
 mod crashes;
 mod cuts;
 mod devices;
@@ -10,18 +12,65 @@ mod doings;
 mod lists;
 mod lives;
 mod log_copies;
+mod random_lives;
 mod short_histories;
 mod trouble;
 
+use chances::Chance;
 use crashes::{Restarted, check_crash};
+use cuts::{Rows, check_rows};
 use devices::{Devices, Images};
 use doings::{Doing, ONE_COMMIT};
 use lists::{Counts, check_lists};
 use lives::{Ground, Start, formatted, live, no_ground};
+use random_lives::{NOTHING_YET, Tally, check_pair};
 use shore_disk::Pick;
 use std::alloc::Global;
 use std::test::Fail;
 use trouble::Trouble;
+
+/// A change of the committed record is on the volume, and the next one in the log buffer.
+const A_CHANGE_WRITTEN_BACK: [Doing; 6] = [
+    Doing::Begin,
+    Doing::Update,
+    Doing::ForceStage,
+    Doing::ForceOpen,
+    Doing::FlushStep,
+    Doing::Insert,
+];
+
+/// The first page of the first store is in no frame, and comes to one if a changed page is written back.
+const CHANGES_IN_ALL_FRAMES: [Doing; 11] = [
+    Doing::Begin,
+    Doing::InsertInto(1),
+    Doing::InsertInto(2),
+    Doing::InsertInto(3),
+    Doing::InsertInto(4),
+    Doing::InsertInto(5),
+    Doing::InsertInto(6),
+    Doing::InsertInto(7),
+    Doing::InsertInto(8),
+    Doing::ForceStage,
+    Doing::ForceOpen,
+];
+
+/// More pages have undecided changes than there are frames: one was written back, and a restart has to write pages back to make room.
+const CHANGES_IN_MORE_PAGES: [Doing; 14] = [
+    Doing::Begin,
+    Doing::InsertInto(1),
+    Doing::InsertInto(2),
+    Doing::InsertInto(3),
+    Doing::InsertInto(4),
+    Doing::InsertInto(5),
+    Doing::InsertInto(6),
+    Doing::InsertInto(7),
+    Doing::InsertInto(8),
+    Doing::ForceStage,
+    Doing::ForceOpen,
+    Doing::Insert,
+    Doing::ForceStage,
+    Doing::ForceOpen,
+];
 
 /// A start on this pair.
 fn start_on(
@@ -29,22 +78,28 @@ fn start_on(
     devices: &Devices,
     ground: Ground,
     before: &'static [Doing],
+    cut_behind: usize,
 ) -> Result<Start, Trouble> {
     Ok(Start {
         images: Images::of(alloc, devices)?,
         ground,
         before,
+        cut_behind,
     })
 }
 
 /// A formatted pair.
-fn on_none(alloc: Global, before: &'static [Doing]) -> Result<Start, Trouble> {
+fn on_none(alloc: Global, before: &'static [Doing], cut_behind: usize) -> Result<Start, Trouble> {
     let devices = formatted(alloc)?;
-    start_on(alloc, &devices, no_ground(alloc), before)
+    start_on(alloc, &devices, no_ground(alloc), before, cut_behind)
 }
 
 /// What a manager leaves that has committed a record and was crashed, and what is done on it first.
-fn on_a_record(alloc: Global, before: &'static [Doing]) -> Result<Start, Trouble> {
+fn on_a_record(
+    alloc: Global,
+    before: &'static [Doing],
+    cut_behind: usize,
+) -> Result<Start, Trouble> {
     let mut life = live(alloc, formatted(alloc)?, &[], &ONE_COMMIT, None)?;
     life.devices.lose_power(Pick::Old);
     let Restarted {
@@ -52,7 +107,7 @@ fn on_a_record(alloc: Global, before: &'static [Doing]) -> Result<Start, Trouble
         devices,
         ..
     } = check_crash(alloc, &no_ground(alloc), life)?;
-    start_on(alloc, &devices, ground, before)
+    start_on(alloc, &devices, ground, before, cut_behind)
 }
 
 /// All lists on a start: there are so many, so many cases of them, and so many restarts that are cut off.
@@ -71,14 +126,14 @@ fn counts(lists: u64, cases: u64, cuts: u64) -> Counts {
 
 #[test]
 fn on_an_empty_log(rt: HostRuntime) -> Result<(), Fail> {
-    let start = on_none(rt.alloc(), &[])?;
-    check_start(&rt, start, "on an empty log", counts(111, 333, 0))
+    let start = on_none(rt.alloc(), &[], 2)?;
+    check_start(&rt, start, "on an empty log", counts(1111, 3351, 1332))
 }
 
 #[test]
 fn in_a_transaction(rt: HostRuntime) -> Result<(), Fail> {
-    let start = on_a_record(rt.alloc(), &[Doing::Begin])?;
-    check_start(&rt, start, "in a transaction", counts(111, 900, 44))
+    let start = on_a_record(rt.alloc(), &[Doing::Begin], 2)?;
+    check_start(&rt, start, "in a transaction", counts(1111, 11055, 4790))
 }
 
 #[test]
@@ -90,50 +145,130 @@ fn with_a_commit_under_way(rt: HostRuntime) -> Result<(), Fail> {
         Doing::Delete,
         Doing::Commit,
     ];
-    let start = on_a_record(rt.alloc(), before)?;
-    check_start(&rt, start, "with a commit under way", counts(111, 539, 0))
+    let start = on_a_record(rt.alloc(), before, 2)?;
+    check_start(
+        &rt,
+        start,
+        "with a commit under way",
+        counts(1111, 6444, 2156),
+    )
 }
 
 #[test]
 fn with_a_change_written_back(rt: HostRuntime) -> Result<(), Fail> {
-    let before = &[
-        Doing::Begin,
-        Doing::Update,
-        Doing::ForceStage,
-        Doing::ForceOpen,
-        Doing::FlushStep,
-        Doing::Insert,
-    ];
-    let start = on_a_record(rt.alloc(), before)?;
+    let start = on_a_record(rt.alloc(), &A_CHANGE_WRITTEN_BACK, 2)?;
     check_start(
         &rt,
         start,
         "with a change written back",
-        counts(111, 537, 172),
+        counts(1111, 6390, 5289),
     )
 }
 
-// The first page of the first store is in no frame, and comes to one if a changed page is written back.
 #[test]
 fn with_changes_in_all_frames(rt: HostRuntime) -> Result<(), Fail> {
-    let before = &[
-        Doing::Begin,
-        Doing::InsertInto(1),
-        Doing::InsertInto(2),
-        Doing::InsertInto(3),
-        Doing::InsertInto(4),
-        Doing::InsertInto(5),
-        Doing::InsertInto(6),
-        Doing::InsertInto(7),
-        Doing::InsertInto(8),
-        Doing::ForceStage,
-        Doing::ForceOpen,
-    ];
-    let start = on_none(rt.alloc(), before)?;
+    let start = on_none(rt.alloc(), &CHANGES_IN_ALL_FRAMES, 1)?;
     check_start(
         &rt,
         start,
         "with changes in all frames",
-        counts(111, 3248, 3245),
+        counts(1111, 49477, 6095),
+    )
+}
+
+/// Rows of three restarts that are cut off, with this pick: whether there are so many of all lengths, and so many of three.
+fn has_deep(rt: &HostRuntime, start: &Start, pick: Pick, wanted: (u64, u64)) -> Result<bool, Fail> {
+    let Rows { rows, deepest } = check_rows(rt.alloc(), start, 3, pick)?;
+    println!(rt;
+        "{pick:?}: {rows} rows of up to three restarts, {deepest} of three that are cut off"
+    )?;
+    Ok((rows, deepest) == wanted)
+}
+
+/// .. with each pick: so many with each.
+fn check_deep(rt: &HostRuntime, start: &Start, wanted: [(u64, u64); 3]) -> Result<(), Fail> {
+    let old = has_deep(rt, start, Pick::Old, wanted[0])?;
+    let new = has_deep(rt, start, Pick::New, wanted[1])?;
+    let noise = has_deep(rt, start, Pick::Noise, wanted[2])?;
+    if !(old && new && noise) {
+        return Err(Fail::new(format_args!("other counts are wanted")));
+    }
+    Ok(())
+}
+
+#[test]
+fn three_deep_with_a_change_written_back(rt: HostRuntime) -> Result<(), Fail> {
+    let start = on_a_record(rt.alloc(), &A_CHANGE_WRITTEN_BACK, 0)?;
+    check_deep(&rt, &start, [(156, 125), (120, 92), (156, 125)])
+}
+
+#[test]
+fn three_deep_with_changes_in_more_pages(rt: HostRuntime) -> Result<(), Fail> {
+    let start = on_none(rt.alloc(), &CHANGES_IN_MORE_PAGES, 0)?;
+    check_deep(
+        &rt,
+        &start,
+        [(6_231, 5_795), (5_465, 5_052), (5_824, 5_399)],
+    )
+}
+
+/// Pairs from a seed, until there were so many events.
+fn check_by_chance(rt: &HostRuntime, seed: u64, most: u64, wanted: Tally) -> Result<(), Fail> {
+    let mut chance = Chance::new(seed);
+    let mut tally = NOTHING_YET;
+    for _ in 0..most {
+        if tally.events >= most {
+            break;
+        }
+        if let Err(trouble) = check_pair(rt.alloc(), &mut chance, &mut tally) {
+            return Err(Fail::new(format_args!("{trouble:?}: seed {seed}, {tally:?}")));
+        }
+    }
+    println!(rt; "seed {seed}: {tally:?}")?;
+    if tally != wanted {
+        return Err(Fail::new(format_args!("seed {seed}: {wanted:?} is wanted")));
+    }
+    Ok(())
+}
+
+#[test]
+fn by_chance(rt: HostRuntime) -> Result<(), Fail> {
+    check_by_chance(
+        &rt,
+        1,
+        50_000,
+        Tally {
+            pairs: 242,
+            events: 50117,
+            dumps: 1044,
+            failures: 206,
+            crashes: 1452,
+            opens_cut_off: 349,
+            commits_acknowledged: 673,
+            commits_kept: 951,
+            losers_undone: 211,
+            pages_flushed: 1012,
+        },
+    )
+}
+
+#[test]
+fn by_another_chance(rt: HostRuntime) -> Result<(), Fail> {
+    check_by_chance(
+        &rt,
+        2,
+        60_000,
+        Tally {
+            pairs: 280,
+            events: 60094,
+            dumps: 1190,
+            failures: 226,
+            crashes: 1680,
+            opens_cut_off: 390,
+            commits_acknowledged: 777,
+            commits_kept: 1108,
+            losers_undone: 248,
+            pages_flushed: 1148,
+        },
     )
 }

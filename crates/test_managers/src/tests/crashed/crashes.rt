@@ -6,7 +6,7 @@ use super::log_copies::copy_of_log;
 use super::trouble::{Trouble, require};
 use shore_disk::Pick;
 use shore_model::{Decision, Entry, LogRecord, Opening, Payload, RidMap};
-use shore_types::{Bytes, Sequence, StoreId};
+use shore_types::{Bytes, Fault, Sequence, StoreId};
 use slow_histories::decisions::{acknowledged, is_kept};
 use slow_histories::replays::{serial_records, shown_records};
 use slow_histories::sessions::is_history;
@@ -24,9 +24,6 @@ pub(super) struct Restarted {
     /// The log at its end.
     pub(super) found: Vec<LogRecord>,
     pub(super) devices: Devices,
-    /// How many writes and syncs of each device it made, with those of a dump.
-    pub(super) log_calls: u64,
-    pub(super) volume_calls: u64,
 }
 
 /// The history is one, and is sound.
@@ -53,7 +50,7 @@ pub(super) fn check_crash(
     check_found(alloc, &world, &list, durable)?;
     let records = check_shown(alloc, ground, &entries, &mut world)?;
     let found = copy_of_log(alloc, &world)?;
-    let (devices, log_calls, volume_calls) = cut_off(world, calls_of(None));
+    let (devices, _, _) = cut_off(world, calls_of(None));
     Ok(Restarted {
         ground: Ground {
             opening: Opening {
@@ -64,8 +61,6 @@ pub(super) fn check_crash(
         },
         found,
         devices,
-        log_calls,
-        volume_calls,
     })
 }
 
@@ -123,7 +118,7 @@ fn check_shown(
     };
     let kept = commits_in(alloc, gained)?;
     check_kept(alloc, &ground.opening, entries, &kept, &shown)?;
-    check_in_place(alloc, world, &shown)?;
+    require_in_place(alloc, world, &shown)?;
     Ok(shown)
 }
 
@@ -157,20 +152,32 @@ fn are_same(
 }
 
 /// A dump of each store has these records, and no more.
-pub(super) fn check_in_place(
+pub(super) fn require_in_place(
     alloc: Global,
     world: &mut Manager,
     records: &RidMap<Bytes>,
 ) -> Result<(), Trouble> {
+    let refused = check_in_place(alloc, world, records)?;
+    require(refused.is_none(), "the dump was refused")
+}
+
+/// A dump of each store has these records, and no more, up to one that is refused: its fault is answered.
+pub(super) fn check_in_place(
+    alloc: Global,
+    world: &mut Manager,
+    records: &RidMap<Bytes>,
+) -> Result<Option<Fault>, Trouble> {
     for store in 0..STORES {
         let store = StoreId(store);
-        let Ok(in_place) = world.dump(alloc, store) else {
-            return Err(Trouble::Wrong("the dump was refused"));
-        };
-        let wanted = records.scan(alloc, store)?;
-        require(in_place.equals(&wanted), "not what the list tells")?;
+        match world.dump(alloc, store) {
+            Ok(in_place) => {
+                let wanted = records.scan(alloc, store)?;
+                require(in_place.equals(&wanted), "not what the list tells")?;
+            }
+            Err(fault) => return Ok(Some(fault)),
+        }
     }
-    Ok(())
+    Ok(None)
 }
 
 /// On what a restart left a record more is committed, is acknowledged, and survives another crash.

@@ -37,8 +37,13 @@ pub(super) struct Devices {
 
 impl Devices {
     pub(super) fn lose_power(&mut self, pick: Pick) {
-        self.log.crash(pick);
-        self.volume.crash(pick);
+        self.lose_power_by(pick, pick);
+    }
+
+    /// Both lose it at once, with a pick for each.
+    pub(super) fn lose_power_by(&mut self, of_log: Pick, of_volume: Pick) {
+        self.log.crash(of_log);
+        self.volume.crash(of_volume);
     }
 
     /// Opens a manager on them; they do not fail.
@@ -51,24 +56,27 @@ impl Devices {
         }
     }
 
-    /// What a loss of power leaves of an open that is cut off as its fuse blows; or of one that came to its end before.
+    /// What a loss of power leaves of an open that is cut off as its fuse blows, or of one that came to its end before; and whether it was cut off.
     pub(super) fn open_cut_off(
         self,
         alloc: Global,
         fuse: Fuse,
         pick: Pick,
-    ) -> Result<Devices, Trouble> {
+    ) -> Result<(Devices, bool), Trouble> {
         let (of_log, of_volume) = calls_of(Some(fuse));
         let log = FuseDisk::new(self.log, of_log);
         let volume = FuseDisk::new(self.volume, of_volume);
-        let (log, volume) = match World::open(alloc, log, volume, MIN_POOL_FRAMES) {
-            Ok(world) => world.into_devices(),
+        let (log, volume, is_cut_off) = match World::open(alloc, log, volume, MIN_POOL_FRAMES) {
+            Ok(world) => {
+                let (log, volume) = world.into_devices();
+                (log, volume, false)
+            }
             Err((fault, log, volume)) => {
                 require(
                     matches!(fault, Fault::Device),
                     "the open is refused for another cause",
                 )?;
-                (log, volume)
+                (log, volume, true)
             }
         };
         let mut left = Devices {
@@ -76,7 +84,7 @@ impl Devices {
             volume: volume.into_inner(),
         };
         left.lose_power(pick);
-        Ok(left)
+        Ok((left, is_cut_off))
     }
 }
 

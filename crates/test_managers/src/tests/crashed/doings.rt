@@ -26,7 +26,10 @@ const FIRST: Rid = Rid {
     slot: 0,
 };
 
-/// What happens to a manager next. Each insert is of one byte; an update puts two into the first record's place, and a delete is of that.
+/// A record id: the numbers of its store, page and slot.
+pub(super) type Place = (u32, u32, u16);
+
+/// What happens to a manager next. In lists each insert is of one byte; an update puts two into the first record's place, and a delete is of that.
 #[derive(Clone, Copy, Debug)]
 pub(super) enum Doing {
     Begin,
@@ -41,6 +44,13 @@ pub(super) enum Doing {
     ForceOpen,
     Resume,
     FlushStep,
+    /// An insert into a store, of a byte so many times.
+    InsertOf(u32, u8, usize),
+    /// An update to a byte so many times.
+    UpdateOf(Place, u8, usize),
+    DeleteOf(Place),
+    GetOf(Place),
+    ScanOf(u32),
 }
 
 /// One of each that lists are made of.
@@ -82,6 +92,15 @@ impl Doing {
             Doing::Delete => Some(Call::Delete(FIRST)),
             Doing::Scan => Some(Call::Scan(STORE)),
             Doing::Commit => Some(Call::Commit),
+            Doing::InsertOf(store, byte, count) => {
+                Some(Call::Insert(StoreId(store), filled(alloc, byte, count)?))
+            }
+            Doing::UpdateOf(place, byte, count) => {
+                Some(Call::Update(rid(place), filled(alloc, byte, count)?))
+            }
+            Doing::DeleteOf(place) => Some(Call::Delete(rid(place))),
+            Doing::GetOf(place) => Some(Call::Get(rid(place))),
+            Doing::ScanOf(store) => Some(Call::Scan(StoreId(store))),
             Doing::ForceStage | Doing::ForceOpen | Doing::Resume | Doing::FlushStep => None,
         })
     }
@@ -104,4 +123,19 @@ impl Doing {
 
 fn bytes(alloc: Global, found: &[u8]) -> Result<Bytes, AllocError> {
     Ok(Sequence::from_vec(Vec::from_slice(alloc, found)?))
+}
+
+fn filled(alloc: Global, byte: u8, count: usize) -> Result<Bytes, AllocError> {
+    Ok(Sequence::from_vec(Vec::from_elem(alloc, byte, count)?))
+}
+
+fn rid(place: Place) -> Rid {
+    let (store, page, slot) = place;
+    Rid {
+        page: PageId {
+            store: StoreId(store),
+            page,
+        },
+        slot,
+    }
 }

@@ -12,11 +12,8 @@ use std::test::Fail;
 // They are all the same if the events made no call of a device: what was done before them has been synced.
 const PICKS: [Pick; 3] = [Pick::Old, Pick::New, Pick::Noise];
 
-// Restarts are cut off behind lists of up to so many events.
-const MOST_EVENTS_BEFORE_CUTS: usize = 1;
-
 // How many lists there are of no event, of one, and so on.
-const LISTS_BY_LENGTH: [(u32, u32); 3] = [(0, 1), (1, 10), (2, 100)];
+const LISTS_BY_LENGTH: [(u32, u32); 4] = [(0, 1), (1, 10), (2, 100), (3, 1000)];
 
 /// How much was run: lists of events, for each of them a case for each fuse and each pick that may differ, and restarts that are cut off.
 #[derive(Drop)]
@@ -26,7 +23,7 @@ pub(super) struct Counts {
     pub(super) cuts: u64,
 }
 
-/// Every list of up to two events, with each fuse and each pick.
+/// Every list of up to three events, with each fuse and each pick.
 pub(super) fn check_lists(alloc: Global, start: &Start) -> Result<Counts, Fail> {
     let mut counts = Counts {
         lists: 0,
@@ -118,7 +115,7 @@ fn check_case(
     let is_written = life.log_calls > 0 || life.volume_calls > 0;
     life.devices.lose_power(pick);
     counts.cases = counts.cases.saturating_add(1);
-    if list.len() <= MOST_EVENTS_BEFORE_CUTS {
+    if list.len() <= start.cut_behind {
         let images = Images::of(alloc, &life.devices)?;
         let left = check_crash(alloc, &start.ground, life)?;
         let cuts = check_cuts(alloc, &images, &left, pick)?;

@@ -23,6 +23,8 @@ pub(super) struct Start {
     pub(super) images: Images,
     pub(super) ground: Ground,
     pub(super) before: &'static [Doing],
+    /// Restarts are cut off behind lists of up to so many events.
+    pub(super) cut_behind: usize,
 }
 
 /// A log device of the least length and a volume of a store of two pages and eight of one, formatted: more pages than a manager has frames.
@@ -79,9 +81,24 @@ pub(super) fn live(
     world.set_log_fuse(of_log);
     world.set_volume_fuse(of_volume);
     make(alloc, &mut world, &mut history, doings)?;
+    cut_short(alloc, world, history, (of_log, of_volume))
+}
+
+/// What a manager leaves that no fuse is counted for.
+pub(super) fn ended(alloc: Global, world: Manager, history: ShortHistory) -> Result<Life, Trouble> {
+    cut_short(alloc, world, history, calls_of(None))
+}
+
+// What a manager leaves behind fuses that let so many calls pass.
+fn cut_short(
+    alloc: Global,
+    world: Manager,
+    history: ShortHistory,
+    calls: (u64, u64),
+) -> Result<Life, Trouble> {
     let list = copy_of_log(alloc, &world)?;
     let durable = world.durable().0 as usize;
-    let (devices, log_calls, volume_calls) = cut_off(world, (of_log, of_volume));
+    let (devices, log_calls, volume_calls) = cut_off(world, calls);
     Ok(Life {
         entries: history.into_entries(),
         list,

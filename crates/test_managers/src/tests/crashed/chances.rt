@@ -1,0 +1,84 @@
+//! Choices that look like chance, from a seed.
+use super::devices::Fuse;
+use super::doings::{Doing, Place, STORES};
+use shore_disk::Pick;
+
+/// Where the choices come from. Each seed has its own.
+#[derive(Drop)]
+pub(super) struct Chance {
+    state: u64,
+}
+
+impl Chance {
+    pub(super) fn new(seed: u64) -> Chance {
+        Chance { state: seed }
+    }
+
+    /// A number below this one.
+    pub(super) fn below(&mut self, count: u32) -> u32 {
+        self.state = self
+            .state
+            .wrapping_mul(6_364_136_223_846_793_005)
+            .wrapping_add(1_442_695_040_888_963_407);
+        let high = u32::try_from(self.state >> 33).unwrap_or(0);
+        high.checked_rem(count).unwrap_or(0)
+    }
+
+    pub(super) fn pick(&mut self) -> Pick {
+        match self.below(3) {
+            0 => Pick::Old,
+            1 => Pick::New,
+            _ => Pick::Noise,
+        }
+    }
+
+    /// A fuse that most opens with losers blow.
+    pub(super) fn fuse(&mut self) -> Fuse {
+        if self.below(2) == 0 {
+            Fuse::Log(u64::from(self.below(10)))
+        } else {
+            Fuse::Volume(u64::from(self.below(24)))
+        }
+    }
+
+    /// A place that may have a record; some have no page.
+    fn place(&mut self) -> Place {
+        let store = self.below(STORES);
+        let page = if store == 0 { self.below(3) } else { 0 };
+        let slot = u16::try_from(self.below(4)).unwrap_or(0);
+        (store, page, slot)
+    }
+
+    fn byte(&mut self) -> u8 {
+        u8::try_from(self.below(256)).unwrap_or(0)
+    }
+
+    // Most are short.
+    fn length(&mut self) -> usize {
+        let most = if self.below(16) == 0 { 4200 } else { 12 };
+        self.below(most) as usize
+    }
+
+    pub(super) fn doing(&mut self) -> Doing {
+        match self.below(12) {
+            0 | 1 => Doing::Begin,
+            2 | 3 | 4 => self.change(),
+            5 => Doing::Commit,
+            6 | 7 => Doing::ForceStage,
+            8 | 9 => Doing::ForceOpen,
+            10 => Doing::Resume,
+            _ => Doing::FlushStep,
+        }
+    }
+
+    // A call on records.
+    fn change(&mut self) -> Doing {
+        match self.below(8) {
+            0 | 1 | 2 => Doing::InsertOf(self.below(STORES), self.byte(), self.length()),
+            3 | 4 => Doing::UpdateOf(self.place(), self.byte(), self.length()),
+            5 => Doing::DeleteOf(self.place()),
+            6 => Doing::GetOf(self.place()),
+            _ => Doing::ScanOf(self.below(STORES)),
+        }
+    }
+}
