@@ -1,0 +1,54 @@
+//! Laws of the locks that requests hold, each stated as the contract of an empty function.
+ghost use Rattle.std.specs.Prelude.{◌≡◌, ◌≢◌, ◌<◌, ℕ, List, Some, All};
+ghost use Rattle.shore_types.specs.declared.ids.Rid.{Rid};
+ghost use Rattle.shore_types.specs.declared.locking.Granule.{Granule};
+ghost use Rattle.shore_types.specs.declared.locking.Granule.TheVariants.{Record};
+ghost use Rattle.shore_types.specs.declared.locking.Mode.{Mode};
+ghost use Rattle.shore_types.specs.declared.locking.Mode.TheVariants.{EX};
+ghost use Rattle.shore_model.specs.declared.calls.Answer.{Answer};
+ghost use Rattle.shore_model.specs.declared.calls.Answer.TheVariants.{Inserted};
+ghost use Rattle.shore_model.specs.declared.calls.Call.{Call};
+ghost use Rattle.shore_model.specs.declared.calls.Call.TheVariants.{Insert};
+ghost use Rattle.shore_model.specs.declared.requests.Request.{Request};
+ghost use Rattle.shore_model.specs.Requests.{held_by_all};
+ghost use Rattle.shore_locks.specs.Grants.{cancelled, released};
+ghost use Rattle.shore_locks.specs.Orderly.{IsOrderly};
+ghost use Rattle.shore_path.specs.Acquires.{IsReached, NoneWeaker, OthersOnlyGranted};
+ghost use Rattle.shore_path.specs.Rooted.{AreRooted};
+ghost use Rattle.shore_sessions.specs.GranuleLocks.{HasLock, HasLocksFor};
+ghost use Rattle.shore_sessions.specs.SessionSteps.{KeepsLocks, MoveLocks, StepsTo};
+ghost use Rattle.shore_sessions.specs.Sessions.{Sessions, locks_moved, txns_of};
+ghost use Rattle.shore_sessions.specs.Views.{IsAmong};
+ghost use Rattle.shore_held.specs.CallLocks.{Asked, asked_by};
+
+/// What an acquire has reached is a lock, of the granule or implicitly by an ancestor's.
+pub fn reached_granules_are_locked()
+    ensures { (rs : List Request) (t : ℕ) (g : Granule) (mode : Mode) → IsReached rs t g mode → HasLock (held_by_all rs) t g mode }
+{}
+
+/// A call that has reached what it asks for has the locks for its answer; an insert, those of the place that it takes.
+pub fn reached_locks_serve_calls()
+    ensures calls { (rs : List Request) (t : ℕ) (c : Call) (answer : Answer) (lock : Asked) → asked_by c ≡ Some lock → ((store : ℕ) (bytes : List ℕ) → c ≢ Insert store bytes)
+        → IsReached rs t lock.granule lock.mode → HasLocksFor (held_by_all rs) t c answer }
+    ensures insert { (rs : List Request) (t store : ℕ) (bytes : List ℕ) (id : Rid) → IsReached rs t (Record id) EX →
+        HasLocksFor (held_by_all rs) t (Insert store bytes) (Inserted id) }
+{}
+
+/// Requests of which none becomes weaker move the locks of the sessions as they may move.
+pub fn acquires_move_locks()
+    ensures { (s : Sessions) (rs new : List Request) → s.held ≡ held_by_all rs → IsOrderly rs → IsOrderly new → AreRooted new → NoneWeaker rs new
+        → All (λ r. r.txn < s.next_txn) new → StepsTo s (MoveLocks (held_by_all new)) (locks_moved s (held_by_all new)) }
+{}
+
+/// So does a release by one who is not under way, and it leaves him no lock.
+pub fn releases_move_locks()
+    ensures moves { (s : Sessions) (rs : List Request) (t : ℕ) → s.held ≡ held_by_all rs → IsOrderly rs → AreRooted rs
+        → All (λ r. r.txn < s.next_txn) rs → (IsAmong t (txns_of s.active) → ⊥)
+        → StepsTo s (MoveLocks (held_by_all (released t rs))) (locks_moved s (held_by_all (released t rs))) }
+    ensures gone { (rs : List Request) (t : ℕ) → IsOrderly rs → All (λ h. h.txn ≢ t) (held_by_all (released t rs)) }
+{}
+
+/// The requests that an acquire leaves are of those who had some before, and of him who asked.
+pub fn acquires_keep_numbers()
+    ensures { (rs new : List Request) (t n : ℕ) → All (λ r. r.txn < n) rs → t < n → OthersOnlyGranted rs new t → All (λ r. r.txn < n) new }
+{}
