@@ -70,7 +70,7 @@ locked_of rs t g mode (inr h) =
 
 -- ---- whose requests they are
 
-all_by : {A : Type 0} (P Q : A → Type 0) (xs : List A) → ((x : A) → P x → Q x) → All P xs → All Q xs
+pub all_by : {A : Type 0} (P Q : A → Type 0) (xs : List A) → ((x : A) → P x → Q x) → All P xs → All Q xs
 all_by P Q [] goes all = All-nil Q
 all_by P Q (x ∷ xs) goes all = All-cons Q x xs (goes x (All-head P x xs all)) (all_by P Q xs goes (All-tail P x xs all))
 

@@ -1,5 +1,6 @@
 //! Laws of the locks that requests hold, each stated as the contract of an empty function.
-ghost use Rattle.std.specs.Prelude.{◌≡◌, ◌≢◌, ◌<◌, ℕ, List, Some, All};
+ghost use Rattle.std.specs.Prelude.{◌≡◌, ◌≢◌, ◌⊎◌, ◌<◌, Ok, Err, ℕ, List, Some, All, false};
+ghost use Rattle.shore_types.specs.declared.faults.Fault.TheVariants.{LockTableFull};
 ghost use Rattle.shore_types.specs.declared.ids.Rid.{Rid};
 ghost use Rattle.shore_types.specs.declared.locking.Granule.{Granule};
 ghost use Rattle.shore_types.specs.declared.locking.Granule.TheVariants.{Record};
@@ -13,13 +14,19 @@ ghost use Rattle.shore_model.specs.declared.requests.Request.{Request};
 ghost use Rattle.shore_model.specs.Requests.{held_by_all};
 ghost use Rattle.shore_locks.specs.Grants.{cancelled, released};
 ghost use Rattle.shore_locks.specs.Orderly.{IsOrderly};
+ghost use Rattle.shore_locks.specs.Tables.{Table, is_waiting};
+ghost use Rattle.shore_path.specs.declared.answers.Acquired.TheVariants.{Done};
+ghost use Rattle.shore_path.specs.declared.answers.OnConflict.{OnConflict};
+ghost use Rattle.shore_path.specs.declared.answers.OnConflict.TheVariants.{Refuse};
+ghost use Rattle.shore_path.specs.Walks.{acquired};
 ghost use Rattle.shore_path.specs.Acquires.{IsReached, NoneWeaker, OthersOnlyGranted};
 ghost use Rattle.shore_path.specs.Rooted.{AreRooted};
 ghost use Rattle.shore_sessions.specs.GranuleLocks.{HasLock, HasLocksFor};
 ghost use Rattle.shore_sessions.specs.SessionSteps.{KeepsLocks, MoveLocks, StepsTo};
 ghost use Rattle.shore_sessions.specs.Sessions.{Sessions, locks_moved, txns_of};
 ghost use Rattle.shore_sessions.specs.Views.{IsAmong};
-ghost use Rattle.shore_held.specs.CallLocks.{Asked, asked_by};
+ghost use Rattle.shore_held.specs.Acquires.{Leaves};
+ghost use Rattle.shore_held.specs.CallLocks.{Asked, CanLockNow, asked_by};
 
 /// What an acquire has reached is a lock, of the granule or implicitly by an ancestor's.
 pub fn reached_granules_are_locked()
@@ -32,6 +39,18 @@ pub fn reached_locks_serve_calls()
         → IsReached rs t lock.granule lock.mode → HasLocksFor (held_by_all rs) t c answer }
     ensures insert { (rs : List Request) (t store : ℕ) (bytes : List ℕ) (id : Rid) → IsReached rs t (Record id) EX →
         HasLocksFor (held_by_all rs) t (Insert store bytes) (Inserted id) }
+{}
+
+/// What an acquire leaves of orderly requests with their intentions, of one who does not wait.
+pub fn acquires_leave_requests_in_order()
+    ensures { (c : OnConflict) (table : Table) (t : ℕ) (target : Granule) (mode : Mode) → IsOrderly table.requests → is_waiting t table.requests ≡ false → AreRooted table.requests
+        → Leaves table.requests (acquired c table t target mode) t target mode }
+{}
+
+/// A granule that a transaction could lock now is locked by a try, unless the table is full.
+pub fn lockable_places_are_locked()
+    ensures { (table : Table) (t : ℕ) (g : Granule) (mode : Mode) → CanLockNow table.requests t g mode →
+        ((acquired Refuse table t g mode).answer ≡ Ok Done) ⊎ ((acquired Refuse table t g mode).answer ≡ Err LockTableFull) }
 {}
 
 /// Requests of which none becomes weaker move the locks of the sessions as they may move.
