@@ -1,7 +1,7 @@
 -- What an acquire leaves, over the list of requests alone.
 use Rattle.std.proofs.Common.{◌≡◌, inl, inr, ℕ, List, false, refl, ap, sym, subst, reverse}
 use Rattle.std.specs.Prelude.{◌⊎◌, Err, Any, Contains, cond, is_some}
-use Rattle.std.proofs.lemmas.List.Elements.{All-contains_itself}
+use Rattle.std.proofs.lemmas.List.Elements.{All-contains_itself, All-weaker}
 use Rattle.std.proofs.lemmas.Bool.{cases_Bool}
 use Rattle.shore_types.specs.Locking.{level_of}
 use Rattle.shore_types.specs.declared.locking.Granule.{Granule}
@@ -21,7 +21,6 @@ use Rattle.shore_path.proofs.Acquiring.{told_done, told_none_weaker, told_others
 use Rattle.shore_path.proofs.Growing.{quiet_grant}
 use Rattle.shore_path.proofs.Walking.{EachCase, of_walk}
 use Rattle.shore_held.specs.Acquires.{Leaves}
-use Rattle.shore_held.proofs.Held.{all_by}
 
 module _ (c : OnConflict) (t : ℕ) (target : Granule) (mode : Mode) (limit : ℕ) where
   orderly_case : EachCase c t target mode limit (λ way rs out. IsOrderly rs → is_waiting t rs ≡ false → IsOrderly out.requests)
@@ -61,7 +60,7 @@ refused_leaves rs t target mode orderly quiet rooted = record {
   orderly = orderly;
   rooted = rooted;
   none_weaker = λ u g m enough. enough;
-  others = all_by (Contains rs) (λ r. (r.txn ≡ t) ⊎ (Contains rs r ⊎ Any (λ q. r ≡ granted q) rs)) rs (λ r there. inr (inl there)) (All-contains_itself rs);
+  others = All-weaker (Contains rs) (λ r. (r.txn ≡ t) ⊎ (Contains rs r ⊎ Any (λ q. r ≡ granted q) rs)) (λ r there. inr (inl there)) rs (All-contains_itself rs);
   done = λ is. absurd cc;
   quiet = λ never. quiet;
 }

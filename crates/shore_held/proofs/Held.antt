@@ -3,7 +3,7 @@ use Rattle.std.proofs.Common.{◌≡◌, ◌≢◌, ◌<◌, ◌⊎◌, inl, inr
 use Rattle.std.specs.Prelude.{IsTrue, Contains, Any, All, ◌==◌, not}
 use Rattle.std.specs.List.{cons_option}
 use Rattle.std.proofs.lemmas.Bool.Decides.{Decides-eqb}
-use Rattle.std.proofs.lemmas.List.Elements.{All-cons, All-contains, All-filter, All-head, All-map, All-nil, All-tail}
+use Rattle.std.proofs.lemmas.List.Elements.{All-cons, All-contains, All-filter, All-head, All-map, All-nil, All-tail, All-weaker}
 use Rattle.shore_types.specs.declared.locking.Granule.{Granule}
 use Rattle.shore_types.specs.declared.locking.Mode.{Mode}
 use Rattle.shore_types.specs.declared.locking.Granule.TheVariants.{Record, Store}
@@ -21,7 +21,7 @@ use Rattle.shore_locks.specs.Laws.{of_others, owners}
 use Rattle.shore_locks.specs.Orderly.{IsOrderly, IsOrderlyWithin}
 use Rattle.shore_locks.specs.Tables.{mode_held}
 use Rattle.shore_locks.proofs.LawLemmas.{released_own}
-use Rattle.shore_locks.proofs.Members.{In, In-filter}
+use Rattle.shore_locks.proofs.Members.{All-In, In, In-filter}
 use Rattle.shore_locks.proofs.Tables.{kept_released}
 use Rattle.shore_locks.proofs.Outcomes.{any_from}
 use Rattle.shore_path.specs.Acquires.{IsReached, OthersOnlyGranted}
@@ -70,14 +70,6 @@ locked_of rs t g mode (inr h) =
 
 -- ---- whose requests they are
 
-pub all_by : {A : Type 0} (P Q : A → Type 0) (xs : List A) → ((x : A) → P x → Q x) → All P xs → All Q xs
-all_by P Q [] goes all = All-nil Q
-all_by P Q (x ∷ xs) goes all = All-cons Q x xs (goes x (All-head P x xs all)) (all_by P Q xs goes (All-tail P x xs all))
-
-all_in : {A : Type 0} (P : A → Type 0) (xs : List A) → ((x : A) → In x xs → P x) → All P xs
-all_in P [] each = All-nil P
-all_in P (x ∷ xs) each = All-cons P x xs (each x (inl refl)) (all_in P xs (λ y there. each y (inr there)))
-
 -- what holds of each owner, by the list of owners
 all_owned : (P : ℕ → Type 0) (rs : List Request) → All (λ k. P k.0) (owners rs) → All (λ r. P r.txn) rs
 all_owned P [] all = All-nil (λ r. P r.txn)
@@ -98,7 +90,7 @@ all_held P (r ∷ rs) all = with_own r.held (all_held P rs (All-tail (λ q. P q.
     with_own (Some mode) rest = All-cons (λ h. P h.txn) (record { txn = r.txn; granule = r.granule; mode = mode }) (held_by_all rs) (All-head (λ q. P q.txn) r rs all) rest
 
 not_of : (t : ℕ) (rs : List Request) → All (λ r. r.txn ≢ t) (of_others t rs)
-not_of t rs = all_in (λ r. r.txn ≢ t) (of_others t rs) (λ r there same.
+not_of t rs = All-In (λ r. r.txn ≢ t) (of_others t rs) (λ r there same.
     let other : not (r.txn == t) ≡ true = (In-filter (λ q. not (q.txn == t)) rs r there).1 in
     let own : not (r.txn == t) ≡ false = ap not ((Decides-eqb r.txn t).1 same) in
     let clash : true ≡ false = sym other ∙ own in
@@ -111,7 +103,7 @@ pub gone_of : (rs : List Request) (t : ℕ) → IsOrderly rs → All (λ h. h.tx
 gone_of rs t orderly = all_held (λ u. u ≢ t) (released t rs) (same_owners (λ u. u ≢ t) (of_others t rs) (released t rs) (released_own rs t orderly.one_each) (not_of t rs))
 
 pub numbers_of : (rs new : List Request) (t n : ℕ) → All (λ r. r.txn < n) rs → t < n → OthersOnlyGranted rs new t → All (λ r. r.txn < n) new
-numbers_of rs new t n below low others = all_by (λ r. (r.txn ≡ t) ⊎ (Contains rs r ⊎ Any (λ q. r ≡ granted q) rs)) (λ r. r.txn < n) new (λ r from. one r from) others
+numbers_of rs new t n below low others = All-weaker (λ r. (r.txn ≡ t) ⊎ (Contains rs r ⊎ Any (λ q. r ≡ granted q) rs)) (λ r. r.txn < n) (λ r from. one r from) new others
   where
     one : (r : Request) → (r.txn ≡ t) ⊎ (Contains rs r ⊎ Any (λ q. r ≡ granted q) rs) → r.txn < n
     one r (inl own) = omega (arith, own, low)

@@ -1,3 +1,4 @@
 pub mod Held
 pub mod Acquired
 pub mod Places
+pub mod Waiting

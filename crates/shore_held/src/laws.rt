@@ -67,6 +67,12 @@ pub fn releases_move_locks()
     ensures gone { (rs : List Request) (t : ℕ) → IsOrderly rs → All (λ h. h.txn ≢ t) (held_by_all (released t rs)) }
 {}
 
+/// Nobody but the one who asks begins to wait by an acquire, and nobody by a release.
+pub fn others_do_not_begin_to_wait()
+    ensures acquire { (rs new : List Request) (t u : ℕ) → OthersOnlyGranted rs new t → u ≢ t → is_waiting u rs ≡ false → is_waiting u new ≡ false }
+    ensures release { (rs : List Request) (t u : ℕ) → IsOrderly rs → is_waiting u rs ≡ false → is_waiting u (released t rs) ≡ false }
+{}
+
 /// The requests that an acquire leaves are of those who had some before, and of him who asked.
 pub fn acquires_keep_numbers()
     ensures { (rs new : List Request) (t n : ℕ) → All (λ r. r.txn < n) rs → t < n → OthersOnlyGranted rs new t → All (λ r. r.txn < n) new }
