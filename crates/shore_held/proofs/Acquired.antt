@@ -1,6 +1,6 @@
 -- What an acquire leaves, over the list of requests alone.
-use Rattle.std.proofs.Common.{◌≡◌, inl, inr, ℕ, List, false, refl, ap, sym, subst, reverse}
-use Rattle.std.specs.Prelude.{◌⊎◌, Err, Any, Contains, cond, is_some}
+use Rattle.std.proofs.Common.{◌≡◌, inl, inr, ℕ, List, false, refl, ap, sym, subst, reverse, Bool, true, false}
+use Rattle.std.specs.Prelude.{◌⊎◌, IfErr, Err, Any, Contains, cond, is_some}
 use Rattle.std.proofs.lemmas.List.Elements.{All-contains_itself, All-weaker}
 use Rattle.std.proofs.lemmas.Bool.{cases_Bool}
 use Rattle.shore_types.specs.Locking.{level_of}
@@ -17,9 +17,10 @@ use Rattle.shore_locks.proofs.Tables.{orderly_placed, orderly_put}
 use Rattle.shore_path.specs.declared.answers.OnConflict.{OnConflict}
 use Rattle.shore_path.specs.Rooted.{AreRooted}
 use Rattle.shore_path.specs.Walks.{ComesTo, Outcome, acquired, asked_of, walk}
-use Rattle.shore_path.proofs.Acquiring.{told_done, told_none_weaker, told_others, told_quiet, told_rooted}
+use Rattle.shore_path.proofs.Acquiring.{told_done, told_none_weaker, told_refused, told_others, told_quiet, told_rooted}
 use Rattle.shore_path.proofs.Growing.{quiet_grant}
 use Rattle.shore_path.proofs.Walking.{EachCase, of_walk}
+use Rattle.shore_path.specs.Acquires.{MayRefuse}
 use Rattle.shore_held.specs.Acquires.{Leaves}
 
 module _ (c : OnConflict) (t : ℕ) (target : Granule) (mode : Mode) (limit : ℕ) where
@@ -75,3 +76,17 @@ acquired_leaves c table t target mode orderly quiet rooted = elim (cases_Bool (i
       (sym (ap (λ b. cond b (walk c t target mode table.limit (reverse (path target)) table.requests) (record { answer = Err fault.BadMode; requests = table.requests })) refused))
       (refused_leaves table.requests t target mode orderly quiet rooted)
 ]
+
+-- what refuses it
+abbrev outcome_by : OnConflict → Table → ℕ → Granule → Mode → Bool → Outcome
+outcome_by c table t target mode b = cond b (walk c t target mode table.limit (reverse (path target)) table.requests) (record { answer = Err fault.BadMode; requests = table.requests })
+
+pub acquired_refused : (c : OnConflict) (table : Table) (t : ℕ) (target : Granule) (mode : Mode) → IsOrderly table.requests → is_waiting t table.requests ≡ false
+    → IfErr (acquired c table t target mode).answer (MayRefuse c (record { limit = table.limit; requests = (acquired c table t target mode).requests }) t target mode)
+acquired_refused c table t target mode orderly quiet = by (is_allowed (level_of target) mode) refl
+  where
+    by : (b : Bool) → is_allowed (level_of target) mode ≡ b
+        → IfErr (outcome_by c table t target mode b).answer (MayRefuse c (record { limit = table.limit; requests = (outcome_by c table t target mode b).requests }) t target mode)
+    by true is =
+        told_refused c t target mode table (record { limit = table.limit; requests = (outcome_by c table t target mode true).requests }) (outcome_by c table t target mode true).answer orderly quiet (refl, refl)
+    by false is = is

@@ -1,5 +1,5 @@
 -- Requests, seen as the locks of sessions.
-use Rattle.std.proofs.Common.{◌≡◌, ◌≢◌, ◌<◌, ◌⊎◌, inl, inr, ⊎_elim, ℕ, List, [], ◌∷◌, true, false, Option, None, Some, length, refl, ap, sym, subst, ◌∙◌, arith}
+use Rattle.std.proofs.Common.{◌≡◌, ◌≢◌, ◌<◌, ◌⊎◌, inl, inr, ⊎_elim, ℕ, List, [], ◌∷◌, true, false, Option, None, Some, refl, ap, sym, subst, ◌∙◌, arith}
 use Rattle.std.specs.Prelude.{IsTrue, Contains, Any, All, ◌==◌, not}
 use Rattle.std.specs.List.{cons_option}
 use Rattle.std.proofs.lemmas.Bool.Decides.{Decides-eqb}
@@ -15,14 +15,14 @@ use Rattle.shore_model.specs.declared.holds.Hold.{Hold}
 use Rattle.shore_model.specs.declared.requests.Request.{Request}
 use Rattle.shore_model.specs.Locks.{ancestors}
 use Rattle.shore_model.specs.Modes.{covers}
-use Rattle.shore_model.specs.Requests.{held_by_all, hold_in, hold_of}
+use Rattle.shore_model.specs.Requests.{held_by_all, hold_in, hold_of, requests_by}
 use Rattle.shore_locks.specs.Grants.{granted, is_enough, released}
 use Rattle.shore_locks.specs.Laws.{of_others, owners}
-use Rattle.shore_locks.specs.Orderly.{IsOrderly, IsOrderlyWithin}
+use Rattle.shore_locks.specs.Orderly.{IsOrderly}
 use Rattle.shore_locks.specs.Tables.{mode_held}
 use Rattle.shore_locks.proofs.LawLemmas.{released_own}
 use Rattle.shore_locks.proofs.Members.{All-In, In, In-filter}
-use Rattle.shore_locks.proofs.Tables.{kept_released}
+use Rattle.shore_locks.proofs.Tables.{orderly_given_up}
 use Rattle.shore_locks.proofs.Outcomes.{any_from}
 use Rattle.shore_path.specs.Acquires.{IsReached, OthersOnlyGranted}
 use Rattle.shore_path.specs.Rooted.{AreRooted}
@@ -122,13 +122,20 @@ moves_of s rs new held orderly later rooted none below = (
   refl,
 )
 
+pub released_orderly : (rs : List Request) (t : ℕ) → IsOrderly rs → IsOrderly (released t rs)
+released_orderly rs t orderly = orderly_given_up (requests_by t rs) rs orderly
+
+pub released_rooted : (rs : List Request) (t : ℕ) → IsOrderly rs → AreRooted rs → AreRooted (released t rs)
+released_rooted rs t orderly rooted = are_rooted (released t rs) (rooted_released t rs orderly (rooted_of rs orderly.one_each rooted))
+
+pub released_below : (rs : List Request) (t n : ℕ) → IsOrderly rs → All (λ r. r.txn < n) rs → All (λ r. r.txn < n) (released t rs)
+released_below rs t n orderly below = same_owners (λ u. u < n) (of_others t rs) (released t rs) (released_own rs t orderly.one_each) (below_others t n rs below)
+
 pub released_moves : (s : Sessions) (rs : List Request) (t : ℕ) → s.held ≡ held_by_all rs → IsOrderly rs → AreRooted rs → All (λ r. r.txn < s.next_txn) rs → (IsAmong t (txns_of s.active) → ⊥)
     → StepsTo s (MoveLocks (held_by_all (released t rs))) (locks_moved s (held_by_all (released t rs)))
 released_moves s rs t held orderly rooted below idle =
-    let later : IsOrderlyWithin (length rs) (released t rs) = kept_released (length rs) t rs (record { orderly = orderly; within = omega arith }) in
-    moves_of s rs (released t rs) held orderly later.orderly (are_rooted (released t rs) (rooted_released t rs orderly (rooted_of rs orderly.one_each rooted)))
-    (λ u among g m enough. weaker_released t rs orderly u g m (λ same. idle (subst (λ (x : ℕ). IsAmong x (txns_of s.active)) same among)) enough)
-    (same_owners (λ u. u < s.next_txn) (of_others t rs) (released t rs) (released_own rs t orderly.one_each) (below_others t s.next_txn rs below))
+    moves_of s rs (released t rs) held orderly (released_orderly rs t orderly) (released_rooted rs t orderly rooted)
+    (λ u among g m enough. weaker_released t rs orderly u g m (λ same. idle (subst (λ (x : ℕ). IsAmong x (txns_of s.active)) same among)) enough) (released_below rs t s.next_txn orderly below)
 
 -- ---- the locks of calls
 

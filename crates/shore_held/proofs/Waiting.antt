@@ -1,6 +1,6 @@
 -- Nobody but the one who asks begins to wait.
-use Rattle.std.proofs.Common.{◌≡◌, ◌≢◌, ◌⊎◌, inl, inr, ⊎_elim, ℕ, List, [], ◌∷◌, true, false, Option, None, Some, refl, ap, sym, ◌∙◌}
-use Rattle.std.specs.Prelude.{◌==◌, ◌&&◌, Any, Contains, is_some, not}
+use Rattle.std.proofs.Common.{◌≡◌, ◌≢◌, ◌⊎◌, inl, inr, ⊎_elim, ℕ, List, [], ◌∷◌, true, false, Option, None, Some, refl, ap, sym, ◌∙◌, ◌<◌, arith}
+use Rattle.std.specs.Prelude.{All, ◌==◌, ◌&&◌, Any, Contains, is_some, not}
 use Rattle.std.proofs.lemmas.Bool.{cases_Bool}
 use Rattle.std.proofs.lemmas.Bool.Decides.{Decides-eqb}
 use Rattle.std.proofs.lemmas.List.Elements.{All-contains}
@@ -71,3 +71,7 @@ given_up_quiet (r ∷ mine) rs u one quiet =
 
 pub released_stay_quiet : (rs : List Request) (t u : ℕ) → IsOrderly rs → is_waiting u rs ≡ false → is_waiting u (released t rs) ≡ false
 released_stay_quiet rs t u orderly quiet = given_up_quiet (requests_by t rs) rs u orderly.one_each quiet
+
+-- who has no request does not wait
+pub newcomer_quiet : (rs : List Request) (n : ℕ) → All (λ r. r.txn < n) rs → is_waiting n rs ≡ false
+newcomer_quiet rs n below = quiet_by rs n (λ r there by wants. let less = All-contains (λ q. q.txn < n) rs r below (In-Contains rs r there) in absurd (omega (arith, less, by)))

@@ -1,15 +1,12 @@
 -- What a call asks of the lock table before it looks at a record: a granule and a mode. The intentions come first, from the root down.
-use Rattle.std.specs.Prelude.{◌≡◌, ◌+◌, ℕ, List, Option, None, Some, Ok, length}
+use Rattle.std.specs.Prelude.{Option, None, Some}
 use Rattle.shore_types.specs.declared.locking.Granule.{Granule}
 use Rattle.shore_types.specs.declared.locking.Granule.TheVariants.{Record, Store}
 use Rattle.shore_types.specs.declared.locking.Mode.{Mode}
 use Rattle.shore_types.specs.declared.locking.Mode.TheVariants.{EX, IX, SH, UD}
 use Rattle.shore_model.specs.declared.calls.Call.{Call}
 use Rattle.shore_model.specs.declared.calls.Call.TheVariants as call
-use Rattle.shore_model.specs.declared.requests.Request.{Request}
-use Rattle.shore_path.specs.declared.answers.Acquired.TheVariants.{Done}
-use Rattle.shore_path.specs.declared.answers.OnConflict.TheVariants.{Refuse}
-use Rattle.shore_path.specs.Walks.{acquired}
+pub use Rattle.shore_path.specs.Judging.{CanLockNow}
 
 pub record Asked : Type 0 where
   pub granule : Granule
@@ -36,8 +33,3 @@ asked_by call.Abort = None
 asked_by (call.Prepare global) = None
 asked_by (call.Resolve global outcome) = None
 asked_by call.InDoubt = None
-
--- The transaction could have the granule in the mode at once: along the path nobody is in the way, in a table with a node to spare for each
--- granule of it.
-abbrev pub CanLockNow : List Request → ℕ → Granule → Mode → Type 0
-CanLockNow rs t g mode = (acquired Refuse (record { limit = length rs + 4; requests = rs }) t g mode).answer ≡ Ok Done

@@ -1,5 +1,6 @@
 -- What each call is answered and leaves. How requests come into the list, are granted, and leave it is said below.
 use Rattle.std.specs.Prelude.{◌&&◌, ℕ, List, Bool, not, cond, Option, None, Some, is_some, length, nat_lt}
+use Rattle.std.specs.Option.{option_map}
 use Rattle.shore_types.specs.declared.locking.Granule.{Granule}
 use Rattle.shore_types.specs.declared.locking.Mode.{Mode}
 use Rattle.shore_model.specs.declared.requests.Request.{Request}
@@ -46,6 +47,10 @@ abbrev pub answer_to_try : Table → ℕ → Granule → Mode → Tried
 answer_to_try table t g mode =
     cond (is_enough mode (mode_held t g table.requests)) TryGranted
     (cond (is_full table t g) TryFull (blocked_by (obstacle (asking t g mode table.requests) table.requests)))
+
+-- who is in the way of a transaction that asks for a granule, if anybody is, however many nodes are left: nobody if it holds enough
+abbrev pub in_the_way : ℕ → Granule → Mode → List Request → Option ℕ
+in_the_way t g mode rs = cond (is_enough mode (mode_held t g rs)) None (option_map (λ r. r.txn) (obstacle (asking t g mode rs) rs))
 
 -- the requests after a try, which never waits
 abbrev pub after_try : Table → ℕ → Granule → Mode → List Request

@@ -78,6 +78,14 @@ impl Counted {
         Ok(requests)
     }
 
+    /// Whether a granule may have requests: it has none if not.
+    pub fn may_have_requests(&self, granule: &Granule) -> bool
+        ensures { IsFalse result → requests_at granule.now self.now.requests ≡ [] }
+    {
+        let head = queue_head(granule, self.nodes.heads());
+        !self.nodes.is_deserted(head)
+    }
+
     /// Whether somebody may wait for a granule: nobody does if not.
     pub fn may_have_waiters(&self, granule: &Granule) -> bool
         ensures { IsFalse result → waiters_at granule.now self.now.requests ≡ [] }

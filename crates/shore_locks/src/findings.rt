@@ -53,6 +53,30 @@ pub fn check_request(nodes: &Counted, txn: TxnId, granule: &Granule, mode: Mode)
     }
 }
 
+/// Who would be in the way if a transaction that holds so much of a granule asked for a mode.
+pub fn in_the_way(
+    nodes: &Counted,
+    txn: TxnId,
+    granule: &Granule,
+    held: Option<Mode>,
+    mode: Mode,
+) -> Option<TxnId>
+    requires { held ≡ tables.mode_held txn granule.now nodes.now.requests }
+    ensures { result ≡ steps.in_the_way txn granule.now mode nodes.now.requests }
+{
+    if is_enough(mode, held) {
+        return None;
+    }
+    let request = Request {
+        txn,
+        granule: *granule,
+        held,
+        wanted: Some(wanted_mode(held, mode)),
+    };
+    let other = first_in_the_way(nodes, &request)?;
+    Some(other.txn)
+}
+
 // Mostly nobody is, which the counts of the queue show; else the queue is walked.
 fn first_in_the_way(nodes: &Counted, request: &Request) -> Option<Request>
     ensures { result ≡ steps.obstacle request.now nodes.now.requests }

@@ -3,7 +3,7 @@ ghost use Rattle.std.specs.Prelude.{◌≡◌, ◌≤◌, ◌+◌, [], filter, l
 ghost use Rattle.std.specs.List.Sorted.{IsPermutation, IsSorted};
 ghost use Rattle.shore_model.specs.declared.requests.Group.TheVariants.{Conversions};
 ghost use Rattle.shore_model.specs.Requests.{is_in_group, requests_at, requests_by};
-ghost use Rattle.shore_locks.specs.Grants.{after_request, after_try, answer_to, answer_to_try, cancelled, released};
+ghost use Rattle.shore_locks.specs.Grants.{after_request, after_try, answer_to, answer_to_try, cancelled, in_the_way, released};
 ghost use Rattle.shore_nodes.specs.Tables.{holders_at, is_waiting, mode_held, request_for, waiters_at, waiting_request};
 ghost use Rattle.shore_locks.specs.Listing.{request_cmp};
 ghost use Rattle.shore_nodes.specs.Orderly.{IsOrderly};
@@ -13,7 +13,7 @@ use crate::counted::Counted;
 use crate::findings::{Finding, check_request};
 use crate::listings::{Requests, put_in_order};
 use crate::queues::{Holders, Waiters};
-use crate::{changes, searches};
+use crate::{changes, findings, searches};
 use shore_model::Request;
 use shore_types::{Granule, Mode, TxnId};
 use std::alloc::{AllocError, Global};
@@ -174,15 +174,26 @@ impl LockTable {
         }
     }
 
-    /// What `try_request` would answer. Nothing changes.
-    pub fn would(&self, txn: TxnId, granule: Granule, mode: Mode) -> Tried
-        ensures { result ≡ answer_to_try self.now txn granule mode }
+    /// Whether a granule may have requests: it has none if not. It takes no search.
+    pub fn may_have_requests(&self, granule: Granule) -> bool
+        ensures { IsFalse result → requests_at granule self.now.requests ≡ [] }
     {
-        match check_request(&self.nodes, txn, &granule, mode) {
-            Finding::Enough | Finding::Free { .. } => Tried::Granted,
-            Finding::Full => Tried::Full,
-            Finding::Stopped { other: holder, .. } => Tried::Blocked(holder),
-        }
+        self.nodes.may_have_requests(&granule)
+    }
+
+    /// Who would be in the way if a transaction that holds so much of a granule asked for a mode; nobody is if what it holds is enough.
+    /// How many nodes are left is not looked at.
+    pub fn in_the_way(
+        &self,
+        txn: TxnId,
+        granule: Granule,
+        held: Option<Mode>,
+        mode: Mode,
+    ) -> Option<TxnId>
+        requires { held ≡ mode_held txn granule self.now.requests }
+        ensures { result ≡ in_the_way txn granule mode self.now.requests }
+    {
+        findings::in_the_way(&self.nodes, txn, &granule, held, mode)
     }
 
     /// All requests, by granule and then by transaction.

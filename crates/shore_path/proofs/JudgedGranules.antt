@@ -1,7 +1,7 @@
 -- A walk that changes nothing: each granule is judged in the table as it was, for what a grant above it changed is elsewhere.
 use Rattle.std.proofs.Common.{◌≡◌, ◌<◌, ◌≤◌, ◌+◌, ℕ, List, Bool, true, false, Option, None, Some, ⊎_elim, refl, ap, sym, ◌∙◌, length, arith}
 use Rattle.std.specs.Prelude.{◌&&◌, ◌==◌, not, cond, find, is_some, nat_lt}
-use Rattle.std.specs.Option.{option_and_then}
+use Rattle.std.specs.Option.{option_and_then, option_map}
 use Rattle.std.proofs.lemmas.List.{length_push}
 use Rattle.std.proofs.lemmas.Bool.Decides.{Decides-ltb}
 use Rattle.shore_types.specs.declared.locking.Granule.{Granule}
@@ -11,17 +11,22 @@ use Rattle.shore_model.specs.declared.requests.Request.{Request}
 use Rattle.shore_model.specs.Requests.{AreRequests, requests_at}
 use Rattle.shore_locks.specs.declared.answers.Tried.{Tried}
 use Rattle.shore_locks.specs.declared.answers.Tried.TheVariants.{Granted as TryGranted, Full as TryFull}
-use Rattle.shore_locks.specs.Grants.{after_grant, after_try, answer_to_try, asking, blocked_by, granted, is_enough, is_full, is_stopped_by, obstacle, put, wanted_mode}
+use Rattle.shore_locks.specs.Grants.{after_grant, after_try, answer_to_try, asking, blocked_by, granted, in_the_way, is_enough, is_full, is_stopped_by, obstacle, put, wanted_mode}
 use Rattle.shore_locks.specs.Tables.{Table, is_for, mode_held, request_for}
 use Rattle.shore_locks.proofs.Buckets.{find_filtered}
 use Rattle.shore_locks.proofs.Counts.{AreRequests-passed, length-passed, length-replaced}
 use Rattle.shore_locks.proofs.Entering.{AreRequests-put, both_true, found_any_same, nothing}
 use Rattle.shore_locks.proofs.Members.{either}
 use Rattle.shore_locks.proofs.Others.{at_other_passed, at_other_put, put_in_place, put_last}
-use Rattle.shore_path.specs.Judging.{IsAlike}
+use Rattle.shore_path.specs.Judging.{IsAlike, told_by}
 
 abbrev tried : Bool → Bool → Option Request → Tried
 tried enough full o = cond enough TryGranted (cond full TryFull (blocked_by o))
+
+told_free : (enough : Bool) (o : Option Request) → told_by (cond enough None (option_map (λ (r : Request). r.txn) o)) ≡ tried enough false o
+told_free true o = refl
+told_free false None = refl
+told_free false (Some q) = refl
 
 abbrev left_by : {A : Type 0} → Bool → Bool → Bool → A → A → A
 left_by enough full stopped same grown = cond enough same (cond full same (cond stopped same grown))
@@ -41,19 +46,20 @@ module _ (t : ℕ) (g : Granule) (m : Mode) (rs new : List Request) (same : requ
   abbrev asks : Option Mode → Request
   asks held = record { txn = t; granule = g; held = held; wanted = Some (wanted_mode held m) }
 
-  obstacle_same : obstacle (asking t g m new) new ≡ obstacle (asking t g m rs) rs
+  pub obstacle_same : obstacle (asking t g m new) new ≡ obstacle (asking t g m rs) rs
   obstacle_same = ap (λ held. obstacle (asks held) new) held_same ∙ ap (find (is_stopped_by (asking t g m rs))) same
 
-  pub answer_same : (limit : ℕ) → is_full (record { limit = limit; requests = new }) t g ≡ false → is_full (record { limit = limit; requests = rs }) t g ≡ false
-      → answer_to_try (record { limit = limit; requests = rs }) t g m ≡ answer_to_try (record { limit = limit; requests = new }) t g m
-  answer_same limit full_new full_rs =
-      sym (ap (λ held. tried (is_enough m held) (is_full (record { limit = limit; requests = new }) t g) (obstacle (asking t g m new) new)) held_same
-      ∙ ap (λ full. tried (is_enough m (mode_held t g rs)) full (obstacle (asking t g m new) new)) (full_new ∙ sym full_rs)
-      ∙ ap (tried (is_enough m (mode_held t g rs)) (is_full (record { limit = limit; requests = rs }) t g)) obstacle_same)
+  -- .. as a try would be told that has a node to spare
+  pub answer_same : (limit : ℕ) → is_full (record { limit = limit; requests = new }) t g ≡ false → told_by (in_the_way t g m rs) ≡ answer_to_try (record { limit = limit; requests = new }) t g m
+  answer_same limit room =
+      told_free (is_enough m (mode_held t g rs)) (obstacle (asking t g m rs) rs)
+      ∙ sym (ap (λ held. tried (is_enough m held) (is_full (record { limit = limit; requests = new }) t g) (obstacle (asking t g m new) new)) held_same
+      ∙ ap (λ full. tried (is_enough m (mode_held t g rs)) full (obstacle (asking t g m new) new)) room
+      ∙ ap (tried (is_enough m (mode_held t g rs)) false) obstacle_same)
 
 -- ---- room
 
-not_full : (known : Bool) (n limit : ℕ) → (known ≡ false → n < limit) → (not known && not (nat_lt n limit)) ≡ false
+pub not_full : (known : Bool) (n limit : ℕ) → (known ≡ false → n < limit) → (not known && not (nat_lt n limit)) ≡ false
 not_full true n limit room = refl
 not_full false n limit room = ap not ((Decides-ltb n limit).1 (room refl))
 
@@ -67,12 +73,11 @@ judged_full t g m limit left rs new alike unknown none =
     let full : nat_lt (length new) limit ≡ false = no_room (length new) limit (omega (arith, alike.room, none)) in
     rw (missing, full) refl
 
-pub judged_by_would : (t : ℕ) (g : Granule) (m : Mode) (limit left : ℕ) (rs new : List Request) → IsAlike g limit left rs new → (is_some (request_for t g rs) ≡ false → 0 < left)
-    → answer_to_try (record { limit = limit; requests = rs }) t g m ≡ answer_to_try (record { limit = limit; requests = new }) t g m
-judged_by_would t g m limit left rs new alike some =
+pub judged_by_way : (t : ℕ) (g : Granule) (m : Mode) (limit left : ℕ) (rs new : List Request) → IsAlike g limit left rs new → (is_some (request_for t g rs) ≡ false → 0 < left)
+    → told_by (in_the_way t g m rs) ≡ answer_to_try (record { limit = limit; requests = new }) t g m
+judged_by_way t g m limit left rs new alike some =
     answer_same t g m rs new alike.same limit
     (not_full (is_some (request_for t g new)) (length new) limit (λ e. (let more = some (sym (ap is_some (found_same t g m rs new alike.same)) ∙ e) in omega (arith, alike.room, more))))
-    (not_full (is_some (request_for t g rs)) (length rs) limit (λ e. (let more = some e in omega (arith, alike.room, alike.grew, more))))
 
 -- ---- a grant
 
@@ -83,16 +88,19 @@ module _ (t : ℕ) (g : Granule) (m : Mode) (new : List Request) (one : AreReque
   ones : AreRequests grown
   ones = AreRequests-put (granted (asking t g m new)) new one
 
-  elsewhere : (h : Granule) → (g ≡ h → ⊥) → requests_at h (after_grant t g m new) ≡ requests_at h new
+  pub elsewhere : (h : Granule) → (g ≡ h → ⊥) → requests_at h (after_grant t g m new) ≡ requests_at h new
   elsewhere h other = at_other_passed h g grown ones other ∙ at_other_put h (granted (asking t g m new)) new other
 
-  length-known : is_some (request_for t g new) ≡ true → length (after_grant t g m new) ≡ length new
+  pub length-known : is_some (request_for t g new) ≡ true → length (after_grant t g m new) ≡ length new
   length-known known =
       length-passed g grown ones ∙ ap length (put_in_place (granted (asking t g m new)) new (sym (found_any_same (is_for t g) new) ∙ known)) ∙ length-replaced (granted (asking t g m new)) new
 
-  length-unknown : is_some (request_for t g new) ≡ false → length (after_grant t g m new) ≡ length new + 1
+  pub length-unknown : is_some (request_for t g new) ≡ false → length (after_grant t g m new) ≡ length new + 1
   length-unknown none =
       length-passed g grown ones ∙ ap length (put_last (granted (asking t g m new)) new (sym (found_any_same (is_for t g) new) ∙ none)) ∙ length_push new (granted (asking t g m new))
+
+pub one_after_grant : (t : ℕ) (g : Granule) (m : Mode) (new : List Request) → AreRequests new → AreRequests (after_grant t g m new)
+one_after_grant t g m new one = AreRequests-passed g (grown t g m new one) (ones t g m new one)
 
 in_either : (P : List Request → Type 0) (enough full stopped : Bool) (same more : List Request) → P same → P more → P (left_by enough full stopped same more)
 in_either P true full stopped same more p q = p
@@ -114,7 +122,7 @@ module _ (t : ℕ) (g : Granule) (m : Mode) (limit : ℕ) (new : List Request) (
   after_either P = in_either P (is_enough m (mode_held t g new)) (is_full table t g) (is_some (obstacle (asking t g m new) new)) new (after_grant t g m new)
 
   pub one_after_try : AreRequests (after_try table t g m)
-  one_after_try = after_either AreRequests one (AreRequests-passed g (grown t g m new one) (ones t g m new one))
+  one_after_try = after_either AreRequests one (one_after_grant t g m new one)
 
   pub elsewhere_after_try : (h : Granule) → (g ≡ h → ⊥) → requests_at h (after_try table t g m) ≡ requests_at h new
   elsewhere_after_try h other = after_either (λ xs. requests_at h xs ≡ requests_at h new) refl (elsewhere t g m new one h other)

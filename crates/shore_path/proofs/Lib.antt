@@ -9,6 +9,7 @@ pub mod Intentions
 pub mod JudgedGranules
 pub mod JudgedWays
 pub mod Kept
+pub mod Lockable
 pub mod ModeFacts
 pub mod Moving
 pub mod Reached

@@ -15,10 +15,14 @@ use Rattle.shore_path.specs.declared.answers.OnConflict.{OnConflict}
 use Rattle.shore_path.specs.declared.answers.OnConflict.TheVariants.{Refuse}
 use Rattle.shore_path.specs.Walks.{asked_of, is_covered}
 
+-- the transaction holds an ancestor in a mode that covers the one that is asked
+abbrev pub IsCoveredAbove : List Request → ℕ → Granule → Mode → Type 0
+IsCoveredAbove rs t target mode = Any (λ g. IsTrue (is_covered mode (mode_held t g rs))) (ancestors target)
+
 -- the transaction holds the target in the mode, or in a stronger one, or it holds an ancestor in a mode that covers it
 abbrev pub IsReached : List Request → ℕ → Granule → Mode → Type 0
 IsReached rs t target mode =
-    IsTrue (is_enough mode (mode_held t target rs)) ⊎ Any (λ g. IsTrue (is_covered mode (mode_held t g rs))) (ancestors target)
+    IsTrue (is_enough mode (mode_held t target rs)) ⊎ IsCoveredAbove rs t target mode
 
 -- the transaction waits at a granule for a mode, joined to the one that it holds, and waits for somebody
 pub record WaitsAt (rs : List Request) (t : ℕ) (g : Granule) (asked : Mode) : Type 0 where

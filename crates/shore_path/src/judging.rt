@@ -1,5 +1,5 @@
 //! What a lock along a path would come to, without taking it.
-ghost use Rattle.std.specs.Prelude.{◌≡◌, ◌+◌, ◌&&◌, List, is_some, length, not, reverse};
+ghost use Rattle.std.specs.Prelude.{◌≡◌, ◌↔◌, ◌+◌, ◌&&◌, ℕ, IsTrue, List, length, not, reverse};
 ghost use Rattle.std.specs.Option.{option_and_then};
 ghost use Rattle.shore_types.specs.Locking.{same_granule};
 ghost use Rattle.shore_model.specs.declared.requests.Request.{Request as RequestData};
@@ -7,31 +7,79 @@ ghost use Rattle.shore_model.specs.Locks as locks;
 ghost use Rattle.shore_locks.specs.Grants.{after_try, answer_to_try};
 ghost use Rattle.shore_locks.specs.Orderly.{IsOrderly};
 ghost use Rattle.shore_locks.specs.Tables.{request_for};
-ghost use Rattle.shore_path.specs.Judging.{IsAlike};
+ghost use Rattle.shore_path.specs.Acquires.{IsCoveredAbove};
+ghost use Rattle.shore_path.specs.Judging as specs;
+ghost use Rattle.shore_path.specs.Judging.{CanLockNow, IsAlike, with_left};
 ghost use Rattle.shore_path.specs.declared.answers.OnConflict.TheVariants.{Refuse};
 ghost use Rattle.shore_path.specs.Walks as walks;
 
 use crate::answers::Acquired;
-use crate::paths::path_to;
-use crate::walk::{asked_of, is_covered};
+use crate::paths::{LONGEST_PATH, path_to};
+use crate::walk::{asked_of, is_covered, is_done};
 use shore_locks::laws::tables_are_orderly;
 use shore_locks::{LockTable, Tried};
 use shore_model::Request;
 use shore_modes::allowed;
-use shore_types::{Fault, Granule, Mode, TxnId};
+use shore_types::{Fault, Granule, Mode, Rid, TxnId};
 
 /// What `acquire` would be answered if it may not wait. Nothing changes. If the answer is Done, an acquire that follows is Done
 /// too, also one that may wait.
 pub fn judge(table: &LockTable, txn: TxnId, target: Granule, mode: Mode) -> Result<Acquired, Fault>
     ensures { result ≡ (walks.acquired Refuse table.now txn target mode).answer }
 {
-    let target = &target;
+    judge_with(table, txn, &target, mode, table.nodes_left())
+}
+
+/// Whether a transaction could lock a granule in a mode now: nobody is in the way on its path. How many nodes are left is not looked at.
+/// Of each granule of the path one request is looked for.
+pub fn may_lock(table: &LockTable, txn: TxnId, target: Granule, mode: Mode) -> bool
+    ensures { IsTrue result ↔ CanLockNow table.now.requests txn target mode }
+{
+    is_done(&judge_with(table, txn, &target, mode, LONGEST_PATH))
+}
+
+/// As `may_lock`, for a record in EX whose page the transaction could lock in IX. Mostly the record has no requests, and then nothing
+/// is looked for.
+pub fn may_lock_in_page(table: &LockTable, txn: TxnId, id: &Rid) -> bool
+    requires { CanLockNow table.now.requests txn (Granule.Page id.now.page) Mode.IX }
+    ensures { IsTrue result ↔ CanLockNow table.now.requests txn (Granule.Record id.now) Mode.EX }
+{
+    tables_are_orderly(table);
+    let record = &Granule::Record(*id);
+    if !table.may_have_requests(*record) {
+        return true;
+    }
+    let held = table.held(txn, *record);
+    let other = table.in_the_way(txn, *record, held, Mode::EX);
+    other.is_none() || is_covered_above(table, txn, id)
+}
+
+// Whether a page, its store or the volume is held in a mode that covers a lock of the record in EX.
+fn is_covered_above(table: &LockTable, txn: TxnId, id: &Rid) -> bool
+    ensures { IsTrue result ↔ IsCoveredAbove table.now.requests txn (Granule.Record id.now) Mode.EX }
+{
+    let page = table.held(txn, Granule::Page(id.page));
+    let store = table.held(txn, Granule::Store(id.page.store));
+    let volume = table.held(txn, Granule::Volume);
+    is_covered(Mode::EX, page) || is_covered(Mode::EX, store) || is_covered(Mode::EX, volume)
+}
+
+// What an acquire that may not wait would be answered in a table with so many nodes left.
+fn judge_with(
+    table: &LockTable,
+    txn: TxnId,
+    target: &Granule,
+    mode: Mode,
+    left: usize,
+) -> Result<Acquired, Fault>
+    ensures { result ≡ (walks.acquired Refuse (with_left table.now.requests left) txn target.now mode).answer }
+{
     if !allowed(target.level(), mode) {
         return Err(Fault::BadMode);
     }
     tables_are_orderly(table);
     let path = path_to(*target);
-    judge_along(table, txn, target, mode, path.as_slice())
+    judge_along(table, txn, target, mode, path.as_slice(), left)
 }
 
 // Judges the granules of a path in their order, with the nodes that those above would have taken.
@@ -41,19 +89,20 @@ fn judge_along(
     target: &Granule,
     mode: Mode,
     path: &[Granule],
+    left: usize,
 ) -> Result<Acquired, Fault>
     requires orderly { IsOrderly table.now.requests }
     requires path { path.now ≡ reverse (locks.path target.now) }
-    ensures { result ≡ (walks.walk Refuse txn target.now mode table.now.limit path.now table.now.requests).answer }
+    ensures { result ≡ (walks.walk Refuse txn target.now mode (length table.now.requests + left) path.now table.now.requests).answer }
 {
-    let mut left = table.nodes_left();
+    let mut left = left;
     for granule in path {
         let own = table.request_for(txn, *granule);
         if spares(target, mode, granule, &own) {
             return Ok(Acquired::Done);
         }
         let asked = asked_of(target, mode, granule);
-        match judge_one(table, txn, granule, asked, own.is_some(), &mut left) {
+        match judge_one(table, txn, granule, asked, &own, &mut left) {
             Tried::Granted => {}
             Tried::Blocked(holder) => return Err(Fault::WouldBlock { holder }),
             Tried::Full => return Err(Fault::LockTableFull),
@@ -68,22 +117,32 @@ fn judge_one(
     txn: TxnId,
     granule: &Granule,
     mode: Mode,
-    known: bool,
+    own: &Option<Request>,
     left: &mut usize,
 ) -> Tried
-    requires { known ≡ is_some (request_for txn granule.now table.now.requests) }
-    ensures answer { (new : List RequestData) → IsAlike granule.now table.now.limit left.old table.now.requests new →
-        result ≡ answer_to_try (record { limit = table.now.limit; requests = new }) txn granule.now mode }
-    ensures left { (new : List RequestData) → IsAlike granule.now table.now.limit left.old table.now.requests new → result ≡ Tried.Granted →
-        left.new + length (after_try (record { limit = table.now.limit; requests = new }) txn granule.now mode) ≡ table.now.limit }
+    requires { own.now ≡ request_for txn granule.now table.now.requests }
+    ensures answer { (limit : ℕ) (new : List RequestData) → IsAlike granule.now limit left.old table.now.requests new →
+        result ≡ answer_to_try (record { limit = limit; requests = new }) txn granule.now mode }
+    ensures left { (limit : ℕ) (new : List RequestData) → IsAlike granule.now limit left.old table.now.requests new → result ≡ Tried.Granted →
+        left.new + length (after_try (record { limit = limit; requests = new }) txn granule.now mode) ≡ limit }
 {
-    if !known {
+    if own.is_none() {
         if *left == 0 {
             return Tried::Full;
         }
         *left -= 1;
     }
-    table.would(txn, *granule, mode)
+    told_by(table.in_the_way(txn, *granule, held_by(own), mode))
+}
+
+// What a try is told by who is in its way.
+fn told_by(other: Option<TxnId>) -> Tried
+    ensures { result ≡ specs.told_by other }
+{
+    match other {
+        Some(holder) => Tried::Blocked(holder),
+        None => Tried::Granted,
+    }
 }
 
 // Whether the granule is an ancestor, and what the transaction has there spares all that is left to ask.

@@ -1,17 +1,21 @@
 //! Laws of locks along paths, each stated as the contract of an empty function.
-ghost use Rattle.std.specs.Prelude.{◌≡◌, ◌∷◌, [], ℕ, List, All, Ok};
+ghost use Rattle.std.specs.Prelude.{◌≡◌, ◌↔◌, ◌⊎◌, ◌∷◌, [], ℕ, List, All, None, Ok};
+ghost use Rattle.shore_types.specs.declared.ids.Rid.{Rid};
 ghost use Rattle.shore_types.specs.declared.locking.Granule.{Granule};
+ghost use Rattle.shore_types.specs.declared.locking.Granule.TheVariants.{Page, Record};
 ghost use Rattle.shore_types.specs.declared.locking.Mode.{Mode};
+ghost use Rattle.shore_types.specs.declared.locking.Mode.TheVariants.{EX, IX};
 ghost use Rattle.shore_model.specs.declared.holds.Hold.{Hold};
 ghost use Rattle.shore_model.specs.declared.requests.Request.{Request};
 ghost use Rattle.shore_model.specs.Locks.{Agree, Harmony, IsRooted, StandTogether, WellRooted};
 ghost use Rattle.shore_model.specs.Requests.{held_by_all};
-ghost use Rattle.shore_locks.specs.Grants.{cancelled, released};
+ghost use Rattle.shore_locks.specs.Grants.{cancelled, in_the_way, released};
 ghost use Rattle.shore_locks.specs.Orderly.{IsOrderly};
 ghost use Rattle.shore_locks.specs.Tables.{Table};
 ghost use Rattle.shore_path.specs.declared.answers.Acquired.TheVariants.{Done};
 ghost use Rattle.shore_path.specs.declared.answers.OnConflict.TheVariants.{Refuse, Wait};
-ghost use Rattle.shore_path.specs.Acquires.{NoOtherWeaker, NoneWeaker};
+ghost use Rattle.shore_path.specs.Acquires.{IsCoveredAbove, NoOtherWeaker, NoneWeaker};
+ghost use Rattle.shore_path.specs.Judging.{CanLockNow};
 ghost use Rattle.shore_path.specs.Rooted.{AreRooted};
 ghost use Rattle.shore_path.specs.Walks.{acquired};
 
@@ -40,6 +44,18 @@ pub fn empty_table_is_rooted()
 pub fn done_without_waiting()
     ensures { (table : Table) (t : ℕ) (target : Granule) (mode : Mode) → (acquired Refuse table t target mode).answer ≡ Ok Done →
         acquired Wait table t target mode ≡ acquired Refuse table t target mode }
+{}
+
+/// A record that could be locked in EX now lies on a page that could be locked in IX.
+pub fn records_need_their_page()
+    ensures { (rs : List Request) (t : ℕ) (id : Rid) → CanLockNow rs t (Record id) EX → CanLockNow rs t (Page id.page) IX }
+{}
+
+/// On a page that could be locked in IX now, a record could be locked in EX if nobody is in the way in its own queue, or a lock above
+/// covers it, and only then.
+pub fn records_of_a_page_decide()
+    ensures { (rs : List Request) (t : ℕ) (id : Rid) → IsOrderly rs → CanLockNow rs t (Page id.page) IX →
+        CanLockNow rs t (Record id) EX ↔ ((in_the_way t (Record id) EX rs ≡ None) ⊎ IsCoveredAbove rs t (Record id) EX) }
 {}
 
 /// If a transaction waits no more, all requests that are left have their intentions, and those that are granted then too.

@@ -8,6 +8,6 @@ pub mod paths;
 pub mod walk;
 
 pub use answers::{Acquired, OnConflict};
-pub use judging::judge;
-pub use paths::{Path, path_to};
+pub use judging::{judge, may_lock, may_lock_in_page};
+pub use paths::{LONGEST_PATH, Path, path_to};
 pub use walk::acquire;

@@ -5,8 +5,11 @@ ghost use Rattle.shore_model.specs.Locks as locks;
 use arrayvec::ArrayVec;
 use shore_types::Granule;
 
-/// A path: four granules at most, which lie in the value itself.
-pub type Path = ArrayVec<Granule, 4>;
+/// The volume, a store, a page and a record: no path has more granules.
+pub const LONGEST_PATH: usize = 4;
+
+/// A path, whose granules lie in the value itself.
+pub type Path = ArrayVec<Granule, LONGEST_PATH>;
 
 /// The path of a granule from the root down, the granule last.
 pub fn path_to(granule: Granule) -> Path

@@ -124,7 +124,7 @@ fn of_try(tried: Tried) -> Result<Acquired, Fault>
     }
 }
 
-fn is_done(acquired: &Result<Acquired, Fault>) -> bool
+pub(crate) fn is_done(acquired: &Result<Acquired, Fault>) -> bool
     ensures { IsTrue result ↔ (acquired.now ≡ Ok Acquired.Done) }
 {
     matches!(acquired, Ok(Acquired::Done))

@@ -3,7 +3,7 @@ use super::granules::Target;
 use shore_deadlock::{Victim, break_cycles, find_cycle};
 use shore_locks::{LockTable, Requested, Tried};
 use shore_model::Request;
-use shore_path::{Acquired, OnConflict, acquire, judge};
+use shore_path::{Acquired, OnConflict, acquire, judge, may_lock};
 use shore_types::{Fault, Mode, TxnId};
 use std::alloc::Global;
 use std::test::Fail;
@@ -158,6 +158,7 @@ fn attempts(table: &mut LockTable, txn: u64, target: Target, mode: Mode, outcome
         return false;
     }
     let judged = judge(table, TxnId(txn), target.granule(), mode);
+    let lockable = may_lock(table, TxnId(txn), target.granule(), mode);
     let acquired = acquire(
         table,
         TxnId(txn),
@@ -165,7 +166,16 @@ fn attempts(table: &mut LockTable, txn: u64, target: Target, mode: Mode, outcome
         mode,
         OnConflict::Refuse,
     );
-    acquired == judged && acquired == attempted_of(outcome)
+    acquired == judged && acquired == attempted_of(outcome) && agrees(lockable, outcome)
+}
+
+// How many nodes are left does not count for what may be locked.
+fn agrees(lockable: bool, outcome: Outcome) -> bool {
+    match outcome {
+        Outcome::Granted => lockable,
+        Outcome::Blocked(_) | Outcome::BadMode => !lockable,
+        Outcome::Full => true,
+    }
 }
 
 fn attempted_of(outcome: Outcome) -> Result<Acquired, Fault> {
