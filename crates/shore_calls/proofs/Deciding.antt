@@ -1,119 +1,36 @@
 -- Each call that is served comes to something: each condition is decided, in the order of the refusals.
-use Rattle.std.proofs.Common.{◌≡◌, ◌≢◌, ◌⊎◌, inl, inr, ⊎_elim, ◌+◌, ◌≤◌, ◌<◌, ℕ, suc, List, [], ◌∷◌, Bool, true, false, Option, Some, None, refl, sym, ap, subst, ◌∙◌, length, max, arith}
-use Rattle.std.specs.Prelude.{◌==◌, ◌↔◌, IsSome, IsSomeAnd, IsTrue, slice_get}
+use Rattle.std.proofs.Common.{◌≡◌, ◌⊎◌, inl, inr, ⊎_elim, ◌≤◌, ◌<◌, ℕ, List, Bool, true, false, Some, None, refl, sym, ap, subst, ◌∙◌, length}
 use Rattle.std.specs.FinMap.{get}
-use Rattle.std.specs.Ordering.{eq_by_cmp}
-use Rattle.std.proofs.lemmas.Bool.{eqb-true, eqb-false}
-use Rattle.std.proofs.lemmas.Map.Views.{tells_apart}
-use Rattle.shore_types.specs.Ids.{exact_pages, page_cmp}
+use Rattle.std.specs.Prelude.{Option, ◌↔◌, IsSome, IsSomeAnd, IsTrue, slice_get}
 use Rattle.shore_types.specs.Images.{Image}
-use Rattle.shore_types.specs.Layout.{HasPage, HasStore}
-use Rattle.shore_types.specs.declared.faults.Device.{Device}
+use Rattle.shore_types.specs.Layout.{HasPage}
 use Rattle.shore_types.specs.declared.faults.Fault.{Fault}
 use Rattle.shore_types.specs.declared.faults.Fault.TheVariants as fault
-use Rattle.shore_types.specs.declared.ids.PageId.{PageId}
 use Rattle.shore_types.specs.declared.ids.Rid.{Rid}
 use Rattle.shore_types.specs.declared.layout.Geometry.{Geometry}
-use Rattle.shore_types.specs.declared.layout.TheConstants.{ENDING_COST, GREATEST_CHECKPOINT, LAST_LSN, LAST_TXN, LONGEST_FRAME, MAX_RECORD_BYTES, MAX_SLOTS}
+use Rattle.shore_types.specs.declared.layout.TheConstants.{ENDING_COST, LAST_TXN, MAX_RECORD_BYTES}
+use Rattle.shore_model.specs.Records.{scan_of}
 use Rattle.shore_model.specs.declared.calls.Answer.{Answer}
 use Rattle.shore_model.specs.declared.calls.Answer.TheVariants.{Began, Deleted, Got, Inserted, Scanned, Updated}
 use Rattle.shore_model.specs.declared.calls.Call.{Call}
 use Rattle.shore_model.specs.declared.calls.Call.TheVariants as call
 use Rattle.shore_model.specs.declared.histories.Entry.{Entry}
 use Rattle.shore_model.specs.declared.log_records.LogRecord.{LogRecord}
-use Rattle.shore_model.specs.Records.{scan_of}
-use Rattle.shore_calls.specs.declared.step.Step.{Step}
-use Rattle.shore_calls.specs.declared.step.Step.TheVariants.{Done, Waits, Refused}
-use Rattle.shore_calls.specs.declared.step.Wait.TheVariants.{Durable}
-use Rattle.shore_page.specs.Room.{Fits, free_bytes, need}
-use Rattle.shore_page.specs.Slots.{Slot}
 use Rattle.shore_room.proofs.Choosing.{chosen}
 use Rattle.shore_room.proofs.Fitting.{delete_fits}
-use Rattle.shore_room.proofs.Leaving.{same_page}
-use Rattle.shore_room.specs.Choosing.{IsChoice, first_of}
-use Rattle.shore_room.specs.Choosing.{Serves as MayServe}
-use Rattle.shore_room.specs.Claims.{Grows, SlotCounts}
+use Rattle.shore_room.specs.Choosing.{IsChoice, Serves as MayServe, first_of}
+use Rattle.shore_room.specs.Claims.{SlotCounts}
 use Rattle.shore_sessions.proofs.Lists.{within_or_beyond}
-use Rattle.shore_sessions.specs.Views.{IsAmong}
+use Rattle.shore_calls.specs.declared.step.Step.{Step}
+use Rattle.shore_calls.specs.declared.step.Step.TheVariants.{Done, Refused, Waits}
+use Rattle.shore_calls.specs.declared.step.Wait.TheVariants.{Durable}
+use Rattle.shore_calls.proofs.Decided.{IsOrdinary, OrNot, at_most, both, fits_or_not, grown, grows, image_or_none, less_than, none_or_not, ordinary, page_or_not, room_or_not, same_number, store_or_not, waits_or_not}
 use Rattle.shore_calls.proofs.Places.{lowest_reached, none_reached}
 use Rattle.shore_calls.proofs.Sessions.{is_txn_of}
 use Rattle.shore_calls.specs.CallHistories.{IsRoomyState, IsStateAfter}
 use Rattle.shore_calls.specs.CallSteps.{CallStep, ComesOfState, IsServed, MayAnswer, MayChange, after_refusal, answered, begun, commit_waiting, committed}
-use Rattle.shore_calls.specs.Refusals.{CanLog, FitsAt, FindsRecord, IsPlaceFor, IsRefusal, NoneServes, Refuses, Serves}
-use Rattle.shore_calls.specs.States.{DoesNotWait, HasNoTxn, HasRoomFor, IsInTxn, State, Waiting, log_room, next_number, page_slots}
-
--- ---- what is decided
-
-abbrev OrNot : Type 0 → Type 0
-OrNot P = P ⊎ (P → ⊥)
-
-at_most : (a b : ℕ) → OrNot (a ≤ b)
-at_most a b = ⊎_elim (λ le. inl le) (λ less. inr (λ le. omega arith)) (within_or_beyond a b)
-
-less_than : (a b : ℕ) → OrNot (a < b)
-less_than a b = at_most (suc a) b
-
-both : {P Q : Type 0} → OrNot P → OrNot Q → OrNot (P × Q)
-both p q = ⊎_elim (λ x. ⊎_elim (λ y. inl (x, y)) (λ none. inr (λ h. none h.1)) q) (λ none. inr (λ h. none h.0)) p
-
-some_or_not : (o : Option ℕ) (n : ℕ) → OrNot (IsSomeAnd o (λ pages. n < pages))
-some_or_not None n = inr (λ h. absurd h)
-some_or_not (Some pages) n = less_than n pages
-
-store_or_not : (g : Geometry) (store : ℕ) → OrNot (HasStore g store)
-store_or_not g store = less_than store (length g.stores)
-
-page_or_not : (g : Geometry) (p : PageId) → OrNot (HasPage g p)
-page_or_not g p = some_or_not (slice_get g.stores p.store) p.page
-
-fits_or_not : (slots : List Slot) (slot bytes : ℕ) → OrNot (Fits slots slot bytes)
-fits_or_not slots slot bytes =
-    ⊎_elim
-    (λ h. inl (record { there = h.0.0; most = h.0.1; room = h.1 }))
-    (λ none. inr (λ h. none ((h.there, h.most), h.room)))
-    (both (both (less_than slot MAX_SLOTS) (at_most bytes MAX_RECORD_BYTES)) (at_most (need slots slot bytes) (free_bytes slots)))
-
-room_or_not : (s : State) (n : ℕ) → OrNot (HasRoomFor s n)
-room_or_not s n =
-    let room = log_room s in
-    both (less_than (length s.log) LAST_LSN) (at_most (room.kept + room.reserved + n + LONGEST_FRAME + GREATEST_CHECKPOINT) s.stream_bytes)
-
-image_or_none : (o : Image) → ((bytes : List ℕ) × (o ≡ Some bytes)) ⊎ (o ≡ None)
-image_or_none None = inr refl
-image_or_none (Some bytes) = inl (bytes, refl)
-
-waits_or_not : (session : ℕ) (ws : List Waiting) → ((w : Waiting) × IsAmong w ws × (w.session ≡ session)) ⊎ ((w : Waiting) → IsAmong w ws → w.session ≢ session)
-waits_or_not session [] = inr (λ w m. absurd m)
-waits_or_not session (x ∷ ws) =
-    elim (x.session == session) as
-    (λ b. (x.session == session) ≡ b → ((w : Waiting) × IsAmong w (x ∷ ws) × (w.session ≡ session)) ⊎
-    ((w : Waiting) → IsAmong w (x ∷ ws) → w.session ≢ session)) [
-      | true ↦ λ e. inl (x, inl refl, eqb-true x.session session e)
-      | false ↦ λ e. ⊎_elim
-          (λ h. inl (h.0, inr h.1, h.2))
-          (λ none. inr (λ w. ⊎_elim (λ same is. eqb-false x.session session e (ap (λ (w : Waiting). w.session) same ∙ is)) (λ later. none w later)))
-          (waits_or_not session ws)
-    ] refl
-
--- ---- slots
-
-abbrev if_so : Bool → ℕ → ℕ → ℕ
-if_so true a b = a
-if_so false a b = b
-
--- the counts once an id's page has its slot
-abbrev grown : SlotCounts → Rid → SlotCounts
-grown counts id p = if_so (eq_by_cmp page_cmp p id.page) (max (counts id.page) (id.slot + 1)) (counts p)
-
-grows : (counts : SlotCounts) (id : Rid) → Grows counts (grown counts id) id
-grows counts id = record {
-  here = ap (λ b. if_so b (max (counts id.page) (id.slot + 1)) (counts id.page)) (same_page id.page);
-  others = λ p other.
-      elim (eq_by_cmp page_cmp p id.page) as (λ b. eq_by_cmp page_cmp p id.page ≡ b → if_so b (max (counts id.page) (id.slot + 1)) (counts p) ≡ counts p) [
-        | true ↦ λ e. absurd (other (tells_apart exact_pages p id.page e))
-        | false ↦ λ e. refl
-      ] refl;
-}
+use Rattle.shore_calls.specs.Refusals.{CanLog, FindsRecord, FitsAt, IsPlaceFor, IsRefusal, NoneServes, Refuses, Serves}
+use Rattle.shore_calls.specs.States.{DoesNotWait, HasNoTxn, IsInTxn, State, next_number, page_slots}
 
 -- ---- the place of an insert
 
@@ -128,16 +45,6 @@ so (inr none) = (λ e. absurd (never e), λ p. absurd (none p))
   where
     never : IsTrue false → ⊥
     never e = cc
-
-same_number : (a b : ℕ) → OrNot (a ≡ b)
-same_number a b = elim (a == b) as (λ v. (a == b) ≡ v → OrNot (a ≡ b)) [ true ↦ λ e. inl (eqb-true a b e) | false ↦ λ e. inr (eqb-false a b e) ] refl
-
-none_or_not : (o : Image) → OrNot (o ≡ None)
-none_or_not None = inl refl
-none_or_not (Some bytes) = inr (λ e. clash e)
-  where
-    clash : Some bytes ≡ None → ⊥
-    clash e = cc
 
 abbrev anywhere : Rid → Bool
 anywhere id = true
@@ -194,34 +101,6 @@ module _ (g : Geometry) (s : State) (roomy : IsRoomyState s) (store : ℕ) (byte
     where
       no_page : (id : Rid) → id.page.store ≡ store → slice_get g.stores store ≡ None → HasPage g id.page → ⊥
       no_page id of none inside = subst (λ o. IsSomeAnd o (λ pages. id.page.page < pages)) (ap (slice_get g.stores) of ∙ none) inside
-
--- ---- refusals of the state alone
-
-abbrev IsOrdinary : Fault → Type 0
-IsOrdinary fault.Memory = ⊥
-IsOrdinary fault.Device = ⊥
-IsOrdinary (fault.Damaged device offset) = ⊥
-IsOrdinary (fault.NeedForce n) = ⊥
-IsOrdinary _ = Unit {0}
-
-ordinary : (f : Fault) → IsOrdinary f → ComesOfState (Refused f)
-ordinary fault.Memory h = absurd h
-ordinary fault.Device h = absurd h
-ordinary (fault.Damaged device offset) h = absurd h
-ordinary (fault.NeedForce n) h = absurd h
-ordinary f h = (not_memory f h, not_device f h, not_damaged f h, not_needed f h)
-  where
-    not_memory : (f : Fault) → IsOrdinary f → f ≢ fault.Memory
-    not_memory f h e = absurd (subst IsOrdinary e h)
-
-    not_device : (f : Fault) → IsOrdinary f → f ≢ fault.Device
-    not_device f h e = absurd (subst IsOrdinary e h)
-
-    not_damaged : (f : Fault) → IsOrdinary f → (device : Device) (offset : ℕ) → f ≢ fault.Damaged device offset
-    not_damaged f h device offset e = absurd (subst IsOrdinary e h)
-
-    not_needed : (f : Fault) → IsOrdinary f → (n : ℕ) → f ≢ fault.NeedForce n
-    not_needed f h n e = absurd (subst IsOrdinary e h)
 
 -- ---- calls
 

@@ -1,14 +1,12 @@
 -- The state alone decides what a call comes to: the refusals are those of a row of tests, of which the first that fails refuses.
-use Rattle.std.proofs.Common.{◌≡◌, ◌⊎◌, inl, inr, ⊎_elim, ◌<◌, ℕ, zero, suc, List, [], ◌∷◌, false, Some, None, refl, sym, ap, subst, ◌∙◌, length, arith}
-use Rattle.std.specs.Prelude.{IsSome, IsSomeAnd, slice_get}
+use Rattle.std.proofs.Common.{◌≡◌, inl, inr, ⊎_elim, ◌<◌, ℕ, List, [], ◌∷◌, false, Some, None, refl, sym, ap, subst, ◌∙◌, length, arith}
 use Rattle.std.specs.FinMap.{get}
-use Rattle.std.proofs.Math.Path.{fun_ext}
+use Rattle.std.specs.Prelude.{IsSome}
+use Rattle.shore_types.specs.Images.{Image}
 use Rattle.shore_types.specs.Layout.{HasPage, HasStore}
 use Rattle.shore_types.specs.declared.faults.Device.TheVariants.{Volume}
 use Rattle.shore_types.specs.declared.faults.Fault.{Fault}
 use Rattle.shore_types.specs.declared.faults.Fault.TheVariants as fault
-use Rattle.shore_types.specs.Images.{Image}
-use Rattle.shore_types.specs.declared.ids.PageId.{PageId}
 use Rattle.shore_types.specs.declared.ids.Rid.{Rid}
 use Rattle.shore_types.specs.declared.layout.Geometry.{Geometry}
 use Rattle.shore_types.specs.declared.layout.TheConstants.{MAX_RECORD_BYTES}
@@ -18,85 +16,18 @@ use Rattle.shore_model.specs.declared.calls.Call.{Call}
 use Rattle.shore_model.specs.declared.calls.Call.TheVariants as call
 use Rattle.shore_model.specs.declared.histories.Entry.{Entry}
 use Rattle.shore_model.specs.declared.log_records.LogRecord.{LogRecord}
+use Rattle.shore_room.specs.Claims.{Grows, SlotCounts}
+use Rattle.shore_sessions.specs.Sessions.{SessionTxn}
 use Rattle.shore_calls.specs.declared.step.Step.{Step}
-use Rattle.shore_calls.specs.declared.step.Step.TheVariants.{Done, Waits, Refused, Nothing}
+use Rattle.shore_calls.specs.declared.step.Step.TheVariants.{Done, Nothing, Refused, Waits}
 use Rattle.shore_calls.specs.declared.step.Wait.{Wait}
-use Rattle.shore_room.proofs.Pages.{page_or_other}
-use Rattle.shore_room.specs.Choosing.{IsBefore}
-use Rattle.shore_room.specs.Claims.{Grows, SlotCounts, rid_on}
-use Rattle.shore_sessions.proofs.Lists.{within_or_beyond}
-use Rattle.shore_sessions.proofs.Members.{txn_among}
-use Rattle.shore_sessions.specs.Sessions.{EachOnce, SessionTxn, txns_of}
-use Rattle.shore_sessions.specs.Views.{IsAmong}
+use Rattle.shore_calls.proofs.Decided.{both_ways, no_record_both}
+use Rattle.shore_calls.proofs.Rows.{AllPass, FirstFails, Test, before_or_same, none_fails, one_fails, page_has_store, same_growth, same_member, test}
 use Rattle.shore_calls.proofs.Sessions.{one_txn}
-use Rattle.shore_calls.proofs.WrongSteps.{both_ways, no_record_both}
 use Rattle.shore_calls.specs.CallHistories.{IsStateAfter}
 use Rattle.shore_calls.specs.CallSteps.{Answers, CallStep, ComesOfState, MayAnswer, answered, committed}
 use Rattle.shore_calls.specs.Refusals.{BeginRefusal, CanLog, DeleteRefusal, FitsAt, InsertRefusal, IsPageFault, IsPlaceFor, IsRefusal, IsShort, NoneServes, RecordRefusal, Refuses, ScanRefusal, UpdateRefusal}
 use Rattle.shore_calls.specs.States.{DoesNotWait, HasNoTxn, IsInTxn, IsOfSession, MayBegin, State}
-
--- ---- rows of tests
-
-record Test : Type 1 where
-  passes : Type 0
-  refuses : Fault
-
-abbrev test : Type 0 → Fault → Test
-test P f = record { passes = P; refuses = f }
-
--- the first of the tests that fails refuses with this
-abbrev FirstFails : List Test → Fault → Type 0
-FirstFails [] f = ⊥
-FirstFails (t ∷ tests) f = ((t.passes → ⊥) × (f ≡ t.refuses)) ⊎ (t.passes × FirstFails tests f)
-
-abbrev AllPass : List Test → Type 0
-AllPass [] = Unit {0}
-AllPass (t ∷ tests) = t.passes × AllPass tests
-
-one_fails : (tests : List Test) (f h : Fault) → FirstFails tests f → FirstFails tests h → f ≡ h
-one_fails [] f h x y = absurd x
-one_fails (t ∷ tests) f h (inl x) (inl y) = x.1 ∙ sym y.1
-one_fails (t ∷ tests) f h (inl x) (inr y) = absurd (x.0 y.0)
-one_fails (t ∷ tests) f h (inr x) (inl y) = absurd (y.0 x.0)
-one_fails (t ∷ tests) f h (inr x) (inr y) = one_fails tests f h x.1 y.1
-
-none_fails : (tests : List Test) (f : Fault) → FirstFails tests f → AllPass tests → ⊥
-none_fails [] f x h = x
-none_fails (t ∷ tests) f (inl x) h = x.0 h.0
-none_fails (t ∷ tests) f (inr x) h = none_fails tests f x.1 h.1
-
--- ---- places
-
-in_list : (xs : List ℕ) (n : ℕ) (P : ℕ → Type 0) → IsSomeAnd (slice_get xs n) P → n < length xs
-in_list [] zero P h = absurd h
-in_list [] (suc n) P h = absurd h
-in_list (x ∷ xs) zero P h = omega arith
-in_list (x ∷ xs) (suc n) P h = let less = in_list xs n P h in omega arith
-
-page_has_store : (g : Geometry) (p : PageId) → HasPage g p → HasStore g p.store
-page_has_store g p h = in_list g.stores p.store (λ pages. p.page < pages) h
-
-less_or_same : (m n : ℕ) → (m < n) ⊎ ((n < m) ⊎ (m ≡ n))
-less_or_same m n =
-    ⊎_elim (λ le. ⊎_elim (λ ge. inr (inr (omega arith))) (λ less. inl less) (within_or_beyond n m)) (λ less. inr (inl less)) (within_or_beyond m n)
-
-same_parts : (a b : Rid) → a.page.store ≡ b.page.store → a.page.page ≡ b.page.page → a.slot ≡ b.slot → a ≡ b
-same_parts a b store page slot =
-    ap (λ (n : ℕ). rid_on (record { store = n; page = a.page.page }) a.slot) store
-    ∙ ap (λ (n : ℕ). rid_on (record { store = b.page.store; page = n }) a.slot) page
-    ∙ ap (λ (n : ℕ). rid_on b.page n) slot
-
-before_or_same : (a b : Rid) → a.page.store ≡ b.page.store → IsBefore a b ⊎ (IsBefore b a ⊎ (a ≡ b))
-before_or_same a b store =
-    ⊎_elim
-    (λ less. inl (inl less))
-    (⊎_elim
-    (λ less. inr (inl (inl less)))
-    (λ page. ⊎_elim
-    (λ less. inl (inr (page, less)))
-    (⊎_elim (λ less. inr (inl (inr (sym page, less)))) (λ slot. inr (inr (same_parts a b store page slot))))
-    (less_or_same a.slot b.slot)))
-    (less_or_same a.page.page b.page.page)
 
 one_place : (g : Geometry) (s : State) (store : ℕ) (bytes : List ℕ) (a b : Rid) → IsPlaceFor g s store bytes a → IsPlaceFor g s store bytes b → a ≡ b
 one_place g s store bytes a b x y =
@@ -296,21 +227,6 @@ module _ (g : Geometry) (s : State) (session : ℕ) where
   one_step c (Refused e) Nothing new later h k o p = absurd k
 
 -- ---- the state that is left
-
-same_member : (a b : SessionTxn) (xs : List SessionTxn) → EachOnce (txns_of xs) → IsAmong a xs → IsAmong b xs → a.txn ≡ b.txn → a ≡ b
-same_member a b [] once m n same = absurd m
-same_member a b (x ∷ xs) once (inl d) (inl e) same = sym d ∙ e
-same_member a b (x ∷ xs) once (inl d) (inr later) same =
-    absurd (once.0 (subst (λ t. IsAmong t (txns_of xs)) (sym same ∙ ap (λ (a : SessionTxn). a.txn) (sym d)) (txn_among b xs later)))
-same_member a b (x ∷ xs) once (inr later) (inl e) same =
-    absurd (once.0 (subst (λ t. IsAmong t (txns_of xs)) (same ∙ ap (λ (a : SessionTxn). a.txn) (sym e)) (txn_among a xs later)))
-same_member a b (x ∷ xs) once (inr m) (inr n) same = same_member a b xs once.1 m n same
-
-same_growth : (old m n : SlotCounts) (id : Rid) → Grows old m id → Grows old n id → m ≡ n
-same_growth old m n id x y = fun_ext (λ p. ⊎_elim
-    (λ here. subst (λ q. m q ≡ n q) (sym here) (x.here ∙ sym y.here))
-    (λ other. x.others p other ∙ sym (y.others p other))
-    (page_or_other p id.page))
 
 module _ (g : Geometry) (found : List LogRecord) (es : List Entry) (s : State) (k : IsStateAfter found es s) (session : ℕ) where
   same_txn : (a b : SessionTxn) → IsOfSession s session a → IsOfSession s session b → a ≡ b

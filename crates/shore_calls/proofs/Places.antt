@@ -12,7 +12,7 @@ use Rattle.shore_room.specs.Choosing.{IsBefore}
 use Rattle.shore_calls.specs.Refusals.{IsPlaceFor, NoneServes, Serves}
 use Rattle.shore_calls.specs.States.{State, page_slots}
 
-claim_behind : (slots : List Slot) (i : ℕ) → length slots ≤ i → claim_at slots i ≡ 0
+pub claim_behind : (slots : List Slot) (i : ℕ) → length slots ≤ i → claim_at slots i ≡ 0
 claim_behind [] zero le = refl
 claim_behind [] (suc i) le = refl
 claim_behind (s ∷ slots) zero le = absurd (omega arith)
@@ -27,7 +27,7 @@ fits_nearer slots slot bytes less h =
     let near = claim_behind slots (length slots) (omega arith) in
     record { there = omega arith; most = h.most; room = omega arith }
 
-before_later : (a b c : Rid) → IsBefore a b → IsBefore b c → IsBefore a c
+pub before_later : (a b c : Rid) → IsBefore a b → IsBefore b c → IsBefore a c
 before_later a b c (inl x) (inl y) = inl (omega arith)
 before_later a b c (inl x) (inr y) = inl (let e = y.0 in omega arith)
 before_later a b c (inr x) (inl y) = inl (let e = x.0 in omega arith)

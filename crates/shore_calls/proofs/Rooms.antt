@@ -38,13 +38,13 @@ use Rattle.shore_calls.specs.States.{HasNoTxn, MayBegin, State, cost_of_log, log
 
 -- ---- costs
 
-cost_pushed : (log : List LogRecord) (r : LogRecord) → cost_of_log (log ++ r ∷ []) ≡ cost_of_log log + cost_of r.payload
+pub cost_pushed : (log : List LogRecord) (r : LogRecord) → cost_of_log (log ++ r ∷ []) ≡ cost_of_log log + cost_of r.payload
 cost_pushed log r = sum_by_push (λ (r : LogRecord). cost_of r.payload) log r
 
 -- ---- the log's room of a state
 
 -- a room of these sums is the state's
-as_log_room : (s : State) (room : LogRoom) → HasLogRoom LONGEST_FRAME s.sessions.active room → room.kept ≡ cost_of_log s.log
+pub as_log_room : (s : State) (room : LogRoom) → HasLogRoom LONGEST_FRAME s.sessions.active room → room.kept ≡ cost_of_log s.log
     → room.stream_bytes ≡ s.stream_bytes → room.last_lsn ≡ length s.log → HasLogRoom LONGEST_FRAME s.sessions.active (log_room s)
 as_log_room s room h kept stream last =
     let sum = h.sum in
@@ -53,7 +53,7 @@ as_log_room s room h kept stream last =
     let short = h.short in
     record { sum = refl; fits = omega arith; lsns = omega arith; short = omega arith }
 
-within : LONGEST_FRAME ≤ LONGEST_FRAME + GREATEST_CHECKPOINT
+pub within : LONGEST_FRAME ≤ LONGEST_FRAME + GREATEST_CHECKPOINT
 within = omega arith
 
 -- ---- steps

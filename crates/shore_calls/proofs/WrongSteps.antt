@@ -1,5 +1,5 @@
 -- Steps that must not come.
-use Rattle.std.proofs.Common.{◌≡◌, ◌≢◌, inl, inr, ⊎_elim, ◌<◌, ◌≤◌, ℕ, List, ◌∷◌, Bool, false, Option, Some, None, refl, sym, ap, subst, ◌∙◌, length, arith}
+use Rattle.std.proofs.Common.{◌≡◌, ◌≢◌, inl, inr, ⊎_elim, ◌<◌, ◌≤◌, ℕ, List, ◌∷◌, false, Option, Some, None, refl, sym, ap, subst, ◌∙◌, length, arith}
 use Rattle.std.specs.Prelude.{IsSome, IsTrue}
 use Rattle.std.specs.FinMap.{get}
 use Rattle.std.specs.List.{AllByRecursion}
@@ -25,18 +25,12 @@ use Rattle.shore_sessions.proofs.Lists.{length-push}
 use Rattle.shore_sessions.specs.Sessions.{SessionTxn}
 use Rattle.shore_sessions.specs.Views.{IsAmong}
 use Rattle.shore_room.specs.Claims.{SlotCounts}
+use Rattle.shore_calls.proofs.Decided.{both_ways, no_record_both}
 use Rattle.shore_calls.specs.CallHistories.{IsOpened}
 use Rattle.shore_calls.specs.CallSteps.{CallStep, EventMoves, Forced, MayAnswer, ResumeStep, commit_waiting}
 use Rattle.shore_room.specs.Choosing.{IsBefore}
 use Rattle.shore_calls.specs.Refusals.{CanLog, FitsAt, IsPageFault, IsRefusal, Refuses, Serves}
 use Rattle.shore_calls.specs.States.{DoesNotWait, HasNoTxn, IsInTxn, IsOfSession, MayBegin, State, Waiting, next_number}
-
-pub no_record_both : (o : Option (List ℕ)) → IsSome o → o ≡ None → ⊥
-no_record_both None h e = cc
-no_record_both (Some x) h e = cc
-
-pub both_ways : (b : Bool) → IsTrue b → b ≡ false → ⊥
-both_ways b h e = cc
 
 -- ---- resumes
 

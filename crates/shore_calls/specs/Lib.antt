@@ -3,3 +3,10 @@ pub mod Refusals
 pub mod CallSteps
 pub mod CallHistories
 pub mod WorkedRun
+pub mod LockSteps
+pub mod LockedStates
+pub mod SessionWaits
+pub mod SessionEvents
+pub mod SessionShapes
+pub mod SessionRun
+pub mod LockChanges

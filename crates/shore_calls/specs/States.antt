@@ -9,6 +9,7 @@ use Rattle.shore_types.specs.declared.locking.Mode.TheVariants.{EX}
 use Rattle.shore_model.specs.declared.calls.Call.{Call}
 use Rattle.shore_model.specs.declared.holds.Hold.{Hold}
 use Rattle.shore_model.specs.declared.log_records.LogRecord.{LogRecord}
+use Rattle.shore_locks.specs.Tables.{Table}
 use Rattle.shore_logrec.specs.Text.{cost_of}
 use Rattle.shore_calls.specs.declared.step.Wait.{Wait}
 use Rattle.shore_sessions.specs.Sessions.{IsInNoTxn, SessionTxn, Sessions}
@@ -26,6 +27,8 @@ pub record Waiting : Type 0 where
 pub record State : Type 0 where
   -- the records in place, the transactions with their undo lists, the locks, and the number of the next transaction
   pub sessions : Sessions
+  -- the lock table
+  pub locks : Table
   -- how many slots each page has
   pub counts : SlotCounts
   -- every record of the log, forced or not

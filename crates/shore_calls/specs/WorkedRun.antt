@@ -15,6 +15,7 @@ use Rattle.shore_calls.specs.States.{State}
 abbrev pub opened_empty : ℕ → State
 opened_empty stream_bytes = record {
   sessions = just_opened empty;
+  locks = record { limit = 16; requests = [] };
   counts = λ p. 0;
   log = [];
   durable = 0;

@@ -2,6 +2,8 @@
 #![tactic(auto)]
 
 pub mod laws;
+pub mod session_laws;
+pub mod session_shapes;
 mod step;
 
 pub use step::{Step, Wait};

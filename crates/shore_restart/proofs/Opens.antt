@@ -57,6 +57,7 @@ module _ (ready : RecoveryState) (table : TxnTable) (stream_bytes : ℕ) where
   abbrev pub opened_state : State
   opened_state = record {
     sessions = record { records = records_told ready.log; active = []; committing = []; held = []; next_txn = next_in table };
+    locks = record { limit = 16; requests = [] };
     counts = slot_count ready.log;
     log = ready.log;
     durable = ready.durable;

@@ -1,0 +1,68 @@
+-- Each step of a session keeps the room of pages and log.
+use Rattle.std.proofs.Common.{◌++◌, ◌∷◌, ℕ, List, [], sym, ap, subst, length}
+use Rattle.shore_types.specs.declared.layout.Geometry.{Geometry}
+use Rattle.shore_types.specs.declared.layout.TheConstants.{LONGEST_FRAME}
+use Rattle.shore_model.specs.declared.calls.Call.{Call}
+use Rattle.shore_model.specs.declared.histories.Entry.{Entry}
+use Rattle.shore_model.specs.declared.log_records.LogRecord.{LogRecord}
+use Rattle.shore_model.specs.Records.{Records}
+use Rattle.shore_room.proofs.LogRooms.{event_room}
+use Rattle.shore_room.proofs.Undone.{event_claims}
+use Rattle.shore_room.specs.Claims.{Claimed}
+use Rattle.shore_room.specs.LogRooms.{HasLogRoom}
+use Rattle.shore_sessions.specs.LogTells.{records_committed}
+use Rattle.shore_sessions.specs.SessionSteps.{SessionEvent, entries_by}
+use Rattle.shore_sessions.specs.Sessions.{Sessions}
+use Rattle.shore_calls.specs.declared.step.Step.{Step}
+use Rattle.shore_calls.proofs.Comings.{goes_keeps, like_keeps, session_call_comes, session_event_comes, session_resume_comes}
+use Rattle.shore_calls.proofs.Links.{ComesBy, Goes, GoesBy, IsLike}
+use Rattle.shore_calls.proofs.Rooms.{as_log_room, within}
+use Rattle.shore_calls.proofs.Sessions.{AreSessionsAfter}
+use Rattle.shore_calls.proofs.TakenLocks.{sessions_of}
+use Rattle.shore_calls.specs.CallHistories.{IsRoomyState}
+use Rattle.shore_calls.specs.CallSteps.{ManagerEvent}
+use Rattle.shore_calls.specs.LockSteps.{SessionCallStep, SessionResumeStep}
+use Rattle.shore_calls.specs.LockedStates.{entries_of_session_call}
+use Rattle.shore_calls.specs.SessionEvents.{IsSessionsAfter, SessionEventMoves, entries_of_session_event, entries_of_session_resume}
+use Rattle.shore_calls.specs.States.{State, cost_of_log, log_room}
+
+pub goes_roomy : (base : ℕ) (o : Records) (es : List Entry) (g : Geometry) (s new : State) (e : SessionEvent) → AreSessionsAfter base o es s.sessions s.log → IsRoomyState s → Goes g s e new
+    → IsRoomyState new
+goes_roomy base o es g s new e k roomy h =
+    let room = event_room LONGEST_FRAME within s.sessions (log_room s) roomy.log k.agree.once e new.sessions h.room.room h.moves h.admits h.room.after in
+    record {
+      pages = event_claims k.sound s.counts roomy.pages e new.sessions new.counts h.moves h.fits;
+      log = as_log_room new h.room.room room h.room.kept h.room.stream h.room.last;
+    }
+
+by_roomy : (base : ℕ) (o : Records) (es : List Entry) (g : Geometry) (s : State) (events : List SessionEvent) (new : State) (made : List Entry) → AreSessionsAfter base o es s.sessions s.log
+    → IsRoomyState s → GoesBy g s events new made → IsRoomyState new
+by_roomy base o es g s [] new made k roomy h = subst IsRoomyState (sym h.0) roomy
+by_roomy base o es g s (e ∷ events) new made k roomy h =
+    by_roomy base o (es ++ entries_by s.sessions e) g h.0 events new h.1 (goes_keeps base o es g s h.0 e k h.2) (goes_roomy base o es g s h.0 e k roomy h.2) h.3
+
+-- the same sessions, log and slots
+pub like_roomy : (s t : State) → IsLike s t → IsRoomyState s → IsRoomyState t
+like_roomy s t h roomy = record {
+  pages =
+      subst (Claimed t.sessions.records t.sessions.active) (sym h.counts)
+      (subst (λ (x : Sessions). Claimed x.records x.active s.counts) (sym h.sessions) roomy.pages);
+  log =
+      as_log_room t (log_room s) (subst (λ (x : Sessions). HasLogRoom LONGEST_FRAME x.active (log_room s)) (sym h.sessions) roomy.log) (ap cost_of_log (sym h.log)) (sym h.stream) (ap length (sym h.log));
+}
+
+module _ (found : List LogRecord) (es : List Entry) (s : State) (k : IsSessionsAfter found es s) (roomy : IsRoomyState s) where
+  comes_roomy : (g : Geometry) (new : State) (made : List Entry) → ComesBy g s new made → IsRoomyState new
+  comes_roomy g new made h =
+      like_roomy h.mid new h.after
+      (by_roomy (length found) (records_committed found) es g h.start h.events h.mid made
+      (like_keeps (length found) (records_committed found) es s h.start h.before (sessions_of found es s k.sessions)) (like_roomy s h.start h.before roomy) h.goes)
+
+  pub session_call_roomy : (g : Geometry) (session : ℕ) (c : Call) (step : Step) (new : State) → SessionCallStep g s session c step new → IsRoomyState new
+  session_call_roomy g session c step new h = comes_roomy g new (entries_of_session_call s session c step) (session_call_comes g found es s k session c step new h)
+
+  pub session_resume_roomy : (g : Geometry) (session : ℕ) (step : Step) (new : State) → SessionResumeStep g s session step new → IsRoomyState new
+  session_resume_roomy g session step new h = comes_roomy g new (entries_of_session_resume s session step) (session_resume_comes g found es s k session step new h)
+
+  pub session_event_roomy : (g : Geometry) (new : State) (e : ManagerEvent) → SessionEventMoves g s e new → IsRoomyState new
+  session_event_roomy g new e h = comes_roomy g new (entries_of_session_event s e) (session_event_comes g found es s k new e h)

@@ -1,0 +1,69 @@
+-- What holds of the sessions of a manager and of its lock table after a history, while calls take locks.
+use Rattle.std.specs.Prelude.{◌≡◌, ◌<◌, ℕ, List, [], ◌∷◌, Ok, Err, All, false, length}
+use Rattle.shore_model.specs.declared.calls.Call.{Call}
+use Rattle.shore_model.specs.declared.calls.Call.TheVariants as call
+use Rattle.shore_model.specs.declared.histories.Decision.TheVariants as decision
+use Rattle.shore_model.specs.declared.histories.Entry.{Entry}
+use Rattle.shore_model.specs.declared.histories.Entry.TheVariants.{Decided, Exchanged}
+use Rattle.shore_model.specs.declared.log_records.LogRecord.{LogRecord}
+use Rattle.shore_model.specs.Requests.{held_by_all}
+use Rattle.shore_locks.specs.Orderly.{IsOrderly}
+use Rattle.shore_locks.specs.Tables.{is_waiting}
+use Rattle.shore_path.specs.Rooted.{AreRooted}
+use Rattle.shore_sessions.specs.LogPrefixes.{LogDecides}
+use Rattle.shore_sessions.specs.LogTells.{IsLogAfter, records_committed}
+use Rattle.shore_sessions.specs.SessionSteps.{exchange}
+use Rattle.shore_sessions.specs.Sessions.{SessionTxn}
+use Rattle.shore_sessions.specs.Soundness.{IsSoundAfter, SessionsAgree}
+use Rattle.shore_sessions.specs.Views.{IsAmong}
+use Rattle.shore_calls.specs.declared.step.Step.{Step}
+use Rattle.shore_calls.specs.declared.step.Step.TheVariants.{Done, Nothing, Refused, Waits}
+use Rattle.shore_calls.specs.declared.step.Wait.{Wait}
+use Rattle.shore_calls.specs.declared.step.Wait.TheVariants.{Durable, Lock}
+use Rattle.shore_calls.specs.CallHistories.{answered_under, txn_of}
+use Rattle.shore_calls.specs.States.{DoesNotWait, State, Waiting}
+
+-- ---- entries
+
+-- what a wait adds: the decision of a commit, and nothing for a lock
+abbrev pub entries_of_wait : State → ℕ → Wait → List Entry
+entries_of_wait s session (Durable n) = Decided (decision.Commit (txn_of s.sessions session)) ∷ []
+entries_of_wait s session (Lock at) = []
+
+-- what a call of a session adds to the history
+abbrev pub entries_of_session_call : State → ℕ → Call → Step → List Entry
+entries_of_session_call s session c (Done answer) = Exchanged session (answered_under s.sessions session c) (exchange c (Ok answer)) ∷ []
+entries_of_session_call s session c (Refused fault) = Exchanged session (txn_of s.sessions session) (exchange c (Err fault)) ∷ []
+entries_of_session_call s session c (Waits wait) = entries_of_wait s session wait
+entries_of_session_call s session c Nothing = []
+
+-- the call that goes on
+abbrev pub resumed_call : Call → Wait → Call
+resumed_call c (Durable n) = call.Commit
+resumed_call c (Lock at) = c
+
+-- what it adds
+abbrev pub entries_of_resumed : State → Waiting → Step → List Entry
+entries_of_resumed s w (Done answer) = Exchanged w.session (txn_of s.sessions w.session) (exchange (resumed_call w.call w.wait) (Ok answer)) ∷ []
+entries_of_resumed s w (Refused fault) = Exchanged w.session (txn_of s.sessions w.session) (exchange (resumed_call w.call w.wait) (Err fault)) ∷ []
+entries_of_resumed s w (Waits wait) = []
+entries_of_resumed s w Nothing = []
+
+-- ---- states
+
+-- The requests of the lock table are orderly and have their intentions. What they hold are the locks of the sessions, each is of a transaction that
+-- began, and as long as no device has failed, who waits in the table has a call that waits.
+pub record HasTrueLocks (s : State) : Type 0 where
+  pub held : s.sessions.held ≡ held_by_all s.locks.requests
+  pub orderly : IsOrderly s.locks.requests
+  pub rooted : AreRooted s.locks.requests
+  pub below : All (λ r. r.txn < s.sessions.next_txn) s.locks.requests
+  pub waits : s.failed ≡ false → (a : SessionTxn) → IsAmong a s.sessions.active → DoesNotWait s a.session → is_waiting a.txn s.locks.requests ≡ false
+
+-- The sessions, their log and their locks are what a manager has come to that was opened on this list, after these entries.
+pub record IsSessionsState (found : List LogRecord) (es : List Entry) (s : State) : Type 0 where
+  pub sound : IsSoundAfter (records_committed found) es s.sessions
+  pub agree : SessionsAgree (records_committed found) es s.sessions
+  pub log : IsLogAfter (records_committed found) es s.sessions s.log
+  pub decides : LogDecides (length found) (records_committed found) es s.log
+  pub locks : HasTrueLocks s
