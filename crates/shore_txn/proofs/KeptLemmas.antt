@@ -39,11 +39,11 @@ change_same a b (s ∷ slots) zero (suc j) = refl
 change_same a b (s ∷ slots) (suc i) zero = refl
 change_same a b (s ∷ slots) (suc i) (suc j) = ap (λ (l : List Slot). s ∷ l) (change_same a b slots i j)
 
-claimed_first : (rest : List (ℕ × ℕ)) (slot bytes : ℕ) (slots : List Slot) → claimed_by rest (with_change (raised bytes) slots slot) ≡ with_change (raised bytes) (claimed_by rest slots) slot
+pub claimed_first : (rest : List (ℕ × ℕ)) (slot bytes : ℕ) (slots : List Slot) → claimed_by rest (with_change (raised bytes) slots slot) ≡ with_change (raised bytes) (claimed_by rest slots) slot
 claimed_first [] slot bytes slots = refl
 claimed_first (c ∷ rest) slot bytes slots = ap (λ (l : List Slot). with_change (raised c.1) l c.0) (claimed_first rest slot bytes slots) ∙ change_same c.1 bytes (claimed_by rest slots) c.0 slot
 
-told_reserved : (p : PageId) (es : List UndoEntry) (slots : List Slot) → claimed_by (claims_on p es) slots ≡ reserved_for p (images_of es) slots
+pub told_reserved : (p : PageId) (es : List UndoEntry) (slots : List Slot) → claimed_by (claims_on p es) slots ≡ reserved_for p (images_of es) slots
 told_reserved p [] slots = refl
 told_reserved p (e ∷ es) slots = each (told_reserved p es) (eq_by_cmp page_cmp p e.id.page)
   where
@@ -65,7 +65,7 @@ read_slots R undos p n =
     ∙ map_each settled (λ i. get R (rid_on p i)) 0 n
 
 -- the entries of a page are of slots that it has
-told_there : (counts : SlotCounts) (p : PageId) (es : List UndoEntry) → AllByRecursion (λ e. e.0.slot < counts e.0.page) (images_of es) → AreThere (counts p) (claims_on p es)
+pub told_there : (counts : SlotCounts) (p : PageId) (es : List UndoEntry) → AllByRecursion (λ e. e.0.slot < counts e.0.page) (images_of es) → AreThere (counts p) (claims_on p es)
 told_there counts p [] within = tt
 told_there counts p (e ∷ es) within = each (told_there counts p es within.1) (eq_by_cmp page_cmp p e.id.page) refl
   where

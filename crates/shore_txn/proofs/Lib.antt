@@ -2,3 +2,9 @@ pub mod ChainLemmas
 pub mod ClaimLemmas
 pub mod KeptLemmas
 pub mod UndoLemmas
+pub mod OneOfMany
+pub mod ActiveLemmas
+pub mod ActiveSteps
+pub mod ActivePlaces
+pub mod ActiveKept
+pub mod ActiveOthers

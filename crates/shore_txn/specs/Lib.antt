@@ -3,3 +3,5 @@ pub mod Places
 pub mod UndoEntries
 pub mod Txns
 pub mod Tables
+pub mod ActiveTxns
+pub mod Transactions

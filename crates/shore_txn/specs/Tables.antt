@@ -1,15 +1,15 @@
 -- What the table of transactions has.
-use Rattle.std.specs.Prelude.{◌≡◌, ◌++◌, ◌∷◌, [], ℕ, List, Option, None, Some, take}
+use Rattle.std.specs.Prelude.{◌≡◌, ℕ, List, Option, None, Some, take}
 use Rattle.shore_sessions.specs.Sessions.{SessionTxn}
 use Rattle.shore_types.specs.declared.ids.PageId.{PageId}
 use Rattle.shore_txn.specs.declared.log_room.LogRoom.{LogRoom}
 use Rattle.shore_txn.specs.declared.table.Committing.{Committing}
 use Rattle.shore_txn.specs.declared.table.TxnTable.{TxnTable}
 use Rattle.shore_txn.specs.declared.txn.Txn.{Txn}
-use Rattle.shore_txn.specs.declared.undo.UndoEntry.{UndoEntry}
 use Rattle.shore_txn.specs.Chains.{IsOfBucket, bucket_of}
 use Rattle.shore_txn.specs.Places.{HasLinkRoom, buckets_in}
-use Rattle.shore_txn.specs.Txns.{as_session_txns, changes_of, entries_of, last_of, number_of}
+pub use Rattle.shore_txn.specs.Txns.{IsAfterChange, SameTxn}
+use Rattle.shore_txn.specs.Txns.{as_session_txns, changes_of}
 use Rattle.shore_txn.specs.UndoEntries.{claims_on}
 
 -- the transaction under way, if there is one
@@ -45,20 +45,6 @@ IsOnChain table p place = IsOfBucket (buckets_in table.chains) (bucket_of p) pla
 -- a place more of a chain needs no memory
 abbrev pub HasPlaceRoom : TxnTable → Type 0
 HasPlaceRoom table = HasLinkRoom table.chains
-
--- a transaction with one change more, which was logged under this number
-pub record IsAfterChange (old : Txn) (lsn : ℕ) (entry : UndoEntry) (new : Txn) : Type 0 where
-  pub txn : number_of new ≡ number_of old
-  pub session : new.session ≡ old.session
-  pub last : last_of new ≡ lsn
-  pub entries : entries_of new ≡ entries_of old ++ entry ∷ []
-
--- two transactions are one but for the memory that they have
-pub record SameTxn (old new : Txn) : Type 0 where
-  pub txn : number_of new ≡ number_of old
-  pub session : new.session ≡ old.session
-  pub last : last_of new ≡ last_of old
-  pub entries : entries_of new ≡ entries_of old
 
 abbrev pub SameTxns : Option Txn → Option Txn → Type 0
 SameTxns None None = Unit {0}

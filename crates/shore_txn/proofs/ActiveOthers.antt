@@ -1,0 +1,65 @@
+-- What holds of each transaction of a list, once one of them has become another or has left.
+use Rattle.std.proofs.Common.{◌≡◌, ◌≢◌, inl, inr, ◌++◌, ◌∷◌, [], ℕ, List, map, refl, sym, ap, subst, ◌∙◌}
+use Rattle.shore_sessions.specs.Sessions.{EachOnce, SessionTxn, txns_of}
+use Rattle.shore_sessions.specs.Views.{IsAmong}
+use Rattle.shore_txn.specs.ActiveTxns.{OneBecomes, OneLeaves, session_txns, sessions_of}
+use Rattle.shore_txn.specs.Txns.{as_session_txn, number_of}
+use Rattle.shore_txn.specs.declared.txn.Txn.{Txn}
+use Rattle.shore_txn.specs.declared.undo.UndoEntry.{UndoEntry}
+use Rattle.shore_txn.proofs.OneOfMany.{among_map, among_middle, among_more, among_parts, map_join, map_parts, once_apart, once_same}
+
+-- the numbers and the sessions are each once
+pub record AreApart (ts : List Txn) : Type 0 where
+  pub numbers : EachOnce (txns_of (session_txns ts))
+  pub sessions : EachOnce (sessions_of (session_txns ts))
+
+-- another transaction has another value, if each comes once
+other_value : (f : SessionTxn → ℕ) (newer older : List Txn) (one t : Txn) → EachOnce (map f (session_txns (newer ++ one ∷ older))) → IsAmong t (newer ++ older) → f (as_session_txn t) ≢ f (as_session_txn one)
+other_value f newer older one t once m same =
+    let parts : map f (session_txns (newer ++ one ∷ older)) ≡ map f (session_txns newer) ++ f (as_session_txn one) ∷ map f (session_txns older) =
+    ap (map f) (map_parts as_session_txn newer older one) ∙ map_parts f (session_txns newer) (session_txns older) (as_session_txn one) in
+    let joined : map f (session_txns (newer ++ older)) ≡ map f (session_txns newer) ++ map f (session_txns older) = ap (map f) (map_join as_session_txn newer older) ∙ map_join f (session_txns newer) (session_txns older) in
+    let there : IsAmong (f (as_session_txn t)) (map f (session_txns (newer ++ older))) = among_map f (as_session_txn t) (session_txns (newer ++ older)) (among_map as_session_txn t (newer ++ older) m) in
+    once_apart (map f (session_txns newer)) (map f (session_txns older)) (f (as_session_txn one)) (subst EachOnce parts once)
+    (subst (λ n. IsAmong n (map f (session_txns newer) ++ map f (session_txns older))) same (subst (IsAmong (f (as_session_txn t))) joined there))
+
+module _ (newer older : List Txn) (one : Txn) (apart : AreApart (newer ++ one ∷ older)) (t : Txn) (m : IsAmong t (newer ++ older)) where
+  other_number : number_of t ≢ number_of one
+  other_number = other_value (λ (a : SessionTxn). a.txn) newer older one t apart.numbers m
+
+  other_session : t.session ≢ one.session
+  other_session = other_value (λ (a : SessionTxn). a.session) newer older one t apart.sessions m
+
+module _ (P Q : Txn → Type 0) {who : ℕ} {old new : List Txn} (apart : AreApart old) (each : (t : Txn) → IsAmong t old → P t) where
+  -- the others have other numbers and sessions
+  pub each_becomes : {Becomes : Txn → Txn → Type 0} (one : OneBecomes who Becomes old new) → ((t : Txn) → number_of t ≢ number_of one.before → t.session ≢ who → P t → Q t) → (P one.before → Q one.after)
+      → (t : Txn) → IsAmong t new → Q t
+  each_becomes one others itself t m = elim (among_parts t one.after one.newer one.older (subst (IsAmong t) one.is m)) [
+    | inl is ↦ subst Q is (itself (each one.before (subst (IsAmong one.before) (sym one.was) (among_middle one.newer one.older one.before))))
+    | inr other ↦ others t (other_number one.newer one.older one.before (subst AreApart one.was apart) t other)
+        (λ same. other_session one.newer one.older one.before (subst AreApart one.was apart) t other (same ∙ sym one.session))
+        (each t (subst (IsAmong t) (sym one.was) (among_more t one.before one.newer one.older other)))
+  ]
+
+  pub each_left : {changes : List UndoEntry} (one : OneLeaves who changes old new) → ((t : Txn) → number_of t ≢ number_of one.one → t.session ≢ who → P t → Q t) → (t : Txn) → IsAmong t new → Q t
+  each_left one others t m =
+      let other = subst (IsAmong t) one.is m in
+      let was = subst AreApart one.was apart in
+      others t (other_number one.newer one.older one.one was t other) (λ same. other_session one.newer one.older one.one was t other (same ∙ sym one.session))
+      (each t (subst (IsAmong t) (sym one.was) (among_more t one.one one.newer one.older other)))
+
+-- ---- a session's transaction is one
+
+txn_sessions : (ts : List Txn) → map (λ (t : Txn). t.session) ts ≡ sessions_of (session_txns ts)
+txn_sessions [] = refl
+txn_sessions (t ∷ ts) = ap (λ l. t.session ∷ l) (txn_sessions ts)
+
+pub one_txn : (ts : List Txn) → AreApart ts → (t u : Txn) → IsAmong t ts → IsAmong u ts → t.session ≡ u.session → t ≡ u
+one_txn ts apart t u m n same = once_same (λ (t : Txn). t.session) ts (subst EachOnce (sym (txn_sessions ts)) apart.sessions) t u m n same
+
+module _ {who : ℕ} {old new : List Txn} (apart : AreApart old) (t : Txn) (m : IsAmong t old) (its : t.session ≡ who) where
+  pub before_is : {Becomes : Txn → Txn → Type 0} (one : OneBecomes who Becomes old new) → one.before ≡ t
+  before_is one = one_txn old apart one.before t (subst (IsAmong one.before) (sym one.was) (among_middle one.newer one.older one.before)) m (one.session ∙ sym its)
+
+  pub left_is : {changes : List UndoEntry} (one : OneLeaves who changes old new) → one.one ≡ t
+  left_is one = one_txn old apart one.one t (subst (IsAmong one.one) (sym one.was) (among_middle one.newer one.older one.one)) m (one.session ∙ sym its)

@@ -1,0 +1,54 @@
+use Rattle.std.proofs.Common.{◌≡◌, refl, ap, sym, subst, ◌∙◌, arith}
+use Rattle.shore_room.specs.LogRooms.{owed}
+use Rattle.shore_txn.specs.ActiveTxns.{CanNote, undos_of}
+use Rattle.shore_txn.specs.Txns.{IsAfterChange, as_session_txn}
+use Rattle.shore_txn.specs.declared.active.ActiveTxn.{ActiveTxn}
+use Rattle.shore_txn.proofs.ActiveLemmas.{active_there, holds_at, one_at, read_at, session_txn_there}
+use Rattle.shore_txn.proofs.ActiveSteps.{AreKept, becomes_at, claims_elsewhere, claims_noted, kept_noted, undos_noted}
+use Rattle.shore_txn.proofs.OneOfMany.{owed_among}
+use Rattle.shore_txn.proofs.transactions.Transactions.note_change.Goals as goal
+
+pub note_change-requires-clause-room : goal.note_change-requires-clause-room
+note_change-requires-clause-room c =
+    let items = c.args.self.now.active.items in
+    let one = one_at items c.index_of-index.result c.index_of-index.ensures.inside in
+    let it : c.index_mut.result.now ≡ one.0 = c.index_mut.ensures.value ∙ read_at one.1 c.index_mut.result.now in
+    subst CanNote (sym it) (c.requires.memory one.0 (active_there one.1) (holds_at one.1 (λ a. a.txn.session ≡ c.args.session) c.index_of-index.ensures.its))
+
+pub note_change-requires-clause-sum : goal.note_change-requires-clause-sum
+note_change-requires-clause-sum c =
+    let old = c.args.self.now in
+    let one = one_at old.active.items c.index_of-index.result c.index_of-index.ensures.inside in
+    let it : c.index_mut.result.now ≡ one.0 = c.index_mut.ensures.value ∙ read_at one.1 c.index_mut.result.now in
+    let its : c.index_mut.result.now.txn.reserved ≡ one.0.txn.reserved = ap (λ (a : ActiveTxn). a.txn.reserved) it in
+    let owes : one.0.txn.reserved ≡ owed (as_session_txn one.0.txn) = one.0.txn.owed in
+    let least = owed_among (as_session_txn one.0.txn) (undos_of old.active.items) (session_txn_there one.1) in
+    omega (arith, its, owes, least, old.sum, c.requires.room, old.room.short)
+
+pub invariant_of-self : goal.invariant_of-self
+invariant_of-self c =
+    let old = c.args.self.now in
+    let one = one_at old.active.items c.index_of-index.result c.index_of-index.ensures.inside in
+    let it : c.index_mut.result.now ≡ one.0 = c.index_mut.ensures.value ∙ read_at one.1 c.index_mut.result.now in
+    let after = subst (λ (a : ActiveTxn). IsAfterChange a.txn c.args.lsn c.args.entry c.note_change.new.self.txn) it c.note_change.ensures in
+    let was : AreKept (undos_of old.active.items) old.room.reserved old.next = record { sum = old.sum; numbers = old.numbers; sessions = old.sessions; below = old.below } in
+    let now = kept_noted (becomes_at one.1 c.note_change.new.self one.0.txn.session (λ t u. IsAfterChange t c.args.lsn c.args.entry u) refl after) old.room.reserved old.next was in
+    record { some = old.some; sum = omega (arith, now.sum, c.reserve.ensures.reserved, c.append.ensures.others.0, c.requires.cost); numbers = now.numbers; sessions = now.sessions; below = now.below }
+
+pub returns-clause-noted : goal.returns-clause-noted
+returns-clause-noted c =
+    let old = c.args.self.now in
+    let one = one_at old.active.items c.index_of-index.result c.index_of-index.ensures.inside in
+    let it : c.index_mut.result.now ≡ one.0 = c.index_mut.ensures.value ∙ read_at one.1 c.index_mut.result.now in
+    becomes_at one.1 c.note_change.new.self c.args.session (λ t u. IsAfterChange t c.args.lsn c.args.entry u)
+    (holds_at one.1 (λ a. a.txn.session ≡ c.args.session) c.index_of-index.ensures.its)
+    (subst (λ (a : ActiveTxn). IsAfterChange a.txn c.args.lsn c.args.entry c.note_change.new.self.txn) it c.note_change.ensures)
+
+pub returns-clause-undos : goal.returns-clause-undos
+returns-clause-undos c = undos_noted (returns-clause-noted c) c.args.self.now.numbers c.args.self.now.sessions
+
+pub returns-clause-claimed : goal.returns-clause-claimed
+returns-clause-claimed c = let noted = returns-clause-noted c in claims_noted noted c.args.entry noted.becomes.entries
+
+pub returns-clause-elsewhere : goal.returns-clause-elsewhere
+returns-clause-elsewhere c = let noted = returns-clause-noted c in claims_elsewhere noted c.args.entry noted.becomes.entries

@@ -1,0 +1,108 @@
+-- Transactions under way, as a list that has the newest first, and the places of their changes.
+use Rattle.std.specs.Prelude.{◌≡◌, ◌/◌, ◌%◌, ◌++◌, ◌∷◌, [], ℕ, List, Option, None, Some, map, reverse, slice_get, take}
+use Rattle.std.specs.Coded.{×_prop, →_prop, Unit-prop}
+use Rattle.shore_sessions.specs.Sessions.{EachOnce, SessionTxn}
+use Rattle.shore_sessions.specs.UndoLists.{UndoList}
+use Rattle.shore_txn.specs.declared.active.ActiveTxn.{ActiveTxn}
+use Rattle.shore_txn.specs.declared.transaction_claims.TheConstants.{OWN_PLACES}
+use Rattle.shore_txn.specs.declared.txn.Txn.{Txn}
+use Rattle.shore_txn.specs.declared.undo.UndoEntry.{UndoEntry}
+use Rattle.shore_txn.specs.Chains.{IsOfBucket}
+use Rattle.shore_txn.specs.Places.{HasLinkRoomIf, buckets_if}
+use Rattle.shore_txn.specs.Txns.{HasEntryRoom, as_session_txn, entries_of, last_of, number_of}
+use Rattle.shore_txn.specs.UndoEntries.{image_of}
+
+-- the transactions of a list that has the oldest first: the newest first
+abbrev pub txns_of : List ActiveTxn → List Txn
+txns_of active = reverse (map (λ a. a.txn) active)
+
+-- .. as the sessions have them
+abbrev pub session_txns : List Txn → List SessionTxn
+session_txns ts = map as_session_txn ts
+
+abbrev pub undos_of : List ActiveTxn → List SessionTxn
+undos_of active = session_txns (txns_of active)
+
+abbrev pub sessions_of : List SessionTxn → List ℕ
+sessions_of undos = map (λ a. a.session) undos
+
+-- that no element comes twice is a proposition
+pub EachOnce-prop : {A : Type 0} (xs : List A) → IsProp (EachOnce xs)
+EachOnce-prop [] = Unit-prop
+EachOnce-prop (x ∷ xs) = ×_prop (→_prop (λ none. absurd none)) (EachOnce-prop xs)
+
+-- their changes, those of the oldest first
+abbrev pub all_changes : List Txn → List UndoEntry
+all_changes [] = []
+all_changes (t ∷ older) = all_changes older ++ entries_of t
+
+-- ---- one of them changes
+
+-- a transaction that has logged nothing
+pub record IsBegun (number who : ℕ) (t : Txn) : Type 0 where
+  pub txn : number_of t ≡ number
+  pub session : t.session ≡ who
+  pub last : last_of t ≡ 0
+  pub entries : entries_of t ≡ []
+
+-- the session's transaction is another one then, and all others are as they were
+pub record OneBecomes (who : ℕ) (Becomes : Txn → Txn → Type 0) (old new : List Txn) : Type 0 where
+  pub newer : List Txn
+  pub older : List Txn
+  pub before : Txn
+  pub after : Txn
+  pub was : old ≡ newer ++ before ∷ older
+  pub is : new ≡ newer ++ after ∷ older
+  pub session : before.session ≡ who
+  pub becomes : Becomes before after
+
+-- the session's transaction, with these changes, is taken out, and all others are as they were
+pub record OneLeaves (who : ℕ) (changes : List UndoEntry) (old new : List Txn) : Type 0 where
+  pub newer : List Txn
+  pub older : List Txn
+  pub one : Txn
+  pub was : old ≡ newer ++ one ∷ older
+  pub is : new ≡ newer ++ older
+  pub session : one.session ≡ who
+  pub entries : changes ≡ entries_of one
+
+-- an undo list with one entry more
+abbrev pub with_entry : UndoList → UndoEntry → UndoList
+with_entry undo e = record { images = undo.images ++ image_of e ∷ []; marks = undo.marks }
+
+-- one list has what another has, and at some place something more
+pub record HasMore {A : Type 0} (more old new : List A) : Type 0 where
+  pub front : List A
+  pub back : List A
+  pub was : old ≡ front ++ back
+  pub is : new ≡ front ++ (more ++ back)
+
+-- a change more needs no memory
+abbrev pub CanNote : ActiveTxn → Type 0
+CanNote a = HasEntryRoom a.txn × HasLinkRoomIf a.chains
+
+-- ---- places of their changes
+
+-- A place has the index of a transaction in its upper half, and below it the place in the transaction's chains.
+abbrev pub txn_index : ℕ → ℕ
+txn_index place = place / OWN_PLACES
+
+abbrev pub own_place : ℕ → ℕ
+own_place place = place % OWN_PLACES
+
+abbrev pub entries_if : Option ActiveTxn → List UndoEntry
+entries_if None = []
+entries_if (Some a) = entries_of a.txn
+
+abbrev pub places_if : Option ActiveTxn → List ℕ
+places_if None = []
+places_if (Some a) = buckets_if a.chains
+
+-- the changes up to a place: those of the older transactions, and those of its own so far
+abbrev pub changes_to : List ActiveTxn → ℕ → ℕ → List UndoEntry
+changes_to active index own = all_changes (txns_of (take index active)) ++ take own (entries_if (slice_get active index))
+
+-- a place is one of a bucket's, or is none
+pub record IsPlace (active : List ActiveTxn) (bucket place : ℕ) : Type 0 where
+  pub some : own_place place ≡ 0 → place ≡ 0
+  pub chain : IsOfBucket (places_if (slice_get active (txn_index place))) bucket (own_place place)

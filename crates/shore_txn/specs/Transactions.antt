@@ -1,0 +1,57 @@
+-- What the table of transactions has.
+use Rattle.std.specs.Prelude.{◌≡◌, ◌≢◌, ℕ, List}
+use Rattle.shore_types.specs.declared.ids.PageId.{PageId}
+use Rattle.shore_sessions.specs.Sessions.{SessionTxn}
+use Rattle.shore_sessions.specs.Views.{IsAmong}
+use Rattle.shore_txn.specs.declared.active.ActiveTxn.{ActiveTxn}
+use Rattle.shore_txn.specs.declared.log_room.LogRoom.{LogRoom}
+use Rattle.shore_txn.specs.declared.transactions.Transactions.{Transactions}
+use Rattle.shore_txn.specs.declared.txn.Txn.{Txn}
+use Rattle.shore_txn.specs.ActiveTxns.{CanNote, IsPlace, all_changes, changes_to, own_place, session_txns, txn_index, txns_of}
+use Rattle.shore_txn.specs.Chains.{bucket_of}
+use Rattle.shore_txn.specs.UndoEntries.{claims_on}
+
+-- the transactions under way, the newest first
+abbrev pub txns_in : Transactions → List Txn
+txns_in table = txns_of table.active.items
+
+-- .. as the sessions have them
+abbrev pub undos_in : Transactions → List SessionTxn
+undos_in table = session_txns (txns_in table)
+
+-- the number of the next transaction
+abbrev pub next_in : Transactions → ℕ
+next_in table = table.next
+
+abbrev pub room_in : Transactions → LogRoom
+room_in table = table.room
+
+-- a transaction of the session is under way
+abbrev pub HasTxnOf : ℕ → Transactions → Type 0
+HasTxnOf session table = (a : SessionTxn) × IsAmong a (undos_in table) × (a.session ≡ session)
+
+-- none is
+abbrev pub HasNoTxnOf : ℕ → Transactions → Type 0
+HasNoTxnOf session table = (a : SessionTxn) → IsAmong a (undos_in table) → a.session ≢ session
+
+-- a change more of the session's transaction needs no memory
+abbrev pub HasRoomToNote : ℕ → Transactions → Type 0
+HasRoomToNote session table = (a : ActiveTxn) → IsAmong a table.active.items → a.txn.session ≡ session → CanNote a
+
+-- nothing of it is changed
+pub record IsUnchanged (old new : Transactions) : Type 0 where
+  pub txns : txns_in new ≡ txns_in old
+  pub next : next_in new ≡ next_in old
+  pub room : room_in new ≡ room_in old
+
+-- what their changes may put back on a page: those of the oldest transaction first
+abbrev pub kept_in : Transactions → PageId → List (ℕ × ℕ)
+kept_in table p = claims_on p (all_changes (txns_in table))
+
+-- .. up to a place
+abbrev pub kept_from : Transactions → PageId → ℕ → List (ℕ × ℕ)
+kept_from table p place = claims_on p (changes_to table.active.items (txn_index place) (own_place place))
+
+-- a place is one of the chains that have the page's changes, or is none
+abbrev pub IsOnChain : Transactions → PageId → ℕ → Type 0
+IsOnChain table p place = IsPlace table.active.items (bucket_of p) place

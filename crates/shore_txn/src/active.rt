@@ -1,0 +1,120 @@
+//! A transaction of the table, with the places of its changes.
+ghost use Rattle.std.specs.Prelude.{◌≡◌, ◌-◌, ◌+◌, ◌<◌, ◌≤◌, ◌∷◌, [], IsSome, OnOk, Some, get_or, length, option_to_list, slice_get, take};
+ghost use Rattle.shore_types.specs.declared.layout.TheConstants.{LAST_TXN, MAX_LOG_BYTES, MAX_RECORD_BYTES};
+ghost use Rattle.shore_page.specs.Slots.{image_len};
+ghost use Rattle.shore_room.specs.LogRooms.{compensation_cost};
+ghost use Rattle.shore_txn.specs.Chains.{bucket_of, newest_in};
+ghost use Rattle.shore_txn.specs.Places.{buckets_if};
+ghost use Rattle.shore_txn.specs.Txns.{IsAfterChange, SameTxn, entries_of};
+ghost use Rattle.shore_txn.specs.UndoEntries.{claims_on, page_buckets};
+ghost use Rattle.shore_txn.specs.declared.undo.UndoEntry.{UndoEntry};
+
+use crate::chains::PageChains;
+use crate::txn::Txn;
+use crate::undo::UndoEntry;
+use shore_types::{Lsn, PageId, SessionId, TxnId};
+use std::alloc::{AllocError, Global};
+
+/// A transaction under way. It has chains of its own from its first change on, so that a begin makes none.
+#[derive(Drop)]
+pub(crate) struct ActiveTxn {
+    txn: Txn,
+    chains: Option<PageChains>,
+    ghost chained: { buckets_if chains ≡ page_buckets (entries_of txn) },
+}
+
+impl ActiveTxn {
+    ghost use Rattle.shore_txn.specs.ActiveTxns.{CanNote, IsBegun};
+
+    /// A transaction that has logged nothing.
+    pub(crate) fn new(alloc: Global, number: TxnId, session: SessionId) -> ActiveTxn
+        requires some { 1 ≤ number }
+        requires below { number < LAST_TXN }
+        ensures { IsBegun number session result.txn }
+    {
+        ActiveTxn {
+            txn: Txn::new(alloc, number, session),
+            chains: None,
+        }
+    }
+
+    pub(crate) fn txn(&self) -> &Txn
+        ensures { result.now ≡ self.now.txn }
+    {
+        &self.txn
+    }
+
+    /// Takes the memory for a change more. If that fails nothing is changed but the memory.
+    pub(crate) fn reserve_entry(&mut self, alloc: Global) -> Result<(), AllocError>
+        ensures room { OnOk result (CanNote self.new) }
+        ensures same { SameTxn self.old.txn self.new.txn }
+    {
+        self.make_chains(alloc)?;
+        if let Some(chains) = &mut self.chains {
+            chains.reserve()?;
+        }
+        self.txn.reserve_entry()
+    }
+
+    // Makes its chains, unless it has them.
+    fn make_chains(&mut self, alloc: Global) -> Result<(), AllocError>
+        ensures made { OnOk result (IsSome self.new.chains) }
+        ensures same { self.new.txn ≡ self.old.txn }
+    {
+        if self.chains.is_none() {
+            self.chains = Some(PageChains::new(alloc)?);
+        }
+        Ok(())
+    }
+
+    /// A change of it was logged under this number, and its undo costs so much.
+    pub(crate) fn note_change(&mut self, lsn: Lsn, entry: UndoEntry, cost: u64)
+        requires room { CanNote self.old }
+        requires short { image_len entry.before ≤ MAX_RECORD_BYTES }
+        requires cost { cost ≡ compensation_cost entry.before }
+        requires sum { self.old.txn.reserved + cost ≤ MAX_LOG_BYTES }
+        ensures { IsAfterChange self.old.txn lsn entry self.new.txn }
+    {
+        if let Some(chains) = &mut self.chains {
+            chains.push(&entry.id.page);
+        }
+        self.txn.note_change(lsn, entry, cost);
+    }
+
+    /// The newest place of a page's bucket, 0 for none.
+    pub(crate) fn newest(&self, page: &PageId) -> usize
+        ensures { result ≡ newest_in (bucket_of page.now) (buckets_if self.now.chains) }
+    {
+        match &self.chains {
+            Some(chains) => chains.newest(page),
+            None => 0,
+        }
+    }
+
+    /// The next older place in the bucket of a place, 0 for none.
+    pub(crate) fn older(&self, place: usize) -> usize
+        requires some { 1 ≤ place }
+        requires there { place ≤ length (buckets_if self.now.chains) }
+        ensures { result ≡ newest_in (get_or (buckets_if self.now.chains) (place - 1) 0) (take (place - 1) (buckets_if self.now.chains)) }
+    {
+        match &self.chains {
+            Some(chains) => chains.older(place),
+            None => 0,
+        }
+    }
+
+    /// What its change of an index may put back on a page: the slot, and the length of the image before. None if the change is of another page.
+    pub(crate) fn claim(&self, index: usize, page: &PageId) -> Option<(u16, u16)>
+        requires { index < length (entries_of self.now.txn) }
+        ensures { (e : UndoEntry) → slice_get (entries_of self.now.txn) index ≡ Some e → option_to_list result ≡ claims_on page.now (e ∷ []) }
+    {
+        self.txn.claim(index, page)
+    }
+
+    /// Its changes, the oldest first, once it is decided.
+    pub(crate) fn into_undo(self) -> Vec<UndoEntry>
+        ensures { result.items ≡ entries_of self.txn }
+    {
+        self.txn.into_undo()
+    }
+}

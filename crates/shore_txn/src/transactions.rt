@@ -1,0 +1,195 @@
+//! The table of transactions of many sessions.
+ghost use Rattle.std.specs.Prelude.{◌≡◌, ◌≢◌, ◌+◌, ◌<◌, ◌≤◌, ◌↔◌, ◌∷◌, [], All, IfNone, IfOk, IfSome, IsTrue, OnErr, OnOk, length};
+ghost use Rattle.std.proofs.Props.{props};
+ghost use Rattle.std.specs.List.{AllByRecursion, HoldsAt};
+ghost use Rattle.shore_types.specs.declared.ids.PageId.{PageId};
+ghost use Rattle.shore_types.specs.declared.layout.TheConstants.{ENDING_COST, GREATEST_CHECKPOINT, LAST_TXN, LONGEST_FRAME, MAX_RECORD_BYTES};
+ghost use Rattle.shore_page.specs.Slots.{image_len};
+ghost use Rattle.shore_room.specs.LogRooms.{compensation_cost, compensation_costs, owed_by_all};
+ghost use Rattle.shore_sessions.specs.Sessions.{EachOnce, SessionTxn, txns_of, with_undo, without_txn};
+ghost use Rattle.shore_sessions.specs.UndoLists.{nothing_to_undo};
+ghost use Rattle.shore_sessions.specs.Views.{IsAmong};
+ghost use Rattle.shore_txn.specs.ActiveTxns.{EachOnce-prop, HasMore, IsBegun, OneBecomes, OneLeaves, sessions_of, undos_of, with_entry};
+ghost use Rattle.shore_txn.specs.Txns.{IsAfterChange, SameTxn, as_session_txn};
+ghost use Rattle.shore_txn.specs.UndoEntries.{claims_on, images_of};
+ghost use Rattle.shore_txn.specs.declared.txn.Txn.{Txn};
+
+use crate::active::ActiveTxn;
+use crate::log_room::LogRoom;
+use crate::txn::Txn;
+use crate::undo::UndoEntry;
+use shore_types::layout::{ENDING_COST, LAST_TXN};
+use shore_types::{Lsn, SessionId, TxnId};
+use std::alloc::{AllocError, Global};
+
+/// The transactions under way, and the room of the log that they share with all records. A session has one at most.
+#[derive(Drop)]
+pub struct Transactions {
+    next: u64,
+    // The oldest first.
+    pub(crate) active: Vec<ActiveTxn>,
+    room: LogRoom,
+    ghost some: { 1 ≤ next },
+    ghost sum: { room.reserved ≡ owed_by_all (undos_of active.items) },
+    ghost numbers: { EachOnce (txns_of (undos_of active.items)) } by { EachOnce-prop (txns_of (undos_of active.items)) },
+    ghost sessions: { EachOnce (sessions_of (undos_of active.items)) } by { EachOnce-prop (sessions_of (undos_of active.items)) },
+    ghost below: { AllByRecursion (λ a. a.txn < next) (undos_of active.items) } by { Prim.hlevel props },
+}
+
+impl Transactions {
+    ghost use Rattle.shore_txn.specs.Transactions.{HasNoTxnOf, HasRoomToNote, HasTxnOf, IsUnchanged, kept_in, next_in, room_in, txns_in, undos_in};
+
+    /// A table with no transaction, whose next has this number.
+    pub fn new(alloc: Global, room: LogRoom, next: u64) -> Transactions
+        requires some { 1 ≤ next }
+        requires unreserved { room.reserved ≡ 0 }
+        ensures none { txns_in result ≡ [] }
+        ensures next { next_in result ≡ next }
+        ensures room { room_in result ≡ room }
+    {
+        Transactions {
+            next,
+            active: Vec::new(alloc),
+            room,
+        }
+    }
+
+    /// The transaction under way of a session.
+    pub fn txn(&self, session: SessionId) -> Option<&Txn>
+        ensures some { IfSome result (λ t. IsAmong t.now (txns_in self.now) × (t.now.session ≡ session)) }
+        ensures there { IfSome result (λ t. IsAmong (as_session_txn t.now) (undos_in self.now)) }
+        ensures none { IfNone result (HasNoTxnOf session self.now) }
+    {
+        let index = self.find(session)?;
+        Some(self.active[index].txn())
+    }
+
+    /// How many transactions are under way.
+    pub fn count(&self) -> usize
+        ensures { result ≡ length (undos_in self.now) }
+    {
+        self.active.len()
+    }
+
+    /// The number of the next transaction.
+    pub fn next(&self) -> u64
+        ensures { result ≡ next_in self.now }
+    {
+        self.next
+    }
+
+    /// Whether so much more, in records and in what is reserved, leaves room for the longest frame and the greatest checkpoint.
+    pub fn admits(&self, need: u64) -> bool
+        ensures { IsTrue result ↔ ((room_in self.now).kept + (room_in self.now).reserved + need + LONGEST_FRAME + GREATEST_CHECKPOINT ≤ (room_in self.now).stream_bytes) }
+    {
+        self.room.admits(need)
+    }
+
+    /// Begins a transaction of a session that has none, and reserves what its ending costs. If memory is short nothing has changed.
+    pub fn begin(&mut self, alloc: Global, session: SessionId) -> Result<TxnId, AllocError>
+        requires none { HasNoTxnOf session self.old }
+        requires below { next_in self.old < LAST_TXN }
+        requires room { (room_in self.old).kept + (room_in self.old).reserved + ENDING_COST ≤ (room_in self.old).stream_bytes }
+        ensures number { IfOk result (λ number. number ≡ next_in self.old) }
+        ensures begun { OnOk result ((t : Txn) × (txns_in self.new ≡ t ∷ txns_in self.old) × IsBegun (next_in self.old) session t) }
+        ensures undos { OnOk result (undos_in self.new ≡ record { session = session; txn = next_in self.old; undo = nothing_to_undo } ∷ undos_in self.old) }
+        ensures claims { (p : PageId) → kept_in self.new p ≡ kept_in self.old p }
+        ensures next { OnOk result (next_in self.new ≡ next_in self.old + 1) }
+        ensures reserved { OnOk result ((room_in self.new).reserved ≡ (room_in self.old).reserved + ENDING_COST) }
+        ensures kept { (room_in self.new).kept ≡ (room_in self.old).kept }
+        ensures stream { (room_in self.new).stream_bytes ≡ (room_in self.old).stream_bytes }
+        ensures unchanged { OnErr result (IsUnchanged self.old self.new) }
+    {
+        self.active.reserve(1)?;
+        let number = TxnId(self.next);
+        self.active
+            .push_reserved(ActiveTxn::new(alloc, number, session));
+        self.next += 1;
+        self.room.reserve(ENDING_COST);
+        Ok(number)
+    }
+
+    /// Takes the memory for a change more of a session's transaction. If that fails nothing has changed but the memory.
+    pub fn reserve_entry(&mut self, alloc: Global, session: SessionId) -> Result<(), AllocError>
+        requires there { HasTxnOf session self.old }
+        ensures memory { OnOk result (HasRoomToNote session self.new) }
+        ensures same { OneBecomes session SameTxn (txns_in self.old) (txns_in self.new) }
+        ensures undos { undos_in self.new ≡ undos_in self.old }
+        ensures claims { (p : PageId) → kept_in self.new p ≡ kept_in self.old p }
+        ensures next { next_in self.new ≡ next_in self.old }
+        ensures room { room_in self.new ≡ room_in self.old }
+    {
+        let index = self.index_of(session);
+        self.active[index].reserve_entry(alloc)
+    }
+
+    /// A change of a session's transaction was logged under this number. `logged` is what its record costs, and `undo` what that of its undo would.
+    pub fn note_change(
+        &mut self,
+        session: SessionId,
+        lsn: Lsn,
+        entry: UndoEntry,
+        logged: u64,
+        undo: u64,
+    )
+        requires there { HasTxnOf session self.old }
+        requires memory { HasRoomToNote session self.old }
+        requires short { image_len entry.before ≤ MAX_RECORD_BYTES }
+        requires cost { undo ≡ compensation_cost entry.before }
+        requires room { (room_in self.old).kept + (room_in self.old).reserved + logged + undo ≤ (room_in self.old).stream_bytes }
+        ensures noted { OneBecomes session (λ old new. IsAfterChange old lsn entry new) (txns_in self.old) (txns_in self.new) }
+        ensures undos { (a : SessionTxn) → IsAmong a (undos_in self.old) → a.session ≡ session → undos_in self.new ≡ with_undo a.txn (with_entry a.undo entry) (undos_in self.old) }
+        ensures claimed { HasMore ((entry.id.slot, image_len entry.before) ∷ []) (kept_in self.old entry.id.page) (kept_in self.new entry.id.page) }
+        ensures elsewhere { (p : PageId) → p ≢ entry.id.page → kept_in self.new p ≡ kept_in self.old p }
+        ensures next { next_in self.new ≡ next_in self.old }
+        ensures reserved { (room_in self.new).reserved ≡ (room_in self.old).reserved + undo }
+        ensures kept { (room_in self.new).kept ≡ (room_in self.old).kept + logged }
+        ensures stream { (room_in self.new).stream_bytes ≡ (room_in self.old).stream_bytes }
+    {
+        let index = self.index_of(session);
+        self.active[index].note_change(lsn, entry, undo);
+        self.room.append(logged);
+        self.room.reserve(undo);
+    }
+
+    /// The Commit of a session's transaction was logged: what was reserved for it is free. Answers its changes, the oldest first, whose claims go
+    /// now.
+    pub fn note_commit(&mut self, session: SessionId) -> Vec<UndoEntry>
+        requires there { HasTxnOf session self.old }
+        ensures left { OneLeaves session result.items (txns_in self.old) (txns_in self.new) }
+        ensures undos { (a : SessionTxn) → IsAmong a (undos_in self.old) → a.session ≡ session → undos_in self.new ≡ without_txn a.txn (undos_in self.old) }
+        ensures claims { (p : PageId) → HasMore (claims_on p result.items) (kept_in self.new p) (kept_in self.old p) }
+        ensures next { next_in self.new ≡ next_in self.old }
+        ensures kept { (room_in self.new).kept ≡ (room_in self.old).kept + ENDING_COST }
+        ensures reserved { (room_in self.new).reserved + ENDING_COST + compensation_costs (images_of result.items) ≡ (room_in self.old).reserved }
+        ensures stream { (room_in self.new).stream_bytes ≡ (room_in self.old).stream_bytes }
+    {
+        let index = self.index_of(session);
+        let decided = self.active.remove(index);
+        self.room.release(decided.txn().reserved());
+        self.room.append(ENDING_COST);
+        decided.into_undo()
+    }
+
+    // Where a session's transaction is.
+    fn find(&self, session: SessionId) -> Option<usize>
+        ensures some { IfSome result (λ index. (index < length self.now.active.items) × HoldsAt (λ a. a.txn.session ≡ session) self.now.active.items index) }
+        ensures none { IfNone result (All (λ a. a.txn.session ≢ session) self.now.active.items) }
+    {
+        self.active
+            .iter()
+            .position(|active| active.txn().session() == session)
+    }
+
+    // .. of a session that has one.
+    fn index_of(&self, session: SessionId) -> usize
+        requires { HasTxnOf session self.now }
+        ensures inside { result < length self.now.active.items }
+        ensures its { HoldsAt (λ a. a.txn.session ≡ session) self.now.active.items result }
+    {
+        match self.find(session) {
+            Some(index) => index,
+            None => unreachable!(),
+        }
+    }
+}
