@@ -8,7 +8,7 @@ use Rattle.shore_types.specs.declared.layout.Geometry.{Geometry}
 use Rattle.shore_types.specs.Layout.{HasStore}
 use Rattle.shore_model.specs.Records.{AreRecords, scan_of}
 use Rattle.shore_page.specs.Slots.{image_at_slot}
-use Rattle.shore_heap.specs.Places.{HasNoPlace, IsPlace, Takes}
+use Rattle.shore_heap.specs.Places.{HasNoPlace, IsPlace, Takes, anywhere}
 use Rattle.shore_heap.specs.Scans.{IsScan}
 use Rattle.shore_heap.proofs.Scanned.{scans_as_the_model}
 use Rattle.shore_room.specs.Claims.{Claimed}
@@ -37,14 +37,14 @@ module _ (g : Geometry) (s : State) (claimed : Claimed s.sessions.records s.sess
   shown id = image_shown s.sessions.records s.sessions.active s.counts claimed id
 
   module _ (bytes : List ℕ) where
-    takes_of : (id : Rid) → Serves g s store bytes id → Takes g (page_slots s) store (length bytes) id
-    takes_of id serves = record { there = serves.inside; of_store = serves.of_store; empty = shown id ∙ serves.empty; fits = serves.fits }
+    takes_of : (id : Rid) → Serves g s store bytes id → Takes g (page_slots s) store (length bytes) anywhere id
+    takes_of id serves = record { there = serves.inside; of_store = serves.of_store; empty = shown id ∙ serves.empty; fits = serves.fits; allowed = tt }
 
-    serves_of : (id : Rid) → Takes g (page_slots s) store (length bytes) id → Serves g s store bytes id
+    serves_of : (id : Rid) → Takes g (page_slots s) store (length bytes) anywhere id → Serves g s store bytes id
     serves_of id takes = record { of_store = takes.of_store; inside = takes.there; empty = sym (shown id) ∙ takes.empty; fits = takes.fits }
 
     -- the first slot that takes the bytes is where an insert goes
-    pub is_place_for : (id : Rid) → IsPlace g (page_slots s) store (length bytes) id → IsPlaceFor g s store bytes id
+    pub is_place_for : (id : Rid) → IsPlace g (page_slots s) store (length bytes) anywhere id → IsPlaceFor g s store bytes id
     is_place_for id is = record {
       serves = serves_of id is.takes;
       lowest = λ other before serves.
@@ -52,7 +52,7 @@ module _ (g : Geometry) (s : State) (claimed : Claimed s.sessions.records s.sess
           elim before [ inl page ↦ omega (arith, first.0, page) | inr slot ↦ omega (arith, first.1 slot.0, slot.1) ];
     }
 
-    pub none_serves : HasNoPlace g (page_slots s) store (length bytes) → NoneServes g s store bytes
+    pub none_serves : HasNoPlace g (page_slots s) store (length bytes) anywhere → NoneServes g s store bytes
     none_serves none id serves = none id (takes_of id serves)
 
   -- what a scan of the pages finds is the scan of the records
@@ -64,8 +64,8 @@ module _ (g : Geometry) (s : State) (claimed : Claimed s.sessions.records s.sess
 
 -- what refuses an insert that finds no place
 pub place_fault : (g : Geometry) (s : State) → Claimed s.sessions.records s.sessions.active s.counts → (store session : ℕ) (bytes : List ℕ) (f : Fault) {len : ℕ} → IsInTxn s session → IsShort bytes → HasStore g store → len ≡ length bytes
-    → ((f ≡ fault.StoreFull) × HasNoPlace g (page_slots s) store len) ⊎ (f ≡ fault.Memory) ⊎ IsPageFault s f → (f ≡ fault.Memory) ⊎ InsertRefusal g s session store bytes f
+    → ((f ≡ fault.StoreFull) × HasNoPlace g (page_slots s) store len anywhere) ⊎ (f ≡ fault.Memory) ⊎ IsPageFault s f → (f ≡ fault.Memory) ⊎ InsertRefusal g s session store bytes f
 place_fault g s claimed store session bytes f mine short there len (inl full) =
-    inr (subst (InsertRefusal g s session store bytes) (sym full.0) (mine, short, there, none_serves g s claimed store bytes (subst (HasNoPlace g (page_slots s) store) len full.1)))
+    inr (subst (InsertRefusal g s session store bytes) (sym full.0) (mine, short, there, none_serves g s claimed store bytes (subst (λ (n : ℕ). HasNoPlace g (page_slots s) store n anywhere) len full.1)))
 place_fault g s claimed store session bytes f mine short there len (inr (inl memory)) = inl memory
 place_fault g s claimed store session bytes f mine short there len (inr (inr page)) = inr (insert_fault g s session store bytes f mine short there page)

@@ -5,13 +5,14 @@ ghost use Rattle.shore_types.specs.declared.faults.Fault.TheVariants as Fault;
 ghost use Rattle.shore_model.specs.declared.calls.Call.TheVariants as Call;
 ghost use Rattle.shore_disk.specs.Cause.{HasCause};
 ghost use Rattle.shore_heap.specs.Heaps.{frame_of};
-ghost use Rattle.shore_heap.specs.Places.{HasNoPlace, IsFree, IsPlace};
+ghost use Rattle.shore_heap.specs.Places.{HasNoPlace, IsFree, IsPlace, anywhere};
 ghost use Rattle.shore_calls.specs.Refusals.{IsPageFault};
 ghost use Rattle.shore_calls.specs.States.{page_slots};
 
 use crate::core_calls::Core;
 use shore_calls::Step;
 use shore_disk::Disk;
+use shore_heap::AnyPlace;
 use shore_log::Tail;
 use shore_model::Answer;
 use shore_types::layout::MAX_RECORD_BYTES;
@@ -61,8 +62,8 @@ impl<T: Tail, V: Disk> Core<T, V> {
         requires { HasStore (geometry_of self.old) store }
         ensures there { IfOk result (HasSlot (geometry_of self.old)) }
         ensures framed { IfOk result (λ id. IsSomeAnd (frame_of (heap_of self.new) id.page) (λ f. IsFree f.page.slots len id.slot)) }
-        ensures found { has_failed self.old ≡ false → InEach (λ front disk before s plain. MatchResult result (IsPlace (geometry_of self.old) (page_slots s) store len)
-            (λ f. ((f ≡ Fault.StoreFull) × HasNoPlace (geometry_of self.old) (page_slots s) store len) ⊎ (f ≡ Fault.Memory) ⊎ IsPageFault s f)) self.old }
+        ensures found { has_failed self.old ≡ false → InEach (λ front disk before s plain. MatchResult result (IsPlace (geometry_of self.old) (page_slots s) store len anywhere)
+            (λ f. ((f ≡ Fault.StoreFull) × HasNoPlace (geometry_of self.old) (page_slots s) store len anywhere) ⊎ (f ≡ Fault.Memory) ⊎ IsPageFault s f)) self.old }
         ensures damaged { Earns self.old (λ page. page.store ≡ store) result }
         ensures stays { InEach (λ front disk before s plain. Stays self.new result front before s plain) self.old }
         ensures any_moment { MayLeave self.old self.new }
@@ -71,9 +72,15 @@ impl<T: Tail, V: Disk> Core<T, V> {
         ensures cause { HasCause result (faults_of self.old) (faults_of self.new) }
     {
         let last = Lsn(self.tail.next().0 - 1);
-        let place = self
-            .heap
-            .place_for(alloc, store, len, &self.txns, last, self.durable)?;
+        let place = self.heap.place_for(
+            alloc,
+            store,
+            len,
+            &AnyPlace,
+            &self.txns,
+            last,
+            self.durable,
+        )?;
         match place {
             Some(id) => Ok(id),
             None => Err(Fault::StoreFull),

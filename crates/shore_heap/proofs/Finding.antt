@@ -1,5 +1,5 @@
 -- The first place of a store, by what is known of its pages.
-use Rattle.std.proofs.Common.{◌≡◌, ◌≢◌, ◌+◌, ◌<◌, ◌≤◌, ℕ, List, Option, None, Some, Ok, Err, IfNone, IfSome, IsSomeAnd, refl, sym, ap, subst, ◌∙◌, inl, inr, arith}
+use Rattle.std.proofs.Common.{◌≡◌, ◌+◌, ◌<◌, ◌≤◌, ℕ, List, Option, None, Some, Ok, Err, IfNone, IfSome, IsSomeAnd, refl, sym, ap, subst, ◌∙◌, inl, inr, arith}
 use Rattle.std.proofs.lemmas.Bool.{cases_eq, cases_lt}
 use Rattle.shore_disk.specs.Cause.{HasCause}
 use Rattle.shore_types.specs.declared.faults.Fault.TheVariants.{Device}
@@ -7,11 +7,10 @@ use Rattle.shore_types.specs.declared.ids.PageId.{PageId}
 use Rattle.shore_types.specs.declared.ids.Rid.{Rid}
 use Rattle.shore_types.specs.declared.layout.Geometry.{Geometry}
 use Rattle.shore_types.specs.Layout.{HasPage, HasSlot}
-use Rattle.shore_page.specs.Room.{Fits}
-use Rattle.shore_page.specs.Slots.{Slot, image_at_slot}
+use Rattle.shore_page.specs.Slots.{Slot}
 use Rattle.shore_heap.specs.Contents.{AreBounds, bound_of}
 use Rattle.shore_pool.specs.declared.frame.Frame.{Frame}
-use Rattle.shore_heap.specs.Places.{HasNoPlace, IsFirstSlot, IsFree, IsPlace, Takes}
+use Rattle.shore_heap.specs.Places.{HasNoPlace, HasNoSlot, IsFirstSlot, IsFree, IsPlace, Takes, slots_of}
 
 abbrev the_page : ℕ → ℕ → PageId
 the_page store page = record { store = store; page = page }
@@ -30,41 +29,47 @@ if_none_at P (Some y) is p = let clash : Some y ≡ None = is in absurd cc
 pub ok_same : {T : Type 0} (x : T) (old new : ℕ) → HasCause (Ok x) old new → new ≡ old
 ok_same x old new cause = cause.unreported (λ is. let clash : Ok x ≡ Err Device = is in cc)
 
-module _ (g : Geometry) (free : List (List ℕ)) (S : PageId → List Slot) (store bytes : ℕ) (are : AreBounds g free S) where
+module _ (g : Geometry) (S : PageId → List Slot) (store bytes : ℕ) (MayTake : Rid → Type 0) where
+  -- no slot of a page takes so many bytes and may be taken
+  abbrev pub NoneOn : ℕ → Type 0
+  NoneOn page = HasPage g (the_page store page) → HasNoSlot (S (the_page store page)) bytes (slots_of MayTake (the_page store page))
+
   page_is : (id : PageId) → id.store ≡ store → the_page store id.page ≡ id
   page_is id of_store = ap (λ (n : ℕ). the_page n id.page) (sym of_store)
 
-  refused : (id : Rid) → Takes g S store bytes id → bound_of free (the_page store id.page.page) ≤ bytes → ⊥
-  refused id takes up_to = are id.page bytes takes.there (subst (λ (p : PageId). bound_of free p ≤ bytes) (page_is id.page takes.of_store) up_to) id.slot takes.empty takes.fits
+  refused : (id : Rid) → Takes g S store bytes MayTake id → NoneOn id.page.page → ⊥
+  refused id takes none =
+      subst (λ (p : PageId). HasPage g p → HasNoSlot (S p) bytes (slots_of MayTake p)) (page_is id.page takes.of_store) none takes.there id.slot (takes.empty, takes.fits) takes.allowed
 
-  pub no_place : ((j : ℕ) → HasPage g (the_page store j) → bound_of free (the_page store j) ≤ bytes) → HasNoPlace g S store bytes
-  no_place each id takes = refused id takes (each id.page.page (subst (HasPage g) (sym (page_is id.page takes.of_store)) takes.there))
+  pub no_place : ((page : ℕ) → NoneOn page) → HasNoPlace g S store bytes MayTake
+  no_place each id takes = refused id takes (each id.page.page)
 
-  pub is_place : (page slot : ℕ) → ((j : ℕ) → j < page → bound_of free (the_page store j) ≤ bytes) → HasPage g (the_page store page) → IsFirstSlot (S (the_page store page)) bytes slot
-      → IsPlace g S store bytes (the_id store page slot)
+  pub is_place : (page slot : ℕ) → ((j : ℕ) → j < page → NoneOn j) → HasPage g (the_page store page) → IsFirstSlot (S (the_page store page)) bytes (slots_of MayTake (the_page store page)) slot
+      → IsPlace g S store bytes MayTake (the_id store page slot)
   is_place page slot below there first = record {
-    takes = record { there = there; of_store = refl; empty = first.empty; fits = first.fits };
+    takes = record { there = there; of_store = refl; empty = first.free.0; fits = first.free.1; allowed = first.allowed };
     first = λ other takes. (
       elim (cases_lt other.page.page page) [ inl less ↦ absurd (refused other takes (below other.page.page less)) | inr more ↦ more ],
       λ same.
           let here : other.page ≡ the_page store page = sym (page_is other.page takes.of_store) ∙ ap (λ (n : ℕ). the_page store n) same in
-          first.first other.slot (subst (λ (p : PageId). image_at_slot (S p) other.slot ≡ None) here takes.empty) (subst (λ (p : PageId). Fits (S p) other.slot bytes) here takes.fits),
+          first.first other.slot (subst (λ (p : PageId). IsFree (S p) bytes other.slot) here (takes.empty, takes.fits)) (subst (λ (p : PageId). slots_of MayTake p other.slot) here takes.allowed),
     );
   }
 
--- a page more is known to refuse
-pub bounds_next : (mid new : List (List ℕ)) (store from page bytes : ℕ) → from ≤ page → ((j : ℕ) → j < from → bound_of mid (the_page store j) ≤ bytes)
-    → ((j : ℕ) → from ≤ j → j < page → bound_of mid (the_page store j) ≤ bytes) → ((p : PageId) → p ≢ the_page store page → bound_of new p ≡ bound_of mid p) → bound_of new (the_page store page) ≤ bytes
-    → (j : ℕ) → j < from + 1 → bound_of new (the_page store j) ≤ bytes
-bounds_next mid new store from page bytes behind below passed others here j less = elim (cases_eq j page) [
-  | inl same ↦ subst (λ (n : ℕ). bound_of new (the_page store n) ≤ bytes) (sym same) here
-  | inr other ↦
-      let kept = others (the_page store j) (λ is. other (ap (λ (p : PageId). p.page) is)) in
-      elim (cases_lt j from) [
-        | inl low ↦ omega (arith, kept, below j low)
-        | inr high ↦ omega (arith, kept, passed j high (omega (arith, other, less, behind, high)))
-      ]
-]
+  -- what the bounds refuse
+  pub none_by_bound : (free : List (List ℕ)) → AreBounds g free S → (page : ℕ) → bound_of free (the_page store page) ≤ bytes → NoneOn page
+  none_by_bound free are page up_to has slot takes allowed = are (the_page store page) bytes has up_to slot takes.0 takes.1
+
+  -- no place of a page may be taken
+  pub none_unused : (page : ℕ) → ((id : Rid) → id.page ≡ the_page store page → MayTake id → ⊥) → NoneOn page
+  none_unused page none has slot takes allowed = none (the_id store page slot) refl allowed
+
+  -- a page more has none
+  pub none_next : (from page : ℕ) → ((j : ℕ) → j < from → NoneOn j) → ((j : ℕ) → from ≤ j → j < page → NoneOn j) → NoneOn page → (j : ℕ) → j < page + 1 → NoneOn j
+  none_next from page below passed here j less = elim (cases_eq j page) [
+    | inl same ↦ subst NoneOn (sym same) here
+    | inr other ↦ elim (cases_lt j from) [ inl low ↦ below j low | inr high ↦ passed j high (omega (arith, other, less)) ]
+  ]
 
 -- a slot that takes bytes in a frame is one that a record may have
 pub slot_there : (g : Geometry) (id : Rid) (o : Option Frame) (bytes : ℕ) → HasPage g id.page → IsSomeAnd o (λ f. IsFree f.page.slots bytes id.slot) → HasSlot g id

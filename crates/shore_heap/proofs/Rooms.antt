@@ -8,7 +8,7 @@ use Rattle.shore_page.proofs.Fitting.{IsSame, claims_changed, others_changed}
 use Rattle.shore_page.proofs.RoomLemmas.{claims-with_slot, length-with_slot}
 use Rattle.shore_page.proofs.UndoLemmas.{length-with_change}
 use Rattle.shore_heap.specs.Contents.{TakesNone}
-use Rattle.shore_heap.specs.Places.{IsFirstSlot}
+use Rattle.shore_heap.specs.Places.{IsNextFree, TakesNoneFrom}
 
 -- ---- one slot changed
 
@@ -85,12 +85,12 @@ refuses_more slots least bytes le none slot empty fits = none slot empty (record
 pub refuses_longest : (slots : List Slot) (bytes : ℕ) → 4000 < bytes → TakesNone slots bytes
 refuses_longest slots bytes over slot empty fits = absurd (omega (arith, fits.most))
 
--- what fits a slot behind the one after the last fits that one
-pub fits_behind : (slots : List Slot) (slot bytes : ℕ) → length slots ≤ slot → Fits slots slot bytes → Fits slots (length slots) bytes
-fits_behind slots slot bytes behind fits =
-    let none = past slots slot behind in
-    let here = past slots (length slots) (omega arith) in
-    record { there = omega (arith, fits.there); most = fits.most; room = omega (arith, fits.room) }
+-- what fits a slot behind the last fits each one before it that is behind the last
+fits_nearer : (slots : List Slot) (near far bytes : ℕ) → length slots ≤ near → near ≤ far → Fits slots far bytes → Fits slots near bytes
+fits_nearer slots near far bytes behind before fits =
+    let none = past slots far (omega (arith, behind, before)) in
+    let here = past slots near behind in
+    record { there = omega (arith, fits.there, before); most = fits.most; room = omega (arith, fits.room, behind, before) }
   where
     past : (slots : List Slot) (slot : ℕ) → length slots ≤ slot → claim_at slots slot ≡ 0
     past [] slot behind = refl
@@ -103,20 +103,29 @@ past [] slot behind = refl
 past (s ∷ slots) zero behind = absurd (omega arith)
 past (s ∷ slots) (suc slot) behind = past slots slot (omega arith)
 
--- a page with no candidate takes none
-pub no_candidate : (slots : List Slot) (bytes : ℕ) → ((slot : ℕ) → 0 ≤ slot → IsCandidate slots slot bytes → ⊥) → TakesNone slots bytes
-no_candidate slots bytes none slot empty fits = elim (cases_lt (length slots) slot) [
-  | inl behind ↦ none (length slots) (omega arith) (record { there = omega arith; empty = past slots (length slots) (omega arith); fits = fits_behind slots slot bytes (omega (arith, behind)) fits })
-  | inr there ↦ none slot (omega arith) (record { there = there; empty = empty; fits = fits })
-]
+module _ (slots : List Slot) (from bytes : ℕ) where
+  -- the first candidate is the next of all slots that take it
+  pub next_candidate : (slot : ℕ) → IsFirstCandidate slots from bytes slot → IsNextFree slots from bytes slot
+  next_candidate slot is = record {
+    behind = is.behind;
+    free = (is.candidate.empty, is.candidate.fits);
+    passed = λ other behind less free. is.passed other behind less (record { there = omega (arith, less, is.candidate.there); empty = free.0; fits = free.1 });
+  }
 
--- the first candidate is the first of all slots that take it
-pub first_of_all : (slots : List Slot) (bytes slot : ℕ) → IsFirstCandidate slots 0 bytes slot → IsFirstSlot slots bytes slot
-first_of_all slots bytes slot is = record {
-  empty = is.candidate.empty;
-  fits = is.candidate.fits;
-  first = λ other empty fits. elim (cases_lt other slot) [
-    | inl less ↦ absurd (is.passed other (omega arith) less (record { there = omega (arith, less, is.candidate.there); empty = empty; fits = fits }))
-    | inr not_less ↦ not_less
-  ];
-}
+  -- a page with no candidate takes none
+  pub no_candidate : from ≤ length slots → ((slot : ℕ) → from ≤ slot → IsCandidate slots slot bytes → ⊥) → TakesNoneFrom slots from bytes
+  no_candidate inside none slot behind free = elim (cases_lt (length slots) slot) [
+    | inl far ↦ none (length slots) inside (record { there = omega arith; empty = past slots (length slots) (omega arith); fits = fits_nearer slots (length slots) slot bytes (omega arith) (omega (arith, far)) free.1 })
+    | inr there ↦ none slot behind (record { there = there; empty = free.0; fits = free.1 })
+  ]
+
+  -- behind the last slot all are empty, and the nearest takes what any does
+  pub next_behind : length slots < from → Fits slots from bytes → IsNextFree slots from bytes from
+  next_behind far fits = record { behind = omega arith; free = (past slots from (omega (arith, far)), fits); passed = λ other behind less free. absurd (omega (arith, behind, less)) }
+
+  pub none_behind : length slots < from → (Fits slots from bytes → ⊥) → TakesNoneFrom slots from bytes
+  none_behind far none slot behind free = none (fits_nearer slots from slot bytes (omega (arith, far)) behind free.1)
+
+-- a page with no free slot from the first on refuses the length
+pub none_at_all : (slots : List Slot) (bytes : ℕ) → TakesNoneFrom slots 0 bytes → TakesNone slots bytes
+none_at_all slots bytes none slot empty fits = none slot (omega arith) (empty, fits)

@@ -5,6 +5,7 @@ use Rattle.shore_disk.specs.declared.device.Disk.{Ghosts}
 use Rattle.shore_types.specs.declared.faults.Fault.{Fault}
 use Rattle.shore_types.specs.declared.faults.Fault.TheVariants as fault
 use Rattle.shore_types.specs.declared.ids.PageId.{PageId}
+use Rattle.shore_types.specs.declared.ids.Rid.{Rid}
 use Rattle.shore_types.specs.declared.layout.Geometry.{Geometry}
 use Rattle.shore_types.specs.Images.{Image}
 use Rattle.shore_types.specs.Layout.{HasPage}
@@ -19,6 +20,7 @@ use Rattle.shore_pool.specs.Pools as pools
 use Rattle.shore_pool.specs.Pages.{SamePages}
 use Rattle.shore_pool.specs.Pools.{HasInPlace, Holds, NeedsForce}
 use Rattle.shore_page.specs.declared.undecided.Claims as claims
+use Rattle.shore_heap.specs.declared.choices.Places as choices
 use Rattle.shore_heap.specs.declared.heap.Heap.{Heap}
 use Rattle.shore_heap.specs.Contents.{AreBounds, AreKept, HasSlots, Kept}
 
@@ -64,6 +66,10 @@ IsWhole heap = page_count (geometry_of heap) ≤ limit_of heap
 -- what undecided changes may put back on each page
 abbrev pub claims_in : {C : Type 0} (G : claims.Ghosts C) → C → Kept
 claims_in G undecided = G.kept undecided
+
+-- the places that may be taken
+abbrev pub allowed_by : {P : Type 0} (G : choices.Ghosts P) → P → Rid → Type 0
+allowed_by G places = G.MayTake places
 
 -- The volume is settled with these texts behind this front, what is clean in a frame is there, and each page has these slots, if so much may come
 -- back to it.

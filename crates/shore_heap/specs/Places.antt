@@ -1,5 +1,5 @@
 -- Where a new record of a store may go.
-use Rattle.std.specs.Prelude.{◌≡◌, ◌⊎◌, ◌≤◌, ℕ, List, None}
+use Rattle.std.specs.Prelude.{◌≡◌, ◌⊎◌, ◌<◌, ◌≤◌, ℕ, List, None}
 use Rattle.shore_dwrite.specs.Volumes.{HasNoPage, page_number, page_offset}
 use Rattle.shore_types.specs.declared.faults.Device.TheVariants as device
 use Rattle.shore_types.specs.declared.faults.Fault.{Fault}
@@ -11,23 +11,46 @@ use Rattle.shore_types.specs.Layout.{HasPage}
 use Rattle.shore_page.specs.Room.{Fits}
 use Rattle.shore_page.specs.Slots.{Slot, image_at_slot}
 
--- of all empty slots of a page that take so many bytes the first
-pub record IsFirstSlot (slots : List Slot) (bytes slot : ℕ) : Type 0 where
-  pub empty : image_at_slot slots slot ≡ None
-  pub fits : Fits slots slot bytes
-  pub first : (other : ℕ) → image_at_slot slots other ≡ None → Fits slots other bytes → slot ≤ other
+-- any place may be taken
+abbrev pub anywhere : Rid → Type 0
+anywhere id = Unit {0}
+
+-- the slots of a page that may be taken
+abbrev pub slots_of : (Rid → Type 0) → PageId → ℕ → Type 0
+slots_of MayTake page slot = MayTake (record { page = page; slot = slot })
 
 -- an empty slot that takes so many bytes
 abbrev pub IsFree : List Slot → ℕ → ℕ → Type 0
 IsFree slots bytes slot = (image_at_slot slots slot ≡ None) × Fits slots slot bytes
 
-module _ (g : Geometry) (S : PageId → List Slot) (store bytes : ℕ) where
-  -- an empty slot of the store that takes so many bytes
+-- the lowest one from a slot on
+pub record IsNextFree (slots : List Slot) (from bytes slot : ℕ) : Type 0 where
+  pub behind : from ≤ slot
+  pub free : IsFree slots bytes slot
+  pub passed : (other : ℕ) → from ≤ other → other < slot → IsFree slots bytes other → ⊥
+
+-- no slot from one on is empty and takes so many bytes
+abbrev pub TakesNoneFrom : List Slot → ℕ → ℕ → Type 0
+TakesNoneFrom slots from bytes = (other : ℕ) → from ≤ other → IsFree slots bytes other → ⊥
+
+-- of all empty slots of a page that take so many bytes, and may be taken, the first
+pub record IsFirstSlot (slots : List Slot) (bytes : ℕ) (MayTake : ℕ → Type 0) (slot : ℕ) : Type 0 where
+  pub free : IsFree slots bytes slot
+  pub allowed : MayTake slot
+  pub first : (other : ℕ) → IsFree slots bytes other → MayTake other → slot ≤ other
+
+-- there is none
+abbrev pub HasNoSlot : List Slot → ℕ → (ℕ → Type 0) → Type 0
+HasNoSlot slots bytes MayTake = (slot : ℕ) → IsFree slots bytes slot → MayTake slot → ⊥
+
+module _ (g : Geometry) (S : PageId → List Slot) (store bytes : ℕ) (MayTake : Rid → Type 0) where
+  -- an empty slot of the store that takes so many bytes, and may be taken
   pub record Takes (id : Rid) : Type 0 where
     pub there : HasPage g id.page
     pub of_store : id.page.store ≡ store
     pub empty : image_at_slot (S id.page) id.slot ≡ None
     pub fits : Fits (S id.page) id.slot bytes
+    pub allowed : MayTake id
 
   -- of all such slots the first: by page, and then by slot
   pub record IsPlace (id : Rid) : Type 0 where

@@ -1,6 +1,7 @@
 //! Records in the pages of a pool: a heap file for each store of a volume.
 #![tactic(auto)]
 
+mod choices;
 mod fetching;
 mod flushing;
 mod heap;
@@ -8,7 +9,9 @@ mod laws;
 mod maps;
 mod places;
 mod scans;
+mod slots;
 
+pub use choices::{AnyPlace, Places};
 pub use heap::Heap;
 pub use laws::{claims_count_out_of_frames, pages_of_the_volume_decide, scans_are_the_models};
 pub use shore_page::{ChainPlace, Claims, NoClaims};

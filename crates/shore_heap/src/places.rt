@@ -1,5 +1,5 @@
 //! Where a new record of a store goes.
-ghost use Rattle.std.specs.Prelude.{◌≡◌, ◌≢◌, ◌⊎◌, ◌<◌, ◌≤◌, ℕ, List, IfErr, IfNone, IfOk, IfSome, IsSomeAnd, IsTrue, MatchResult, None, OnOk, Some, is_some, min, slice_get};
+ghost use Rattle.std.specs.Prelude.{◌≡◌, ◌≢◌, ◌⊎◌, ◌<◌, ◌≤◌, ℕ, List, IfErr, IfNone, IfOk, IfSome, IsSomeAnd, IsTrue, MatchOption, MatchResult, None, OnOk, Some, is_some, min, slice_get};
 ghost use Rattle.shore_disk.specs.Cause.{HasCause};
 ghost use Rattle.shore_disk.specs.Device.{LeavesOnly, size};
 ghost use Rattle.shore_dwrite.specs.Volumes.{HasNoPage, page_number, page_offset};
@@ -10,10 +10,12 @@ ghost use Rattle.shore_types.specs.declared.faults.Device.TheVariants as Device;
 ghost use Rattle.shore_types.specs.declared.faults.Fault.TheVariants as Fault;
 ghost use Rattle.shore_types.specs.declared.ids.PageId.{PageId};
 ghost use Rattle.shore_types.specs.declared.layout.Geometry.{Geometry};
-ghost use Rattle.shore_heap.specs.Contents.{AreKept, Kept, TakesNone, bound_of};
-ghost use Rattle.shore_heap.specs.Places.{HasNoPlace, IsFirstSlot, IsFree, IsPlace, IsRefused};
+ghost use Rattle.shore_heap.specs.Contents.{AreBounds, AreKept, Kept, TakesNone, bound_of};
+ghost use Rattle.shore_heap.specs.Places.{HasNoPlace, HasNoSlot, IsFirstSlot, IsFree, IsPlace, IsRefused, slots_of};
 
+use crate::choices::Places;
 use crate::heap::Heap;
+use crate::slots::first_allowed;
 use shore_disk::Disk;
 use shore_page::Claims;
 use shore_types::{Fault, Lsn, PageId, Rid, StoreId};
@@ -21,27 +23,29 @@ use std::alloc::Global;
 
 impl<D: Disk> Heap<D> {
     ghost use Rattle.shore_pool.specs.declared.frame.Frame.{Frame};
-    ghost use Rattle.shore_heap.specs.Heaps.{AsksForForce, IsWhole, KeepsSlots, KeepsVolume, LeavesPages, MayFetch, OnlyReads, Shows, WroteBack, claims_in, faults_of, frame_of, geometry_of, history_of, honesty_of, limit_of, pool_of};
+    ghost use Rattle.shore_heap.specs.Heaps.{AsksForForce, IsWhole, KeepsSlots, KeepsVolume, LeavesPages, MayFetch, OnlyReads, Shows, WroteBack, allowed_by, claims_in, faults_of, frame_of, geometry_of, history_of, honesty_of, limit_of, pool_of};
 
-    /// Of all empty slots of a store that take a record of so many bytes the first, by page and slot, with its page in a frame. A page that is known
-    /// to refuse as many bytes is not looked at.
-    pub fn place_for<C: Claims>(
+    /// Of all empty slots of a store that take a record of so many bytes, and may be taken, the first, by page and slot, with its page in a frame.
+    /// A page that is known to refuse as many bytes is not looked at, and one of which no place may be taken is not fetched.
+    pub fn place_for<C: Claims, P: Places>(
         &mut self,
         alloc: Global,
         store: StoreId,
         bytes: usize,
+        places: &P,
         claims: &C,
         last: Lsn,
         seen: Lsn,
     ) -> Result<Option<Rid>, Fault>
         requires { HasStore (geometry_of self.old) store }
         ensures found { (front : List ℕ) (disk : ℕ → List ℕ) (S : PageId → List Slot) → Shows (claims_in C.Claims claims.now) self.old front disk S
-            → MayFetch (claims_in C.Claims claims.now) self.old S → IfOk result (λ found. IfSome found (IsPlace (geometry_of self.old) S store bytes)) }
+            → MayFetch (claims_in C.Claims claims.now) self.old S → IfOk result (λ found. IfSome found (IsPlace (geometry_of self.old) S store bytes (allowed_by P.Places places.now))) }
         ensures none { (front : List ℕ) (disk : ℕ → List ℕ) (S : PageId → List Slot) → Shows (claims_in C.Claims claims.now) self.old front disk S
-            → MayFetch (claims_in C.Claims claims.now) self.old S → IfOk result (λ found. IfNone found (HasNoPlace (geometry_of self.old) S store bytes)) }
+            → MayFetch (claims_in C.Claims claims.now) self.old S → IfOk result (λ found. IfNone found (HasNoPlace (geometry_of self.old) S store bytes (allowed_by P.Places places.now))) }
         ensures there { IfOk result (λ found. IfSome found (HasSlot (geometry_of self.old))) }
         ensures held { IfOk result (λ found. IfSome found (λ id. IsTrue (is_some (frame_of self.new id.page)))) }
         ensures framed { IfOk result (λ found. IfSome found (λ id. IsSomeAnd (frame_of self.new id.page) (λ f. IsFree f.page.slots bytes id.slot))) }
+        ensures allowed { IfOk result (λ found. IfSome found (allowed_by P.Places places.now)) }
         ensures kept { (front : List ℕ) (disk : ℕ → List ℕ) (S : PageId → List Slot) → Shows (claims_in C.Claims claims.now) self.old front disk S
             → AreKept (geometry_of self.old) (claims_in C.Claims claims.now) S
             → MatchResult result (λ _. KeepsSlots (claims_in C.Claims claims.now) self.old self.new seen front disk S)
@@ -63,15 +67,21 @@ impl<D: Disk> Heap<D> {
         ensures limit { limit_of self.new ≡ limit_of self.old }
         ensures cause { HasCause result (faults_of self.old) (faults_of self.new) }
     {
-        for from in 0..self.pages_in(store) {
+        let end = self.pages_in(store);
+        let mut from = 0;
+        while from < end {
             let Some(page) = self.next_page(store, from, bytes) else {
                 return Ok(None);
             };
             let id = PageId { store, page };
-            if let Some(slot) = self.try_page(alloc, id, bytes, claims, last, seen)? {
-                let page = PageId { store, page };
-                return Ok(Some(Rid { page, slot }));
+            if places.may_use(&id) {
+                let tried = self.try_page(alloc, id, bytes, places, claims, last, seen)?;
+                if let Some(slot) = tried {
+                    let page = PageId { store, page };
+                    return Ok(Some(Rid { page, slot }));
+                }
             }
+            from = page + 1;
         }
         Ok(None)
     }
@@ -95,23 +105,26 @@ impl<D: Disk> Heap<D> {
         self.free[store.0 as usize].first_from(from, bytes)
     }
 
-    // The first slot of a page for so many bytes. If there is none, the page is known to refuse as many.
-    fn try_page<C: Claims>(
+    // The first slot of a page that takes so many bytes and may be taken. If none takes them, the page is known to refuse as many.
+    fn try_page<C: Claims, P: Places>(
         &mut self,
         alloc: Global,
         id: PageId,
         bytes: usize,
+        places: &P,
         claims: &C,
         last: Lsn,
         seen: Lsn,
     ) -> Result<Option<u16>, Fault>
-        requires { HasPage (geometry_of self.old) id }
+        requires there { HasPage (geometry_of self.old) id }
+        requires usable { P.Places.MayUse places.now id }
         ensures found { (front : List ℕ) (disk : ℕ → List ℕ) (S : PageId → List Slot) → Shows (claims_in C.Claims claims.now) self.old front disk S
-            → MayFetch (claims_in C.Claims claims.now) self.old S → IfOk result (λ found. IfSome found (IsFirstSlot (S id) bytes)) }
-        ensures none { IfOk result (λ found. IfNone found (bound_of self.new.free.items id ≤ bytes)) }
-        ensures others { (p : PageId) → p ≢ id → bound_of self.new.free.items p ≡ bound_of self.old.free.items p }
+            → MayFetch (claims_in C.Claims claims.now) self.old S → IfOk result (λ found. IfSome found (IsFirstSlot (S id) bytes (slots_of (allowed_by P.Places places.now) id))) }
+        ensures none { (front : List ℕ) (disk : ℕ → List ℕ) (S : PageId → List Slot) → Shows (claims_in C.Claims claims.now) self.old front disk S
+            → MayFetch (claims_in C.Claims claims.now) self.old S → IfOk result (λ found. IfNone found (HasNoSlot (S id) bytes (slots_of (allowed_by P.Places places.now) id))) }
         ensures held { IfOk result (λ found. IsTrue (is_some (frame_of self.new id))) }
         ensures framed { IfOk result (λ found. IfSome found (λ slot. IsSomeAnd (frame_of self.new id) (λ f. IsFree f.page.slots bytes slot))) }
+        ensures allowed { IfOk result (λ found. IfSome found (slots_of (allowed_by P.Places places.now) id)) }
         ensures kept { (front : List ℕ) (disk : ℕ → List ℕ) (S : PageId → List Slot) → Shows (claims_in C.Claims claims.now) self.old front disk S
             → AreKept (geometry_of self.old) (claims_in C.Claims claims.now) S
             → MatchResult result (λ _. KeepsSlots (claims_in C.Claims claims.now) self.old self.new seen front disk S)
@@ -144,26 +157,49 @@ impl<D: Disk> Heap<D> {
             page: id.page,
         };
         self.fetch(alloc, page, claims, last, seen)?;
-        match self.candidate(&id, bytes) {
+        match self.allowed_on(&id, bytes, places) {
             Some(slot) => Ok(Some(slot)),
             None => {
-                self.refuse(id, bytes);
+                self.refuse_if_full(id, bytes);
                 Ok(None)
             }
         }
     }
 
-    // The first slot for so many bytes of a page in a frame.
-    fn candidate(&self, id: &PageId, bytes: usize) -> Option<u16>
+    // The first slot of a page in a frame that takes so many bytes and may be taken.
+    fn allowed_on<P: Places>(&self, id: &PageId, bytes: usize, places: &P) -> Option<u16>
         requires there { HasPage (geometry_of self.now) id.now }
         requires held { IsTrue (is_some (frame_of self.now id.now)) }
-        ensures found { (K : Kept) (front : List ℕ) (disk : ℕ → List ℕ) (S : PageId → List Slot) → Shows K self.now front disk S → IfSome result (IsFirstSlot (S id.now) bytes) }
-        ensures framed { IfSome result (λ slot. IsSomeAnd (frame_of self.now id.now) (λ f. IsFree f.page.slots bytes slot)) }
-        ensures none { (K : Kept) (front : List ℕ) (disk : ℕ → List ℕ) (S : PageId → List Slot) → Shows K self.now front disk S → result ≡ None → TakesNone (S id.now) bytes }
+        requires usable { P.Places.MayUse places.now id.now }
+        ensures { IsSomeAnd (frame_of self.now id.now) (λ f. MatchOption result (HasNoSlot f.page.slots bytes (slots_of (allowed_by P.Places places.now) id.now))
+            (IsFirstSlot f.page.slots bytes (slots_of (allowed_by P.Places places.now) id.now))) }
     {
         match self.pool.page(*id) {
-            Some(page) => page.candidate(0, bytes),
+            Some(page) => first_allowed(page, id, bytes, places),
             None => None,
+        }
+    }
+
+    // Whether no slot of a page in a frame takes so many bytes.
+    fn takes_none(&self, id: &PageId, bytes: usize) -> bool
+        requires { HasPage (geometry_of self.now) id.now }
+        ensures { IsTrue result → IsSomeAnd (frame_of self.now id.now) (λ f. TakesNone f.page.slots bytes) }
+    {
+        match self.pool.page(*id) {
+            Some(page) => page.candidate(0, bytes).is_none(),
+            None => false,
+        }
+    }
+
+    // If no slot of a page in a frame takes so many bytes, be they locked or not, the page is known to refuse as many.
+    fn refuse_if_full(&mut self, id: PageId, bytes: usize)
+        requires { HasPage (geometry_of self.old) id }
+        ensures pool { self.new.pool ≡ self.old.pool }
+        ensures bounds { (K : Kept) (front : List ℕ) (disk : ℕ → List ℕ) (S : PageId → List Slot) → Shows K self.old front disk S
+            → AreBounds (geometry_of self.old) self.new.free.items S }
+    {
+        if self.takes_none(&id, bytes) {
+            self.refuse(id, bytes);
         }
     }
 

@@ -2,7 +2,7 @@ use Rattle.std.proofs.Common.{◌≡◌, ◌⊎◌, ◌-◌, inl, inr, Ok, Err, 
 use Rattle.shore_types.specs.declared.faults.Fault.{Fault}
 use Rattle.shore_types.specs.declared.faults.Fault.TheVariants as fault
 use Rattle.shore_pool.specs.Pools.{NeedsForce}
-use Rattle.shore_heap.specs.Places.{HasNoPlace, IsPlace}
+use Rattle.shore_heap.specs.Places.{HasNoPlace, IsPlace, anywhere}
 use Rattle.shore_heap.proofs.Finding.{if_none_at, if_some_at}
 use Rattle.shore_calls.specs.Refusals.{IsPageFault}
 use Rattle.shore_calls.specs.States.{page_slots}
@@ -17,7 +17,7 @@ pub returns-in-Some-clause-found : goal.returns-in-Some-clause-found
 returns-in-Some-clause-found g c running front disk before s plain is safe over =
     let old = c.args.self.now in
     let works = is.beside.parts.failed_is ∙ running in
-    if_some_at (IsPlace (geometry_of old) (page_slots s) c.args.store c.args.len) c.in_ok-place.place c.in-Some.id c.in-Some.is
+    if_some_at (IsPlace (geometry_of old) (page_slots s) c.args.store c.args.len anywhere) c.in_ok-place.place c.in-Some.id c.in-Some.is
     (c.in_ok-place.ensures.found front disk (page_slots s) (is.pages works) (inr (pages_may_go old before s is.beside safe)))
 
 pub returns-in-None-clause-found : goal.returns-in-None-clause-found
@@ -26,7 +26,7 @@ returns-in-None-clause-found g c running front disk before s plain is safe over 
     let works = is.beside.parts.failed_is ∙ running in
     inl (
       refl,
-      if_none_at (HasNoPlace (geometry_of old) (page_slots s) c.args.store c.args.len) c.in_ok-place.place c.in-None.is
+      if_none_at (HasNoPlace (geometry_of old) (page_slots s) c.args.store c.args.len anywhere) c.in_ok-place.place c.in-None.is
           (c.in_ok-place.ensures.none front disk (page_slots s) (is.pages works) (inr (pages_may_go old before s is.beside safe))),
     )
 
@@ -34,8 +34,8 @@ pub returns-in_err-place-clause-found : goal.returns-in_err-place-clause-found
 returns-in_err-place-clause-found g c running front disk before s plain is safe over =
     let old = c.args.self.now in
     let works = is.beside.parts.failed_is ∙ running in
-    match_as (IsPlace (geometry_of old) (page_slots s) c.args.store c.args.len)
-    (λ (f : Fault). ((f ≡ fault.StoreFull) × HasNoPlace (geometry_of old) (page_slots s) c.args.store c.args.len) ⊎ (f ≡ fault.Memory) ⊎ IsPageFault s f) c.from_residual.result _ c.from_residual.ensures.1
+    match_as (IsPlace (geometry_of old) (page_slots s) c.args.store c.args.len anywhere)
+    (λ (f : Fault). ((f ≡ fault.StoreFull) × HasNoPlace (geometry_of old) (page_slots s) c.args.store c.args.len anywhere) ⊎ (f ≡ fault.Memory) ⊎ IsPageFault s f) c.from_residual.result _ c.from_residual.ensures.1
     (inr (store_fault (heap_of old) s plain disk over.kept (over.pages works) (durable_of old) _ c.args.store _ (sym is.beside.parts.durable_is)
     (c.in_err-place.ensures.refused front disk (is.pages works).holds (omega (arith, old.forced, c.last.view_is, c.next.ensures)))))
 

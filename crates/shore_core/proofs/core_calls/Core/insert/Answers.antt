@@ -5,7 +5,7 @@ use Rattle.shore_types.specs.Layout.{HasSlot, HasStore}
 use Rattle.shore_model.specs.declared.calls.Call.TheVariants as call
 use Rattle.shore_page.specs.Room.{Fits}
 use Rattle.shore_heap.specs.Heaps.{frame_of}
-use Rattle.shore_heap.specs.Places.{IsPlace}
+use Rattle.shore_heap.specs.Places.{IsPlace, anywhere}
 use Rattle.shore_calls.specs.Refusals.{IsRefusal, IsShort}
 use Rattle.shore_calls.specs.States.{IsInTxn, page_slots}
 use Rattle.shore_core.specs.Cores.{IsSafe, durable_of, geometry_of, heap_of, last_of}
@@ -88,7 +88,7 @@ returns-in_err-change-clause-replied g c ready front disk before s plain is safe
     let short : IsShort c.args.bytes = omega (arith, c.if-len-gt-MAX_RECORD_BYTES.false, ap length c.as_slice-len.ensures) in
     let there : HasStore (geometry_of old) c.args.store = subst (λ (it : Geometry). HasStore it c.args.store) c.geometry.ensures (c.if-not-has_store.ensures.0 refl) in
     let place = is_place_for (geometry_of old) s safe.roomy.pages c.args.store c.args.bytes c.in_ok-place.place
-    (subst (λ n. IsPlace (geometry_of old) (page_slots s) c.args.store n c.in_ok-place.place) (ap length c.as_slice-len.ensures) (c.in_ok-place.ensures.found ready.running front disk before s plain is safe over)) in
+    (subst (λ n. IsPlace (geometry_of old) (page_slots s) c.args.store n anywhere c.in_ok-place.place) (ap length c.as_slice-len.ensures) (c.in_ok-place.ensures.found ready.running front disk before s plain is safe over)) in
     let comes = c.in_ok-place.ensures.stays front disk before s plain is safe over in
     let h = c.in_err-change.ensures.changed (c.in_ok-place.ensures.reads.failed ∙ ready.running) front comes.left before s comes.after comes.is_in (subst (λ it. IsSafe it s) (sym c.in_ok-place.ensures.reads.volume.geometry) safe) comes.over in
     let why : (c.in_err-change.field-0.0 ≡ fault.Memory) ⊎ IsRefusal (geometry_of old) s c.args.session (call.Insert c.args.store c.args.bytes) c.in_err-change.field-0.0 =
@@ -102,7 +102,7 @@ returns-clause-replied g c ready front disk before s plain is safe over =
     let short : IsShort c.args.bytes = omega (arith, c.if-len-gt-MAX_RECORD_BYTES.false, ap length c.as_slice-len.ensures) in
     let there : HasStore (geometry_of old) c.args.store = subst (λ (it : Geometry). HasStore it c.args.store) c.geometry.ensures (c.if-not-has_store.ensures.0 refl) in
     let place = is_place_for (geometry_of old) s safe.roomy.pages c.args.store c.args.bytes c.in_ok-place.place
-    (subst (λ n. IsPlace (geometry_of old) (page_slots s) c.args.store n c.in_ok-place.place) (ap length c.as_slice-len.ensures) (c.in_ok-place.ensures.found ready.running front disk before s plain is safe over)) in
+    (subst (λ n. IsPlace (geometry_of old) (page_slots s) c.args.store n anywhere c.in_ok-place.place) (ap length c.as_slice-len.ensures) (c.in_ok-place.ensures.found ready.running front disk before s plain is safe over)) in
     let comes = c.in_ok-place.ensures.stays front disk before s plain is safe over in
     let h = c.in_ok-change.ensures.changed (c.in_ok-place.ensures.reads.failed ∙ ready.running) front comes.left before s comes.after comes.is_in (subst (λ it. IsSafe it s) (sym c.in_ok-place.ensures.reads.volume.geometry) safe) comes.over in
     record {

@@ -1,9 +1,17 @@
-use Rattle.std.proofs.Common.{◌<◌, ◌≤◌, ℕ}
-use Rattle.shore_heap.specs.Contents.{bound_of}
-use Rattle.shore_heap.specs.Heaps.{claims_in}
+use Rattle.std.proofs.Common.{◌-◌, ◌<◌, ℕ, List}
+use Rattle.shore_page.specs.Slots.{Slot}
+use Rattle.shore_types.specs.declared.ids.PageId.{PageId}
+use Rattle.shore_heap.specs.Heaps.{MayFetch, Shows, allowed_by, claims_in, geometry_of}
+use Rattle.shore_heap.proofs.Finding.{NoneOn}
 use Rattle.shore_heap.proofs.Going.{Goes}
 use Rattle.shore_heap.proofs.heap.Heap.place_for.Given as goal
 
 abbrev pub invariant-loop-from : goal.invariant-loop-from
-invariant-loop-from g l =
-    Goes (claims_in g.C.Claims l.claims) l.seen l.initial.self l.self × ((j : ℕ) → j < l.from → bound_of l.self.free.items record { store = l.store; page = j } ≤ l.bytes)
+invariant-loop-from g l = record {
+  goes : Goes (claims_in g.C.Claims l.claims) l.seen l.initial.self l.self;
+  none : (front : List ℕ) (disk : ℕ → List ℕ) (S : PageId → List Slot) → Shows (claims_in g.C.Claims l.claims) l.initial.self front disk S → MayFetch (claims_in g.C.Claims l.claims) l.initial.self S
+      → (j : ℕ) → j < l.from → NoneOn (geometry_of l.initial.self) S l.store l.bytes (allowed_by g.P.Places l.places) j;
+}
+
+abbrev pub decreases-loop-from : goal.decreases-loop-from
+decreases-loop-from g l = l.end - l.from
