@@ -1,0 +1,41 @@
+use Rattle.std.proofs.Common.{◌≡◌, ◌≢◌, ◌++◌, ◌∷◌, [], sym, ap, subst, ◌∙◌}
+use Rattle.std.specs.Prelude.{All}
+use Rattle.shore_model.specs.declared.calls.Call.TheVariants as call
+use Rattle.shore_sessions.specs.Sessions.{EachOnce, txns_of}
+use Rattle.shore_sessions.specs.Views.{IsAmong}
+use Rattle.shore_calls.specs.CallSteps.{committed}
+use Rattle.shore_calls.specs.States.{next_number}
+use Rattle.shore_calls.specs.declared.step.Wait.TheVariants.{Durable}
+use Rattle.shore_control.specs.Controls.{txns_in, waits_in}
+use Rattle.shore_control.specs.Standing.{HasWaits}
+use Rattle.shore_control.specs.declared.waits.WaitingCall.{WaitingCall}
+use Rattle.shore_control.proofs.TxnSteps.{txns_committed, undone}
+use Rattle.shore_control.proofs.WaitSteps.{waits_committed}
+use Rattle.shore_control.proofs.control.Control.commit.Goals as goal
+
+pub returns-clause-undone : goal.returns-clause-undone
+returns-clause-undone c s a was its =
+    undone (txns_in c.args.self.now) c.note_commit.new.self s was.txns c.args.session c.note_commit.result.items a c.note_commit.ensures.left its.0 its.1
+
+pub returns-clause-stands : goal.returns-clause-stands
+returns-clause-stands c s a was its number =
+    let done = c.note_commit.ensures in
+    let here = subst (IsAmong a) was.txns.active its.0 in
+    let calls = waits_in c.args.self.now in
+    let number_is : c.number_of-txn.result ≡ a.txn = c.number_of-txn.ensures a here its.1 in
+    let pushed : _ ≡ calls ++ record { session = a.session; txn = a.txn; call = call.Commit; wait = Durable (next_number s) } ∷ [] =
+    c.push.ensures ∙ ap (λ n. calls ++ record { session = n; txn = c.number_of-txn.result; call = call.Commit; wait = Durable c.args.number } ∷ []) (sym its.1)
+    ∙ ap (λ n. calls ++ record { session = a.session; txn = n; call = call.Commit; wait = Durable c.args.number } ∷ []) number_is
+    ∙ ap (λ n. calls ++ record { session = a.session; txn = a.txn; call = call.Commit; wait = Durable n } ∷ []) number in
+    record {
+      txns = txns_committed (txns_in c.args.self.now) c.note_commit.new.self s was.txns c.args.session c.note_commit.result.items a done.left its.0 its.1
+          (done.undos a here its.1) done.next done.kept done.stream;
+      waits = subst (λ cs. HasWaits cs (committed s a)) (sym pushed)
+          (waits_committed calls s was.waits a its.0 (subst (λ ts. EachOnce (txns_of ts)) (sym was.txns.active) c.args.self.now.txns.numbers)
+          (subst (λ n. All (λ (w : WaitingCall). w.session ≢ n) calls) (sym its.1) c.requires.free));
+      locks = was.locks;
+    }
+
+pub returns-clause-waits : goal.returns-clause-waits
+returns-clause-waits c a m own =
+    c.push.ensures ∙ ap (λ n. waits_in c.args.self.now ++ record { session = c.args.session; txn = n; call = call.Commit; wait = Durable c.args.number } ∷ []) (c.number_of-txn.ensures a m own)

@@ -1,0 +1,71 @@
+-- How a control stands for the part of a state that is of its sessions: the transactions under way, the locks, and the calls that wait.
+use Rattle.std.specs.Prelude.{◌≡◌, ◌<◌, List, false}
+use Rattle.std.specs.List.{AllByRecursion}
+use Rattle.std.specs.FinMap.{get}
+use Rattle.shore_types.specs.Images.{Image}
+use Rattle.shore_types.specs.declared.ids.Rid.{Rid}
+use Rattle.shore_model.specs.declared.log_records.LogRecord.{LogRecord}
+use Rattle.shore_model.specs.declared.log_records.Payload.TheVariants.{Change}
+use Rattle.shore_model.specs.Logs.{previous_of}
+use Rattle.shore_model.specs.Records.{put_image}
+use Rattle.shore_room.specs.Claims.{SlotCounts}
+use Rattle.shore_sessions.specs.Logged.{and_record}
+use Rattle.shore_sessions.specs.Sessions.{SessionTxn, with_undo}
+use Rattle.shore_sessions.specs.UndoLists.{with_before_image}
+use Rattle.shore_sessions.specs.Views.{IsAmong}
+use Rattle.shore_calls.specs.States.{State, cost_of_log}
+use Rattle.shore_txn.specs.Transactions.{next_in, room_in, undos_in}
+use Rattle.shore_txn.specs.Transactions as table
+use Rattle.shore_txn.specs.Txns.{entries_of, last_of, number_of}
+use Rattle.shore_txn.specs.UndoEntries.{HaveClaims}
+use Rattle.shore_txn.specs.declared.transactions.Transactions.{Transactions}
+use Rattle.shore_txn.specs.declared.txn.Txn.{Txn}
+use Rattle.shore_control.specs.declared.control.Control.{Control}
+use Rattle.shore_control.specs.declared.waits.WaitingCall.{WaitingCall}
+use Rattle.shore_control.specs.Calls.{as_waitings, caller_of, committers_of, is_commit, names_of}
+use Rattle.shore_control.specs.Controls.{locks_in, txns_in, waits_in}
+
+-- ---- transactions
+
+-- it has its last record in this log, and beside each entry what the slot claimed before the change
+pub record IsLogged (log : List LogRecord) (t : Txn) : Type 0 where
+  pub last : last_of t ≡ previous_of (number_of t) log
+  pub claims : HaveClaims (entries_of t)
+
+-- The transactions are those of the state that are under way, and the sums of the room are those of its log.
+pub record HasTxns (txns : Transactions) (s : State) : Type 0 where
+  pub active : s.sessions.active ≡ undos_in txns
+  pub next : s.sessions.next_txn ≡ next_in txns
+  pub stream : s.stream_bytes ≡ (room_in txns).stream_bytes
+  pub kept : cost_of_log s.log ≡ (room_in txns).kept
+  pub each : AllByRecursion (IsLogged s.log) (table.txns_in txns)
+  -- no record is of a transaction to come
+  pub above : AllByRecursion (λ r. r.txn < next_in txns) s.log
+
+-- ---- calls that wait
+
+-- As long as no device has failed, a commit waits for each transaction that is committed and not answered. Who waits for a lock is under way.
+pub record HasWaits (calls : List WaitingCall) (s : State) : Type 0 where
+  pub waiting : s.waiting ≡ as_waitings calls
+  pub committing : s.failed ≡ false → names_of s.sessions.committing ≡ committers_of calls
+  pub asking : (w : WaitingCall) → IsAmong w calls → is_commit w ≡ false → IsAmong (caller_of w) (names_of s.sessions.active)
+
+-- ---- both, and the locks
+
+pub record HasControl (control : Control) (s : State) : Type 0 where
+  pub txns : HasTxns (txns_in control) s
+  pub waits : HasWaits (waits_in control) s
+  pub locks : s.locks ≡ locks_in control
+
+-- ---- steps
+
+-- a transaction has put another image at an id, which is logged
+abbrev pub changed : State → SessionTxn → Rid → Image → SlotCounts → State
+changed s a id image counts = record s {
+  sessions = record s.sessions {
+    records = put_image s.sessions.records id image;
+    active = with_undo a.txn (with_before_image s.sessions.records a.undo id) s.sessions.active;
+  };
+  counts = counts;
+  log = and_record a.txn s.log (Change id (get s.sessions.records id) image);
+}

@@ -1,0 +1,79 @@
+//! Transactions that commit.
+ghost use Rattle.std.specs.Prelude.{◌≡◌, ◌==◌, ◌+◌, ◌++◌, ◌∷◌, [], ℕ, List, false, filter, length, not};
+ghost use Rattle.shore_types.specs.declared.ids.PageId.{PageId};
+ghost use Rattle.shore_model.specs.declared.histories.Entry.{Entry};
+ghost use Rattle.shore_model.specs.Records.{Records};
+ghost use Rattle.shore_locks.specs.Grants.{released};
+ghost use Rattle.shore_sessions.specs.Sessions.{SessionTxn};
+ghost use Rattle.shore_sessions.specs.Soundness.{SessionsAgree};
+ghost use Rattle.shore_sessions.specs.Views.{IsAmong};
+ghost use Rattle.shore_calls.specs.CallSteps.{committed};
+ghost use Rattle.shore_calls.specs.LockSteps.{commit_ended};
+ghost use Rattle.shore_calls.specs.States.{IsOfSession, State};
+ghost use Rattle.shore_txn.specs.ActiveTxns.{HasMore, OneLeaves};
+ghost use Rattle.shore_txn.specs.Transactions.{HasTxnOf, kept_in};
+ghost use Rattle.shore_txn.specs.Transactions as table;
+ghost use Rattle.shore_txn.specs.UndoEntries.{claims_on, images_of};
+ghost use Rattle.shore_control.specs.declared.waits.WaitingCall.{WaitingCall};
+
+use crate::control::Control;
+use crate::waits::WaitingCall;
+use shore_calls::Wait;
+use shore_model::Call;
+use shore_txn::UndoEntry;
+use shore_types::{Lsn, SessionId, TxnId};
+
+impl Control {
+    ghost use Rattle.shore_control.specs.Controls.{HasWaitRoom, IsFree, locks_in, txns_in, waits_in};
+    ghost use Rattle.shore_control.specs.Standing.{HasControl};
+
+    /// The Commit of a session's transaction was logged under this number: its call waits for the force, and its locks stay. Answers its changes,
+    /// the oldest first, whose claims go now.
+    pub fn commit(&mut self, session: SessionId, number: Lsn) -> Vec<UndoEntry>
+        requires there { HasTxnOf session (txns_in self.old) }
+        requires memory { HasWaitRoom self.old }
+        requires free { IsFree session self.old }
+        ensures left { OneLeaves session result.items (table.txns_in (txns_in self.old)) (table.txns_in (txns_in self.new)) }
+        ensures claims { (p : PageId) → HasMore (claims_on p result.items) (kept_in (txns_in self.new) p) (kept_in (txns_in self.old) p) }
+        ensures waits { (a : SessionTxn) → IsAmong a (table.undos_in (txns_in self.old)) → a.session ≡ session
+            → waits_in self.new ≡ waits_in self.old ++ record { session = session; txn = a.txn; call = Call.Commit; wait = Wait.Durable number } ∷ [] }
+        ensures locks { locks_in self.new ≡ locks_in self.old }
+        ensures undone { (s : State) (a : SessionTxn) → HasControl self.old s → IsOfSession s session a → images_of result.items ≡ a.undo.images }
+        ensures stands { (s : State) (a : SessionTxn) → HasControl self.old s → IsOfSession s session a → number ≡ 1 + length s.log → HasControl self.new (committed s a) }
+    {
+        let txn = self.number_of(session);
+        self.waits.push(WaitingCall {
+            session,
+            txn,
+            call: Call::Commit,
+            wait: Wait::Durable(number),
+        });
+        self.txns.note_commit(session)
+    }
+
+    // The number of the transaction of a session that has one.
+    fn number_of(&self, session: SessionId) -> TxnId
+        requires { HasTxnOf session (txns_in self.now) }
+        ensures { (a : SessionTxn) → IsAmong a (table.undos_in (txns_in self.now)) → a.session ≡ session → result ≡ a.txn }
+    {
+        match self.txns.txn(session) {
+            Some(txn) => txn.id(),
+            None => unreachable!(),
+        }
+    }
+
+    /// The commit of a session is answered, and its locks go.
+    pub fn end_commit(&mut self, session: SessionId)
+        ensures txns { txns_in self.new ≡ txns_in self.old }
+        ensures left { waits_in self.new ≡ filter (λ (w : WaitingCall). not (w.session == session)) (waits_in self.old) }
+        ensures free { IsFree session self.new }
+        ensures locks { (w : WaitingCall) → IsAmong w (waits_in self.old) → w.session ≡ session → locks_in self.new ≡ record { limit = (locks_in self.old).limit; requests = released w.txn (locks_in self.old).requests } }
+        ensures unlocked { IsFree session self.old → locks_in self.new ≡ locks_in self.old }
+        ensures stands { (o : Records) (es : List Entry) (s : State) (a : SessionTxn) → SessionsAgree o es s.sessions → HasControl self.old s → s.failed ≡ false
+            → IsAmong a s.sessions.committing → a.session ≡ session → HasControl self.new (commit_ended s a) }
+    {
+        if let Some(call) = self.waits.take(session) {
+            self.locks.release_all(call.txn);
+        }
+    }
+}

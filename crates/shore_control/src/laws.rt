@@ -1,0 +1,23 @@
+//! The laws of the control, each stated as the contract of an empty function.
+ghost use Rattle.std.specs.Prelude.{◌≡◌, ℕ, List, Ok, false};
+ghost use Rattle.shore_types.specs.declared.ids.Rid.{Rid};
+ghost use Rattle.shore_types.specs.declared.locking.Granule.TheVariants.{Record};
+ghost use Rattle.shore_types.specs.declared.locking.Mode.TheVariants.{EX};
+ghost use Rattle.shore_model.specs.declared.histories.Entry.{Entry};
+ghost use Rattle.shore_model.specs.declared.log_records.LogRecord.{LogRecord};
+ghost use Rattle.shore_locks.specs.Tables.{is_waiting};
+ghost use Rattle.shore_path.specs.declared.answers.Acquired.TheVariants.{Done};
+ghost use Rattle.shore_path.specs.declared.answers.OnConflict.{OnConflict};
+ghost use Rattle.shore_path.specs.Walks.{acquired};
+ghost use Rattle.shore_room.specs.Claims.{NoOthers};
+ghost use Rattle.shore_sessions.specs.Sessions.{SessionTxn};
+ghost use Rattle.shore_sessions.specs.Views.{IsAmong};
+ghost use Rattle.shore_calls.specs.LockedStates.{IsSessionsState};
+ghost use Rattle.shore_calls.specs.States.{State};
+
+/// A transaction that has locked a record for writing is the only one with an image of it to put back.
+pub fn writers_are_alone()
+    ensures { (found : List LogRecord) (es : List Entry) (s : State) (a : SessionTxn) (on_conflict : OnConflict) (id : Rid) →
+        IsSessionsState found es s → IsAmong a s.sessions.active → is_waiting a.txn s.locks.requests ≡ false
+        → (acquired on_conflict s.locks a.txn (Record id) EX).answer ≡ Ok Done → NoOthers s.sessions.active a.txn id }
+{}

@@ -1,0 +1,12 @@
+//! The transactions of many sessions, their locks, and their calls that wait.
+#![tactic(auto)]
+
+mod changing;
+mod control;
+mod ending;
+pub mod laws;
+mod waiting;
+mod waits;
+
+pub use control::Control;
+pub use waits::WaitingCall;

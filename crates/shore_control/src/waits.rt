@@ -1,0 +1,104 @@
+//! The calls that wait.
+ghost use Rattle.std.specs.Prelude.{◌≡◌, ◌≢◌, ◌<◌, ◌≤◌, ◌^◌, ◌++◌, ◌∷◌, [], ℕ, All, AllPairs, IfNone, IfSome, IsSome, OnOk, filter, length, not, slice_index_or, ◌==◌};
+ghost use Rattle.shore_sessions.specs.Views.{IsAmong};
+ghost use Rattle.shore_control.specs.Calls.{commits_of};
+ghost use Rattle.shore_control.specs.declared.waits.WaitingCall.{WaitingCall};
+
+use shore_calls::Wait;
+use shore_model::Call;
+use shore_types::{SessionId, TxnId};
+use std::alloc::{AllocError, Global};
+
+/// A call of a session's transaction that waits, and what for.
+#[derive(Drop)]
+pub struct WaitingCall {
+    pub session: SessionId,
+    pub txn: TxnId,
+    pub call: Call,
+    pub wait: Wait,
+}
+
+/// The calls that wait, the oldest first. A session waits with one.
+#[derive(Drop)]
+pub(crate) struct Waits {
+    calls: Vec<WaitingCall>,
+    ghost once: { AllPairs (λ (v w : WaitingCall). v.session ≢ w.session) calls.items },
+}
+
+impl Waits {
+    ghost use Rattle.shore_control.specs.Waits.{HasCallRoom, IsFree, calls_in};
+
+    pub(crate) fn new(alloc: Global) -> Waits
+        ensures { calls_in result ≡ [] }
+    {
+        Waits {
+            calls: Vec::new(alloc),
+        }
+    }
+
+    /// The call of a session that waits.
+    pub(crate) fn of(&self, session: SessionId) -> Option<&WaitingCall>
+        ensures some { IfSome result (λ w. IsAmong w.now (calls_in self.now) × (w.now.session ≡ session)) }
+        ensures none { IfNone result (IsFree session self.now) }
+    {
+        let index = self.index_of(session)?;
+        Some(&self.calls[index])
+    }
+
+    fn index_of(&self, session: SessionId) -> Option<usize>
+        ensures some { IfSome result (λ i. (i < length (calls_in self.now)) × ((d : WaitingCall) → (slice_index_or (calls_in self.now) i d).session ≡ session)) }
+        ensures none { IfNone result (IsFree session self.now) }
+    {
+        for (index, call) in self.calls.iter().enumerate() {
+            if call.session == session {
+                return Some(index);
+            }
+        }
+        None
+    }
+
+    /// How many of them are commits.
+    pub(crate) fn commits(&self) -> usize
+        ensures count { result ≡ length (commits_of (calls_in self.now)) }
+        ensures few { result ≤ length (calls_in self.now) }
+        ensures small { length (calls_in self.now) < 2 ^ 63 }
+    {
+        let mut count = 0;
+        for call in &self.calls {
+            if matches!(call.wait, Wait::Durable(_)) {
+                count += 1;
+            }
+        }
+        count
+    }
+
+    /// Takes the memory for a call more. If that fails nothing has changed.
+    pub(crate) fn reserve(&mut self) -> Result<(), AllocError>
+        ensures room { OnOk result (HasCallRoom self.new) }
+        ensures same { calls_in self.new ≡ calls_in self.old }
+    {
+        self.calls.reserve(1)?;
+        Ok(())
+    }
+
+    /// A call waits from now on.
+    pub(crate) fn push(&mut self, call: WaitingCall)
+        requires room { HasCallRoom self.old }
+        requires free { IsFree call.session self.old }
+        ensures { calls_in self.new ≡ calls_in self.old ++ call ∷ [] }
+    {
+        self.calls.push_reserved(call);
+    }
+
+    /// The call of a session waits no more, and is handed over.
+    pub(crate) fn take(&mut self, session: SessionId) -> Option<WaitingCall>
+        ensures some { IfSome result (λ w. IsAmong w (calls_in self.old) × (w.session ≡ session)) }
+        ensures none { IfNone result (IsFree session self.old) }
+        ensures free { IsFree session self.new }
+        ensures room { IsSome result → HasCallRoom self.new }
+        ensures left { calls_in self.new ≡ filter (λ (w : WaitingCall). not (w.session == session)) (calls_in self.old) }
+    {
+        let index = self.index_of(session)?;
+        Some(self.calls.remove(index))
+    }
+}
