@@ -1,13 +1,15 @@
 //! A manager with one session over two files of a folder, and records whose bytes tell a number.
 ghost use Rattle.std.specs.Prelude.{IfOk};
-ghost use Rattle.shore_calls.specs.CallSteps.{IsServed};
+ghost use Rattle.shore_calls.specs.Events.{IsServed};
 ghost use Rattle.shore_types.specs.Layout.{IsInLimits};
 
 use crate::devices::CountDisk;
 use crate::plan::Plan;
 use shore_model::{Answer, Call};
 use shore_types::layout::MAX_POOL_FRAMES;
-use shore_types::{Bytes, Fault, Geometry, Pairs, Rid, Sequence, SessionId, StoreId};
+use shore_types::{
+    Bytes, Fault, Geometry, Granule, Mode, Pairs, Rid, Sequence, SessionId, StoreId,
+};
 use shore_world::{Event, Step, World, format, volume_bytes};
 use std::alloc::{AllocError, Global};
 use std::time::Instant;
@@ -108,13 +110,20 @@ pub fn write_back(alloc: Global, manager: &mut Manager) -> Result<(), Fault> {
 
 /// A call that waits for no force. One that needs a force before it begins is refused, and is to be made again behind `force`.
 fn ask(alloc: Global, manager: &mut Manager, call: Call) -> Result<Option<Answer>, Fault>
-    requires { IsServed 1 call }
+    requires { IsServed call }
 {
     answer_of(manager.step(alloc, Event::Call(SESSION, call)))
 }
 
 pub fn begin(alloc: Global, manager: &mut Manager) -> Result<(), Fault> {
     ask(alloc, manager, Call::Begin)?;
+    Ok(())
+}
+
+/// Begins a transaction that has the whole store, so that it asks for no lock of a record, of which there may be 1,024.
+pub fn begin_alone(alloc: Global, manager: &mut Manager) -> Result<(), Fault> {
+    begin(alloc, manager)?;
+    ask(alloc, manager, Call::Lock(Granule::Store(STORE), Mode::EX))?;
     Ok(())
 }
 

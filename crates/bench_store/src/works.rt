@@ -3,8 +3,8 @@ use crate::devices::CountDisk;
 use crate::figures::Figure;
 use crate::plan::Plan;
 use crate::store::{
-    Manager, STORE, begin, bytes, commit, force, insert, nanos_since, new_manager, now,
-    open_manager, scan, update, write_back,
+    Manager, STORE, begin, begin_alone, bytes, commit, force, insert, nanos_since, new_manager,
+    now, open_manager, scan, update, write_back,
 };
 use shore_disk::{Disk, FileDisk};
 use shore_types::{Fault, Pairs, Rid};
@@ -75,12 +75,16 @@ pub fn perform(rt: &HostRuntime, work: Work, plan: &Plan) -> Result<Vec<Figure>,
 // A new manager with so many records, in one transaction that is committed. Record I tells the number I.
 fn filled(rt: &HostRuntime, plan: &Plan, records: u64) -> Result<Manager, Fault> {
     let mut manager = new_manager(rt, plan)?;
-    begin(rt.alloc(), &mut manager)?;
-    for number in 0..records {
-        insert(rt.alloc(), &mut manager, number, plan.size)?;
-    }
-    commit(rt.alloc(), &mut manager)?;
+    fill(rt.alloc(), plan, &mut manager, records)?;
     Ok(manager)
+}
+
+fn fill(alloc: Global, plan: &Plan, manager: &mut Manager, records: u64) -> Result<(), Fault> {
+    begin_alone(alloc, manager)?;
+    for number in 0..records {
+        insert(alloc, manager, number, plan.size)?;
+    }
+    commit(alloc, manager)
 }
 
 // The ids of all records, in place order.
@@ -128,27 +132,37 @@ fn update_and_commit(
 }
 
 fn durable(rt: &HostRuntime, plan: &Plan) -> Result<Vec<Figure>, Fault> {
-    let alloc = rt.alloc();
     let mut manager = filled(rt, plan, plan.updated_records())?;
-    let ids = ids_of(alloc, &mut manager)?;
-    let mut raw = raw_file(rt, plan)?;
-    let text = bytes(alloc, 0, plan.size)?;
-    let (mut commits, mut syncs) = (0u64, 0u64);
-    for number in 0..plan.count {
-        let start = now(rt)?;
-        update_and_commit(alloc, &mut manager, plan, &ids, number)?;
-        commits = commits.saturating_add(nanos_since(rt, &start)?);
-        let start = now(rt)?;
-        write_raw(&mut raw, number, text.as_slice())?;
-        syncs = syncs.saturating_add(nanos_since(rt, &start)?);
-    }
+    let (commits, syncs) = timed_commits(rt, plan, &mut manager)?;
     let second = 1_000 * 1_000 * MILLION;
     let figures = [
         Figure::ratio("durable", plan.count, commits, second, "commits_per_second"),
         Figure::ratio("durable_raw", plan.count, syncs, second, "syncs_per_second"),
         Figure::ratio("durable_ratio", syncs, commits, 1_000, "commits_per_sync"),
     ];
-    Ok(Vec::from_slice(alloc, &figures)?)
+    Ok(Vec::from_slice(rt.alloc(), &figures)?)
+}
+
+// The nanoseconds of the commits, and of the plain writes and syncs.
+fn timed_commits(
+    rt: &HostRuntime,
+    plan: &Plan,
+    manager: &mut Manager,
+) -> Result<(u64, u64), Fault> {
+    let alloc = rt.alloc();
+    let ids = ids_of(alloc, manager)?;
+    let mut raw = raw_file(rt, plan)?;
+    let text = bytes(alloc, 0, plan.size)?;
+    let (mut commits, mut syncs) = (0u64, 0u64);
+    for number in 0..plan.count {
+        let start = now(rt)?;
+        update_and_commit(alloc, manager, plan, &ids, number)?;
+        commits = commits.saturating_add(nanos_since(rt, &start)?);
+        let start = now(rt)?;
+        write_raw(&mut raw, number, text.as_slice())?;
+        syncs = syncs.saturating_add(nanos_since(rt, &start)?);
+    }
+    Ok((commits, syncs))
 }
 
 // A file with room for every plain write, one behind another, as a log has it.
@@ -169,16 +183,8 @@ fn write_raw(raw: &mut FileDisk, number: u64, text: &[u8]) -> Result<(), Fault> 
 }
 
 fn inserts(rt: &HostRuntime, plan: &Plan) -> Result<Vec<Figure>, Fault> {
-    let alloc = rt.alloc();
     let mut manager = new_manager(rt, plan)?;
-    let start = now(rt)?;
-    begin(alloc, &mut manager)?;
-    for number in 0..plan.count {
-        insert(alloc, &mut manager, number, plan.size)?;
-    }
-    let inserted = nanos_since(rt, &start)?;
-    commit(alloc, &mut manager)?;
-    let committed = nanos_since(rt, &start)?;
+    let (inserted, committed) = timed_inserts(rt, plan, &mut manager)?;
     let (log, volume) = manager.into_devices();
     let records = plan.count.saturating_mul(plan.size as u64);
     let figures = [
@@ -193,7 +199,24 @@ fn inserts(rt: &HostRuntime, plan: &Plan) -> Result<Vec<Figure>, Fault> {
         written("insert_log", &log, records),
         written("insert_volume", &volume, records),
     ];
-    Ok(Vec::from_slice(alloc, &figures)?)
+    Ok(Vec::from_slice(rt.alloc(), &figures)?)
+}
+
+// The nanoseconds of the inserts, and with their commit.
+fn timed_inserts(
+    rt: &HostRuntime,
+    plan: &Plan,
+    manager: &mut Manager,
+) -> Result<(u64, u64), Fault> {
+    let alloc = rt.alloc();
+    let start = now(rt)?;
+    begin_alone(alloc, manager)?;
+    for number in 0..plan.count {
+        insert(alloc, manager, number, plan.size)?;
+    }
+    let inserted = nanos_since(rt, &start)?;
+    commit(alloc, manager)?;
+    Ok((inserted, nanos_since(rt, &start)?))
 }
 
 // How many bytes were written for each byte of a record.
@@ -202,31 +225,38 @@ fn written(name: &'static str, device: &CountDisk, records: u64) -> Figure {
 }
 
 fn scanned(rt: &HostRuntime, plan: &Plan) -> Result<Vec<Figure>, Fault> {
-    let alloc = rt.alloc();
     let mut manager = filled(rt, plan, plan.count)?;
-    begin(alloc, &mut manager)?;
-    let start = now(rt)?;
-    let pairs = scan(alloc, &mut manager)?;
-    let nanos = nanos_since(rt, &start)?;
-    let count = pairs.len() as u64;
+    let (nanos, count) = timed_scan(rt, &mut manager)?;
     let figures = [
         Figure::ratio("scan", nanos, count, 1, "microseconds_per_record"),
         Figure::whole("scan_shown", count, "records"),
     ];
-    Ok(Vec::from_slice(alloc, &figures)?)
+    Ok(Vec::from_slice(rt.alloc(), &figures)?)
+}
+
+// The nanoseconds of a scan, and how many records it shows.
+fn timed_scan(rt: &HostRuntime, manager: &mut Manager) -> Result<(u64, u64), Fault> {
+    begin(rt.alloc(), manager)?;
+    let start = now(rt)?;
+    let pairs = scan(rt.alloc(), manager)?;
+    Ok((nanos_since(rt, &start)?, pairs.len() as u64))
 }
 
 fn crash(rt: &HostRuntime, plan: &Plan) -> Result<Vec<Figure>, Fault> {
-    let alloc = rt.alloc();
     let mut manager = filled(rt, plan, plan.updated_records())?;
-    let ids = ids_of(alloc, &mut manager)?;
-    for number in 0..plan.count {
-        update_and_commit(alloc, &mut manager, plan, &ids, number)?;
-    }
-    begin(alloc, &mut manager)?;
-    update_one(alloc, &mut manager, plan, &ids, plan.count)?;
+    update_all(rt.alloc(), plan, &mut manager)?;
     let figures = [Figure::whole("crash", plan.count, "acknowledged_updates")];
-    Ok(Vec::from_slice(alloc, &figures)?)
+    Ok(Vec::from_slice(rt.alloc(), &figures)?)
+}
+
+// So many updates that are acknowledged, and one more that is not committed.
+fn update_all(alloc: Global, plan: &Plan, manager: &mut Manager) -> Result<(), Fault> {
+    let ids = ids_of(alloc, manager)?;
+    for number in 0..plan.count {
+        update_and_commit(alloc, manager, plan, &ids, number)?;
+    }
+    begin(alloc, manager)?;
+    update_one(alloc, manager, plan, &ids, plan.count)
 }
 
 fn recover(rt: &HostRuntime, plan: &Plan) -> Result<Vec<Figure>, Fault> {
@@ -251,24 +281,33 @@ fn recover(rt: &HostRuntime, plan: &Plan) -> Result<Vec<Figure>, Fault> {
 
 fn verify(rt: &HostRuntime, plan: &Plan) -> Result<Vec<Figure>, Fault> {
     let mut manager = open_manager(rt, plan)?;
-    let pairs = manager.dump(rt.alloc(), STORE)?;
-    check(rt.alloc(), plan, &pairs)?;
-    let figures = [Figure::whole("verify", pairs.len() as u64, "records_as_acknowledged")];
+    let count = verified(rt.alloc(), plan, &mut manager)?;
+    let figures = [Figure::whole("verify", count, "records_as_acknowledged")];
     Ok(Vec::from_slice(rt.alloc(), &figures)?)
 }
 
+fn verified(alloc: Global, plan: &Plan, manager: &mut Manager) -> Result<u64, Fault> {
+    let pairs = manager.dump(alloc, STORE)?;
+    check(alloc, plan, &pairs)?;
+    Ok(pairs.len() as u64)
+}
+
 fn lose(rt: &HostRuntime, plan: &Plan) -> Result<Vec<Figure>, Fault> {
-    let alloc = rt.alloc();
     let mut manager = filled(rt, plan, plan.updated_records())?;
-    let ids = ids_of(alloc, &mut manager)?;
-    begin(alloc, &mut manager)?;
-    for number in 0..plan.count {
-        update_one(alloc, &mut manager, plan, &ids, number)?;
-    }
-    force(alloc, &mut manager)?;
-    write_back(alloc, &mut manager)?;
+    leave_undecided(rt.alloc(), plan, &mut manager)?;
     let figures = [Figure::whole("lose", plan.count, "undecided_updates")];
-    Ok(Vec::from_slice(alloc, &figures)?)
+    Ok(Vec::from_slice(rt.alloc(), &figures)?)
+}
+
+// So many updates in one transaction, forced and written back.
+fn leave_undecided(alloc: Global, plan: &Plan, manager: &mut Manager) -> Result<(), Fault> {
+    let ids = ids_of(alloc, manager)?;
+    begin_alone(alloc, manager)?;
+    for number in 0..plan.count {
+        update_one(alloc, manager, plan, &ids, number)?;
+    }
+    force(alloc, manager)?;
+    write_back(alloc, manager)
 }
 
 fn undo(rt: &HostRuntime, plan: &Plan) -> Result<Vec<Figure>, Fault> {
@@ -278,17 +317,22 @@ fn undo(rt: &HostRuntime, plan: &Plan) -> Result<Vec<Figure>, Fault> {
     let report = manager.report();
     let (forced, _) = manager.records();
     let logged = (forced.len() as u64).saturating_sub(report.read);
-    let pairs = manager.dump(rt.alloc(), STORE)?;
-    check_undone(rt.alloc(), plan, &pairs)?;
+    let shown = shown_undone(rt.alloc(), plan, &mut manager)?;
     let figures = [
         Figure::ratio("undo", nanos, plan.count, 1, "microseconds_per_update"),
         Figure::whole("undo_log", report.read, "records"),
         Figure::whole("undo_redone", report.redone, "records"),
         Figure::whole("undo_logged", logged, "records"),
         Figure::ratio("undo_open", nanos, MILLION, 1_000, "milliseconds"),
-        Figure::whole("undo_shown", pairs.len() as u64, "records_as_before"),
+        Figure::whole("undo_shown", shown, "records_as_before"),
     ];
     Ok(Vec::from_slice(rt.alloc(), &figures)?)
+}
+
+fn shown_undone(alloc: Global, plan: &Plan, manager: &mut Manager) -> Result<u64, Fault> {
+    let pairs = manager.dump(alloc, STORE)?;
+    check_undone(alloc, plan, &pairs)?;
+    Ok(pairs.len() as u64)
 }
 
 // Each record tells what its insert did, and none is missing.

@@ -1,40 +1,60 @@
-//! How long the calls of a manager take, over devices in memory.
+//! How long the calls of a manager take, over devices in memory: of one session, alone and beside others.
 use crate::manager::{
-    Manager, STORE, ask, begin_with, bytes, commit, crashed, new_manager, opened, record_of,
-    scanned, shown,
+    LAST_SESSION, Manager, SESSION, STORE, ask, ask_as, begin_beside, bytes, commit, commit_as,
+    crashed, fill, new_manager, opened, record_of, resume, scanned, shown,
 };
 use shore_model::Call;
-use shore_types::Fault;
+use shore_types::{Fault, Mode, SessionId};
 use std::alloc::Global;
 use std::io;
 use std::time::Instant;
 
+// So many rounds are one transaction.
+const ROUNDS_OF_A_TRANSACTION: u64 = 100;
+
 // The names of all works.
-const WORKS: [&str; 7] = [
+const WORKS: [&str; 12] = [
     "call_get",
+    "call_get_beside",
     "call_insert",
+    "call_insert_beside",
     "call_insert_far",
     "call_update",
+    "call_update_beside",
     "call_scan",
+    "call_scan_beside",
     "call_commit",
+    "call_let_through",
     "call_open",
 ];
 
-/// What a round does, on records of a hundred bytes.
+/// A call on records of a hundred bytes, under its locks.
 #[derive(Clone, Copy)]
-pub enum Work {
+pub enum Kind {
     /// Gets one of a thousand records.
     Get,
-    /// Inserts a record into a store that was empty before the first round. All rounds are one transaction.
+    /// Inserts a record into a store that was empty before the first round.
     Insert,
     /// The same, behind a thousand pages that are full.
     InsertFar,
-    /// Updates one of a thousand records, all rounds in one transaction.
+    /// Updates one of a thousand records.
     Update,
     /// Scans a store of a thousand records, with few pages more than they need: a page that has no record is no record's cost.
     Scan,
+}
+
+/// What a round does.
+#[derive(Clone, Copy)]
+pub enum Work {
+    /// Makes a call. A hundred rounds are a transaction, with its begin, its commit and its force.
+    Alone(Kind),
+    /// The same, beside 255 transactions that have an intention on the store.
+    Beside(Kind),
     /// Begins and commits a transaction that does nothing, with the force of its record.
     Commit,
+    /// Commits one of 256 transactions, while the others wait for the record that it has updated: so the first of them has its turn. Then the session
+    /// waits for the record anew, behind them all.
+    LetThrough,
     /// An open of what a crash left of one transaction with so many inserts as there are rounds: a round is a record.
     Open,
 }
@@ -42,12 +62,17 @@ pub enum Work {
 impl Work {
     pub fn of(name: &str) -> Option<Work> {
         match name {
-            "call_get" => Some(Work::Get),
-            "call_insert" => Some(Work::Insert),
-            "call_insert_far" => Some(Work::InsertFar),
-            "call_update" => Some(Work::Update),
-            "call_scan" => Some(Work::Scan),
+            "call_get" => Some(Work::Alone(Kind::Get)),
+            "call_get_beside" => Some(Work::Beside(Kind::Get)),
+            "call_insert" => Some(Work::Alone(Kind::Insert)),
+            "call_insert_beside" => Some(Work::Beside(Kind::Insert)),
+            "call_insert_far" => Some(Work::Alone(Kind::InsertFar)),
+            "call_update" => Some(Work::Alone(Kind::Update)),
+            "call_update_beside" => Some(Work::Beside(Kind::Update)),
+            "call_scan" => Some(Work::Alone(Kind::Scan)),
+            "call_scan_beside" => Some(Work::Beside(Kind::Scan)),
             "call_commit" => Some(Work::Commit),
+            "call_let_through" => Some(Work::LetThrough),
             "call_open" => Some(Work::Open),
             _ => None,
         }
@@ -56,7 +81,7 @@ impl Work {
     // The pages of the store.
     fn pages(self) -> u16 {
         match self {
-            Work::Scan => 16,
+            Work::Alone(Kind::Scan) | Work::Beside(Kind::Scan) => 16,
             _ => 4_096,
         }
     }
@@ -64,10 +89,28 @@ impl Work {
     // How many records are made before the first round.
     fn records(self, rounds: u64) -> u64 {
         match self {
-            Work::Insert | Work::Commit => 0,
-            Work::Get | Work::Update | Work::Scan => 1_000,
-            Work::InsertFar => 78_000,
+            Work::Alone(kind) | Work::Beside(kind) => kind.records(),
+            Work::Commit => 0,
+            Work::LetThrough => 1,
             Work::Open => rounds,
+        }
+    }
+}
+
+impl Kind {
+    fn records(self) -> u64 {
+        match self {
+            Kind::Insert => 0,
+            Kind::Get | Kind::Update | Kind::Scan => 1_000,
+            Kind::InsertFar => 78_000,
+        }
+    }
+
+    // The intention on the store that the others have, so that they are in nobody's way.
+    fn intention_beside(self) -> Mode {
+        match self {
+            Kind::Scan => Mode::IS,
+            Kind::Get | Kind::Insert | Kind::InsertFar | Kind::Update => Mode::IX,
         }
     }
 }
@@ -83,26 +126,75 @@ pub fn count(rt: &HostRuntime) -> io::Result<()> {
     Ok(())
 }
 
-// One round. How much of it was done: 1 for a call, and for a scan how many thousands of records it showed.
-fn round_of(alloc: Global, manager: &mut Manager, work: Work, round: u64) -> Result<u64, Fault> {
-    let done = match work {
-        Work::Get => ask(alloc, manager, Call::Get(record_of(round))),
-        Work::Insert | Work::InsertFar => ask(alloc, manager, Call::Insert(STORE, bytes(alloc)?)),
-        Work::Update => {
+// One call. Whether it was answered, and a scan with all records.
+fn call_of(alloc: Global, manager: &mut Manager, kind: Kind, round: u64) -> Result<bool, Fault> {
+    Ok(match kind {
+        Kind::Get => ask(alloc, manager, Call::Get(record_of(round))),
+        Kind::Insert | Kind::InsertFar => ask(alloc, manager, Call::Insert(STORE, bytes(alloc)?)),
+        Kind::Update => {
             let id = record_of(round);
             ask(alloc, manager, Call::Update(id, bytes(alloc)?))
         }
-        Work::Scan => scanned(alloc, manager) == 1_000,
-        Work::Commit => ask(alloc, manager, Call::Begin) && commit(alloc, manager),
-        Work::Open => false,
-    };
-    Ok(u64::from(done))
+        Kind::Scan => scanned(alloc, manager) == 1_000,
+    })
+}
+
+// One round of a transaction, which begins with its first and commits with its last one.
+fn round_within(
+    alloc: Global,
+    manager: &mut Manager,
+    kind: Kind,
+    round: u64,
+    is_last: bool,
+) -> Result<bool, Fault> {
+    let within = round % ROUNDS_OF_A_TRANSACTION;
+    let is_begun = within > 0 || ask(alloc, manager, Call::Begin);
+    let is_done = call_of(alloc, manager, kind, round)?;
+    let ends = is_last || within == ROUNDS_OF_A_TRANSACTION - 1;
+    Ok(is_begun && is_done && (!ends || commit(alloc, manager)))
+}
+
+// The session whose turn it is, and the next one.
+fn turn_of(round: u64) -> (SessionId, SessionId) {
+    let sessions = u64::from(LAST_SESSION);
+    let (turn, next) = (round % sessions, round.wrapping_add(1) % sessions);
+    (SessionId(turn as u32 + 1), SessionId(next as u32 + 1))
+}
+
+fn let_through(alloc: Global, manager: &mut Manager, round: u64) -> Result<bool, Fault> {
+    let (session, next) = turn_of(round);
+    let is_let_through = commit_as(alloc, manager, session) && resume(alloc, manager, next);
+    Ok(is_let_through && update_anew(alloc, manager, session)?)
+}
+
+// A session begins and asks for the record, which it has or waits for.
+fn update_anew(alloc: Global, manager: &mut Manager, session: SessionId) -> Result<bool, Fault> {
+    let call = Call::Update(record_of(0), bytes(alloc)?);
+    Ok(ask_as(alloc, manager, session, Call::Begin) && ask_as(alloc, manager, session, call))
+}
+
+fn round_of(
+    alloc: Global,
+    manager: &mut Manager,
+    work: Work,
+    round: u64,
+    is_last: bool,
+) -> Result<bool, Fault> {
+    match work {
+        Work::Alone(kind) | Work::Beside(kind) => {
+            round_within(alloc, manager, kind, round, is_last)
+        }
+        Work::Commit => Ok(ask(alloc, manager, Call::Begin) && commit(alloc, manager)),
+        Work::LetThrough => let_through(alloc, manager, round),
+        Work::Open => Ok(false),
+    }
 }
 
 fn rounds_of(alloc: Global, manager: &mut Manager, work: Work, rounds: u64) -> Result<u64, Fault> {
     let mut done = 0u64;
     for round in 0..rounds {
-        done = done.saturating_add(round_of(alloc, manager, work, round)?);
+        let is_done = round_of(alloc, manager, work, round, round + 1 == rounds)?;
+        done = done.saturating_add(u64::from(is_done));
     }
     Ok(done)
 }
@@ -110,13 +202,18 @@ fn rounds_of(alloc: Global, manager: &mut Manager, work: Work, rounds: u64) -> R
 // A manager on which the rounds may begin.
 fn prepared(alloc: Global, work: Work, rounds: u64) -> Result<Manager, Fault> {
     let mut manager = new_manager(alloc, work.pages())?;
+    fill(alloc, &mut manager, work.records(rounds))?;
     match work {
-        Work::Commit => {}
-        Work::Open => {
-            begin_with(alloc, &mut manager, work.records(rounds))?;
-            commit(alloc, &mut manager);
+        Work::Alone(_) | Work::Commit | Work::Open => {}
+        Work::Beside(kind) => {
+            begin_beside(alloc, &mut manager, kind.intention_beside());
         }
-        _ => begin_with(alloc, &mut manager, work.records(rounds))?,
+        Work::LetThrough => {
+            update_anew(alloc, &mut manager, SESSION)?;
+            for number in 2..=LAST_SESSION {
+                update_anew(alloc, &mut manager, SessionId(number))?;
+            }
+        }
     }
     Ok(manager)
 }

@@ -1,13 +1,19 @@
-//! A manager with one session over devices in memory, and records of a hundred bytes on it.
-ghost use Rattle.shore_calls.specs.CallSteps.{IsServed};
+//! A manager over devices in memory, its sessions, and records of a hundred bytes on it.
+ghost use Rattle.shore_calls.specs.Events.{IsServed};
 
 use shore_disk::{MemDisk, Pick};
 use shore_model::{Answer, Call};
-use shore_types::{Bytes, Fault, Geometry, PageId, Rid, Sequence, SessionId, StoreId};
+use shore_types::{
+    Bytes, Fault, Geometry, Granule, Mode, PageId, Rid, Sequence, SessionId, StoreId,
+};
 use shore_world::{Event, Step, World, format};
 use std::alloc::{AllocError, Global};
 
-const SESSION: SessionId = SessionId(1);
+/// The session that is measured.
+pub const SESSION: SessionId = SessionId(1);
+
+/// The sessions beside it: as many transactions as there may be.
+pub const LAST_SESSION: u32 = 256;
 
 pub const STORE: StoreId = StoreId(0);
 
@@ -26,7 +32,7 @@ const FRAMES: usize = 4_096;
 fn geometry(alloc: Global, pages: u16) -> Result<Geometry, AllocError> {
     Ok(Geometry {
         pair: 1,
-        max_locks: 1024,
+        max_locks: 4_096,
         stores: Sequence::from_vec(Vec::from_slice(alloc, &[u32::from(pages)])?),
     })
 }
@@ -86,14 +92,38 @@ pub fn bytes(alloc: Global) -> Result<Bytes, AllocError> {
     Ok(Sequence::from_vec(Vec::from_slice(alloc, &RECORD)?))
 }
 
-/// Whether the call was answered, or waits.
+/// Whether the call of the measured session was answered, or waits.
 pub fn ask(alloc: Global, manager: &mut Manager, call: Call) -> bool
-    requires { IsServed 1 call }
+    requires { IsServed call }
 {
-    match manager.step(alloc, Event::Call(SESSION, call)) {
+    ask_as(alloc, manager, SESSION, call)
+}
+
+/// .. of any session.
+pub fn ask_as(alloc: Global, manager: &mut Manager, session: SessionId, call: Call) -> bool
+    requires { IsServed call }
+{
+    match manager.step(alloc, Event::Call(session, call)) {
         Step::Done(_) | Step::Waits(_) => true,
         Step::Refused(_) | Step::Nothing => false,
     }
+}
+
+/// All other sessions begin a transaction each, and lock the store in this mode.
+pub fn begin_beside(alloc: Global, manager: &mut Manager, mode: Mode) -> bool {
+    let mut all = true;
+    for number in 2..=LAST_SESSION {
+        let session = SessionId(number);
+        let begun = ask_as(alloc, manager, session, Call::Begin);
+        let locked = ask_as(
+            alloc,
+            manager,
+            session,
+            Call::Lock(Granule::Store(STORE), mode),
+        );
+        all = all && begun && locked;
+    }
+    all
 }
 
 /// How many records a scan of the store shows.
@@ -104,18 +134,27 @@ pub fn scanned(alloc: Global, manager: &mut Manager) -> u64 {
     }
 }
 
-/// Begins a transaction and makes so many records in it.
-pub fn begin_with(alloc: Global, manager: &mut Manager, records: u64) -> Result<(), Fault> {
+/// Makes so many records in a transaction that has the whole store, and commits it.
+pub fn fill(alloc: Global, manager: &mut Manager, records: u64) -> Result<(), Fault> {
     ask(alloc, manager, Call::Begin);
+    ask(alloc, manager, Call::Lock(Granule::Store(STORE), Mode::EX));
     for _ in 0..records {
         ask(alloc, manager, Call::Insert(STORE, bytes(alloc)?));
     }
+    commit(alloc, manager);
     Ok(())
 }
 
 /// Commits, forces all records of the log and takes the answer. Whether the commit is answered.
 pub fn commit(alloc: Global, manager: &mut Manager) -> bool {
-    ask(alloc, manager, Call::Commit) && force(alloc, manager) && resume(alloc, manager)
+    commit_as(alloc, manager, SESSION)
+}
+
+/// .. the transaction of any session.
+pub fn commit_as(alloc: Global, manager: &mut Manager, session: SessionId) -> bool {
+    ask_as(alloc, manager, session, Call::Commit)
+        && force(alloc, manager)
+        && resume(alloc, manager, session)
 }
 
 fn force(alloc: Global, manager: &mut Manager) -> bool {
@@ -132,9 +171,7 @@ fn force(alloc: Global, manager: &mut Manager) -> bool {
     false
 }
 
-fn resume(alloc: Global, manager: &mut Manager) -> bool {
-    matches!(
-        manager.step(alloc, Event::Resume(SESSION)),
-        Step::Done(Answer::Committed)
-    )
+/// Whether the session's call is answered, once it goes on.
+pub fn resume(alloc: Global, manager: &mut Manager, session: SessionId) -> bool {
+    matches!(manager.step(alloc, Event::Resume(session)), Step::Done(_))
 }

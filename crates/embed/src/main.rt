@@ -1,11 +1,11 @@
 //! The manager as a library: a pair of files is formatted, a transaction inserts a record and commits, and a second open shows the record.
 #![tactic(auto)]
 
-ghost use Rattle.shore_calls.specs.CallSteps.{IsServed};
+ghost use Rattle.shore_calls.specs.Events.{IsServed};
 
 use shore_disk::FileDisk;
 use shore_model::{Answer, Call};
-use shore_types::{Fault, Geometry, Sequence, SessionId, StoreId};
+use shore_types::{Fault, Geometry, Pairs, Sequence, SessionId, StoreId};
 use shore_world::{Event, Step, World, format, volume_bytes};
 use std::alloc::Global;
 use std::io;
@@ -68,7 +68,7 @@ fn force(alloc: Global, manager: &mut Manager) -> Result<(), Fault> {
 
 // Makes a call. The log is forced if the call needs that to begin, or waits for it, as a commit does.
 fn ask(alloc: Global, manager: &mut Manager, call: Call) -> Result<Option<Answer>, Fault>
-    requires { IsServed 1 call }
+    requires { IsServed call }
 {
     let again = Event::Call(SESSION, call.try_clone(alloc)?);
     let next = match manager.step(alloc, Event::Call(SESSION, call)) {
@@ -80,21 +80,30 @@ fn ask(alloc: Global, manager: &mut Manager, call: Call) -> Result<Option<Answer
     answer_of(manager.step(alloc, next))
 }
 
-fn main(rt: HostRuntime) -> Result<(), Failure> {
-    make(&rt)?;
-    let mut manager = open(&rt)?;
-    let record = Vec::from_slice(rt.alloc(), b"a record").map_err(|_| Fault::Memory)?;
+// Inserts a record in a transaction that is committed.
+fn work(rt: &HostRuntime, manager: &mut Manager) -> Result<(), Fault> {
+    let record = Vec::from_slice(rt.alloc(), b"a record")?;
     let insert = Call::Insert(StoreId(0), Sequence::from_vec(record));
-    ask(rt.alloc(), &mut manager, Call::Begin)?;
-    ask(rt.alloc(), &mut manager, insert)?;
-    ask(rt.alloc(), &mut manager, Call::Commit)?;
-    drop(manager);
+    ask(rt.alloc(), manager, Call::Begin)?;
+    ask(rt.alloc(), manager, insert)?;
+    ask(rt.alloc(), manager, Call::Commit)?;
+    Ok(())
+}
 
-    let records = open(&rt)?.dump(rt.alloc(), StoreId(0))?;
+fn show(rt: &HostRuntime, records: &Pairs) -> Result<(), Failure> {
     for index in 0..records.len() {
         if let Some((id, bytes)) = records.get(index) {
-            println!(&rt; "{id} {}", str::from_utf8(bytes).unwrap_or("?"))?;
+            println!(rt; "{id} {}", str::from_utf8(bytes).unwrap_or("?"))?;
         }
     }
     Ok(())
+}
+
+fn main(rt: HostRuntime) -> Result<(), Failure> {
+    make(&rt)?;
+    let mut manager = open(&rt)?;
+    work(&rt, &mut manager)?;
+    drop(manager);
+    let records = open(&rt)?.dump(rt.alloc(), StoreId(0))?;
+    show(&rt, &records)
 }

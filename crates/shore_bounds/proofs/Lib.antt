@@ -7,3 +7,4 @@ pub mod Running
 pub mod SlotCounts
 pub mod Undoing
 mod Worked
+pub mod StateLosers

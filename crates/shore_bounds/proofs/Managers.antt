@@ -11,9 +11,10 @@ use Rattle.shore_calls.specs.States.{State}
 use Rattle.shore_bounds.specs.SlotCounts.{slot_count}
 use Rattle.shore_model.specs.declared.histories.Entry.{Entry}
 use Rattle.shore_model.specs.declared.log_records.LogRecord.{LogRecord}
-use Rattle.shore_calls.proofs.Rooms.{event_roomy}
-use Rattle.shore_calls.proofs.Steps.{event_kept}
-use Rattle.shore_calls.specs.CallHistories.{IsRoomyState, IsStateAfter, entries_of}
+use Rattle.shore_calls.proofs.SessionRooms.{session_event_roomy}
+use Rattle.shore_calls.proofs.SessionStates.{session_event_stays}
+use Rattle.shore_calls.specs.CallHistories.{IsRoomyState}
+use Rattle.shore_calls.specs.Events.{IsStateAfter, entries_of}
 use Rattle.shore_lives.specs.Stretches.{MayBeFound}
 use Rattle.shore_recovery.proofs.Invariant.{redone_whole}
 use Rattle.shore_recovery.proofs.Restarts.{events_restart}
@@ -85,8 +86,8 @@ module _ (g : Geometry) (stream_bytes : ℕ) (found : List LogRecord) where
   moves_leaving es m [] last made k roomy h x =
       (subst (λ (x : StoredState). IsRoomyState x.state) (sym x.0) roomy, subst (λ (x : StoredState). LeavesRoomyLogs g stream_bytes x.state) (sym x.0) h)
   moves_leaving es m (Manage e works ∷ events) last made k roomy h x =
-      moves_leaving (es ++ entries_of m.state e) x.0 events last x.1 (event_kept g found es m.state x.0.state e k x.2.0)
-      (event_roomy g found es m.state x.0.state e k roomy x.2.0) (event_leaving g stream_bytes found es m.state x.0.state e k roomy h x.2.0) x.3
+      moves_leaving (es ++ entries_of m.state e) x.0 events last x.1 (session_event_stays g found es m.state x.0.state e k x.2.0)
+      (session_event_roomy found es m.state k roomy g x.0.state e x.2.0) (event_leaving g stream_bytes found es m.state x.0.state e k roomy h x.2.0) x.3
   moves_leaving es m (Tend works ∷ events) last made k roomy h x =
       let same = x.2.0 in
       moves_leaving es x.0 events last x.1 (subst (IsStateAfter found es) (sym same) k) (subst IsRoomyState (sym same) roomy)

@@ -13,9 +13,9 @@ use Rattle.shore_model.specs.declared.log_records.LogRecord.{LogRecord}
 use Rattle.shore_model.specs.declared.log_records.Payload.TheVariants.{Change, Compensation}
 use Rattle.shore_model.specs.Logs.{image_of_record}
 use Rattle.shore_logrec.specs.Text.{cost_of}
-use Rattle.shore_calls.proofs.Opens.{open_begins}
-use Rattle.shore_calls.proofs.WorkedRun.{comes_through}
-use Rattle.shore_calls.specs.CallHistories.{MovesMaking}
+use Rattle.shore_calls.proofs.SessionOpens.{sessions_after_open}
+use Rattle.shore_calls.proofs.SessionInsert.{session_comes_through}
+use Rattle.shore_calls.specs.Events.{MovesMaking}
 use Rattle.shore_calls.specs.States.{State, cost_of_log}
 use Rattle.shore_calls.specs.WorkedRun.{first_id, first_page, one_insert, opened_empty}
 use Rattle.shore_page.specs.Room.{HasRoom, HoldsItsImage, claims}
@@ -53,12 +53,12 @@ pub run_leaves_roomy : (g : Geometry) (stream_bytes : ℕ) (bytes : List ℕ) �
     → (last : State) × (made : List Entry) × MovesMaking g (opened_empty stream_bytes) (one_insert bytes) last made
     × (get last.sessions.records first_id ≡ Some bytes) × AreRoomy g stream_bytes last.log
 run_leaves_roomy g stream_bytes bytes store page short long most =
-    let h = comes_through g stream_bytes bytes store page short long in
+    let h = session_comes_through g stream_bytes bytes store page short long in
     let none = format_is_roomy g stream_bytes (omega arith) most in
     let opened = opened_from_none stream_bytes in
     let roomy = opens_roomy g stream_bytes [] (opened_empty stream_bytes) opened (whole_roomy g stream_bytes [] none) in
     let leaves = opens_leaving g stream_bytes [] (opened_empty stream_bytes) opened none (λ n r at. absurd (nothing n r at)) (λ t id changed. absurd (unchanged changed)) in
-    (h.0, h.1, h.3, h.4, (events_leaving g stream_bytes [] [] (opened_empty stream_bytes) (one_insert bytes) h.0 h.1 (open_begins [] (opened_empty stream_bytes) h.2) roomy leaves h.3).1.prefixes)
+    (h.0, h.1, h.3, h.4, (events_leaving g stream_bytes [] [] (opened_empty stream_bytes) (one_insert bytes) h.0 h.1 (sessions_after_open [] (opened_empty stream_bytes) h.2 refl) roomy leaves h.3).1.prefixes)
   where
     nothing : (n : ℕ) (r : LogRecord) → slice_get [] n ≡ Some r → ⊥
     nothing n r at = cc

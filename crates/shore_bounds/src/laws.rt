@@ -17,8 +17,8 @@ ghost use Rattle.shore_recovery.specs.Undo.{HasNoLosers, IsLoser, IsUndoneTo, un
 ghost use Rattle.shore_analysis.specs.Meant.{AreMeant};
 ghost use Rattle.shore_analysis.specs.Tables.{IsNext};
 ghost use Rattle.shore_lives.specs.Stretches.{MayBeFound};
-ghost use Rattle.shore_calls.specs.CallHistories.{IsRoomyState, IsStateAfter, KeepsDurable, MovesMaking};
-ghost use Rattle.shore_calls.specs.CallSteps.{EventMoves, ManagerEvent};
+ghost use Rattle.shore_calls.specs.CallHistories.{IsRoomyState, KeepsDurable};
+ghost use Rattle.shore_calls.specs.Events.{IsStateAfter, ManagerEvent, EventMoves, MovesMaking};
 ghost use Rattle.shore_calls.specs.States.{State, cost_of_log};
 ghost use Rattle.shore_calls.specs.WorkedRun.{first_id, first_page, one_insert, opened_empty};
 ghost use Rattle.shore_managers.specs.StoredRuns.{AreStoredRuns, IsOpenedOver, IsStoredRun, StoredEvent, StoredMoves, StoredRun, StoredState};

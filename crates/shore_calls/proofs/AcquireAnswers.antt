@@ -16,7 +16,7 @@ use Rattle.shore_path.specs.declared.answers.OnConflict.{OnConflict}
 use Rattle.shore_path.specs.declared.answers.OnConflict.TheVariants as conflict
 use Rattle.shore_calls.specs.declared.step.Step.TheVariants.{Refused}
 use Rattle.shore_calls.proofs.Decided.{ordinary}
-use Rattle.shore_calls.specs.CallSteps.{ComesOfState}
+use Rattle.shore_calls.specs.StateChanges.{ComesOfState}
 
 abbrev pub IsLockFault : Fault → Type 0
 IsLockFault f = (f ≡ fault.LockTableFull) ⊎ ((f ≡ fault.BadMode) ⊎ ((holder : ℕ) × (f ≡ fault.WouldBlock holder)))

@@ -27,11 +27,10 @@ use Rattle.shore_calls.proofs.RefusalCauses.{behind_lock_of, comes_behind, inser
 use Rattle.shore_calls.proofs.SessionCalls.{names_no_slot}
 use Rattle.shore_calls.proofs.SessionInversions.{IsOwn, asks_no_begin, refused_in, same_lock}
 use Rattle.shore_calls.proofs.WrongRefusals.{IsEarly, begin_fault, begin_refused}
-use Rattle.shore_calls.specs.CallSteps.{after_refusal, with_failure}
-use Rattle.shore_calls.specs.LockSteps.{GoesOn, LacksMemory, RefusesBehind, RefusesEarly, SessionCallStep, behind_lock, behind_place, lock_outcome, on_conflict_of, place_outcome, with_requests}
+use Rattle.shore_calls.specs.StateChanges.{CanLog, after_refusal, with_failure}
+use Rattle.shore_calls.specs.CallSteps.{GoesOn, LacksMemory, RefusesBehind, RefusesEarly, CallStep, behind_lock, behind_place, lock_outcome, on_conflict_of, place_outcome, with_requests}
 use Rattle.shore_calls.specs.LockedStates.{IsSessionsState}
-use Rattle.shore_calls.specs.Refusals.{CanLog}
-use Rattle.shore_calls.specs.SessionShapes.{store_lock, store_locked, with_locks_of}
+use Rattle.shore_calls.specs.Shapes.{store_lock, store_locked, with_locks_of}
 use Rattle.shore_calls.specs.States.{IsOfSession, State}
 
 -- ---- only locks change
@@ -86,7 +85,7 @@ module _ (g : Geometry) (s new : State) where
   goes_leaves a c f (inr (inr h)) = behind_leaves h.0 (itself s h.0 (behind_lock s a c h.1.0) h.1.3 (locked_leaves a c h.1.0)) a c f h.2
 
   module _ (session : ℕ) (c : Call) (f : Fault) where
-    pub refusal_leaves : SessionCallStep g s session c (Refused f) new → new ≡ with_locks_of new s
+    pub refusal_leaves : CallStep g s session c (Refused f) new → new ≡ with_locks_of new s
     refusal_leaves (inl h) = itself s new s h.1 refl
     refusal_leaves (inr (inl h)) = itself s new s h.2 refl
     refusal_leaves (inr (inr (inl h))) = itself s new s h.3 refl
@@ -121,20 +120,20 @@ module _ (g : Geometry) (s new : State) (session : ℕ) where
   behind_fails l a (call.Scan store) f fails h = fails_after l f h.1 fails
   behind_fails l a _ f fails h = absurd h
 
-  faults_fail : (c : Call) (f : Fault) → IsOwn f → (IsLockFault f → ⊥) → (IsEarly f → ⊥) → c ≢ call.Begin → Fails f → SessionCallStep g s session c (Refused f) new → IsTrue new.failed
+  faults_fail : (c : Call) (f : Fault) → IsOwn f → (IsLockFault f → ⊥) → (IsEarly f → ⊥) → c ≢ call.Begin → Fails f → CallStep g s session c (Refused f) new → IsTrue new.failed
   faults_fail c f own table early other fails h =
       let t = comes_behind g s new session c f own table early other h in behind_fails (behind_lock s t.txn c t.lock) t.txn c f fails t.refuses
 
-  no_begin_fails : (f : Fault) → IsOwn f → Fails f → SessionCallStep g s session call.Begin (Refused f) new → ⊥
+  no_begin_fails : (f : Fault) → IsOwn f → Fails f → CallStep g s session call.Begin (Refused f) new → ⊥
   no_begin_fails f own fails h =
       begin_fault g s new session (λ f. Fails f → ⊥) (⊎_elim (λ e. cc) (λ x. let clash = x.2 in cc)) (⊎_elim (λ e. cc) (λ x. let clash = x.2 in cc))
       (⊎_elim (λ e. cc) (λ x. let clash = x.2 in cc)) f (begin_refused g s new session f own h) fails
 
-  pub device_fails : (c : Call) → SessionCallStep g s session c (Refused fault.Device) new → IsTrue new.failed
+  pub device_fails : (c : Call) → CallStep g s session c (Refused fault.Device) new → IsTrue new.failed
   device_fails call.Begin h = absurd (no_begin_fails fault.Device tt (inl refl) h)
   device_fails c h = faults_fail c fault.Device tt (⊎_elim (λ e. cc) (⊎_elim (λ e. cc) (λ x. let clash = x.1 in cc))) (λ x. x) (λ e. cc) (inl refl) h
 
-  pub damage_fails : (c : Call) (device : Device) (offset : ℕ) → SessionCallStep g s session c (Refused (fault.Damaged device offset)) new → IsTrue new.failed
+  pub damage_fails : (c : Call) (device : Device) (offset : ℕ) → CallStep g s session c (Refused (fault.Damaged device offset)) new → IsTrue new.failed
   damage_fails call.Begin device offset h = absurd (no_begin_fails (fault.Damaged device offset) tt (inr (device, offset, refl)) h)
   damage_fails c device offset h =
       faults_fail c (fault.Damaged device offset) tt (⊎_elim (λ e. cc) (⊎_elim (λ e. cc) (λ x. let clash = x.1 in cc))) (λ x. x) (λ e. cc) (inr (device, offset, refl)) h
@@ -143,7 +142,7 @@ module _ (g : Geometry) (s new : State) (session : ℕ) where
 
 module _ (g : Geometry) (found : List LogRecord) (es : List Entry) (s new : State) (k : IsSessionsState found es s) (session : ℕ) where
   -- the place of an insert whose log is full stays locked
-  pub log_full_locked : (store : ℕ) (bytes : List ℕ) (a : SessionTxn) → IsOfSession s session a → SessionCallStep g s session (call.Insert store bytes) (Refused fault.LogFull) new
+  pub log_full_locked : (store : ℕ) (bytes : List ℕ) (a : SessionTxn) → IsOfSession s session a → CallStep g s session (call.Insert store bytes) (Refused fault.LogFull) new
       → (id : Rid) × (CanLog s id (Some bytes) → ⊥) × HasLock new.sessions.held a.txn (granule.Record id) EX
   log_full_locked store bytes a of h =
       let t = insert_log_full g s new session store bytes h in
@@ -189,7 +188,7 @@ module _ (g : Geometry) (found : List LogRecord) (es : List Entry) (s new : Stat
       by (inr (inr x)) = let clash = x.1 in cc
 
   pub absence_locked : (c : Call) (id : Rid) (lock : Asked) (a : SessionTxn) → record_named_by c ≡ Some id → id.slot < MAX_SLOTS → asked_by c ≡ Some lock → IsOfSession s session a
-      → SessionCallStep g s session c (Refused fault.NoRecord) new → HasLock new.sessions.held a.txn lock.granule lock.mode
+      → CallStep g s session c (Refused fault.NoRecord) new → HasLock new.sessions.held a.txn lock.granule lock.mode
   absence_locked c id lock a named within asks of h =
       let other = asks_no_begin c lock asks in
       let t = behind_lock_of g s new session c fault.NoRecord tt (λ b l is. no_table_absence b c l is) (no_slot c id named within) other h in

@@ -32,14 +32,14 @@ use Rattle.shore_calls.proofs.SessionInversions.{AnsweredIn, WaitsIn, answered_i
 use Rattle.shore_calls.proofs.Sessions.{one_txn}
 use Rattle.shore_calls.proofs.WrongAnswers.{Took, took}
 use Rattle.shore_calls.proofs.WrongResumes.{ends}
-use Rattle.shore_calls.specs.CallSteps.{answered, committed}
-use Rattle.shore_calls.specs.LockSteps.{HasGranule, SessionCallStep, SessionResumeStep, behind_lock}
+use Rattle.shore_calls.specs.StateChanges.{answered, committed}
+use Rattle.shore_calls.specs.CallSteps.{HasGranule, CallStep, ResumeStep, behind_lock}
 use Rattle.shore_calls.specs.LockedStates.{IsSessionsState}
 use Rattle.shore_calls.specs.States.{HasNoTxn, IsInTxn, IsOfSession, State}
 
 module _ (g : Geometry) (s new : State) (session : ℕ) where
   abbrev Answered : Call → Answer → Type 0
-  Answered c answer = SessionCallStep g s session c (Done answer) new
+  Answered c answer = CallStep g s session c (Done answer) new
 
   within : (c : Call) (answer : Answer) → c ≢ call.Begin → Answered c answer → AnsweredIn g s session c answer new
   within c answer other h = answered_in g s new session c answer other h
@@ -165,7 +165,7 @@ module _ (g : Geometry) (s new : State) (session : ℕ) where
 
 module _ (g : Geometry) (found : List LogRecord) (es : List Entry) (s new : State) (k : IsSessionsState found es s) (session : ℕ) where
   -- whose commit waits is under way no more
-  pub waits_under_way : (wait : Wait) → SessionCallStep g s session call.Commit (Waits wait) new → (a : SessionTxn) → IsOfSession new session a → ⊥
+  pub waits_under_way : (wait : Wait) → CallStep g s session call.Commit (Waits wait) new → (a : SessionTxn) → IsOfSession new session a → ⊥
   waits_under_way wait h a mem = by (waits_in g s new session call.Commit wait h)
     where
       gone : (b : SessionTxn) → IsOfSession s session b → IsOfSession (committed s b) session a → ⊥
@@ -177,7 +177,7 @@ module _ (g : Geometry) (found : List LogRecord) (es : List Entry) (s new : Stat
       by t = ⊎_elim (λ asks. absurd asks.0) (λ commits. gone t.txn t.of (subst (λ (n : State). IsOfSession n session a) commits.1.1 mem)) t.how
 
   -- once it is answered its session is in no transaction
-  pub answered_in_none : (a : SessionTxn) → IsAmong a s.sessions.committing → a.session ≡ session → (answer : Answer) → SessionResumeStep g s session (Done answer) new → HasNoTxn new session
+  pub answered_in_none : (a : SessionTxn) → IsAmong a s.sessions.committing → a.session ≡ session → (answer : Answer) → ResumeStep g s session (Done answer) new → HasNoTxn new session
   answered_in_none a mem of answer h b now same =
       ⊎_elim
       (λ active. k.agree.apart b a active mem (one_txn k.agree b a (inl active) (inr mem) (same ∙ sym of)))

@@ -40,11 +40,11 @@ use Rattle.shore_calls.proofs.Sessions.{its_txn}
 use Rattle.shore_calls.proofs.SessionResumes.{woken}
 use Rattle.shore_calls.proofs.TakenLocks.{leaves}
 use Rattle.shore_calls.specs.CallHistories.{txn_of}
-use Rattle.shore_calls.specs.CallSteps.{after_refusal, wait_refused}
+use Rattle.shore_calls.specs.StateChanges.{after_refusal, wait_refused}
 use Rattle.shore_calls.specs.LockChanges.{TakesAsAsked, TakesLock}
-use Rattle.shore_calls.specs.LockSteps.{AnswersBehind, BeginStep, CommitStep, GoesOn, HasLocked, InnerStep, RefusesBehind, ResumesCall, ResumesWait, SessionCallStep, behind_lock, behind_place, lock_outcome, on_conflict_of}
+use Rattle.shore_calls.specs.CallSteps.{AnswersBehind, BeginStep, CommitStep, GoesOn, HasLocked, InnerStep, RefusesBehind, ResumesCall, ResumesWait, CallStep, behind_lock, behind_place, lock_outcome, on_conflict_of}
 use Rattle.shore_calls.specs.LockedStates.{IsSessionsState}
-use Rattle.shore_calls.specs.SessionEvents.{IsSessionsAfter}
+use Rattle.shore_calls.specs.Events.{IsStateAfter}
 use Rattle.shore_calls.specs.States.{IsOfSession, State, Waiting}
 
 -- ---- an acquire
@@ -201,11 +201,6 @@ commit_keeps_locks s a (Done answer) new h = absurd h
 commit_keeps_locks s a (Refused f) new h = absurd h
 commit_keeps_locks s a Nothing new h = absurd h
 
--- a commit asks for nothing
-no_locks_for_commit : (g : Geometry) (s : State) (a : SessionTxn) (new : State) → LocksOf s a call.Commit new → new.locks ≡ s.locks
-no_locks_for_commit g s a new (inl same) = same
-no_locks_for_commit g s a new (inr h) = let clash = h.1 in absurd cc
-
 -- nothing, or as the session's transaction asks
 abbrev pub ChangesAsAsked : State → ℕ → Call → State → Type 0
 ChangesAsAsked s session c new =
@@ -214,7 +209,7 @@ ChangesAsAsked s session c new =
 no_change : (s : State) (session : ℕ) (c : Call) (new : State) → new.locks ≡ s.locks → ChangesAsAsked s session c new
 no_change s session c new same = inl (ap (λ (x : Table). x.requests) same)
 
-module _ (g : Geometry) (found : List LogRecord) (es : List Entry) (s : State) (k : IsSessionsAfter found es s) where
+module _ (g : Geometry) (found : List LogRecord) (es : List Entry) (s : State) (k : IsStateAfter found es s) where
   inner_changes : (session : ℕ) (a : SessionTxn) → IsOfSession s session a → is_waiting a.txn s.locks.requests ≡ false → (c : Call) (step : Step) (new : State) → InnerStep g s a c step new
       → ChangesAsAsked s session c new
   inner_changes session a mem quiet c step new (inl h) = no_change s session c new (ap (λ (x : State). x.locks) h.3)
@@ -222,7 +217,7 @@ module _ (g : Geometry) (found : List LogRecord) (es : List Entry) (s : State) (
       ⊎_elim (λ same. inl same) (λ taken. inr (a, mem, taken)) (on_changes g found es session a mem.1 s k.sessions mem.0 quiet c step new h.1)
   inner_changes session a mem quiet c step new (inr (inr h)) = no_change s session c new (commit_keeps_locks s a step new h.1)
 
-  pub call_changes : (session : ℕ) (c : Call) (step : Step) (new : State) → SessionCallStep g s session c step new → ChangesAsAsked s session c new
+  pub call_changes : (session : ℕ) (c : Call) (step : Step) (new : State) → CallStep g s session c step new → ChangesAsAsked s session c new
   call_changes session c step new (inl h) = no_change s session c new (ap (λ (x : State). x.locks) h.1)
   call_changes session c step new (inr (inl h)) = no_change s session c new (ap (λ (x : State). x.locks) h.2)
   call_changes session c step new (inr (inr (inl h))) = no_change s session c new (ap (λ (x : State). x.locks) h.3)
@@ -233,7 +228,7 @@ module _ (g : Geometry) (found : List LogRecord) (es : List Entry) (s : State) (
       inner_changes session h.2.0 mem (k.sessions.locks.waits h.0 h.2.0 mem.0 (λ w m same. h.1 w m (same ∙ mem.1))) c step new h.2.2
 
   -- a Commit that goes last takes and gives no lock
-  pub commit_keeps : (session : ℕ) (step : Step) (new : State) → SessionCallStep g s session call.Commit step new → new.locks.requests ≡ s.locks.requests
+  pub commit_keeps : (session : ℕ) (step : Step) (new : State) → CallStep g s session call.Commit step new → new.locks.requests ≡ s.locks.requests
   commit_keeps session step new h = ⊎_elim (λ same. same) (λ taken. let clash = taken.2.1 in absurd cc) (call_changes session call.Commit step new h)
 
   -- ---- going on

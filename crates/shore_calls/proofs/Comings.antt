@@ -23,15 +23,15 @@ use Rattle.shore_sessions.specs.Sessions.{SessionTxn, Sessions, commit_answered,
 use Rattle.shore_sessions.specs.Views.{IsAmong}
 use Rattle.shore_calls.specs.declared.step.Step.{Step}
 use Rattle.shore_calls.proofs.Links.{ComesBy, Goes, IsLike, answer_goes, commit_goes, locks_go, quietly_comes, with_answer, with_commit}
-use Rattle.shore_calls.proofs.Refusals.{same_entry}
+use Rattle.shore_calls.proofs.RefusalTells.{same_entry}
 use Rattle.shore_calls.proofs.SessionStates.{answer_is_durable, its_wait, no_wait}
 use Rattle.shore_calls.proofs.Sessions.{AreSessionsAfter, event_keeps, its_txn}
 use Rattle.shore_calls.proofs.StepPassages.{CallPasses, Commits, IsAnswered, ResumePasses, call_passes, resume_passes}
 use Rattle.shore_calls.specs.CallHistories.{txn_of}
-use Rattle.shore_calls.specs.CallSteps.{Called, Forced, HasFailed, ManagerEvent, Resumed, wait_refused}
-use Rattle.shore_calls.specs.LockSteps.{ResumesCall, SessionCallStep, SessionResumeStep, commit_ended, with_requests}
-use Rattle.shore_calls.specs.LockedStates.{entries_of_resumed, entries_of_session_call}
-use Rattle.shore_calls.specs.SessionEvents.{IsSessionsAfter, SessionEventMoves, entries_of_session_event, entries_of_session_resume, entries_of_waiting}
+use Rattle.shore_calls.specs.Events.{Called, Forced, HasFailed, IsStateAfter, ManagerEvent, Resumed, EventMoves, entries_of, entries_of_resume, entries_of_waiting}
+use Rattle.shore_calls.specs.StateChanges.{wait_refused}
+use Rattle.shore_calls.specs.CallSteps.{ResumesCall, CallStep, ResumeStep, commit_ended, with_requests}
+use Rattle.shore_calls.specs.LockedStates.{entries_of_resumed, entries_of_call}
 use Rattle.shore_calls.specs.States.{State, Waiting}
 
 -- ---- decisions of a log
@@ -79,7 +79,7 @@ like_itself s = record { sessions = refl; log = refl; counts = refl; stream = re
 nothing_comes : (g : Geometry) (s new : State) → IsLike s new → ComesBy g s new []
 nothing_comes g s new like = record { start = s; before = like_itself s; events = []; late = tt; durable = tt; mid = s; goes = (refl, refl); after = like }
 
-module _ (g : Geometry) (found : List LogRecord) (es : List Entry) (s : State) (k : IsSessionsAfter found es s) where
+module _ (g : Geometry) (found : List LogRecord) (es : List Entry) (s : State) (k : IsStateAfter found es s) where
   commit_comes : (session : ℕ) (new : State) (made : List Entry) → Commits s session new made → ComesBy g s new made
   commit_comes session new made h =
       let a = h.txn in
@@ -95,12 +95,12 @@ module _ (g : Geometry) (found : List LogRecord) (es : List Entry) (s : State) (
         after = subst (IsLike (with_commit g s a)) (sym h.is) (record { sessions = refl; log = refl; counts = refl; stream = refl });
       })
 
-  pub session_call_comes : (session : ℕ) (c : Call) (step : Step) (new : State) → SessionCallStep g s session c step new → ComesBy g s new (entries_of_session_call s session c step)
+  pub session_call_comes : (session : ℕ) (c : Call) (step : Step) (new : State) → CallStep g s session c step new → ComesBy g s new (entries_of_call s session c step)
   session_call_comes session c step new h = by (call_passes g found es s k.sessions session c step new h)
     where
-      by : CallPasses g s session new (entries_of_session_call s session c step) → ComesBy g s new (entries_of_session_call s session c step)
-      by (inl quiet) = quietly_comes g session s s new (entries_of_session_call s session c step) (like_itself s) quiet
-      by (inr commit) = commit_comes session new (entries_of_session_call s session c step) commit
+      by : CallPasses g s session new (entries_of_call s session c step) → ComesBy g s new (entries_of_call s session c step)
+      by (inl quiet) = quietly_comes g session s s new (entries_of_call s session c step) (like_itself s) quiet
+      by (inr commit) = commit_comes session new (entries_of_call s session c step) commit
 
   module _ (w : Waiting) (there : IsAmong w s.waiting) (new : State) (made : List Entry) (h : IsAnswered s w.session w.wait new made) where
     abbrev a : SessionTxn
@@ -153,7 +153,7 @@ module _ (g : Geometry) (found : List LogRecord) (es : List Entry) (s : State) (
           quietly_comes g w.session s (wait_refused s w.session) new (entries_of_resumed s w step) (record { sessions = refl; log = refl; counts = refl; stream = refl }) on.on
       by (inr (inr told)) = answer_comes w m new (entries_of_resumed s w step) told
 
-  pub session_resume_comes : (session : ℕ) (step : Step) (new : State) → SessionResumeStep g s session step new → ComesBy g s new (entries_of_session_resume s session step)
+  pub session_resume_comes : (session : ℕ) (step : Step) (new : State) → ResumeStep g s session step new → ComesBy g s new (entries_of_resume s session step)
   session_resume_comes session step new (inl h) =
       subst (λ (o : Option Waiting). ComesBy g s new (entries_of_waiting s o step)) (sym (no_wait session s.waiting h.0))
       (nothing_comes g s new (subst (IsLike s) (sym h.2) (like_itself s)))
@@ -161,7 +161,7 @@ module _ (g : Geometry) (found : List LogRecord) (es : List Entry) (s : State) (
       subst (λ (o : Option Waiting). ComesBy g s new (entries_of_waiting s o step)) (sym (its_wait session s.waiting h.0 k.waits.once h.1 h.2))
       (session_resumed_comes h.0 h.1 step new h.3)
 
-  pub session_event_comes : (new : State) (e : ManagerEvent) → SessionEventMoves g s e new → ComesBy g s new (entries_of_session_event s e)
+  pub session_event_comes : (new : State) (e : ManagerEvent) → EventMoves g s e new → ComesBy g s new (entries_of s e)
   session_event_comes new (Called session c step) h = session_call_comes session c step new h.1
   session_event_comes new (Resumed session step) h = session_resume_comes session step new h
   session_event_comes new (Forced n) h = nothing_comes g s new (subst (IsLike s) (sym h.2) (record { sessions = refl; log = refl; counts = refl; stream = refl }))

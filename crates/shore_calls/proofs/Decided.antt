@@ -21,7 +21,7 @@ use Rattle.shore_room.specs.Claims.{Grows, SlotCounts}
 use Rattle.shore_sessions.proofs.Lists.{within_or_beyond}
 use Rattle.shore_sessions.specs.Views.{IsAmong}
 use Rattle.shore_calls.specs.declared.step.Step.TheVariants.{Refused}
-use Rattle.shore_calls.specs.CallSteps.{ComesOfState}
+use Rattle.shore_calls.specs.StateChanges.{ComesOfState}
 use Rattle.shore_calls.specs.States.{HasRoomFor, State, Waiting, log_room}
 
 -- ---- what is decided

@@ -15,8 +15,8 @@ use Rattle.shore_calls.specs.declared.step.Wait.TheVariants.{Durable, Lock}
 use Rattle.shore_calls.proofs.AfterRefusals.{goes_leaves}
 use Rattle.shore_calls.proofs.SessionInversions.{answered_from}
 use Rattle.shore_calls.proofs.WrongResumes.{of_another}
-use Rattle.shore_calls.specs.CallSteps.{after_refusal, wait_refused}
-use Rattle.shore_calls.specs.LockSteps.{AnswersBehind, GoesOn, LacksMemory, RefusesBehind, ResumesWait, SessionCallStep, SessionResumeStep, behind_lock}
+use Rattle.shore_calls.specs.StateChanges.{after_refusal, wait_refused}
+use Rattle.shore_calls.specs.CallSteps.{AnswersBehind, GoesOn, LacksMemory, RefusesBehind, ResumesWait, CallStep, ResumeStep, behind_lock}
 use Rattle.shore_calls.specs.States.{DoesNotWait, State, Waiting, without_waiting}
 
 -- ---- who waits
@@ -49,7 +49,7 @@ module _ (g : Geometry) (s new : State) (session : ℕ) where
       no_more w.session of (answers_wait g (behind_lock (wait_refused s w.session) h.0 w.call t.lock) h.0 new w.call answer t.behind))
       h.2
 
-  pub answered_waits_no_more : (answer : Answer) → SessionResumeStep g s session (Done answer) new → DoesNotWait new session
+  pub answered_waits_no_more : (answer : Answer) → ResumeStep g s session (Done answer) new → DoesNotWait new session
   answered_waits_no_more answer (inl h) = let clash = h.1 in absurd cc
   answered_waits_no_more answer (inr h) = ⊎_elim (λ failed. let clash = failed.1 in absurd cc) (λ runs. answered_on h.0 h.2 h.0.wait answer runs.1) h.3
 
@@ -62,7 +62,7 @@ module _ (g : Geometry) (s new : State) (session : ℕ) where
       (λ goes. no_more w.session of (ap (λ (s : State). s.waiting) (goes_leaves g (wait_refused s w.session) new h.0 w.call f goes.1)))
       h.2
 
-  pub refused_waits_no_more : (f : Fault) → SessionResumeStep g s session (Refused f) new → DoesNotWait new session
+  pub refused_waits_no_more : (f : Fault) → ResumeStep g s session (Refused f) new → DoesNotWait new session
   refused_waits_no_more f (inl h) = let clash = h.1 in absurd cc
   refused_waits_no_more f (inr h) =
       ⊎_elim (λ failed. no_more h.0.session h.2 (ap (λ (s : State). s.waiting) failed.2)) (λ runs. refused_on h.0 h.2 h.0.wait f runs.1) h.3
@@ -103,7 +103,7 @@ module _ (g : Geometry) (s new : State) (session : ℕ) where
   goes_runs a c f runs (inr (inr h)) = behind_runs h.0 a c f runs h.2 ∙ ap (λ (s : State). s.failed) h.1.3
 
   pub refusal_runs : (c : Call) (f : Fault) → f ≢ fault.Device → ((device : Device) (offset : ℕ) → f ≢ fault.Damaged device offset)
-      → SessionCallStep g s session c (Refused f) new → new.failed ≡ s.failed
+      → CallStep g s session c (Refused f) new → new.failed ≡ s.failed
   refusal_runs c f device damaged (inl h) = ap (λ (s : State). s.failed) h.1
   refusal_runs c f device damaged (inr (inl h)) = ap (λ (s : State). s.failed) h.2
   refusal_runs c f device damaged (inr (inr (inl h))) = ap (λ (s : State). s.failed) h.3

@@ -38,13 +38,12 @@ use Rattle.shore_room.specs.Claims.{SlotCounts}
 use Rattle.shore_calls.specs.declared.step.Step.{Step}
 use Rattle.shore_calls.specs.declared.step.Step.TheVariants.{Done, Nothing, Refused, Waits}
 use Rattle.shore_calls.proofs.LockedAnswers.{absence_told, after_refused, answer_given, refusal_told}
-use Rattle.shore_calls.proofs.Refusals.{known_absent, tells_or_none}
+use Rattle.shore_calls.proofs.RefusalTells.{known_absent, tells_or_none}
 use Rattle.shore_calls.proofs.TakenLocks.{leaves, locked_state, waiting_state}
 use Rattle.shore_calls.specs.CallHistories.{answered_under, txn_of}
-use Rattle.shore_calls.specs.CallSteps.{after_refusal, answered}
-use Rattle.shore_calls.specs.LockSteps.{AnswersBehind, GoesOn, LacksMemory, RefusesBehind, RefusesRead, behind_lock, behind_place, lock_outcome, lock_waiting, on_conflict_of, place_outcome}
-use Rattle.shore_calls.specs.LockedStates.{IsSessionsState, entries_of_session_call}
-use Rattle.shore_calls.specs.Refusals.{IsPageFault}
+use Rattle.shore_calls.specs.StateChanges.{IsPageFault, after_refusal, answered}
+use Rattle.shore_calls.specs.CallSteps.{AnswersBehind, GoesOn, LacksMemory, RefusesBehind, RefusesRead, behind_lock, behind_place, lock_outcome, lock_waiting, on_conflict_of, place_outcome}
+use Rattle.shore_calls.specs.LockedStates.{IsSessionsState, entries_of_call}
 use Rattle.shore_calls.specs.States.{State}
 
 -- calls that ask for a lock are made within a transaction
@@ -243,10 +242,10 @@ module _ (g : Geometry) (found : List LogRecord) (es : List Entry) (session : �
         (refusal_told found es (behind_place (behind_lock s a c lock) a id) (at_place (behind_lock s a c lock) kl mem (still_quiet c lock done) id (never_waiting at)) session c fault.Memory tt))
         h.2
 
-    pub goes_on_kept : (c : Call) (step : Step) (new : State) → GoesOn g s a c step new → IsSessionsState found (es ++ entries_of_session_call s session c step) new
+    pub goes_on_kept : (c : Call) (step : Step) (new : State) → GoesOn g s a c step new → IsSessionsState found (es ++ entries_of_call s session c step) new
     goes_on_kept c (Done answer) new h = answers_kept c h.1.0 h.1.1 h.1.2 answer new (subst (λ (l : State). AnswersBehind g l a c answer new) h.1.3 h.2)
     goes_on_kept c (Waits wait) new h =
-        subst (λ w. IsSessionsState found (es ++ entries_of_session_call s session c (Waits w)) new) (sym h.4)
+        subst (λ w. IsSessionsState found (es ++ entries_of_call s session c (Waits w)) new) (sym h.4)
         (subst (IsSessionsState found (es ++ [])) (sym h.5)
         (subst (λ (made : List Entry). IsSessionsState found made (record (behind_lock s a c h.0) { waiting = lock_waiting a c h.1 ∷ s.waiting })) (sym (append-nil es))
         (waiting_state found es s k a mem quiet (on_conflict_of c) h.0.granule h.0.mode c h.1)))

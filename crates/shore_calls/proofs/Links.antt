@@ -29,9 +29,8 @@ use Rattle.shore_sessions.specs.SessionSteps.{AnswerAbort, AnswerCommit, AppendC
 use Rattle.shore_sessions.specs.Sessions.{SessionTxn, commit_answered, commit_appended, txn_begun, without_txn}
 use Rattle.shore_sessions.specs.Views.{IsAmong}
 use Rattle.shore_calls.proofs.Rooms.{cost_pushed}
-use Rattle.shore_calls.specs.CallSteps.{with_failure}
-use Rattle.shore_calls.specs.LockSteps.{lock_waiting, txn_count, with_requests}
-use Rattle.shore_calls.specs.Refusals.{FitsAt}
+use Rattle.shore_calls.specs.StateChanges.{FitsAt, with_failure}
+use Rattle.shore_calls.specs.CallSteps.{lock_waiting, txn_count, with_requests}
 use Rattle.shore_calls.specs.States.{DoesNotWait, HasNoTxn, MayBegin, State, cost_of_log, log_room}
 
 -- ---- how many transactions there are

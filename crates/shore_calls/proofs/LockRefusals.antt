@@ -23,9 +23,9 @@ use Rattle.shore_calls.proofs.AcquireAnswers.{allowed_mode, wait_never_blocks}
 use Rattle.shore_calls.proofs.RefusalCauses.{table_full}
 use Rattle.shore_calls.proofs.SessionInversions.{IsOwn, RefusedIn, asks_no_begin, insert_asks, refused_in, same_lock}
 use Rattle.shore_calls.proofs.WrongRefusals.{IsBehind, RefusedWith, begin_fault, begin_refused, refused_behind, refused_early}
-use Rattle.shore_calls.specs.LockSteps.{Finds, IsPlaceOf, IsTooLong, RefusesBehind, RefusesEarly, RefusesGranule, RefusesLock, RefusesRead, behind_lock, lock_outcome, on_conflict_of, place_outcome}
-use Rattle.shore_calls.specs.Refusals.{CanLog, FitsAt}
-use Rattle.shore_calls.specs.SessionShapes.{ForItsTxn, store_lock, store_locked}
+use Rattle.shore_calls.specs.CallSteps.{Finds, IsPlaceOf, IsTooLong, RefusesBehind, RefusesEarly, RefusesGranule, RefusesLock, RefusesRead, behind_lock, lock_outcome, on_conflict_of, place_outcome}
+use Rattle.shore_calls.specs.StateChanges.{CanLog, FitsAt}
+use Rattle.shore_calls.specs.Shapes.{ForItsTxn, store_lock, store_locked}
 use Rattle.shore_calls.specs.States.{IsOfSession, State}
 
 module _ (g : Geometry) (s new : State) (session : ℕ) where

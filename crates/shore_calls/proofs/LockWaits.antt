@@ -15,10 +15,10 @@ use Rattle.shore_calls.proofs.AfterRefusals.{goes_leaves}
 use Rattle.shore_calls.proofs.EndedWaits.{answers_wait}
 use Rattle.shore_calls.proofs.SessionInversions.{answered_from, durable_no_lock}
 use Rattle.shore_calls.specs.CallHistories.{IsOpened}
-use Rattle.shore_calls.specs.CallSteps.{Called, Forced, HasFailed, ManagerEvent, Resumed, commit_waiting, wait_refused}
-use Rattle.shore_calls.specs.LockSteps.{BeginStep, CommitStep, GoesOn, MayAsk, ResumesWait, SessionCallStep, SessionResumeStep, behind_lock, lock_waiting}
-use Rattle.shore_calls.specs.SessionEvents.{SessionEventMoves, SessionEventsMove}
-use Rattle.shore_calls.specs.SessionShapes.{LockWaitsMayAsk}
+use Rattle.shore_calls.specs.Events.{Called, Forced, HasFailed, ManagerEvent, Resumed, EventMoves, EventsMove}
+use Rattle.shore_calls.specs.StateChanges.{commit_waiting, wait_refused}
+use Rattle.shore_calls.specs.CallSteps.{BeginStep, CommitStep, GoesOn, MayAsk, ResumesWait, CallStep, ResumeStep, behind_lock, lock_waiting}
+use Rattle.shore_calls.specs.Shapes.{LockWaitsMayAsk}
 use Rattle.shore_calls.specs.States.{State, Waiting, next_number, without_waiting}
 
 -- who waits once a session's calls are taken out waited before
@@ -68,7 +68,7 @@ module _ (g : Geometry) where
   commits s new a (Refused f) h = absurd h
   commits s new a Nothing h = absurd h
 
-  called : (s new : State) (session : ℕ) (c : Call) (step : Step) → SessionCallStep g s session c step new → LockWaitsMayAsk g s → LockWaitsMayAsk g new
+  called : (s new : State) (session : ℕ) (c : Call) (step : Step) → CallStep g s session c step new → LockWaitsMayAsk g s → LockWaitsMayAsk g new
   called s new session c step (inl h) = as_before s new (ap (λ (s : State). s.waiting) h.1)
   called s new session c step (inr (inl h)) = as_before s new (ap (λ (s : State). s.waiting) h.2)
   called s new session c step (inr (inr (inl h))) = as_before s new (ap (λ (s : State). s.waiting) h.3)
@@ -90,7 +90,7 @@ module _ (g : Geometry) where
       (λ goes. goes_on (wait_refused s w.session) new h.0 w.call (k w there at is) step goes.1 (but_one s (wait_refused s w.session) w.session refl k))
       h.2
 
-  resumes : (s new : State) (session : ℕ) (step : Step) → SessionResumeStep g s session step new → LockWaitsMayAsk g s → LockWaitsMayAsk g new
+  resumes : (s new : State) (session : ℕ) (step : Step) → ResumeStep g s session step new → LockWaitsMayAsk g s → LockWaitsMayAsk g new
   resumes s new session step (inl h) k = as_before s new (ap (λ (s : State). s.waiting) h.2) k
   resumes s new session step (inr h) k =
       ⊎_elim
@@ -98,13 +98,13 @@ module _ (g : Geometry) where
       (λ runs. resumed s new h.0 h.1 h.0.wait refl step runs.1 k)
       h.3
 
-  event : (s new : State) (e : ManagerEvent) → SessionEventMoves g s e new → LockWaitsMayAsk g s → LockWaitsMayAsk g new
+  event : (s new : State) (e : ManagerEvent) → EventMoves g s e new → LockWaitsMayAsk g s → LockWaitsMayAsk g new
   event s new (Called session c step) h k = called s new session c step h.1 k
   event s new (Resumed session step) h k = resumes s new session step h k
   event s new (Forced n) h k = as_before s new (ap (λ (s : State). s.waiting) h.2) k
   event s new HasFailed h k = as_before s new (ap (λ (s : State). s.waiting) h) k
 
-  pub waits_may_ask : (s last : State) (events : List ManagerEvent) → SessionEventsMove g s events last → LockWaitsMayAsk g s → LockWaitsMayAsk g last
+  pub waits_may_ask : (s last : State) (events : List ManagerEvent) → EventsMove g s events last → LockWaitsMayAsk g s → LockWaitsMayAsk g last
   waits_may_ask s last [] h k = subst (LockWaitsMayAsk g) (sym h) k
   waits_may_ask s last (e ∷ events) h k = waits_may_ask h.0 last events h.2 (event s h.0 e h.1 k)
 

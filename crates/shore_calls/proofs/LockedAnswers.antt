@@ -20,11 +20,11 @@ use Rattle.shore_sessions.specs.Views.{IsAmong}
 use Rattle.shore_room.specs.Claims.{SlotCounts}
 use Rattle.shore_locks.specs.Tables.{is_waiting}
 use Rattle.shore_calls.proofs.Elements.{same_undo}
-use Rattle.shore_calls.proofs.Refusals.{same_entry}
+use Rattle.shore_calls.proofs.RefusalTells.{same_entry}
 use Rattle.shore_calls.proofs.Sessions.{AreSessionsAfter, event_keeps, is_txn_of, its_txn}
 use Rattle.shore_calls.proofs.TakenLocks.{sessions_of, state_of}
 use Rattle.shore_calls.specs.CallHistories.{answered_under, txn_of}
-use Rattle.shore_calls.specs.CallSteps.{after_refusal, answered}
+use Rattle.shore_calls.specs.StateChanges.{after_refusal, answered}
 use Rattle.shore_calls.specs.LockedStates.{HasTrueLocks, IsSessionsState}
 use Rattle.shore_calls.specs.States.{State}
 

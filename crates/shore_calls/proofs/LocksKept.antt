@@ -38,8 +38,8 @@ use Rattle.shore_calls.specs.declared.step.Step.TheVariants.{Done, Nothing, Refu
 use Rattle.shore_calls.proofs.SessionCalls.{session_call_kept}
 use Rattle.shore_calls.proofs.SessionInversions.{AnsweredFrom, answered_from, answered_in}
 use Rattle.shore_calls.proofs.Sessions.{one_txn}
-use Rattle.shore_calls.specs.CallSteps.{after_refusal, answered, committed, with_failure}
-use Rattle.shore_calls.specs.LockSteps.{AnswersBehind, BeginStep, CommitStep, GoesOn, LacksMemory, RefusesBehind, SessionCallStep, behind_lock, behind_place, lock_outcome, on_conflict_of, place_outcome}
+use Rattle.shore_calls.specs.StateChanges.{after_refusal, answered, committed, with_failure}
+use Rattle.shore_calls.specs.CallSteps.{AnswersBehind, BeginStep, CommitStep, GoesOn, LacksMemory, RefusesBehind, CallStep, behind_lock, behind_place, lock_outcome, on_conflict_of, place_outcome}
 use Rattle.shore_calls.specs.LockedStates.{IsSessionsState}
 use Rattle.shore_calls.specs.States.{DoesNotWait, IsOfSession, State}
 
@@ -165,7 +165,7 @@ module _ (g : Geometry) (found : List LogRecord) (es : List Entry) (s new : Stat
   commit_kept a (Refused f) h = absurd h
   commit_kept a Nothing h = absurd h
 
-  call_kept : (c : Call) (step : Step) → SessionCallStep g s session c step new → NoLockWeaker s new
+  call_kept : (c : Call) (step : Step) → CallStep g s session c step new → NoLockWeaker s new
   call_kept c step (inl h) = as_before h.1
   call_kept c step (inr (inl h)) = as_before h.2
   call_kept c step (inr (inr (inl h))) = as_before h.3
@@ -187,7 +187,7 @@ module _ (g : Geometry) (found : List LogRecord) (es : List Entry) (s new : Stat
       let now = holder_of u at m new.locks.requests (kept u at m (enough_of u at m s.locks.requests k.locks.orderly.one_each was)) in
       subst (λ (l : List Hold). HoldsAtLeast l u m at) (sym after.locks.held) (lock_from_holder u at m new.locks.requests now)
 
-  pub call_keeps_locks : (c : Call) (step : Step) → SessionCallStep g s session c step new → (u : ℕ) → KeepsLocks s.sessions.held new.sessions.held u
+  pub call_keeps_locks : (c : Call) (step : Step) → CallStep g s session c step new → (u : ℕ) → KeepsLocks s.sessions.held new.sessions.held u
   call_keeps_locks c step h = locks_kept (session_call_kept g found es s k session c step new h) (call_kept c step h)
 
   -- ---- an answer has the locks that it needs
@@ -237,7 +237,7 @@ module _ (g : Geometry) (found : List LogRecord) (es : List Entry) (s new : Stat
   pub its_number : (a b : SessionTxn) → IsOfSession s session a → IsOfSession s session b → b.txn ≡ a.txn
   its_number a b x y = one_txn k.agree b a (inl y.0) (inl x.0) (y.1 ∙ sym x.1)
 
-  pub answer_has_locks : (c : Call) (answer : Answer) (a : SessionTxn) → IsOfSession s session a → SessionCallStep g s session c (Done answer) new
+  pub answer_has_locks : (c : Call) (answer : Answer) (a : SessionTxn) → IsOfSession s session a → CallStep g s session c (Done answer) new
       → HasLocksFor new.sessions.held a.txn c answer
   answer_has_locks c answer a of h =
       ⊎_elim
@@ -250,7 +250,7 @@ module _ (g : Geometry) (found : List LogRecord) (es : List Entry) (s new : Stat
 
   -- ---- nobody reads what another may write
 
-  module _ (c : Call) (answer : Answer) (a : SessionTxn) (of : IsOfSession s session a) (h : SessionCallStep g s session c (Done answer) new) (u : ℕ) (other : u ≢ a.txn) (id : Rid) where
+  module _ (c : Call) (answer : Answer) (a : SessionTxn) (of : IsOfSession s session a) (h : CallStep g s session c (Done answer) new) (u : ℕ) (other : u ≢ a.txn) (id : Rid) where
     permit : Permit new.sessions.held a.txn c answer
     permit = permitted new.sessions.held a.txn c answer (answer_has_locks c answer a of h)
 

@@ -1,5 +1,5 @@
 -- A step of a session leaves what is durable, and its log goes on by one record at most.
-use Rattle.std.proofs.Common.{◌≡◌, inl, inr, ⊎_elim, ◌∷◌, ℕ, List, [], refl, sym, ap, subst, ◌∙◌, append-nil}
+use Rattle.std.proofs.Common.{◌≡◌, inl, inr, ⊎_elim, ◌∷◌, ℕ, List, [], refl, sym, ap, subst, ◌∙◌, append-nil, ◌⊎◌, ◌++◌}
 use Rattle.shore_types.specs.declared.faults.Fault.{Fault}
 use Rattle.shore_types.specs.declared.faults.Fault.TheVariants as fault
 use Rattle.shore_types.specs.declared.ids.Rid.{Rid}
@@ -13,12 +13,15 @@ use Rattle.shore_calls.specs.declared.step.Wait.{Wait}
 use Rattle.shore_calls.specs.declared.step.Wait.TheVariants.{Durable, Lock}
 use Rattle.shore_calls.specs.declared.step.Step.{Step}
 use Rattle.shore_calls.specs.declared.step.Step.TheVariants.{Done, Nothing, Refused, Waits}
-use Rattle.shore_calls.proofs.Answering.{GainsOne}
 use Rattle.shore_calls.specs.CallHistories.{IsPrefix}
-use Rattle.shore_calls.specs.CallSteps.{Called, Forced, HasFailed, ManagerEvent, Resumed, after_refusal, answered, wait_refused}
-use Rattle.shore_calls.specs.LockSteps.{AnswersBehind, BeginStep, CommitStep, GoesOn, InnerStep, RefusesBehind, ResumesCall, ResumesWait, SessionCallStep, SessionResumeStep, behind_place}
-use Rattle.shore_calls.specs.SessionEvents.{SessionEventMoves}
+use Rattle.shore_calls.specs.Events.{Called, Forced, HasFailed, ManagerEvent, Resumed, EventMoves}
+use Rattle.shore_calls.specs.StateChanges.{after_refusal, answered, wait_refused}
+use Rattle.shore_calls.specs.CallSteps.{AnswersBehind, BeginStep, CommitStep, GoesOn, InnerStep, RefusesBehind, ResumesCall, ResumesWait, CallStep, ResumeStep, behind_place}
 use Rattle.shore_calls.specs.States.{State, Waiting}
+
+-- the log has a record more at most
+abbrev pub GainsOne : List LogRecord → List LogRecord → Type 0
+GainsOne log log' = (log' ≡ log) ⊎ ((r : LogRecord) × (log' ≡ log ++ r ∷ []))
 
 -- as much is durable, and the log goes on by one record at most
 pub record GoesFurther (s new : State) : Type 0 where
@@ -116,7 +119,7 @@ inner_further g s a c step new (inl h) = same_further s new h.3
 inner_further g s a c step new (inr (inl h)) = goes_further g a s c step new h.1
 inner_further g s a c step new (inr (inr h)) = commit_further s a step new h.1
 
-pub call_further : (g : Geometry) (s : State) (session : ℕ) (c : Call) (step : Step) (new : State) → SessionCallStep g s session c step new → GoesFurther s new
+pub call_further : (g : Geometry) (s : State) (session : ℕ) (c : Call) (step : Step) (new : State) → CallStep g s session c step new → GoesFurther s new
 call_further g s session c step new (inl h) = same_further s new h.1
 call_further g s session c step new (inr (inl h)) = same_further s new h.2
 call_further g s session c step new (inr (inr (inl h))) = same_further s new h.3
@@ -141,13 +144,13 @@ pub resumed_further : (g : Geometry) (s : State) (w : Waiting) (step : Step) (ne
 resumed_further g s w step new (inl h) = subst (GoesFurther s) (sym h.2) (record { durable = refl; one = inl refl })
 resumed_further g s w step new (inr h) = wait_further g s w w.wait step new h.1
 
-pub resume_further : (g : Geometry) (s : State) (session : ℕ) (step : Step) (new : State) → SessionResumeStep g s session step new → GoesFurther s new
+pub resume_further : (g : Geometry) (s : State) (session : ℕ) (step : Step) (new : State) → ResumeStep g s session step new → GoesFurther s new
 resume_further g s session step new (inl h) = same_further s new h.2
 resume_further g s session step new (inr h) = resumed_further g s h.0 step new h.3
 
 -- ---- any event
 
-pub session_event_goes_on : (g : Geometry) (s new : State) (e : ManagerEvent) → SessionEventMoves g s e new → IsPrefix s.log new.log
+pub session_event_goes_on : (g : Geometry) (s new : State) (e : ManagerEvent) → EventMoves g s e new → IsPrefix s.log new.log
 session_event_goes_on g s new (Called session c step) h = further_on s new (call_further g s session c step new h.1)
 session_event_goes_on g s new (Resumed session step) h = further_on s new (resume_further g s session step new h)
 session_event_goes_on g s new (Forced n) h = gained_on s.log new.log (inl (ap (λ (x : State). x.log) h.2))

@@ -21,9 +21,8 @@ use Rattle.shore_calls.specs.declared.step.Step.TheVariants.{Done, Nothing, Refu
 use Rattle.shore_calls.proofs.Decided.{IsOrdinary, no_record_both, ordinary}
 use Rattle.shore_calls.proofs.Rows.{AllPass, FirstFails, Test, before_or_same, none_fails, one_fails, same_growth, test}
 use Rattle.shore_calls.proofs.SessionInversions.{same_fault}
-use Rattle.shore_calls.specs.CallSteps.{ComesOfState, after_refusal, answered}
-use Rattle.shore_calls.specs.LockSteps.{AnswersBehind, Finds, HasPlace, IsPlaceOf, RefusesBehind, RefusesRead, ServesTxn, behind_place, place_outcome}
-use Rattle.shore_calls.specs.Refusals.{CanLog, FitsAt, IsPageFault}
+use Rattle.shore_calls.specs.StateChanges.{CanLog, ComesOfState, FitsAt, IsPageFault, after_refusal, answered}
+use Rattle.shore_calls.specs.CallSteps.{AnswersBehind, Finds, HasPlace, IsPlaceOf, RefusesBehind, RefusesRead, ServesTxn, behind_place, place_outcome}
 use Rattle.shore_calls.specs.States.{State}
 
 -- ---- steps that are compared

@@ -32,10 +32,9 @@ use Rattle.shore_calls.proofs.OneBehind.{AreOne, Comparable, StepsBehind, left_n
 use Rattle.shore_calls.proofs.Rows.{AllPass, FirstFails, Test, none_fails, one_fails, page_has_store, same_member, test}
 use Rattle.shore_calls.proofs.SessionInversions.{same_lock}
 use Rattle.shore_calls.proofs.Sessions.{one_txn}
-use Rattle.shore_calls.specs.CallSteps.{wait_refused}
-use Rattle.shore_calls.specs.LockSteps.{AnswersBehind, BeginStep, CommitStep, GoesOn, HasGranule, InnerStep, MayAsk, RefusesBehind, RefusesEarly, RefusesGranule, RefusesId, RefusesLock, ResumesCall, ResumesWait, SessionCallStep, SessionResumeStep, behind_lock, commit_ended, lock_outcome, lock_waiting, txn_count}
-use Rattle.shore_calls.specs.Refusals.{IsShort}
-use Rattle.shore_calls.specs.SessionEvents.{IsSessionsAfter}
+use Rattle.shore_calls.specs.StateChanges.{IsShort, wait_refused}
+use Rattle.shore_calls.specs.CallSteps.{AnswersBehind, BeginStep, CommitStep, GoesOn, HasGranule, InnerStep, MayAsk, RefusesBehind, RefusesEarly, RefusesGranule, RefusesId, RefusesLock, ResumesCall, ResumesWait, CallStep, ResumeStep, behind_lock, commit_ended, lock_outcome, lock_waiting, txn_count}
+use Rattle.shore_calls.specs.Events.{IsStateAfter}
 use Rattle.shore_calls.specs.States.{DoesNotWait, HasNoTxn, IsInTxn, IsOfSession, MayBegin, State, Waiting}
 
 -- ---- behind what the lock table makes of a call's lock
@@ -150,6 +149,10 @@ module _ (g : Geometry) where
   may_pass (call.TryLock at mode) h = (h.0, granule_passes at h.1)
   may_pass _ h = absurd h
 
+  -- a call that may ask is not refused before it does
+  pub none_early : (c : Call) (f : Fault) → MayAsk g c → RefusesEarly g c f → ⊥
+  none_early c f may refuses = none_fails (early_tests c) f (early_fails c f refuses) (may_pass c may)
+
 -- ---- begins
 
 module _ (s : State) (session : ℕ) where
@@ -214,7 +217,7 @@ module _ (g : Geometry) (s : State) where
   one_inner a c x y new later both (inr (inr h)) (inr (inl k)) = absurd (no_commit_asks c h.0 k.0)
   one_inner a c x y new later both (inr (inr h)) (inr (inr k)) = one_commit a x y new later h.1 k.1
 
-module _ (g : Geometry) (found : List LogRecord) (es : List Entry) (s : State) (k : IsSessionsAfter found es s) (session : ℕ) where
+module _ (g : Geometry) (found : List LogRecord) (es : List Entry) (s : State) (k : IsStateAfter found es s) (session : ℕ) where
   same_txn : (n : ℕ) (a b : SessionTxn) → IsOfSession s n a → IsOfSession s n b → a ≡ b
   same_txn n a b x y =
       same_member a b s.sessions.active k.sessions.agree.once x.0 y.0 (one_txn k.sessions.agree a b (inl x.0) (inl y.0) (x.1 ∙ sym y.1))
@@ -231,7 +234,7 @@ module _ (g : Geometry) (found : List LogRecord) (es : List Entry) (s : State) (
       ⊎ ((s.failed ≡ false) × (DoesNotWait s session → ⊥) × (step ≡ Refused fault.Busy) × (new ≡ s))
       ⊎ ((s.failed ≡ false) × DoesNotWait s session × Own c step new)
 
-  levels : (c : Call) (step : Step) (new : State) → step ≢ Refused fault.Memory → SessionCallStep g s session c step new → Levels c step new
+  levels : (c : Call) (step : Step) (new : State) → step ≢ Refused fault.Memory → CallStep g s session c step new → Levels c step new
   levels c step new some (inl h) = absurd (some h.0)
   levels c step new some (inr (inl h)) = inl h
   levels c step new some (inr (inr (inl h))) = inr (inl h)
@@ -267,7 +270,7 @@ module _ (g : Geometry) (found : List LogRecord) (es : List Entry) (s : State) (
   one_level c x y new later both (inr (inr h)) (inr (inl j)) = absurd (j.1 h.1)
   one_level c x y new later both (inr (inr h)) (inr (inr j)) = one_own c x y new later both h.2 j.2
 
-  pub one_call : (c : Call) (x y : Step) (new later : State) → Comparable x y → SessionCallStep g s session c x new → SessionCallStep g s session c y later → AreOne x y new later
+  pub one_call : (c : Call) (x y : Step) (new later : State) → Comparable x y → CallStep g s session c x new → CallStep g s session c y later → AreOne x y new later
   one_call c x y new later both h j =
       one_level c x y new later both (levels c x new (left_no_memory x y both) h) (levels c y later (right_no_memory x y both) j)
 
@@ -307,7 +310,7 @@ module _ (g : Geometry) (found : List LogRecord) (es : List Entry) (s : State) (
     one_resumed x y new later both (inr h) (inl j) = absurd (both_ways s.failed j.0 h.0)
     one_resumed x y new later both (inr h) (inr j) = one_wait w.wait x y new later both h.1 j.1
 
-  pub one_resume : (x y : Step) (new later : State) → Comparable x y → SessionResumeStep g s session x new → SessionResumeStep g s session y later → AreOne x y new later
+  pub one_resume : (x y : Step) (new later : State) → Comparable x y → ResumeStep g s session x new → ResumeStep g s session y later → AreOne x y new later
   one_resume x y new later both (inl h) (inl j) = (h.1 ∙ sym j.1, h.2 ∙ sym j.2)
   one_resume x y new later both (inl h) (inr j) = absurd (h.0 j.0 j.1 j.2)
   one_resume x y new later both (inr h) (inl j) = absurd (j.0 h.0 h.1 h.2)

@@ -35,14 +35,14 @@ use Rattle.shore_calls.proofs.Elements.{same_undo}
 use Rattle.shore_calls.proofs.GoingOn.{asking_is_inner, at_place, behind, lock_refusal_tells_nothing, never_waiting, page_fault_tells_nothing, permits, place_permits, some_and, still_quiet}
 use Rattle.shore_calls.proofs.Links.{GoesQuietly, IsLeft, absence_goes, locks_go, quietly_none, quietly_one, quietly_then, refusal_goes}
 use Rattle.shore_calls.proofs.LockedAnswers.{inner_under}
-use Rattle.shore_calls.proofs.Refusals.{known_absent, same_entry, tells_or_none}
+use Rattle.shore_calls.proofs.RefusalTells.{known_absent, same_entry, tells_or_none}
 use Rattle.shore_calls.proofs.ReplyLinks.{Takes, delete_takes, get_for_update_takes, get_takes, insert_takes, lock_takes, reply_goes, scan_takes, try_lock_takes, update_takes}
 use Rattle.shore_calls.proofs.Sessions.{is_txn_of, its_txn}
 use Rattle.shore_calls.proofs.TakenLocks.{moved}
 use Rattle.shore_calls.specs.CallHistories.{answered_under, txn_of}
-use Rattle.shore_calls.specs.CallSteps.{after_refusal, answered}
-use Rattle.shore_calls.specs.LockSteps.{AnswersBehind, GoesOn, LacksMemory, RefusesBehind, RefusesRead, behind_lock, behind_place, lock_outcome, on_conflict_of, place_outcome}
-use Rattle.shore_calls.specs.LockedStates.{IsSessionsState, entries_of_session_call}
+use Rattle.shore_calls.specs.StateChanges.{after_refusal, answered}
+use Rattle.shore_calls.specs.CallSteps.{AnswersBehind, GoesOn, LacksMemory, RefusesBehind, RefusesRead, behind_lock, behind_place, lock_outcome, on_conflict_of, place_outcome}
+use Rattle.shore_calls.specs.LockedStates.{IsSessionsState, entries_of_call}
 use Rattle.shore_calls.specs.States.{DoesNotWait, State}
 
 pub refused_left : (session : ℕ) (s : State) (f : Fault) → IsLeft session s (after_refusal f s)
@@ -247,12 +247,12 @@ module _ (g : Geometry) (found : List LogRecord) (es : List Entry) (session : �
           (placed_refusal l (has c lock asked done) mem (free c lock asked done) id c fault.Memory fault.Memory refl tt)))
           h.2
 
-      pub goes_on_passes : DoesNotWait s session → (c : Call) (step : Step) (new : State) → GoesOn g s a c step new → Passes s new (entries_of_session_call s session c step)
+      pub goes_on_passes : DoesNotWait s session → (c : Call) (step : Step) (new : State) → GoesOn g s a c step new → Passes s new (entries_of_call s session c step)
       goes_on_passes idle c (Done answer) new h =
           lock_first c h.1.0 new (answer_entry s c answer ∷ [])
           (answers_pass c h.1.0 h.1.1 h.1.2 answer new (subst (λ (l : State). AnswersBehind g l a c answer new) h.1.3 h.2))
       goes_on_passes idle c (Waits wait) new h =
-          subst (λ w. Passes s new (entries_of_session_call s session c (Waits w))) (sym h.4)
+          subst (λ w. Passes s new (entries_of_call s session c (Waits w))) (sym h.4)
           (lock_first c h.0 new []
           (quietly_none g session (behind_lock s a c h.0) new
           (inr (inr (record { txn = a; active = mem; of = of; idle = idle; call = c; lock = h.0; asked = h.2; at = h.1; is = h.5 })))))

@@ -18,9 +18,9 @@ use Rattle.shore_calls.proofs.AcquireAnswers.{IsLockFault, acquire_fault}
 use Rattle.shore_calls.proofs.Decided.{no_record_both}
 use Rattle.shore_calls.proofs.SessionInversions.{IsOwn, RefusedIn, insert_asks, refused_in}
 use Rattle.shore_calls.proofs.WrongRefusals.{IsBehind, IsEarly, RefusedWith, begin_fault, begin_refused, refused_behind, refused_early}
-use Rattle.shore_calls.specs.LockSteps.{Finds, HasPlace, RefusesBehind, RefusesEarly, RefusesId, RefusesRead, ServesTxn, behind_lock, behind_place, lock_outcome, on_conflict_of}
-use Rattle.shore_calls.specs.Refusals.{CanLog, FitsAt, IsPageFault}
-use Rattle.shore_calls.specs.SessionShapes.{ForItsTxn, store_lock, store_locked}
+use Rattle.shore_calls.specs.CallSteps.{Finds, HasPlace, RefusesBehind, RefusesEarly, RefusesId, RefusesRead, ServesTxn, behind_lock, behind_place, lock_outcome, on_conflict_of}
+use Rattle.shore_calls.specs.StateChanges.{CanLog, FitsAt, IsPageFault}
+use Rattle.shore_calls.specs.Shapes.{ForItsTxn, store_lock, store_locked}
 use Rattle.shore_calls.specs.States.{IsOfSession, State}
 
 -- ---- page faults

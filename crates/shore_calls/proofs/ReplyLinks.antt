@@ -30,7 +30,7 @@ use Rattle.shore_sessions.specs.UndoLists.{UndoList, undo_after}
 use Rattle.shore_sessions.specs.Views.{IsAmong}
 use Rattle.shore_calls.proofs.Links.{Goes, HasRoomAfter, Writes, same_room}
 use Rattle.shore_calls.proofs.Rooms.{cost_pushed}
-use Rattle.shore_calls.specs.CallSteps.{MayChange, answered}
+use Rattle.shore_calls.specs.StateChanges.{MayChange, answered}
 use Rattle.shore_calls.specs.States.{State, cost_of_log, log_room}
 
 as_many : (t : ℕ) (undo : UndoList) (xs : List SessionTxn) → length (with_undo t undo xs) ≡ length xs

@@ -29,13 +29,13 @@ use Rattle.shore_calls.specs.declared.step.Step.{Step}
 use Rattle.shore_calls.specs.declared.step.Step.TheVariants.{Done, Nothing, Refused, Waits}
 use Rattle.shore_calls.proofs.GoingOn.{goes_on_kept}
 use Rattle.shore_calls.proofs.LockedAnswers.{absence_told, refusal_told}
-use Rattle.shore_calls.proofs.Refusals.{tells_or_none}
+use Rattle.shore_calls.proofs.RefusalTells.{tells_or_none}
 use Rattle.shore_calls.proofs.Sessions.{AreSessionsAfter, event_keeps, its_txn}
 use Rattle.shore_calls.proofs.TakenLocks.{sessions_of, state_of}
 use Rattle.shore_calls.specs.CallHistories.{txn_of}
-use Rattle.shore_calls.specs.CallSteps.{committed}
-use Rattle.shore_calls.specs.LockSteps.{BeginStep, CommitStep, InnerStep, IsTooLong, RefusesEarly, RefusesGranule, SessionCallStep}
-use Rattle.shore_calls.specs.LockedStates.{IsSessionsState, entries_of_session_call}
+use Rattle.shore_calls.specs.StateChanges.{committed}
+use Rattle.shore_calls.specs.CallSteps.{BeginStep, CommitStep, InnerStep, IsTooLong, RefusesEarly, RefusesGranule, CallStep}
+use Rattle.shore_calls.specs.LockedStates.{IsSessionsState, entries_of_call}
 use Rattle.shore_calls.specs.States.{DoesNotWait, HasNoTxn, IsOfSession, State}
 
 module _ (g : Geometry) (found : List LogRecord) (es : List Entry) (s : State) (k : IsSessionsState found es s) (session : ℕ) where
@@ -56,25 +56,25 @@ module _ (g : Geometry) (found : List LogRecord) (es : List Entry) (s : State) (
             there;
       })
 
-  begin_kept : (step : Step) (new : State) → BeginStep s session step new → IsSessionsState found (es ++ entries_of_session_call s session call.Begin step) new
+  begin_kept : (step : Step) (new : State) → BeginStep s session step new → IsSessionsState found (es ++ entries_of_call s session call.Begin step) new
   begin_kept (Done answer) new h =
-      subst (IsSessionsState found (es ++ entries_of_session_call s session call.Begin (Done answer))) (sym h.4)
-      (subst (λ (x : Answer). IsSessionsState found (es ++ entries_of_session_call s session call.Begin (Done x)) (record s { sessions = txn_begun s.sessions session })) (sym h.3) (begun_state h.0))
+      subst (IsSessionsState found (es ++ entries_of_call s session call.Begin (Done answer))) (sym h.4)
+      (subst (λ (x : Answer). IsSessionsState found (es ++ entries_of_call s session call.Begin (Done x)) (record s { sessions = txn_begun s.sessions session })) (sym h.3) (begun_state h.0))
   begin_kept (Waits wait) new h = absurd h
   begin_kept (Refused f) new h =
-      subst (IsSessionsState found (es ++ entries_of_session_call s session call.Begin (Refused f))) (sym h.1)
+      subst (IsSessionsState found (es ++ entries_of_call s session call.Begin (Refused f))) (sym h.1)
       (refusal_told found es s k session call.Begin f (⊎_elim (λ one. subst TellsNothing (sym one.0) tt) (λ more. ⊎_elim (λ two. subst TellsNothing (sym two.0) tt) (λ three. subst TellsNothing (sym three.0) tt) more) h.0))
   begin_kept Nothing new h = absurd h
 
   -- ---- a commit
 
-  commit_kept : (a : SessionTxn) → IsOfSession s session a → (step : Step) (new : State) → CommitStep s a step new → IsSessionsState found (es ++ entries_of_session_call s session call.Commit step) new
+  commit_kept : (a : SessionTxn) → IsOfSession s session a → (step : Step) (new : State) → CommitStep s a step new → IsSessionsState found (es ++ entries_of_call s session call.Commit step) new
   commit_kept a mem (Done answer) new h = absurd h
   commit_kept a mem (Refused f) new h = absurd h
   commit_kept a mem Nothing new h = absurd h
   commit_kept a mem (Waits wait) new h =
-      subst (IsSessionsState found (es ++ entries_of_session_call s session call.Commit (Waits wait))) (sym h.1)
-      (subst (λ w. IsSessionsState found (es ++ entries_of_session_call s session call.Commit (Waits w)) (committed s a)) (sym h.0)
+      subst (IsSessionsState found (es ++ entries_of_call s session call.Commit (Waits wait))) (sym h.1)
+      (subst (λ w. IsSessionsState found (es ++ entries_of_call s session call.Commit (Waits w)) (committed s a)) (sym h.0)
       (state_of found es s k (es ++ Decided (decision.Commit (txn_of s.sessions session)) ∷ []) (committed s a)
       (subst (λ t. AreSessionsAfter (length found) (records_committed found) (es ++ Decided (decision.Commit t) ∷ []) (committed s a).sessions (committed s a).log)
       (sym (its_txn k.agree a session (inl mem.0) mem.1))
@@ -136,25 +136,25 @@ module _ (g : Geometry) (found : List LogRecord) (es : List Entry) (s : State) (
   -- ---- any call
 
   inner_kept : s.failed ≡ false → (a : SessionTxn) → IsOfSession s session a → DoesNotWait s session → (c : Call) (step : Step) (new : State) → InnerStep g s a c step new
-      → IsSessionsState found (es ++ entries_of_session_call s session c step) new
+      → IsSessionsState found (es ++ entries_of_call s session c step) new
   inner_kept running a mem idle c step new (inl h) =
-      subst (IsSessionsState found (es ++ entries_of_session_call s session c step)) (sym h.3)
-      (subst (λ (x : Step). IsSessionsState found (es ++ entries_of_session_call s session c x) s) (sym h.2) (early_kept a mem c h.0 h.1))
+      subst (IsSessionsState found (es ++ entries_of_call s session c step)) (sym h.3)
+      (subst (λ (x : Step). IsSessionsState found (es ++ entries_of_call s session c x) s) (sym h.2) (early_kept a mem c h.0 h.1))
   inner_kept running a mem idle c step new (inr (inl h)) =
       goes_on_kept g found es session a mem.1 s k mem.0 (k.locks.waits running a mem.0 (λ w m same. idle w m (same ∙ mem.1))) c step new h.1
   inner_kept running a mem idle c step new (inr (inr h)) =
-      subst (λ (x : Call). IsSessionsState found (es ++ entries_of_session_call s session x step) new) (sym h.0) (commit_kept a mem step new h.1)
+      subst (λ (x : Call). IsSessionsState found (es ++ entries_of_call s session x step) new) (sym h.0) (commit_kept a mem step new h.1)
 
-  refused_call : (c : Call) (step : Step) (new : State) (f : Fault) → TellsNothing f → step ≡ Refused f → new ≡ s → IsSessionsState found (es ++ entries_of_session_call s session c step) new
+  refused_call : (c : Call) (step : Step) (new : State) (f : Fault) → TellsNothing f → step ≡ Refused f → new ≡ s → IsSessionsState found (es ++ entries_of_call s session c step) new
   refused_call c step new f nothing is same =
-      subst (IsSessionsState found (es ++ entries_of_session_call s session c step)) (sym same)
-      (subst (λ (x : Step). IsSessionsState found (es ++ entries_of_session_call s session c x) s) (sym is) (refusal_told found es s k session c f nothing))
+      subst (IsSessionsState found (es ++ entries_of_call s session c step)) (sym same)
+      (subst (λ (x : Step). IsSessionsState found (es ++ entries_of_call s session c x) s) (sym is) (refusal_told found es s k session c f nothing))
 
-  pub session_call_kept : (c : Call) (step : Step) (new : State) → SessionCallStep g s session c step new → IsSessionsState found (es ++ entries_of_session_call s session c step) new
+  pub session_call_kept : (c : Call) (step : Step) (new : State) → CallStep g s session c step new → IsSessionsState found (es ++ entries_of_call s session c step) new
   session_call_kept c step new (inl h) = refused_call c step new fault.Memory tt h.0 h.1
   session_call_kept c step new (inr (inl h)) = refused_call c step new fault.Failed tt h.1 h.2
   session_call_kept c step new (inr (inr (inl h))) = refused_call c step new fault.Busy tt h.2 h.3
   session_call_kept c step new (inr (inr (inr (inl h)))) =
-      subst (λ (x : Call). IsSessionsState found (es ++ entries_of_session_call s session x step) new) (sym h.2) (begin_kept step new h.3)
+      subst (λ (x : Call). IsSessionsState found (es ++ entries_of_call s session x step) new) (sym h.2) (begin_kept step new h.3)
   session_call_kept c step new (inr (inr (inr (inr (inl h))))) = refused_call c step new fault.NoTransaction tt h.4 h.5
   session_call_kept c step new (inr (inr (inr (inr (inr h))))) = inner_kept h.0 h.2.0 h.2.1 h.1 c step new h.2.2

@@ -45,10 +45,9 @@ use Rattle.shore_calls.proofs.Decided.{IsOrdinary, OrNot, both, fits_or_not, gro
 use Rattle.shore_calls.proofs.LowestPlaces.{lowest_or_none}
 use Rattle.shore_calls.proofs.Sessions.{is_txn_of}
 use Rattle.shore_calls.specs.CallHistories.{IsRoomyState}
-use Rattle.shore_calls.specs.CallSteps.{ComesOfState, MayChange, answered, commit_waiting, committed, wait_refused}
-use Rattle.shore_calls.specs.LockSteps.{AnswersBehind, BeginStep, GoesOn, HasGranule, HasLocked, HasPlace, InnerStep, IsPlaceOf, MayAsk, RefusesBehind, RefusesEarly, RefusesGranule, RefusesId, RefusesLock, ResumesWait, ServesTxn, SessionCallStep, SessionResumeStep, behind_lock, behind_place, commit_ended, lock_outcome, lock_waiting, on_conflict_of, place_outcome, txn_count}
-use Rattle.shore_calls.specs.Refusals.{CanLog, FitsAt}
-use Rattle.shore_calls.specs.SessionEvents.{IsSessionCall, IsSessionsAfter}
+use Rattle.shore_calls.specs.StateChanges.{CanLog, ComesOfState, FitsAt, MayChange, answered, commit_waiting, committed, wait_refused}
+use Rattle.shore_calls.specs.CallSteps.{AnswersBehind, BeginStep, GoesOn, HasGranule, HasLocked, HasPlace, InnerStep, IsPlaceOf, MayAsk, RefusesBehind, RefusesEarly, RefusesGranule, RefusesId, RefusesLock, ResumesWait, ServesTxn, CallStep, ResumeStep, behind_lock, behind_place, commit_ended, lock_outcome, lock_waiting, on_conflict_of, place_outcome, txn_count}
+use Rattle.shore_calls.specs.Events.{IsServed, IsStateAfter}
 use Rattle.shore_calls.specs.SessionWaits.{IsCommitWait, IsLockWait}
 use Rattle.shore_calls.specs.States.{DoesNotWait, HasNoTxn, IsOfSession, State, Waiting, next_number, page_slots}
 
@@ -204,7 +203,7 @@ module _ (g : Geometry) (s : State) (roomy : IsRoomyState s) (a : SessionTxn) wh
 -- ---- calls
 
 abbrev pub SessionComesTo : Geometry → State → ℕ → Call → Type 0
-SessionComesTo g s session c = (step : Step) × (new : State) × SessionCallStep g s session c step new × ComesOfState step
+SessionComesTo g s session c = (step : Step) × (new : State) × CallStep g s session c step new × ComesOfState step
 
 module _ (g : Geometry) where
   -- the call may ask for its locks, or is refused before
@@ -242,7 +241,7 @@ module _ (g : Geometry) where
       (λ not. inr (fault.BadMode, inl (refl, not), tt))
       (cases_Bool (is_allowed (level_of at) mode))
 
-  asks_or_not : (c : Call) → IsSessionCall c → c ≢ call.Begin → c ≢ call.Commit → AsksOrNot c
+  asks_or_not : (c : Call) → IsServed c → c ≢ call.Begin → c ≢ call.Commit → AsksOrNot c
   asks_or_not call.Begin served other last = absurd (other refl)
   asks_or_not call.Commit served other last = absurd (last refl)
   asks_or_not (call.Get id) served other last = ⊎_elim (λ has. inl (has, (_, refl))) (λ h. inr h) (id_or_not id)
@@ -270,7 +269,7 @@ module _ (g : Geometry) where
   asks_or_not _ served other last = absurd served
 
 module _ (g : Geometry) (s : State) (session : ℕ) where
-  comes_refused : (c : Call) (f : Fault) → SessionCallStep g s session c (Refused f) s → IsOrdinary f → SessionComesTo g s session c
+  comes_refused : (c : Call) (f : Fault) → CallStep g s session c (Refused f) s → IsOrdinary f → SessionComesTo g s session c
   comes_refused c f h is = (Refused f, s, h, ordinary f is)
 
   module _ (running : s.failed ≡ false) (idle : DoesNotWait s session) where
@@ -298,20 +297,20 @@ module _ (g : Geometry) (s : State) (session : ℕ) where
       inner : (c : Call) (step : Step) (new : State) → InnerStep g s a c step new → ComesOfState step → SessionComesTo g s session c
       inner c step new h of = (step, new, inr (inr (inr (inr (inr (running, idle, (a, mine, h)))))), of)
 
-      asks : (c : Call) → IsSessionCall c → c ≢ call.Begin → c ≢ call.Commit → SessionComesTo g s session c
+      asks : (c : Call) → IsServed c → c ≢ call.Begin → c ≢ call.Commit → SessionComesTo g s session c
       asks c served other last =
           ⊎_elim
           (λ h. let goes = goes_somewhere g s roomy a c h.1.0 h.1.1 in inner c goes.0 goes.1 (inr (inl (h.0, goes.2))) goes.3)
           (λ h. inner c (Refused h.0) s (inl (h.0, h.1, refl, refl)) (ordinary h.0 h.2))
           (asks_or_not g c served other last)
 
-      in_txn : (c : Call) → IsSessionCall c → SessionComesTo g s session c
+      in_txn : (c : Call) → IsServed c → SessionComesTo g s session c
       in_txn call.Begin served = begins (Refused fault.AlreadyActive) s (inl (refl, (a, mine)), refl) (ordinary fault.AlreadyActive tt)
       in_txn call.Commit served = inner call.Commit (Waits (Durable (next_number s))) (committed s a) (inr (inr (refl, (refl, refl)))) tt
       in_txn c served = asks c served (λ e. cc) (λ e. cc)
 
-  module _ (found : List LogRecord) (es : List Entry) (k : IsSessionsAfter found es s) (roomy : IsRoomyState s) where
-    pub call_comes_to_something : (c : Call) → IsSessionCall c → SessionComesTo g s session c
+  module _ (found : List LogRecord) (es : List Entry) (k : IsStateAfter found es s) (roomy : IsRoomyState s) where
+    pub call_comes_to_something : (c : Call) → IsServed c → SessionComesTo g s session c
     call_comes_to_something c served = by s.failed refl
       where
         no_commit_waits : s.failed ≡ false → DoesNotWait s session → (a : SessionTxn) → IsAmong a s.sessions.committing → a.session ≡ session → ⊥
@@ -334,7 +333,7 @@ module _ (g : Geometry) (s : State) (session : ℕ) where
     -- ---- resumes
 
     abbrev pub ResumeComes : Type 0
-    ResumeComes = (step : Step) × (new : State) × SessionResumeStep g s session step new × ComesOfState step
+    ResumeComes = (step : Step) × (new : State) × ResumeStep g s session step new × ComesOfState step
 
     module _ (w : Waiting) (there : IsAmong w s.waiting) (of : w.session ≡ session) (running : s.failed ≡ false) where
       resumes : (wait : Wait) → w.wait ≡ wait → (step : Step) (new : State) → ResumesWait g s w wait step new → ComesOfState step → ResumeComes

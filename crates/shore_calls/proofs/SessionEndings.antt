@@ -13,8 +13,8 @@ use Rattle.shore_calls.specs.declared.step.Step.TheVariants.{Done, Nothing, Refu
 use Rattle.shore_calls.specs.declared.step.Wait.{Wait}
 use Rattle.shore_calls.specs.declared.step.Wait.TheVariants.{Durable, Lock}
 use Rattle.shore_calls.proofs.Elements.{waits_on}
-use Rattle.shore_calls.specs.CallSteps.{after_refusal, committed, wait_refused}
-use Rattle.shore_calls.specs.LockSteps.{AnswersBehind, GoesOn, InnerStep, RefusesBehind, ResumesWait, SessionCallStep, SessionResumeStep, behind_place, lock_waiting}
+use Rattle.shore_calls.specs.StateChanges.{after_refusal, committed, wait_refused}
+use Rattle.shore_calls.specs.CallSteps.{AnswersBehind, GoesOn, InnerStep, RefusesBehind, ResumesWait, CallStep, ResumeStep, behind_place, lock_waiting}
 use Rattle.shore_calls.specs.States.{DoesNotWait, IsOfSession, State, Waiting, next_number}
 
 -- ---- a wait begins
@@ -38,7 +38,7 @@ module _ (g : Geometry) (s : State) (session : ℕ) (c : Call) where
       number_of (Durable m) = m
       number_of (Lock at) = 0
 
-  pub its_commit : (n : ℕ) (new : State) → SessionCallStep g s session c (Waits (Durable n)) new → IsCommit s session c n new
+  pub its_commit : (n : ℕ) (new : State) → CallStep g s session c (Waits (Durable n)) new → IsCommit s session c n new
   its_commit n new (inl h) = let clash = h.0 in absurd cc
   its_commit n new (inr (inl h)) = let clash = h.1 in absurd cc
   its_commit n new (inr (inr (inl h))) = let clash = h.2 in absurd cc
@@ -59,7 +59,7 @@ module _ (g : Geometry) (s : State) (session : ℕ) (c : Call) where
       (inl (ap (λ n. record { session = n; call = call.Commit; wait = Durable (next_number s) }) of
       ∙ ap (λ (x : Call). record { session = session; call = x; wait = Durable (next_number s) }) (sym h.0) ∙ ap waits_with (sym h.1.0)))
 
-pub call_waits : (g : Geometry) (s new : State) (session : ℕ) (c : Call) (wait : Wait) → SessionCallStep g s session c (Waits wait) new
+pub call_waits : (g : Geometry) (s new : State) (session : ℕ) (c : Call) (wait : Wait) → CallStep g s session c (Waits wait) new
     → IsAmong (record { session = session; call = c; wait = wait }) new.waiting
 call_waits g s new session c wait (inl h) = let clash = h.0 in absurd cc
 call_waits g s new session c wait (inr (inl h)) = let clash = h.1 in absurd cc
@@ -68,7 +68,7 @@ call_waits g s new session c wait (inr (inr (inr (inl h)))) = absurd h.3
 call_waits g s new session c wait (inr (inr (inr (inr (inl h))))) = let clash = h.4 in absurd cc
 call_waits g s new session c wait (inr (inr (inr (inr (inr h))))) = inner_waits g s session c wait new h.2.0 h.2.1.1 h.2.2
 
-pub its_own_number : (g : Geometry) (s new : State) (session n : ℕ) (c : Call) → SessionCallStep g s session c (Waits (Durable n)) new → n ≡ next_number s
+pub its_own_number : (g : Geometry) (s new : State) (session n : ℕ) (c : Call) → CallStep g s session c (Waits (Durable n)) new → n ≡ next_number s
 its_own_number g s new session n c h = (its_commit g s session c n new h).own
 
 -- ---- a wait goes on
@@ -91,7 +91,7 @@ still_in g s new w (Lock at) wait m is h = ⊎_elim
     (λ free. let on = free.1 in subst (StillWaits w.session wait) (sym on.5) (lock_waiting h.0 w.call on.1, inl refl, h.1.1, sym on.4))
     h.2
 
-pub still_waits : (g : Geometry) (s new : State) (session : ℕ) (wait : Wait) → SessionResumeStep g s session (Waits wait) new → StillWaits session wait new
+pub still_waits : (g : Geometry) (s new : State) (session : ℕ) (wait : Wait) → ResumeStep g s session (Waits wait) new → StillWaits session wait new
 still_waits g s new session wait (inl h) = let clash = h.1 in absurd cc
 still_waits g s new session wait (inr h) =
     subst (λ n. StillWaits n wait new) h.2
@@ -164,13 +164,13 @@ refused_in g s new w (Lock at) f h = ⊎_elim
     (λ free. refusing_leaves g (wait_refused s w.session) h.0 w.call f new free.1)
     h.2
 
-pub resumed_waits_no_more : (g : Geometry) (s new : State) (session : ℕ) (answer : Answer) → SessionResumeStep g s session (Done answer) new → DoesNotWait new session
+pub resumed_waits_no_more : (g : Geometry) (s new : State) (session : ℕ) (answer : Answer) → ResumeStep g s session (Done answer) new → DoesNotWait new session
 resumed_waits_no_more g s new session answer (inl h) = let clash = h.1 in absurd cc
 resumed_waits_no_more g s new session answer (inr h) =
     subst (DoesNotWait new) h.2
     (others_wait s new h.0.session (⊎_elim (λ failed. let clash = failed.1 in absurd cc) (λ on. done_in g s new h.0 h.0.wait answer on.1) h.3))
 
-pub refused_resume_waits_no_more : (g : Geometry) (s new : State) (session : ℕ) (f : Fault) → SessionResumeStep g s session (Refused f) new → DoesNotWait new session
+pub refused_resume_waits_no_more : (g : Geometry) (s new : State) (session : ℕ) (f : Fault) → ResumeStep g s session (Refused f) new → DoesNotWait new session
 refused_resume_waits_no_more g s new session f (inl h) = let clash = h.1 in absurd cc
 refused_resume_waits_no_more g s new session f (inr h) =
     subst (DoesNotWait new) h.2

@@ -24,12 +24,13 @@ use Rattle.shore_calls.specs.declared.step.Step.{Step}
 use Rattle.shore_calls.specs.declared.step.Step.TheVariants.{Refused}
 use Rattle.shore_calls.specs.declared.step.Wait.{Wait}
 use Rattle.shore_calls.specs.declared.step.Wait.TheVariants.{Durable, Lock}
-use Rattle.shore_calls.specs.CallSteps.{after_refusal, wait_refused}
-use Rattle.shore_calls.specs.LockSteps.{BeginStep, GoesOn, InnerStep, RefusesBehind, RefusesEarly, RefusesGranule, RefusesId, RefusesLock, ResumesWait, SessionCallStep, SessionResumeStep, lock_outcome, on_conflict_of}
-use Rattle.shore_calls.specs.SessionEvents.{IsSessionsAfter}
+use Rattle.shore_calls.specs.StateChanges.{after_refusal, wait_refused}
+use Rattle.shore_calls.specs.CallSteps.{BeginStep, GoesOn, InnerStep, RefusesBehind, RefusesEarly, RefusesGranule, RefusesId, RefusesLock, ResumesWait, CallStep, ResumeStep, lock_outcome, on_conflict_of}
+use Rattle.shore_calls.specs.Events.{IsStateAfter}
 use Rattle.shore_calls.specs.States.{State, Waiting}
 
-abbrev IsHarmless : Fault → Type 0
+-- it is no failure
+abbrev pub IsHarmless : Fault → Type 0
 IsHarmless fault.Device = ⊥
 IsHarmless (fault.Damaged device offset) = ⊥
 IsHarmless _ = Unit {0}
@@ -69,7 +70,8 @@ granule_harmless g (granule.Record id) f h = id_harmless g id f h
 lock_harmless : (g : Geometry) (at : Granule) (mode : Mode) (f : Fault) → RefusesLock g at mode f → IsHarmless f
 lock_harmless g at mode f h = ⊎_elim (λ bad. subst IsHarmless (sym bad.0) tt) (λ other. granule_harmless g at f other.1) h
 
-early_harmless : (g : Geometry) (c : Call) (f : Fault) → RefusesEarly g c f → IsHarmless f
+-- nor is it a failure that refuses a call before its locks
+pub early_harmless : (g : Geometry) (c : Call) (f : Fault) → RefusesEarly g c f → IsHarmless f
 early_harmless g (call.Get id) f h = id_harmless g id f h
 early_harmless g (call.GetForUpdate id) f h = id_harmless g id f h
 early_harmless g (call.Insert store bytes) f h = ⊎_elim (λ long. subst IsHarmless (sym long.0) tt) (λ none. subst IsHarmless (sym none.1) tt) h
@@ -115,13 +117,13 @@ begin_fails : (s : State) (session : ℕ) (f : Fault) (new : State) → BeginSte
 begin_fails s session f new h = ⊎_elim (λ one. exactly f fault.AlreadyActive new one.0 tt)
     (λ more. ⊎_elim (λ two. exactly f fault.TooManyTransactions new two.0 tt) (λ three. exactly f fault.LogFull new three.0 tt) more) h.0
 
-module _ (g : Geometry) (found : List LogRecord) (es : List Entry) (s : State) (k : IsSessionsAfter found es s) where
+module _ (g : Geometry) (found : List LogRecord) (es : List Entry) (s : State) (k : IsStateAfter found es s) where
   inner_fails : (a : SessionTxn) → is_waiting a.txn s.locks.requests ≡ false → (c : Call) (f : Fault) (new : State) → InnerStep g s a c (Refused f) new → Fails f new
   inner_fails a quiet c f new (inl h) = refused_exactly f h.0 new h.2 (early_harmless g c h.0 h.1)
   inner_fails a quiet c f new (inr (inl h)) = on_fails g s a k.sessions.locks.orderly quiet c f new h.1
   inner_fails a quiet c f new (inr (inr h)) = absurd h.1
 
-  pub call_fails : (session : ℕ) (c : Call) (f : Fault) (new : State) → SessionCallStep g s session c (Refused f) new → Fails f new
+  pub call_fails : (session : ℕ) (c : Call) (f : Fault) (new : State) → CallStep g s session c (Refused f) new → Fails f new
   call_fails session c f new (inl h) = refused_exactly f fault.Memory new h.0 tt
   call_fails session c f new (inr (inl h)) = refused_exactly f fault.Failed new h.1 tt
   call_fails session c f new (inr (inr (inl h))) = refused_exactly f fault.Busy new h.2 tt
@@ -139,20 +141,20 @@ module _ (g : Geometry) (found : List LogRecord) (es : List Entry) (s : State) (
       (λ free. on_fails g (wait_refused s w.session) h.0 k.sessions.locks.orderly free.0 w.call f new free.1)
       h.2
 
-  pub resume_fails : (session : ℕ) (f : Fault) (new : State) → SessionResumeStep g s session (Refused f) new → Fails f new
+  pub resume_fails : (session : ℕ) (f : Fault) (new : State) → ResumeStep g s session (Refused f) new → Fails f new
   resume_fails session f new (inl h) = let clash = h.1 in absurd cc
   resume_fails session f new (inr h) = ⊎_elim (λ failed. refused_exactly f fault.Failed new failed.1 tt) (λ on. wait_fails h.0 h.0.wait f new on.1) h.3
 
   -- ---- a device, and a page
 
-  pub call_device_fails : (session : ℕ) (c : Call) (new : State) → SessionCallStep g s session c (Refused fault.Device) new → IsTrue new.failed
+  pub call_device_fails : (session : ℕ) (c : Call) (new : State) → CallStep g s session c (Refused fault.Device) new → IsTrue new.failed
   call_device_fails session c new h = ⊎_elim (λ none. absurd none) (λ failed. failed) (call_fails session c fault.Device new h)
 
-  pub call_damage_fails : (session : ℕ) (c : Call) (device : Device) (offset : ℕ) (new : State) → SessionCallStep g s session c (Refused (fault.Damaged device offset)) new → IsTrue new.failed
+  pub call_damage_fails : (session : ℕ) (c : Call) (device : Device) (offset : ℕ) (new : State) → CallStep g s session c (Refused (fault.Damaged device offset)) new → IsTrue new.failed
   call_damage_fails session c device offset new h = ⊎_elim (λ none. absurd none) (λ failed. failed) (call_fails session c (fault.Damaged device offset) new h)
 
-  pub resume_device_fails : (session : ℕ) (new : State) → SessionResumeStep g s session (Refused fault.Device) new → IsTrue new.failed
+  pub resume_device_fails : (session : ℕ) (new : State) → ResumeStep g s session (Refused fault.Device) new → IsTrue new.failed
   resume_device_fails session new h = ⊎_elim (λ none. absurd none) (λ failed. failed) (resume_fails session fault.Device new h)
 
-  pub resume_damage_fails : (session : ℕ) (device : Device) (offset : ℕ) (new : State) → SessionResumeStep g s session (Refused (fault.Damaged device offset)) new → IsTrue new.failed
+  pub resume_damage_fails : (session : ℕ) (device : Device) (offset : ℕ) (new : State) → ResumeStep g s session (Refused (fault.Damaged device offset)) new → IsTrue new.failed
   resume_damage_fails session device offset new h = ⊎_elim (λ none. absurd none) (λ failed. failed) (resume_fails session (fault.Damaged device offset) new h)

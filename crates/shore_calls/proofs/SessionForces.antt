@@ -18,8 +18,8 @@ use Rattle.shore_calls.proofs.Growing.{forced_grown, still_there}
 use Rattle.shore_calls.proofs.Links.{Goes, GoesBy, GoesQuietly, IsLeft, IsQuiet}
 use Rattle.shore_calls.proofs.SessionsWaiting.{goes_on_log}
 use Rattle.shore_calls.specs.CallHistories.{IsForced, IsPrefix, txn_of}
-use Rattle.shore_calls.specs.CallSteps.{committed}
-use Rattle.shore_calls.specs.LockSteps.{commit_ended}
+use Rattle.shore_calls.specs.StateChanges.{committed}
+use Rattle.shore_calls.specs.CallSteps.{commit_ended}
 use Rattle.shore_calls.specs.States.{State}
 
 -- no entry more

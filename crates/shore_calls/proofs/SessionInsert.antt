@@ -24,10 +24,9 @@ use Rattle.shore_sessions.proofs.Ids.{put_here}
 use Rattle.shore_sessions.specs.Sessions.{SessionTxn, txn_begun}
 use Rattle.shore_sessions.specs.UndoLists.{nothing_to_undo, with_before_image}
 use Rattle.shore_calls.specs.CallHistories.{IsOpened}
-use Rattle.shore_calls.specs.CallSteps.{Called, Forced, MayChange, Resumed, answered, commit_waiting, committed, with_durable}
-use Rattle.shore_calls.specs.LockSteps.{HasLocked, HasPlace, IsPlaceOf, behind_lock, behind_place, commit_ended}
-use Rattle.shore_calls.specs.Refusals.{FitsAt}
-use Rattle.shore_calls.specs.SessionEvents.{SessionEventMoves, SessionMovesMaking, entries_of_session_event}
+use Rattle.shore_calls.specs.Events.{Called, Forced, Resumed, EventMoves, MovesMaking, entries_of}
+use Rattle.shore_calls.specs.StateChanges.{FitsAt, MayChange, answered, commit_waiting, committed, with_durable}
+use Rattle.shore_calls.specs.CallSteps.{HasLocked, HasPlace, IsPlaceOf, behind_lock, behind_place, commit_ended}
 use Rattle.shore_calls.specs.States.{State}
 use Rattle.shore_calls.specs.WorkedRun.{first_id, first_page, one_insert, opened_empty}
 
@@ -110,7 +109,7 @@ module _ (g : Geometry) (stream_bytes : ℕ) (bytes : List ℕ) (store : HasStor
   may : MayChange with_place first_id (Some bytes) one_slot
   may = let before = ap image_cost nothing_there in record { fits = fits; logs = (omega arith, omega arith); grows = grows }
 
-  begins : SessionEventMoves g s0 (Called 1 call.Begin (Done (Began 1))) s1
+  begins : EventMoves g s0 (Called 1 call.Begin (Done (Began 1))) s1
   begins = (tt, inr (inr (inr (inl (refl, λ w m. absurd m, refl, (λ a y. ⊎_elim (λ m. absurd m) (λ m. absurd m) y, omega arith, ((omega arith, omega arith), omega arith), refl, refl))))))
 
   -- both locks are free
@@ -120,28 +119,28 @@ module _ (g : Geometry) (stream_bytes : ℕ) (bytes : List ℕ) (store : HasStor
   has_place : HasPlace g with_store a1 0 bytes first_id
   has_place = (place, refl)
 
-  inserts : SessionEventMoves g s1 (Called 1 (call.Insert 0 bytes) (Done (Inserted first_id))) s2
+  inserts : EventMoves g s1 (Called 1 (call.Insert 0 bytes) (Done (Inserted first_id))) s2
   inserts = (
     tt,
     inr (inr (inr (inr (inr (refl, λ w m. absurd m, (a1, (inl refl, refl), inr (inl ((short, store), (with_store, has_store, (first_id, has_place, refl, (one_slot, may, refl))))))))))),
   )
 
-  commits : SessionEventMoves g s2 (Called 1 call.Commit (Waits (Durable 2))) s3
+  commits : EventMoves g s2 (Called 1 call.Commit (Waits (Durable 2))) s3
   commits = (tt, inr (inr (inr (inr (inr (refl, λ w m. absurd m, (a2, (inl refl, refl), inr (inr (refl, (refl, refl))))))))))
 
-  forces : SessionEventMoves g s3 (Forced 2) s4
+  forces : EventMoves g s3 (Forced 2) s4
   forces = (omega arith, omega arith, refl)
 
-  answers : SessionEventMoves g s4 (Resumed 1 (Done Committed)) s5
+  answers : EventMoves g s4 (Resumed 1 (Done Committed)) s5
   answers = inr (commit_waiting 1 2, inl refl, refl, inr (refl, inr (omega arith, refl, (a2, inl refl, refl, refl))))
 
   abbrev made : List Entry
   made =
-      entries_of_session_event s0 (Called 1 call.Begin (Done (Began 1))) ++ entries_of_session_event s1 (Called 1 (call.Insert 0 bytes) (Done (Inserted first_id)))
-      ++ entries_of_session_event s2 (Called 1 call.Commit (Waits (Durable 2))) ++ entries_of_session_event s3 (Forced 2) ++ entries_of_session_event s4 (Resumed 1 (Done Committed)) ++ []
+      entries_of s0 (Called 1 call.Begin (Done (Began 1))) ++ entries_of s1 (Called 1 (call.Insert 0 bytes) (Done (Inserted first_id)))
+      ++ entries_of s2 (Called 1 call.Commit (Waits (Durable 2))) ++ entries_of s3 (Forced 2) ++ entries_of s4 (Resumed 1 (Done Committed)) ++ []
 
   pub session_comes_through : (last : State) × (made : List Entry) × IsOpened [] (opened_empty stream_bytes)
-      × SessionMovesMaking g (opened_empty stream_bytes) (one_insert bytes) last made
+      × MovesMaking g (opened_empty stream_bytes) (one_insert bytes) last made
       × (get last.sessions.records first_id ≡ Some bytes) × (acknowledged made ≡ decision.Commit 1 ∷ [])
   session_comes_through = (
     s5,

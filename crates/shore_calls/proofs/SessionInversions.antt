@@ -15,8 +15,8 @@ use Rattle.shore_calls.specs.declared.step.Step.{Step}
 use Rattle.shore_calls.specs.declared.step.Step.TheVariants.{Done, Refused, Waits}
 use Rattle.shore_calls.specs.declared.step.Wait.{Wait}
 use Rattle.shore_calls.specs.declared.step.Wait.TheVariants.{Durable, Lock}
-use Rattle.shore_calls.specs.LockSteps.{AnswersBehind, BeginStep, CommitStep, GoesOn, InnerStep, MayAsk, RefusesBehind, RefusesEarly, SessionCallStep, behind_lock, lock_outcome}
-use Rattle.shore_calls.specs.SessionShapes.{store_lock}
+use Rattle.shore_calls.specs.CallSteps.{AnswersBehind, BeginStep, CommitStep, GoesOn, InnerStep, MayAsk, RefusesBehind, RefusesEarly, CallStep, behind_lock, lock_outcome}
+use Rattle.shore_calls.specs.Shapes.{store_lock}
 use Rattle.shore_calls.specs.States.{DoesNotWait, IsOfSession, State}
 
 -- ---- clashes of steps
@@ -72,7 +72,7 @@ module _ (g : Geometry) (s : State) (a : SessionTxn) (c : Call) (new : State) wh
   }
 
 module _ (g : Geometry) (s new : State) (session : ℕ) where
-  pub answered_in : (c : Call) (answer : Answer) → c ≢ call.Begin → SessionCallStep g s session c (Done answer) new → AnsweredIn g s session c answer new
+  pub answered_in : (c : Call) (answer : Answer) → c ≢ call.Begin → CallStep g s session c (Done answer) new → AnsweredIn g s session c answer new
   answered_in c answer other (inl h) = absurd (no_done_refused answer fault.Memory h.0)
   answered_in c answer other (inr (inl h)) = absurd (no_done_refused answer fault.Failed h.1)
   answered_in c answer other (inr (inr (inl h))) = absurd (no_done_refused answer fault.Busy h.2)
@@ -86,7 +86,7 @@ module _ (g : Geometry) (s new : State) (session : ℕ) where
       inner (inr (inr x)) = absurd x.1
 
   -- a begin
-  pub begun_in : (answer : Answer) → SessionCallStep g s session call.Begin (Done answer) new → (s.failed ≡ false) × DoesNotWait s session × BeginStep s session (Done answer) new
+  pub begun_in : (answer : Answer) → CallStep g s session call.Begin (Done answer) new → (s.failed ≡ false) × DoesNotWait s session × BeginStep s session (Done answer) new
   begun_in answer (inl h) = absurd (no_done_refused answer fault.Memory h.0)
   begun_in answer (inr (inl h)) = absurd (no_done_refused answer fault.Failed h.1)
   begun_in answer (inr (inr (inl h))) = absurd (no_done_refused answer fault.Busy h.2)
@@ -100,7 +100,7 @@ module _ (g : Geometry) (s new : State) (session : ℕ) where
       no_begin_inside a step (inr (inr x)) = let clash = x.0 in cc
 
   -- whatever is answered, its session runs and does not wait
-  pub answered_running : (c : Call) (answer : Answer) → SessionCallStep g s session c (Done answer) new → (s.failed ≡ false) × DoesNotWait s session
+  pub answered_running : (c : Call) (answer : Answer) → CallStep g s session c (Done answer) new → (s.failed ≡ false) × DoesNotWait s session
   answered_running c answer (inl h) = absurd (no_done_refused answer fault.Memory h.0)
   answered_running c answer (inr (inl h)) = absurd (no_done_refused answer fault.Failed h.1)
   answered_running c answer (inr (inr (inl h))) = absurd (no_done_refused answer fault.Busy h.2)
@@ -118,7 +118,7 @@ module _ (g : Geometry) (s new : State) (session : ℕ) where
     pub of : IsOfSession s session txn
     pub how : (MayAsk g c × GoesOn g s txn c (Waits wait) new) ⊎ ((c ≡ call.Commit) × CommitStep s txn (Waits wait) new)
 
-  pub waits_in : (c : Call) (wait : Wait) → SessionCallStep g s session c (Waits wait) new → WaitsIn c wait
+  pub waits_in : (c : Call) (wait : Wait) → CallStep g s session c (Waits wait) new → WaitsIn c wait
   waits_in c wait (inl h) = absurd (no_waits_refused wait fault.Memory h.0)
   waits_in c wait (inr (inl h)) = absurd (no_waits_refused wait fault.Failed h.1)
   waits_in c wait (inr (inr (inl h))) = absurd (no_waits_refused wait fault.Busy h.2)
@@ -160,7 +160,7 @@ module _ (g : Geometry) (s new : State) (session : ℕ) where
     pub of : IsOfSession s session txn
     pub from : RefusedFrom g s txn c f new
 
-  pub refused_in : (c : Call) (f : Fault) → IsOwn f → c ≢ call.Begin → SessionCallStep g s session c (Refused f) new → RefusedIn c f
+  pub refused_in : (c : Call) (f : Fault) → IsOwn f → c ≢ call.Begin → CallStep g s session c (Refused f) new → RefusedIn c f
   refused_in c f own other (inl h) = absurd (not_own f fault.Memory own (λ x. x) (same_fault f fault.Memory h.0))
   refused_in c f own other (inr (inl h)) = absurd (not_own f fault.Failed own (λ x. x) (same_fault f fault.Failed h.1))
   refused_in c f own other (inr (inr (inl h))) = absurd (not_own f fault.Busy own (λ x. x) (same_fault f fault.Busy h.2))

@@ -1,5 +1,5 @@
 -- An insert finds its place among the slots that a page has, and those up to the first behind them that it can lock.
-use Rattle.std.proofs.Common.{◌≡◌, ◌≢◌, ◌⊎◌, inl, inr, ⊎_elim, ◌+◌, ◌-◌, ◌≤◌, ◌<◌, ℕ, zero, suc, List, Ok, Err, refl, sym, ap, subst, length, arith}
+use Rattle.std.proofs.Common.{◌≡◌, ◌≢◌, ◌⊎◌, inl, inr, ⊎_elim, ◌+◌, ◌-◌, ◌≤◌, ◌<◌, ℕ, zero, suc, List, Ok, Err, refl, sym, ap, subst, length, arith, [], ◌∷◌, ◌∙◌}
 use Rattle.std.specs.Prelude.{Result}
 use Rattle.shore_types.specs.declared.faults.Fault.{Fault}
 use Rattle.shore_types.specs.declared.ids.PageId.{PageId}
@@ -13,16 +13,27 @@ use Rattle.shore_path.specs.declared.answers.Acquired.TheVariants as acquire
 use Rattle.shore_path.specs.declared.answers.OnConflict.TheVariants.{Refuse}
 use Rattle.shore_path.specs.Walks.{acquired}
 use Rattle.shore_held.specs.CallLocks.{CanLockNow}
-use Rattle.shore_page.specs.Room.{Fits}
+use Rattle.shore_page.specs.Room.{Fits, claim_at}
 use Rattle.shore_page.specs.Slots.{Slot}
 use Rattle.shore_room.proofs.Pages.{length-slots}
 use Rattle.shore_room.specs.Choosing.{IsBefore}
 use Rattle.shore_room.specs.Claims.{rid_on}
 use Rattle.shore_sessions.proofs.Lists.{within_or_beyond}
-use Rattle.shore_calls.proofs.Places.{before_later, claim_behind}
 use Rattle.shore_calls.specs.CallHistories.{IsRoomyState}
-use Rattle.shore_calls.specs.LockSteps.{IsInReach, IsPlaceOf, ServesTxn}
+use Rattle.shore_calls.specs.CallSteps.{IsInReach, IsPlaceOf, ServesTxn}
 use Rattle.shore_calls.specs.States.{State, page_slots}
+
+pub claim_behind : (slots : List Slot) (i : ℕ) → length slots ≤ i → claim_at slots i ≡ 0
+claim_behind [] zero le = refl
+claim_behind [] (suc i) le = refl
+claim_behind (s ∷ slots) zero le = absurd (omega arith)
+claim_behind (s ∷ slots) (suc i) le = claim_behind slots i (omega arith)
+
+pub before_later : (a b c : Rid) → IsBefore a b → IsBefore b c → IsBefore a c
+before_later a b c (inl x) (inl y) = inl (omega arith)
+before_later a b c (inl x) (inr y) = inl (let e = y.0 in omega arith)
+before_later a b c (inr x) (inl y) = inl (let e = x.0 in omega arith)
+before_later a b c (inr x) (inr y) = inr (x.0 ∙ y.0, (let l = x.1 in let m = y.1 in omega arith))
 
 -- what fits farther behind fits nearer
 fits_between : (slots : List Slot) (slot near bytes : ℕ) → length slots ≤ near → near ≤ slot → Fits slots slot bytes → Fits slots near bytes

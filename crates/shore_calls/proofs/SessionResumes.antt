@@ -28,13 +28,13 @@ use Rattle.shore_calls.specs.declared.step.Wait.{Wait}
 use Rattle.shore_calls.specs.declared.step.Wait.TheVariants.{Durable, Lock}
 use Rattle.shore_calls.proofs.GoingOn.{asking_is_inner, goes_on_kept}
 use Rattle.shore_calls.proofs.LockedAnswers.{inner_under, refusal_told}
-use Rattle.shore_calls.proofs.Refusals.{same_entry}
+use Rattle.shore_calls.proofs.RefusalTells.{same_entry}
 use Rattle.shore_calls.proofs.Sessions.{AreSessionsAfter, event_keeps, its_txn, one_txn, then_quiet}
 use Rattle.shore_calls.proofs.TakenLocks.{sessions_of, state_of}
 use Rattle.shore_calls.specs.CallHistories.{txn_of}
-use Rattle.shore_calls.specs.CallSteps.{wait_refused}
-use Rattle.shore_calls.specs.LockSteps.{GoesOn, ResumesCall, ResumesWait, commit_ended}
-use Rattle.shore_calls.specs.LockedStates.{IsSessionsState, entries_of_resumed, entries_of_session_call, entries_of_wait, resumed_call}
+use Rattle.shore_calls.specs.StateChanges.{wait_refused}
+use Rattle.shore_calls.specs.CallSteps.{GoesOn, ResumesCall, ResumesWait, commit_ended}
+use Rattle.shore_calls.specs.LockedStates.{IsSessionsState, entries_of_resumed, entries_of_call, entries_of_wait, resumed_call}
 use Rattle.shore_calls.specs.States.{IsOfSession, State, Waiting, without_waiting}
 
 -- the calls of other sessions wait on
@@ -51,7 +51,7 @@ waits_stay session w (x ∷ ws) there other = by (x.session == session) refl the
 
 -- a call that goes on behind its lock adds what it would add if it were made now
 pub same_entries : (g : Geometry) (s : State) (a : SessionTxn) (session : ℕ) (c : Call) (at : Granule) (step : Step) (new : State) → GoesOn g s a c step new
-    → entries_of_session_call s session c step ≡ entries_of_resumed s (record { session = session; call = c; wait = Lock at }) step
+    → entries_of_call s session c step ≡ entries_of_resumed s (record { session = session; call = c; wait = Lock at }) step
 same_entries g s a session c at (Done answer) new h = ap (λ t. Exchanged session t (exchange c (Ok answer)) ∷ []) (inner_under s session c (asking_is_inner c h.1.0 h.1.1))
 same_entries g s a session c at (Waits wait) new h = ap (entries_of_wait s session) h.4
 same_entries g s a session c at (Refused f) new h = refl

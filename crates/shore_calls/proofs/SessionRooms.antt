@@ -20,10 +20,9 @@ use Rattle.shore_calls.proofs.Rooms.{as_log_room, within}
 use Rattle.shore_calls.proofs.Sessions.{AreSessionsAfter}
 use Rattle.shore_calls.proofs.TakenLocks.{sessions_of}
 use Rattle.shore_calls.specs.CallHistories.{IsRoomyState}
-use Rattle.shore_calls.specs.CallSteps.{ManagerEvent}
-use Rattle.shore_calls.specs.LockSteps.{SessionCallStep, SessionResumeStep}
-use Rattle.shore_calls.specs.LockedStates.{entries_of_session_call}
-use Rattle.shore_calls.specs.SessionEvents.{IsSessionsAfter, SessionEventMoves, entries_of_session_event, entries_of_session_resume}
+use Rattle.shore_calls.specs.Events.{IsStateAfter, ManagerEvent, EventMoves, entries_of, entries_of_resume}
+use Rattle.shore_calls.specs.CallSteps.{CallStep, ResumeStep}
+use Rattle.shore_calls.specs.LockedStates.{entries_of_call}
 use Rattle.shore_calls.specs.States.{State, cost_of_log, log_room}
 
 pub goes_roomy : (base : ℕ) (o : Records) (es : List Entry) (g : Geometry) (s new : State) (e : SessionEvent) → AreSessionsAfter base o es s.sessions s.log → IsRoomyState s → Goes g s e new
@@ -51,18 +50,18 @@ like_roomy s t h roomy = record {
       as_log_room t (log_room s) (subst (λ (x : Sessions). HasLogRoom LONGEST_FRAME x.active (log_room s)) (sym h.sessions) roomy.log) (ap cost_of_log (sym h.log)) (sym h.stream) (ap length (sym h.log));
 }
 
-module _ (found : List LogRecord) (es : List Entry) (s : State) (k : IsSessionsAfter found es s) (roomy : IsRoomyState s) where
+module _ (found : List LogRecord) (es : List Entry) (s : State) (k : IsStateAfter found es s) (roomy : IsRoomyState s) where
   comes_roomy : (g : Geometry) (new : State) (made : List Entry) → ComesBy g s new made → IsRoomyState new
   comes_roomy g new made h =
       like_roomy h.mid new h.after
       (by_roomy (length found) (records_committed found) es g h.start h.events h.mid made
       (like_keeps (length found) (records_committed found) es s h.start h.before (sessions_of found es s k.sessions)) (like_roomy s h.start h.before roomy) h.goes)
 
-  pub session_call_roomy : (g : Geometry) (session : ℕ) (c : Call) (step : Step) (new : State) → SessionCallStep g s session c step new → IsRoomyState new
-  session_call_roomy g session c step new h = comes_roomy g new (entries_of_session_call s session c step) (session_call_comes g found es s k session c step new h)
+  pub session_call_roomy : (g : Geometry) (session : ℕ) (c : Call) (step : Step) (new : State) → CallStep g s session c step new → IsRoomyState new
+  session_call_roomy g session c step new h = comes_roomy g new (entries_of_call s session c step) (session_call_comes g found es s k session c step new h)
 
-  pub session_resume_roomy : (g : Geometry) (session : ℕ) (step : Step) (new : State) → SessionResumeStep g s session step new → IsRoomyState new
-  session_resume_roomy g session step new h = comes_roomy g new (entries_of_session_resume s session step) (session_resume_comes g found es s k session step new h)
+  pub session_resume_roomy : (g : Geometry) (session : ℕ) (step : Step) (new : State) → ResumeStep g s session step new → IsRoomyState new
+  session_resume_roomy g session step new h = comes_roomy g new (entries_of_resume s session step) (session_resume_comes g found es s k session step new h)
 
-  pub session_event_roomy : (g : Geometry) (new : State) (e : ManagerEvent) → SessionEventMoves g s e new → IsRoomyState new
-  session_event_roomy g new e h = comes_roomy g new (entries_of_session_event s e) (session_event_comes g found es s k new e h)
+  pub session_event_roomy : (g : Geometry) (new : State) (e : ManagerEvent) → EventMoves g s e new → IsRoomyState new
+  session_event_roomy g new e h = comes_roomy g new (entries_of s e) (session_event_comes g found es s k new e h)

@@ -24,12 +24,11 @@ use Rattle.shore_sessions.specs.UndoLists.{nothing_to_undo, with_before_image}
 use Rattle.shore_calls.specs.declared.step.Step.TheVariants.{Done, Waits}
 use Rattle.shore_calls.specs.declared.step.Wait.TheVariants.{Durable, Lock}
 use Rattle.shore_calls.specs.CallHistories.{IsOpened}
-use Rattle.shore_calls.specs.CallSteps.{Called, Forced, MayChange, Resumed, answered, commit_waiting, committed, wait_refused, with_durable}
-use Rattle.shore_calls.specs.LockSteps.{IsPlaceOf, behind_lock, behind_place, commit_ended, lock_waiting}
-use Rattle.shore_calls.specs.Refusals.{FitsAt}
-use Rattle.shore_calls.specs.SessionEvents.{SessionEventMoves, SessionMovesMaking}
-use Rattle.shore_calls.specs.SessionRun.{told_to_two, two_sessions}
-use Rattle.shore_calls.specs.SessionShapes.{store_lock, store_locked}
+use Rattle.shore_calls.specs.Events.{Called, Forced, Resumed, EventMoves, MovesMaking}
+use Rattle.shore_calls.specs.StateChanges.{FitsAt, MayChange, answered, commit_waiting, committed, wait_refused, with_durable}
+use Rattle.shore_calls.specs.CallSteps.{IsPlaceOf, behind_lock, behind_place, commit_ended, lock_waiting}
+use Rattle.shore_calls.specs.WorkedSessions.{told_to_two, two_sessions}
+use Rattle.shore_calls.specs.Shapes.{store_lock, store_locked}
 use Rattle.shore_calls.specs.States.{DoesNotWait, HasNoTxn, MayBegin, State, Waiting}
 use Rattle.shore_calls.specs.WorkedRun.{first_id, first_page, opened_empty}
 
@@ -105,7 +104,7 @@ module _ (g : Geometry) (stream_bytes : ℕ) (bytes : List ℕ) (store : HasStor
     running = refl;
   }
 
-  begins_one : SessionEventMoves g opened (Called 1 call.Begin (Done (Began 1))) begun_one
+  begins_one : EventMoves g opened (Called 1 call.Begin (Done (Began 1))) begun_one
   begins_one = (tt, inr (inr (inr (inl (refl, λ w m. absurd m, refl, (λ a y. ⊎_elim (λ m. absurd m) (λ m. absurd m) y, omega arith, ((omega arith, omega arith), omega arith), refl, refl))))))
 
   fits : FitsAt inserting first_id (Some bytes)
@@ -133,7 +132,7 @@ module _ (g : Geometry) (stream_bytes : ℕ) (bytes : List ℕ) (store : HasStor
   may : MayChange (behind_place inserting one first_id) first_id (Some bytes) one_slot
   may = let before = ap image_cost nothing_there in record { fits = fits; logs = (omega arith, omega arith); grows = grows }
 
-  inserts : SessionEventMoves g begun_one (Called 1 insert (Done (Inserted first_id))) inserted
+  inserts : EventMoves g begun_one (Called 1 insert (Done (Inserted first_id))) inserted
   inserts = (
     tt,
     inr (inr (inr (inr (inr (
@@ -150,7 +149,7 @@ module _ (g : Geometry) (stream_bytes : ℕ) (bytes : List ℕ) (store : HasStor
     ))))),
   )
 
-  begins_two : SessionEventMoves g inserted (Called 2 call.Begin (Done (Began 2))) begun_two
+  begins_two : EventMoves g inserted (Called 2 call.Begin (Done (Began 2))) begun_two
   begins_two = (tt, inr (inr (inr (inl (refl, λ w m. absurd m, refl, (not_in, omega arith, room, refl, refl))))))
     where
       not_in : HasNoTxn inserted 2
@@ -159,7 +158,7 @@ module _ (g : Geometry) (stream_bytes : ℕ) (bytes : List ℕ) (store : HasStor
       room : MayBegin inserted
       room = let before = ap image_cost nothing_there in let cost = change_bytes first_id (get inserting.sessions.records first_id) (Some bytes) in ((omega arith, omega arith), omega arith)
 
-  waits_two : SessionEventMoves g begun_two (Called 2 (call.Get first_id) (Waits (Lock (Record first_id)))) two_waits
+  waits_two : EventMoves g begun_two (Called 2 (call.Get first_id) (Waits (Lock (Record first_id)))) two_waits
   waits_two = (
     tt,
     inr (inr (inr (inr (inr (
@@ -176,22 +175,22 @@ module _ (g : Geometry) (stream_bytes : ℕ) (bytes : List ℕ) (store : HasStor
     ))))),
   )
 
-  commits : SessionEventMoves g two_waits (Called 1 call.Commit (Waits (Durable 2))) one_commits
+  commits : EventMoves g two_waits (Called 1 call.Commit (Waits (Durable 2))) one_commits
   commits = (tt, inr (inr (inr (inr (inr (refl, idle, (one_changed, (inr (inl refl), refl), inr (inr (refl, (refl, refl))))))))))
     where
       idle : DoesNotWait two_waits 1
       idle w m is = ⊎_elim (λ same. let other = ap (λ (x : Waiting). x.session) same in omega arith) (λ later. absurd later) m
 
-  forces : SessionEventMoves g one_commits (Forced 2) forced
+  forces : EventMoves g one_commits (Forced 2) forced
   forces = (omega arith, omega arith, refl)
 
-  ends : SessionEventMoves g forced (Resumed 1 (Done Committed)) one_ended
+  ends : EventMoves g forced (Resumed 1 (Done Committed)) one_ended
   ends = inr (commit_waiting 1 2, inl refl, refl, inr (refl, inr (omega arith, refl, (one_changed, inl refl, refl, refl))))
 
   there : get two_goes_on.sessions.records first_id ≡ Some bytes
   there = put_here empty first_id (Some bytes)
 
-  goes_on : SessionEventMoves g one_ended (Resumed 2 (Done (Got bytes))) two_has
+  goes_on : EventMoves g one_ended (Resumed 2 (Done (Got bytes))) two_has
   goes_on =
       inr (
         lock_waiting two (call.Get first_id) (Record first_id),
@@ -208,7 +207,7 @@ module _ (g : Geometry) (stream_bytes : ℕ) (bytes : List ℕ) (store : HasStor
       )
 
   pub two_come_through : (last : State) × (made : List Entry) × IsOpened [] (opened_empty stream_bytes)
-      × SessionMovesMaking g (opened_empty stream_bytes) (two_sessions bytes) last made × (made ≡ told_to_two bytes)
+      × MovesMaking g (opened_empty stream_bytes) (two_sessions bytes) last made × (made ≡ told_to_two bytes)
   two_come_through = (
     two_has,
     told_to_two bytes,

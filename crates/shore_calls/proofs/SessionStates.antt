@@ -26,10 +26,10 @@ use Rattle.shore_calls.proofs.Sessions.{its_txn}
 use Rattle.shore_calls.proofs.SessionsWaiting.{commit_waits_on, ended_waits, failed_waits, quietly_waits, woken_waits}
 use Rattle.shore_calls.proofs.StepPassages.{CallPasses, ResumePasses, call_passes, resume_passes}
 use Rattle.shore_calls.specs.CallHistories.{IsForced, txn_of}
-use Rattle.shore_calls.specs.CallSteps.{Called, Forced, HasFailed, ManagerEvent, Resumed, wait_refused, with_durable, with_failure}
-use Rattle.shore_calls.specs.LockSteps.{ResumesCall, SessionCallStep, SessionResumeStep, txn_count}
-use Rattle.shore_calls.specs.LockedStates.{IsSessionsState, entries_of_resumed, entries_of_session_call}
-use Rattle.shore_calls.specs.SessionEvents.{IsSessionsAfter, SessionEventMoves, SessionEventsMove, SessionMovesMaking, call_waiting, entries_of_session_event, entries_of_session_resume, entries_of_waiting}
+use Rattle.shore_calls.specs.Events.{Called, Forced, HasFailed, IsStateAfter, ManagerEvent, Resumed, EventMoves, EventsMove, MovesMaking, call_waiting, entries_of, entries_of_resume, entries_of_waiting}
+use Rattle.shore_calls.specs.StateChanges.{wait_refused, with_durable, with_failure}
+use Rattle.shore_calls.specs.CallSteps.{ResumesCall, CallStep, ResumeStep, txn_count}
+use Rattle.shore_calls.specs.LockedStates.{IsSessionsState, entries_of_resumed, entries_of_call}
 use Rattle.shore_calls.specs.SessionWaits.{IsCommitWait, IsLockWait, WaitsOfSessions}
 use Rattle.shore_calls.specs.States.{IsOfSession, State, Waiting}
 
@@ -66,22 +66,22 @@ no_wait session (x ∷ ws) idle = by (x.session == session) refl (no_wait sessio
     by true e rest = absurd (idle x (inl refl) (eqb-true x.session session e))
     by false e rest = rest
 
-module _ (found : List LogRecord) (es : List Entry) (s : State) (k : IsSessionsAfter found es s) where
+module _ (found : List LogRecord) (es : List Entry) (s : State) (k : IsStateAfter found es s) where
   -- ---- calls
 
-  pub session_call_stays : (g : Geometry) (session : ℕ) (c : Call) (step : Step) (new : State) → SessionCallStep g s session c step new
-      → IsSessionsAfter found (es ++ entries_of_session_call s session c step) new
+  pub session_call_stays : (g : Geometry) (session : ℕ) (c : Call) (step : Step) (new : State) → CallStep g s session c step new
+      → IsStateAfter found (es ++ entries_of_call s session c step) new
   session_call_stays g session c step new h = by (call_passes g found es s k.sessions session c step new h)
     where
-      kept : IsSessionsState found (es ++ entries_of_session_call s session c step) new
+      kept : IsSessionsState found (es ++ entries_of_call s session c step) new
       kept = session_call_kept g found es s k.sessions session c step new h
 
-      by : CallPasses g s session new (entries_of_session_call s session c step) → IsSessionsAfter found (es ++ entries_of_session_call s session c step) new
+      by : CallPasses g s session new (entries_of_call s session c step) → IsStateAfter found (es ++ entries_of_call s session c step) new
       by (inl quiet) = record {
         sessions = kept;
-        waits = quietly_waits (length found) g session s new (entries_of_session_call s session c step) k.waits quiet;
-        forced = quietly_forced g session (length found) es s new (entries_of_session_call s session c step) quiet k.forced;
-        few = quietly_few g session s new (entries_of_session_call s session c step) quiet k.few;
+        waits = quietly_waits (length found) g session s new (entries_of_call s session c step) k.waits quiet;
+        forced = quietly_forced g session (length found) es s new (entries_of_call s session c step) quiet k.forced;
+        few = quietly_few g session s new (entries_of_call s session c step) quiet k.few;
       }
       by (inr commit) =
           let a = commit.txn in
@@ -96,8 +96,8 @@ module _ (found : List LogRecord) (es : List Entry) (s : State) (k : IsSessionsA
 
   -- ---- resumes
 
-  as_it_was : IsSessionsAfter found (es ++ []) s
-  as_it_was = subst (λ (made : List Entry). IsSessionsAfter found made s) (sym (append-nil es)) k
+  as_it_was : IsStateAfter found (es ++ []) s
+  as_it_was = subst (λ (made : List Entry). IsStateAfter found made s) (sym (append-nil es)) k
 
   -- the record of a commit that is answered is durable
   pub answer_is_durable : (w : Waiting) → IsAmong w s.waiting → (n : ℕ) → w.wait ≡ Durable n → n ≤ s.durable → (a : SessionTxn) → IsAmong a s.sessions.committing → a.session ≡ w.session
@@ -117,7 +117,7 @@ module _ (found : List LogRecord) (es : List Entry) (s : State) (k : IsSessionsA
       by (inr l) = let clash : Durable n ≡ Lock l.at = sym waits ∙ l.is in absurd cc
 
   pub session_resumed_stays : (g : Geometry) (w : Waiting) → IsAmong w s.waiting → (step : Step) (new : State) → ResumesCall g s w step new
-      → IsSessionsAfter found (es ++ entries_of_resumed s w step) new
+      → IsStateAfter found (es ++ entries_of_resumed s w step) new
   session_resumed_stays g w m step new h = by (resume_passes g found es s k.sessions w step new h)
     where
       kept : IsSessionsState found (es ++ entries_of_resumed s w step) new
@@ -129,8 +129,8 @@ module _ (found : List LogRecord) (es : List Entry) (s : State) (k : IsSessionsA
       none_committing (inl failed) running a mem of = absurd cc
       none_committing (inr lock) running a mem of = apart g found es s k.sessions a lock.2.0 mem lock.2.1.0 (lock.2.1.1 ∙ sym of)
 
-      by : ResumePasses g s w.session w.wait new (entries_of_resumed s w step) → IsSessionsAfter found (es ++ entries_of_resumed s w step) new
-      by (inl same) = subst (IsSessionsAfter found (es ++ entries_of_resumed s w step)) (sym same.0) (subst (λ made. IsSessionsAfter found (es ++ made) s) (sym same.1) as_it_was)
+      by : ResumePasses g s w.session w.wait new (entries_of_resumed s w step) → IsStateAfter found (es ++ entries_of_resumed s w step) new
+      by (inl same) = subst (IsStateAfter found (es ++ entries_of_resumed s w step)) (sym same.0) (subst (λ made. IsStateAfter found (es ++ made) s) (sym same.1) as_it_was)
       by (inr (inl on)) =
           let woken = wait_refused s w.session in
           record {
@@ -153,18 +153,18 @@ module _ (found : List LogRecord) (es : List Entry) (s : State) (k : IsSessionsA
             few = subst (λ (x : State). txn_count x ≤ MAX_TRANSACTIONS) (sym told.is) ((answer_goes g s a told.committing).few k.few);
           }
 
-  pub session_resume_stays : (g : Geometry) (session : ℕ) (step : Step) (new : State) → SessionResumeStep g s session step new
-      → IsSessionsAfter found (es ++ entries_of_session_resume s session step) new
+  pub session_resume_stays : (g : Geometry) (session : ℕ) (step : Step) (new : State) → ResumeStep g s session step new
+      → IsStateAfter found (es ++ entries_of_resume s session step) new
   session_resume_stays g session step new (inl h) =
-      subst (λ (o : Option Waiting). IsSessionsAfter found (es ++ entries_of_waiting s o step) new) (sym (no_wait session s.waiting h.0))
-      (subst (IsSessionsAfter found (es ++ [])) (sym h.2) as_it_was)
+      subst (λ (o : Option Waiting). IsStateAfter found (es ++ entries_of_waiting s o step) new) (sym (no_wait session s.waiting h.0))
+      (subst (IsStateAfter found (es ++ [])) (sym h.2) as_it_was)
   session_resume_stays g session step new (inr h) =
-      subst (λ (o : Option Waiting). IsSessionsAfter found (es ++ entries_of_waiting s o step) new) (sym (its_wait session s.waiting h.0 k.waits.once h.1 h.2))
+      subst (λ (o : Option Waiting). IsStateAfter found (es ++ entries_of_waiting s o step) new) (sym (its_wait session s.waiting h.0 k.waits.once h.1 h.2))
       (session_resumed_stays g h.0 h.1 step new h.3)
 
   -- ---- forces and failures
 
-  pub session_force_stays : (n : ℕ) → s.durable ≤ n → n ≤ length s.log → IsSessionsAfter found es (with_durable n s)
+  pub session_force_stays : (n : ℕ) → s.durable ≤ n → n ≤ length s.log → IsStateAfter found es (with_durable n s)
   session_force_stays n more within = record {
     sessions = record {
       sound = k.sessions.sound;
@@ -191,7 +191,7 @@ module _ (found : List LogRecord) (es : List Entry) (s : State) (k : IsSessionsA
     few = k.few;
   }
 
-  pub session_failure_stays : IsSessionsAfter found es (with_failure s)
+  pub session_failure_stays : IsStateAfter found es (with_failure s)
   session_failure_stays = record {
     sessions = record {
       sound = k.sessions.sound;
@@ -207,32 +207,32 @@ module _ (found : List LogRecord) (es : List Entry) (s : State) (k : IsSessionsA
 
 -- ---- any event, and events one after another
 
-pub session_event_stays : (g : Geometry) (found : List LogRecord) (es : List Entry) (s new : State) (e : ManagerEvent) → IsSessionsAfter found es s
-    → SessionEventMoves g s e new → IsSessionsAfter found (es ++ entries_of_session_event s e) new
+pub session_event_stays : (g : Geometry) (found : List LogRecord) (es : List Entry) (s new : State) (e : ManagerEvent) → IsStateAfter found es s
+    → EventMoves g s e new → IsStateAfter found (es ++ entries_of s e) new
 session_event_stays g found es s new (Called session c step) k h = session_call_stays found es s k g session c step new h.1
 session_event_stays g found es s new (Resumed session step) k h = session_resume_stays found es s k g session step new h
 session_event_stays g found es s new (Forced n) k h =
-    subst (IsSessionsAfter found (es ++ [])) (sym h.2) (as_it_was found es (with_durable n s) (session_force_stays found es s k n h.0 h.1))
-session_event_stays g found es s new HasFailed k h = subst (IsSessionsAfter found (es ++ [])) (sym h) (as_it_was found es (with_failure s) (session_failure_stays found es s k))
+    subst (IsStateAfter found (es ++ [])) (sym h.2) (as_it_was found es (with_durable n s) (session_force_stays found es s k n h.0 h.1))
+session_event_stays g found es s new HasFailed k h = subst (IsStateAfter found (es ++ [])) (sym h) (as_it_was found es (with_failure s) (session_failure_stays found es s k))
 
 pub session_events_stay : (g : Geometry) (found : List LogRecord) (es : List Entry) (s : State) (events : List ManagerEvent) (last : State) (made : List Entry)
-    → IsSessionsAfter found es s → SessionMovesMaking g s events last made → IsSessionsAfter found (es ++ made) last
+    → IsStateAfter found es s → MovesMaking g s events last made → IsStateAfter found (es ++ made) last
 session_events_stay g found es s [] last made k h =
-    subst (IsSessionsAfter found (es ++ made)) (sym h.0) (subst (λ made. IsSessionsAfter found (es ++ made) s) (sym h.1) (as_it_was found es s k))
+    subst (IsStateAfter found (es ++ made)) (sym h.0) (subst (λ made. IsStateAfter found (es ++ made) s) (sym h.1) (as_it_was found es s k))
 session_events_stay g found es s (e ∷ events) last made k h =
-    subst (λ made. IsSessionsAfter found made last) (append_assoc es (entries_of_session_event s e) h.1 ∙ ap (λ more. es ++ more) (sym h.4))
-    (session_events_stay g found (es ++ entries_of_session_event s e) h.0 events last h.1 (session_event_stays g found es s h.0 e k h.2) h.3)
+    subst (λ made. IsStateAfter found made last) (append_assoc es (entries_of s e) h.1 ∙ ap (λ more. es ++ more) (sym h.4))
+    (session_events_stay g found (es ++ entries_of s e) h.0 events last h.1 (session_event_stays g found es s h.0 e k h.2) h.3)
 
 -- ---- events make entries
 
-pub session_events_make : (g : Geometry) (s : State) (events : List ManagerEvent) (last : State) → SessionEventsMove g s events last
-    → (made : List Entry) × SessionMovesMaking g s events last made
+pub session_events_make : (g : Geometry) (s : State) (events : List ManagerEvent) (last : State) → EventsMove g s events last
+    → (made : List Entry) × MovesMaking g s events last made
 session_events_make g s [] last h = ([], (h, refl))
 session_events_make g s (e ∷ events) last h =
     let later = session_events_make g h.0 events last h.2 in
-    (entries_of_session_event s e ++ later.0, (h.0, later.0, h.1, later.1, refl))
+    (entries_of s e ++ later.0, (h.0, later.0, h.1, later.1, refl))
 
-pub session_entries_come : (g : Geometry) (s : State) (events : List ManagerEvent) (last : State) (made : List Entry) → SessionMovesMaking g s events last made
-    → SessionEventsMove g s events last
+pub session_entries_come : (g : Geometry) (s : State) (events : List ManagerEvent) (last : State) (made : List Entry) → MovesMaking g s events last made
+    → EventsMove g s events last
 session_entries_come g s [] last made h = h.0
 session_entries_come g s (e ∷ events) last made h = (h.0, h.2, session_entries_come g h.0 events last h.1 h.3)

@@ -1,5 +1,5 @@
 -- What the log of a state of sessions tells, and that transactions under way run alone.
-use Rattle.std.proofs.Common.{◌≡◌, ◌≢◌, ◌++◌, ◌∷◌, inl, inr, ℕ, List, [], refl, sym, ap, ◌∙◌, arith, length, map, take}
+use Rattle.std.proofs.Common.{◌≡◌, ◌≢◌, ◌++◌, ◌∷◌, inl, inr, ℕ, List, [], refl, sym, ap, ◌∙◌, arith, length, map, take, subst}
 use Rattle.std.specs.Prelude.{Contains, IsSome}
 use Rattle.std.proofs.lemmas.List.Elements.{All-weaker}
 use Rattle.std.specs.FinMap.{get}
@@ -17,7 +17,7 @@ use Rattle.shore_sessions.proofs.InPlace.{is_overlaid}
 use Rattle.shore_sessions.proofs.LogDecisions.{event_midst, prefix_decides}
 use Rattle.shore_sessions.proofs.Members.{txn_among}
 use Rattle.shore_sessions.proofs.Views.{read_of_write}
-use Rattle.shore_sessions.specs.LogPrefixes.{DecidesNothing, decisions_in}
+use Rattle.shore_sessions.specs.LogPrefixes.{DecidesNothing, decisions_in, LogDecides, TellsItsDecisions}
 use Rattle.shore_sessions.specs.LogTells.{records_committed}
 use Rattle.shore_sessions.specs.SessionSteps.{AnswerAbort, AnswerCommit, AppendCommit, BeginTxn, GiveReply, MoveLocks, RefuseCall, SessionEvent, entries_by}
 use Rattle.shore_sessions.specs.Sessions.{SessionTxn, txns_of}
@@ -31,17 +31,23 @@ use Rattle.shore_calls.proofs.SessionEndings.{its_commit}
 use Rattle.shore_calls.proofs.SessionStates.{session_call_stays}
 use Rattle.shore_calls.proofs.StepPassages.{CallPasses, Commits, ResumePasses, call_passes, resume_passes}
 use Rattle.shore_calls.proofs.TakenLocks.{sessions_of}
-use Rattle.shore_calls.proofs.Telling.{whole_told}
 use Rattle.shore_calls.specs.declared.step.Step.{Step}
 use Rattle.shore_calls.specs.declared.step.Step.TheVariants.{Done, Nothing, Refused, Waits}
 use Rattle.shore_calls.specs.declared.step.Wait.TheVariants.{Durable, Lock}
 use Rattle.shore_model.specs.declared.calls.Call.{Call}
 use Rattle.shore_calls.specs.CallHistories.{KeepsDurable, txn_of}
-use Rattle.shore_calls.specs.CallSteps.{wait_refused}
-use Rattle.shore_calls.specs.LockSteps.{SessionCallStep, SessionResumeStep}
-use Rattle.shore_calls.specs.LockedStates.{entries_of_resumed, entries_of_session_call}
-use Rattle.shore_calls.specs.SessionEvents.{IsSessionsAfter}
+use Rattle.shore_calls.specs.StateChanges.{wait_refused}
+use Rattle.shore_calls.specs.CallSteps.{CallStep, ResumeStep}
+use Rattle.shore_calls.specs.LockedStates.{entries_of_resumed, entries_of_call}
+use Rattle.shore_calls.specs.Events.{IsStateAfter}
 use Rattle.shore_calls.specs.States.{State}
+use Rattle.std.proofs.Math.Seq.{take-length}
+
+-- a log that has just the decisions of the entries tells their serial records
+pub whole_told : (base : ℕ) (o : Records) (es : List Entry) (log : List LogRecord) → LogDecides base o es log → records_committed log ≡ serial_after o es
+whole_told base o es log d =
+    subst (TellsItsDecisions base o (written_by es)) (take-length log) (d.prefixes (length log) d.long (omega arith)) ∙ ap (serial (written_by es) o)
+    (sym d.all)
 
 abbrev IsDecided : Entry → Type 0
 IsDecided (Decided d) = Unit {0}
@@ -75,7 +81,7 @@ pub quietly_telling_none : (base : ℕ) (o : Records) (es : List Entry) (g : Geo
 quietly_telling_none base o es g session s new made k h =
     ap records_committed (left_like session h.mid new h.left).log ∙ by_telling_none base o es g s h.events h.mid made k h.quiet h.goes
 
-module _ (found : List LogRecord) (es : List Entry) (s : State) (k : IsSessionsAfter found es s) where
+module _ (found : List LogRecord) (es : List Entry) (s : State) (k : IsStateAfter found es s) where
   pub sessions_told : records_committed s.log ≡ serial_after (records_committed found) es
   sessions_told = whole_told (length found) (records_committed found) es s.log k.sessions.decides
 
@@ -93,7 +99,7 @@ module _ (found : List LogRecord) (es : List Entry) (s : State) (k : IsSessionsA
       sees.view id (read_of_write s.sessions.held a.txn id (sees.locked id some)) ∙ ap (λ R. get (overlay R (written_by es a.txn)) id) (sym sessions_told)
 
   -- a Commit tells what its transaction has written
-  pub commit_tells : (session : ℕ) (new : State) (made : List Entry) → IsSessionsAfter found (es ++ made) new → Commits s session new made
+  pub commit_tells : (session : ℕ) (new : State) (made : List Entry) → IsStateAfter found (es ++ made) new → Commits s session new made
       → records_committed new.log ≡ overlay (records_committed s.log) (written_by es (txn_of s.sessions session))
   commit_tells session new made after h =
       let its = its_txn k.sessions.agree h.txn session (inl h.of.0) h.of.1 in
@@ -110,11 +116,11 @@ module _ (found : List LogRecord) (es : List Entry) (s : State) (k : IsSessionsA
   -- ---- steps
 
   -- what is no commit tells nothing
-  pub session_call_tells_none : (g : Geometry) (session : ℕ) (c : Call) (step : Step) (new : State) → SessionCallStep g s session c step new → ((n : ℕ) → step ≢ Waits (Durable n))
+  pub session_call_tells_none : (g : Geometry) (session : ℕ) (c : Call) (step : Step) (new : State) → CallStep g s session c step new → ((n : ℕ) → step ≢ Waits (Durable n))
       → records_committed new.log ≡ records_committed s.log
   session_call_tells_none g session c step new h other = by (call_passes g found es s k.sessions session c step new h)
     where
-      none_decided : (step : Step) (d : Entry) → ((n : ℕ) → step ≢ Waits (Durable n)) → IsDecided d → entries_of_session_call s session c step ≡ d ∷ [] → ⊥
+      none_decided : (step : Step) (d : Entry) → ((n : ℕ) → step ≢ Waits (Durable n)) → IsDecided d → entries_of_call s session c step ≡ d ∷ [] → ⊥
       none_decided (Done answer) (Decided d) other is e = cc
       none_decided (Refused f) (Decided d) other is e = cc
       none_decided (Waits (Durable n)) d other is e = other n refl
@@ -122,11 +128,11 @@ module _ (found : List LogRecord) (es : List Entry) (s : State) (k : IsSessionsA
       none_decided Nothing d other is e = cc
       none_decided step (Exchanged n t x) other is e = absurd is
 
-      by : CallPasses g s session new (entries_of_session_call s session c step) → records_committed new.log ≡ records_committed s.log
-      by (inl quiet) = quietly_telling_none (length found) (records_committed found) es g session s new (entries_of_session_call s session c step) (sessions_of found es s k.sessions) quiet
+      by : CallPasses g s session new (entries_of_call s session c step) → records_committed new.log ≡ records_committed s.log
+      by (inl quiet) = quietly_telling_none (length found) (records_committed found) es g session s new (entries_of_call s session c step) (sessions_of found es s k.sessions) quiet
       by (inr commit) = absurd (none_decided step (Decided (decision.Commit (txn_of s.sessions session))) other tt commit.entries)
 
-  pub resume_tells_none : (g : Geometry) (session : ℕ) (step : Step) (new : State) → SessionResumeStep g s session step new → records_committed new.log ≡ records_committed s.log
+  pub resume_tells_none : (g : Geometry) (session : ℕ) (step : Step) (new : State) → ResumeStep g s session step new → records_committed new.log ≡ records_committed s.log
   resume_tells_none g session step new (inl h) = ap (λ (x : State). records_committed x.log) h.2
   resume_tells_none g session step new (inr h) = by (resume_passes g found es s k.sessions h.0 step new h.3)
     where
@@ -136,7 +142,7 @@ module _ (found : List LogRecord) (es : List Entry) (s : State) (k : IsSessionsA
           quietly_telling_none (length found) (records_committed found) es g h.0.session (wait_refused s h.0.session) new (entries_of_resumed s h.0 step) (sessions_of found es s k.sessions) on.on
       by (inr (inr told)) = ap (λ (x : State). records_committed x.log) told.is
 
-  pub call_tells : (g : Geometry) (session n : ℕ) (c : Call) (new : State) → SessionCallStep g s session c (Waits (Durable n)) new
+  pub call_tells : (g : Geometry) (session n : ℕ) (c : Call) (new : State) → CallStep g s session c (Waits (Durable n)) new
       → records_committed new.log ≡ overlay (records_committed s.log) (written_by es (txn_of s.sessions session))
   call_tells g session n c new h =
       let commit = its_commit g s session c n new h in

@@ -23,8 +23,8 @@ use Rattle.shore_calls.proofs.Prefixes.{prefix_on, whole_prefix}
 use Rattle.shore_calls.proofs.SessionResumes.{waits_stay}
 use Rattle.shore_calls.proofs.Sessions.{one_txn}
 use Rattle.shore_calls.specs.CallHistories.{IsPrefix}
-use Rattle.shore_calls.specs.CallSteps.{commit_waiting, committed, wait_refused, with_failure}
-use Rattle.shore_calls.specs.LockSteps.{commit_ended, lock_waiting}
+use Rattle.shore_calls.specs.StateChanges.{commit_waiting, committed, wait_refused, with_failure}
+use Rattle.shore_calls.specs.CallSteps.{commit_ended, lock_waiting}
 use Rattle.shore_calls.specs.LockedStates.{IsSessionsState}
 use Rattle.shore_calls.specs.SessionWaits.{IsCommitWait, IsLockWait, WaitsOfSessions}
 use Rattle.shore_calls.specs.States.{DoesNotWait, State, Waiting, next_number}

@@ -25,13 +25,13 @@ use Rattle.shore_calls.specs.declared.step.Wait.TheVariants.{Durable, Lock}
 use Rattle.shore_calls.proofs.Elements.{waits_on}
 use Rattle.shore_calls.proofs.Links.{GoesQuietly, begin_goes, quietly_one}
 use Rattle.shore_calls.proofs.Passing.{absence_passes, goes_on_passes, told_passes}
-use Rattle.shore_calls.proofs.Refusals.{tells_or_none}
+use Rattle.shore_calls.proofs.RefusalTells.{tells_or_none}
 use Rattle.shore_calls.proofs.SessionCalls.{names_no_slot}
 use Rattle.shore_calls.proofs.SessionResumes.{same_entries, woken}
 use Rattle.shore_calls.specs.CallHistories.{txn_of}
-use Rattle.shore_calls.specs.CallSteps.{committed, wait_refused}
-use Rattle.shore_calls.specs.LockSteps.{BeginStep, CommitStep, InnerStep, RefusesEarly, ResumesCall, ResumesWait, SessionCallStep, commit_ended}
-use Rattle.shore_calls.specs.LockedStates.{IsSessionsState, entries_of_resumed, entries_of_session_call, resumed_call}
+use Rattle.shore_calls.specs.StateChanges.{committed, wait_refused}
+use Rattle.shore_calls.specs.CallSteps.{BeginStep, CommitStep, InnerStep, RefusesEarly, ResumesCall, ResumesWait, CallStep, commit_ended}
+use Rattle.shore_calls.specs.LockedStates.{IsSessionsState, entries_of_resumed, entries_of_call, resumed_call}
 use Rattle.shore_calls.specs.States.{DoesNotWait, IsOfSession, State, Waiting}
 
 -- ---- calls
@@ -48,10 +48,10 @@ abbrev pub CallPasses : Geometry → State → ℕ → State → List Entry → 
 CallPasses g s session new made = GoesQuietly g session s new made ⊎ Commits s session new made
 
 module _ (g : Geometry) (found : List LogRecord) (es : List Entry) (s : State) (k : IsSessionsState found es s) (session : ℕ) where
-  begin_passes : (step : Step) (new : State) → BeginStep s session step new → GoesQuietly g session s new (entries_of_session_call s session call.Begin step)
+  begin_passes : (step : Step) (new : State) → BeginStep s session step new → GoesQuietly g session s new (entries_of_call s session call.Begin step)
   begin_passes (Done answer) new h =
-      subst (λ (n : State). GoesQuietly g session s n (entries_of_session_call s session call.Begin (Done answer))) (sym h.4)
-      (subst (λ (x : Answer). GoesQuietly g session s (record s { sessions = txn_begun s.sessions session }) (entries_of_session_call s session call.Begin (Done x))) (sym h.3)
+      subst (λ (n : State). GoesQuietly g session s n (entries_of_call s session call.Begin (Done answer))) (sym h.4)
+      (subst (λ (x : Answer). GoesQuietly g session s (record s { sessions = txn_begun s.sessions session }) (entries_of_call s session call.Begin (Done x))) (sym h.3)
       (quietly_one g session s (BeginTxn session) (record s { sessions = txn_begun s.sessions session }) (record s { sessions = txn_begun s.sessions session }) tt
       (begin_goes g s session h.0 h.1 h.2) (inl refl)))
   begin_passes (Waits wait) new h = absurd h
@@ -61,9 +61,9 @@ module _ (g : Geometry) (found : List LogRecord) (es : List Entry) (s : State) (
   begin_passes Nothing new h = absurd h
 
   commit_passes : (a : SessionTxn) → IsOfSession s session a → DoesNotWait s session → (step : Step) (new : State) → CommitStep s a step new
-      → Commits s session new (entries_of_session_call s session call.Commit step)
+      → Commits s session new (entries_of_call s session call.Commit step)
   commit_passes a mem idle (Waits wait) new h =
-      record { txn = a; of = mem; idle = idle; is = h.1; entries = ap (λ w. entries_of_session_call s session call.Commit (Waits w)) h.0 }
+      record { txn = a; of = mem; idle = idle; is = h.1; entries = ap (λ w. entries_of_call s session call.Commit (Waits w)) h.0 }
   commit_passes a mem idle (Done answer) new h = absurd h
   commit_passes a mem idle (Refused f) new h = absurd h
   commit_passes a mem idle Nothing new h = absurd h
@@ -79,25 +79,25 @@ module _ (g : Geometry) (found : List LogRecord) (es : List Entry) (s : State) (
       (tells_or_none f)
 
   inner_passes : s.failed ≡ false → (a : SessionTxn) → IsOfSession s session a → DoesNotWait s session → (c : Call) (step : Step) (new : State) → InnerStep g s a c step new
-      → CallPasses g s session new (entries_of_session_call s session c step)
+      → CallPasses g s session new (entries_of_call s session c step)
   inner_passes running a mem idle c step new (inl h) =
-      inl (subst (λ (n : State). GoesQuietly g session s n (entries_of_session_call s session c step)) (sym h.3)
-      (subst (λ (x : Step). GoesQuietly g session s s (entries_of_session_call s session c x)) (sym h.2) (early_passes a mem c h.0 h.1)))
+      inl (subst (λ (n : State). GoesQuietly g session s n (entries_of_call s session c step)) (sym h.3)
+      (subst (λ (x : Step). GoesQuietly g session s s (entries_of_call s session c x)) (sym h.2) (early_passes a mem c h.0 h.1)))
   inner_passes running a mem idle c step new (inr (inl h)) =
       inl (goes_on_passes g found es session a mem.1 s k mem.0 (k.locks.waits running a mem.0 (λ w m same. idle w m (same ∙ mem.1))) idle c step new h.1)
   inner_passes running a mem idle c step new (inr (inr h)) =
-      inr (subst (λ (x : Call). Commits s session new (entries_of_session_call s session x step)) (sym h.0) (commit_passes a mem idle step new h.1))
+      inr (subst (λ (x : Call). Commits s session new (entries_of_call s session x step)) (sym h.0) (commit_passes a mem idle step new h.1))
 
-  refused_passes : (c : Call) (step : Step) (new : State) (f : Fault) → TellsNothing f → step ≡ Refused f → new ≡ s → GoesQuietly g session s new (entries_of_session_call s session c step)
+  refused_passes : (c : Call) (step : Step) (new : State) (f : Fault) → TellsNothing f → step ≡ Refused f → new ≡ s → GoesQuietly g session s new (entries_of_call s session c step)
   refused_passes c step new f nothing is same =
-      subst (λ (x : Step). GoesQuietly g session s new (entries_of_session_call s session c x)) (sym is) (told_passes g found es session s new c f nothing (inl same))
+      subst (λ (x : Step). GoesQuietly g session s new (entries_of_call s session c x)) (sym is) (told_passes g found es session s new c f nothing (inl same))
 
-  pub call_passes : (c : Call) (step : Step) (new : State) → SessionCallStep g s session c step new → CallPasses g s session new (entries_of_session_call s session c step)
+  pub call_passes : (c : Call) (step : Step) (new : State) → CallStep g s session c step new → CallPasses g s session new (entries_of_call s session c step)
   call_passes c step new (inl h) = inl (refused_passes c step new fault.Memory tt h.0 h.1)
   call_passes c step new (inr (inl h)) = inl (refused_passes c step new fault.Failed tt h.1 h.2)
   call_passes c step new (inr (inr (inl h))) = inl (refused_passes c step new fault.Busy tt h.2 h.3)
   call_passes c step new (inr (inr (inr (inl h)))) =
-      inl (subst (λ (x : Call). GoesQuietly g session s new (entries_of_session_call s session x step)) (sym h.2) (begin_passes step new h.3))
+      inl (subst (λ (x : Call). GoesQuietly g session s new (entries_of_call s session x step)) (sym h.2) (begin_passes step new h.3))
   call_passes c step new (inr (inr (inr (inr (inl h))))) = inl (refused_passes c step new fault.NoTransaction tt h.4 h.5)
   call_passes c step new (inr (inr (inr (inr (inr h))))) = inner_passes h.0 h.2.0 h.2.1 h.1 c step new h.2.2
 

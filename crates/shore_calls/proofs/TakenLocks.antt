@@ -22,7 +22,7 @@ use Rattle.shore_sessions.specs.SessionSteps.{MoveLocks, StepsTo}
 use Rattle.shore_sessions.specs.Sessions.{SessionTxn, locks_moved}
 use Rattle.shore_sessions.specs.Views.{IsAmong}
 use Rattle.shore_calls.proofs.Sessions.{AreSessionsAfter, event_keeps}
-use Rattle.shore_calls.specs.LockSteps.{lock_waiting, with_requests}
+use Rattle.shore_calls.specs.CallSteps.{lock_waiting, with_requests}
 use Rattle.shore_calls.specs.LockedStates.{HasTrueLocks, IsSessionsState}
 use Rattle.shore_calls.specs.States.{DoesNotWait, State}
 

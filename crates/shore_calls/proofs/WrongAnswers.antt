@@ -27,10 +27,9 @@ use Rattle.shore_sessions.specs.Views.{IsAmong}
 use Rattle.shore_calls.specs.declared.step.Step.TheVariants.{Done}
 use Rattle.shore_calls.proofs.Decided.{both_ways, no_record_both}
 use Rattle.shore_calls.proofs.SessionInversions.{AnsweredFrom, AnsweredIn, answered_in, answered_running, asks_no_begin, begun_in, insert_asks, same_lock}
-use Rattle.shore_calls.specs.CallSteps.{MayChange, answered}
-use Rattle.shore_calls.specs.LockSteps.{AnswersBehind, HasPlace, ServesTxn, SessionCallStep, behind_lock, behind_place, lock_outcome, place_outcome, txn_count}
-use Rattle.shore_calls.specs.Refusals.{CanLog, FitsAt}
-use Rattle.shore_calls.specs.SessionShapes.{ForItsTxn, store_locked}
+use Rattle.shore_calls.specs.StateChanges.{CanLog, FitsAt, MayChange, answered}
+use Rattle.shore_calls.specs.CallSteps.{AnswersBehind, HasPlace, ServesTxn, CallStep, behind_lock, behind_place, lock_outcome, place_outcome, txn_count}
+use Rattle.shore_calls.specs.Shapes.{ForItsTxn, store_locked}
 use Rattle.shore_calls.specs.States.{HasNoTxn, IsInTxn, MayBegin, State, Waiting}
 
 same_bytes : (x y : List ℕ) → Got x ≡ Got y → x ≡ y
@@ -68,7 +67,7 @@ module _ (g : Geometry) (s new : State) (a : SessionTxn) where
 
 module _ (g : Geometry) (s new : State) (session : ℕ) where
   abbrev Answered : Call → Answer → Type 0
-  Answered c answer = SessionCallStep g s session c (Done answer) new
+  Answered c answer = CallStep g s session c (Done answer) new
 
   got : (id : Rid) (answer : Answer) → Answered (call.Get id) answer → AnsweredIn g s session (call.Get id) answer new
   got id answer h = answered_in g s new session (call.Get id) answer (λ e. cc) h

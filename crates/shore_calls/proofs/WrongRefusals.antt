@@ -16,8 +16,8 @@ use Rattle.shore_calls.specs.declared.step.Step.TheVariants.{Refused}
 use Rattle.shore_calls.proofs.AcquireAnswers.{IsLockFault, acquire_fault}
 use Rattle.shore_calls.proofs.Decided.{both_ways}
 use Rattle.shore_calls.proofs.SessionInversions.{IsOwn, same_fault}
-use Rattle.shore_calls.specs.LockSteps.{BeginStep, GoesOn, InnerStep, IsTooLong, MayAsk, RefusesBehind, RefusesEarly, RefusesGranule, RefusesId, RefusesLock, RefusesRead, SessionCallStep, on_conflict_of, txn_count}
-use Rattle.shore_calls.specs.Refusals.{IsPageFault}
+use Rattle.shore_calls.specs.CallSteps.{BeginStep, GoesOn, InnerStep, IsTooLong, MayAsk, RefusesBehind, RefusesEarly, RefusesGranule, RefusesId, RefusesLock, RefusesRead, CallStep, on_conflict_of, txn_count}
+use Rattle.shore_calls.specs.StateChanges.{IsPageFault}
 use Rattle.shore_calls.specs.States.{DoesNotWait, HasNoTxn, IsInTxn, MayBegin, State}
 
 -- ---- which refusals there are
@@ -139,7 +139,7 @@ module _ (g : Geometry) (l : State) (a : SessionTxn) (new : State) where
 
 module _ (g : Geometry) (s new : State) (session : ℕ) where
   abbrev pub RefusedWith : Call → Fault → Type 0
-  RefusedWith c f = SessionCallStep g s session c (Refused f) new
+  RefusedWith c f = CallStep g s session c (Refused f) new
 
   goes_inner : (a : SessionTxn) (c : Call) (f : Fault) → GoesOn g s a c (Refused f) new → IsInner f
   goes_inner a c f (inl h) = subst IsInner (sym h.0) tt

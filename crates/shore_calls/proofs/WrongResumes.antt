@@ -42,11 +42,11 @@ use Rattle.shore_calls.proofs.AcquireAnswers.{outcome_by}
 use Rattle.shore_calls.proofs.Decided.{both_ways}
 use Rattle.shore_calls.proofs.SessionInversions.{durable_no_lock}
 use Rattle.shore_calls.proofs.Sessions.{one_txn}
-use Rattle.shore_calls.specs.CallSteps.{Forced, wait_refused}
-use Rattle.shore_calls.specs.LockSteps.{GoesOn, MayAsk, ResumesCall, ResumesWait, SessionCallStep, SessionResumeStep, commit_ended, on_conflict_of}
+use Rattle.shore_calls.specs.Events.{Forced, IsStateAfter, EventMoves}
+use Rattle.shore_calls.specs.StateChanges.{wait_refused}
+use Rattle.shore_calls.specs.CallSteps.{GoesOn, MayAsk, ResumesCall, ResumesWait, CallStep, ResumeStep, commit_ended, on_conflict_of}
 use Rattle.shore_calls.specs.LockedStates.{IsSessionsState}
-use Rattle.shore_calls.specs.SessionEvents.{IsSessionsAfter, SessionEventMoves}
-use Rattle.shore_calls.specs.SessionShapes.{ForItsTxn, WaitsOnLocks, WaitsOnRecords}
+use Rattle.shore_calls.specs.Shapes.{ForItsTxn, WaitsOnLocks, WaitsOnRecords}
 use Rattle.shore_calls.specs.States.{DoesNotWait, IsOfSession, State, Waiting, without_waiting}
 
 waits_no_done : (wait : Wait) (answer : Answer) → Done answer ≡ Waits wait → ⊥
@@ -68,7 +68,7 @@ of_another session (x ∷ ws) w there = by (x.session == session) refl (λ later
 
 module _ (g : Geometry) (s new : State) (session : ℕ) where
   abbrev ResumesTo : Step → Type 0
-  ResumesTo step = SessionResumeStep g s session step new
+  ResumesTo step = ResumeStep g s session step new
 
   -- a call that waits is resumed
   record Resumed (step : Step) : Type 0 where
@@ -203,7 +203,7 @@ told_to_wait c table t target mode at orderly quiet = by (is_allowed (level_of t
 
 module _ (g : Geometry) (found : List LogRecord) (es : List Entry) (s : State) (k : IsSessionsState found es s) (session : ℕ) where
   -- .. does not wait on as if nothing had happened
-  pub waits_though_granted : (wait : Wait) → WaitsOnLocks s session → ForItsTxn s session (λ a. is_waiting a.txn s.locks.requests ≡ false) → SessionResumeStep g s session (Waits wait) s → ⊥
+  pub waits_though_granted : (wait : Wait) → WaitsOnLocks s session → ForItsTxn s session (λ a. is_waiting a.txn s.locks.requests ≡ false) → ResumeStep g s session (Waits wait) s → ⊥
   waits_though_granted wait on quiet h =
       let t = waits g s s session wait h in
       let r = on_lock g s s session on (Waits wait) t (runs g s s session (Waits wait) (λ e. cc) t.waited t.how).1 in
@@ -217,16 +217,16 @@ module _ (g : Geometry) (found : List LogRecord) (es : List Entry) (s : State) (
 
 -- ---- a call that goes on behind its lock
 
-module _ (g : Geometry) (found : List LogRecord) (es : List Entry) (s : State) (k : IsSessionsAfter found es s) (session : ℕ) where
+module _ (g : Geometry) (found : List LogRecord) (es : List Entry) (s : State) (k : IsStateAfter found es s) (session : ℕ) where
   -- it is as if it were made now
   pub goes_on_as_call : (w : Waiting) → IsAmong w s.waiting → w.session ≡ session → (at : Granule) → w.wait ≡ Lock at → MayAsk g w.call → s.failed ≡ false
-      → ForItsTxn s session (λ a. is_waiting a.txn s.locks.requests ≡ false) → (step : Step) (new : State) → SessionResumeStep g s session step new
-      → SessionCallStep g (wait_refused s session) session w.call step new
+      → ForItsTxn s session (λ a. is_waiting a.txn s.locks.requests ≡ false) → (step : Step) (new : State) → ResumeStep g s session step new
+      → CallStep g (wait_refused s session) session w.call step new
   goes_on_as_call w there of at is may running quiet step new (inl h) = absurd (h.0 w there of)
   goes_on_as_call w there of at is may running quiet step new (inr h) =
       by (subst (λ (v : Waiting). ResumesCall g s v step new) (k.waits.once h.0 w h.1 there (h.2 ∙ sym of)) h.3)
     where
-      on : ResumesWait g s w (Lock at) step new → SessionCallStep g (wait_refused s session) session w.call step new
+      on : ResumesWait g s w (Lock at) step new → CallStep g (wait_refused s session) session w.call step new
       on x =
           let mine : IsOfSession s session x.0 = (x.1.0, x.1.1 ∙ of) in
           ⊎_elim
@@ -242,7 +242,7 @@ module _ (g : Geometry) (found : List LogRecord) (es : List Entry) (s : State) (
           ))))))
           x.2
 
-      by : ResumesCall g s w step new → SessionCallStep g (wait_refused s session) session w.call step new
+      by : ResumesCall g s w step new → CallStep g (wait_refused s session) session w.call step new
       by (inl failed) = absurd (both_ways s.failed failed.0 running)
       by (inr runs) = on (subst (λ (x : Wait). ResumesWait g s w x step new) is runs.1)
 
@@ -270,7 +270,7 @@ gone t rs orderly =
     (All-map (λ (k : ℕ × Granule). k.0 ≢ t) (λ (r : Request). (r.txn, r.granule)) (of_others t rs) (not_of t rs)))
 
 module _ (g : Geometry) (found : List LogRecord) (es : List Entry) (s new : State) (k : IsSessionsState found es s) (session : ℕ) (a : SessionTxn)
-    (mem : IsAmong a s.sessions.committing) (of : a.session ≡ session) (answer : Answer) (h : SessionResumeStep g s session (Done answer) new) where
+    (mem : IsAmong a s.sessions.committing) (of : a.session ≡ session) (answer : Answer) (h : ResumeStep g s session (Done answer) new) where
   pub ends : new ≡ commit_ended s a
   ends = by t.waited.wait (runs g s new session (Done answer) (λ e. cc) t.waited t.how).1
     where
@@ -302,8 +302,8 @@ module _ (g : Geometry) (found : List LogRecord) (es : List Entry) (s new : Stat
 
 -- ---- forces
 
-pub force_back : (g : Geometry) (s new : State) (n : ℕ) → n < s.durable → SessionEventMoves g s (Forced n) new → ⊥
+pub force_back : (g : Geometry) (s new : State) (n : ℕ) → n < s.durable → EventMoves g s (Forced n) new → ⊥
 force_back g s new n less h = let le = h.0 in omega arith
 
-pub force_beyond : (g : Geometry) (s new : State) (n : ℕ) → length s.log < n → SessionEventMoves g s (Forced n) new → ⊥
+pub force_beyond : (g : Geometry) (s new : State) (n : ℕ) → length s.log < n → EventMoves g s (Forced n) new → ⊥
 force_beyond g s new n less h = let le = h.1 in omega arith

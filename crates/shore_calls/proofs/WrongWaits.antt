@@ -19,9 +19,9 @@ use Rattle.shore_calls.specs.declared.step.Wait.TheVariants.{Durable, Lock}
 use Rattle.shore_calls.proofs.AcquireAnswers.{try_never_waits}
 use Rattle.shore_calls.proofs.Decided.{both_ways}
 use Rattle.shore_calls.proofs.SessionInversions.{WaitsIn, durable_no_lock, waits_in}
-use Rattle.shore_calls.specs.CallSteps.{commit_waiting, committed}
-use Rattle.shore_calls.specs.LockSteps.{SessionCallStep, lock_outcome}
-use Rattle.shore_calls.specs.SessionShapes.{ForItsTxn}
+use Rattle.shore_calls.specs.StateChanges.{commit_waiting, committed}
+use Rattle.shore_calls.specs.CallSteps.{CallStep, lock_outcome}
+use Rattle.shore_calls.specs.Shapes.{ForItsTxn}
 use Rattle.shore_calls.specs.States.{HasNoTxn, State, Waiting, next_number}
 
 same_granule_waited : (at other : Granule) → Lock at ≡ Lock other → other ≡ at
@@ -29,7 +29,7 @@ same_granule_waited at other e = cc
 
 module _ (g : Geometry) (s new : State) (session : ℕ) where
   abbrev WaitsFor : Call → Wait → Type 0
-  WaitsFor c wait = SessionCallStep g s session c (Waits wait) new
+  WaitsFor c wait = CallStep g s session c (Waits wait) new
 
   -- a commit goes last in the log, and waits for its record
   appended : (wait : Wait) → WaitsFor call.Commit wait → (a : SessionTxn) × (wait ≡ Durable (next_number s)) × (new ≡ committed s a)

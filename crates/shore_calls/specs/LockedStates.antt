@@ -31,11 +31,11 @@ entries_of_wait s session (Durable n) = Decided (decision.Commit (txn_of s.sessi
 entries_of_wait s session (Lock at) = []
 
 -- what a call of a session adds to the history
-abbrev pub entries_of_session_call : State → ℕ → Call → Step → List Entry
-entries_of_session_call s session c (Done answer) = Exchanged session (answered_under s.sessions session c) (exchange c (Ok answer)) ∷ []
-entries_of_session_call s session c (Refused fault) = Exchanged session (txn_of s.sessions session) (exchange c (Err fault)) ∷ []
-entries_of_session_call s session c (Waits wait) = entries_of_wait s session wait
-entries_of_session_call s session c Nothing = []
+abbrev pub entries_of_call : State → ℕ → Call → Step → List Entry
+entries_of_call s session c (Done answer) = Exchanged session (answered_under s.sessions session c) (exchange c (Ok answer)) ∷ []
+entries_of_call s session c (Refused fault) = Exchanged session (txn_of s.sessions session) (exchange c (Err fault)) ∷ []
+entries_of_call s session c (Waits wait) = entries_of_wait s session wait
+entries_of_call s session c Nothing = []
 
 -- the call that goes on
 abbrev pub resumed_call : Call → Wait → Call

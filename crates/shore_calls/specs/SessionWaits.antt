@@ -7,7 +7,7 @@ use Rattle.shore_sessions.specs.LogPrefixes.{decisions_in}
 use Rattle.shore_sessions.specs.Sessions.{SessionTxn}
 use Rattle.shore_sessions.specs.Views.{IsAmong}
 use Rattle.shore_calls.specs.declared.step.Wait.TheVariants.{Lock}
-use Rattle.shore_calls.specs.CallSteps.{commit_waiting}
+use Rattle.shore_calls.specs.StateChanges.{commit_waiting}
 use Rattle.shore_calls.specs.States.{State, Waiting}
 
 -- a commit waits for its record, which the log has

@@ -1,13 +1,10 @@
 -- A manager without its devices, as plain data: sessions at work, their log, the slots of the pages, and what is durable. What is reserved
 -- and what is claimed are no state: they are functions of the undo lists.
-use Rattle.std.specs.Prelude.{◌≡◌, ◌≢◌, ◌<◌, ◌+◌, ◌==◌, ℕ, List, [], ◌∷◌, Bool, not, filter, length}
+use Rattle.std.specs.Prelude.{◌≡◌, ◌≢◌, ◌<◌, ◌+◌, ◌==◌, ℕ, List, Bool, not, filter, length}
 use Rattle.std.specs.List.{sum_by}
 use Rattle.shore_types.specs.declared.ids.PageId.{PageId}
 use Rattle.shore_types.specs.declared.layout.TheConstants.{ENDING_COST, LAST_TXN}
-use Rattle.shore_types.specs.declared.locking.Granule.TheVariants.{Volume}
-use Rattle.shore_types.specs.declared.locking.Mode.TheVariants.{EX}
 use Rattle.shore_model.specs.declared.calls.Call.{Call}
-use Rattle.shore_model.specs.declared.holds.Hold.{Hold}
 use Rattle.shore_model.specs.declared.log_records.LogRecord.{LogRecord}
 use Rattle.shore_locks.specs.Tables.{Table}
 use Rattle.shore_logrec.specs.Text.{cost_of}
@@ -61,10 +58,6 @@ DoesNotWait s session = (w : Waiting) → IsAmong w s.waiting → w.session ≢ 
 -- the calls that wait, but for a session's
 abbrev pub without_waiting : ℕ → List Waiting → List Waiting
 without_waiting session ws = filter (λ w. not (w.session == session)) ws
-
--- As long as there is one session its transaction has the whole volume.
-abbrev pub volume_lock : ℕ → List Hold
-volume_lock t = record { txn = t; granule = Volume; mode = EX } ∷ []
 
 -- ---- room
 

@@ -1,9 +1,12 @@
 //! The calls of a manager over plain data: what each is answered and leaves, and the laws of the histories that they make.
 #![tactic(auto)]
 
+pub mod answers;
 pub mod laws;
-pub mod session_laws;
-pub mod session_shapes;
+pub mod locks;
+pub mod progress;
+pub mod refusals;
 mod step;
+pub mod waits;
 
 pub use step::{Step, Wait};

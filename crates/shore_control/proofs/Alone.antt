@@ -25,7 +25,7 @@ use Rattle.shore_sessions.specs.Sessions.{SessionTxn, Sessions}
 use Rattle.shore_sessions.specs.Soundness.{IsSoundAfter}
 use Rattle.shore_sessions.specs.Views.{IsAmong}
 use Rattle.shore_calls.proofs.TakenLocks.{leaves, locked_state}
-use Rattle.shore_calls.specs.LockSteps.{with_requests}
+use Rattle.shore_calls.specs.CallSteps.{with_requests}
 use Rattle.shore_calls.specs.LockedStates.{IsSessionsState}
 use Rattle.shore_calls.specs.States.{State}
 

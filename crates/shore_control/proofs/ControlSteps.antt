@@ -12,8 +12,8 @@ use Rattle.shore_locks.specs.Tables.{Table}
 use Rattle.shore_sessions.specs.Sessions.{SessionTxn}
 use Rattle.shore_sessions.specs.Soundness.{SessionsAgree}
 use Rattle.shore_sessions.specs.Views.{IsAmong}
-use Rattle.shore_calls.specs.CallSteps.{wait_refused}
-use Rattle.shore_calls.specs.LockSteps.{commit_ended, lock_waiting}
+use Rattle.shore_calls.specs.StateChanges.{wait_refused}
+use Rattle.shore_calls.specs.CallSteps.{commit_ended, lock_waiting}
 use Rattle.shore_calls.specs.States.{IsOfSession, State, cost_of_log}
 use Rattle.shore_calls.specs.declared.step.Wait.TheVariants.{Lock}
 use Rattle.shore_txn.specs.Transactions.{next_in}

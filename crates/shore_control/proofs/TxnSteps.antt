@@ -19,7 +19,7 @@ use Rattle.shore_sessions.specs.Sessions.{SessionTxn, txn_begun, with_undo, with
 use Rattle.shore_sessions.specs.UndoLists.{nothing_to_undo, with_before_image}
 use Rattle.shore_sessions.specs.Views.{IsAmong}
 use Rattle.shore_sessions.proofs.Lists.{recursion-push}
-use Rattle.shore_calls.specs.CallSteps.{committed}
+use Rattle.shore_calls.specs.StateChanges.{committed}
 use Rattle.shore_calls.specs.States.{State, page_slots}
 use Rattle.shore_txn.specs.ActiveTxns.{IsBegun, OneBecomes, OneLeaves, session_txns, with_entry}
 use Rattle.shore_txn.specs.Transactions.{IsUnchanged, next_in, room_in, undos_in}

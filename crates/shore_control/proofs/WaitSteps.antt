@@ -16,8 +16,8 @@ use Rattle.shore_sessions.specs.Soundness.{SessionsAgree}
 use Rattle.shore_sessions.specs.UndoLists.{UndoList}
 use Rattle.shore_sessions.specs.Views.{IsAmong}
 use Rattle.shore_sessions.proofs.Members.{member_stays}
-use Rattle.shore_calls.specs.CallSteps.{commit_waiting, committed, wait_refused}
-use Rattle.shore_calls.specs.LockSteps.{commit_ended, lock_waiting}
+use Rattle.shore_calls.specs.StateChanges.{commit_waiting, committed, wait_refused}
+use Rattle.shore_calls.specs.CallSteps.{commit_ended, lock_waiting}
 use Rattle.shore_calls.specs.States.{DoesNotWait, HasNoTxn, IsOfSession, State, Waiting, next_number, without_waiting}
 use Rattle.shore_calls.specs.declared.step.Wait.TheVariants.{Durable, Lock}
 use Rattle.shore_txn.proofs.OneOfMany.{among_map, map_among, once_same}

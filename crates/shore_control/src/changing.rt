@@ -13,7 +13,10 @@ ghost use Rattle.shore_room.specs.LogRooms.{compensation_cost};
 ghost use Rattle.shore_sessions.specs.Sessions.{SessionTxn, txn_begun};
 ghost use Rattle.shore_sessions.specs.UndoLists.{nothing_to_undo};
 ghost use Rattle.shore_calls.specs.States.{IsOfSession, State, page_slots};
-ghost use Rattle.shore_txn.specs.ActiveTxns.{HasMore};
+ghost use Rattle.shore_txn.specs.ActiveTxns.{HasMore, IsBegun, OneBecomes};
+ghost use Rattle.shore_txn.specs.Transactions as table;
+ghost use Rattle.shore_txn.specs.Txns.{IsAfterChange, SameTxn};
+ghost use Rattle.shore_txn.specs.declared.txn.Txn.{Txn};
 ghost use Rattle.shore_txn.specs.Transactions.{HasNoTxnOf, HasRoomToNote, HasTxnOf, IsUnchanged, kept_in, next_in, room_in, undos_in};
 
 use crate::control::Control;
@@ -32,6 +35,7 @@ impl Control {
         requires room { (room_in (txns_in self.old)).kept + (room_in (txns_in self.old)).reserved + ENDING_COST ≤ (room_in (txns_in self.old)).stream_bytes }
         ensures number { IfOk result (λ number. number ≡ next_in (txns_in self.old)) }
         ensures begun { OnOk result (undos_in (txns_in self.new) ≡ record { session = session; txn = next_in (txns_in self.old); undo = nothing_to_undo } ∷ undos_in (txns_in self.old)) }
+        ensures listed { OnOk result ((t : Txn) × (table.txns_in (txns_in self.new) ≡ t ∷ table.txns_in (txns_in self.old)) × IsBegun (next_in (txns_in self.old)) session t) }
         ensures refused { OnErr result (IsUnchanged (txns_in self.old) (txns_in self.new)) }
         ensures claims { (p : PageId) → kept_in (txns_in self.new) p ≡ kept_in (txns_in self.old) p }
         ensures locks { locks_in self.new ≡ locks_in self.old }
@@ -46,6 +50,7 @@ impl Control {
     pub fn reserve_entry(&mut self, alloc: Global, session: SessionId) -> Result<(), AllocError>
         requires there { HasTxnOf session (txns_in self.old) }
         ensures memory { OnOk result (HasRoomToNote session (txns_in self.new)) }
+        ensures same { OneBecomes session SameTxn (table.txns_in (txns_in self.old)) (table.txns_in (txns_in self.new)) }
         ensures undos { undos_in (txns_in self.new) ≡ undos_in (txns_in self.old) }
         ensures room { room_in (txns_in self.new) ≡ room_in (txns_in self.old) }
         ensures claims { (p : PageId) → kept_in (txns_in self.new) p ≡ kept_in (txns_in self.old) p }
@@ -71,6 +76,8 @@ impl Control {
         requires short { image_len entry.before ≤ MAX_RECORD_BYTES }
         requires cost { undo ≡ compensation_cost entry.before }
         requires room { (room_in (txns_in self.old)).kept + (room_in (txns_in self.old)).reserved + logged + undo ≤ (room_in (txns_in self.old)).stream_bytes }
+        ensures noted { OneBecomes session (λ old new. IsAfterChange old lsn entry new) (table.txns_in (txns_in self.old)) (table.txns_in (txns_in self.new)) }
+        ensures reserved { (room_in (txns_in self.new)).reserved ≡ (room_in (txns_in self.old)).reserved + undo }
         ensures claimed { HasMore ((entry.id.slot, image_len entry.before) ∷ []) (kept_in (txns_in self.old) entry.id.page) (kept_in (txns_in self.new) entry.id.page) }
         ensures elsewhere { (p : PageId) → p ≢ entry.id.page → kept_in (txns_in self.new) p ≡ kept_in (txns_in self.old) p }
         ensures locks { locks_in self.new ≡ locks_in self.old }

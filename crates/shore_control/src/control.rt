@@ -6,7 +6,7 @@ ghost use Rattle.shore_sessions.specs.Sessions.{SessionTxn};
 ghost use Rattle.shore_sessions.specs.Views.{IsAmong};
 ghost use Rattle.shore_locks.specs.Listing.{request_cmp};
 ghost use Rattle.shore_locks.specs.Tables.{is_waiting};
-ghost use Rattle.shore_calls.specs.LockSteps.{txn_count};
+ghost use Rattle.shore_calls.specs.CallSteps.{txn_count};
 ghost use Rattle.shore_calls.specs.States.{DoesNotWait, HasNoTxn, IsInTxn, IsOfSession, State};
 ghost use Rattle.shore_txn.specs.Transactions.{HasNoTxnOf, HasTxnOf, next_in, room_in, undos_in};
 ghost use Rattle.shore_txn.specs.Transactions as table;

@@ -1,14 +1,16 @@
 //! Locks that are asked for, and calls that wait.
-ghost use Rattle.std.specs.Prelude.{◌≡◌, ◌==◌, ◌∷◌, ◌++◌, [], ℕ, IfNone, IfSome, IsSome, OnOk, false, filter, not};
+ghost use Rattle.std.specs.Prelude.{◌≡◌, ◌≢◌, ◌==◌, ◌∷◌, ◌++◌, [], ℕ, IfErr, IfNone, IfSome, IsSome, Ok, OnOk, false, filter, not};
 ghost use Rattle.shore_types.specs.declared.locking.Granule.{Granule};
 ghost use Rattle.shore_types.specs.declared.locking.Mode.{Mode};
 ghost use Rattle.shore_model.specs.declared.calls.Call.{Call};
 ghost use Rattle.shore_sessions.specs.Sessions.{SessionTxn};
 ghost use Rattle.shore_sessions.specs.Views.{IsAmong};
 ghost use Rattle.shore_locks.specs.Tables.{is_waiting};
+ghost use Rattle.shore_path.specs.Acquires.{IsReached, MayRefuse};
 ghost use Rattle.shore_path.specs.Walks.{acquired};
-ghost use Rattle.shore_calls.specs.CallSteps.{wait_refused};
-ghost use Rattle.shore_calls.specs.LockSteps.{lock_waiting, with_requests};
+ghost use Rattle.shore_path.specs.declared.answers.Acquired.TheVariants as Acquired;
+ghost use Rattle.shore_calls.specs.StateChanges.{wait_refused};
+ghost use Rattle.shore_calls.specs.CallSteps.{lock_waiting, with_requests};
 ghost use Rattle.shore_calls.specs.States.{DoesNotWait, IsOfSession, State};
 ghost use Rattle.shore_control.specs.Calls.{is_commit};
 ghost use Rattle.shore_control.specs.declared.waits.WaitingCall.{WaitingCall};
@@ -39,6 +41,9 @@ impl Control {
         ensures txns { txns_in self.new ≡ txns_in self.old }
         ensures waits { waits_in self.new ≡ waits_in self.old }
         ensures memory { HasWaitRoom self.old → HasWaitRoom self.new }
+        ensures reached { result ≡ Ok Acquired.Done → IsReached (locks_in self.new).requests txn granule mode }
+        ensures quiet { ((at : Granule) → result ≢ Ok (Acquired.Waiting at)) → is_waiting txn (locks_in self.new).requests ≡ false }
+        ensures refused { IfErr result (MayRefuse on_conflict (locks_in self.new) txn granule mode) }
         ensures stands { (s : State) → HasControl self.old s → HasControl self.new (with_requests s (acquired on_conflict s.locks txn granule mode).requests) }
     {
         shore_path::acquire(&mut self.locks, txn, granule, mode, on_conflict)

@@ -1,5 +1,5 @@
 -- The pages and the room of the log, when a transaction changes a record.
-use Rattle.std.proofs.Common.{◌≡◌, ◌⊎◌, ◌≢◌, ◌+◌, ◌≤◌, ◌∷◌, [], inl, inr, ℕ, List, Option, None, Some, IsSomeAnd, IsTrue, false, true, is_some, Result, Ok, Err, IsErrAnd, max, refl, sym, ap, subst, ◌∙◌}
+use Rattle.std.proofs.Common.{◌≡◌, ◌⊎◌, ◌≢◌, ◌+◌, ◌<◌, ◌≤◌, inl, inr, ℕ, List, Option, None, Some, IsSomeAnd, IsTrue, false, true, is_some, Result, Ok, Err, IsErrAnd, max, refl, sym, ap, subst, ◌∙◌, arith}
 use Rattle.std.specs.FinMap.{get}
 use Rattle.shore_disk.specs.declared.device.Disk as disk
 use Rattle.shore_log.specs.declared.tail.Tail as tail
@@ -30,16 +30,20 @@ use Rattle.shore_room.specs.Claims.{Claimed, Grows, NoOthers, SlotCounts}
 use Rattle.shore_room.specs.LogRooms.{change_cost, compensation_cost}
 use Rattle.shore_room.proofs.Costs.{change_bytes, compensation_bytes}
 use Rattle.shore_room.proofs.Rooms.{change_others, change_slots}
-use Rattle.shore_room.proofs.Settled.{one_alone}
 use Rattle.shore_calls.specs.States.{State, page_slots}
 use Rattle.shore_core.specs.declared.core_calls.Core.{Core}
 use Rattle.shore_recovery.specs.Recovery.{RecoveryState}
-use Rattle.shore_txn.specs.declared.table.TxnTable.{TxnTable}
-use Rattle.shore_txn.specs.Tables.{kept_in}
+use Rattle.shore_txn.specs.declared.transactions.Transactions.{Transactions}
+use Rattle.shore_txn.specs.declared.txn.Txn.{Txn}
+use Rattle.shore_txn.specs.declared.undo.UndoEntry.{UndoEntry}
+use Rattle.shore_txn.specs.ActiveTxns.{OneBecomes}
+use Rattle.shore_txn.specs.Transactions.{kept_in, txns_in}
+use Rattle.shore_txn.specs.Txns.{IsAfterChange, SameTxn, last_of}
+use Rattle.shore_txn.proofs.ActiveOthers.{AreApart, each_becomes}
 use Rattle.shore_pool.specs.declared.frame.Frame.{Frame}
 use Rattle.shore_page.specs.Slots.{Slot}
 use Rattle.shore_core.specs.Cores.{ComesTo}
-use Rattle.shore_core.specs.Parts.{changed}
+use Rattle.shore_control.specs.Standing.{changed}
 use Rattle.shore_core.specs.Replies.{Changes}
 
 -- the page of the id has slots up to the id's
@@ -59,17 +63,11 @@ grows counts id = record { here = here (cases_page id.page id.page); others = λ
 
 module _ {V : Type 0} {H : disk.Ghosts V} where
   pub pages_changed : (new : Heap V H) (K : Kept) (front : List ℕ) (disk : ℕ → List ℕ) (s : State) (a : SessionTxn) (id : Rid) (image : Image) (counts : SlotCounts)
-      → Claimed s.sessions.records s.sessions.active s.counts → s.sessions.active ≡ a ∷ [] → Fits (page_slots s id.page) id.slot (image_len image) → Grows s.counts counts id
+      → Claimed s.sessions.records s.sessions.active s.counts → IsAmong a s.sessions.active → NoOthers s.sessions.active a.txn id → Fits (page_slots s id.page) id.slot (image_len image) → Grows s.counts counts id
       → Shows K new front disk (with_slots (page_slots s) id.page (λ slots. with_image slots id.slot image)) → Shows K new front disk (page_slots (changed s a id image counts))
-  pages_changed new K front disk s a id image counts k one fits grows shows =
+  pages_changed new K front disk s a id image counts k among alone fits grows shows =
       shows_same new K front disk (with_slots (page_slots s) id.page (λ slots. with_image slots id.slot image)) (page_slots (changed s a id image counts)) each shows
     where
-      among : IsAmong a s.sessions.active
-      among = subst (IsAmong a) (sym one) (inl refl)
-
-      alone : NoOthers s.sessions.active a.txn id
-      alone = subst (λ ts. NoOthers ts a.txn id) (sym one) (one_alone a id)
-
       each : (p : PageId) → HasPage (geometry_of new) p → page_slots (changed s a id image counts) p ≡ with_slots (page_slots s) id.page (λ slots. with_image slots id.slot image) p
       each p there = elim (cases_page p id.page) [
         | inl same ↦
@@ -83,7 +81,7 @@ module _ {V : Type 0} {H : disk.Ghosts V} where
       ]
 
   -- the claim of the change is told, on a page that is in its frame
-  pub claim_told : (new : Heap V H) (table later : TxnTable) (id : PageId) (front : List ℕ) (disk : ℕ → List ℕ) (S : PageId → List Slot) → IsTrue (is_some (frame_of new id))
+  pub claim_told : (new : Heap V H) (table later : Transactions) (id : PageId) (front : List ℕ) (disk : ℕ → List ℕ) (S : PageId → List Slot) → IsTrue (is_some (frame_of new id))
       → ((p : PageId) → p ≢ id → kept_in later p ≡ kept_in table p) → Shows (kept_in table) new front disk S → Shows (kept_in later) new front disk S
   claim_told new table later id front disk S held elsewhere shows =
       shows_told new (kept_in table) (kept_in later) front disk S (λ p has none. elsewhere p (λ same. none_held (frame_of new id) held (ap (frame_of new) (sym same) ∙ none))) shows
@@ -105,10 +103,10 @@ costs_are R id was image logged undo a b found =
     ap (λ n. n + undo) (a ∙ sym (change_bytes id was image)) ∙ ap (λ n. change_cost was image + n) (b ∙ sym (compensation_bytes id was 0))
     ∙ ap (λ (w : Image). change_cost w image + compensation_cost w) (sym found)
 
-module _ {T V : Type 0} {G : tail.Ghosts T} {H : disk.Ghosts V} (new : Core T V G H) (front : List ℕ) (before : List LogRecord) (s : State) (store : RecoveryState) (session : ℕ)
+module _ {T V : Type 0} {G : tail.Ghosts T} {H : disk.Ghosts V} (new : Core T V G H) (front : List ℕ) (before : List LogRecord) (s : State) (store : RecoveryState) (a : SessionTxn)
     (id : Rid) (image : Image) where
   -- an allocation failed, and the state is as it was
-  pub changes_none : (r : Result (Unit {0}) Fault) → IsErrAnd r (λ e. e ≡ fault.Memory) → ComesTo new front before store s → Changes new session id image r front before s store
+  pub changes_none : (r : Result (Unit {0}) Fault) → IsErrAnd r (λ e. e ≡ fault.Memory) → ComesTo new front before store s → Changes new a id image r front before s store
   changes_none (Err e) memory comes = (inl memory, comes)
   changes_none (Ok u) memory comes = absurd memory
 
@@ -132,3 +130,19 @@ pub held_still : {V : Type 0} {H : disk.Ghosts V} (P : Frame → Type 0) (new ol
 held_still P new old id device held there =
     let here : is_some (frame_of new id) ≡ is_some (frame_of old id) = ap (λ g. is_some (heaps.frame_at new (page_number g id))) (same_geometry new old device) ∙ held (page_number (geometry_of old) id) in
     subst IsTrue (sym here) (some_is P (frame_of old id) there)
+
+-- ---- the last numbers of the transactions
+
+module _ (table new : Transactions) (next : ℕ) (earlier : (t : Txn) → IsAmong t (txns_in table) → last_of t < next) where
+  apart : AreApart (txns_in table)
+  apart = record { numbers = table.numbers; sessions = table.sessions }
+
+  -- memory was taken
+  pub earlier_same : {session : ℕ} → OneBecomes session SameTxn (txns_in table) (txns_in new) → (t : Txn) → IsAmong t (txns_in new) → last_of t < next
+  earlier_same one = each_becomes (λ t. last_of t < next) (λ t. last_of t < next) apart earlier one (λ t number session less. less) (λ less. omega (arith, one.becomes.last, less))
+
+  -- a record was logged under the next number
+  pub earlier_changed : {session lsn : ℕ} {entry : UndoEntry} → OneBecomes session (λ old new. IsAfterChange old lsn entry new) (txns_in table) (txns_in new) → lsn ≡ next
+      → (t : Txn) → IsAmong t (txns_in new) → last_of t < next + 1
+  earlier_changed one number =
+      each_becomes (λ t. last_of t < next) (λ t. last_of t < next + 1) apart earlier one (λ t other session less. omega (arith, less)) (λ less. omega (arith, one.becomes.last, number))

@@ -8,7 +8,7 @@ use Rattle.shore_log.specs.declared.tail.Tail as tail
 use Rattle.shore_page.specs.Slots.{Slot, settled}
 use Rattle.shore_page.specs.Text.{images_of}
 use Rattle.shore_heap.specs.Contents.{AreKept, FitIn, claimed_by}
-use Rattle.shore_txn.proofs.KeptLemmas.{back_again, fit_again}
+use Rattle.shore_txn.proofs.ActiveKept.{back_again, fit_again}
 use Rattle.shore_heap.specs.Heaps as heaps
 use Rattle.shore_heap.specs.Heaps.{KeepsSlots, Shows}
 use Rattle.shore_lives.specs.ManagerSteps.{WorksTo}
@@ -22,13 +22,16 @@ use Rattle.shore_heap.specs.declared.heap.Heap.{Heap}
 use Rattle.shore_heap.proofs.Showing.{shows_told}
 use Rattle.shore_pool.proofs.Same.{pages_stay}
 use Rattle.shore_pool.specs.Pages.{SamePages}
-use Rattle.shore_txn.specs.declared.table.TxnTable.{TxnTable}
+use Rattle.shore_txn.specs.declared.transactions.Transactions.{Transactions}
 use Rattle.shore_types.specs.declared.ids.PageId.{PageId}
 use Rattle.shore_calls.specs.States.{State, page_slots}
-use Rattle.shore_txn.specs.Tables.{active_in, kept_in, undos_in}
+use Rattle.shore_txn.specs.Transactions.{kept_in, undos_in}
+use Rattle.shore_txn.specs.Transactions as table
 use Rattle.shore_room.specs.Claims.{Claimed, slots_of}
 use Rattle.shore_core.specs.declared.core_calls.Core.{Core}
-use Rattle.shore_core.specs.Cores.{ComesTo, IsBeside, IsIn, IsKept, IsOver, IsSafe, durable_of, geometry_of, has_failed, heap_of, tail_of, txns_of, waiting_of}
+use Rattle.shore_core.specs.Cores.{ComesTo, IsBeside, IsIn, IsKept, IsOver, IsSafe, control_of, durable_of, geometry_of, has_failed, heap_of, tail_of, txns_of, waiting_of}
+use Rattle.shore_control.specs.declared.control.Control.{Control}
+use Rattle.shore_control.specs.Controls.{txns_in}
 use Rattle.shore_core.specs.Parts.{HasParts}
 use Rattle.shore_core.specs.Replies.{OnlyReads, Stays}
 
@@ -55,15 +58,15 @@ kept_after s store later works kept work log durable =
 
 module _ {T V : Type 0} {G : tail.Ghosts T} {H : disk.Ghosts V} where
   -- beside its pages the core is that of the state
-  pub beside_same : (old new : Core T V G H) (before : List LogRecord) (s : State) → tail_of new ≡ tail_of old → txns_of new ≡ txns_of old → durable_of new ≡ durable_of old
+  pub beside_same : (old new : Core T V G H) (before : List LogRecord) (s : State) → tail_of new ≡ tail_of old → control_of new ≡ control_of old → durable_of new ≡ durable_of old
       → has_failed new ≡ has_failed old → IsBeside before old s → IsBeside before new s
-  beside_same old new before s tail txns durable failed was = record {
+  beside_same old new before s tail control durable failed was = record {
     first = ap G.first tail ∙ was.first;
     parts =
-        subst (λ t. HasParts t (waiting_of new) (durable_of new) (has_failed new) before s) (sym txns)
-        (subst (λ l. HasParts (txns_of old) (G.records l) (durable_of new) (has_failed new) before s) (sym tail)
-        (subst (λ d. HasParts (txns_of old) (waiting_of old) d (has_failed new) before s) (sym durable)
-        (subst (λ b. HasParts (txns_of old) (waiting_of old) (durable_of old) b before s) (sym failed) was.parts)));
+        subst (λ t. HasParts t (waiting_of new) (durable_of new) (has_failed new) before s) (sym control)
+        (subst (λ l. HasParts (control_of old) (G.records l) (durable_of new) (has_failed new) before s) (sym tail)
+        (subst (λ d. HasParts (control_of old) (waiting_of old) d (has_failed new) before s) (sym durable)
+        (subst (λ b. HasParts (control_of old) (waiting_of old) (durable_of old) b before s) (sym failed) was.parts)));
   }
 
   -- nothing was done
@@ -86,7 +89,7 @@ module _ {T V : Type 0} {G : tail.Ghosts T} {H : disk.Ghosts V} where
   module _ (old new : Core T V G H) (front : List ℕ) (disk : ℕ → List ℕ) (before : List LogRecord) (s : State) (store : RecoveryState)
       (is : IsIn front disk before old s) (over : IsOver disk old s store) (reads : OnlyReads old new) where
     beside : IsBeside before new s
-    beside = beside_same old new before s reads.tail reads.txns reads.durable reads.failed is.beside
+    beside = beside_same old new before s reads.tail reads.control reads.durable reads.failed is.beside
 
     pub read_failed : s.failed ≡ true → ComesTo new front before store s
     read_failed fails = comes_failed new front before s store fails beside over.kept
@@ -98,7 +101,7 @@ module _ {T V : Type 0} {G : tail.Ghosts T} {H : disk.Ghosts V} where
         let back = work_of (heap_of old) (heap_of new) (durable_of old) disk left store (over.pages works) stay (omega (arith, durable)) reads.volume.geometry in
         record {
           left = left;
-          is_in = record { beside = beside; pages = λ w. subst (λ t. Shows (kept_in t) (heap_of new) front left (page_slots s)) (sym reads.txns) shows };
+          is_in = record { beside = beside; pages = λ w. subst (λ (t : Control). Shows (kept_in (txns_in t)) (heap_of new) front left (page_slots s)) (sym reads.control) shows };
           works = back.0;
           after = back.1;
           work = back.2;
@@ -110,7 +113,7 @@ module _ {T V : Type 0} {G : tail.Ghosts T} {H : disk.Ghosts V} where
         (λ f. (f ≡ fault.Device) ⊎ KeepsSlots (kept_in (txns_of old)) (heap_of old) (heap_of new) (durable_of old) front disk (page_slots s))) → Stays new r front before s store
     stays_read (Ok x) kept = elim (runs_or_failed s.failed) [ inl works ↦ read_running works (kept works) | inr fails ↦ read_failed fails ]
     stays_read (Err f) kept = elim (runs_or_failed s.failed) [
-      | inl works ↦ elim (kept works) [ inl device ↦ inl (device, beside) | inr slots ↦ inr (read_running works slots) ]
+      | inl works ↦ elim (kept works) [ inl device ↦ inl (device, beside, over.kept) | inr slots ↦ inr (read_running works slots) ]
       | inr fails ↦ inr (read_failed fails)
     ]
 
@@ -118,19 +121,18 @@ module _ {T V : Type 0} {G : tail.Ghosts T} {H : disk.Ghosts V} where
 pub pages_may_go : {T V : Type 0} {G : tail.Ghosts T} {H : disk.Ghosts V} (core : Core T V G H) (before : List LogRecord) (s : State) → IsBeside before core s → IsSafe (geometry_of core) s
     → AreKept (geometry_of core) (kept_in (txns_of core)) (page_slots s)
 pages_may_go core before s was safe id has =
-    let undos : undos_in (txns_of core) ≡ s.sessions.active = sym was.parts.txns.active in
+    let undos : undos_in (txns_of core) ≡ s.sessions.active = sym was.parts.stands.txns.active in
     let claimed = subst (λ us. Claimed s.sessions.records us s.counts) (sym undos) safe.roomy.pages in
-    let active = active_in (txns_of core) in
     subst (λ us. (slots_of s.sessions.records us id (s.counts id) ≡ claimed_by (kept_in (txns_of core) id) (map settled (images_of (slots_of s.sessions.records us id (s.counts id)))))
     × FitIn (kept_in (txns_of core) id) (map settled (images_of (slots_of s.sessions.records us id (s.counts id))))) undos
-    (back_again active s.sessions.records s.counts id claimed, fit_again active s.sessions.records s.counts id claimed)
+    (back_again (table.txns_in (txns_of core)) s.sessions.records s.counts id claimed, fit_again (table.txns_in (txns_of core)) s.sessions.records s.counts id claimed)
 
 -- ---- stays
 
 module _ {T V : Type 0} {G : tail.Ghosts T} {H : disk.Ghosts V} (new : Core T V G H) (front : List ℕ) (before : List LogRecord) (s : State) (store : RecoveryState) where
   -- a call that was refused
   abbrev pub StaysRefused : Fault → Type 0
-  StaysRefused f = ((f ≡ fault.Device) × IsBeside before new s) ⊎ ComesTo new front before store s
+  StaysRefused f = ((f ≡ fault.Device) × IsBeside before new s × IsKept s store) ⊎ ComesTo new front before store s
 
   pub stays_beside : (f : Fault) → StaysRefused f → IsBeside before new s
   stays_beside f (inl device) = device.1
@@ -199,8 +201,18 @@ module _ {T V : Type 0} {G : tail.Ghosts T} {H : disk.Ghosts V} (new : Core T V 
         };
       }
 
+-- what a search of pages keeps, whose claims are those of a table that was lent
+pub kept_lent : {A V : Type 0} {H : disk.Ghosts V} (old new : Heap V H) (r : Result A Fault) (durable : ℕ) (front : List ℕ) (disk : ℕ → List ℕ) (S : PageId → List Slot) (lent table : Transactions) → lent ≡ table
+    → (Shows (kept_in lent) old front disk S → AreKept (heaps.geometry_of old) (kept_in lent) S
+    → MatchResult r (λ _. KeepsSlots (kept_in lent) old new durable front disk S) (λ f. (f ≡ fault.Device) ⊎ KeepsSlots (kept_in lent) old new durable front disk S))
+    → Shows (kept_in table) old front disk S → AreKept (heaps.geometry_of old) (kept_in table) S
+    → MatchResult r (λ _. KeepsSlots (kept_in table) old new durable front disk S) (λ f. (f ≡ fault.Device) ⊎ KeepsSlots (kept_in table) old new durable front disk S)
+kept_lent old new r durable front disk S lent table same kept =
+    subst (λ (t : Transactions). Shows (kept_in t) old front disk S → AreKept (heaps.geometry_of old) (kept_in t) S
+    → MatchResult r (λ _. KeepsSlots (kept_in t) old new durable front disk S) (λ f. (f ≡ fault.Device) ⊎ KeepsSlots (kept_in t) old new durable front disk S)) same kept
+
 -- a table that keeps as much as another
-pub pages_told : {V : Type 0} {H : disk.Ghosts V} (heap : Heap V H) (table new : TxnTable) (front : List ℕ) (disk : ℕ → List ℕ) (S : PageId → List Slot)
+pub pages_told : {V : Type 0} {H : disk.Ghosts V} (heap : Heap V H) (table new : Transactions) (front : List ℕ) (disk : ℕ → List ℕ) (S : PageId → List Slot)
     → ((p : PageId) → kept_in new p ≡ kept_in table p) → Shows (kept_in table) heap front disk S → Shows (kept_in new) heap front disk S
 pages_told heap table new front disk S same shows = shows_told heap (kept_in table) (kept_in new) front disk S (λ p has none. same p) shows
 

@@ -9,13 +9,15 @@ use Rattle.shore_heap.specs.Heaps.{KeepsSlots, Shows, WroteBack}
 use Rattle.shore_lives.specs.ManagerSteps.{WorksTo}
 use Rattle.shore_recovery.specs.Recovery.{AppendRecord, FlushPage, ForceLog, LosePower, RecoveryEvent, RecoveryState, RedoRecord, after_force}
 use Rattle.shore_sessions.proofs.Lists.{length-push}
-use Rattle.shore_calls.specs.CallSteps.{with_failure}
+use Rattle.shore_calls.specs.StateChanges.{with_failure}
 use Rattle.shore_calls.specs.States.{State, page_slots}
 use Rattle.shore_calls.specs.declared.step.Step.{Step}
 use Rattle.shore_calls.specs.declared.step.Step.TheVariants.{Refused}
-use Rattle.shore_txn.specs.Tables.{kept_in}
+use Rattle.shore_txn.specs.Transactions.{kept_in}
+use Rattle.shore_control.specs.declared.control.Control.{Control}
+use Rattle.shore_control.specs.Controls.{txns_in}
 use Rattle.shore_core.specs.declared.core_calls.Core.{Core}
-use Rattle.shore_core.specs.Cores.{IsIn, IsOver, durable_of, has_failed, heap_of, tail_of, txns_of}
+use Rattle.shore_core.specs.Cores.{IsIn, IsOver, control_of, durable_of, has_failed, heap_of, tail_of, txns_of}
 use Rattle.shore_core.specs.Flushing.{AreFlushes, FlushMoves, FlushSteps}
 use Rattle.shore_core.specs.Replies.{OnlyReads, fault_at}
 use Rattle.shore_logged.proofs.Flushes.{work_of}
@@ -107,8 +109,8 @@ module _ {T V : Type 0} {G : tail.Ghosts T} {H : disk.Ghosts V} where
           comes = record {
             left = left;
             is_in = record {
-              beside = beside_same old new before s reads.tail reads.txns reads.durable reads.failed is.beside;
-              pages = λ w. subst (λ t. Shows (kept_in t) (heap_of new) front left (page_slots s)) (sym reads.txns) shows;
+              beside = beside_same old new before s reads.tail reads.control reads.durable reads.failed is.beside;
+              pages = λ w. subst (λ (t : Control). Shows (kept_in (txns_in t)) (heap_of new) front left (page_slots s)) (sym reads.control) shows;
             };
             works = alone.0;
             after = back.1;
@@ -119,7 +121,7 @@ module _ {T V : Type 0} {G : tail.Ghosts T} {H : disk.Ghosts V} where
         }
 
     -- the volume has failed
-    pub steps_failed : (f : Fault) → f ≡ fault.Device → tail_of new ≡ tail_of old → txns_of new ≡ txns_of old → durable_of new ≡ durable_of old → has_failed new ≡ true
+    pub steps_failed : (f : Fault) → f ≡ fault.Device → tail_of new ≡ tail_of old → control_of new ≡ control_of old → durable_of new ≡ durable_of old → has_failed new ≡ true
         → FlushSteps (Refused f) new front before s store
     steps_failed f device tail txns durable failed = record {
       later = with_failure s;

@@ -14,7 +14,7 @@ use Rattle.shore_pool.specs.Pools.{NeedsForce}
 use Rattle.shore_pool.specs.declared.frame.Frame.{Frame}
 use Rattle.shore_recovery.specs.Recovery.{RecoveryState}
 use Rattle.shore_logged.specs.LoggedHeaps.{IsStoreOf}
-use Rattle.shore_calls.specs.Refusals.{IsPageFault}
+use Rattle.shore_calls.specs.StateChanges.{IsPageFault}
 use Rattle.shore_calls.specs.States.{State}
 use Rattle.shore_core.specs.Cores.{IsKept}
 use Rattle.shore_pool.specs.Pages.{IsPage}

@@ -20,6 +20,14 @@ module _ {T V : Type 0} {G : tail.Ghosts T} {H : disk.Ghosts V} where
     first = two.first ∙ ap G.first one.tail;
   }
 
+  pub keeps_then : (old mid new : Core T V G H) → Keeps old mid → Keeps mid new → Keeps old new
+  keeps_then old mid new one two = record {
+    volume = record { geometry = two.volume.geometry ∙ one.volume.geometry; honest = two.volume.honest ∙ one.volume.honest; size = two.volume.size ∙ one.volume.size };
+    durable = two.durable ∙ one.durable;
+    failed = two.failed ∙ one.failed;
+    first = two.first ∙ one.first;
+  }
+
   -- the device was called no more
   pub leaves_then : (old mid new : Core T V G H) → MayLeave old mid → history_of new ≡ history_of mid → MayLeave old new
   leaves_then old mid new leaves same front disk holds =

@@ -1,34 +1,39 @@
 -- What a search of a store comes to: where a new record goes, what a scan finds, and which faults of the pages refuse the call.
-use Rattle.std.proofs.Common.{◌≡◌, ◌⊎◌, inl, inr, ℕ, List, length, refl, sym, subst, ◌∙◌, arith}
+use Rattle.std.proofs.Common.{◌≡◌, ◌⊎◌, ◌+◌, inl, inr, ℕ, List, Result, Ok, Err, IsErrAnd, Some, length, refl, sym, ap, subst, ◌∙◌, arith}
 use Rattle.std.specs.FinMap.{get}
 use Rattle.shore_types.specs.declared.faults.Fault.{Fault}
 use Rattle.shore_types.specs.declared.faults.Fault.TheVariants as fault
 use Rattle.shore_types.specs.declared.ids.Rid.{Rid}
 use Rattle.shore_types.specs.declared.layout.Geometry.{Geometry}
-use Rattle.shore_types.specs.Layout.{HasStore}
+use Rattle.shore_types.specs.declared.locking.Granule.TheVariants.{Record}
+use Rattle.shore_types.specs.declared.locking.Mode.TheVariants.{EX}
+use Rattle.shore_locks.specs.Tables.{Table}
+use Rattle.shore_path.specs.declared.answers.Acquired.{Acquired}
+use Rattle.shore_path.specs.declared.answers.Acquired.TheVariants as acquire
+use Rattle.shore_path.specs.declared.answers.OnConflict.TheVariants.{Refuse}
+use Rattle.shore_path.specs.Walks.{acquired}
+use Rattle.shore_held.proofs.Places.{acquired_ends}
+use Rattle.shore_disk.specs.declared.device.Disk as disk
+use Rattle.shore_log.specs.declared.tail.Tail as tail
+use Rattle.shore_recovery.specs.Recovery.{RecoveryState}
+use Rattle.shore_model.specs.declared.log_records.LogRecord.{LogRecord}
 use Rattle.shore_model.specs.Records.{AreRecords, scan_of}
 use Rattle.shore_page.specs.Slots.{image_at_slot}
-use Rattle.shore_heap.specs.Places.{HasNoPlace, IsPlace, Takes, anywhere}
+use Rattle.shore_heap.specs.Places.{HasNoPlace, IsPlace, Takes}
 use Rattle.shore_heap.specs.Scans.{IsScan}
 use Rattle.shore_heap.proofs.Scanned.{scans_as_the_model}
 use Rattle.shore_room.specs.Claims.{Claimed}
-use Rattle.shore_calls.specs.Refusals.{InsertRefusal, IsPageFault, IsPlaceFor, IsShort, NoneServes, ScanRefusal, Serves}
-use Rattle.shore_calls.specs.States.{IsInTxn, State, page_slots}
+use Rattle.shore_model.specs.declared.calls.Call.TheVariants as call
+use Rattle.shore_sessions.specs.Sessions.{SessionTxn}
+use Rattle.shore_calls.specs.StateChanges.{CanLog, IsPageFault, after_refusal}
+use Rattle.shore_calls.specs.CallSteps.{HasPlace, IsPlaceOf, ServesTxn, behind_place, place_outcome}
+use Rattle.shore_calls.specs.declared.step.Step.{Step}
+use Rattle.shore_calls.specs.States.{State, page_slots}
+use Rattle.shore_core.specs.declared.core_calls.Core.{Core}
+use Rattle.shore_core.specs.Cores.{ComesTo, geometry_of}
+use Rattle.shore_core.specs.Replies.{IsServedBehind, Served, can_lock}
 use Rattle.shore_core.proofs.Tables.{no_such}
 use Rattle.shore_core.proofs.Taking.{image_shown}
-
--- ---- faults of a store's pages
-
-pub insert_fault : (g : Geometry) (s : State) (session store : ℕ) (bytes : List ℕ) (f : Fault) → IsInTxn s session → IsShort bytes → HasStore g store → IsPageFault s f
-    → InsertRefusal g s session store bytes f
-insert_fault g s session store bytes f mine short there (inl device) = subst (InsertRefusal g s session store bytes) (sym device) (mine, short, there, inl refl)
-insert_fault g s session store bytes f mine short there (inr (inl damaged)) = subst (InsertRefusal g s session store bytes) (sym damaged.1) (mine, short, there, inr (inl (damaged.0, refl)))
-insert_fault g s session store bytes f mine short there (inr (inr force)) = subst (InsertRefusal g s session store bytes) (sym force.1) (mine, short, there, inr (inr (force.0, refl, force.2, force.3)))
-
-pub scan_fault : (g : Geometry) (s : State) (session store : ℕ) (f : Fault) → IsInTxn s session → HasStore g store → IsPageFault s f → ScanRefusal g s session store f
-scan_fault g s session store f mine there (inl device) = subst (ScanRefusal g s session store) (sym device) (mine, there, inl refl)
-scan_fault g s session store f mine there (inr (inl damaged)) = subst (ScanRefusal g s session store) (sym damaged.1) (mine, there, inr (inl (damaged.0, refl)))
-scan_fault g s session store f mine there (inr (inr force)) = subst (ScanRefusal g s session store) (sym force.1) (mine, there, inr (inr (force.0, refl, force.2, force.3)))
 
 -- ---- what the pages of a state show
 
@@ -36,23 +41,23 @@ module _ (g : Geometry) (s : State) (claimed : Claimed s.sessions.records s.sess
   shown : (id : Rid) → image_at_slot (page_slots s id.page) id.slot ≡ get s.sessions.records id
   shown id = image_shown s.sessions.records s.sessions.active s.counts claimed id
 
-  module _ (bytes : List ℕ) where
-    takes_of : (id : Rid) → Serves g s store bytes id → Takes g (page_slots s) store (length bytes) anywhere id
-    takes_of id serves = record { there = serves.inside; of_store = serves.of_store; empty = shown id ∙ serves.empty; fits = serves.fits; allowed = tt }
+  module _ (t : ℕ) (bytes : List ℕ) where
+    takes_of : (id : Rid) → ServesTxn g s t store bytes id → Takes g (page_slots s) store (length bytes) (can_lock s.locks.requests t) id
+    takes_of id serves = record { there = serves.inside; of_store = serves.of_store; empty = shown id ∙ serves.empty; fits = serves.fits; allowed = serves.free }
 
-    serves_of : (id : Rid) → Takes g (page_slots s) store (length bytes) anywhere id → Serves g s store bytes id
-    serves_of id takes = record { of_store = takes.of_store; inside = takes.there; empty = sym (shown id) ∙ takes.empty; fits = takes.fits }
+    serves_of : (id : Rid) → Takes g (page_slots s) store (length bytes) (can_lock s.locks.requests t) id → ServesTxn g s t store bytes id
+    serves_of id takes = record { of_store = takes.of_store; inside = takes.there; empty = sym (shown id) ∙ takes.empty; fits = takes.fits; free = takes.allowed }
 
-    -- the first slot that takes the bytes is where an insert goes
-    pub is_place_for : (id : Rid) → IsPlace g (page_slots s) store (length bytes) anywhere id → IsPlaceFor g s store bytes id
-    is_place_for id is = record {
+    -- the first slot that takes the bytes, and can be locked now, is where an insert goes
+    pub is_place_of : (id : Rid) → IsPlace g (page_slots s) store (length bytes) (can_lock s.locks.requests t) id → IsPlaceOf g s t store bytes id
+    is_place_of id is = record {
       serves = serves_of id is.takes;
       lowest = λ other before serves.
           let first = is.first other (takes_of other serves) in
           elim before [ inl page ↦ omega (arith, first.0, page) | inr slot ↦ omega (arith, first.1 slot.0, slot.1) ];
     }
 
-    pub none_serves : HasNoPlace g (page_slots s) store (length bytes) anywhere → NoneServes g s store bytes
+    pub none_serves : HasNoPlace g (page_slots s) store (length bytes) (can_lock s.locks.requests t) → (id : Rid) → ServesTxn g s t store bytes id → ⊥
     none_serves none id serves = none id (takes_of id serves)
 
   -- what a scan of the pages finds is the scan of the records
@@ -63,9 +68,78 @@ module _ (g : Geometry) (s : State) (claimed : Claimed s.sessions.records s.sess
   })
 
 -- what refuses an insert that finds no place
-pub place_fault : (g : Geometry) (s : State) → Claimed s.sessions.records s.sessions.active s.counts → (store session : ℕ) (bytes : List ℕ) (f : Fault) {len : ℕ} → IsInTxn s session → IsShort bytes → HasStore g store → len ≡ length bytes
-    → ((f ≡ fault.StoreFull) × HasNoPlace g (page_slots s) store len anywhere) ⊎ (f ≡ fault.Memory) ⊎ IsPageFault s f → (f ≡ fault.Memory) ⊎ InsertRefusal g s session store bytes f
-place_fault g s claimed store session bytes f mine short there len (inl full) =
-    inr (subst (InsertRefusal g s session store bytes) (sym full.0) (mine, short, there, none_serves g s claimed store bytes (subst (λ (n : ℕ). HasNoPlace g (page_slots s) store n anywhere) len full.1)))
-place_fault g s claimed store session bytes f mine short there len (inr (inl memory)) = inl memory
-place_fault g s claimed store session bytes f mine short there len (inr (inr page)) = inr (insert_fault g s session store bytes f mine short there page)
+pub place_fault : (g : Geometry) (s : State) → Claimed s.sessions.records s.sessions.active s.counts → (a : SessionTxn) (store : ℕ) (bytes : List ℕ) (f : Fault) {len : ℕ} → len ≡ length bytes
+    → ((f ≡ fault.StoreFull) × HasNoPlace g (page_slots s) store len (can_lock s.locks.requests a.txn)) ⊎ (f ≡ fault.Memory) ⊎ IsPageFault s f
+    → IsServedBehind g s a (call.Insert store bytes) (Err f) (after_refusal f s)
+place_fault g s claimed a store bytes f same (inl full) =
+    subst (λ x. IsServedBehind g s a (call.Insert store bytes) (Err x) (after_refusal x s)) (sym full.0)
+    (inr (inl (refl, none_serves g s claimed store a.txn bytes (subst (λ n. HasNoPlace g (page_slots s) store n (can_lock s.locks.requests a.txn)) same full.1), refl)))
+place_fault g s claimed a store bytes f same (inr (inl memory)) = subst (λ x. IsServedBehind g s a (call.Insert store bytes) (Err x) (after_refusal x s)) (sym memory) (inl (refl, inl refl))
+place_fault g s claimed a store bytes f same (inr (inr page)) = inr (inr (inr (inr (page, refl))))
+
+-- ---- in a state of which a core has the locks
+
+module _ (g : Geometry) (s : State) (claimed : Claimed s.sessions.records s.sessions.active s.counts) (a : SessionTxn) (store : ℕ) (bytes : List ℕ) {len : ℕ} (same : len ≡ length bytes)
+    (locks : Table) (t : ℕ) (locks_are : s.locks ≡ locks) (number : a.txn ≡ t) where
+  here : (P : (Rid → Type 0) → Type 0) → P (can_lock locks.requests t) → P (can_lock s.locks.requests a.txn)
+  here P holds = subst (λ (l : Table). P (can_lock l.requests a.txn)) (sym locks_are) (subst (λ (n : ℕ). P (can_lock locks.requests n)) (sym number) holds)
+
+  pub found_place : (id : Rid) → IsPlace g (page_slots s) store len (can_lock locks.requests t) id → IsPlaceOf g s a.txn store bytes id
+  found_place id is =
+      is_place_of g s claimed store a.txn bytes id (subst (λ n. IsPlace g (page_slots s) store n (can_lock s.locks.requests a.txn) id) same (here (λ allowed. IsPlace g (page_slots s) store len allowed id) is))
+
+  pub no_place_fault : (f : Fault) → ((f ≡ fault.StoreFull) × HasNoPlace g (page_slots s) store len (can_lock locks.requests t)) ⊎ (f ≡ fault.Memory) ⊎ IsPageFault s f
+      → IsServedBehind g s a (call.Insert store bytes) (Err f) (after_refusal f s)
+  no_place_fault f why =
+      place_fault g s claimed a store bytes f same
+      (here (λ allowed. ((f ≡ fault.StoreFull) × HasNoPlace g (page_slots s) store len allowed) ⊎ (f ≡ fault.Memory) ⊎ IsPageFault s f) why)
+
+-- ---- its lock
+
+module _ (table : Table) (t : ℕ) (id : Rid) (could : can_lock table.requests t id) where
+  abbrev tried : Result Acquired Fault
+  tried = (acquired Refuse table t (Record id) EX).answer
+
+  ends : (tried ≡ Ok acquire.Done) ⊎ (tried ≡ Err fault.LockTableFull)
+  ends = acquired_ends table.requests table.limit (length table.requests + 4) t (Record id) EX could
+
+  -- a try of a place that could be locked is refused only if the table is full
+  pub try_refused : (f : Fault) → Err f ≡ tried → f ≡ fault.LockTableFull
+  try_refused f is = elim ends [
+    | inl done ↦ let clash : Err f ≡ Ok acquire.Done = is ∙ done in absurd cc
+    | inr full ↦ let same : ◌≡◌ {A = Result Acquired Fault} (Err f) (Err fault.LockTableFull) = is ∙ full in cc
+  ]
+
+  -- .. and is done else
+  pub try_done : (answer : Acquired) → Ok answer ≡ tried → tried ≡ Ok acquire.Done
+  try_done answer is = elim ends [
+    | inl done ↦ done
+    | inr full ↦ let clash : Ok answer ≡ Err fault.LockTableFull = is ∙ full in absurd cc
+  ]
+
+-- ---- behind its lock
+
+-- the try of a core that has the locks of the state
+pub tried_here : (s : State) (a : SessionTxn) (id : Rid) (locks : Table) (t : ℕ) → s.locks ≡ locks → a.txn ≡ t → (place_outcome s a id).answer ≡ (acquired Refuse locks t (Record id) EX).answer
+tried_here s a id locks t locks_are number =
+    ap (λ (l : Table). (acquired Refuse l a.txn (Record id) EX).answer) locks_are ∙ ap (λ (n : ℕ). (acquired Refuse locks n (Record id) EX).answer) number
+
+-- the change was not logged
+pub insert_unlogged : (g : Geometry) (s : State) (a : SessionTxn) (store : ℕ) (bytes : List ℕ) (id : Rid) → HasPlace g s a store bytes id → (f : Fault)
+    → (f ≡ fault.Memory) ⊎ ((f ≡ fault.LogFull) × ¬ CanLog (behind_place s a id) id (Some bytes)) → IsServedBehind g s a (call.Insert store bytes) (Err f) (after_refusal f (behind_place s a id))
+insert_unlogged g s a store bytes id place f (inl memory) =
+    subst (λ (x : Fault). IsServedBehind g s a (call.Insert store bytes) (Err x) (after_refusal x (behind_place s a id))) (sym memory) (inl (refl, inr (store, bytes, id, refl, place, refl)))
+insert_unlogged g s a store bytes id place f (inr full) =
+    subst (λ (x : Fault). IsServedBehind g s a (call.Insert store bytes) (Err x) (after_refusal x (behind_place s a id))) (sym full.0) (inr (inr (inr (inl (refl, (id, place, full.1, refl))))))
+
+-- it is refused behind it
+pub served_behind_place : {T V : Type 0} {G : tail.Ghosts T} {H : disk.Ghosts V} (old new : Core T V G H) (front : List ℕ) (before : List LogRecord) (s : State) (plain : RecoveryState) (a : SessionTxn)
+    (store : ℕ) (bytes : List ℕ) (id : Rid) (r : Result Step Fault) (f : Fault) → IsErrAnd r (λ e. e ≡ f)
+    → IsServedBehind (geometry_of old) s a (call.Insert store bytes) (Err f) (after_refusal f (behind_place s a id)) → ComesTo new front before plain (behind_place s a id)
+    → Served a (call.Insert store bytes) r old new front before s plain
+served_behind_place old new front before s plain a store bytes id (Err e) f same serves comes = record {
+  later = behind_place s a id;
+  serves = subst (λ (x : Fault). IsServedBehind (geometry_of old) s a (call.Insert store bytes) (Err x) (after_refusal x (behind_place s a id))) (sym same) serves;
+  comes = inr comes;
+}
+served_behind_place old new front before s plain a store bytes id (Ok step) f same serves comes = absurd same

@@ -20,25 +20,25 @@ use Rattle.shore_room.proofs.Pages.{length-slots}
 use Rattle.shore_types.specs.declared.faults.Fault.{Fault}
 use Rattle.shore_types.specs.declared.faults.Fault.TheVariants as fault
 use Rattle.shore_types.specs.declared.faults.Device.{Device}
-use Rattle.shore_types.specs.declared.layout.Geometry.{Geometry}
 use Rattle.shore_model.specs.declared.log_records.LogRecord.{LogRecord}
-use Rattle.shore_calls.specs.Refusals.{IsPageFault, IsRefusal, ReachesPage, RecordRefusal, Refuses}
-use Rattle.shore_calls.specs.States.{DoesNotWait, State}
-use Rattle.shore_calls.specs.CallSteps.{CallStep, after_refusal, with_durable, with_failure}
+use Rattle.shore_calls.specs.StateChanges.{IsPageFault, after_refusal, with_durable, with_failure}
+use Rattle.shore_calls.specs.States.{State}
+use Rattle.shore_calls.specs.CallSteps.{RefusesRead, CallStep}
 use Rattle.shore_disk.specs.Cause.{HasCause}
 use Rattle.shore_disk.specs.declared.device.Disk as disk
 use Rattle.shore_log.specs.declared.tail.Tail as tail
 use Rattle.shore_heap.proofs.Finding.{ok_same}
 use Rattle.shore_core.specs.declared.core_calls.Core.{Core}
-use Rattle.shore_core.specs.Cores.{ComesTo, IsBeside, IsIn, IsKept, IsOver, durable_of, geometry_of, has_failed, tail_of, txns_of, waiting_of}
+use Rattle.shore_core.specs.Cores.{ComesTo, IsBeside, IsIn, IsKept, IsOver, control_of, durable_of, geometry_of, has_failed, tail_of, waiting_of}
 use Rattle.shore_recovery.specs.Recovery.{RecoveryState}
 use Rattle.shore_calls.specs.declared.step.Step.{Step}
-use Rattle.shore_calls.specs.declared.step.Step.TheVariants.{Done, Waits, Refused, Nothing}
+use Rattle.shore_calls.specs.declared.step.Step.TheVariants.{Refused}
 use Rattle.shore_model.specs.declared.calls.Call.{Call}
-use Rattle.shore_core.specs.Replies.{Replied, Replies}
-use Rattle.shore_core.proofs.Coming.{StaysRefused, comes_failed, stays_beside}
+use Rattle.shore_core.specs.Replies.{IsServedBehind, Replied, Served}
+use Rattle.shore_core.proofs.Coming.{StaysRefused, comes_failed}
 use Rattle.shore_core.specs.Parts.{HasParts}
-use Rattle.shore_txn.specs.declared.table.TxnTable.{TxnTable}
+use Rattle.shore_control.specs.declared.control.Control.{Control}
+use Rattle.shore_control.specs.Standing.{HasControl}
 
 pub true_false : true ≡ false → ⊥
 true_false clash = cc
@@ -48,44 +48,25 @@ map_err P Q (Ok x) each holds = tt
 map_err P Q (Err f) each holds = each f holds
 
 -- a device that failed is noted
-pub parts_failed : (table : TxnTable) (waiting : List LogRecord) (durable : ℕ) (failed : Bool) (before : List LogRecord) (s : State) → HasParts table waiting durable failed before s
-    → HasParts table waiting durable true before (with_failure s)
-parts_failed table waiting durable failed before s was = let old = was.txns in record {
-  txns = record {
-    active = old.active;
-    committing = λ works. let clash : true ≡ false = works in absurd (true_false clash);
-    waiting = old.waiting;
-    next = old.next;
-    stream = old.stream;
-    kept = old.kept;
-    last = old.last;
-    claims = old.claims;
-    below = old.below;
-    above = old.above;
-  };
-  log = was.log;
-  durable_is = was.durable_is;
-  failed_is = refl;
+control_failed : (control : Control) (s : State) → HasControl control s → HasControl control (with_failure s)
+control_failed control s was = record {
+  txns = record { active = was.txns.active; next = was.txns.next; stream = was.txns.stream; kept = was.txns.kept; each = was.txns.each; above = was.txns.above };
+  waits = record { waiting = was.waits.waiting; committing = λ works. absurd (true_false works); asking = was.waits.asking };
+  locks = was.locks;
 }
-  where
-    true_false : true ≡ false → ⊥
-    true_false clash = cc
+
+pub parts_failed : (control : Control) (waiting : List LogRecord) (durable : ℕ) (failed : Bool) (before : List LogRecord) (s : State) → HasParts control waiting durable failed before s
+    → HasParts control waiting durable true before (with_failure s)
+parts_failed control waiting durable failed before s was = record { stands = control_failed control s was.stands; log = was.log; durable_is = was.durable_is; failed_is = refl }
 
 -- a force is told
-pub parts_told : (table : TxnTable) (waiting : List LogRecord) (durable n : ℕ) (failed : Bool) (before : List LogRecord) (s : State) → HasParts table waiting durable failed before s
-    → HasParts table waiting n failed before (with_durable n s)
-parts_told table waiting durable n failed before s was = let old = was.txns in record {
-  txns = record {
-    active = old.active;
-    committing = old.committing;
-    waiting = old.waiting;
-    next = old.next;
-    stream = old.stream;
-    kept = old.kept;
-    last = old.last;
-    claims = old.claims;
-    below = old.below;
-    above = old.above;
+pub parts_told : (control : Control) (waiting : List LogRecord) (durable n : ℕ) (failed : Bool) (before : List LogRecord) (s : State) → HasParts control waiting durable failed before s
+    → HasParts control waiting n failed before (with_durable n s)
+parts_told control waiting durable n failed before s was = record {
+  stands = record {
+    txns = record { active = was.stands.txns.active; next = was.stands.txns.next; stream = was.stands.txns.stream; kept = was.stands.txns.kept; each = was.stands.txns.each; above = was.stands.txns.above };
+    waits = record { waiting = was.stands.waits.waiting; committing = was.stands.waits.committing; asking = was.stands.waits.asking };
+    locks = was.stands.locks;
   };
   log = was.log;
   durable_is = refl;
@@ -94,12 +75,11 @@ parts_told table waiting durable n failed before s was = let old = was.txns in r
 
 -- ---- records that are reached
 
-pub reaches_fault : (g : Geometry) (s : State) (session : ℕ) (id : Rid) (f : Fault) → ReachesPage g s session id → (f ≡ fault.Memory) ⊎ IsPageFault s f
-    → (f ≡ fault.Memory) ⊎ RecordRefusal g s session id f
-reaches_fault g s session id f reaches (inl memory) = inl memory
-reaches_fault g s session id f reaches (inr (inl device)) = inr (subst (RecordRefusal g s session id) (sym device) (reaches, inl refl))
-reaches_fault g s session id f reaches (inr (inr (inl damaged))) = inr (subst (RecordRefusal g s session id) (sym damaged.1) (reaches, inr (inl (damaged.0, refl))))
-reaches_fault g s session id f reaches (inr (inr (inr force))) = inr (subst (RecordRefusal g s session id) (sym force.1) (reaches, inr (inr (force.0, refl, force.2, force.3))))
+pub read_fault : (s : State) (id : Rid) (f : Fault) → (f ≡ fault.Memory) ⊎ IsPageFault s f → (f ≡ fault.Memory) ⊎ RefusesRead s id f
+read_fault s id f (inl memory) = inl memory
+read_fault s id f (inr (inl device)) = inr (subst (RefusesRead s id) (sym device) (inl refl))
+read_fault s id f (inr (inr (inl damaged))) = inr (subst (RefusesRead s id) (sym damaged.1) (inr (inl (damaged.0, refl))))
+read_fault s id f (inr (inr (inr force))) = inr (subst (RefusesRead s id) (sym force.1) (inr (inr (force.0, refl, force.2, force.3))))
 
 -- a slot of a page has the image of its record
 pub image_shown : (R : Records) (undos : List SessionTxn) (counts : SlotCounts) → Claimed R undos counts → (id : Rid)
@@ -123,22 +103,22 @@ framed_is P None text id kept slots has holds = absurd holds
 
 module _ {T V : Type 0} {G : tail.Ghosts T} {H : disk.Ghosts V} where
   -- a failure that is noted
-  pub beside_failed : (core new : Core T V G H) (before : List LogRecord) (s : State) → IsBeside before core s → tail_of new ≡ tail_of core → txns_of new ≡ txns_of core
+  pub beside_failed : (core new : Core T V G H) (before : List LogRecord) (s : State) → IsBeside before core s → tail_of new ≡ tail_of core → control_of new ≡ control_of core
       → durable_of new ≡ durable_of core → has_failed new ≡ true → IsBeside before new (with_failure s)
-  beside_failed core new before s was tail txns durable failed = record {
+  beside_failed core new before s was tail control durable failed = record {
     first = ap G.first tail ∙ was.first;
     parts =
-        subst (λ t. HasParts t (waiting_of new) (durable_of new) (has_failed new) before (with_failure s)) (sym txns)
-        (subst (λ l. HasParts (txns_of core) (G.records l) (durable_of new) (has_failed new) before (with_failure s)) (sym tail)
-        (subst (λ d. HasParts (txns_of core) (waiting_of core) d (has_failed new) before (with_failure s)) (sym durable)
-        (subst (λ b. HasParts (txns_of core) (waiting_of core) (durable_of core) b before (with_failure s)) (sym failed)
-        (parts_failed (txns_of core) (waiting_of core) (durable_of core) (has_failed core) before s was.parts))));
+        subst (λ t. HasParts t (waiting_of new) (durable_of new) (has_failed new) before (with_failure s)) (sym control)
+        (subst (λ l. HasParts (control_of core) (G.records l) (durable_of new) (has_failed new) before (with_failure s)) (sym tail)
+        (subst (λ d. HasParts (control_of core) (waiting_of core) d (has_failed new) before (with_failure s)) (sym durable)
+        (subst (λ b. HasParts (control_of core) (waiting_of core) (durable_of core) b before (with_failure s)) (sym failed)
+        (parts_failed (control_of core) (waiting_of core) (durable_of core) (has_failed core) before s was.parts))));
   }
 
   pub in_failed : (core new : Core T V G H) (front : List ℕ) (disk : ℕ → List ℕ) (before : List LogRecord) (s : State) → IsBeside before core s
-      → tail_of new ≡ tail_of core → txns_of new ≡ txns_of core → durable_of new ≡ durable_of core → has_failed new ≡ true
+      → tail_of new ≡ tail_of core → control_of new ≡ control_of core → durable_of new ≡ durable_of core → has_failed new ≡ true
       → IsIn front disk before new (with_failure s)
-  in_failed core new front disk before s was tail txns durable failed = record { beside = beside_failed core new before s was tail txns durable failed; pages = λ works. absurd (true_false works) }
+  in_failed core new front disk before s was tail control durable failed = record { beside = beside_failed core new before s was tail control durable failed; pages = λ works. absurd (true_false works) }
 
 -- the store of a state that has failed is the same
 pub kept_failed : (s : State) (store : RecoveryState) → IsKept s store → IsKept (with_failure s) store
@@ -149,11 +129,20 @@ over_failed core disk s store kept = record { kept = kept_failed s store kept; p
 
 -- a device that failed, or a page that was damaged, is noted
 pub comes_noted : {T V : Type 0} {G : tail.Ghosts T} {H : disk.Ghosts V} (old new : Core T V G H) (front : List ℕ) (before : List LogRecord) (s : State) (store : RecoveryState) (f : Fault)
-    → tail_of new ≡ tail_of old → txns_of new ≡ txns_of old → durable_of new ≡ durable_of old → has_failed new ≡ true
-    → (f ≡ fault.Device) ⊎ ((d : Device) × (offset : ℕ) × (f ≡ fault.Damaged d offset)) → IsKept s store → StaysRefused old front before s store f → ComesTo new front before store (after_refusal f s)
-comes_noted old new front before s store f tail txns durable noted why kept stays =
-    let beside = beside_failed old new before s (stays_beside old front before s store f stays) tail txns durable noted in
-    let failed : ComesTo new front before store (with_failure s) = comes_failed new front before (with_failure s) store refl beside (kept_failed s store kept) in
+    → tail_of new ≡ tail_of old → control_of new ≡ control_of old → durable_of new ≡ durable_of old → has_failed new ≡ true
+    → (f ≡ fault.Device) ⊎ ((d : Device) × (offset : ℕ) × (f ≡ fault.Damaged d offset)) → StaysRefused old front before s store f → ComesTo new front before store (after_refusal f s)
+comes_noted old new front before s store f tail control durable noted why stays =
+    let failed : ComesTo new front before store (with_failure s) = elim stays [
+      | inl device ↦ comes_failed new front before (with_failure s) store refl (beside_failed old new before s device.1 tail control durable noted) (kept_failed s store device.2)
+      | inr comes ↦ record {
+        left = comes.left;
+        is_in = record { beside = beside_failed old new before s comes.is_in.beside tail control durable noted; pages = λ works. absurd (true_false works) };
+        works = comes.works;
+        after = comes.after;
+        work = comes.work;
+        over = record { kept = kept_failed s comes.after comes.over.kept; pages = λ works. absurd (true_false works) };
+      }
+    ] in
     elim why [
       | inl device ↦ subst (λ (f : Fault). ComesTo new front before store (after_refusal f s)) (sym device) failed
       | inr damaged ↦ subst (λ (f : Fault). ComesTo new front before store (after_refusal f s)) (sym damaged.2) failed
@@ -195,29 +184,31 @@ stays_after s (fault.Damaged d offset) device damaged = absurd (damaged d offset
 
 -- ---- replies
 
-module _ {T V : Type 0} {G : tail.Ghosts T} {H : disk.Ghosts V} (old new : Core T V G H) (front : List ℕ) (before : List LogRecord) (s : State) (store : RecoveryState) (session : ℕ) (c : Call) where
-  -- a fault that is handed on
-  pub replied_as : (r : Result Step Fault) (f : Fault) → IsErrAnd r (λ e. e ≡ f) → (f ≡ fault.Memory) ⊎ IsRefusal (geometry_of old) s session c f
-      → ((f ≡ fault.Device) × IsBeside before new s) ⊎ ComesTo new front before store s → Replied session c r old new front before s store
-  replied_as (Err e) f same why stays = record {
+-- a refusal that is no failure is noted nowhere
+pub plain_refusal : {A : Type 0} (r : Result A Fault) (P : Fault → Type 0) (f : Fault) → IsErrAnd r (λ e. e ≡ f) → P f → IfErr r P
+plain_refusal (Err e) P f same holds = subst P (sym same) holds
+plain_refusal (Ok x) P f same holds = absurd same
+
+module _ {T V : Type 0} {G : tail.Ghosts T} {H : disk.Ghosts V} (old new : Core T V G H) (front : List ℕ) (before : List LogRecord) (s : State) (store : RecoveryState) where
+  -- a call that is refused before it has changed anything, by a fault that is no failure
+  pub replied_as : (session : ℕ) (c : Call) (r : Result Step Fault) (f : Fault) → IsErrAnd r (λ e. e ≡ f) → CallStep (geometry_of old) s session c (Refused f) (after_refusal f s)
+      → StaysRefused new front before s store f → Replied session c r old new front before s store
+  replied_as session c (Err e) f same step stays = record {
     later = s;
-    replies = (subst (λ x. (x ≡ fault.Memory) ⊎ IsRefusal (geometry_of old) s session c x) (sym same) why, refl);
-    comes = subst (λ x. ((x ≡ fault.Device) × IsBeside before new s) ⊎ ComesTo new front before store s) (sym same) stays;
+    replies = subst (λ x. CallStep (geometry_of old) s session c (Refused x) (after_refusal x s)) (sym same) step;
+    comes = subst (λ x. StaysRefused new front before s store x) (sym same) stays;
   }
-  replied_as (Ok step) f same why stays = absurd same
+  replied_as session c (Ok step) f same h stays = absurd same
 
--- a reply that is no refusal is a step
-pub steps_ok : (g : Geometry) (s : State) (session : ℕ) (c : Call) (step : Step) (later : State) → s.failed ≡ false → DoesNotWait s session → Replies g s session c (Ok step) later
-    → CallStep g s session c step later
-steps_ok g s session c (Done answer) later works waits h = (works, waits, h)
-steps_ok g s session c (Waits wait) later works waits h = (works, waits, h.0, h.1, h.2)
-steps_ok g s session c (Refused f) later works waits h = absurd h
-steps_ok g s session c Nothing later works waits h = absurd h
-
-pub steps_err : (g : Geometry) (s : State) (session : ℕ) (c : Call) (f : Fault) → s.failed ≡ false → DoesNotWait s session → (f ≡ fault.Memory) ⊎ IsRefusal g s session c f
-    → Refuses g s session c f
-steps_err g s session c f works waits (inl memory) = inl memory
-steps_err g s session c f works waits (inr refusal) = inr (inr (inr (works, waits, refusal)))
+  -- .. behind its locks
+  pub served_as : (a : SessionTxn) (c : Call) (r : Result Step Fault) (f : Fault) → IsErrAnd r (λ e. e ≡ f) → IsServedBehind (geometry_of old) s a c (Err f) (after_refusal f s)
+      → StaysRefused new front before s store f → Served a c r old new front before s store
+  served_as a c (Err e) f same serves stays = record {
+    later = s;
+    serves = subst (λ x. IsServedBehind (geometry_of old) s a c (Err x) (after_refusal x s)) (sym same) serves;
+    comes = subst (λ x. StaysRefused new front before s store x) (sym same) stays;
+  }
+  served_as a c (Ok step) f same serves stays = absurd same
 
 -- a step that is no fault has the cause of its answer
 pub plain_cause : (step : Step) (r : Result (Unit {0}) Fault) (old new : ℕ) → r ≡ Ok tt → HasCause (Ok step) old new → HasCause r old new

@@ -9,15 +9,25 @@ use Rattle.shore_heap.specs.declared.heap.Heap.{Heap}
 use Rattle.shore_heap.specs.Heaps as heaps
 use Rattle.shore_heap.specs.Heaps.{Shows}
 use Rattle.shore_dwrite.specs.Settled as settled_device
-use Rattle.shore_txn.specs.declared.table.TxnTable.{TxnTable}
-use Rattle.shore_txn.specs.Tables.{kept_in}
+use Rattle.shore_control.specs.declared.control.Control.{Control}
+use Rattle.shore_control.specs.Controls.{locks_in, txns_in, waits_in}
+use Rattle.shore_control.specs.declared.waits.WaitingCall.{WaitingCall}
+use Rattle.shore_locks.specs.Tables.{Table}
+use Rattle.shore_txn.specs.Transactions.{kept_in}
+use Rattle.shore_txn.specs.declared.transactions.Transactions.{Transactions}
 use Rattle.shore_recovery.specs.Recovery.{IsRecoverable, RecoveryEvent, RecoveryState}
 use Rattle.shore_lives.specs.ManagerSteps.{WorksTo}
 use Rattle.shore_managers.specs.StoredRuns.{IsStored}
 use Rattle.shore_logged.specs.LoggedHeaps.{IsStoreOf}
 use Rattle.shore_model.specs.Records.{AreRecords}
+use Rattle.shore_types.specs.declared.locking.Granule.{Granule}
+use Rattle.shore_model.specs.declared.histories.Entry.{Entry}
+use Rattle.shore_sessions.specs.Views.{IsAmong}
+use Rattle.shore_calls.specs.declared.step.Wait.TheVariants.{Lock}
 use Rattle.shore_calls.specs.CallHistories.{IsRoomyState}
-use Rattle.shore_calls.specs.States.{State, page_slots}
+use Rattle.shore_calls.specs.CallSteps.{MayAsk}
+use Rattle.shore_calls.specs.Events.{IsStateAfter}
+use Rattle.shore_calls.specs.States.{State, Waiting, page_slots}
 use Rattle.shore_core.specs.declared.core_calls.Core.{Core}
 use Rattle.shore_core.specs.Parts.{HasParts}
 
@@ -55,8 +65,18 @@ module _ {T V : Type 0} {G : tail.Ghosts T} {H : disk.Ghosts V} where
   abbrev pub heap_of : Core T V G H → Heap V H
   heap_of core = core.heap
 
-  abbrev pub txns_of : Core T V G H → TxnTable
-  txns_of core = core.txns
+  -- its transactions, their locks and the calls that wait
+  abbrev pub control_of : Core T V G H → Control
+  control_of core = core.control
+
+  abbrev pub txns_of : Core T V G H → Transactions
+  txns_of core = txns_in core.control
+
+  abbrev pub locks_of : Core T V G H → Table
+  locks_of core = locks_in core.control
+
+  abbrev pub waits_of : Core T V G H → List WaitingCall
+  waits_of core = waits_in core.control
 
   abbrev pub geometry_of : Core T V G H → Geometry
   geometry_of core = heaps.geometry_of core.heap
@@ -75,12 +95,12 @@ module _ {T V : Type 0} {G : tail.Ghosts T} {H : disk.Ghosts V} where
   -- All but its pages is that of the state, where these records are before those that its log buffer has.
   pub record IsBeside (before : List LogRecord) (core : Core T V G H) (s : State) : Type 0 where
     pub first : first_of core ≡ 1 + length before
-    pub parts : HasParts core.txns (waiting_of core) core.durable core.failed before s
+    pub parts : HasParts core.control (waiting_of core) core.durable core.failed before s
 
   -- .. and its pages are, as long as no device has failed, over a volume with these texts of its pages behind this front
   pub record IsIn (front : List ℕ) (disk : ℕ → List ℕ) (before : List LogRecord) (core : Core T V G H) (s : State) : Type 0 where
     pub beside : IsBeside before core s
-    pub pages : s.failed ≡ false → Shows (kept_in core.txns) core.heap front disk (page_slots s)
+    pub pages : s.failed ≡ false → Shows (kept_in (txns_of core)) core.heap front disk (page_slots s)
 
   -- .. and has the heap's pages as long as no device has failed
   pub record IsOver (disk : ℕ → List ℕ) (core : Core T V G H) (s : State) (store : RecoveryState) : Type 0 where
@@ -96,7 +116,12 @@ module _ {T V : Type 0} {G : tail.Ghosts T} {H : disk.Ghosts V} where
     pub work : WorksTo store works after
     pub over : IsOver left new later after
 
--- Pages and log have room, and the records lie in the geometry: what is kept of the state beside.
+-- What is kept of the state beside, by the laws over plain data: it is what a manager has come to, its calls that wait are such as may ask for locks, pages
+-- and log have room, and the records lie in the geometry.
 pub record IsSafe (g : Geometry) (s : State) : Type 0 where
+  pub found : List LogRecord
+  pub entries : List Entry
+  pub after : IsStateAfter found entries s
+  pub asks : (w : Waiting) (at : Granule) → IsAmong w s.waiting → w.wait ≡ Lock at → MayAsk g w.call
   pub roomy : IsRoomyState s
   pub inside : AreRecords g s.sessions.records

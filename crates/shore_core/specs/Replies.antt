@@ -1,7 +1,5 @@
 -- What a call comes to behind the refusals that stand before every call.
-use Rattle.std.specs.Prelude.{◌≡◌, ◌≢◌, ◌⊎◌, ℕ, List, Result, Ok, Err, IfErr, false}
-use Rattle.std.specs.Option.{ForSome}
-use Rattle.shore_txn.specs.Tables.{committing_in}
+use Rattle.std.specs.Prelude.{◌≡◌, ◌⊎◌, ℕ, List, Result, Ok, Err, IfErr, false}
 use Rattle.shore_disk.specs.declared.device.Disk as disk
 use Rattle.shore_log.specs.declared.tail.Tail as tail
 use Rattle.shore_dwrite.specs.Volumes.{HasNoPage, page_number, page_offset}
@@ -24,17 +22,25 @@ use Rattle.shore_model.specs.declared.calls.Call.TheVariants as call
 use Rattle.shore_model.specs.declared.log_records.LogRecord.{LogRecord}
 use Rattle.shore_calls.specs.declared.step.Step.{Step}
 use Rattle.shore_calls.specs.declared.step.Step.TheVariants.{Done, Waits, Refused, Nothing}
-use Rattle.shore_calls.specs.declared.step.Wait.TheVariants.{Durable}
 use Rattle.shore_sessions.specs.Sessions.{SessionTxn}
-use Rattle.shore_calls.specs.CallSteps.{Answers, CallStep, MayChange, ResumeStep, committed}
-use Rattle.shore_calls.specs.Refusals.{CanLog, IsRefusal}
+use Rattle.shore_calls.specs.StateChanges.{CanLog, MayChange, after_refusal}
+use Rattle.shore_calls.specs.CallSteps.{AnswersBehind, GoesOn, HasPlace, MayAsk, RefusesBehind, RefusesEarly, CallStep, ResumeStep, behind_place}
 use Rattle.shore_types.specs.Images.{Image}
 use Rattle.shore_types.specs.declared.ids.Rid.{Rid}
 use Rattle.shore_room.specs.Claims.{SlotCounts}
-use Rattle.shore_core.specs.Parts.{changed}
-use Rattle.shore_calls.specs.States.{IsOfSession, State, next_number}
+use Rattle.shore_control.specs.Standing.{changed}
+use Rattle.shore_control.specs.declared.waits.WaitingCall.{WaitingCall}
+use Rattle.shore_sessions.specs.Views.{IsAmong}
+use Rattle.shore_calls.specs.States.{IsOfSession, State}
+use Rattle.shore_types.specs.declared.locking.Granule.TheVariants.{Record}
+use Rattle.shore_types.specs.declared.locking.Mode.TheVariants.{EX}
+use Rattle.shore_model.specs.declared.requests.Request.{Request}
+use Rattle.shore_held.specs.CallLocks.{CanLockNow}
+use Rattle.shore_path.specs.Acquires.{IsReached}
+use Rattle.shore_path.specs.declared.answers.Acquired.{Acquired}
+use Rattle.shore_path.specs.declared.answers.Acquired.TheVariants as acquire
 use Rattle.shore_core.specs.declared.core_calls.Core.{Core}
-use Rattle.shore_core.specs.Cores.{ComesTo, IsBeside, IsIn, IsOver, IsSafe, durable_of, first_of, geometry_of, has_failed, heap_of, history_of, last_of, tail_of, txns_of}
+use Rattle.shore_core.specs.Cores.{ComesTo, IsBeside, IsIn, IsKept, IsOver, IsSafe, durable_of, first_of, geometry_of, has_failed, heap_of, history_of, last_of, control_of, tail_of, txns_of, waits_of}
 
 -- ---- faults of the volume
 
@@ -56,7 +62,7 @@ Reads (call.Update id bytes) page = page ≡ id.page
 Reads (call.Delete id) page = page ≡ id.page
 Reads (call.Scan store) page = page.store ≡ store
 Reads call.Begin page = ⊥
-Reads (call.GetForUpdate id) page = ⊥
+Reads (call.GetForUpdate id) page = page ≡ id.page
 Reads (call.Lock granule mode) page = ⊥
 Reads (call.TryLock granule mode) page = ⊥
 Reads call.Savepoint page = ⊥
@@ -69,14 +75,44 @@ Reads call.InDoubt page = ⊥
 
 -- ---- replies
 
--- a refusal leaves the state as it was: that a device has failed is noted behind it
-abbrev pub Replies : Geometry → State → ℕ → Call → Result Step Fault → State → Type 0
-Replies g s session c (Err f) new = ((f ≡ Memory) ⊎ IsRefusal g s session c f) × (new ≡ s)
-Replies g s session c (Ok (Done answer)) new = Answers g s session c answer new
-Replies g s session c (Ok (Waits wait)) new =
-    (c ≡ call.Commit) × (wait ≡ Durable (next_number s)) × ((a : SessionTxn) × IsOfSession s session a × (new ≡ committed s a))
-Replies g s session c (Ok (Refused f)) new = ⊥
-Replies g s session c (Ok Nothing) new = ⊥
+-- the answer of an acquire that may not wait
+abbrev pub acquire_as : Result (Unit {0}) Fault → Result Acquired Fault
+acquire_as (Ok done) = Ok acquire.Done
+acquire_as (Err f) = Err f
+
+-- what a call came to as a step, while its refusal is a fault
+abbrev pub as_step : Result Step Fault → Step
+as_step (Ok step) = step
+as_step (Err f) = Refused f
+
+-- .. and the state once a device's failure, or a damaged page, is noted
+abbrev pub once_noted : Result Step Fault → State → State
+once_noted (Ok step) s = s
+once_noted (Err f) s = after_refusal f s
+
+-- An allocation failed behind the locks: nothing has changed but for those of an insert's place.
+abbrev pub LacksBehind : Geometry → State → SessionTxn → Call → State → Type 0
+LacksBehind g s a c new = (new ≡ s) ⊎ ((store : ℕ) × (bytes : List ℕ) × (id : Rid) × (c ≡ call.Insert store bytes) × HasPlace g s a store bytes id × (new ≡ behind_place s a id))
+
+-- A call of a transaction that has its locks: it is answered, or refused, or an allocation failed.
+abbrev pub IsServedBehind : Geometry → State → SessionTxn → Call → Result Step Fault → State → Type 0
+IsServedBehind g s a c (Ok (Done answer)) new = AnswersBehind g s a c answer new
+IsServedBehind g s a c (Err f) new = ((f ≡ Memory) × LacksBehind g s a c new) ⊎ RefusesBehind g s a c f new
+IsServedBehind g s a c (Ok (Waits wait)) new = ⊥
+IsServedBehind g s a c (Ok (Refused f)) new = ⊥
+IsServedBehind g s a c (Ok Nothing) new = ⊥
+
+-- a record that a transaction could lock now
+abbrev pub can_lock : List Request → ℕ → Rid → Type 0
+can_lock rs t id = CanLockNow rs t (Record id) EX
+
+-- the transactions of a state that are the session's, under this number
+abbrev pub ForTxn : ℕ → ℕ → State → (SessionTxn → Type 0) → Type 0
+ForTxn session txn s P = (a : SessionTxn) → IsOfSession s session a → a.txn ≡ txn → P a
+
+-- .. that have a record locked for writing
+abbrev pub ForWriter : ℕ → List Request → Rid → State → (SessionTxn → Type 0) → Type 0
+ForWriter session rs id s P = (a : SessionTxn) → IsOfSession s session a → IsReached rs a.txn (Record id) EX → P a
 
 module _ {T V : Type 0} {G : tail.Ghosts T} {H : disk.Ghosts V} where
   -- the volume is the same device, of the same length, and as honest
@@ -98,6 +134,14 @@ module _ {T V : Type 0} {G : tail.Ghosts T} {H : disk.Ghosts V} where
     pub durable : durable_of new ≡ durable_of old
     pub failed : has_failed new ≡ has_failed old
     pub tail : tail_of new ≡ tail_of old
+    pub control : control_of new ≡ control_of old
+
+  -- one that has asked for locks at most
+  pub record OnlyLocks (old new : Core T V G H) : Type 0 where
+    pub heap : heap_of new ≡ heap_of old
+    pub tail : tail_of new ≡ tail_of old
+    pub durable : durable_of new ≡ durable_of old
+    pub failed : has_failed new ≡ has_failed old
     pub txns : txns_of new ≡ txns_of old
 
   -- What the volume may be left as at any moment of a call: each page as it was, or as it was in place with a durable number.
@@ -108,12 +152,24 @@ module _ {T V : Type 0} {G : tail.Ghosts T} {H : disk.Ghosts V} where
   -- it is in the state that it was in; but after a failure of the volume nothing is said of its pages
   abbrev pub Stays : {A : Type 0} → Core T V G H → Result A Fault → List ℕ → List LogRecord → State → RecoveryState → Type 0
   Stays new (Ok done) front before s store = ComesTo new front before store s
-  Stays new (Err f) front before s store = ((f ≡ fault.Device) × IsBeside before new s) ⊎ ComesTo new front before store s
+  Stays new (Err f) front before s store = ((f ≡ fault.Device) × IsBeside before new s × IsKept s store) ⊎ ComesTo new front before store s
 
-  -- In whatever safe state the core was, it has come to another by such a reply.
+  -- In whatever safe state the core was, it has come to another, which is a step of the manager over plain data once a failure is noted.
   pub record Replied (session : ℕ) (c : Call) (result : Result Step Fault) (old new : Core T V G H) (front : List ℕ) (before : List LogRecord) (s : State) (store : RecoveryState) : Type 0 where
     pub later : State
-    pub replies : Replies (geometry_of old) s session c result later
+    pub replies : CallStep (geometry_of old) s session c (as_step result) (once_noted result later)
+    pub comes : Stays new result front before later store
+
+  -- .. a call of a transaction under way, from what refuses it before its locks on
+  pub record AskedFor (a : SessionTxn) (c : Call) (result : Result Step Fault) (old new : Core T V G H) (front : List ℕ) (before : List LogRecord) (s : State) (store : RecoveryState) : Type 0 where
+    pub later : State
+    pub asks : ((f : Fault) × RefusesEarly (geometry_of old) c f × (result ≡ Err f) × (later ≡ s)) ⊎ (MayAsk (geometry_of old) c × GoesOn (geometry_of old) s a c (as_step result) (once_noted result later))
+    pub comes : Stays new result front before later store
+
+  -- .. and behind them
+  pub record Served (a : SessionTxn) (c : Call) (result : Result Step Fault) (old new : Core T V G H) (front : List ℕ) (before : List LogRecord) (s : State) (store : RecoveryState) : Type 0 where
+    pub later : State
+    pub serves : IsServedBehind (geometry_of old) s a c result (once_noted result later)
     pub comes : Stays new result front before later store
 
   -- it has come to another state by a step of the manager over plain data
@@ -122,17 +178,15 @@ module _ {T V : Type 0} {G : tail.Ghosts T} {H : disk.Ghosts V} where
     pub moves : CallStep (geometry_of old) s session c step later
     pub comes : ComesTo new front before store later
 
-  -- a resume has come to another state by such a step, over the same pages
-  pub record Resumed (session : ℕ) (step : Step) (old new : Core T V G H) (front : List ℕ) (disk : ℕ → List ℕ) (before : List LogRecord) (s : State) (store : RecoveryState) : Type 0 where
+  -- so has a resume
+  pub record Resumed (session : ℕ) (step : Step) (old new : Core T V G H) (front : List ℕ) (before : List LogRecord) (s : State) (store : RecoveryState) : Type 0 where
     pub later : State
-    pub moves : ResumeStep s session step later
-    pub is_in : IsIn front disk before new later
-    pub over : IsOver disk new later store
+    pub moves : ResumeStep (geometry_of old) s session step later
+    pub comes : ComesTo new front before store later
 
-  -- the session has no call that waits, and no device has failed
-  pub record IsReady (core : Core T V G H) (session : ℕ) : Type 0 where
-    pub running : has_failed core ≡ false
-    pub free : ForSome (committing_in (txns_of core)) (λ c. c.session ≢ session)
+  -- the pages that going on with the call of a session may read
+  abbrev pub ReadsWaiting : Core T V G H → ℕ → PageId → Type 0
+  ReadsWaiting core session page = (w : WaitingCall) × IsAmong w (waits_of core) × (w.session ≡ session) × Reads w.call page
 
   -- over a volume that holds whatever texts of its pages, an answer by `Damaged` is earned by one of these pages
   abbrev pub Earns : {A : Type 0} → Core T V G H → (PageId → Type 0) → Result A Fault → Type 0
@@ -150,11 +204,10 @@ module _ {T V : Type 0} {G : tail.Ghosts T} {H : disk.Ghosts V} where
 
 -- What a change of the session's transaction comes to, of an image that fits where it goes: it is logged and made; or there is no room in the
 -- log, or an allocation failed, and the state is as it was.
-abbrev pub Changes : {T V : Type 0} {G : tail.Ghosts T} {H : disk.Ghosts V} → Core T V G H → ℕ → Rid → Image → Result (Unit {0}) Fault
+abbrev pub Changes : {T V : Type 0} {G : tail.Ghosts T} {H : disk.Ghosts V} → Core T V G H → SessionTxn → Rid → Image → Result (Unit {0}) Fault
     → List ℕ → List LogRecord → State → RecoveryState → Type 0
-Changes new session id image (Ok done) front before s store =
-    (a : SessionTxn) × (counts : SlotCounts) × IsOfSession s session a × MayChange s id image counts × ComesTo new front before store (changed s a id image counts)
-Changes new session id image (Err f) front before s store = ((f ≡ Memory) ⊎ ((f ≡ LogFull) × ¬ CanLog s id image)) × ComesTo new front before store s
+Changes new a id image (Ok done) front before s store = (counts : SlotCounts) × MayChange s id image counts × ComesTo new front before store (changed s a id image counts)
+Changes new a id image (Err f) front before s store = ((f ≡ Memory) ⊎ ((f ≡ LogFull) × ¬ CanLog s id image)) × ComesTo new front before store s
 
 -- the fault of a step, if it is one
 abbrev pub fault_at : Step → Result (Unit {0}) Fault

@@ -4,8 +4,7 @@ ghost use Rattle.shore_types.specs.Layout.{HasStore};
 ghost use Rattle.shore_types.specs.declared.faults.Fault.TheVariants as Fault;
 ghost use Rattle.shore_model.specs.Records.{scan_of};
 ghost use Rattle.shore_disk.specs.Cause.{HasCause};
-ghost use Rattle.shore_calls.specs.CallSteps.{after_refusal};
-ghost use Rattle.shore_calls.specs.Refusals.{IsPageFault};
+ghost use Rattle.shore_calls.specs.StateChanges.{IsPageFault, after_refusal};
 ghost use Rattle.shore_core.specs.Replies.{Fails};
 
 use crate::core_calls::Core;
@@ -15,7 +14,7 @@ use shore_types::{Fault, Lsn, Pairs, StoreId};
 use std::alloc::Global;
 
 impl<T: Tail, V: Disk> Core<T, V> {
-    ghost use Rattle.shore_core.specs.Cores.{ComesTo, durable_of, faults_of, geometry_of, has_failed, heap_of, tail_of, txns_of};
+    ghost use Rattle.shore_core.specs.Cores.{ComesTo, durable_of, faults_of, geometry_of, has_failed, heap_of, control_of, tail_of};
     ghost use Rattle.shore_core.specs.Replies.{Earns, InEach, MayLeave, NeedsForce, OnlyReads, SameVolume, Stays};
 
     /// The records in place of a store, decided or not, in place order; no transaction is asked for. `Failed` if a device has failed, or a page was
@@ -36,7 +35,7 @@ impl<T: Tail, V: Disk> Core<T, V> {
             ⊎ ((f ≡ Fault.NoStore) × ¬ HasStore (geometry_of self.old) store) ⊎ (f ≡ Fault.Memory) ⊎ IsPageFault s f)) self.old }
         ensures durable { durable_of self.new ≡ durable_of self.old }
         ensures tail { tail_of self.new ≡ tail_of self.old }
-        ensures txns { txns_of self.new ≡ txns_of self.old }
+        ensures control { control_of self.new ≡ control_of self.old }
         ensures cause { HasCause result (faults_of self.old) (faults_of self.new) }
     {
         if self.failed {
@@ -65,6 +64,7 @@ impl<T: Tail, V: Disk> Core<T, V> {
         ensures cause { HasCause result (faults_of self.old) (faults_of self.new) }
     {
         let last = Lsn(self.tail.next().0 - 1);
-        self.heap.scan(alloc, store, &self.txns, last, self.durable)
+        self.heap
+            .scan(alloc, store, self.control.txns(), last, self.durable)
     }
 }

@@ -15,7 +15,7 @@ use shore_types::Fault;
 use std::alloc::Global;
 
 impl<T: Tail, V: Disk> Core<T, V> {
-    ghost use Rattle.shore_core.specs.Cores.{durable_of, faults_of, first_of, has_failed, heap_of, tail_of, txns_of};
+    ghost use Rattle.shore_core.specs.Cores.{durable_of, faults_of, first_of, has_failed, heap_of, tail_of, control_of};
     ghost use Rattle.shore_core.specs.Flushing.{FlushAnswers, FlushSteps};
     ghost use Rattle.shore_core.specs.Replies.{InEach, MayLeave, SameVolume, fault_at};
 
@@ -43,7 +43,7 @@ impl<T: Tail, V: Disk> Core<T, V> {
         ensures durable { durable_of self.new ≡ durable_of self.old }
         ensures first { first_of self.new ≡ first_of self.old }
         ensures tail { tail_of self.new ≡ tail_of self.old }
-        ensures txns { txns_of self.new ≡ txns_of self.old }
+        ensures control { control_of self.new ≡ control_of self.old }
         ensures cause { HasCause (fault_at result) (faults_of self.old) (faults_of self.new) }
     {
         if self.failed {
@@ -63,7 +63,7 @@ impl<T: Tail, V: Disk> Core<T, V> {
         ensures heap { heap_of self.new ≡ heap_of self.old }
         ensures durable { durable_of self.new ≡ durable_of self.old }
         ensures tail { tail_of self.new ≡ tail_of self.old }
-        ensures txns { txns_of self.new ≡ txns_of self.old }
+        ensures control { control_of self.new ≡ control_of self.old }
     {
         if matches!(fault, Fault::Device) {
             self.failed = true;

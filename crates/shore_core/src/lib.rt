@@ -2,6 +2,9 @@
 //! transactions, and hands the records of the log over to a log buffer.
 #![tactic(auto)]
 
+mod changing;
+mod checks;
+mod committing;
 mod core_calls;
 mod dumping;
 mod flushing;
@@ -9,7 +12,12 @@ mod fusing;
 mod handing_over;
 mod images;
 mod inserting;
+mod lockable;
+mod locking;
 mod making;
+mod nodes;
+mod reading;
+mod resuming;
 
 pub use core_calls::Core;
 pub use shore_calls::{Step, Wait};

@@ -1,40 +1,40 @@
 //! Makes a core of what a restart has left.
-ghost use Rattle.std.specs.Prelude.{◌≡◌, ◌+◌, ◌≤◌, [], ℕ, List, None, false, length};
+ghost use Rattle.std.specs.Prelude.{◌≡◌, ◌+◌, ◌≤◌, [], ℕ, List, false, length};
 ghost use Rattle.shore_types.specs.declared.layout.TheConstants.{LAST_OPENED};
 ghost use Rattle.shore_calls.specs.States.{State, page_slots};
 ghost use Rattle.shore_heap.specs.Contents.{unclaimed};
 ghost use Rattle.shore_heap.specs.Heaps.{Shows};
-ghost use Rattle.shore_txn.specs.Tables.{active_in, committing_in};
+ghost use Rattle.shore_control.specs.Controls.{txns_in};
+ghost use Rattle.shore_control.specs.Standing.{HasControl};
+ghost use Rattle.shore_txn.specs.Transactions as table;
 ghost use Rattle.shore_logged.specs.LoggedHeaps.{IsStoreOf};
 ghost use Rattle.shore_recovery.specs.Recovery.{RecoveryState};
-ghost use Rattle.shore_core.specs.Parts.{HasTxns};
 
 use crate::core_calls::Core;
+use shore_control::Control;
 use shore_disk::Disk;
 use shore_heap::Heap;
 use shore_log::PlainTail;
-use shore_txn::TxnTable;
 use shore_types::Lsn;
 use std::alloc::Global;
 
 impl<V: Disk> Core<PlainTail, V> {
-    ghost use Rattle.shore_core.specs.Cores.{IsIn, IsKept, IsOver, durable_of, first_of, has_failed, heap_of, txns_of, waiting_of};
+    ghost use Rattle.shore_core.specs.Cores.{IsIn, IsKept, IsOver, durable_of, first_of, has_failed, heap_of, control_of, waiting_of};
 
     /// The core over a heap whose pages show a log with no transaction under way: what a restart has left. `last` is the number of the log's last
     /// record, and `durable` that up to which it is durable.
     pub fn over(
         alloc: Global,
         heap: Heap<V>,
-        txns: TxnTable,
+        control: Control,
         last: Lsn,
         durable: Lsn,
     ) -> Core<PlainTail, V>
-        requires active { active_in txns ≡ None }
-        requires committing { committing_in txns ≡ None }
+        requires active { table.txns_in (txns_in control) ≡ [] }
         requires durable { durable ≤ last }
         requires few { last + 1 ≤ LAST_OPENED }
         ensures heap { heap_of result ≡ heap }
-        ensures txns { txns_of result ≡ txns }
+        ensures control { control_of result ≡ control }
         ensures durable { durable_of result ≡ durable }
         ensures first { first_of result ≡ last + 1 }
         ensures waiting { waiting_of result ≡ [] }
@@ -42,13 +42,13 @@ impl<V: Disk> Core<PlainTail, V> {
 
         // It is in each state that table, log and pages stand for.
         ensures state { (front : List ℕ) (disk : ℕ → List ℕ) (s : State) → length s.log ≡ last → s.durable ≡ durable → s.failed ≡ false
-            → HasTxns txns s → Shows unclaimed heap front disk (page_slots s) → IsIn front disk s.log result s }
+            → HasControl control s → Shows unclaimed heap front disk (page_slots s) → IsIn front disk s.log result s }
         ensures over { (disk : ℕ → List ℕ) (s : State) (store : RecoveryState) → IsKept s store → IsStoreOf heap disk store → IsOver disk result s store }
     {
         Core {
             heap,
             tail: PlainTail::new(alloc, Lsn(last.0 + 1)),
-            txns,
+            control,
             durable,
             failed: false,
         }

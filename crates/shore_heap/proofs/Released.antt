@@ -43,7 +43,7 @@ images_settled : (images : List Image) → images_of (map settled images) ≡ im
 images_settled [] = refl
 images_settled (image ∷ images) = ap (λ (l : List Image). image ∷ l) (images_settled images)
 
-images_claimed : (kept : List (ℕ × ℕ)) (images : List Image) → images_of (claimed_by kept (map settled images)) ≡ images
+pub images_claimed : (kept : List (ℕ × ℕ)) (images : List Image) → images_of (claimed_by kept (map settled images)) ≡ images
 images_claimed [] images = images_settled images
 images_claimed (c ∷ kept) images = images_raised c.1 (claimed_by kept (map settled images)) c.0 ∙ images_claimed kept images
 

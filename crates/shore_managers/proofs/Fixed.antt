@@ -7,7 +7,8 @@ use Rattle.shore_model.specs.declared.log_records.LogRecord.{LogRecord}
 use Rattle.shore_recovery.proofs.Restarts.{events_restart}
 use Rattle.shore_recovery.proofs.UndoRecords.{undone_grows}
 use Rattle.shore_recovery.specs.Recovery.{RecoveryState}
-use Rattle.shore_calls.proofs.Prefixes.{event_goes_on, prefix_left, prefix_on, whole_prefix}
+use Rattle.shore_calls.proofs.LongerLogs.{session_event_goes_on}
+use Rattle.shore_calls.proofs.Prefixes.{prefix_left, prefix_on, whole_prefix}
 use Rattle.shore_calls.specs.CallHistories.{IsPrefix}
 use Rattle.shore_lives.specs.Stretches.{MayBeFound}
 use Rattle.shore_managers.proofs.Runs.{come, found_next, works_on}
@@ -15,7 +16,7 @@ use Rattle.shore_managers.specs.StoredRuns.{AreFixed, AreStoredRuns, IsStoredRun
 
 module _ (g : Geometry) where
   step_goes_on : (m new : StoredState) (e : StoredEvent) → StoredSteps g m e new → IsPrefix m.state.log new.state.log
-  step_goes_on m new (Manage e works) h = event_goes_on g m.state new.state e h.0
+  step_goes_on m new (Manage e works) h = session_event_goes_on g m.state new.state e h.0
   step_goes_on m new (Tend works) h = subst (λ s. IsPrefix m.state.log s.log) (sym h.0) (whole_prefix m.state.log)
 
   moves_go_on : (m : StoredState) (events : List StoredEvent) (last : StoredState) (made : List Entry) → StoredMoves g m events last made

@@ -1,5 +1,5 @@
 -- A manager over its store from a restart to a crash, and managers one after another, as stretches of a life.
-use Rattle.std.proofs.Common.{◌≡◌, inl, ⊎_elim, ◌++◌, List, [], ◌∷◌, refl, sym, ap, subst, ◌∙◌, length, take, arith, append-nil, append_assoc}
+use Rattle.std.proofs.Common.{◌≡◌, inl, ◌++◌, List, [], ◌∷◌, refl, sym, ap, subst, ◌∙◌, length, take, arith, append-nil, append_assoc}
 use Rattle.std.specs.Prelude.{Contains}
 use Rattle.std.specs.FinMap.{get}
 use Rattle.std.proofs.lemmas.List.Elements.{All-nil}
@@ -14,8 +14,9 @@ use Rattle.shore_sessions.specs.LogPrefixes.{LogDecides, decisions_in}
 use Rattle.shore_sessions.specs.LogTells.{IsLogAfter, records_committed}
 use Rattle.shore_sessions.specs.Soundness.{IsSoundAfter, SessionsAgree}
 use Rattle.shore_sessions.specs.Views.{IsAmong}
-use Rattle.shore_calls.proofs.Steps.{event_kept}
-use Rattle.shore_calls.specs.CallHistories.{IsStateAfter}
+use Rattle.shore_calls.proofs.SessionOpens.{locks_of_none}
+use Rattle.shore_calls.proofs.SessionStates.{session_event_stays}
+use Rattle.shore_calls.specs.Events.{IsStateAfter}
 use Rattle.shore_lives.proofs.AtWork.{IsAtWork, all_stay_at_work, pages_have_records}
 use Rattle.shore_lives.proofs.Lives.{stretches_are_a_life}
 use Rattle.shore_lives.proofs.Openings.{opens_at_work}
@@ -46,10 +47,10 @@ module _ (g : Geometry) (found : List LogRecord) where
   manage_comes : (es : List Entry) (m new : StoredState) → IsStored m.state m.store → IsStateAfter found es m.state → (e : StoredEvent)
       → StoredSteps g m e new → HasCome found es m new (entries_made m e)
   manage_comes es m new stored k (Manage e works) h =
-      let come = event_comes found es m stored k g new.state e h.0 works new.store h.1 h.2 in
-      record { state = event_kept g found es m.state new.state e k h.0; stored = h.2; events = come.0; runs = come.1 }
+      let come = event_comes m stored found es k g new.state e h.0 works new.store h.1 h.2 in
+      record { state = session_event_stays g found es m.state new.state e k h.0; stored = h.2; events = come.0; runs = come.1 }
   manage_comes es m new stored k (Tend works) h =
-      let come = rest_comes found es m stored k new.state h.0 works new.store h.1 h.2 in
+      let come = rest_comes m stored es new.state h.0 works new.store h.1 h.2 in
       record {
         state = subst (λ es. IsStateAfter found es new.state) (sym (append-nil es)) (subst (IsStateAfter found es) (sym h.0) k);
         stored = h.2;
@@ -98,11 +99,16 @@ module _ (g : Geometry) (s : RecoveryState) (f : MayBeFound s) (r : StoredRun) (
       let most = at_work.recoverable.durable in
       let long : length r.ready.log ≡ length r.first.log = ap length log in
       let opens = h.opens.sessions in
+      let active : length r.first.sessions.active ≡ 0 = ap length opens.active in
+      let committing : length r.first.sessions.committing ≡ 0 = ap length opens.committing in
       record {
-        sound = subst (λ R. IsSoundAfter R [] r.first.sessions) tells at_work.sessions.sound;
-        agree = subst (λ R. SessionsAgree R [] r.first.sessions) tells at_work.sessions.agree;
-        log = subst (λ R. IsLogAfter R [] r.first.sessions r.first.log) tells (subst (IsLogAfter (records_told s.log) [] r.first.sessions) log at_work.sessions.logged);
-        decides = subst (λ R. LogDecides (length s.log) R [] r.first.log) tells (subst (LogDecides (length s.log) (records_told s.log) []) log at_work.decides);
+        sessions = record {
+          sound = subst (λ R. IsSoundAfter R [] r.first.sessions) tells at_work.sessions.sound;
+          agree = subst (λ R. SessionsAgree R [] r.first.sessions) tells at_work.sessions.agree;
+          log = subst (λ R. IsLogAfter R [] r.first.sessions r.first.log) tells (subst (IsLogAfter (records_told s.log) [] r.first.sessions) log at_work.sessions.logged);
+          decides = subst (λ R. LogDecides (length s.log) R [] r.first.log) tells (subst (LogDecides (length s.log) (records_told s.log) []) log at_work.decides);
+          locks = locks_of_none r.first opens.held h.opens.locks;
+        };
         waits = record {
           each = λ w m. absurd (subst (IsAmong w) h.opens.waiting m);
           once = λ v w m n same. absurd (subst (IsAmong v) h.opens.waiting m);
@@ -113,11 +119,7 @@ module _ (g : Geometry) (s : RecoveryState) (f : MayBeFound s) (r : StoredRun) (
           most = omega (arith, most, durable, long);
           acknowledged_kept = All-nil (Contains (decisions_in (length s.log) (take r.first.durable r.first.log)));
         };
-        one = record {
-          first = λ a y. ⊎_elim (λ m. absurd (subst (IsAmong a) opens.active m)) (λ m. absurd (subst (IsAmong a) opens.committing m)) y;
-          holds = λ a m. absurd (subst (IsAmong a) opens.active m);
-          nobody_else = λ h m. absurd (subst (IsAmong h) opens.held m);
-        };
+        few = omega (arith, active, committing);
       }
 
   pub come : HasCome s.log [] (record { state = r.first; store = r.ready }) r.last r.made

@@ -12,8 +12,8 @@ use Rattle.shore_recovery.specs.Recovery.{MayCrash, RecoveryEvent, RecoveryState
 use Rattle.shore_recovery.specs.Restarts.{RestartsTo}
 use Rattle.shore_recovery.specs.Undo.{HasNoLosers}
 use Rattle.shore_sessions.specs.LogPrefixes.{decisions_in}
-use Rattle.shore_calls.specs.CallHistories.{IsPrefix, entries_of}
-use Rattle.shore_calls.specs.CallSteps.{EventMoves, ManagerEvent}
+use Rattle.shore_calls.specs.CallHistories.{IsPrefix}
+use Rattle.shore_calls.specs.Events.{ManagerEvent, EventMoves, entries_of}
 use Rattle.shore_calls.specs.States.{State}
 use Rattle.shore_lives.specs.ManagerSteps.{OpensOver, WorksTo}
 
@@ -49,10 +49,11 @@ StoredMoves g m (e ∷ events) last made = (new : StoredState) × (later : List 
 
 -- ---- from a restart to a crash
 
--- The manager opens over what a restart has left: nobody is in a transaction, no call waits, and the pages show its records.
+-- The manager opens over what a restart has left: nobody is in a transaction or asks for a lock, no call waits, and the pages show its records.
 pub record IsOpenedOver (ready : RecoveryState) (first : State) : Type 0 where
   pub sessions : OpensOver ready first.sessions
   pub stored : IsStored first ready
+  pub locks : first.locks.requests ≡ []
   pub waiting : first.waiting ≡ []
   pub running : first.failed ≡ false
 

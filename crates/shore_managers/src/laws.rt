@@ -7,8 +7,7 @@ ghost use Rattle.shore_model.specs.Lives.{IsLife};
 ghost use Rattle.shore_model.specs.Logs.{Lawful};
 ghost use Rattle.shore_recovery.specs.Recovery.{IsRecoverable, RecoveryEvent, RecoveryState};
 ghost use Rattle.shore_lives.specs.Stretches.{MayBeFound, opening_told};
-ghost use Rattle.shore_calls.specs.CallHistories.{IsStateAfter};
-ghost use Rattle.shore_calls.specs.CallSteps.{EventMoves, ManagerEvent};
+ghost use Rattle.shore_calls.specs.Events.{IsStateAfter, ManagerEvent, EventMoves};
 ghost use Rattle.shore_calls.specs.States.{State};
 ghost use Rattle.shore_managers.specs.StoredRuns.{AreFixed, AreStoredRuns, IsStored, IsStoredRun, Manage, OpensShow, StoredRun, StoredState, StoredSteps, lists_found, spans_of};
 

@@ -1,6 +1,6 @@
 //! A line of the script.
 ghost use Rattle.std.specs.Prelude.{IfOk, IfSome};
-ghost use Rattle.shore_calls.specs.CallSteps.{IsServed};
+ghost use Rattle.shore_calls.specs.Events.{IsServed};
 ghost use Rattle.shore_prog.specs.Commands.{IsServedCommand};
 
 use crate::fuses::Fuse;
@@ -10,9 +10,6 @@ use shore_model::Call;
 use shore_types::{Device, SessionId};
 use std::alloc::{AllocError, Global};
 
-/// The one session that is served as yet.
-pub const SESSION: SessionId = SessionId(1);
-
 /// The most words of a command.
 const MAX_WORDS: usize = 4;
 
@@ -21,8 +18,8 @@ const MAX_WORDS: usize = 4;
 pub enum Command {
     /// An empty line, or a remark.
     Nothing,
-    /// A call of the session.
-    Ask(Call),
+    /// A call of a session.
+    Ask(SessionId, Call),
     /// Every waiting record is forced.
     Force,
     /// Every dirty page with a durable number is written back.
@@ -37,6 +34,8 @@ pub enum Command {
     Dump,
     /// Every record of the log.
     Log,
+    /// Every lock, held or waited for.
+    Locks,
 }
 
 /// What the line asks for. `Ok(None)`: the line is not a script line.
@@ -55,13 +54,14 @@ fn command_of(alloc: Global, words: &[&str]) -> Result<Option<Command>, AllocErr
     ensures { IfOk result (λ found. IfSome found IsServedCommand) }
 {
     match words {
-        [session, call @ ..] if words::session(session) == Some(SESSION) => {
-            match call_of(alloc, call)? {
-                Some(call) => Ok(Some(Command::Ask(call))),
+        [first, call @ ..] => match words::session(first) {
+            Some(session) => match call_of(alloc, call)? {
+                Some(call) => Ok(Some(Command::Ask(session, call))),
                 None => Ok(None),
-            }
-        }
-        words => Ok(plain_command(words)),
+            },
+            None => Ok(plain_command(words)),
+        },
+        [] => Ok(None),
     }
 }
 
@@ -75,6 +75,7 @@ fn plain_command(words: &[&str]) -> Option<Command>
             "crash" => Some(Command::Crash(None)),
             "dump" => Some(Command::Dump),
             "log" => Some(Command::Log),
+            "locks" => Some(Command::Locks),
             _ => None,
         },
         [word, pick] if *word == "crash" => Some(Command::Crash(Some(pick_of(pick)?))),
@@ -115,7 +116,7 @@ fn pick_of(word: &str) -> Option<Pick> {
 }
 
 fn call_of(alloc: Global, words: &[&str]) -> Result<Option<Call>, AllocError>
-    ensures { IfOk result (λ found. IfSome found (IsServed 1)) }
+    ensures { IfOk result (λ found. IfSome found IsServed) }
 {
     match words {
         [word, store, bytes] if *word == "insert" => insert_of(alloc, store, bytes),
@@ -126,20 +127,27 @@ fn call_of(alloc: Global, words: &[&str]) -> Result<Option<Call>, AllocError>
 
 // The calls that have no bytes.
 fn plain_call_of(words: &[&str]) -> Option<Call>
-    ensures { IfSome result (IsServed 1) }
+    ensures { IfSome result IsServed }
 {
     match words {
         [word] if *word == "begin" => Some(Call::Begin),
         [word] if *word == "commit" => Some(Call::Commit),
         [word, record] if *word == "get" => Some(Call::Get(words::record(record)?)),
+        [word, record] if *word == "getu" => Some(Call::GetForUpdate(words::record(record)?)),
         [word, record] if *word == "delete" => Some(Call::Delete(words::record(record)?)),
         [word, store] if *word == "scan" => Some(Call::Scan(words::store(store)?)),
+        [word, granule, mode] if *word == "lock" => {
+            Some(Call::Lock(words::granule(granule)?, words::mode(mode)?))
+        }
+        [word, granule, mode] if *word == "try" => {
+            Some(Call::TryLock(words::granule(granule)?, words::mode(mode)?))
+        }
         _ => None,
     }
 }
 
 fn insert_of(alloc: Global, store: &str, bytes: &str) -> Result<Option<Call>, AllocError>
-    ensures { IfOk result (λ found. IfSome found (IsServed 1)) }
+    ensures { IfOk result (λ found. IfSome found IsServed) }
 {
     let Some(store) = words::store(store) else {
         return Ok(None);
@@ -151,7 +159,7 @@ fn insert_of(alloc: Global, store: &str, bytes: &str) -> Result<Option<Call>, Al
 }
 
 fn update_of(alloc: Global, record: &str, bytes: &str) -> Result<Option<Call>, AllocError>
-    ensures { IfOk result (λ found. IfSome found (IsServed 1)) }
+    ensures { IfOk result (λ found. IfSome found IsServed) }
 {
     let Some(id) = words::record(record) else {
         return Ok(None);

@@ -3,11 +3,13 @@
 
 mod command;
 mod devices;
+mod forcing;
 mod fuses;
 mod lines;
 mod manager;
 mod program;
 mod render;
+mod rounds;
 mod stop;
 mod words;
 

@@ -2,16 +2,19 @@
 ghost use Rattle.std.specs.Prelude.{◌≡◌, ◌≤◌, ◌↔◌, ℕ, IsTrue, IfOk};
 ghost use Rattle.shore_types.specs.declared.faults.Fault.TheVariants.{NeedForce};
 ghost use Rattle.shore_types.specs.declared.layout.TheConstants.{MAX_PAGES, MIN_POOL_FRAMES};
-ghost use Rattle.shore_calls.specs.CallSteps.{IsServed};
+ghost use Rattle.shore_calls.specs.Events.{IsServed};
 ghost use Rattle.shore_settings.specs.Limits.{AreInLimits};
 ghost use Rattle.shore_prog.specs.Commands.{IsServedCommand, IsTaken};
 ghost use Rattle.shore_prog.specs.declared.manager.Progress.TheVariants.{Again};
 
-use crate::command::{Command, SESSION};
+use crate::command::Command;
 use crate::devices::{ScriptDisk, first_pair, pair_after_crash};
+use crate::forcing::force;
 use crate::fuses::{Fuse, Fuses};
 use crate::render;
+use crate::rounds::{WaitingLines, go_round};
 use crate::stop::Stop;
+use shore_calls::Wait;
 use shore_disk::Pick;
 use shore_model::{Answer, Call};
 use shore_settings::{Devices, Settings};
@@ -55,12 +58,11 @@ pub enum Progress {
     Again,
 }
 
-/// A world that is open, and its one session.
+/// A world that is open, and the lines whose calls wait.
 #[derive(Drop)]
 struct Opened {
     world: ScriptWorld,
-    /// The session's call waits for a force.
-    waits: bool,
+    waiting: WaitingLines,
 }
 
 impl Manager {
@@ -103,12 +105,13 @@ impl Manager {
         }
     }
 
-    /// Does what a line asks for, and writes its answers, or forces the log for it.
+    /// Does what a line asks for, and writes its answers, or forces the log for it. If its call has to wait for a lock, the line is kept.
     pub fn execute<F: Files<File = File>, W: Write>(
         &mut self,
         alloc: Global,
         files: &F,
         command: Command,
+        line: &[u8],
         out: &mut W,
     ) -> Result<Progress, Stop>
         requires served { IsServedCommand command }
@@ -119,7 +122,7 @@ impl Manager {
             Command::Crash(pick) => self.crash(alloc, files, pick.unwrap_or(Pick::Old), out)?,
             Command::Fuse(fuse) => self.set_fuse(fuse),
             Command::NextFuse(fuse) => self.next_fuses.set(fuse),
-            command => return self.serve(alloc, command, out),
+            command => return self.serve(alloc, command, line, out),
         }
         Ok(Progress::Done)
     }
@@ -129,17 +132,18 @@ impl Manager {
         &mut self,
         alloc: Global,
         command: Command,
+        line: &[u8],
         out: &mut W,
     ) -> Result<Progress, Stop>
         requires { IsServedCommand command }
     {
-        let Access::Open(Opened { world, waits }) = &mut self.access else {
+        let Access::Open(Opened { world, waiting }) = &mut self.access else {
             render::fault(out, asker_of(&command), &Fault::Failed)?;
             return Ok(Progress::Done);
         };
-        let progress = answer(alloc, world, waits, command, out)?;
+        let progress = answer(alloc, world, waiting, command, line, out)?;
         if progress == Progress::Done {
-            settle(alloc, world, waits, out)?;
+            go_round(alloc, world, waiting, out)?;
         }
         Ok(progress)
     }
@@ -198,7 +202,7 @@ fn open(
         Ok(world) => {
             let opened = Opened {
                 world,
-                waits: false,
+                waiting: WaitingLines::new(alloc),
             };
             (Access::Open(opened), None)
         }
@@ -209,7 +213,7 @@ fn open(
 // Whose call a line is.
 fn asker_of(command: &Command) -> Option<SessionId> {
     match command {
-        Command::Ask(_) => Some(SESSION),
+        Command::Ask(session, _) => Some(*session),
         _ => None,
     }
 }
@@ -217,44 +221,60 @@ fn asker_of(command: &Command) -> Option<SessionId> {
 fn answer<W: Write>(
     alloc: Global,
     world: &mut ScriptWorld,
-    waits: &mut bool,
+    waiting: &mut WaitingLines,
     command: Command,
+    line: &[u8],
     out: &mut W,
-) -> io::Result<Progress>
+) -> Result<Progress, Stop>
     requires { IsServedCommand command }
 {
     match command {
-        Command::Ask(call) => return ask(alloc, world, waits, call, out),
-        Command::Dump => return dump(alloc, world, out),
+        Command::Ask(session, call) => return ask(alloc, world, waiting, session, call, line, out),
+        Command::Dump => return Ok(dump(alloc, world, out)?),
         Command::Force => force_line(alloc, world, out)?,
         Command::Flush => flush_line(alloc, world, out)?,
-        Command::Log if world.has_failed() => render::fault(out, None, &Fault::Failed)?,
+        Command::Log | Command::Locks if world.has_failed() => render::fault(
+            out,
+            None,
+            &Fault::Failed,
+        )?,
         Command::Log => log(world, out)?,
+        Command::Locks => locks(alloc, world, out)?,
         Command::Nothing | Command::Crash(_) | Command::Fuse(_) | Command::NextFuse(_) => {}
     }
     Ok(Progress::Done)
 }
 
+// The room for a line that waits is taken before the call is made.
 fn ask<W: Write>(
     alloc: Global,
     world: &mut ScriptWorld,
-    waits: &mut bool,
+    waiting: &mut WaitingLines,
+    session: SessionId,
     call: Call,
+    line: &[u8],
     out: &mut W,
-) -> io::Result<Progress>
-    requires { IsServed 1 call }
+) -> Result<Progress, Stop>
+    requires { IsServed call }
 {
-    match world.step(alloc, Event::Call(SESSION, call)) {
-        Step::Waits(_) => *waits = true,
-        Step::Refused(fault) => return refuse(alloc, world, Some(SESSION), fault, out),
-        step => print(&step, out)?,
+    waiting.reserve()?;
+    match world.step(alloc, Event::Call(session, call)) {
+        Step::Waits(wait) => {
+            if let Wait::Lock(granule) = &wait {
+                render::waits(out, session, granule)?;
+            }
+            waiting.add(alloc, session, wait, line)?;
+        }
+        Step::Refused(fault) => return Ok(refuse(alloc, world, Some(session), fault, out)?),
+        Step::Done(answer) => render::answer(out, session, &answer)?,
+        Step::Nothing => {}
     }
     Ok(Progress::Done)
 }
 
 // A line that is refused, of a session's call or another, answers its fault. If it needs a force, which no line answers, the log is forced for
 // it; then every record is durable, and no page has to stay in its frame. A force that fails is the fault of the line.
-fn refuse<W: Write>(
+pub(crate) fn refuse<W: Write>(
     alloc: Global,
     world: &mut ScriptWorld,
     session: Option<SessionId>,
@@ -273,72 +293,6 @@ fn refuse<W: Write>(
     };
     render::fault(out, session, &fault)?;
     Ok(Progress::Done)
-}
-
-// A step of the session's call that has ended.
-fn print<W: Write>(step: &Step, out: &mut W) -> io::Result<()> {
-    match step {
-        Step::Done(answer) => render::answer(out, SESSION, answer),
-        Step::Refused(fault) => render::fault(out, Some(SESSION), fault),
-        Step::Waits(_) | Step::Nothing => Ok(()),
-    }
-}
-
-// Goes on with a call that waits: forces what it waits for, and resumes it. If the device fails now, the call is answered with that. A
-// force that was refused for another cause has changed nothing: the call waits on, and the next line tries again.
-fn settle<W: Write>(
-    alloc: Global,
-    world: &mut ScriptWorld,
-    waits: &mut bool,
-    out: &mut W,
-) -> io::Result<()> {
-    if !*waits {
-        return Ok(());
-    }
-    match force(alloc, world) {
-        Ok(()) | Err(Fault::Failed) => resume(alloc, world, waits, out),
-        Err(Fault::Device) => {
-            give_up(alloc, world, waits);
-            render::fault(out, Some(SESSION), &Fault::Device)
-        }
-        Err(_) => Ok(()),
-    }
-}
-
-fn resume<W: Write>(
-    alloc: Global,
-    world: &mut ScriptWorld,
-    waits: &mut bool,
-    out: &mut W,
-) -> io::Result<()> {
-    match world.step(alloc, Event::Resume(SESSION)) {
-        Step::Waits(_) => Ok(()),
-        step => {
-            *waits = false;
-            print(&step, out)
-        }
-    }
-}
-
-// The call that waits is answered, and waits no more.
-fn give_up(alloc: Global, world: &mut ScriptWorld, waits: &mut bool) {
-    *waits = false;
-    let _answered = world.step(alloc, Event::Resume(SESSION));
-}
-
-// Forces every waiting record.
-fn force(alloc: Global, world: &mut ScriptWorld) -> Result<(), Fault> {
-    for _ in 0..u64::MAX {
-        match world.step(alloc, Event::ForceStage) {
-            Step::Done(_) => {}
-            Step::Refused(fault) => return Err(fault),
-            Step::Nothing | Step::Waits(_) => return Ok(()),
-        }
-        if let Step::Refused(fault) = world.step(alloc, Event::ForceOpen) {
-            return Err(fault);
-        }
-    }
-    Ok(())
 }
 
 fn force_line<W: Write>(alloc: Global, world: &mut ScriptWorld, out: &mut W) -> io::Result<()> {
@@ -419,4 +373,20 @@ fn log<W: Write>(world: &ScriptWorld, out: &mut W) -> io::Result<()> {
     } else {
         Ok(())
     }
+}
+
+// Every node of the lock table, in the order of granule and transaction.
+fn locks<W: Write>(alloc: Global, world: &ScriptWorld, out: &mut W) -> io::Result<()> {
+    let mut nodes = match world.nodes(alloc) {
+        Ok(nodes) => nodes,
+        Err(_) => return render::fault(out, None, &Fault::Memory),
+    };
+    nodes.sort_unstable_by_key(|node| (node.granule, node.txn));
+    if nodes.is_empty() {
+        return out.write_all(b"no locks\n");
+    }
+    for node in &nodes {
+        render::lock(out, node)?;
+    }
+    Ok(())
 }

@@ -117,7 +117,7 @@ fn run_line<F: Files<File = File>, W: Write>(
     for _ in 0..u64::MAX {
         match read_line(alloc, line)? {
             Some(command) if manager.takes(&command) => {
-                if manager.execute(alloc, files, command, output)? == Progress::Done {
+                if manager.execute(alloc, files, command, line, output)? == Progress::Done {
                     return Ok(true);
                 }
             }

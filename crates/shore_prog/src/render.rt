@@ -2,8 +2,8 @@
 ghost use Rattle.std.specs.Prelude.{◌≤◌, length};
 ghost use Rattle.shore_prog.specs.declared.render.TheConstants.{PART};
 
-use shore_model::{Answer, LogRecord, Payload};
-use shore_types::{Fault, Pairs, Rid, SessionId};
+use shore_model::{Answer, LogRecord, Payload, Request};
+use shore_types::{Fault, Granule, Pairs, Rid, SessionId};
 use std::io::{self, Write};
 
 const DIGITS: [u8; 16] = *b"0123456789abcdef";
@@ -56,6 +56,24 @@ fn other_answer<W: Write>(out: &mut W, answer: &Answer) -> io::Result<()> {
         Answer::Resolved => writeln!(out, "resolved"),
         _ => writeln!(out, "ok"),
     }
+}
+
+/// Writes the line of a session's call that begins to wait for a lock.
+pub fn waits<W: Write>(out: &mut W, session: SessionId, granule: &Granule) -> io::Result<()> {
+    writeln!(out, "{session}: waits {granule}")
+}
+
+/// Writes the line of a lock: what a transaction holds of a granule, or `-`, and what it waits for.
+pub fn lock<W: Write>(out: &mut W, request: &Request) -> io::Result<()> {
+    let (granule, txn) = (&request.granule, request.txn);
+    match &request.held {
+        Some(held) => write!(out, "{granule} {txn} {held}")?,
+        None => write!(out, "{granule} {txn} -")?,
+    }
+    if let Some(wanted) = &request.wanted {
+        write!(out, " wants {wanted}")?;
+    }
+    out.write_all(b"\n")
 }
 
 /// Writes a line for each record.

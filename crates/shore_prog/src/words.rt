@@ -1,7 +1,7 @@
 //! The words of a script line: numbers, ids and bytes.
 ghost use Rattle.std.specs.Prelude.{◌<◌, IfSome};
 
-use shore_types::{Bytes, PageId, Rid, Sequence, SessionId, StoreId};
+use shore_types::{Bytes, Granule, Mode, PageId, Rid, Sequence, SessionId, StoreId};
 use std::alloc::{AllocError, Global};
 
 /// The most bytes that the form `HH*N` repeats.
@@ -35,6 +35,37 @@ pub fn session(word: &str) -> Option<SessionId> {
 /// A store, as `0`.
 pub fn store(word: &str) -> Option<StoreId> {
     Some(StoreId(short_number(word)?))
+}
+
+/// A granule: the volume `v`, a store, a page as `0.1`, or a record.
+pub fn granule(word: &str) -> Option<Granule> {
+    match word.bytes().filter(|byte| *byte == b'.').count() {
+        0 if word == "v" => Some(Granule::Volume),
+        0 => Some(Granule::Store(store(word)?)),
+        1 => Some(Granule::Page(page(word)?)),
+        _ => Some(Granule::Record(record(word)?)),
+    }
+}
+
+fn page(word: &str) -> Option<PageId> {
+    let (store_word, page_word) = word.split_once('.')?;
+    Some(PageId {
+        store: store(store_word)?,
+        page: short_number(page_word)?,
+    })
+}
+
+/// A mode of a lock.
+pub fn mode(word: &str) -> Option<Mode> {
+    match word {
+        "IS" => Some(Mode::IS),
+        "IX" => Some(Mode::IX),
+        "SH" => Some(Mode::SH),
+        "SIX" => Some(Mode::SIX),
+        "UD" => Some(Mode::UD),
+        "EX" => Some(Mode::EX),
+        _ => None,
+    }
 }
 
 /// A record, as `0.1.2`.

@@ -1,5 +1,5 @@
 -- The state that a core over a restart opens in: what the log leaves is in place, and nobody is in a transaction.
-use Rattle.std.proofs.Common.{◌≡◌, ◌<◌, ℕ, List, [], ◌∷◌, ◌++◌, false, Option, None, Some, refl, sym, ap, subst, ◌∙◌, length}
+use Rattle.std.proofs.Common.{◌≡◌, ◌<◌, ℕ, List, [], ◌∷◌, ◌++◌, false, refl, sym, ap, subst, ◌∙◌, length}
 use Rattle.std.specs.FinMap.{get}
 use Rattle.std.specs.List.{AllByRecursion}
 use Rattle.std.proofs.lemmas.List.Elements.{recursion_from_All}
@@ -8,6 +8,7 @@ use Rattle.shore_types.specs.declared.ids.PageId.{PageId}
 use Rattle.shore_model.specs.declared.log_records.LogRecord.{LogRecord}
 use Rattle.shore_model.specs.Logs.{Lawful, image_of_record, records_told}
 use Rattle.shore_sessions.proofs.Lists.{recursion-at, recursion-push}
+use Rattle.shore_locks.specs.Tables.{Table}
 use Rattle.shore_page.specs.Slots.{settled}
 use Rattle.shore_room.specs.Claims.{rid_on}
 use Rattle.shore_room.proofs.Lists.{each_alike}
@@ -22,9 +23,12 @@ use Rattle.shore_managers.specs.StoredRuns.{IsOpenedOver}
 use Rattle.shore_analysis.specs.Tables.{IsNext}
 use Rattle.shore_analysis.proofs.Counted.{last_is_one}
 use Rattle.shore_bounds.specs.SlotCounts.{slot_count, slots_left}
-use Rattle.shore_txn.specs.declared.table.TxnTable.{TxnTable}
-use Rattle.shore_txn.specs.Tables.{active_in, committing_in, next_in, room_in}
-use Rattle.shore_txn.specs.Txns.{as_session_txns}
+use Rattle.shore_txn.specs.ActiveTxns.{session_txns}
+use Rattle.shore_txn.specs.Transactions.{next_in, room_in}
+use Rattle.shore_control.specs.declared.control.Control.{Control}
+use Rattle.shore_control.specs.declared.waits.WaitingCall.{WaitingCall}
+use Rattle.shore_control.specs.Controls.{locks_in, txns_in, waits_in}
+use Rattle.shore_control.specs.Standing.{HasControl, HasTxns, HasWaits, IsLogged}
 use Rattle.shore_heap.specs.declared.heap.Heap.{Heap}
 use Rattle.shore_heap.specs.Contents.{unclaimed}
 use Rattle.shore_heap.specs.Heaps.{Shows}
@@ -34,7 +38,7 @@ use Rattle.shore_logged.specs.LoggedHeaps.{IsStoreOf}
 use Rattle.shore_log.specs.declared.tail.Tail as tail
 use Rattle.shore_core.specs.declared.core_calls.Core.{Core}
 use Rattle.shore_core.specs.Cores.{IsIn, IsKept, IsOver}
-use Rattle.shore_core.specs.Parts.{AreCommitting, HasTxns, waiting_for}
+use Rattle.shore_restart.specs.Idle.{IsIdle}
 use Rattle.shore_restart.specs.Opened.{OpensIn}
 use Rattle.shore_restart.specs.Room.{IsRoomBehind}
 use Rattle.shore_restart.specs.Standing.{Stands}
@@ -53,11 +57,11 @@ below_undone n log (t ∷ turns) last undone all =
 
 -- ---- the state
 
-module _ (ready : RecoveryState) (table : TxnTable) (stream_bytes : ℕ) where
+module _ (ready : RecoveryState) (control : Control) (stream_bytes : ℕ) where
   abbrev pub opened_state : State
   opened_state = record {
-    sessions = record { records = records_told ready.log; active = []; committing = []; held = []; next_txn = next_in table };
-    locks = record { limit = 16; requests = [] };
+    sessions = record { records = records_told ready.log; active = []; committing = []; held = []; next_txn = next_in (txns_in control) };
+    locks = locks_in control;
     counts = slot_count ready.log;
     log = ready.log;
     durable = ready.durable;
@@ -67,17 +71,19 @@ module _ (ready : RecoveryState) (table : TxnTable) (stream_bytes : ℕ) where
   }
 
   module _ (kept : IsRecoverable ready) (redone : ready.redone ≡ length ready.log) (lawful : Lawful ready.log) (quiet : HasNoLosers ready.log) where
-    pub opened_over : (found : List LogRecord) (turns : List ℕ) → IsUndoneTo found turns ready.log → IsNext found (next_in table) → IsOpenedOver ready opened_state
-    opened_over found turns undone next = record {
+    pub opened_over : (found : List LogRecord) (turns : List ℕ) → IsUndoneTo found turns ready.log → IsNext found (next_in (txns_in control)) → (limit : ℕ) → IsIdle limit control
+        → IsOpenedOver ready opened_state
+    opened_over found turns undone next limit idle = record {
       sessions = record {
         records = λ id. sym (redone_whole ready kept redone id.page id.slot ∙ leaves_told ready.log lawful quiet id);
         active = refl;
         committing = refl;
         held = refl;
         some = next.some;
-        below = below_undone (next_in table) found turns ready.log undone (recursion_from_All (λ (r : LogRecord). r.txn < next_in table) found next.above);
+        below = below_undone (next_in (txns_in control)) found turns ready.log undone (recursion_from_All (λ (r : LogRecord). r.txn < next_in (txns_in control)) found next.above);
       };
       stored = record { log = refl; durable = refl };
+      locks = ap (λ (t : Table). t.requests) idle.locks;
       waiting = refl;
       running = refl;
     }
@@ -96,50 +102,53 @@ module _ (ready : RecoveryState) (table : TxnTable) (stream_bytes : ℕ) where
         (λ p has. slots_told p ∙ sym (slots_done ready p kept (stands.store.done p) redone) ∙ sym (shows_only heap disk ready stands.store stands.settled front stands.slots stands.shows p has))
         stands.shows
 
-  pub opened_txns : active_in table ≡ None → committing_in table ≡ None → IsRoomBehind ready.log stream_bytes (room_in table)
-      → AllByRecursion (λ r. r.txn < next_in table) ready.log → HasTxns table opened_state
-  opened_txns none no_commit room below = record {
-    active = sym (ap as_session_txns none);
-    committing = λ running. subst (λ o. AreCommitting o []) (sym no_commit) refl;
-    waiting = sym (ap waiting_for no_commit);
-    next = refl;
-    stream = sym room.stream;
-    kept = sym room.kept;
-    last = λ t is. absurd (none_some t (sym none ∙ is));
-    claims = λ t is. absurd (none_some t (sym none ∙ is));
-    below = λ t is. absurd (none_some t (sym none ∙ is));
-    above = below;
-  }
-    where
-      none_some : {A : Type 0} (t : A) → ◌≡◌ {A = Option A} None (Some t) → ⊥
-      none_some t e = cc
+  -- with nothing under way the control stands for it
+  module _ (limit : ℕ) (idle : IsIdle limit control) where
+    pub opened_txns : IsRoomBehind ready.log stream_bytes (room_in (txns_in control)) → AllByRecursion (λ r. r.txn < next_in (txns_in control)) ready.log
+        → HasTxns (txns_in control) opened_state
+    opened_txns room below = record {
+      active = sym (ap session_txns idle.txns);
+      next = refl;
+      stream = sym room.stream;
+      kept = sym room.kept;
+      each = subst (AllByRecursion (IsLogged ready.log)) (sym idle.txns) tt;
+      above = below;
+    }
+
+    pub opened_waits : HasWaits (waits_in control) opened_state
+    opened_waits = subst (λ (calls : List WaitingCall). HasWaits calls opened_state) (sym idle.waits)
+        (record { waiting = refl; committing = λ running. refl; asking = λ w among no_commit. absurd among })
+
+    pub opened_control : IsRoomBehind ready.log stream_bytes (room_in (txns_in control)) → AllByRecursion (λ r. r.txn < next_in (txns_in control)) ready.log
+        → HasControl control opened_state
+    opened_control room below = record { txns = opened_txns room below; waits = opened_waits; locks = refl }
 
 -- ---- the core
 
-module _ {T V : Type 0} {G : tail.Ghosts T} {H : disk.Ghosts V} (core : Core T V G H) (heap : Heap V H) (table : TxnTable) (front : List ℕ) (left : ℕ → List ℕ)
+module _ {T V : Type 0} {G : tail.Ghosts T} {H : disk.Ghosts V} (core : Core T V G H) (heap : Heap V H) (control : Control) (front : List ℕ) (left : ℕ → List ℕ)
     (found log : List LogRecord) (stream_bytes : ℕ) (ready : RecoveryState) where
-  -- what is made of a heap and a table that a restart has left opens over its store
+  -- what is made of a heap and a control that a restart has left opens over its store
   pub opens_in : ready.log ≡ log → Lawful found → (undone : (turns : List ℕ) × IsUndoneTo found turns log) → HasNoLosers log → ready.redone ≡ length ready.log
-      → Stands front left heap ready → active_in table ≡ None → committing_in table ≡ None → IsNext found (next_in table) → IsRoomBehind log stream_bytes (room_in table)
-      → ((s : State) → s.log ≡ ready.log → s.durable ≡ ready.durable → s.failed ≡ false → HasTxns table s → Shows unclaimed heap front left (page_slots s)
+      → Stands front left heap ready → (limit : ℕ) → IsIdle limit control → IsNext found (next_in (txns_in control)) → IsRoomBehind log stream_bytes (room_in (txns_in control))
+      → ((s : State) → s.log ≡ ready.log → s.durable ≡ ready.durable → s.failed ≡ false → HasControl control s → Shows unclaimed heap front left (page_slots s)
       → IsIn front left s.log core s)
       → ((s : State) (store : RecoveryState) → IsKept s store → IsStoreOf heap left store → IsOver left core s store) → OpensIn core front left found log stream_bytes ready
-  opens_in same lawful undone quiet redone stands none no_commit next room in_state over_store =
-      let s = opened_state ready table stream_bytes in
+  opens_in same lawful undone quiet redone stands limit idle next room in_state over_store =
+      let s = opened_state ready control stream_bytes in
       let here : IsUndoneTo found undone.0 ready.log = subst (IsUndoneTo found undone.0) (sym same) undone.1 in
       let kept = stands.recoverable in
       let still_lawful = undone_lawful found undone.0 ready.log here lawful in
       let quiet_here = subst HasNoLosers (sym same) quiet in
-      let behind = subst (λ (l : List LogRecord). IsRoomBehind l stream_bytes (room_in table)) (sym same) room in
-      let below = below_undone (next_in table) found undone.0 ready.log here (recursion_from_All (λ (r : LogRecord). r.txn < next_in table) found next.above) in
+      let behind = subst (λ (l : List LogRecord). IsRoomBehind l stream_bytes (room_in (txns_in control))) (sym same) room in
+      let below = below_undone (next_in (txns_in control)) found undone.0 ready.log here (recursion_from_All (λ (r : LogRecord). r.txn < next_in (txns_in control)) found next.above) in
       record {
         first = s;
-        opened = opened_over ready table stream_bytes kept redone still_lawful quiet_here found undone.0 here next;
+        opened = opened_over ready control stream_bytes kept redone still_lawful quiet_here found undone.0 here next limit idle;
         counts = λ p. refl;
         stream = refl;
         next = next;
         is_in = subst (λ (l : List LogRecord). IsIn front left l core s) same
-            (in_state s refl refl refl (opened_txns ready table stream_bytes none no_commit behind below)
-            (opened_shows ready table stream_bytes kept redone still_lawful quiet_here heap front left stands));
+            (in_state s refl refl refl (opened_control ready control stream_bytes limit idle behind below)
+            (opened_shows ready control stream_bytes kept redone still_lawful quiet_here heap front left stands));
         over = over_store s ready (record { stored = record { log = refl; durable = refl }; redone = redone; recoverable = kept }) stands.store;
       }

@@ -1,5 +1,6 @@
 pub mod Errors
 pub mod Held
+pub mod Idle
 pub mod Missing
 pub mod Quiet
 pub mod Room

@@ -1,5 +1,5 @@
 //! What a restart does with its two devices: analysis, redo, undo, and the force of undo's records.
-ghost use Rattle.std.specs.Prelude.{◌≡◌, ◌⊎◌, ◌<◌, ◌≤◌, ℕ, List, IfErr, IfOk, None, OnOk, length};
+ghost use Rattle.std.specs.Prelude.{◌≡◌, ◌⊎◌, ◌<◌, ◌≤◌, ℕ, List, IfErr, IfOk, OnOk, length};
 ghost use Rattle.shore_disk.specs.Cause.{HasCause};
 ghost use Rattle.shore_types.specs.declared.faults.Fault.{Fault};
 ghost use Rattle.shore_types.specs.declared.faults.Fault.TheVariants as Fault;
@@ -7,7 +7,8 @@ ghost use Rattle.shore_model.specs.declared.log_records.LogRecord.{LogRecord};
 ghost use Rattle.shore_model.specs.Logs.{Lawful};
 ghost use Rattle.shore_log.specs.Settled.{records_of_log};
 ghost use Rattle.shore_heap.specs.Heaps.{faults_of, geometry_of};
-ghost use Rattle.shore_txn.specs.Tables.{active_in, committing_in, next_in, room_in};
+ghost use Rattle.shore_control.specs.Controls.{txns_in};
+ghost use Rattle.shore_txn.specs.Transactions.{next_in, room_in};
 ghost use Rattle.shore_recovery.specs.Recovery.{RecoveryState};
 ghost use Rattle.shore_recovery.specs.Undo.{HasNoLosers, IsLoser};
 ghost use Rattle.shore_analysis.specs.declared.analysis.NotAnalysed.TheVariants as NotAnalysed;
@@ -18,6 +19,7 @@ ghost use Rattle.shore_restart.specs.declared.errors.RestartError.{RestartError}
 ghost use Rattle.shore_restart.specs.declared.errors.RestartError.TheVariants as RestartError;
 ghost use Rattle.shore_restart.specs.Errors.{log_answer, volume_answer};
 ghost use Rattle.shore_restart.specs.Held.{IsHeld, IsPageFault};
+ghost use Rattle.shore_restart.specs.Idle.{IsIdle};
 ghost use Rattle.shore_restart.specs.Missing.{missing_on};
 ghost use Rattle.shore_restart.specs.Quiet.{IsQuiet, StaysQuiet};
 ghost use Rattle.shore_restart.specs.Room.{IsRoomBehind};
@@ -29,13 +31,15 @@ use crate::log_sums::room_of;
 use crate::redo::redo;
 use crate::turns::Undo;
 use shore_analysis::{NotAnalysed, Tables, analyse};
+use shore_control::Control;
 use shore_disk::Disk;
 use shore_heap::Heap;
+use shore_locks::LockTable;
 use shore_log::LogDev;
 use shore_logrec::LogRecord;
 use shore_losers::Losers;
-use shore_txn::TxnTable;
-use shore_types::Geometry;
+use shore_txn::{LogRoom, Transactions};
+use shore_types::{Geometry, TxnId};
 use std::alloc::Global;
 
 /// What a restart did.
@@ -52,7 +56,7 @@ pub struct Report {
 /// What a restart leaves beside its devices.
 #[derive(Drop)]
 pub struct Recovered {
-    pub txns: TxnTable,
+    pub control: Control,
     pub report: Report,
 }
 
@@ -67,8 +71,9 @@ pub fn recover<L: Disk, V: Disk>(
     ensures undone { OnOk result (IsUndoneSoFar (records_of_log log.old) (records_of_log log.new)) }
     ensures none { OnOk result ((t : ℕ) → IsLoser (records_of_log log.new) t → ⊥) }
     ensures done { Lawful (records_of_log log.old) → OnOk result (HasNoLosers (records_of_log log.new)) }
-    ensures table { IfOk result (λ left. (active_in left.txns ≡ None) × (committing_in left.txns ≡ None) × IsNext (records_of_log log.old) (next_in left.txns)
-        × IsRoomBehind (records_of_log log.new) (stream_bytes_of log.new) (room_in left.txns)) }
+    ensures idle { IfOk result (λ left. IsIdle (geometry_of heap.old).max_locks left.control) }
+    ensures next { IfOk result (λ left. IsNext (records_of_log log.old) (next_in (txns_in left.control))) }
+    ensures room { IfOk result (λ left. IsRoomBehind (records_of_log log.new) (stream_bytes_of log.new) (room_in (txns_in left.control))) }
     ensures report { IfOk result (λ left. (left.report.read ≡ length (records_of_log log.old)) × (left.report.redone ≤ left.report.read)
         × ((tables : Tables) × AreTables (records_of_log log.old) tables × (left.report.undone ≡ length tables.txns))) }
     ensures missing { (log_front front : List ℕ) (disk : ℕ → List ℕ) (s : RecoveryState) → IsFound log_front front disk log.old heap.old s
@@ -99,13 +104,32 @@ pub fn recover<L: Disk, V: Disk>(
     };
     undo.undo_all(alloc, log, heap)?;
     Ok(Recovered {
-        txns: TxnTable::new(alloc, undo.room, tables.next.0)?,
+        control: idle_control(alloc, heap.geometry(), undo.room, tables.next)?,
         report: Report {
             read,
             redone,
             undone,
         },
     })
+}
+
+// A control with nothing under way, that has the memory for all requests of locks that the geometry allows.
+fn idle_control(
+    alloc: Global,
+    geometry: &Geometry,
+    room: LogRoom,
+    next: TxnId,
+) -> Result<Control, RestartError>
+    requires some { 1 ≤ next }
+    requires unreserved { room.reserved ≡ 0 }
+    ensures idle { IfOk result (IsIdle geometry.now.max_locks) }
+    ensures next { IfOk result (λ control. next_in (txns_in control) ≡ next) }
+    ensures room { IfOk result (λ control. room_in (txns_in control) ≡ room) }
+    ensures refused { IfErr result (λ error. error ≡ RestartError.Memory) }
+{
+    let locks = LockTable::new(alloc, geometry.max_locks as usize)?;
+    let txns = Transactions::new(alloc, room, next.0);
+    Ok(Control::new(alloc, txns, locks))
 }
 
 // The tables of a log.

@@ -1,11 +1,11 @@
 //! A restart, from what an open has found to a core.
-ghost use Rattle.std.specs.Prelude.{◌≡◌, ◌<◌, ◌≤◌, ◌+◌, ℕ, List, IfErr, IfOk, OnOk, length};
+ghost use Rattle.std.specs.Prelude.{◌≡◌, ◌<◌, ◌≤◌, ◌+◌, [], ℕ, List, IfErr, IfOk, OnOk, length};
 ghost use Rattle.shore_disk.specs.Cause.{HasCause};
 ghost use Rattle.shore_types.specs.declared.faults.Fault.{Fault};
 ghost use Rattle.shore_types.specs.declared.faults.Fault.TheVariants as Fault;
 ghost use Rattle.shore_log.specs.Settled.{records_of_log, stable};
 ghost use Rattle.shore_heap.specs.Heaps.{faults_of, geometry_of};
-ghost use Rattle.shore_core.specs.Cores.{durable_of, first_of};
+ghost use Rattle.shore_core.specs.Cores.{durable_of, first_of, locks_of};
 ghost use Rattle.shore_recovery.specs.Recovery.{RecoveryState};
 ghost use Rattle.shore_analysis.specs.declared.analysis.Tables.{Tables};
 ghost use Rattle.shore_analysis.specs.Tables.{AreTables};
@@ -58,6 +58,8 @@ pub fn restart<L: Disk, V: Disk>(
         → IfErr result (λ refused. (f : Fault) → refused.0 ≡ RestartError.Page f → IsPageFault (geometry_of heap) disk (length (records_of_log log.old)) f) }
     // The core's buffer is empty and begins behind the log, all of which is durable: any core.
     ensures numbers { IfOk result (λ done. (first_of done.0 ≡ 1 + length (records_of_log log.new)) × (durable_of done.0 ≡ length (stable log.new))) }
+    // Nobody asks for a lock or has one, and there may be as many requests as the geometry allows.
+    ensures locks { IfOk result (λ done. locks_of done.0 ≡ record { limit = (geometry_of heap).max_locks; requests = [] }) }
     ensures volume { SameVolume heap (heap_left result) }
     ensures log { SameLog log.old log.new }
     ensures volume_cause { HasCause (volume_fault_left result) (faults_of heap) (faults_of (heap_left result)) }
@@ -65,10 +67,10 @@ pub fn restart<L: Disk, V: Disk>(
 {
     let mut heap = heap;
     match recover(alloc, log, &mut heap) {
-        Ok(Recovered { txns, report }) => {
+        Ok(Recovered { control, report }) => {
             let last = Lsn(log.records().len() as u64);
             let durable = log.durable().number();
-            Ok((Core::over(alloc, heap, txns, last, durable), report))
+            Ok((Core::over(alloc, heap, control, last, durable), report))
         }
         Err(error) => Err((error, heap)),
     }

@@ -6,6 +6,7 @@ use Rattle.shore_model.specs.declared.histories.Entry.{Entry}
 use Rattle.shore_model.specs.declared.log_records.LogRecord.{LogRecord}
 use Rattle.shore_model.specs.Logs.{Lawful}
 use Rattle.shore_model.specs.Records.{AreRecords}
+use Rattle.shore_sessions.specs.Views.{IsAmong}
 use Rattle.shore_recovery.proofs.Invariant.{from_the_first}
 use Rattle.shore_recovery.proofs.Restarts.{events_restart}
 use Rattle.shore_recovery.proofs.UndoRecords.{undone_lawful}
@@ -17,6 +18,8 @@ use Rattle.shore_lives.proofs.WholeLogs.{image_in_place}
 use Rattle.shore_lives.proofs.Works.{all_work}
 use Rattle.shore_lives.specs.Stretches.{MayBeFound}
 use Rattle.shore_lives.specs.WholeLogs.{HasNoPrepare}
+use Rattle.shore_calls.proofs.LockWaits.{waits_may_ask}
+use Rattle.shore_calls.specs.Shapes.{LockWaitsMayAsk}
 use Rattle.shore_calls.specs.States.{State}
 use Rattle.shore_managers.proofs.Runs.{events_come, opened}
 use Rattle.shore_managers.specs.StoredRuns.{IsOpenedOver, IsStoredRun, Manage, StoredEvent, StoredMoves, StoredRun, StoredState, StoredSteps, Tend, entries_made}
@@ -69,6 +72,7 @@ module _ (g : Geometry) (stream_bytes : ℕ) (s : RecoveryState) (f : MayBeFound
       let room = restart_roomy g stream_bytes s works ready roomy restarts in
       record {
         state = opened g s f no_run is_no_run;
+        asks = λ w there. absurd (subst (IsAmong w) opens.waiting there);
         stored = opens.stored;
         roomy = opens_roomy g stream_bytes ready.log first from (whole_roomy g stream_bytes ready.log room);
         leaves = opens_leaving g stream_bytes ready.log first from room (undone_lawful s.log restarted.1.turns ready.log restarted.1.undone f.lawful) no_losers;
@@ -95,6 +99,15 @@ moves_work : (g : Geometry) (m : StoredState) (events : List StoredEvent) (last 
 moves_work g m [] last made k h = subst HasWorkedOn (sym h.0) k
 moves_work g m (e ∷ events) last made k h = moves_work g h.0 events last h.1 (step_works g m e h.0 k h.2) h.3
 
+step_asks : (g : Geometry) (m : StoredState) (e : StoredEvent) (new : StoredState) → LockWaitsMayAsk g m.state → StoredSteps g m e new → LockWaitsMayAsk g new.state
+step_asks g m (Manage e works) new k h = waits_may_ask g m.state new.state (e ∷ []) (new.state, h.0, refl) k
+step_asks g m (Tend works) new k h = subst (LockWaitsMayAsk g) (sym h.0) k
+
+moves_ask : (g : Geometry) (m : StoredState) (events : List StoredEvent) (last : StoredState) (made : List Entry) → LockWaitsMayAsk g m.state → StoredMoves g m events last made
+    → LockWaitsMayAsk g last.state
+moves_ask g m [] last made k h = subst (λ (x : StoredState). LockWaitsMayAsk g x.state) (sym h.0) k
+moves_ask g m (e ∷ events) last made k h = moves_ask g h.0 events last h.1 (step_asks g m e h.0 k h.2) h.3
+
 module _ (g : Geometry) (stream_bytes : ℕ) (found : List LogRecord) where
   pub moves_under_way : (es : List Entry) (m : StoredState) (events : List StoredEvent) (last : StoredState) (made : List Entry) → IsUnderWay g stream_bytes found es m
       → StoredMoves g m events last made → IsUnderWay g stream_bytes found (es ++ made) last
@@ -102,7 +115,15 @@ module _ (g : Geometry) (stream_bytes : ℕ) (found : List LogRecord) where
       let come = events_come g found es m k.stored k.state events last made h in
       let room = moves_leaving g stream_bytes found es m events last made k.state k.roomy k.leaves h in
       let worked = moves_work g m events last made (record { recoverable = k.recoverable; redone = k.redone }) h in
-      record { state = come.state; stored = come.stored; roomy = room.0; leaves = room.1; recoverable = worked.recoverable; redone = worked.redone }
+      record {
+        state = come.state;
+        asks = moves_ask g m events last made k.asks h;
+        stored = come.stored;
+        roomy = room.0;
+        leaves = room.1;
+        recoverable = worked.recoverable;
+        redone = worked.redone;
+      }
 
   pub step_under_way : (es : List Entry) (m : StoredState) (e : StoredEvent) (new : StoredState) → IsUnderWay g stream_bytes found es m → StoredSteps g m e new
       → IsUnderWay g stream_bytes found (es ++ entries_made m e) new
@@ -111,7 +132,7 @@ module _ (g : Geometry) (stream_bytes : ℕ) (found : List LogRecord) where
   pub under_way_inside : (es : List Entry) (m : StoredState) → IsUnderWay g stream_bytes found es m → AreRecords g m.state.sessions.records
   under_way_inside es m k =
       records_inside g stream_bytes m.state.log m.state.sessions.records (whole_roomy g stream_bytes m.state.log k.leaves.prefixes)
-      (λ id. sym (image_in_place k.state.sound k.state.log k.leaves.whole id))
+      (λ id. sym (image_in_place k.state.sessions.sound k.state.sessions.log k.leaves.whole id))
 
   pub under_way_sound : (es : List Entry) (m : StoredState) → IsUnderWay g stream_bytes found es m → IsSoundStore g stream_bytes m.store
   under_way_sound es m k =

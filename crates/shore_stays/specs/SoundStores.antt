@@ -7,8 +7,9 @@ use Rattle.shore_model.specs.Logs.{Lawful}
 use Rattle.shore_recovery.specs.Pages.{AreAsOfOwnNumbers, LoggedPages}
 use Rattle.shore_recovery.specs.Recovery.{CrashMayLeave, IsRecoverable, RecoveryState}
 use Rattle.shore_lives.specs.WholeLogs.{HasNoPrepare}
-use Rattle.shore_calls.specs.CallHistories.{IsRoomyState, IsStateAfter}
-use Rattle.shore_calls.specs.CallSteps.{ManagerEvent}
+use Rattle.shore_calls.specs.CallHistories.{IsRoomyState}
+use Rattle.shore_calls.specs.Events.{IsStateAfter, ManagerEvent}
+use Rattle.shore_calls.specs.Shapes.{LockWaitsMayAsk}
 use Rattle.shore_managers.specs.StoredRuns.{IsStored, Manage, StoredEvent, StoredState, Tend}
 use Rattle.shore_bounds.specs.RoomyLogs.{AreRoomy}
 use Rattle.shore_bounds.specs.RoomyStates.{LeavesRoomyLogs}
@@ -37,10 +38,11 @@ pub record IsLost (s : RecoveryState) (survive : ℕ) (pages : LoggedPages) : Ty
   pub most : survive ≤ length s.log
   pub shows : CrashMayLeave s pages
 
--- A manager under way over its store, these entries after its restart found this log: it is in a state after its calls, with room on pages and in
--- the log; the store has its log, and every record of it is done on its page.
+-- A manager under way over its store, these entries after its restart found this log: it is in a state after its calls, its calls that wait for locks
+-- may ask for them, and there is room on pages and in the log; the store has its log, and every record of it is done on its page.
 pub record IsUnderWay (g : Geometry) (stream_bytes : ℕ) (found : List LogRecord) (es : List Entry) (m : StoredState) : Type 0 where
   pub state : IsStateAfter found es m.state
+  pub asks : LockWaitsMayAsk g m.state
   pub stored : IsStored m.state m.store
   pub roomy : IsRoomyState m.state
   pub leaves : LeavesRoomyLogs g stream_bytes m.state

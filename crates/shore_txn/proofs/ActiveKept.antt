@@ -21,7 +21,7 @@ use Rattle.shore_txn.specs.Txns.{as_session_txn, entries_of}
 use Rattle.shore_txn.specs.UndoEntries.{claims_on, images_of}
 use Rattle.shore_txn.specs.declared.txn.Txn.{Txn}
 use Rattle.shore_txn.proofs.ClaimLemmas.{claims_append}
-use Rattle.shore_txn.proofs.KeptLemmas.{claimed_first, read_slots, told_reserved, told_there}
+use Rattle.shore_txn.proofs.KeptLemmas.{read_slots, told_reserved, told_there}
 
 claimed_join : (xs ys : List (ℕ × ℕ)) (slots : List Slot) → claimed_by (xs ++ ys) slots ≡ claimed_by xs (claimed_by ys slots)
 claimed_join [] ys slots = refl
@@ -32,15 +32,6 @@ claims_told [] p slots = refl
 claims_told (t ∷ older) p slots =
     ap (λ kept. claimed_by kept slots) (claims_append p (all_changes older) (entries_of t)) ∙ claimed_join (claims_on p (all_changes older)) (claims_on p (entries_of t)) slots
     ∙ ap (claimed_by (claims_on p (all_changes older))) (told_reserved p (entries_of t) slots) ∙ claims_told older p (reserved_for p (images_of (entries_of t)) slots)
-
--- ---- claims that come and go
-
--- one claim more, at whatever place, is one `Page::reserve` more
-pub claimed_more : (claim : ℕ × ℕ) (old new : List (ℕ × ℕ)) (slots : List Slot) → HasMore (claim ∷ []) old new → claimed_by new slots ≡ with_change (raised claim.1) (claimed_by old slots) claim.0
-claimed_more claim old new slots more =
-    ap (λ kept. claimed_by kept slots) more.is ∙ claimed_join more.front (claim ∷ more.back) slots
-    ∙ claimed_first more.front claim.0 claim.1 (claimed_by more.back slots)
-    ∙ ap (λ (l : List Slot). with_change (raised claim.1) l claim.0) (sym (ap (λ kept. claimed_by kept slots) more.was ∙ claimed_join more.front more.back slots))
 
 pub no_more : {A : Type 0} (more old new : List A) → HasMore more old new → more ≡ [] → new ≡ old
 no_more more old new has none = has.is ∙ ap (λ l. has.front ++ (l ++ has.back)) none ∙ sym has.was

@@ -1,12 +1,12 @@
 -- What holds of each transaction of a list, once one of them has become another or has left.
-use Rattle.std.proofs.Common.{◌≡◌, ◌≢◌, inl, inr, ◌++◌, ◌∷◌, [], ℕ, List, map, refl, sym, ap, subst, ◌∙◌}
+use Rattle.std.proofs.Common.{◌≡◌, ◌≢◌, inl, inr, ◌++◌, ◌∷◌, ℕ, List, map, sym, ap, subst, ◌∙◌}
 use Rattle.shore_sessions.specs.Sessions.{EachOnce, SessionTxn, txns_of}
 use Rattle.shore_sessions.specs.Views.{IsAmong}
 use Rattle.shore_txn.specs.ActiveTxns.{OneBecomes, OneLeaves, session_txns, sessions_of}
 use Rattle.shore_txn.specs.Txns.{as_session_txn, number_of}
 use Rattle.shore_txn.specs.declared.txn.Txn.{Txn}
 use Rattle.shore_txn.specs.declared.undo.UndoEntry.{UndoEntry}
-use Rattle.shore_txn.proofs.OneOfMany.{among_map, among_middle, among_more, among_parts, map_join, map_parts, once_apart, once_same}
+use Rattle.shore_txn.proofs.OneOfMany.{among_map, among_middle, among_more, among_parts, map_join, map_parts, once_apart}
 
 -- the numbers and the sessions are each once
 pub record AreApart (ts : List Txn) : Type 0 where
@@ -47,19 +47,3 @@ module _ (P Q : Txn → Type 0) {who : ℕ} {old new : List Txn} (apart : AreApa
       let was = subst AreApart one.was apart in
       others t (other_number one.newer one.older one.one was t other) (λ same. other_session one.newer one.older one.one was t other (same ∙ sym one.session))
       (each t (subst (IsAmong t) (sym one.was) (among_more t one.one one.newer one.older other)))
-
--- ---- a session's transaction is one
-
-txn_sessions : (ts : List Txn) → map (λ (t : Txn). t.session) ts ≡ sessions_of (session_txns ts)
-txn_sessions [] = refl
-txn_sessions (t ∷ ts) = ap (λ l. t.session ∷ l) (txn_sessions ts)
-
-pub one_txn : (ts : List Txn) → AreApart ts → (t u : Txn) → IsAmong t ts → IsAmong u ts → t.session ≡ u.session → t ≡ u
-one_txn ts apart t u m n same = once_same (λ (t : Txn). t.session) ts (subst EachOnce (sym (txn_sessions ts)) apart.sessions) t u m n same
-
-module _ {who : ℕ} {old new : List Txn} (apart : AreApart old) (t : Txn) (m : IsAmong t old) (its : t.session ≡ who) where
-  pub before_is : {Becomes : Txn → Txn → Type 0} (one : OneBecomes who Becomes old new) → one.before ≡ t
-  before_is one = one_txn old apart one.before t (subst (IsAmong one.before) (sym one.was) (among_middle one.newer one.older one.before)) m (one.session ∙ sym its)
-
-  pub left_is : {changes : List UndoEntry} (one : OneLeaves who changes old new) → one.one ≡ t
-  left_is one = one_txn old apart one.one t (subst (IsAmong one.one) (sym one.was) (among_middle one.newer one.older one.one)) m (one.session ∙ sym its)

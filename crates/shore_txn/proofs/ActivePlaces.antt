@@ -13,7 +13,7 @@ use Rattle.shore_txn.specs.Places.{buckets_if}
 use Rattle.shore_txn.specs.Txns.{as_session_txn, entries_of}
 use Rattle.shore_txn.specs.UndoEntries.{claims_on, images_of}
 use Rattle.shore_txn.specs.declared.active.ActiveTxn.{ActiveTxn}
-use Rattle.shore_txn.specs.declared.transaction_claims.TheConstants.{OWN_PLACES}
+use Rattle.shore_txn.specs.declared.claims.TheConstants.{OWN_PLACES}
 use Rattle.shore_txn.specs.declared.transactions.Transactions.{Transactions}
 use Rattle.shore_txn.specs.declared.txn.Txn.{Txn}
 use Rattle.shore_txn.specs.declared.undo.UndoEntry.{UndoEntry}
@@ -106,10 +106,6 @@ module _ (p : PageId) (items : List ActiveTxn) where
             place_of newest less some (subst (IsOfBucket (buckets_if a.chains) (bucket_of p)) (sym is) (newest_is (buckets_if a.chains) (bucket_of p))),
             place_has newest less ∙ ap (λ l. older_claims index ++ l) newest_has ∙ sym one_more,
           )
-
--- no place
-pub no_place : (items : List ActiveTxn) (bucket : ℕ) → IsPlace items bucket 0
-no_place items bucket = record { some = λ none. refl; chain = tt }
 
 -- ---- from the newest transaction to the oldest
 

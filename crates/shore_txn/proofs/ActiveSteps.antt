@@ -10,7 +10,7 @@ use Rattle.shore_sessions.specs.Sessions.{EachOnce, SessionTxn, txns_of, with_un
 use Rattle.shore_sessions.specs.UndoLists.{UndoList}
 use Rattle.shore_sessions.specs.Views.{IsAmong}
 use Rattle.shore_txn.specs.ActiveTxns as active
-use Rattle.shore_txn.specs.ActiveTxns.{CanNote, HasMore, OneBecomes, OneLeaves, all_changes, session_txns, sessions_of, undos_of, with_entry}
+use Rattle.shore_txn.specs.ActiveTxns.{HasMore, OneBecomes, OneLeaves, all_changes, session_txns, sessions_of, with_entry}
 use Rattle.shore_txn.specs.Txns.{IsAfterChange, SameTxn, as_session_txn, entries_of}
 use Rattle.shore_txn.specs.UndoEntries.{claims_on, image_of, images_of}
 use Rattle.shore_txn.specs.declared.active.ActiveTxn.{ActiveTxn}

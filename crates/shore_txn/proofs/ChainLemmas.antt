@@ -1,13 +1,13 @@
 -- Chains of places: one place more, and what a step to an older one passes.
-use Rattle.std.proofs.Common.{◌≡◌, ◌<◌, ◌≤◌, ◌+◌, ◌++◌, ℕ, zero, suc, Bool, true, false, List, [], ◌∷◌, Some, length, replicate, take, drop, get_or, set, refl, sym, ap, subst, ◌∙◌, inl, inr, arith, below_more}
+use Rattle.std.proofs.Common.{◌≡◌, ◌<◌, ◌≤◌, ◌+◌, ◌++◌, ℕ, zero, suc, Bool, true, false, List, [], ◌∷◌, Some, length, replicate, take, get_or, set, refl, sym, ap, subst, ◌∙◌, inl, inr, arith, below_more}
 use Rattle.std.specs.Prelude.{◌==◌}
 use Rattle.std.proofs.Math.ListN.{get_or-append}
 use Rattle.std.proofs.Math.Seq.{get_or-append_seam, take-append_seam}
 use Rattle.std.proofs.lemmas.Bool.{cases_eq}
 use Rattle.std.proofs.lemmas.Bool.Decides.{Decides-eqb}
-use Rattle.std.proofs.lemmas.List.{get_or-replicate, length-replicate, drop_all, drop_more, length-map, length-set, length_push, map-append, get_or-set_same, get_or-set_other, take-append-le}
+use Rattle.std.proofs.lemmas.List.{get_or-replicate, length-replicate, length-map, length-set, length_push, map-append, get_or-set_same, get_or-set_other, take-append-le}
 use Rattle.shore_txn.specs.declared.chains.Link.{Link}
-use Rattle.shore_txn.specs.Chains.{IsChained, IsEmptied, IsLink, IsOfBucket, buckets_of, link_at, newest_in, place_behind}
+use Rattle.shore_txn.specs.Chains.{IsChained, IsLink, IsOfBucket, buckets_of, link_at, newest_in, place_behind}
 
 -- a test of two numbers that are one, and of two that are not
 same_test : (a b : ℕ) → a ≡ b → (a == b) ≡ true
@@ -87,55 +87,12 @@ module _ (links : List Link) (heads : List ℕ) (link : Link) (chained : IsChain
   pub chained_more : IsChained longer (set heads link.bucket (length longer))
   chained_more = record { count = length-set heads link.bucket (length longer) ∙ chained.count; newest = newest_more; older = older_more }
 
--- ---- no place any more
-
--- each bucket that still leads to a place is one of those that come
-pub record IsEmptying (links : List Link) (heads : List ℕ) (done : ℕ) : Type 0 where
-  pub count : length heads ≡ 1024
-  pub rest : (b : ℕ) → b < 1024 → newest_in b (drop done (buckets_of links)) ≡ 0 → get_or heads b 0 ≡ 0
-
-pub bucket_at : (links : List Link) (k : ℕ) → get_or (buckets_of links) k 0 ≡ (link_at links k).bucket
-bucket_at [] k = refl
-bucket_at (l ∷ links) zero = refl
-bucket_at (l ∷ links) (suc k) = bucket_at links k
-
-module _ (links : List Link) (heads : List ℕ) (index : ℕ) (here : index < length links) (emptying : IsEmptying links heads index) where
-  abbrev pub its_bucket : ℕ
-  its_bucket = (link_at links index).bucket
-
-  -- a place less
-  passed : (b : ℕ) → (its_bucket ≡ b → ⊥) → newest_in b (drop (index + 1) (buckets_of links)) ≡ 0 → newest_in b (drop index (buckets_of links)) ≡ 0
-  passed b apart gone =
-      let step : drop index (buckets_of links) ≡ get_or (buckets_of links) index 0 ∷ drop (index + 1) (buckets_of links) = drop_more (buckets_of links) index 0 (omega (arith, here, length-map links (λ (l : Link). l.bucket))) in
-      let read : get_or (buckets_of links) index 0 ≡ its_bucket = bucket_at links index in
-      ap (newest_in b) step ∙ ap (λ (n : ℕ). place_behind (n == b) (newest_in b (drop (index + 1) (buckets_of links)))) read ∙ ap (λ t. place_behind t (newest_in b (drop (index + 1) (buckets_of links)))) (other_test its_bucket b apart) ∙ ap (place_behind false) gone
-
-  pub emptying_on : its_bucket < 1024 → IsEmptying links (set heads its_bucket 0) (index + 1)
-  emptying_on inside = record {
-    count = length-set heads its_bucket 0 ∙ emptying.count;
-    rest = λ b below none. elim (cases_eq its_bucket b) [
-      | inl same ↦ subst (λ (n : ℕ). get_or (set heads its_bucket 0) n 0 ≡ 0) same (get_or-set_same heads its_bucket 0 0 (let c = emptying.count in omega (arith, c, inside)))
-      | inr apart ↦ get_or-set_other heads its_bucket b 0 0 (λ is. apart (sym is)) ∙ emptying.rest b below (passed b apart none)
-    ];
-  }
-
-pub emptying_first : (links : List Link) (heads : List ℕ) → IsChained links heads → IsEmptying links heads 0
-emptying_first links heads chained = record { count = chained.count; rest = λ b below none. chained.newest b below ∙ none }
-
-pub emptied : (links : List Link) (heads : List ℕ) (n : ℕ) → length links ≤ n → IsEmptying links heads n → IsEmptied heads
-emptied links heads n long emptying = record {
-  count = emptying.count;
-  none = λ b below. emptying.rest b below (ap (newest_in b) (drop_all n (buckets_of links) (omega (arith, long, length-map links (λ (l : Link). l.bucket)))));
-}
-
 -- no place is chained
-pub none_chained : (heads : List ℕ) → IsEmptied heads → IsChained [] heads
-none_chained heads is = record { count = is.count; newest = is.none; older = λ k below. absurd (omega (arith, below)) }
-
 pub fresh_chained : (heads : List ℕ) → heads ≡ replicate 1024 0 → IsChained [] heads
 fresh_chained heads is =
     let long : length (replicate {A = ℕ} 1024 0) ≡ 1024 = length-replicate {A = ℕ} 1024 0 in
-    none_chained heads (record {
+    record {
       count = ap length is ∙ long;
-      none = λ b below. ap (λ (l : List ℕ). get_or l b 0) is ∙ get_or-replicate {A = ℕ} 1024 b 0 0 below;
-    })
+      newest = λ b below. ap (λ (l : List ℕ). get_or l b 0) is ∙ get_or-replicate {A = ℕ} 1024 b 0 0 below;
+      older = λ k below. absurd (omega (arith, below));
+    }

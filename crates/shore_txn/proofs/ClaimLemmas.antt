@@ -11,8 +11,6 @@ use Rattle.shore_types.specs.declared.ids.PageId.{PageId}
 use Rattle.shore_page.specs.Slots.{image_len}
 use Rattle.shore_room.proofs.Leaving.{same_page}
 use Rattle.shore_txn.specs.Chains.{IsOfBucket, bucket_of, newest_in, place_behind}
-use Rattle.shore_txn.specs.Txns.{changes_of, entries_of}
-use Rattle.shore_txn.specs.declared.txn.Txn.{Txn}
 use Rattle.shore_txn.specs.UndoEntries.{claims_on, page_buckets}
 use Rattle.shore_txn.specs.declared.undo.UndoEntry.{UndoEntry}
 use Rattle.shore_txn.proofs.ChainLemmas.{newest_is, newest_within}
@@ -48,17 +46,6 @@ claims_push p es e same = claims_append p es (e ∷ []) ∙ ap (λ b. claims_on 
 
 pub claims_other : (p : PageId) (es : List UndoEntry) (e : UndoEntry) → p ≢ e.id.page → claims_on p (es ++ e ∷ []) ≡ claims_on p es
 claims_other p es e apart = claims_append p es (e ∷ []) ∙ ap (λ b. claims_on p es ++ with_claim b e []) (on_another p e apart) ∙ append-nil (claims_on p es)
-
--- the transaction under way with one change more
-module _ (old : Option Txn) (t u : Txn) (e : UndoEntry) (was : old ≡ Some t) (entries : entries_of u ≡ entries_of t ++ e ∷ []) where
-  changes_more : entries_of u ≡ changes_of old ++ e ∷ []
-  changes_more = entries ∙ ap (λ (o : Option Txn). changes_of o ++ e ∷ []) (sym was)
-
-  pub claims_noted : claims_on e.id.page (entries_of u) ≡ claims_on e.id.page (changes_of old) ++ (e.id.slot, image_len e.before) ∷ []
-  claims_noted = ap (claims_on e.id.page) changes_more ∙ claims_push e.id.page (changes_of old) e refl
-
-  pub claims_elsewhere : (p : PageId) → p ≢ e.id.page → claims_on p (entries_of u) ≡ claims_on p (changes_of old)
-  claims_elsewhere p apart = ap (claims_on p) changes_more ∙ claims_other p (changes_of old) e apart
 
 -- behind the newest place of its bucket a page has no change
 pub none_behind : (p : PageId) (es : List UndoEntry) → claims_on p (take (newest_in (bucket_of p) (page_buckets es)) es) ≡ claims_on p es

@@ -1,30 +1,23 @@
 -- What a table tells of a page claims what its undo lists do.
-use Rattle.std.proofs.Common.{◌≡◌, ◌<◌, ℕ, zero, suc, max, Bool, true, false, cond, List, [], ◌∷◌, Option, Some, None, length, map, refl, sym, ap, subst, ◌∙◌, inl, arith}
+use Rattle.std.proofs.Common.{◌≡◌, ◌<◌, ℕ, zero, suc, max, Bool, true, false, cond, List, [], ◌∷◌, map, refl, sym, ap, subst, ◌∙◌, arith}
 use Rattle.std.specs.FinMap.{get}
 use Rattle.std.specs.List.{AllByRecursion}
 use Rattle.std.specs.Ordering.{eq_by_cmp}
-use Rattle.std.proofs.lemmas.List.{length-map}
 use Rattle.std.proofs.lemmas.Map.Views.{tells_apart}
 use Rattle.shore_types.specs.Ids.{exact_pages, page_cmp}
 use Rattle.shore_types.specs.Images.{Image}
 use Rattle.shore_types.specs.declared.ids.PageId.{PageId}
 use Rattle.shore_model.specs.Records.{Records}
-use Rattle.shore_page.specs.Claims.{AreThere, FitIn, claimed_by}
-use Rattle.shore_page.specs.Room.{HasRoom, raised}
+use Rattle.shore_page.specs.Claims.{AreThere, claimed_by}
+use Rattle.shore_page.specs.Room.{raised}
 use Rattle.shore_page.specs.Slots.{Slot, image_len, settled, with_change}
 use Rattle.shore_page.specs.Text as text
 use Rattle.shore_page.specs.Undo.{claiming}
-use Rattle.shore_page.proofs.Fitting.{fit_in_room}
 use Rattle.shore_sessions.specs.Sessions.{SessionTxn}
-use Rattle.shore_sessions.specs.Views.{IsAmong}
-use Rattle.shore_room.specs.Claims.{Claimed, SlotCounts, rid_on, slots_of, undecided_at, undecided_on}
-use Rattle.shore_room.specs.Settling.{reserved_for, reserved_for_all, settled_slots}
-use Rattle.shore_room.proofs.Fetching.{fetched}
+use Rattle.shore_room.specs.Claims.{SlotCounts, rid_on, slots_of, undecided_at}
+use Rattle.shore_room.specs.Settling.{reserved_for, settled_slots}
 use Rattle.shore_room.proofs.Leaving.{map_each}
-use Rattle.shore_room.proofs.Lists.{length-each}
-use Rattle.shore_txn.specs.Txns.{as_session_txn, as_session_txns, changes_of, entries_of}
 use Rattle.shore_txn.specs.UndoEntries.{claims_on, images_of}
-use Rattle.shore_txn.specs.declared.txn.Txn.{Txn}
 use Rattle.shore_txn.specs.declared.undo.UndoEntry.{UndoEntry}
 
 -- ---- claims rise in any order
@@ -51,10 +44,6 @@ told_reserved p (e ∷ es) slots = each (told_reserved p es) (eq_by_cmp page_cmp
     each rest true = sym (claimed_first (claims_on p es) e.id.slot (image_len e.before) slots) ∙ rest (with_change (raised (image_len e.before)) slots e.id.slot)
     each rest false = rest slots
 
-pub claims_told : (active : Option Txn) (p : PageId) (slots : List Slot) → claimed_by (claims_on p (changes_of active)) slots ≡ reserved_for_all p (as_session_txns active) slots
-claims_told None p slots = refl
-claims_told (Some t) p slots = told_reserved p (entries_of t) slots
-
 -- ---- a page that was read
 
 pub read_slots : (R : Records) (undos : List SessionTxn) (p : PageId) (n : ℕ) → map settled (text.images_of (slots_of R undos p n)) ≡ settled_slots R p n
@@ -72,41 +61,3 @@ told_there counts p (e ∷ es) within = each (told_there counts p es within.1) (
     each : AreThere (counts p) (claims_on p es) → (here : Bool) → eq_by_cmp page_cmp p e.id.page ≡ here → AreThere (counts p) (cond here ((e.id.slot, image_len e.before) ∷ claims_on p es) (claims_on p es))
     each rest true is = (subst (λ (q : PageId). e.id.slot < counts q) (sym (tells_apart exact_pages p e.id.page is)) within.0, rest)
     each rest false is = rest
-
-changes_there : (counts : SlotCounts) (p : PageId) (active : Option Txn) → ((a : SessionTxn) → IsAmong a (as_session_txns active) → AllByRecursion (λ e. e.0.slot < counts e.0.page) a.undo.images)
-    → AreThere (counts p) (claims_on p (changes_of active))
-changes_there counts p None within = tt
-changes_there counts p (Some t) within = told_there counts p (entries_of t) (within (as_session_txn t) (inl refl))
-
-module _ (active : Option Txn) (R : Records) (counts : SlotCounts) (p : PageId) (claimed : Claimed R (as_session_txns active) counts) where
-  abbrev undos : List SessionTxn
-  undos = as_session_txns active
-
-  abbrev slots : List Slot
-  slots = slots_of R undos p (counts p)
-
-  abbrev kept : List (ℕ × ℕ)
-  kept = claims_on p (changes_of active)
-
-  pub claims_back : slots ≡ claimed_by kept (settled_slots R p (counts p))
-  claims_back = sym (claims_told active p (settled_slots R p (counts p)) ∙ fetched R undos counts claimed p)
-
-  pub back_again : slots ≡ claimed_by kept (map settled (text.images_of slots))
-  back_again = claims_back ∙ ap (claimed_by kept) (sym (read_slots R undos p (counts p)))
-
-  long : length slots ≡ counts p
-  long = length-map (undecided_on R undos p (counts p)) claiming ∙ length-each (λ i. undecided_at R undos (rid_on p i)) 0 (counts p)
-
-  images_long : length (text.images_of slots) ≡ counts p
-  images_long = length-map slots (λ (s : Slot). s.image) ∙ long
-
-  pub fit_again : FitIn kept (map settled (text.images_of slots))
-  fit_again =
-      let room : HasRoom slots = claimed.room p in
-      let all : length (map settled (text.images_of slots)) ≡ counts p = length-map (text.images_of slots) settled ∙ images_long in
-      fit_in_room kept (text.images_of slots) (let r = room.room in omega (arith, r, long, images_long))
-      (subst (λ (n : ℕ). AreThere n kept) (sym all) (changes_there counts p active claimed.within))
-      (subst HasRoom back_again room)
-
-  pub fit_read : FitIn kept (settled_slots R p (counts p))
-  fit_read = subst (FitIn kept) (read_slots R undos p (counts p)) fit_again

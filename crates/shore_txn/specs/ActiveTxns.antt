@@ -4,7 +4,7 @@ use Rattle.std.specs.Coded.{×_prop, →_prop, Unit-prop}
 use Rattle.shore_sessions.specs.Sessions.{EachOnce, SessionTxn}
 use Rattle.shore_sessions.specs.UndoLists.{UndoList}
 use Rattle.shore_txn.specs.declared.active.ActiveTxn.{ActiveTxn}
-use Rattle.shore_txn.specs.declared.transaction_claims.TheConstants.{OWN_PLACES}
+use Rattle.shore_txn.specs.declared.claims.TheConstants.{OWN_PLACES}
 use Rattle.shore_txn.specs.declared.txn.Txn.{Txn}
 use Rattle.shore_txn.specs.declared.undo.UndoEntry.{UndoEntry}
 use Rattle.shore_txn.specs.Chains.{IsOfBucket}

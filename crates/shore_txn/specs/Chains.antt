@@ -38,8 +38,3 @@ pub record IsChained (links : List Link) (heads : List ℕ) : Type 0 where
   pub count : length heads ≡ 1024
   pub newest : (bucket : ℕ) → bucket < 1024 → get_or heads bucket 0 ≡ newest_in bucket (buckets_of links)
   pub older : (index : ℕ) → index < length links → IsLink (take index (buckets_of links)) (link_at links index)
-
--- no bucket leads to a place
-pub record IsEmptied (heads : List ℕ) : Type 0 where
-  pub count : length heads ≡ 1024
-  pub none : (bucket : ℕ) → bucket < 1024 → get_or heads bucket 0 ≡ 0

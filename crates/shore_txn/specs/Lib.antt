@@ -2,6 +2,5 @@ pub mod Chains
 pub mod Places
 pub mod UndoEntries
 pub mod Txns
-pub mod Tables
 pub mod ActiveTxns
 pub mod Transactions

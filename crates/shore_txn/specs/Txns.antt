@@ -1,5 +1,5 @@
 -- A transaction of the table, as the sessions have it.
-use Rattle.std.specs.Prelude.{◌≡◌, ◌<◌, ◌++◌, ℕ, List, [], ◌∷◌, Option, None, Some}
+use Rattle.std.specs.Prelude.{◌≡◌, ◌<◌, ◌++◌, ℕ, List, [], ◌∷◌}
 use Rattle.std.specs.Prelude.{vec_capacity, vec_len}
 use Rattle.shore_sessions.specs.Sessions.{SessionTxn}
 use Rattle.shore_txn.specs.declared.txn.Txn.{Txn}
@@ -10,17 +10,8 @@ use Rattle.shore_txn.specs.UndoEntries.{images_of}
 abbrev pub entries_of : Txn → List UndoEntry
 entries_of t = t.undo.items
 
--- .. of the one under way, none if there is none
-abbrev pub changes_of : Option Txn → List UndoEntry
-changes_of None = []
-changes_of (Some t) = entries_of t
-
 abbrev pub as_session_txn : Txn → SessionTxn
 as_session_txn t = record { session = t.session; txn = t.txn; undo = record { images = images_of (entries_of t); marks = [] } }
-
-abbrev pub as_session_txns : Option Txn → List SessionTxn
-as_session_txns None = []
-as_session_txns (Some t) = as_session_txn t ∷ []
 
 abbrev pub number_of : Txn → ℕ
 number_of t = t.txn

@@ -1,8 +1,8 @@
 //! Chains of places: the changes of a page are found without a walk over those of all pages.
-ghost use Rattle.std.specs.Prelude.{◌≡◌, ◌+◌, ◌-◌, ◌<◌, ◌≤◌, ◌++◌, ◌∷◌, [], ℕ, IfOk, OnErr, OnOk, get_or, length, take};
+ghost use Rattle.std.specs.Prelude.{◌≡◌, ◌+◌, ◌-◌, ◌<◌, ◌≤◌, ◌++◌, ◌∷◌, [], IfOk, OnOk, get_or, length, take};
 ghost use Rattle.shore_types.specs.declared.ids.PageId.{PageId};
 ghost use Rattle.shore_txn.specs.Chains as chains;
-ghost use Rattle.shore_txn.specs.Chains.{IsChained, IsEmptied, newest_in};
+ghost use Rattle.shore_txn.specs.Chains.{IsChained, newest_in};
 
 use shore_types::PageId;
 use std::alloc::{AllocError, Global};
@@ -72,24 +72,6 @@ impl PageChains {
         ensures { result ≡ newest_in (get_or (buckets_in self.now) (place - 1) 0) (take (place - 1) (buckets_in self.now)) }
     {
         self.links[place - 1].older
-    }
-
-    /// Forgets all places.
-    pub(crate) fn clear(&mut self)
-        ensures { buckets_in self.new ≡ [] }
-    {
-        empty(&mut self.newest, &self.links);
-        self.links.clear();
-    }
-}
-
-// No bucket of these links leads to a place any more.
-fn empty(newest: &mut [usize], links: &[Link])
-    requires { IsChained links.now newest.old }
-    ensures { IsEmptied newest.new }
-{
-    for link in links {
-        newest[link.bucket] = 0;
     }
 }
 

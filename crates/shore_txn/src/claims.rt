@@ -1,42 +1,60 @@
-//! What the undo lists may put back on pages.
-ghost use Rattle.std.specs.Prelude.{◌≡◌, ◌-◌, ◌≤◌, ◌∷◌, [], Some, option_to_list, slice_get};
-ghost use Rattle.shore_txn.specs.Tables as tables;
-ghost use Rattle.shore_txn.specs.Txns.{changes_of};
+//! What the undo lists of the transactions under way may put back on pages.
+ghost use Rattle.std.specs.Prelude.{◌≡◌, ◌*◌, ◌≤◌, length, take};
+ghost use Rattle.shore_txn.specs.ActiveTxns.{IsPlace, all_changes, txns_of};
+ghost use Rattle.shore_txn.specs.Chains.{bucket_of};
+ghost use Rattle.shore_txn.specs.Transactions as transactions;
 ghost use Rattle.shore_txn.specs.UndoEntries.{claims_on};
-ghost use Rattle.shore_txn.specs.declared.undo.UndoEntry.{UndoEntry};
+ghost use Rattle.shore_txn.specs.declared.claims.TheConstants.{OWN_PLACES};
 
-use crate::table::TxnTable;
+use crate::transactions::Transactions;
 use shore_page::{ChainPlace, Claims};
 use shore_types::PageId;
 
-impl Claims for TxnTable {
-    ghost kept = { tables.kept_in };
+// The places of one transaction: the lower half of a place is one of them, and the upper half says whose.
+const OWN_PLACES: usize = 0x1_0000_0000;
 
-    ghost kept_from = { tables.kept_from };
+impl Claims for Transactions {
+    ghost kept = { transactions.kept_in };
 
-    ghost IsOnChain = { tables.IsOnChain };
+    ghost kept_from = { transactions.kept_from };
+
+    ghost IsOnChain = { transactions.IsOnChain };
 
     fn newest(&self, page: &PageId) -> usize {
-        self.chains.newest(page)
+        self.newest_of_older(self.active.len(), page)
     }
 
     fn place(&self, page: &PageId, place: usize) -> ChainPlace {
+        let (index, own) = (place / OWN_PLACES, place % OWN_PLACES);
+        let active = &self.active[index];
+        let older = active.older(own);
         ChainPlace {
-            claim: self.claim_at(page, place),
-            older: self.chains.older(place),
+            claim: active.claim(own - 1, page),
+            older: if older > 0 {
+                index * OWN_PLACES + older
+            } else {
+                self.newest_of_older(index, page)
+            },
         }
     }
 }
 
-impl TxnTable {
-    // What the change at a place may put back on a page.
-    fn claim_at(&self, page: &PageId, place: usize) -> Option<(u16, u16)>
-        requires some { 1 ≤ place }
-        ensures { (e : UndoEntry) → slice_get (changes_of (tables.active_in self.now)) (place - 1) ≡ Some e → option_to_list result ≡ claims_on page.now (e ∷ []) }
+impl Transactions {
+    // The newest place that the so many oldest transactions have in a page's bucket, 0 for none.
+    fn newest_of_older(&self, count: usize, page: &PageId) -> usize
+        requires { count ≤ length self.now.active.items }
+        ensures chain { IsPlace self.now.active.items (bucket_of page.now) result }
+        ensures all { transactions.kept_from self.now page.now result ≡ claims_on page.now (all_changes (txns_of (take count self.now.active.items))) }
+        ensures below { result ≤ count * OWN_PLACES }
     {
-        match &self.active {
-            Some(txn) if place <= txn.undo().len() => txn.claim(place - 1, page),
-            _ => None,
+        let mut index = count;
+        while index > 0 {
+            index -= 1;
+            let newest = self.active[index].newest(page);
+            if newest > 0 {
+                return index * OWN_PLACES + newest;
+            }
         }
+        0
     }
 }

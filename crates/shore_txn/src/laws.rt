@@ -1,24 +1,38 @@
-//! Laws, as functions that do nothing: the claims that a table tells are those of its undo lists, and bring back those of a page.
-ghost use Rattle.std.specs.Prelude.{◌≡◌, ℕ, List, map};
+//! Laws, as functions that do nothing: the transactions of a table are apart, and the claims that it tells are those of its undo lists, and bring
+//! back those of a page.
+ghost use Rattle.std.specs.Prelude.{◌≡◌, ◌<◌, ℕ, List, map};
+ghost use Rattle.std.specs.List.{AllByRecursion};
 ghost use Rattle.shore_types.specs.declared.ids.PageId.{PageId};
 ghost use Rattle.shore_model.specs.Records.{Records};
 ghost use Rattle.shore_page.specs.Claims.{FitIn, claimed_by};
 ghost use Rattle.shore_page.specs.Slots.{Slot, settled};
 ghost use Rattle.shore_page.specs.Text.{images_of};
 ghost use Rattle.shore_room.specs.Claims.{Claimed, SlotCounts, slots_of};
-ghost use Rattle.shore_room.specs.Settling.{reserved_for_all, settled_slots};
-ghost use Rattle.shore_txn.specs.Tables.{kept_in, undos_in};
+ghost use Rattle.shore_room.specs.Settling.{let_go, reserved_for_all, settled_slots};
+ghost use Rattle.shore_room.specs.LogRooms.{owed_by_all};
+ghost use Rattle.shore_sessions.specs.Sessions.{EachOnce, SessionTxn, txns_of, without_txn};
+ghost use Rattle.shore_sessions.specs.Views.{IsAmong};
+ghost use Rattle.shore_txn.specs.ActiveTxns.{sessions_of};
+ghost use Rattle.shore_txn.specs.Transactions.{kept_in, next_in, room_in, undos_in};
 
-use crate::table::TxnTable;
+use crate::transactions::Transactions;
+
+/// Each transaction has a session of its own, and a number of its own below the next. What is reserved is what they owe.
+pub fn transactions_are_apart(table: &Transactions)
+    ensures sessions { EachOnce (sessions_of (undos_in table.now)) }
+    ensures numbers { EachOnce (txns_of (undos_in table.now)) }
+    ensures below { AllByRecursion (λ a. a.txn < next_in table.now) (undos_in table.now) }
+    ensures owed { (room_in table.now).reserved ≡ owed_by_all (undos_in table.now) }
+{}
 
 /// What a table tells of a page claims as much as a `Page::reserve` for each entry of its undo lists, in whatever order.
-pub fn claims_are_those_of_undo_lists(table: &TxnTable)
+pub fn claims_are_those_of_undo_lists(table: &Transactions)
     ensures { (p : PageId) (slots : List Slot) → claimed_by (kept_in table.now p) slots ≡ reserved_for_all p (undos_in table.now) slots }
 {}
 
 /// If each page has room for its slots as they claim, what a table tells brings the claims of a page back when it is read, and each fits: so a
 /// page may leave its frame.
-pub fn claimed_pages_may_go(table: &TxnTable)
+pub fn claimed_pages_may_go(table: &Transactions)
     ensures claims { (R : Records) (counts : SlotCounts) (p : PageId) → Claimed R (undos_in table.now) counts
         → slots_of R (undos_in table.now) p (counts p) ≡ claimed_by (kept_in table.now p) (settled_slots R p (counts p)) }
     ensures fit { (R : Records) (counts : SlotCounts) (p : PageId) → Claimed R (undos_in table.now) counts → FitIn (kept_in table.now p) (settled_slots R p (counts p)) }
@@ -28,4 +42,13 @@ pub fn claimed_pages_may_go(table: &TxnTable)
     ensures kept { (R : Records) (counts : SlotCounts) (p : PageId) → Claimed R (undos_in table.now) counts
         → (slots_of R (undos_in table.now) p (counts p) ≡ claimed_by (kept_in table.now p) (map settled (images_of (slots_of R (undos_in table.now) p (counts p)))))
         × FitIn (kept_in table.now p) (map settled (images_of (slots_of R (undos_in table.now) p (counts p)))) }
+{}
+
+/// Once a transaction is taken out, slots that let its claims go are those of the page as it is read again: each has what is left to be told of it.
+pub fn left_pages_may_go(old: &Transactions, new: &Transactions)
+    ensures claims { (R : Records) (counts : SlotCounts) (a : SessionTxn) (p : PageId) → Claimed R (undos_in old.now) counts → IsAmong a (undos_in old.now)
+        → undos_in new.now ≡ without_txn a.txn (undos_in old.now)
+        → let_go p a.undo.images (slots_of R (undos_in old.now) p (counts p)) ≡ claimed_by (kept_in new.now p) (map settled (images_of (slots_of R (undos_in old.now) p (counts p)))) }
+    ensures fit { (R : Records) (counts : SlotCounts) (a : SessionTxn) (p : PageId) → Claimed R (undos_in old.now) counts → IsAmong a (undos_in old.now)
+        → undos_in new.now ≡ without_txn a.txn (undos_in old.now) → FitIn (kept_in new.now p) (map settled (images_of (slots_of R (undos_in old.now) p (counts p)))) }
 {}

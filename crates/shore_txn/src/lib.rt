@@ -1,4 +1,4 @@
-//! The table of transactions: undo lists, commits that wait, and the room of the log that the transactions share.
+//! The transactions under way of many sessions: their undo lists, and the room of the log that they share.
 #![tactic(auto)]
 
 mod active;
@@ -6,15 +6,11 @@ mod chains;
 mod claims;
 pub mod laws;
 mod log_room;
-mod table;
-mod transaction_claims;
-pub mod transaction_laws;
 mod transactions;
 mod txn;
 mod undo;
 
 pub use log_room::LogRoom;
-pub use table::{Committing, TxnTable};
 pub use transactions::Transactions;
 pub use txn::Txn;
 pub use undo::UndoEntry;

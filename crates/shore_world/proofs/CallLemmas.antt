@@ -1,36 +1,34 @@
 -- What calls of the core that touch the volume alone make of a world: a call of a session, and a step of the flush.
-use Rattle.std.proofs.Common.{◌≡◌, inl, ℕ, IsTrue, false, true, sym, ap, subst}
+use Rattle.std.proofs.Common.{◌≡◌, ℕ, IsTrue, false, true, sym, ap, subst}
 use Rattle.shore_disk.specs.declared.device.Disk.{Ghosts}
 use Rattle.shore_log.specs.Settled.{records_of_log}
 use Rattle.shore_log.specs.declared.device.LogDev.{LogDev}
 use Rattle.shore_model.specs.declared.calls.Call.{Call}
 use Rattle.shore_calls.specs.declared.step.Step.{Step}
-use Rattle.shore_calls.specs.CallSteps.{IsServed}
 use Rattle.shore_core.specs.Cores as cores
-use Rattle.shore_core.specs.Cores.{IsIn, IsKept, heap_of, tail_of}
-use Rattle.shore_heap.specs.Heaps as heaps
+use Rattle.shore_core.specs.Cores.{IsKept, heap_of, tail_of}
 use Rattle.shore_core.specs.Flushing.{AreFlushes, FlushSteps}
 use Rattle.shore_core.specs.Replies.{InEach, MayLeave, Resumed, Stepped}
 use Rattle.shore_world.specs.declared.event.Event.TheVariants as event
 use Rattle.shore_world.specs.declared.world.World.{World}
 use Rattle.shore_world.specs.Worlds.{Moves, durable_in, failed_in, geometry_in}
-use Rattle.shore_world.proofs.GrowLemmas.{call_grows, failed_call_keeps, flush_same, kept_same, resume_grows}
+use Rattle.shore_world.proofs.GrowLemmas.{call_grows, failed_call_keeps, failed_resume_keeps, flush_same, kept_same, resume_grows}
 use Rattle.shore_world.proofs.RunLemmas.{call_is_no_flush, resume_is_no_flush}
-use Rattle.shore_world.proofs.VolumeLemmas.{comes_written, log_still, volume_alone, volume_written, written_flushes}
-use Rattle.shore_world.proofs.WorldLemmas.{kept_as_before, grown_kept, ready_same, same_list, still_moves}
+use Rattle.shore_world.proofs.VolumeLemmas.{comes_written, volume_alone, volume_written, written_flushes}
+use Rattle.shore_world.proofs.WorldLemmas.{kept_as_before, grown_kept, ready_same, same_list}
 
 module _ {L V : Type 0} {G : Ghosts L} {H : Ghosts V} where
   -- a call of a session
-  pub call_moves : (old new : World L V G H) (session : ℕ) (c : Call) (step : Step) → IsServed session c → geometry_in new ≡ geometry_in old → new.log ≡ old.log
+  pub call_moves : (old new : World L V G H) (session : ℕ) (c : Call) (step : Step) → geometry_in new ≡ geometry_in old → new.log ≡ old.log
       → InEach (λ front disk before s store. Stepped session c step old.core new.core front before s store) old.core
       → MayLeave old.core new.core → (IsTrue (failed_in old) → heap_of new.core ≡ heap_of old.core) → durable_in new ≡ durable_in old
       → Moves old (event.Call session c) step new
-  call_moves old new session c step served geometry log steps leaves still durable = record {
+  call_moves old new session c step geometry log steps leaves still durable = record {
     geometry = geometry;
     state = λ log_front front disk s store at safe.
         let stepped = steps front disk (records_of_log old.log) s store at.is_in safe at.over in
         let comes = subst (λ (l : LogDev L G). cores.ComesTo new.core front (records_of_log l) store stepped.later) (sym log) stepped.comes in
-        let grows = call_grows old new s stepped.later session c step served at.is_in.beside comes.is_in.beside stepped.moves durable in
+        let grows = call_grows old new s stepped.later session c step at.is_in.beside comes.is_in.beside stepped.moves durable in
         let kept = grown_kept old new (ap (λ (l : LogDev L G). l.device) log) grows (ready_same old.log new.log log) log_front at.log in
         record {
           later = stepped.later;
@@ -43,20 +41,26 @@ module _ {L V : Type 0} {G : Ghosts L} {H : Ghosts V} where
   }
 
   -- the resume of one
-  pub resume_moves : (old new : World L V G H) (session : ℕ) (step : Step) → session ≡ 1 → geometry_in new ≡ geometry_in old → new.log ≡ old.log
-      → InEach (Resumed session step old.core new.core) old.core → heap_of new.core ≡ heap_of old.core → durable_in new ≡ durable_in old
+  pub resume_moves : (old new : World L V G H) (session : ℕ) (step : Step) → geometry_in new ≡ geometry_in old → new.log ≡ old.log
+      → InEach (λ front disk before s store. Resumed session step old.core new.core front before s store) old.core
+      → MayLeave old.core new.core → (IsTrue (failed_in old) → heap_of new.core ≡ heap_of old.core) → durable_in new ≡ durable_in old
       → Moves old (event.Resume session) step new
-  resume_moves old new session step served geometry log steps heap durable =
-      still_moves old new (event.Resume session) step (resume_is_no_flush session) geometry (ap heaps.history_of heap) (log_still old new (ap (λ (l : LogDev L G). G.history l.device) log))
-      (λ s later is now moves. grown_kept old new (ap (λ (l : LogDev L G). l.device) log) (resume_grows old new s later session step served is now moves durable) (ready_same old.log new.log log))
-      (λ front disk s store is over safe.
-      let resumed = steps front disk (records_of_log old.log) s store is safe over in
-      record {
-        later = resumed.later;
-        moves = resumed.moves;
-        is_in = subst (λ (l : LogDev L G). IsIn front disk (records_of_log l) new.core resumed.later) (sym log) resumed.is_in;
-        told = inl resumed.over;
-      })
+  resume_moves old new session step geometry log steps leaves still durable = record {
+    geometry = geometry;
+    state = λ log_front front disk s store at safe.
+        let resumed = steps front disk (records_of_log old.log) s store at.is_in safe at.over in
+        let comes = subst (λ (l : LogDev L G). cores.ComesTo new.core front (records_of_log l) store resumed.later) (sym log) resumed.comes in
+        let grows = resume_grows old new s resumed.later session step at.is_in.beside comes.is_in.beside resumed.moves durable in
+        let kept = grown_kept old new (ap (λ (l : LogDev L G). l.device) log) grows (ready_same old.log new.log log) log_front at.log in
+        record {
+          later = resumed.later;
+          moves = resumed.moves;
+          flushes = λ is. absurd (resume_is_no_flush session is);
+          comes = comes_written old new geometry log_front front store (volume_written old new leaves still log_front front disk s store at) kept resumed.later comes
+              (λ failed. kept_same s resumed.later store (failed_resume_keeps (geometry_in old) s session step resumed.later resumed.moves failed) at.over.kept);
+        };
+    any_moment = volume_alone old new (ap (λ (l : LogDev L G). G.history l.device) log) leaves still;
+  }
 
   -- a step of the flush
   pub flush_moves : (old new : World L V G H) (step : Step) → geometry_in new ≡ geometry_in old → new.log ≡ old.log → tail_of new.core ≡ tail_of old.core

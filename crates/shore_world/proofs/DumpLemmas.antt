@@ -5,7 +5,7 @@ use Rattle.shore_types.specs.declared.faults.Fault.TheVariants as fault
 use Rattle.shore_disk.specs.declared.device.Disk.{Ghosts}
 use Rattle.shore_log.specs.Settled.{records_of_log}
 use Rattle.shore_log.specs.declared.device.LogDev.{LogDev}
-use Rattle.shore_calls.specs.CallSteps.{after_refusal, with_failure}
+use Rattle.shore_calls.specs.StateChanges.{after_refusal, with_failure}
 use Rattle.shore_calls.specs.States.{State}
 use Rattle.shore_recovery.specs.Recovery.{RecoveryState}
 use Rattle.shore_core.specs.Cores as cores

@@ -1,17 +1,23 @@
 -- What no call and no resume takes away: the list grows, and what was durable stays so. After a failure log and durable number are as they were.
-use Rattle.std.proofs.Common.{◌≡◌, inl, inr, List, ◌++◌, ℕ, false, true, refl, sym, ap, subst, ◌∙◌}
-use Rattle.shore_types.specs.declared.faults.Fault.{Fault}
-use Rattle.shore_types.specs.declared.faults.Fault.TheVariants as fault
+use Rattle.std.proofs.Common.{◌≡◌, inl, inr, ⊎_elim, List, ◌++◌, ℕ, false, true, refl, sym, ap, subst, ◌∙◌}
 use Rattle.shore_types.specs.declared.layout.Geometry.{Geometry}
 use Rattle.shore_disk.specs.declared.device.Disk.{Ghosts}
 use Rattle.shore_model.specs.declared.calls.Answer.{Answer}
 use Rattle.shore_model.specs.declared.calls.Call.{Call}
+use Rattle.shore_model.specs.declared.calls.Call.TheVariants as call
 use Rattle.shore_model.specs.declared.log_records.LogRecord.{LogRecord}
+use Rattle.shore_sessions.specs.Sessions.{SessionTxn}
 use Rattle.shore_calls.specs.declared.step.Step.{Step}
 use Rattle.shore_calls.specs.declared.step.Step.TheVariants.{Done, Waits, Refused, Nothing}
-use Rattle.shore_calls.specs.CallSteps.{Answers, CallStep, Called, IsServed, ResumeStep, Resumed, after_refusal, with_failure}
-use Rattle.shore_calls.specs.States.{State}
-use Rattle.shore_calls.proofs.Prefixes.{event_goes_on}
+use Rattle.shore_calls.specs.declared.step.Wait.{Wait}
+use Rattle.shore_calls.specs.declared.step.Wait.TheVariants.{Durable, Lock}
+use Rattle.shore_calls.proofs.AfterRefusals.{goes_leaves}
+use Rattle.shore_calls.proofs.LongerLogs.{call_further, further_on, resume_further}
+use Rattle.shore_calls.proofs.SessionInversions.{answered_from}
+use Rattle.shore_calls.specs.StateChanges.{wait_refused, with_failure}
+use Rattle.shore_calls.specs.CallSteps.{AnswersBehind, BeginStep, CommitStep, GoesOn, ResumesWait, CallStep, ResumeStep, behind_lock}
+use Rattle.shore_calls.specs.Shapes.{with_locks_of}
+use Rattle.shore_calls.specs.States.{State, Waiting}
 use Rattle.shore_recovery.specs.Recovery.{RecoveryState}
 use Rattle.shore_core.specs.Cores.{IsKept}
 use Rattle.shore_core.specs.Flushing.{FlushMoves}
@@ -25,25 +31,18 @@ use Rattle.shore_world.proofs.WorldLemmas.{IsBesideOf, ListGrows}
 runs_before : (s new later : State) → new ≡ later → later.failed ≡ s.failed → new.failed ≡ false → s.failed ≡ false
 runs_before s new later is same runs = sym same ∙ sym (ap (λ (x : State). x.failed) is) ∙ runs
 
-no_failure_runs : (s new : State) → new ≡ after_refusal fault.Device s → new.failed ≡ false → ⊥
-no_failure_runs s new is runs = let clash : true ≡ false = sym (ap (λ (x : State). x.failed) is) ∙ runs in absurd cc
-
-refusal_runs : (s new : State) (f : Fault) → new ≡ after_refusal f s → new.failed ≡ false → s.failed ≡ false
-refusal_runs s new fault.Device is runs = absurd (no_failure_runs s new is runs)
-refusal_runs s new (fault.Damaged device place) is runs = absurd (no_failure_runs s new is runs)
-refusal_runs s new _ is runs = runs_before s new s is refl runs
-
 call_runs : (g : Geometry) (s : State) (session : ℕ) (c : Call) (step : Step) (new : State) → CallStep g s session c step new → new.failed ≡ false → s.failed ≡ false
-call_runs g s session c (Done answer) new moves runs = moves.0
-call_runs g s session c (Waits wait) new moves runs = moves.0
-call_runs g s session c (Refused f) new moves runs = refusal_runs s new f moves.1 runs
-call_runs g s session c Nothing new moves runs = absurd moves
+call_runs g s session c step new (inl same) runs = runs_before s new s same.1 refl runs
+call_runs g s session c step new (inr (inl failed)) runs = runs_before s new s failed.2 refl runs
+call_runs g s session c step new (inr (inr (inl busy))) runs = busy.0
+call_runs g s session c step new (inr (inr (inr (inl begins)))) runs = begins.0
+call_runs g s session c step new (inr (inr (inr (inr (inl none))))) runs = none.0
+call_runs g s session c step new (inr (inr (inr (inr (inr inner))))) runs = inner.0
 
-resume_runs : (s : State) (session : ℕ) (step : Step) (new : State) → ResumeStep s session step new → new.failed ≡ false → s.failed ≡ false
-resume_runs s session (Done answer) new moves runs = moves.0
-resume_runs s session (Waits wait) new moves runs = moves.0
-resume_runs s session (Refused f) new moves runs = let same = ap (λ (x : State). x.failed) moves.3 in let clash : true ≡ false = sym moves.0 ∙ sym same ∙ runs in absurd cc
-resume_runs s session Nothing new moves runs = runs_before s new s moves.1 refl runs
+resume_runs : (g : Geometry) (s : State) (session : ℕ) (step : Step) (new : State) → ResumeStep g s session step new → new.failed ≡ false → s.failed ≡ false
+resume_runs g s session step new (inl idle) runs = runs_before s new s idle.2 refl runs
+resume_runs g s session step new (inr resumed) runs =
+    ⊎_elim (λ failed. runs_before s new (wait_refused s resumed.0.session) failed.2 refl runs) (λ goes. goes.0) resumed.3
 
 -- ---- what a failure leaves
 
@@ -54,20 +53,71 @@ HasSameLog s new = (new.log ≡ s.log) × (new.durable ≡ s.durable)
 same_log_of : (s new later : State) → new ≡ later → HasSameLog s later → HasSameLog s new
 same_log_of s new later is same = subst (HasSameLog s) (sym is) same
 
-refusal_same : (s new : State) (f : Fault) → new ≡ after_refusal f s → HasSameLog s new
-refusal_same s new fault.Device is = same_log_of s new (with_failure s) is (refl, refl)
-refusal_same s new (fault.Damaged device place) is = same_log_of s new (with_failure s) is (refl, refl)
-refusal_same s new _ is = same_log_of s new s is (refl, refl)
+-- the state is another but for its locks, and whether it failed
+only_locks : (s new : State) → new ≡ with_locks_of new s → HasSameLog s new
+only_locks s new is = (ap (λ (x : State). x.log) is, ap (λ (x : State). x.durable) is)
 
-answer_runs : (g : Geometry) (s : State) (session : ℕ) (c : Call) (answer : Answer) (new : State) → Answers g s session c answer new → new.failed ≡ s.failed
-answer_runs g s session c answer new (inl begun) = ap (λ (x : State). x.failed) begun.4
-answer_runs g s session c answer new (inr answered) = ap (λ (x : State). x.failed) answered.4
+-- it runs as that did
+runs_on : (s new later : State) → s.failed ≡ false → new ≡ later → later.failed ≡ s.failed → new.failed ≡ true → HasSameLog s new
+runs_on s new later running is same failed = never_both new.failed failed (ap (λ (x : State). x.failed) is ∙ same ∙ running)
+
+module _ (g : Geometry) (s new : State) (running : s.failed ≡ false) (failed : new.failed ≡ true) where
+  behind_keeps : (locked : State) → locked.failed ≡ s.failed → (a : SessionTxn) (c : Call) (answer : Answer) → AnswersBehind g locked a c answer new → HasSameLog s new
+  behind_keeps locked same a (call.Get id) answer moves = runs_on s new _ running moves.1 same failed
+  behind_keeps locked same a (call.GetForUpdate id) answer moves = runs_on s new _ running moves.1 same failed
+  behind_keeps locked same a (call.Insert store bytes) answer moves = runs_on s new _ running moves.3.2 same failed
+  behind_keeps locked same a (call.Update id bytes) answer moves = runs_on s new _ running moves.2.2 same failed
+  behind_keeps locked same a (call.Delete id) answer moves = runs_on s new _ running moves.2.2 same failed
+  behind_keeps locked same a (call.Scan store) answer moves = runs_on s new _ running moves.1 same failed
+  behind_keeps locked same a (call.Lock at mode) answer moves = runs_on s new _ running moves.1 same failed
+  behind_keeps locked same a (call.TryLock at mode) answer moves = runs_on s new _ running moves.1 same failed
+  behind_keeps locked same a _ answer moves = absurd moves
+
+  begin_keeps : (session : ℕ) (step : Step) → BeginStep s session step new → HasSameLog s new
+  begin_keeps session (Done answer) moves = runs_on s new _ running moves.4 refl failed
+  begin_keeps session (Waits wait) moves = absurd moves
+  begin_keeps session (Refused f) moves = same_log_of s new s moves.1 (refl, refl)
+  begin_keeps session Nothing moves = absurd moves
+
+  commit_keeps : (a : SessionTxn) (step : Step) → CommitStep s a step new → HasSameLog s new
+  commit_keeps a (Done answer) moves = absurd moves
+  commit_keeps a (Waits wait) moves = runs_on s new _ running moves.1 refl failed
+  commit_keeps a (Refused f) moves = absurd moves
+  commit_keeps a Nothing moves = absurd moves
+
+-- a call from its locks on
+goes_keeps : (g : Geometry) (s new : State) → s.failed ≡ false → new.failed ≡ true → (a : SessionTxn) (c : Call) (step : Step) → GoesOn g s a c step new → HasSameLog s new
+goes_keeps g s new running failed a c (Done answer) moves =
+    let from = answered_from g s a c new answer moves in behind_keeps g s new running failed (behind_lock s a c from.lock) refl a c answer from.behind
+goes_keeps g s new running failed a c (Waits wait) moves = runs_on s new _ running moves.5 refl failed
+goes_keeps g s new running failed a c (Refused f) moves = only_locks s new (goes_leaves g s new a c f moves)
+goes_keeps g s new running failed a c Nothing moves = absurd moves
 
 pub failed_call_keeps : (g : Geometry) (s : State) (session : ℕ) (c : Call) (step : Step) (new : State) → CallStep g s session c step new → new.failed ≡ true → HasSameLog s new
-failed_call_keeps g s session c (Done answer) new moves failed = never_both new.failed failed (answer_runs g s session c answer new moves.2 ∙ moves.0)
-failed_call_keeps g s session c (Waits wait) new moves failed = never_both new.failed failed (ap (λ (x : State). x.failed) moves.4.2 ∙ moves.0)
-failed_call_keeps g s session c (Refused f) new moves failed = refusal_same s new f moves.1
-failed_call_keeps g s session c Nothing new moves failed = absurd moves
+failed_call_keeps g s session c step new (inl same) failed = same_log_of s new s same.1 (refl, refl)
+failed_call_keeps g s session c step new (inr (inl before)) failed = same_log_of s new s before.2 (refl, refl)
+failed_call_keeps g s session c step new (inr (inr (inl busy))) failed = same_log_of s new s busy.3 (refl, refl)
+failed_call_keeps g s session c step new (inr (inr (inr (inl begins)))) failed = begin_keeps g s new begins.0 failed session step begins.3
+failed_call_keeps g s session c step new (inr (inr (inr (inr (inl none))))) failed = same_log_of s new s none.5 (refl, refl)
+failed_call_keeps g s session c step new (inr (inr (inr (inr (inr inner))))) failed =
+    ⊎_elim
+    (λ early. same_log_of s new s early.3 (refl, refl))
+    (⊎_elim (λ goes. goes_keeps g s new inner.0 failed inner.2.0 c step goes.1) (λ commits. commit_keeps g s new inner.0 failed inner.2.0 step commits.1))
+    inner.2.2
+
+wait_keeps : (g : Geometry) (s : State) (w : Waiting) (wait : Wait) (step : Step) (new : State) → s.failed ≡ false → ResumesWait g s w wait step new → new.failed ≡ true → HasSameLog s new
+wait_keeps g s w (Durable n) step new running (inl still) failed = same_log_of s new s still.2 (refl, refl)
+wait_keeps g s w (Durable n) step new running (inr answered) failed = runs_on s new _ running answered.2.3 refl failed
+wait_keeps g s w (Lock at) step new running moves failed =
+    ⊎_elim (λ still. same_log_of s new s still.2 (refl, refl)) (λ goes. goes_keeps g (wait_refused s w.session) new running failed moves.0 w.call step goes.1) moves.2
+
+pub failed_resume_keeps : (g : Geometry) (s : State) (session : ℕ) (step : Step) (new : State) → ResumeStep g s session step new → new.failed ≡ true → HasSameLog s new
+failed_resume_keeps g s session step new (inl idle) failed = same_log_of s new s idle.2 (refl, refl)
+failed_resume_keeps g s session step new (inr resumed) failed =
+    ⊎_elim
+    (λ before. same_log_of s new (wait_refused s resumed.0.session) before.2 (refl, refl))
+    (λ goes. wait_keeps g s resumed.0 resumed.0.wait step new goes.0 goes.1 failed)
+    resumed.3
 
 pub flush_same : (s : State) (step : Step) (new : State) → FlushMoves s step new → HasSameLog s new
 flush_same s (Done answer) new moves = same_log_of s new s moves.2 (refl, refl)
@@ -99,13 +149,13 @@ module _ {L V : Type 0} {G : Ghosts L} {H : Ghosts V} where
   }
 
   -- a call
-  pub call_grows : (old new : World L V G H) (s later : State) (session : ℕ) (c : Call) (step : Step) → IsServed session c
-      → IsBesideOf old s → IsBesideOf new later → CallStep (geometry_in old) s session c step later → durable_in new ≡ durable_in old → ListGrows old new
-  call_grows old new s later session c step served is now moves durable =
-      state_grows old new s later is now durable (event_goes_on (geometry_in old) s later (Called session c step) (served, moves)) (call_runs (geometry_in old) s session c step later moves)
+  pub call_grows : (old new : World L V G H) (s later : State) (session : ℕ) (c : Call) (step : Step) → IsBesideOf old s → IsBesideOf new later
+      → CallStep (geometry_in old) s session c step later → durable_in new ≡ durable_in old → ListGrows old new
+  call_grows old new s later session c step is now moves durable =
+      state_grows old new s later is now durable (further_on s later (call_further (geometry_in old) s session c step later moves)) (call_runs (geometry_in old) s session c step later moves)
 
   -- a resume
-  pub resume_grows : (old new : World L V G H) (s later : State) (session : ℕ) (step : Step) → session ≡ 1
-      → IsBesideOf old s → IsBesideOf new later → ResumeStep s session step later → durable_in new ≡ durable_in old → ListGrows old new
-  resume_grows old new s later session step first is now moves durable =
-      state_grows old new s later is now durable (event_goes_on (geometry_in old) s later (Resumed session step) (first, moves)) (resume_runs s session step later moves)
+  pub resume_grows : (old new : World L V G H) (s later : State) (session : ℕ) (step : Step) → IsBesideOf old s → IsBesideOf new later
+      → ResumeStep (geometry_in old) s session step later → durable_in new ≡ durable_in old → ListGrows old new
+  resume_grows old new s later session step is now moves durable =
+      state_grows old new s later is now durable (further_on s later (resume_further (geometry_in old) s session step later moves)) (resume_runs (geometry_in old) s session step later moves)

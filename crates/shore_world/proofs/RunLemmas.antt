@@ -10,7 +10,7 @@ use Rattle.shore_calls.specs.declared.step.Step.{Step}
 use Rattle.shore_calls.specs.declared.step.Step.TheVariants.{Done, Waits, Refused, Nothing}
 use Rattle.shore_types.specs.declared.faults.Fault.{Fault}
 use Rattle.shore_types.specs.declared.faults.Fault.TheVariants as fault
-use Rattle.shore_calls.specs.CallSteps.{ManagerEvent}
+use Rattle.shore_calls.specs.Events.{ManagerEvent}
 use Rattle.shore_calls.specs.States.{State}
 use Rattle.shore_heap.specs.Heaps as heaps
 use Rattle.shore_log.specs.declared.tail.Tail as tail
@@ -134,7 +134,7 @@ log_cause step log log_now volume volume_now same cause = record {
 -- one for which the log device stands still
 pub no_force : {L V : Type 0} {G : Ghosts L} {H : Ghosts V} (old new : World L V G H) (e : Event) (step : Step) → IsOfPages e → new.log.device ≡ old.log.device
     → report_in new ≡ report_in old → Moves old e step new → SameVolume old.core new.core → (e ≡ event.FlushStep → HasFlushed old step new)
-    → Earns old.core (ReadBy e) (fault_at step) → NeedsForce old.core (fault_at step) → HasCause (fault_at step) (faults_of old.core) (faults_of new.core) → Steps old e step new
+    → Earns old.core (ReadBy old.core e) (fault_at step) → NeedsForce old.core (fault_at step) → HasCause (fault_at step) (faults_of old.core) (faults_of new.core) → Steps old e step new
 no_force {G = G} old new e step other device report moves same flushed earned unforced cause = record {
   moves = moves;
   still = λ is. device;
@@ -154,7 +154,7 @@ no_force {G = G} old new e step other device report moves same flushed earned un
 
 -- an event that could not be copied is refused, and nothing has changed
 pub not_copied : (g : Geometry) (s : State) (e : Event) → IsCall e → EventStep g s e (Refused Memory) s
-not_copied g s (event.Call session call) is = (inl refl, refl)
+not_copied g s (event.Call session call) is = inl (refl, refl)
 not_copied g s (event.Resume session) is = absurd is
 not_copied g s event.ForceStage is = absurd is
 not_copied g s event.ForceOpen is = absurd is
@@ -165,23 +165,11 @@ pub memory_cause : (n : ℕ) → HasCause (fault_at (Refused Memory)) n n
 memory_cause n = record { no_lower = omega arith; reported = λ is. absurd cc; unreported = λ other. refl }
 
 -- nothing is said of a device by these
-pub memory_says_nothing : {L V : Type 0} {G : Ghosts L} {H : Ghosts V} (w : World L V G H) (e : Event) → Earns w.core (ReadBy e) (fault_at (Refused Memory))
+pub memory_says_nothing : {L V : Type 0} {G : Ghosts L} {H : Ghosts V} (w : World L V G H) (e : Event) → Earns w.core (ReadBy w.core e) (fault_at (Refused Memory))
 memory_says_nothing w e front disk holds d offset is = absurd cc
 
 pub memory_asks_nothing : {L V : Type 0} {G : Ghosts L} {H : Ghosts V} (w : World L V G H) → NeedsForce w.core (fault_at (Refused Memory))
 memory_asks_nothing w front disk holds n is = absurd cc
-
-pub failed_says_nothing : {L V : Type 0} {G : Ghosts L} {H : Ghosts V} (w : World L V G H) (e : Event) (step : Step) → IfErr (fault_at step) (λ f. f ≡ Failed) → Earns w.core (ReadBy e) (fault_at step)
-failed_says_nothing w e (Refused f) failed = λ front disk holds d offset is. let clash : Failed ≡ Damaged d offset = sym failed ∙ is in absurd cc
-failed_says_nothing w e (Done answer) failed = λ front disk holds. tt
-failed_says_nothing w e (Waits wait) failed = λ front disk holds. tt
-failed_says_nothing w e Nothing failed = λ front disk holds. tt
-
-pub failed_asks_nothing : {L V : Type 0} {G : Ghosts L} {H : Ghosts V} (w : World L V G H) (step : Step) → IfErr (fault_at step) (λ f. f ≡ Failed) → NeedsForce w.core (fault_at step)
-failed_asks_nothing w (Refused f) failed = λ front disk holds n is. let clash : Failed ≡ NeedForce n = sym failed ∙ is in absurd cc
-failed_asks_nothing w (Done answer) failed = λ front disk holds. tt
-failed_asks_nothing w (Waits wait) failed = λ front disk holds. tt
-failed_asks_nothing w Nothing failed = λ front disk holds. tt
 
 -- the faults that a flush may have name no page, and ask for no force
 abbrev pub IsOfFlush : Fault → Type 0
@@ -197,7 +185,7 @@ of_flush_asks_nothing f n (inl failed) is = let clash : Failed ≡ NeedForce n =
 of_flush_asks_nothing f n (inr (inl device)) is = let clash : fault.Device ≡ NeedForce n = sym device ∙ is in absurd cc
 of_flush_asks_nothing f n (inr (inr memory)) is = let clash : Memory ≡ NeedForce n = sym memory ∙ is in absurd cc
 
-pub flush_says_nothing : {L V : Type 0} {G : Ghosts L} {H : Ghosts V} (w : World L V G H) (e : Event) (step : Step) → IfErr (fault_at step) IsOfFlush → Earns w.core (ReadBy e) (fault_at step)
+pub flush_says_nothing : {L V : Type 0} {G : Ghosts L} {H : Ghosts V} (w : World L V G H) (e : Event) (step : Step) → IfErr (fault_at step) IsOfFlush → Earns w.core (ReadBy w.core e) (fault_at step)
 flush_says_nothing w e (Refused f) of_flush = λ front disk holds d offset is. absurd (of_flush_is_no_damage f d offset of_flush is)
 flush_says_nothing w e (Done answer) of_flush = λ front disk holds. tt
 flush_says_nothing w e (Waits wait) of_flush = λ front disk holds. tt

@@ -13,8 +13,9 @@ use Rattle.shore_recovery.specs.Recovery.{RecoveryEvent, RecoveryState}
 use Rattle.shore_lives.specs.ManagerSteps.{WorksTo}
 use Rattle.shore_calls.specs.declared.step.Step.{Step}
 use Rattle.shore_calls.specs.declared.step.Step.TheVariants.{Done, Waits, Refused, Nothing}
-use Rattle.shore_calls.specs.CallSteps.{Called, EventMoves, HasFailed, ManagerEvent, Resumed, with_failure}
-use Rattle.shore_calls.specs.CallSteps as calls
+use Rattle.shore_calls.specs.Events.{Called, HasFailed, ManagerEvent, Resumed, EventMoves}
+use Rattle.shore_calls.specs.StateChanges.{with_failure}
+use Rattle.shore_calls.specs.Events as calls
 use Rattle.shore_calls.specs.States.{State, cost_of_log}
 use Rattle.shore_managers.specs.StoredRuns.{IsStored, Manage, StoredEvent, StoredMoves, StoredState, StoredSteps, Tend, entries_made}
 use Rattle.shore_bounds.proofs.Opens.{fits_stream}
@@ -68,7 +69,7 @@ module _ (g : Geometry) (m : StoredState) (works : List RecoveryEvent) (store : 
 
   one_stored : (e : Event) (step : Step) → IsServedEvent e → EventStep g m.state e step new → StoredAs g m new store (moves_by e step)
   one_stored (Call session call) step served p = managed_as (Called session call step) (served, p)
-  one_stored (Resume session) step served p = managed_as (Resumed session step) (served, p)
+  one_stored (Resume session) step served p = managed_as (Resumed session step) p
   one_stored ForceStage (Done (Staged n)) served p = tended p.3
   one_stored ForceStage Nothing served p = tended p.1
   one_stored ForceStage (Refused f) served p = refused f p
@@ -102,7 +103,14 @@ module _ {L V : Type 0} {G : Ghosts L} {H : Ghosts V} (g : Geometry) (stream_byt
   safe : (es : List Entry) (w : World L V G H) (m : StoredState) → IsUpAt es w m → IsSafe (geometry_in w) m.state
   safe es w m up =
       subst (λ (x : Geometry). IsSafe x m.state) (sym up.geometry)
-      (record { roomy = up.under_way.roomy; inside = under_way_inside g stream_bytes found es m up.under_way })
+      (record {
+        found = found;
+        entries = es;
+        after = up.under_way.state;
+        asks = λ w at there is. up.under_way.asks w there at is;
+        roomy = up.under_way.roomy;
+        inside = under_way_inside g stream_bytes found es m up.under_way;
+      })
 
   still_long : (old new : World L V G H) → LeavesAtAnyMoment old new → SurvivesCrashes old log_front → stream_bytes_in new ≡ stream_bytes_in old
   still_long old new moment k = ap (λ (h : History). size h - LOG_FRONT_BYTES) (moment.log log_front k).later.1

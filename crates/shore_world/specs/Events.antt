@@ -1,15 +1,17 @@
 -- The events that are served as yet.
-use Rattle.std.specs.Prelude.{◌≡◌}
 use Rattle.shore_types.specs.declared.ids.PageId.{PageId}
-use Rattle.shore_calls.specs.CallSteps.{IsServed}
-use Rattle.shore_core.specs.Replies.{Reads}
+use Rattle.shore_disk.specs.declared.device.Disk as disk
+use Rattle.shore_log.specs.declared.tail.Tail as tail
+use Rattle.shore_calls.specs.Events.{IsServed}
+use Rattle.shore_core.specs.declared.core_calls.Core.{Core}
+use Rattle.shore_core.specs.Replies.{Reads, ReadsWaiting}
 use Rattle.shore_world.specs.declared.event.Event.{Event}
 use Rattle.shore_world.specs.declared.event.Event.TheVariants as event
 
--- a call that is served, the resume of a session that is, and every other event
+-- a call that is served, and every other event
 abbrev pub IsServedEvent : Event → Type 0
-IsServedEvent (event.Call session call) = IsServed session call
-IsServedEvent (event.Resume session) = session ≡ 1
+IsServedEvent (event.Call session call) = IsServed call
+IsServedEvent (event.Resume session) = Unit {0}
 IsServedEvent event.ForceStage = Unit {0}
 IsServedEvent event.ForceOpen = Unit {0}
 IsServedEvent event.FlushStep = Unit {0}
@@ -38,10 +40,10 @@ IsOfForce event.ForceStage = Unit {0}
 IsOfForce event.ForceOpen = Unit {0}
 IsOfForce event.FlushStep = ⊥
 
--- the pages of the volume that an event may read
-abbrev pub ReadBy : Event → PageId → Type 0
-ReadBy (event.Call session call) page = Reads call page
-ReadBy (event.Resume session) page = ⊥
-ReadBy event.ForceStage page = ⊥
-ReadBy event.ForceOpen page = ⊥
-ReadBy event.FlushStep page = ⊥
+-- the pages of the volume that an event of a core may read: going on with a call may read what the call may
+abbrev pub ReadBy : {T V : Type 0} {G : tail.Ghosts T} {H : disk.Ghosts V} → Core T V G H → Event → PageId → Type 0
+ReadBy core (event.Call session call) page = Reads call page
+ReadBy core (event.Resume session) page = ReadsWaiting core session page
+ReadBy core event.ForceStage page = ⊥
+ReadBy core event.ForceOpen page = ⊥
+ReadBy core event.FlushStep page = ⊥

@@ -12,7 +12,7 @@ use Rattle.shore_recovery.specs.Pages.{LoggedPages}
 use Rattle.shore_managers.specs.StoredRuns.{StoredRun}
 use Rattle.shore_calls.specs.declared.step.Step.{Step}
 use Rattle.shore_calls.specs.declared.step.Step.TheVariants.{Refused}
-use Rattle.shore_calls.specs.CallSteps.{ManagerEvent}
+use Rattle.shore_calls.specs.Events.{ManagerEvent}
 use Rattle.shore_stays.specs.SoundStores.{managed}
 use Rattle.shore_stands.specs.Moments.{IsLostAlong, Moment, Path}
 use Rattle.shore_stands.specs.StandsFor.{StandsFor, begun_on}

@@ -10,8 +10,10 @@ use Rattle.shore_model.specs.declared.calls.Answer.TheVariants.{Staged, Forced}
 use Rattle.shore_model.specs.declared.log_records.LogRecord.{LogRecord}
 use Rattle.shore_calls.specs.declared.step.Step.{Step}
 use Rattle.shore_calls.specs.declared.step.Step.TheVariants.{Done, Refused, Nothing}
-use Rattle.shore_calls.specs.CallSteps.{CallStep, Called, HasFailed, ManagerEvent, ResumeStep, Resumed, with_durable, with_failure}
-use Rattle.shore_calls.specs.CallSteps as calls
+use Rattle.shore_calls.specs.Events.{Called, HasFailed, ManagerEvent, Resumed}
+use Rattle.shore_calls.specs.StateChanges.{with_durable, with_failure}
+use Rattle.shore_calls.specs.Events as calls
+use Rattle.shore_calls.specs.CallSteps.{CallStep, ResumeStep}
 use Rattle.shore_calls.specs.States.{State, cost_of_log}
 use Rattle.shore_log.specs.Frames.{GivesBehind, IsLongest}
 use Rattle.shore_log.specs.Settled.{records_of_log, IsSettled, IsStaged}
@@ -97,7 +99,7 @@ OpenRefused s fault new =
 -- A force is made in two steps, and only the second makes records durable. A step of the flush leaves the state, but for a failure of the volume.
 abbrev pub EventStep : Geometry → State → Event → Step → State → Type 0
 EventStep g s (event.Call session call) step new = CallStep g s session call step new
-EventStep g s (event.Resume session) step new = ResumeStep s session step new
+EventStep g s (event.Resume session) step new = ResumeStep g s session step new
 EventStep g s event.ForceStage (Done (Staged n)) new = (s.failed ≡ false) × (s.durable < n) × (n ≤ length s.log) × (new ≡ s)
 EventStep g s event.ForceStage Nothing new = (s.failed ≡ false) × (new ≡ s)
 EventStep g s event.ForceStage (Refused fault) new = ForceRefused s fault new
@@ -213,7 +215,7 @@ module _ {L V : Type 0} {G : Ghosts L} {H : Ghosts V} where
     pub flushed : e ≡ event.FlushStep → HasFlushed old step new
     pub report : report_in new ≡ report_in old
     -- `Damaged` names a page that the event may read and that has no text; `NeedForce` comes if no page may leave its frame
-    pub damaged : Earns old.core (ReadBy e) (fault_at step)
+    pub damaged : Earns old.core (ReadBy old.core e) (fault_at step)
     pub unforced : NeedsForce old.core (fault_at step)
     pub cause : HasCauseOfPair (fault_at step) (G.faults old.log.device) (G.faults new.log.device) (cores.faults_of old.core) (cores.faults_of new.core)
 

@@ -12,7 +12,7 @@ ghost use Rattle.shore_recovery.specs.Recovery.{RecoveryEvent, RecoveryState};
 ghost use Rattle.shore_recovery.specs.Restarts.{RestartsTo};
 ghost use Rattle.shore_lives.specs.Stretches.{just_formatted, opening_told};
 ghost use Rattle.shore_calls.specs.declared.step.Step.{Step};
-ghost use Rattle.shore_calls.specs.CallSteps.{ManagerEvent};
+ghost use Rattle.shore_calls.specs.Events.{ManagerEvent};
 ghost use Rattle.shore_managers.specs.StoredRuns.{AreFixed, AreStoredRuns, OpensShow, StoredEvent, StoredMoves, StoredRun, StoredState, lists_found, spans_of};
 ghost use Rattle.shore_format.specs.Pairs.{AreFormatted};
 ghost use Rattle.shore_stays.specs.SoundStores.{IsUnderWay, found_state, managed};

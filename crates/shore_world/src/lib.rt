@@ -1,5 +1,6 @@
-//! The whole manager over its pair of devices: format, open, and one event at a time. It is the plain world of one session. Pages are written
-//! back whenever that suits, with undecided changes in them, and an open is a restart: it redoes what pages lack and undoes the losers.
+//! The whole manager over its pair of devices: format, open, and one event at a time. It is the plain world of many sessions, which take
+//! locks and wait for each other. Pages are written back whenever that suits, with undecided changes in them, and an open is a restart: it
+//! redoes what pages lack and undoes the losers.
 #![tactic(auto)]
 
 mod event;

@@ -1,15 +1,16 @@
 //! The world: a core over its log device and its volume, one event at a time.
+ghost use Rattle.std.specs.List.Sorted.{IsPermutation, IsSorted};
 ghost use Rattle.std.specs.Prelude.{◌≡◌, ◌≢◌, ◌⊎◌, ◌+◌, ◌-◌, ◌≤◌, ◌++◌, ℕ, List, [], ◌∷◌, All, IsTrue, IfOk, IfErr, IsErrAnd, MatchResult, OnOk, OnErr, Err, None, length, take};
 ghost use Rattle.shore_types.specs.Layout.{HasStore};
 ghost use Rattle.shore_model.specs.Records.{scan_of};
+ghost use Rattle.shore_locks.specs.Listing.{request_cmp};
 ghost use Rattle.shore_disk.specs.Device.{size, seen, may_leave, LeavesOnly};
 ghost use Rattle.shore_disk.specs.Cause.{HasCause};
 ghost use Rattle.shore_disk.specs.Fuse.{fuse_inner};
 ghost use Rattle.shore_disk.specs.AnyDisk.{any_history, is_in_memory};
 ghost use Rattle.shore_disk.specs.Memory.{picked_after};
 ghost use Rattle.shore_log.specs.Settled.{records_of_log, stable};
-ghost use Rattle.shore_calls.specs.CallSteps.{with_failure};
-ghost use Rattle.shore_calls.specs.Refusals.{IsPageFault};
+ghost use Rattle.shore_calls.specs.StateChanges.{IsPageFault, with_failure};
 ghost use Rattle.shore_calls.specs.States.{State};
 ghost use Rattle.shore_recovery.specs.Recovery.{RecoveryState};
 ghost use Rattle.shore_core.specs.Cores.{IsSafe, durable_of, first_of, heap_of, waiting_of};
@@ -21,10 +22,10 @@ use shore_core::{Core, Step};
 use shore_disk::{AnyDisk, Disk, FuseDisk, Pick};
 use shore_format::{Fronts, read_fronts};
 use shore_log::{LogDev, LogRecord, PlainTail};
-use shore_model::Answer;
+use shore_model::{Answer, Request};
 use shore_restart::{Report, restart};
 use shore_types::{Fault, Geometry, Lsn, Pairs, StoreId};
-use std::alloc::Global;
+use std::alloc::{AllocError, Global};
 
 /// A manager over its log device and its volume.
 #[derive(Drop)]
@@ -206,15 +207,24 @@ impl<L: Disk, V: Disk> World<L, V> {
         self.core.has_failed()
     }
 
-    /// One event. A refusal has changed nothing, but for `Device` and `Damaged`: after them every call is refused by `Failed` or `Memory`, and
-    /// so is the call that waits, once.
+    /// All requests of the lock table, granted or waiting, by granule and then by transaction.
+    pub fn nodes(&self, alloc: Global) -> Result<Vec<Request>, AllocError>
+        ensures all { (front : List ℕ) (disk : ℕ → List ℕ) (s : State) → IsInState self.now front disk s
+            → IfOk result (λ all. IsPermutation s.locks.requests all.items) }
+        ensures order { IfOk result (λ all. IsSorted request_cmp all.items) }
+    {
+        self.core.nodes(alloc)
+    }
+
+    /// One event. A refusal has changed nothing but locks that were taken, except for `Device` and `Damaged`: after them every call is refused by
+    /// `Failed` or `Memory`, and so is each call that waits, once.
     pub fn step(&mut self, alloc: Global, event: Event) -> Step
         requires { IsServedEvent event }
         ensures { Steps self.old event result self.new }
     {
         match event {
             Event::Call(session, call) => self.core.call(alloc, session, call),
-            Event::Resume(session) => self.core.resume(session),
+            Event::Resume(session) => self.core.resume(alloc, session),
             Event::ForceStage => self.force_stage(alloc),
             Event::ForceOpen => self.force_open(),
             Event::FlushStep => self.core.flush_step(alloc),
@@ -228,7 +238,7 @@ impl<L: Disk, V: Disk> World<L, V> {
         ensures report { report_in self.new ≡ report_in self.old }
         ensures idle { result ≡ Step.Nothing → IsIdle self.old }
         ensures full { result ≡ Step.Refused Fault.LogFull → ¬ HasForceRoom self.old }
-        ensures damaged { Earns self.old.core (ReadBy Event.ForceStage) (fault_at result) }
+        ensures damaged { Earns self.old.core (ReadBy self.old.core Event.ForceStage) (fault_at result) }
         ensures unforced { NeedsForce self.old.core (fault_at result) }
         ensures cause { HasCause (fault_at result) (L.faults self.old.log.device) (L.faults self.new.log.device) }
     {
@@ -254,7 +264,7 @@ impl<L: Disk, V: Disk> World<L, V> {
         ensures volume { heap_of self.new.core ≡ heap_of self.old.core }
         ensures report { report_in self.new ≡ report_in self.old }
         ensures shut { result ≡ Step.Nothing → self.old.log.staged ≡ None }
-        ensures damaged { Earns self.old.core (ReadBy Event.ForceOpen) (fault_at result) }
+        ensures damaged { Earns self.old.core (ReadBy self.old.core Event.ForceOpen) (fault_at result) }
         ensures unforced { NeedsForce self.old.core (fault_at result) }
         ensures cause { HasCause (fault_at result) (L.faults self.old.log.device) (L.faults self.new.log.device) }
     {

@@ -9,6 +9,8 @@ mod crashes;
 mod cuts;
 mod devices;
 mod doings;
+mod interleaved;
+mod judged_locks;
 mod lists;
 mod lives;
 mod log_copies;
@@ -21,6 +23,7 @@ use crashes::{Restarted, check_crash};
 use cuts::{Rows, check_rows};
 use devices::{Devices, Images};
 use doings::{Doing, ONE_COMMIT};
+use interleaved::{Meetings, NO_MEETINGS, check_meetings};
 use lists::{Counts, check_lists};
 use lives::{Ground, Start, formatted, live, no_ground};
 use random_lives::{NOTHING_YET, Tally, check_pair};
@@ -28,6 +31,9 @@ use shore_disk::Pick;
 use std::alloc::Global;
 use std::test::Fail;
 use trouble::Trouble;
+
+/// Of each seed sessions make so many events.
+const EVENTS_TOGETHER: u64 = 18_000;
 
 /// A change of the committed record is on the volume, and the next one in the log buffer.
 const A_CHANGE_WRITTEN_BACK: [Doing; 6] = [
@@ -271,4 +277,53 @@ fn by_another_chance(rt: HostRuntime) -> Result<(), Fail> {
             pages_flushed: 1148,
         },
     )
+}
+
+/// Pairs that sessions work on together, from a seed, until there were so many events. Each kind of what is counted has come up.
+fn check_together(rt: &HostRuntime, seed: u64) -> Result<(), Fail> {
+    let mut chance = Chance::new(seed);
+    let mut tally: Meetings = NO_MEETINGS;
+    for _ in 0..EVENTS_TOGETHER {
+        if tally.all.events >= EVENTS_TOGETHER {
+            break;
+        }
+        if let Err(trouble) = check_meetings(rt.alloc(), &mut chance, &mut tally) {
+            return Err(Fail::new(format_args!("{trouble:?}: seed {seed}, {tally:?}")));
+        }
+    }
+    println!(rt; "sessions from seed {seed}: {tally:?}")?;
+    if !tally.has_each(EVENTS_TOGETHER) {
+        return Err(Fail::new(format_args!("seed {seed}: too little has come up")));
+    }
+    Ok(())
+}
+
+#[test]
+fn together_from_seed_3(rt: HostRuntime) -> Result<(), Fail> {
+    check_together(&rt, 3)
+}
+
+#[test]
+fn together_from_seed_4(rt: HostRuntime) -> Result<(), Fail> {
+    check_together(&rt, 4)
+}
+
+#[test]
+fn together_from_seed_5(rt: HostRuntime) -> Result<(), Fail> {
+    check_together(&rt, 5)
+}
+
+#[test]
+fn together_from_seed_6(rt: HostRuntime) -> Result<(), Fail> {
+    check_together(&rt, 6)
+}
+
+#[test]
+fn together_from_seed_7(rt: HostRuntime) -> Result<(), Fail> {
+    check_together(&rt, 7)
+}
+
+#[test]
+fn together_from_seed_8(rt: HostRuntime) -> Result<(), Fail> {
+    check_together(&rt, 8)
 }

@@ -17,4 +17,4 @@ returns-clause-crash c g stream_bytes s n h kept = left_roomy g stream_bytes s.l
 pub returns-clause-inside : goal.returns-clause-inside
 returns-clause-inside c g stream_bytes found es s k h =
     records_inside g stream_bytes s.log s.sessions.records (whole_roomy g stream_bytes s.log h.prefixes)
-    (λ id. sym (image_in_place k.sound k.log h.whole id))
+    (λ id. sym (image_in_place k.sessions.sound k.sessions.log h.whole id))

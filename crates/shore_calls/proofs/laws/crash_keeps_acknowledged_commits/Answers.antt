@@ -1,5 +1,5 @@
-use Rattle.shore_calls.proofs.Crashes.{crash_keeps}
+use Rattle.shore_calls.proofs.SessionTells.{session_crash_keeps}
 use Rattle.shore_calls.proofs.laws.crash_keeps_acknowledged_commits.Goals as goal
 
 pub returns : goal.returns
-returns c found es s n k h = crash_keeps found es s n k h
+returns d found es s n k h = session_crash_keeps found es s k n h

@@ -1,9 +1,8 @@
-use Rattle.shore_calls.proofs.Growing.{failure_kept}
-use Rattle.shore_calls.proofs.Steps.{force_kept}
+use Rattle.shore_calls.proofs.SessionStates.{session_failure_stays, session_force_stays}
 use Rattle.shore_calls.proofs.laws.forces_and_failures_keep_state.Goals as goal
 
 pub returns-clause-durable : goal.returns-clause-durable
-returns-clause-durable c found es s n k more within = force_kept found es s n k more within
+returns-clause-durable d found es s n k more within = session_force_stays found es s k n more within
 
 pub returns-clause-failed : goal.returns-clause-failed
-returns-clause-failed c found es s k = failure_kept found es s k
+returns-clause-failed d found es s k = session_failure_stays found es s k

@@ -1,5 +1,5 @@
-use Rattle.shore_calls.proofs.Opens.{open_begins}
+use Rattle.shore_calls.proofs.SessionOpens.{sessions_after_open}
 use Rattle.shore_calls.proofs.laws.open_begins_a_state.Goals as goal
 
 pub returns : goal.returns
-returns c found s h = open_begins found s h
+returns d found s opened none = sessions_after_open found s opened none

@@ -3,10 +3,9 @@ use Rattle.shore_dwrite.proofs.Moves.{if_err}
 use Rattle.shore_types.specs.declared.layout.Geometry.{Geometry}
 use Rattle.shore_model.specs.declared.log_records.LogRecord.{LogRecord}
 use Rattle.shore_log.specs.Settled.{records_of_log}
-use Rattle.shore_analysis.specs.declared.analysis.Tables.{Tables}
 use Rattle.shore_analysis.specs.Meant.{AreMeant}
 use Rattle.shore_analysis.specs.Tables.{AreTables}
-use Rattle.shore_restart.specs.declared.errors.RestartError.TheVariants.{Memory, NoRoom}
+use Rattle.shore_restart.specs.declared.errors.RestartError.TheVariants.{NoRoom}
 use Rattle.shore_restart.specs.Errors.{DoesNotFit}
 use Rattle.shore_restart.specs.Missing.{missing_on}
 use Rattle.shore_restart.specs.Room.{IsRoomBehind}
@@ -70,7 +69,7 @@ undo_all-requires g c =
     let stream : c.stream_bytes.result ≡ stream_bytes_of c.args.log.now = let as_long = c.args.log.now.as_long in let rest = c.stream_bytes.ensures in omega (arith, as_long, rest) in
     record {
       meant = subst (λ (g : Geometry). AreMeant g rs) (c.geometry.ensures ∙ sym c.redo.ensures.volume.geometry) meant;
-      losers = c.of.ensures c.geometry.result.now rs c.in_ok-tables.tables meant tables (ap (λ (t : Tables). t.txns) (sym c.tables.view_is));
+      losers = c.of.ensures c.geometry.result.now rs c.in_ok-tables.tables meant tables refl;
       room =
           subst (λ (n : ℕ). IsRoomBehind rs n c.in-Some.room) stream
           (subst (λ (rs : List LogRecord). IsRoomBehind rs c.stream_bytes.result c.in-Some.room) c.records-2.ensures.log c.in-Some.ensures.some);
@@ -107,17 +106,17 @@ returns-in_err-undo_all-clause-device g c log_front front disk s found =
     if_err c.from_residual-in_err-undo_all.result c.from_residual-in_err-undo_all.ensures.1 (λ error same f is.
     c.in_err-undo_all.ensures.device log_front front come.1.disk come.0 come.1.ready f (sym same ∙ is))
 
--- ---- the table
+-- ---- the control
 
-pub returns-in_err-new-clause-moves : goal.returns-in_err-new-clause-moves
-returns-in_err-new-clause-moves g c log_front front disk s found =
+pub returns-in_err-idle_control-clause-moves : goal.returns-in_err-idle_control-clause-moves
+returns-in_err-idle_control-clause-moves g c log_front front disk s found =
     let log = c.args.log.now in
     let heap = c.args.heap.now in
     let redoes = c.in_ok-redone.ensures.redone front disk s found.stands (found.at_rest.records ∙ sym c.records-4.ensures.log) found.durable found.redone (log_history log) log_front
     (found_covered log_front front disk log heap s found) in
     let come = come_redone log_front front disk log heap s found c.redo.new.heap c.in_ok-redone.redone redoes c.redo.ensures.volume.geometry in
-    come_refused log_front front log heap s log c.undo_all.new.log c.redo.new.heap c.undo_all.new.heap come _ c.in_ok-undo_all.field-0 c.from_residual-in_err-new.result Memory
-    (err_with c.from_residual-in_err-new.result Memory c.from_residual-in_err-new.ensures.1) (c.in_ok-undo_all.ensures.moves log_front front come.1.disk come.0 come.1.ready) c.undo_all.ensures.volume.geometry
+    come_refused log_front front log heap s log c.undo_all.new.log c.redo.new.heap c.undo_all.new.heap come _ c.in_ok-undo_all.field-0 c.from_residual-in_err-idle_control.result c.in_err-idle_control.field-0.0
+    (err_with c.from_residual-in_err-idle_control.result c.in_err-idle_control.field-0.0 c.from_residual-in_err-idle_control.ensures.1) (c.in_ok-undo_all.ensures.moves log_front front come.1.disk come.0 come.1.ready) c.undo_all.ensures.volume.geometry
 
 pub returns-clause-moves : goal.returns-clause-moves
 returns-clause-moves g c log_front front disk s found =
@@ -170,9 +169,10 @@ returns-in_err-undo_all-clause-any_pages g c front disk held =
     (c.in_err-undo_all.ensures.any_pages front s.left s.held) in
     if_err c.from_residual-in_err-undo_all.result c.from_residual-in_err-undo_all.ensures.1 (λ error same f page. undone.named f (sym same ∙ page))
 
-pub returns-in_err-new-clause-any_pages : goal.returns-in_err-new-clause-any_pages
-returns-in_err-new-clause-any_pages g c front disk held =
-    if_err c.from_residual-in_err-new.result c.from_residual-in_err-new.ensures.1 (λ error same f page. let clash = sym same ∙ page in absurd cc)
+pub returns-in_err-idle_control-clause-any_pages : goal.returns-in_err-idle_control-clause-any_pages
+returns-in_err-idle_control-clause-any_pages g c front disk held =
+    if_err c.from_residual-in_err-idle_control.result c.from_residual-in_err-idle_control.ensures.1
+    (λ error same f page. let clash = sym c.in_err-idle_control.ensures.refused ∙ sym same ∙ page in absurd cc)
 
 -- ---- the log device, and the record that is named
 
@@ -198,11 +198,12 @@ returns-in_err-undo_all-clause-log_device g c log_front quiet =
     quiet_err log_front log log c.undo_all.new.log (omega arith) c.from_residual-in_err-undo_all.result c.in_err-undo_all.field-0.0 c.from_residual-in_err-undo_all.ensures.1
     (c.in_err-undo_all.ensures.log_device log_front quiet)
 
-pub returns-in_err-new-clause-log_device : goal.returns-in_err-new-clause-log_device
-returns-in_err-new-clause-log_device g c log_front quiet =
+pub returns-in_err-idle_control-clause-log_device : goal.returns-in_err-idle_control-clause-log_device
+returns-in_err-idle_control-clause-log_device g c log_front quiet =
     let log = c.args.log.now in
     let on = quiet_of log_front log c.undo_all.new.log c.in_ok-undo_all.field-0 (c.in_ok-undo_all.ensures.log_device log_front quiet) in
-    quiet_other log_front log log c.undo_all.new.log (omega arith) c.from_residual-in_err-new.result Memory c.from_residual-in_err-new.ensures.1 (λ f is. cc) on.0 on.1
+    quiet_other log_front log log c.undo_all.new.log (omega arith) c.from_residual-in_err-idle_control.result c.in_err-idle_control.field-0.0 c.from_residual-in_err-idle_control.ensures.1
+    (λ f is. let clash = sym c.in_err-idle_control.ensures.refused ∙ is in absurd cc) on.0 on.1
 
 pub returns-clause-log_device : goal.returns-clause-log_device
 returns-clause-log_device g c log_front quiet =
@@ -234,6 +235,7 @@ pub returns-in_err-undo_all-clause-bad_number : goal.returns-in_err-undo_all-cla
 returns-in_err-undo_all-clause-bad_number g c =
     if_err c.from_residual-in_err-undo_all.result c.from_residual-in_err-undo_all.ensures.1 (λ error same n is. c.in_err-undo_all.ensures.bad_number n (sym same ∙ is))
 
-pub returns-in_err-new-clause-bad_number : goal.returns-in_err-new-clause-bad_number
-returns-in_err-new-clause-bad_number g c =
-    if_err c.from_residual-in_err-new.result c.from_residual-in_err-new.ensures.1 (λ error same n is. let clash = sym same ∙ is in absurd cc)
+pub returns-in_err-idle_control-clause-bad_number : goal.returns-in_err-idle_control-clause-bad_number
+returns-in_err-idle_control-clause-bad_number g c =
+    if_err c.from_residual-in_err-idle_control.result c.from_residual-in_err-idle_control.ensures.1
+    (λ error same n is. let clash = sym c.in_err-idle_control.ensures.refused ∙ sym same ∙ is in absurd cc)

@@ -14,7 +14,6 @@ pub returns-in-Ok-clause-restarts : goal.returns-in-Ok-clause-restarts
 returns-in-Ok-clause-restarts g c log_front front disk s found =
     let m = c.in-Ok.ensures.moves log_front front disk s found in
     let new = c.recover.new.log in
-    let table = c.in-Ok.ensures.table in
     record {
       ready = m.later;
       moments = m.moments;
@@ -30,10 +29,10 @@ returns-in-Ok-clause-restarts g c log_front front disk s found =
             m.done.0,
             ready.at_rest,
             m.done.1,
-            opens_in c.over.result c.recover.new.heap c.in-Ok.field-0.txns front m.done.1 (records_of_log c.args.log.now) (records_of_log new) (stream_bytes_of new) m.later
-                same was c.in-Ok.ensures.undone quiet ready.redone ready.stands table.0 table.1 table.2 table.3
-                (λ st log durable running txns shows. c.over.ensures.state front m.done.1 st
-                (ap length (log ∙ same ∙ sym c.records.ensures.log)) (durable ∙ ready.at_rest.durable ∙ sym c.durable.ensures ∙ sym c.number-durable.ensures) running txns shows)
+            opens_in c.over.result c.recover.new.heap c.in-Ok.field-0.control front m.done.1 (records_of_log c.args.log.now) (records_of_log new) (stream_bytes_of new) m.later
+                same was c.in-Ok.ensures.undone quiet ready.redone ready.stands (geometry_of c.args.heap).max_locks c.in-Ok.ensures.idle c.in-Ok.ensures.next c.in-Ok.ensures.room
+                (λ st log durable running control shows. c.over.ensures.state front m.done.1 st
+                (ap length (log ∙ same ∙ sym c.records.ensures.log)) (durable ∙ ready.at_rest.durable ∙ sym c.durable.ensures ∙ sym c.number-durable.ensures) running control shows)
                 (c.over.ensures.over m.done.1),
           );
     }

@@ -2,7 +2,7 @@
 //! `update STORE PAGE SLOT WORD`, `refill STORE PAGE SLOT LENGTH`, `delete STORE PAGE SLOT`, `scan STORE`, `commit`, `resume`, `stage`,
 //! `open` and `flush`.
 ghost use Rattle.std.specs.Prelude.{IfOk};
-ghost use Rattle.shore_calls.specs.CallSteps.{IsServed};
+ghost use Rattle.shore_calls.specs.Events.{IsServed};
 ghost use Rattle.shore_world.specs.Events.{IsServedEvent};
 
 use super::trouble::Trouble;
@@ -52,7 +52,7 @@ pub(super) fn event(alloc: Global, words: &mut Words) -> Result<Event, Trouble>
 }
 
 fn call(alloc: Global, kind: &str, words: &mut Words) -> Result<Call, Trouble>
-    ensures { IfOk result (IsServed 1) }
+    ensures { IfOk result IsServed }
 {
     match kind {
         "begin" => Ok(Call::Begin),

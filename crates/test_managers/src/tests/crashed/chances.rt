@@ -1,6 +1,6 @@
 //! Choices that look like chance, from a seed.
 use super::devices::Fuse;
-use super::doings::{Doing, Place, STORES};
+use super::doings::{Depth, Doing, Place, STORES};
 use shore_disk::Pick;
 
 /// Where the choices come from. Each seed has its own.
@@ -68,6 +68,59 @@ impl Chance {
             8 | 9 => Doing::ForceOpen,
             10 => Doing::Resume,
             _ => Doing::FlushStep,
+        }
+    }
+
+    /// What a session does that waits for nothing: most begin a transaction, if it is in none.
+    pub(super) fn doing_of_session(&mut self, is_in_transaction: bool) -> Doing {
+        if !is_in_transaction && self.below(8) > 0 {
+            return Doing::Begin;
+        }
+        match self.below(24) {
+            0 | 1 | 2 | 3 => Doing::GetOf(self.near_place()),
+            4 | 5 => Doing::GetForUpdateOf(self.near_place()),
+            6 | 7 => Doing::InsertOf(self.below(2), self.byte(), self.length()),
+            8 | 9 | 10 => Doing::UpdateOf(self.near_place(), self.byte(), self.length()),
+            11 => Doing::DeleteOf(self.near_place()),
+            12 => Doing::ScanOf(self.below(2)),
+            13 => Doing::LockOf(self.near_place(), self.depth(), self.below(6) as usize),
+            14 | 15 => Doing::TryOf(self.near_place(), self.depth(), self.below(6) as usize),
+            16 => Doing::Begin,
+            17 | 18 => Doing::Commit,
+            19 | 20 => Doing::ForceStage,
+            21 | 22 => Doing::ForceOpen,
+            _ => Doing::FlushStep,
+        }
+    }
+
+    /// What a session does whose call waits: most try whether it goes on.
+    pub(super) fn doing_of_waiter(&mut self) -> Doing {
+        match self.below(16) {
+            0 => self.doing(),
+            1 | 2 => Doing::ForceStage,
+            3 | 4 => Doing::ForceOpen,
+            _ => Doing::Resume,
+        }
+    }
+
+    // One of a few places, where sessions meet. Some have no page or no store.
+    fn near_place(&mut self) -> Place {
+        if self.below(24) == 0 {
+            return (self.below(12), self.below(4), 2042);
+        }
+        let store = self.below(2);
+        let page = if store == 0 { self.below(2) } else { 0 };
+        let slot = u16::try_from(self.below(3)).unwrap_or(0);
+        (store, page, slot)
+    }
+
+    // Most are records.
+    fn depth(&mut self) -> Depth {
+        match self.below(8) {
+            0 => 0,
+            1 => 1,
+            2 | 3 => 2,
+            _ => 3,
         }
     }
 

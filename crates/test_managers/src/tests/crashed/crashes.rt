@@ -28,9 +28,17 @@ pub(super) struct Restarted {
 
 /// The history is one, and is sound.
 pub(super) fn check_history(alloc: Global, ground: &Ground, life: &Life) -> Result<(), Trouble> {
-    let (opening, entries) = (&ground.opening, &life.entries);
-    require(is_history(alloc, opening, entries)?, "no history")?;
-    require(is_sound(alloc, opening, entries)?, "not sound")
+    check_entries(alloc, ground, &life.entries)
+}
+
+/// The entries are a history, and a sound one.
+pub(super) fn check_entries(
+    alloc: Global,
+    ground: &Ground,
+    entries: &[Entry],
+) -> Result<(), Trouble> {
+    require(is_history(alloc, &ground.opening, entries)?, "no history")?;
+    require(is_sound(alloc, &ground.opening, entries)?, "not sound")
 }
 
 /// Opens what a loss of power has left of a life, and checks what is there.
@@ -47,21 +55,32 @@ pub(super) fn check_crash(
         ..
     } = life;
     let mut world = devices.open(alloc)?;
-    check_found(alloc, &world, &list, durable)?;
-    let records = check_shown(alloc, ground, &entries, &mut world)?;
-    let found = copy_of_log(alloc, &world)?;
+    let (ground, found) = check_opened(alloc, ground, &mut world, (&entries, &list, durable))?;
     let (devices, _, _) = cut_off(world, calls_of(None));
     Ok(Restarted {
-        ground: Ground {
-            opening: Opening {
-                records,
-                in_doubt: Sequence::new(alloc),
-            },
-            opened: found.len(),
-        },
+        ground,
         found,
         devices,
     })
+}
+
+// What an open shows behind these entries and this list, of which so much was durable; and its log.
+fn check_opened(
+    alloc: Global,
+    ground: &Ground,
+    world: &mut Manager,
+    life: (&[Entry], &[LogRecord], usize),
+) -> Result<(Ground, Vec<LogRecord>), Trouble> {
+    let (entries, list, durable) = life;
+    check_found(alloc, world, list, durable)?;
+    let records = check_shown(alloc, ground, entries, world)?;
+    let found = copy_of_log(alloc, world)?;
+    let opening = Opening {
+        records,
+        in_doubt: Sequence::new(alloc),
+    };
+    let opened = found.len();
+    Ok((Ground { opening, opened }, found))
 }
 
 // What the restart read is a prefix of the list with all that was durable. Behind it are records of undo alone, all durable, and with them each

@@ -1,6 +1,6 @@
 //! Restarts that are cut off.
 use super::crashes::{Restarted, check_crash, require_in_place};
-use super::devices::{Devices, Fuse, Images, calls_of, cut_off};
+use super::devices::{Devices, Fuse, Images, Manager, calls_of, cut_off};
 use super::lives::{Start, live};
 use super::trouble::{Trouble, require};
 use shore_disk::Pick;
@@ -73,14 +73,22 @@ pub(super) fn check_whole(
     wanted: &Restarted,
 ) -> Result<Devices, Trouble> {
     let mut world = devices.open(alloc)?;
+    require_restarted(alloc, &mut world, wanted)?;
+    let (devices, _, _) = cut_off(world, calls_of(None));
+    Ok(devices)
+}
+
+fn require_restarted(
+    alloc: Global,
+    world: &mut Manager,
+    wanted: &Restarted,
+) -> Result<(), Trouble> {
     let (found, waiting) = world.records();
     require(
         waiting.is_empty() && found.len() == wanted.found.len() && found.starts_with(&wanted.found),
         "another log behind a restart that was cut off",
     )?;
-    require_in_place(alloc, &mut world, &wanted.ground.opening.records)?;
-    let (devices, _, _) = cut_off(world, calls_of(None));
-    Ok(devices)
+    require_in_place(alloc, world, &wanted.ground.opening.records)
 }
 
 /// How many rows of restarts were made, and how many of them were cut off as often as a row has restarts.

@@ -1,14 +1,14 @@
 //! The events that lists are made of.
 ghost use Rattle.std.specs.Prelude.{IfOk, IfSome};
-ghost use Rattle.shore_calls.specs.CallSteps.{IsServed};
+ghost use Rattle.shore_calls.specs.Events.{IsServed};
 ghost use Rattle.shore_world.specs.Events.{IsServedEvent};
 
 use shore_model::Call;
-use shore_types::{Bytes, PageId, Rid, Sequence, SessionId, StoreId};
+use shore_types::{Bytes, Granule, Mode, PageId, Rid, Sequence, SessionId, StoreId};
 use shore_world::Event;
 use std::alloc::{AllocError, Global};
 
-/// The one session that is served.
+/// The session of lists.
 pub(super) const SESSION: SessionId = SessionId(1);
 
 /// How many stores there are.
@@ -28,6 +28,14 @@ const FIRST: Rid = Rid {
 
 /// A record id: the numbers of its store, page and slot.
 pub(super) type Place = (u32, u32, u16);
+
+/// A granule at a place, by how far it is from the root: 0 for the volume, 1 for the store, 2 for the page, and 3 for the record.
+pub(super) type Depth = u32;
+
+/// A mode, by its index among all of them.
+pub(super) type ModeIndex = usize;
+
+const MODES: [Mode; 6] = [Mode::IS, Mode::IX, Mode::SH, Mode::SIX, Mode::UD, Mode::EX];
 
 /// What happens to a manager next. In lists each insert is of one byte; an update puts two into the first record's place, and a delete is of that.
 #[derive(Clone, Copy, Debug)]
@@ -50,7 +58,10 @@ pub(super) enum Doing {
     UpdateOf(Place, u8, usize),
     DeleteOf(Place),
     GetOf(Place),
+    GetForUpdateOf(Place),
     ScanOf(u32),
+    LockOf(Place, Depth, ModeIndex),
+    TryOf(Place, Depth, ModeIndex),
 }
 
 /// One of each that lists are made of.
@@ -78,9 +89,9 @@ pub(super) const ONE_COMMIT: [Doing; 6] = [
 ];
 
 impl Doing {
-    /// The session's call, if it makes one.
+    /// The call of a session, if it is one.
     pub(super) fn call(self, alloc: Global) -> Result<Option<Call>, AllocError>
-        ensures { IfOk result (λ call. IfSome call (IsServed 1)) }
+        ensures { IfOk result (λ call. IfSome call IsServed) }
     {
         Ok(match self {
             Doing::Begin => Some(Call::Begin),
@@ -100,23 +111,30 @@ impl Doing {
             }
             Doing::DeleteOf(place) => Some(Call::Delete(rid(place))),
             Doing::GetOf(place) => Some(Call::Get(rid(place))),
+            Doing::GetForUpdateOf(place) => Some(Call::GetForUpdate(rid(place))),
             Doing::ScanOf(store) => Some(Call::Scan(StoreId(store))),
+            Doing::LockOf(place, depth, mode) => {
+                Some(Call::Lock(granule_at(place, depth), mode_at(mode)))
+            }
+            Doing::TryOf(place, depth, mode) => {
+                Some(Call::TryLock(granule_at(place, depth), mode_at(mode)))
+            }
             Doing::ForceStage | Doing::ForceOpen | Doing::Resume | Doing::FlushStep => None,
         })
     }
 
-    /// The event for the manager.
-    pub(super) fn event(self, alloc: Global) -> Result<Event, AllocError>
+    /// The event that a manager is given, if a session does this.
+    pub(super) fn event(self, alloc: Global, session: SessionId) -> Result<Event, AllocError>
         ensures { IfOk result IsServedEvent }
     {
         if let Some(call) = self.call(alloc)? {
-            return Ok(Event::Call(SESSION, call));
+            return Ok(Event::Call(session, call));
         }
         Ok(match self {
             Doing::ForceStage => Event::ForceStage,
             Doing::ForceOpen => Event::ForceOpen,
             Doing::FlushStep => Event::FlushStep,
-            _ => Event::Resume(SESSION),
+            _ => Event::Resume(session),
         })
     }
 }
@@ -127,6 +145,25 @@ fn bytes(alloc: Global, found: &[u8]) -> Result<Bytes, AllocError> {
 
 fn filled(alloc: Global, byte: u8, count: usize) -> Result<Bytes, AllocError> {
     Ok(Sequence::from_vec(Vec::from_elem(alloc, byte, count)?))
+}
+
+/// The granule at a place that is so far from the root.
+pub(super) fn granule_at(place: Place, depth: Depth) -> Granule {
+    let id = rid(place);
+    match depth {
+        0 => Granule::Volume,
+        1 => Granule::Store(id.page.store),
+        2 => Granule::Page(id.page),
+        _ => Granule::Record(id),
+    }
+}
+
+/// The mode of an index, the strongest beyond the last.
+pub(super) fn mode_at(index: ModeIndex) -> Mode {
+    match MODES.get(index) {
+        Some(mode) => *mode,
+        None => Mode::EX,
+    }
 }
 
 fn rid(place: Place) -> Rid {

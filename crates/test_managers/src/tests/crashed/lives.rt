@@ -1,6 +1,6 @@
 //! A manager from its open to the loss of power.
 use super::devices::{Devices, Fuse, Images, Manager, calls_of, cut_off};
-use super::doings::Doing;
+use super::doings::{Doing, SESSION};
 use super::log_copies::copy_of_log;
 use super::short_histories::ShortHistory;
 use super::trouble::Trouble;
@@ -76,12 +76,23 @@ pub(super) fn live(
 ) -> Result<Life, Trouble> {
     let mut world = devices.open(alloc)?;
     let mut history = ShortHistory::new(alloc);
-    make(alloc, &mut world, &mut history, before)?;
-    let (of_log, of_volume) = calls_of(fuse);
-    world.set_log_fuse(of_log);
-    world.set_volume_fuse(of_volume);
-    make(alloc, &mut world, &mut history, doings)?;
-    cut_short(alloc, world, history, (of_log, of_volume))
+    let calls = calls_of(fuse);
+    make_behind(alloc, &mut world, &mut history, (before, doings), calls)?;
+    cut_short(alloc, world, history, calls)
+}
+
+// Makes the first events, sets the fuses, and makes the others.
+fn make_behind(
+    alloc: Global,
+    world: &mut Manager,
+    history: &mut ShortHistory,
+    events: (&[Doing], &[Doing]),
+    calls: (u64, u64),
+) -> Result<(), Trouble> {
+    make(alloc, world, history, events.0)?;
+    world.set_log_fuse(calls.0);
+    world.set_volume_fuse(calls.1);
+    make(alloc, world, history, events.1)
 }
 
 /// What a manager leaves that no fuse is counted for.
@@ -117,8 +128,8 @@ fn make(
     doings: &[Doing],
 ) -> Result<(), Trouble> {
     for doing in doings {
-        let step = world.step(alloc, doing.event(alloc)?);
-        history.note(alloc, *doing, step)?;
+        let step = world.step(alloc, doing.event(alloc, SESSION)?);
+        history.note(alloc, SESSION, *doing, step)?;
     }
     Ok(())
 }

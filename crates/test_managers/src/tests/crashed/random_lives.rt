@@ -3,6 +3,7 @@ use super::chances::Chance;
 use super::crashes::{check_crash, check_history, check_in_place};
 use super::cuts::check_whole;
 use super::devices::{Devices, Images, Manager};
+use super::doings::SESSION;
 use super::lives::{Ground, Life, ended, formatted, no_ground};
 use super::log_copies::copy_of_log;
 use super::short_histories::ShortHistory;
@@ -33,6 +34,15 @@ pub(super) struct Tally {
     pub(super) commits_kept: u64,
     pub(super) losers_undone: u64,
     pub(super) pages_flushed: u64,
+}
+
+impl Tally {
+    /// Something of each kind.
+    pub(super) fn has_each(&self) -> bool {
+        let of_work = self.dumps > 0 && self.failures > 0 && self.pages_flushed > 0;
+        let of_ends = self.commits_acknowledged > 0 && self.losers_undone > 0;
+        of_work && of_ends && self.crashes > 0 && self.opens_cut_off > 0
+    }
 }
 
 pub(super) const NOTHING_YET: Tally = Tally {
@@ -73,12 +83,23 @@ fn live_by_chance(
 ) -> Result<Life, Trouble> {
     let mut world = devices.open(alloc)?;
     let mut history = ShortHistory::new(alloc);
+    go_on_by_chance(alloc, &mut world, &mut history, chance, tally)?;
+    ended(alloc, world, history)
+}
+
+fn go_on_by_chance(
+    alloc: Global,
+    world: &mut Manager,
+    history: &mut ShortHistory,
+    chance: &mut Chance,
+    tally: &mut Tally,
+) -> Result<(), Trouble> {
     for _ in 0..chance.below(80) {
         match chance.below(100) {
             0 => world.set_log_fuse(u64::from(chance.below(12))),
             1 => world.set_volume_fuse(u64::from(chance.below(40))),
-            2 | 3 => check_dump(alloc, &mut world, tally)?,
-            _ => go_on(alloc, &mut world, &mut history, chance, tally)?,
+            2 | 3 => check_dump(alloc, world, tally)?,
+            _ => go_on(alloc, world, history, chance, tally)?,
         }
         if world.has_failed() && chance.below(4) == 0 {
             break;
@@ -87,7 +108,7 @@ fn live_by_chance(
     if world.has_failed() {
         tally.failures = tally.failures.saturating_add(1);
     }
-    ended(alloc, world, history)
+    Ok(())
 }
 
 // One event.
@@ -99,16 +120,20 @@ fn go_on(
     tally: &mut Tally,
 ) -> Result<(), Trouble> {
     let doing = chance.doing();
-    let step = world.step(alloc, doing.event(alloc)?);
+    let step = world.step(alloc, doing.event(alloc, SESSION)?);
     tally.events = tally.events.saturating_add(1);
     if let Step::Done(Answer::Flushed(count)) = &step {
         tally.pages_flushed = tally.pages_flushed.saturating_add(*count as u64);
     }
-    history.note(alloc, doing, step)
+    history.note(alloc, SESSION, doing, step)
 }
 
-// A dump shows what the records of the log come to, forced or not. One that a failure or a page without a force refuses shows nothing.
-fn check_dump(alloc: Global, world: &mut Manager, tally: &mut Tally) -> Result<(), Trouble> {
+/// A dump shows what the records of the log come to, forced or not. One that a failure or a page without a force refuses shows nothing.
+pub(super) fn check_dump(
+    alloc: Global,
+    world: &mut Manager,
+    tally: &mut Tally,
+) -> Result<(), Trouble> {
     let mut records: RidMap<Bytes> = RidMap::new(alloc);
     let list = copy_of_log(alloc, world)?;
     for (id, image) in last_images(alloc, &list)?.iter() {
@@ -126,9 +151,9 @@ fn check_dump(alloc: Global, world: &mut Manager, tally: &mut Tally) -> Result<(
     Ok(())
 }
 
-// Power is lost, on each device as it comes. A whole restart is judged; then some are cut off in a row, and another whole one shows the same. Answers
-// what it shows, and what the next loss of power leaves of it.
-fn check_loss(
+/// Power is lost, on each device as it comes. A whole restart is judged; then some are cut off in a row, and another whole one shows the same. Answers
+/// what it shows, and what the next loss of power leaves of it.
+pub(super) fn check_loss(
     alloc: Global,
     ground: Ground,
     mut life: Life,

@@ -3,7 +3,7 @@ use Rattle.std.specs.Prelude.{All}
 use Rattle.shore_model.specs.declared.calls.Call.TheVariants as call
 use Rattle.shore_sessions.specs.Sessions.{EachOnce, txns_of}
 use Rattle.shore_sessions.specs.Views.{IsAmong}
-use Rattle.shore_calls.specs.CallSteps.{committed}
+use Rattle.shore_calls.specs.StateChanges.{committed}
 use Rattle.shore_calls.specs.States.{next_number}
 use Rattle.shore_calls.specs.declared.step.Wait.TheVariants.{Durable}
 use Rattle.shore_control.specs.Controls.{txns_in, waits_in}

@@ -1,91 +1,161 @@
-use Rattle.std.proofs.Common.{inl, inr, refl, sym, ap, subst, ◌∙◌, arith}
+use Rattle.std.proofs.Common.{◌+◌, inl, inr, refl, sym, ap, ◌∙◌, arith}
+use Rattle.shore_types.specs.declared.faults.Fault.TheVariants as fault
 use Rattle.shore_types.specs.declared.layout.TheConstants.{ENDING_COST}
 use Rattle.shore_model.specs.declared.calls.Answer.TheVariants.{Began}
-use Rattle.shore_calls.specs.CallSteps.{begun}
-use Rattle.shore_calls.specs.States.{page_slots}
-use Rattle.shore_core.proofs.Coming.{comes_same, over_as, pages_told}
-use Rattle.shore_heap.proofs.Showing.{shows_same}
+use Rattle.shore_model.specs.declared.calls.Call.TheVariants as call
 use Rattle.shore_room.proofs.Leaving.{begun_slots}
+use Rattle.shore_sessions.specs.Sessions.{txn_begun}
 use Rattle.shore_sessions.specs.UndoLists.{nothing_to_undo}
-use Rattle.shore_txn.specs.Tables.{active_in, committing_in, kept_in}
-use Rattle.shore_core.specs.Cores.{durable_of, first_of, has_failed, waiting_of}
-use Rattle.shore_core.specs.Parts.{HasParts}
-use Rattle.shore_core.proofs.PartSteps.{parts_begun}
-use Rattle.shore_core.proofs.Tables.{has_no_room, has_room, in_none, is_of, no_such, none_told, some_and, some_told}
-use Rattle.shore_core.proofs.Taking.{true_false}
-use Rattle.shore_core.proofs.core_calls.Core.begin.Goals.{then-not-admits-via-then-not-admits, then-not-admits-via-else-not-admits+then-next-ge-LAST_TXN}
+use Rattle.shore_calls.specs.States.{State, page_slots}
+use Rattle.shore_heap.proofs.Showing.{shows_same}
+use Rattle.shore_control.specs.Controls.{txns_in}
+use Rattle.shore_txn.specs.Transactions.{kept_in}
+use Rattle.shore_core.specs.Cores.{control_of, durable_of, first_of, has_failed, txns_of, waiting_of}
+use Rattle.shore_core.proofs.Begun.{begun_earlier, begun_reserved}
+use Rattle.shore_core.proofs.Coming.{comes_same, over_as, pages_told}
 use Rattle.shore_core.proofs.Keeping.{nothing_leaves}
+use Rattle.shore_core.proofs.Tables.{has_no_room, has_room, parts_moved}
+use Rattle.shore_core.proofs.Taking.{replied_as, true_false}
+use Rattle.shore_core.proofs.core_calls.Core.begin.Goals.{then-not-admits-via-then-not-admits, then-not-admits-via-else-not-admits+then-next-ge-LAST_TXN}
 use Rattle.shore_core.proofs.core_calls.Core.begin.Goals as goal
 
-pub returns-then-is_some-clause-replied : goal.returns-then-is_some-clause-replied
-returns-then-is_some-clause-replied g c ready front disk before s store is safe over =
+pub returns-then-has_txn-clause-replied : goal.returns-then-has_txn-clause-replied
+returns-then-has_txn-clause-replied g c running front disk before s store is safe over idle =
     let old = c.args.self.now in
-    let t = some_told _ _ (sym c.if-is_some.ensures) c.txn.ensures.some in
-    record { later = s; replies = (inr (_, is_of c.args.self.now.txns s is.beside.parts.txns c.args.session t.0.now t.1.0 t.1.1), refl); comes = inr (comes_same old front disk before s store is over) }
+    record {
+      later = s;
+      replies = inr (inr (inr (inl (is.beside.parts.failed_is ∙ running, idle, refl, (inl (refl, c.has_txn.ensures.in_txn c.if-has_txn.true s is.beside.parts.stands), refl)))));
+      comes = inr (comes_same old front disk before s store is over);
+    }
+
+pub returns-then-count-ge-MAX_TRANSACTIONS-clause-replied : goal.returns-then-count-ge-MAX_TRANSACTIONS-clause-replied
+returns-then-count-ge-MAX_TRANSACTIONS-clause-replied g c running front disk before s store is safe over idle =
+    let old = c.args.self.now in
+    let works = is.beside.parts.failed_is ∙ running in
+    let none = c.has_txn.ensures.in_none c.if-has_txn.false s is.beside.parts.stands works idle in
+    let count = c.count.ensures.count s is.beside.parts.stands works in
+    record {
+      later = s;
+      replies = inr (inr (inr (inl (works, idle, refl, (inr (inl (refl, none, omega (arith, count, c.if-count-ge-MAX_TRANSACTIONS.true))), refl)))));
+      comes = inr (comes_same old front disk before s store is over);
+    }
 
 pub returns-then-not-admits-clause-replied : goal.returns-then-not-admits-clause-replied
-returns-then-not-admits-clause-replied g c ready front disk before s store is safe over =
+returns-then-not-admits-clause-replied g c running front disk before s store is safe over idle =
     let old = c.args.self.now in
-    let none = in_none old.txns s is.beside.parts.txns c.args.session (is.beside.parts.failed_is ∙ ready.running) (none_told _ (sym c.if-is_some.ensures) c.txn.ensures.none) ready.free in
+    let works = is.beside.parts.failed_is ∙ running in
+    let none = c.has_txn.ensures.in_none c.if-has_txn.false s is.beside.parts.stands works idle in
+    let count = c.count.ensures.count s is.beside.parts.stands works in
     elim c.then-not-admits.branch [
       | then-not-admits-via-then-not-admits w ↦ record {
         later = s;
-        replies = (
-          inr (
-            none,
-            λ may. has_no_room old.txns (waiting_of old) (durable_of old) (has_failed old) before s is.beside.parts (first_of old) is.beside.first ENDING_COST
-                (λ h. true_false (sym (c.admits.ensures.1 h) ∙ w.if-not-admits.true)) may.0,
-          ),
+        replies = inr (inr (inr (inl (
+          works,
+          idle,
           refl,
-        );
+          (
+            inr (inr (
+              refl,
+              none,
+              omega (arith, count, c.if-count-ge-MAX_TRANSACTIONS.false),
+              λ may. has_no_room (control_of old) (waiting_of old) (durable_of old) (has_failed old) before s is.beside.parts (first_of old) is.beside.first ENDING_COST
+                  (λ h. true_false (sym (c.admits.ensures.1 h) ∙ w.if-not-admits.true)) may.0,
+            )),
+            refl,
+          ),
+        ))));
         comes = inr (comes_same old front disk before s store is over);
       }
       | then-not-admits-via-else-not-admits+then-next-ge-LAST_TXN w ↦ record {
         later = s;
-        replies = (inr (none, λ may. omega (arith, may.1, is.beside.parts.txns.next, w.next.ensures, w.if-next-ge-LAST_TXN.true)), refl);
+        replies = inr (inr (inr (inl (
+          works,
+          idle,
+          refl,
+          (
+            inr (inr (
+              refl,
+              none,
+              omega (arith, count, c.if-count-ge-MAX_TRANSACTIONS.false),
+              λ may. omega (arith, may.1, is.beside.parts.stands.txns.next, w.next.ensures, w.if-next-ge-LAST_TXN.true),
+            )),
+            refl,
+          ),
+        ))));
         comes = inr (comes_same old front disk before s store is over);
       }
     ]
 
-pub begin-txn-requires-clause-none : goal.begin-txn-requires-clause-none
-begin-txn-requires-clause-none g c =
-    let none = none_told _ (sym c.if-is_some.ensures) c.txn.ensures.none in
-    no_such (active_in c.args.self.now.txns) (λ t is. none t is (c.args.self.now.one.active t is ∙ sym c.requires))
+pub begin-requires-clause-none : goal.begin-requires-clause-none
+begin-requires-clause-none g c = c.has_txn.ensures.none c.if-has_txn.false
 
-pub returns-clause-replied : goal.returns-clause-replied
-returns-clause-replied g c ready front disk before s store is safe over =
+pub invariant_of-self : goal.invariant_of-self
+invariant_of-self g c =
     let old = c.args.self.now in
-    let works = is.beside.parts.failed_is ∙ ready.running in
-    let none = none_told _ (sym c.if-is_some.ensures) c.txn.ensures.none in
-    let free = no_such (active_in old.txns) (λ t is. none t is (old.one.active t is ∙ sym c.requires)) in
-    let waits_none = no_such (committing_in old.txns) (λ w is. ready.free w is (old.one.committing w is ∙ sym c.requires)) in
-    let t = some_and _ (active_in c.begin-txn.new.self) c.begin-txn.ensures.active in
-    let parts = parts_begun old.txns c.begin-txn.new.self (waiting_of old) (durable_of old) (has_failed old) before s is.beside.parts t.0 works free waits_none t.1 t.2.0 t.2.2 t.2.3
-    c.begin-txn.ensures.committing c.begin-txn.ensures.next c.begin-txn.ensures.kept c.begin-txn.ensures.stream old.txns.some in
+    let ensures = c.begin.ensures in
+    let reserved = begun_reserved (txns_of old) (txns_in c.begin.new.self) c.args.session c.begin.result ensures.begun ensures.refused in
+    let admits = c.if-not-admits.ensures.0 refl in
     record {
-      later = begun s c.args.session;
-      replies = inl (
-        refl,
-        in_none old.txns s is.beside.parts.txns c.args.session works none ready.free,
-        (
-          has_room old.txns (waiting_of old) (durable_of old) (has_failed old) before s is.beside.parts (first_of old) is.beside.first ENDING_COST (c.if-not-admits.ensures.0 refl),
-          omega (arith, is.beside.parts.txns.next, c.next.ensures, c.if-next-ge-LAST_TXN.false),
-        ),
-        ap Began (c.begin-txn.ensures.number ∙ sym is.beside.parts.txns.next),
-        refl,
-      );
-      comes = comes_same _ front disk before (begun s c.args.session) store (record {
-        beside = record { first = is.beside.first; parts = subst (λ n. HasParts c.begin-txn.new.self (waiting_of old) (durable_of old) (has_failed old) before (begun s n)) t.2.1 parts };
-        pages = λ w. pages_told old.heap old.txns c.begin-txn.new.self front disk (page_slots (begun s c.args.session)) c.begin-txn.ensures.claims
-            (shows_same old.heap (kept_in old.txns) front disk (page_slots s) (page_slots (begun s c.args.session)) (λ p there. begun_slots s.sessions.records s.sessions.active (record { session = c.args.session; txn = s.sessions.next_txn; undo = nothing_to_undo }) refl p (s.counts p)) (is.pages w));
-      }) (over_as old _ disk s (begun s c.args.session) store refl refl refl refl over);
+      some_number = old.some_number;
+      forced = old.forced;
+      numbers = omega (arith, reserved, admits.0, admits.1, (txns_of old).room.short);
+      earlier = begun_earlier (txns_of old) (txns_in c.begin.new.self) c.args.session c.begin.result _ (omega (arith, old.some_number)) ensures.listed ensures.refused old.earlier;
     }
 
-pub returns-then-is_some-clause-any_moment : goal.returns-then-is_some-clause-any_moment
-returns-then-is_some-clause-any_moment g c = nothing_leaves c.args.self.now
+pub returns-in_err-txn-clause-replied : goal.returns-in_err-txn-clause-replied
+returns-in_err-txn-clause-replied g c running front disk before s store is safe over idle =
+    let old = c.args.self.now in
+    let stands = c.in_err-txn.ensures.unchanged s is.beside.parts.stands in
+    let parts = parts_moved (control_of old) c.begin.new.self (waiting_of old) (durable_of old) (has_failed old) before s s is.beside.parts stands refl refl refl in
+    replied_as old _ front before s store c.args.session call.Begin c.from_residual.result fault.Memory c.from_residual.ensures.1 (inl (refl, refl))
+    (inr (comes_same _ front disk before s store (record {
+      beside = record { first = is.beside.first; parts = parts };
+      pages = λ w. pages_told old.heap (txns_of old) (txns_in c.begin.new.self) front disk (page_slots s) c.in_err-txn.ensures.claims (is.pages w);
+    }) (over_as old _ disk s s store refl refl refl refl over)))
+
+pub returns-clause-replied : goal.returns-clause-replied
+returns-clause-replied g c running front disk before s store is safe over idle =
+    let old = c.args.self.now in
+    let works = is.beside.parts.failed_is ∙ running in
+    let none = c.has_txn.ensures.in_none c.if-has_txn.false s is.beside.parts.stands works idle in
+    let count = c.count.ensures.count s is.beside.parts.stands works in
+    let later : State = record s { sessions = txn_begun s.sessions c.args.session } in
+    let parts = parts_moved (control_of old) c.begin.new.self (waiting_of old) (durable_of old) (has_failed old) before s later is.beside.parts (c.in_ok-txn.ensures.stands s is.beside.parts.stands) refl refl refl in
+    record {
+      later = later;
+      replies = inr (inr (inr (inl (
+        works,
+        idle,
+        refl,
+        (
+          none,
+          omega (arith, count, c.if-count-ge-MAX_TRANSACTIONS.false),
+          (
+            has_room (control_of old) (waiting_of old) (durable_of old) (has_failed old) before s is.beside.parts (first_of old) is.beside.first ENDING_COST (c.if-not-admits.ensures.0 refl),
+            omega (arith, is.beside.parts.stands.txns.next, c.next.ensures, c.if-next-ge-LAST_TXN.false),
+          ),
+          ap Began (c.in_ok-txn.ensures.number ∙ sym is.beside.parts.stands.txns.next),
+          refl,
+        ),
+      ))));
+      comes = comes_same _ front disk before later store (record {
+        beside = record { first = is.beside.first; parts = parts };
+        pages = λ w. pages_told old.heap (txns_of old) (txns_in c.begin.new.self) front disk (page_slots later) c.in_ok-txn.ensures.claims
+            (shows_same old.heap (kept_in (txns_of old)) front disk (page_slots s) (page_slots later) (λ p there. begun_slots s.sessions.records s.sessions.active (record { session = c.args.session; txn = s.sessions.next_txn; undo = nothing_to_undo }) refl p (s.counts p)) (is.pages w));
+      }) (over_as old _ disk s later store refl refl refl refl over);
+    }
+
+pub returns-then-has_txn-clause-any_moment : goal.returns-then-has_txn-clause-any_moment
+returns-then-has_txn-clause-any_moment g c = nothing_leaves c.args.self.now
+
+pub returns-then-count-ge-MAX_TRANSACTIONS-clause-any_moment : goal.returns-then-count-ge-MAX_TRANSACTIONS-clause-any_moment
+returns-then-count-ge-MAX_TRANSACTIONS-clause-any_moment g c = nothing_leaves c.args.self.now
 
 pub returns-then-not-admits-clause-any_moment : goal.returns-then-not-admits-clause-any_moment
 returns-then-not-admits-clause-any_moment g c = nothing_leaves c.args.self.now
+
+pub returns-in_err-txn-clause-any_moment : goal.returns-in_err-txn-clause-any_moment
+returns-in_err-txn-clause-any_moment g c = nothing_leaves c.args.self.now
 
 pub returns-clause-any_moment : goal.returns-clause-any_moment
 returns-clause-any_moment g c = nothing_leaves c.args.self.now

@@ -1,74 +1,89 @@
-use Rattle.std.proofs.Common.{◌≡◌, inl, inr, ◌+◌, ◌<◌, ◌∷◌, [], length, length-append, refl, sym, ap, subst, ◌∙◌, arith}
+use Rattle.std.proofs.Common.{◌≡◌, inl, inr, ◌+◌, ◌++◌, ◌∷◌, [], length, length-append, refl, sym, ap, subst, ◌∙◌, arith}
 use Rattle.std.specs.FinMap.{get}
 use Rattle.shore_dwrite.specs.Volumes.{page_number}
 use Rattle.shore_types.specs.Images.{Image}
+use Rattle.shore_types.specs.declared.locking.Granule.TheVariants.{Record}
+use Rattle.shore_types.specs.declared.locking.Mode.TheVariants.{EX}
 use Rattle.shore_model.specs.declared.log_records.LogRecord.{LogRecord}
 use Rattle.shore_model.specs.declared.log_records.Payload.TheVariants.{Change}
+use Rattle.shore_model.specs.Logs.{previous_of}
+use Rattle.shore_logrec.specs.Text.{cost_of}
+use Rattle.shore_locks.specs.Tables.{Table}
+use Rattle.shore_path.specs.Acquires.{IsReached}
 use Rattle.shore_page.specs.Room.{Fits}
 use Rattle.shore_page.specs.Slots.{image_at_slot, image_len, with_image}
 use Rattle.shore_heap.specs.Contents.{with_slots}
 use Rattle.shore_heap.specs.Heaps.{Shows, frame_of}
-use Rattle.shore_room.specs.Claims.{Claimed}
 use Rattle.shore_room.specs.LogRooms.{compensation_cost}
 use Rattle.shore_room.proofs.Costs.{compensation_bytes}
+use Rattle.shore_sessions.specs.Sessions.{SessionTxn}
+use Rattle.shore_sessions.specs.Views.{IsAmong}
 use Rattle.shore_calls.specs.States.{HasRoomFor, page_slots}
-use Rattle.shore_txn.specs.declared.txn.Txn.{Txn}
-use Rattle.shore_txn.specs.Tables.{active_in, kept_in, room_in}
-use Rattle.shore_txn.specs.Txns.{as_session_txn, as_session_txns, last_of, number_of}
-use Rattle.shore_core.specs.Cores.{durable_of, first_of, geometry_of, has_failed, waiting_of}
-use Rattle.shore_core.specs.Parts.{HasParts, changed}
-use Rattle.shore_core.proofs.PartSteps.{at_some, parts_changed}
-use Rattle.shore_core.proofs.Tables.{has_no_room, has_room, is_of, next_is, parts_same, same_at, some_and}
-use Rattle.shore_core.proofs.Taking.{framed_is, image_shown, true_false}
-use Rattle.shore_core.proofs.Changed.{changes_none, claim_told, costs_are, grown, grows, held_still, image_short, pages_changed, same_geometry, same_history, some_is}
-use Rattle.shore_model.specs.Logs.{previous_of}
 use Rattle.shore_logged.specs.LoggedHeaps.{IsMade}
 use Rattle.shore_logged.proofs.Made.{appended_is}
+use Rattle.shore_txn.specs.Transactions.{kept_in, room_in}
+use Rattle.shore_txn.specs.Txns.{as_session_txn}
+use Rattle.shore_txn.proofs.OneOfMany.{once_same}
+use Rattle.shore_control.specs.Controls.{txns_in}
+use Rattle.shore_control.specs.Standing.{IsLogged, changed}
+use Rattle.shore_core.specs.Cores.{durable_of, first_of, geometry_of, has_failed, txns_of, waiting_of}
+use Rattle.shore_core.specs.Parts.{HasParts}
+use Rattle.shore_core.proofs.Changed.{changes_none, claim_told, costs_are, earlier_changed, earlier_same, grown, grows, held_still, image_short, pages_changed, same_geometry, same_history, some_is}
 use Rattle.shore_core.proofs.Coming.{comes_appended, comes_same, over_as, pages_told}
+use Rattle.shore_core.proofs.Safe.{alone_in}
+use Rattle.shore_core.proofs.Tables.{each_among, has_no_room, has_room, next_is, parts_logged, parts_moved, some_and}
+use Rattle.shore_core.proofs.Taking.{framed_is, image_shown, true_false}
 use Rattle.shore_core.proofs.core_calls.Core.change.Goals as goal
 
-pub returns-in_default-clause-changed : goal.returns-in_default-clause-changed
-returns-in_default-clause-changed g c running front disk before s store is safe over = let t = some_and _ _ c.requires.txn in absurd (c.in_default.ensures.none t.0 t.1 t.2)
-
-pub returns-in_default-clause-refused : goal.returns-in_default-clause-refused
-returns-in_default-clause-refused g c = let t = some_and _ _ c.requires.txn in absurd (c.in_default.ensures.none t.0 t.1 t.2)
-
 pub returns-then-not-admits-clause-changed : goal.returns-then-not-admits-clause-changed
-returns-then-not-admits-clause-changed g c running front disk before s store is safe over =
+returns-then-not-admits-clause-changed g c running front disk before s store is safe over a of locked =
     let old = c.args.self.now in
     let id = c.args.id in
     let works = is.beside.parts.failed_is ∙ running in
     let shows = is.pages works in
-    let slots = framed_is (λ l. (image_at_slot l id.slot ≡ c.args.before) × Fits l id.slot (image_len c.args.after)) (frame_of old.heap id.page) (disk (page_number (geometry_of old) id.page)) id.page (kept_in old.txns id.page) (page_slots s id.page)
+    let slots = framed_is (λ l. (image_at_slot l id.slot ≡ c.args.before) × Fits l id.slot (image_len c.args.after)) (frame_of old.heap id.page) (disk (page_number (geometry_of old) id.page)) id.page (kept_in (txns_of old) id.page) (page_slots s id.page)
     (shows.pages id.page c.requires.there.0) c.requires.found in
     let found : get s.sessions.records id ≡ c.args.before = sym (image_shown s.sessions.records s.sessions.active s.counts safe.roomy.pages id) ∙ slots.0 in
     let cost = costs_are s.sessions.records id c.args.before c.args.after c.change_cost-logged.result c.compensation_cost-undo.result
     (c.change_cost-logged.ensures.cost id c.args.before c.args.after (sym c.len_of.ensures) (sym c.len_of-2.ensures)) (c.compensation_cost-undo.ensures.cost id c.args.before 0 (sym c.len_of-3.ensures)) found in (
       inr (
         refl,
-        subst (λ n. ¬ HasRoomFor s n) cost (has_no_room old.txns (waiting_of old) (durable_of old) (has_failed old) before s is.beside.parts (first_of old) is.beside.first (c.change_cost-logged.result + c.compensation_cost-undo.result)
+        subst (λ n. ¬ HasRoomFor s n) cost (has_no_room old.control (waiting_of old) (durable_of old) (has_failed old) before s is.beside.parts (first_of old) is.beside.first (c.change_cost-logged.result + c.compensation_cost-undo.result)
             (λ h. true_false (sym (c.admits.ensures.1 h) ∙ c.if-not-admits.true))),
       ),
       comes_same old front disk before s store is over,
     )
 
+pub invariant_of-self : goal.invariant_of-self
+invariant_of-self g c =
+    let old = c.args.self.now in
+    record {
+      some_number = old.some_number;
+      forced = old.forced;
+      numbers = omega (arith, ap (λ r. r.reserved) c.reserve_entry.ensures.room, old.numbers);
+      earlier = earlier_same (txns_of old) (txns_in c.reserve_entry.new.self) _ old.earlier c.reserve_entry.ensures.same;
+    }
+
 pub returns-in_err-reserve_entry-clause-changed : goal.returns-in_err-reserve_entry-clause-changed
-returns-in_err-reserve_entry-clause-changed g c running front disk before s store is safe over =
+returns-in_err-reserve_entry-clause-changed g c running front disk before s store is safe over a of locked =
     let old = c.args.self.now in
     let new = c.reserve_entry.new.self in
-    changes_none _ front before s store c.args.session c.args.id c.args.after c.from_residual-in_err-reserve_entry.result c.from_residual-in_err-reserve_entry.ensures.1
+    changes_none _ front before s store a c.args.id c.args.after c.from_residual-in_err-reserve_entry.result c.from_residual-in_err-reserve_entry.ensures.1
     (comes_same _ front disk before s store (record {
-      beside = record { first = is.beside.first; parts = parts_same old.txns new (waiting_of old) (durable_of old) (has_failed old) before s c.reserve_entry.ensures.same is.beside.parts };
-      pages = λ works. pages_told old.heap old.txns new front disk (page_slots s) c.reserve_entry.ensures.claims (is.pages works);
+      beside = record {
+        first = is.beside.first;
+        parts = parts_moved old.control new (waiting_of old) (durable_of old) (has_failed old) before s s is.beside.parts (c.reserve_entry.ensures.stands s is.beside.parts.stands) refl refl refl;
+      };
+      pages = λ works. pages_told old.heap (txns_of old) (txns_in c.reserve_entry.new.self) front disk (page_slots s) c.reserve_entry.ensures.claims (is.pages works);
     }) (over_as old _ disk s s store refl refl refl refl over))
 
 pub push-requires-clause-text : goal.push-requires-clause-text
 push-requires-clause-text g c =
     let old = c.args.self.now in
     record {
-      some = c.id-txn.ensures.some;
-      txn_fits = omega (arith, c.id-txn.ensures.below);
-      previous_fits = omega (arith, c.last-previous.ensures, old.earlier c.in-Some.txn.now c.in-Some.ensures.some.0, old.few);
+      some = c.id.ensures.some;
+      txn_fits = omega (arith, c.id.ensures.below);
+      previous_fits = omega (arith, c.last.ensures, old.earlier c.in-Some.own.now c.in-Some.ensures.some.0, old.numbers);
       payload_fits = record {
         rid = record { store = omega arith; page = omega arith; slot = omega (arith, c.requires.there.1) };
         old = image_short c.args.before c.requires.before;
@@ -78,19 +93,31 @@ push-requires-clause-text g c =
     }
 
 pub push-requires-clause-previous : goal.push-requires-clause-previous
-push-requires-clause-previous g c = omega (arith, c.last-previous.ensures, c.args.self.now.earlier c.in-Some.txn.now c.in-Some.ensures.some.0)
+push-requires-clause-previous g c = omega (arith, c.last.ensures, c.args.self.now.earlier c.in-Some.own.now c.in-Some.ensures.some.0)
+
+pub invariant_of-self-in-Err-1 : goal.invariant_of-self-in-Err-1
+invariant_of-self-in-Err-1 g c =
+    let old = c.args.self.now in
+    let same = ap length c.in-Err.ensures.none_added in
+    let first = c.push.ensures.first in
+    record {
+      some_number = omega (arith, same, first, old.some_number);
+      forced = omega (arith, same, first, old.forced);
+      numbers = omega (arith, same, first, ap (λ r. r.reserved) c.reserve_entry.ensures.room, old.numbers);
+      earlier = λ t m. omega (arith, same, first, earlier_same (txns_of old) (txns_in c.reserve_entry.new.self) _ old.earlier c.reserve_entry.ensures.same t m);
+    }
 
 pub returns-in-Err-clause-changed : goal.returns-in-Err-clause-changed
-returns-in-Err-clause-changed g c running front disk before s store is safe over =
+returns-in-Err-clause-changed g c running front disk before s store is safe over a of locked =
     let old = c.args.self.now in (
       inl c.in-Err.ensures.refused.0,
       comes_same _ front disk before s store (record {
         beside = record {
           first = c.push.ensures.first ∙ is.beside.first;
           parts = subst (λ l. HasParts c.reserve_entry.new.self l (durable_of old) (has_failed old) before s) (sym c.in-Err.ensures.none_added)
-              (parts_same old.txns c.reserve_entry.new.self (waiting_of old) (durable_of old) (has_failed old) before s c.reserve_entry.ensures.same is.beside.parts);
+              (parts_moved old.control c.reserve_entry.new.self (waiting_of old) (durable_of old) (has_failed old) before s s is.beside.parts (c.reserve_entry.ensures.stands s is.beside.parts.stands) refl refl refl);
         };
-        pages = λ works. pages_told old.heap old.txns c.reserve_entry.new.self front disk (page_slots s) c.reserve_entry.ensures.claims (is.pages works);
+        pages = λ works. pages_told old.heap (txns_of old) (txns_in c.reserve_entry.new.self) front disk (page_slots s) c.reserve_entry.ensures.claims (is.pages works);
       }) (over_as old _ disk s s store refl refl refl refl over),
     )
 
@@ -103,75 +130,71 @@ pub invariant_of-self-2 : goal.invariant_of-self-2
 invariant_of-self-2 g c =
     let old = c.args.self.now in
     let mid = c.reserve_entry.new.self in
-    let t = some_and _ (active_in mid) c.note_change.ensures.noted in
-    let u = some_and _ (active_in c.note_change.new.self) t.2 in
-    let same = same_at (active_in old.txns) (active_in mid) c.in-Some.txn.now t.0 c.reserve_entry.ensures.same.active c.in-Some.ensures.some.0 t.1 in
+    let now = g.T.Tail.first old.tail + length (g.T.Tail.records old.tail) in
     let next = g.T.Tail.first c.push.new.self + length (g.T.Tail.records c.push.new.self) in
     let more : length (g.T.Tail.records c.push.new.self) ≡ length (g.T.Tail.records old.tail) + 1 = ap length c.in-Ok.ensures.added ∙ length-append (g.T.Tail.records old.tail) (_ ∷ []) in
-    let risen : next ≡ g.T.Tail.first old.tail + length (g.T.Tail.records old.tail) + 1 = omega (arith, more, c.push.ensures.first) in
-    let low = (c.if-not-admits.ensures.0 refl).0 in
+    let risen : next ≡ now + 1 = omega (arith, more, c.push.ensures.first) in
+    let admitted = c.if-not-admits.ensures.0 refl in
     record {
       some_number = omega (arith, risen, old.some_number);
       forced = omega (arith, risen, old.forced);
-      few = omega (arith, risen, low);
-      number = λ a is. omega (arith, risen, low);
-      earlier = λ a is. at_some (λ (x : Txn). last_of x < next) u.0 a (active_in c.note_change.new.self) u.1 (omega (arith, u.2.last, c.in-Ok.ensures.number, risen)) is;
-      one = record {
-        active = λ a is. at_some (λ (x : Txn). x.session ≡ 1) u.0 a (active_in c.note_change.new.self) u.1 (u.2.session ∙ same.session ∙ old.one.active c.in-Some.txn.now c.in-Some.ensures.some.0) is;
-        committing = λ a is. old.one.committing a (sym c.reserve_entry.ensures.same.committing ∙ sym c.note_change.ensures.committing ∙ is);
-      };
+      numbers = omega (arith, risen, admitted.0, admitted.1, c.note_change.ensures.reserved, ap (λ r. r.reserved) c.reserve_entry.ensures.room, (room_in (txns_of old)).short);
+      earlier = λ t m. omega (arith, risen, earlier_changed (txns_in mid) (txns_in c.note_change.new.self) now (earlier_same (txns_of old) (txns_in mid) now old.earlier c.reserve_entry.ensures.same) c.note_change.ensures.noted c.in-Ok.ensures.number t m);
     }
 
 pub returns-clause-changed : goal.returns-clause-changed
-returns-clause-changed g c running front disk before s store is safe over =
+returns-clause-changed g c running front disk before s store is safe over a of locked =
     let old = c.args.self.now in
     let id = c.args.id in
     let mid = c.reserve_entry.new.self in
+    let new = c.note_change.new.self in
+    let image = c.args.after in
     let works = is.beside.parts.failed_is ∙ running in
     let shows = is.pages works in
-    let slots = framed_is (λ l. (image_at_slot l id.slot ≡ c.args.before) × Fits l id.slot (image_len c.args.after)) (frame_of old.heap id.page) (disk (page_number (geometry_of old) id.page)) id.page (kept_in old.txns id.page) (page_slots s id.page)
+    let slots = framed_is (λ l. (image_at_slot l id.slot ≡ c.args.before) × Fits l id.slot (image_len image)) (frame_of old.heap id.page) (disk (page_number (geometry_of old) id.page)) id.page (kept_in (txns_of old) id.page) (page_slots s id.page)
     (shows.pages id.page c.requires.there.0) c.requires.found in
     let found : get s.sessions.records id ≡ c.args.before = sym (image_shown s.sessions.records s.sessions.active s.counts safe.roomy.pages id) ∙ slots.0 in
-    let logged = c.change_cost-logged.ensures.cost id c.args.before c.args.after (sym c.len_of.ensures) (sym c.len_of-2.ensures) in
-    let cost = costs_are s.sessions.records id c.args.before c.args.after c.change_cost-logged.result c.compensation_cost-undo.result logged (c.compensation_cost-undo.ensures.cost id c.args.before 0 (sym c.len_of-3.ensures)) found in
-    let t = some_and _ (active_in mid) c.note_change.ensures.noted in
-    let u = some_and _ (active_in c.note_change.new.self) t.2 in
-    let same = same_at (active_in old.txns) (active_in mid) c.in-Some.txn.now t.0 c.reserve_entry.ensures.same.active c.in-Some.ensures.some.0 t.1 in
-    let parts = parts_same old.txns mid (waiting_of old) (durable_of old) (has_failed old) before s c.reserve_entry.ensures.same is.beside.parts in
-    let one : s.sessions.active ≡ as_session_txn t.0 ∷ [] = parts.txns.active ∙ ap as_session_txns t.1 in
-    let r : LogRecord = record { txn = c.id-txn.result; previous = c.last-previous.result; payload = Change id c.args.before c.args.after } in
-    let r_is : r ≡ record { txn = number_of t.0; previous = last_of t.0; payload = Change id c.in_ok-copy_of.field-0 c.args.after } =
-    ap (λ n. record { txn = n; previous = c.last-previous.result; payload = Change id c.args.before c.args.after }) (c.id-txn.ensures.number ∙ sym same.txn)
-    ∙ ap (λ n. record { txn = number_of t.0; previous = n; payload = Change id c.args.before c.args.after }) (c.last-previous.ensures ∙ sym same.last)
-    ∙ ap (λ (b : Image). record { txn = number_of t.0; previous = last_of t.0; payload = Change id b c.args.after }) (sym c.in_ok-copy_of.ensures) in
-    let number = c.in-Ok.ensures.number ∙ sym (next_is old.txns (waiting_of old) (durable_of old) (has_failed old) before s is.beside.parts (first_of old) is.beside.first 0) in
-    let now = parts_changed mid c.note_change.new.self (waiting_of old) (durable_of old) (has_failed old) before s parts t.0 u.0 _ c.args.after (grown s.counts id) r c.in-Ok.lsn t.1 u.1 u.2
-    c.note_change.ensures.committing c.note_change.ensures.next (c.note_change.ensures.kept ∙ ap (λ n. (room_in mid).kept + n) logged) c.note_change.ensures.stream (c.in_ok-copy_of.ensures ∙ sym found)
-    (omega (arith, c.id-txn.ensures.some, c.id-txn.ensures.number, same.txn)) r_is number (subst (λ ts. Claimed s.sessions.records ts s.counts) one safe.roomy.pages) (c.claim.ensures (kept_in old.txns) front disk (page_slots s) shows) in
+    let before_is = c.in_ok-copy_of.ensures ∙ sym found in
+    let logged = c.change_cost-logged.ensures.cost id c.args.before image (sym c.len_of.ensures) (sym c.len_of-2.ensures) in
+    let cost = costs_are s.sessions.records id c.args.before image c.change_cost-logged.result c.compensation_cost-undo.result logged (c.compensation_cost-undo.ensures.cost id c.args.before 0 (sym c.len_of-3.ensures)) found in
+    let own = c.in-Some.own.now in
+    let stands = is.beside.parts.stands in
+    let own_is : as_session_txn own ≡ a =
+    once_same (λ (b : SessionTxn). b.session) _ (txns_of old).sessions (as_session_txn own) a c.in-Some.ensures.there (subst (IsAmong a) stands.txns.active of.0) (c.in-Some.ensures.some.1 ∙ sym of.1) in
+    let txn_is : c.id.result ≡ a.txn = c.id.ensures.number ∙ ap (λ (b : SessionTxn). b.txn) own_is in
+    let previous_is : c.last.result ≡ previous_of a.txn s.log =
+    c.last.ensures ∙ (each_among (IsLogged s.log) _ stands.txns.each own c.in-Some.ensures.some.0).last ∙ ap (λ (b : SessionTxn). previous_of b.txn s.log) own_is in
+    let r : LogRecord = record { txn = a.txn; previous = previous_of a.txn s.log; payload = Change id (get s.sessions.records id) image } in
+    let r_is : record { txn = c.id.result; previous = c.last.result; payload = Change id c.args.before image } ≡ r =
+    ap (λ n. record { txn = n; previous = c.last.result; payload = Change id c.args.before image }) txn_is
+    ∙ ap (λ n. record { txn = a.txn; previous = n; payload = Change id c.args.before image }) previous_is
+    ∙ ap (λ (b : Image). record { txn = a.txn; previous = previous_of a.txn s.log; payload = Change id b image }) (sym found) in
+    let number : c.in-Ok.lsn ≡ 1 + length s.log = c.in-Ok.ensures.number ∙ sym (next_is old.control (waiting_of old) (durable_of old) (has_failed old) before s is.beside.parts (first_of old) is.beside.first 0) in
+    let alone = alone_in (geometry_of old) s safe a.txn id (subst (λ (t : Table). IsReached t.requests a.txn (Record id) EX) (sym stands.locks) locked) in
+    let later = changed s a id image (grown s.counts id) in
+    let has = c.note_change.ensures.stands s a image (grown s.counts id) (c.reserve_entry.ensures.stands s stands) of number before_is
+    (logged ∙ ap (λ (b : Image). cost_of (Change id b image)) (sym c.in_ok-copy_of.ensures)) safe.roomy.pages alone (c.claim.ensures (kept_in (txns_of old)) front disk (page_slots s) shows) in
+    let parts = parts_logged old.control new (waiting_of old) (durable_of old) (has_failed old) before s later r is.beside.parts has refl refl refl in
     let image_is = c.bytes_of.ensures ∙ c.in_ok-image.ensures in
-    let made = subst (λ (i : Image). Shows (kept_in old.txns) c.change.new.self front disk (with_slots (page_slots s) id.page (λ l. with_image l id.slot i))) image_is (c.change.ensures.shows (kept_in old.txns) front disk (page_slots s) shows) in
-    let later = changed s (as_session_txn t.0) id c.args.after (grown s.counts id) in
+    let made = subst (λ (i : Image). Shows (kept_in (txns_of old)) c.change.new.self front disk (with_slots (page_slots s) id.page (λ l. with_image l id.slot i))) image_is (c.change.ensures.shows (kept_in (txns_of old)) front disk (page_slots s) shows) in
     let held = held_still _ c.change.new.self old.heap id.page c.change.ensures.device c.change.ensures.held c.requires.found in
-    let told = claim_told c.change.new.self old.txns c.note_change.new.self id.page front disk (page_slots later) held (λ p other. c.note_change.ensures.elsewhere p other ∙ c.reserve_entry.ensures.claims p)
-    (pages_changed c.change.new.self (kept_in old.txns) front disk s (as_session_txn t.0) id c.args.after (grown s.counts id) safe.roomy.pages one slots.1 (grows s.counts id) made) in
-    let logged_record : LogRecord = record { txn = number_of t.0; previous = previous_of (number_of t.0) s.log; payload = Change id (get s.sessions.records id) c.args.after } in
+    let told = claim_told c.change.new.self (txns_of old) (txns_in new) id.page front disk (page_slots later) held (λ p other. c.note_change.ensures.elsewhere p other ∙ c.reserve_entry.ensures.claims p)
+    (pages_changed c.change.new.self (kept_in (txns_of old)) front disk s a id image (grown s.counts id) safe.roomy.pages of.0 alone slots.1 (grows s.counts id) made) in
     let number_is : c.in-Ok.lsn ≡ length store.log + 1 = omega (arith, number, ap length over.kept.stored.log) in
-    let frames = subst (λ n. IsMade old.heap c.change.new.self n id c.args.after) number_is (subst (λ (i : Image). IsMade old.heap c.change.new.self c.in-Ok.lsn id i) image_is c.change.ensures.frames) in (
-      as_session_txn t.0,
+    let frames = subst (λ n. IsMade old.heap c.change.new.self n id image) number_is (subst (λ (i : Image). IsMade old.heap c.change.new.self c.in-Ok.lsn id i) image_is c.change.ensures.frames) in (
       grown s.counts id,
-      is_of mid s parts.txns c.args.session t.0 t.1 (same.session ∙ c.in-Some.ensures.some.1),
       record {
         fits = slots.1;
-        logs = subst (HasRoomFor s) cost (has_room old.txns (waiting_of old) (durable_of old) (has_failed old) before s is.beside.parts (first_of old) is.beside.first (c.change_cost-logged.result + c.compensation_cost-undo.result) (c.if-not-admits.ensures.0 refl));
+        logs = subst (HasRoomFor s) cost (has_room old.control (waiting_of old) (durable_of old) (has_failed old) before s is.beside.parts (first_of old) is.beside.first (c.change_cost-logged.result + c.compensation_cost-undo.result) (c.if-not-admits.ensures.0 refl));
         grows = grows s.counts id;
       },
-      comes_appended _ front disk before s later store logged_record over.kept refl refl (record {
+      comes_appended _ front disk before s later store r over.kept refl refl (record {
         beside = record {
           first = c.push.ensures.first ∙ is.beside.first;
-          parts = subst (λ l. HasParts c.note_change.new.self l (durable_of old) (has_failed old) before later) (sym c.in-Ok.ensures.added) now;
+          parts = subst (λ l. HasParts new l (durable_of old) (has_failed old) before later) (sym (c.in-Ok.ensures.added ∙ ap (λ x. waiting_of old ++ x ∷ []) r_is)) parts;
         };
         pages = λ w. told;
-      }) (λ w. (appended_is old.heap c.change.new.self disk store logged_record id c.args.after (over.pages works) over.kept.recoverable over.kept.redone refl c.requires.there.0
+      }) (λ w. (appended_is old.heap c.change.new.self disk store r id image (over.pages works) over.kept.recoverable over.kept.redone refl c.requires.there.0
           (some_is _ (frame_of old.heap id.page) c.requires.found) frames (same_geometry c.change.new.self old.heap c.change.ensures.device)).1),
     )
 

@@ -1,59 +1,65 @@
-use Rattle.std.proofs.Common.{Some, is_some, ◌≡◌, ◌+◌, ◌++◌, ◌∷◌, [], List, take, inl, inr, refl, sym, ap, subst, ◌∙◌}
+use Rattle.std.proofs.Common.{is_some, ◌≡◌, ◌+◌, ◌<◌, ◌≤◌, ◌++◌, ◌∷◌, [], List, take, length, length-append, Err, inl, inr, refl, sym, ap, subst, ◌∙◌, arith}
 use Rattle.std.proofs.lemmas.List.{take_more}
 use Rattle.shore_dwrite.specs.Settled as settled_device
+use Rattle.shore_disk.specs.Device.{size}
+use Rattle.shore_types.specs.declared.faults.Fault.TheVariants as fault
+use Rattle.shore_types.specs.declared.ids.PageId.{PageId}
+use Rattle.shore_types.specs.declared.layout.TheConstants.{LAST_OPENED}
+use Rattle.shore_model.specs.declared.calls.Call.TheVariants as call
 use Rattle.shore_model.specs.declared.log_records.LogRecord.{LogRecord}
 use Rattle.shore_model.specs.declared.log_records.Payload.TheVariants.{Commit}
-use Rattle.shore_disk.specs.Device.{size}
-use Rattle.shore_types.specs.declared.ids.PageId.{PageId}
 use Rattle.shore_model.specs.Logs.{previous_of}
-use Rattle.shore_pool.proofs.Same.{pages_on, pages_stay}
-use Rattle.shore_heap.specs.Heaps.{frame_at, frame_of}
-use Rattle.shore_recovery.specs.Recovery.{after_append}
-use Rattle.shore_logged.proofs.Made.{appended_without}
-use Rattle.shore_core.proofs.Coming.{comes_appended, comes_same, over_as, pages_same}
-use Rattle.shore_core.proofs.Keeping.{leaves_nothing, nothing_leaves}
-use Rattle.shore_calls.specs.CallSteps.{committed}
-use Rattle.shore_calls.specs.States.{State, page_slots}
-use Rattle.shore_txn.specs.declared.undo.UndoEntry.{UndoEntry}
-use Rattle.shore_txn.specs.Tables.{active_in, committing_in, kept_in}
-use Rattle.shore_calls.specs.declared.step.Wait.TheVariants.{Durable}
-use Rattle.shore_txn.specs.declared.txn.Txn.{Txn}
-use Rattle.shore_txn.specs.Txns.{as_session_txn, as_session_txns, entries_of, last_of, number_of}
-use Rattle.shore_core.specs.Cores.{durable_of, first_of, has_failed, waiting_of}
-use Rattle.shore_core.specs.Parts.{HasParts}
-use Rattle.shore_core.proofs.PartSteps.{parts_committed}
 use Rattle.shore_model.proofs.LogSteps.{take-whole}
+use Rattle.shore_pool.proofs.Same.{pages_on, pages_stay}
+use Rattle.shore_heap.specs.Heaps.{Shows, frame_at, frame_of}
+use Rattle.shore_recovery.specs.Recovery.{after_append}
+use Rattle.shore_sessions.specs.Sessions.{without_txn}
+use Rattle.shore_sessions.specs.Views.{IsAmong}
+use Rattle.shore_calls.specs.StateChanges.{committed}
+use Rattle.shore_calls.specs.States.{State, page_slots}
+use Rattle.shore_calls.specs.declared.step.Wait.TheVariants.{Durable}
+use Rattle.shore_txn.specs.ActiveTxns.{HasMore, OneLeaves}
+use Rattle.shore_txn.specs.Transactions.{kept_in, room_in, undos_in}
+use Rattle.shore_txn.specs.Transactions as table
+use Rattle.shore_txn.specs.Txns.{as_session_txn, last_of}
+use Rattle.shore_txn.specs.UndoEntries.{claims_on}
+use Rattle.shore_txn.specs.declared.txn.Txn.{Txn}
+use Rattle.shore_txn.specs.declared.undo.UndoEntry.{UndoEntry}
+use Rattle.shore_control.specs.Controls.{txns_in}
+use Rattle.shore_control.specs.Standing.{IsLogged}
+use Rattle.shore_control.specs.declared.control.Control.{Control}
+use Rattle.shore_control.proofs.WaitSteps.{in_none}
+use Rattle.shore_logged.proofs.Made.{appended_without}
+use Rattle.shore_core.specs.Cores.{control_of, durable_of, first_of, has_failed, txns_of, waiting_of, waits_of}
+use Rattle.shore_core.specs.Parts.{HasParts}
 use Rattle.shore_core.proofs.Changed.{same_geometry, same_history}
-use Rattle.shore_core.proofs.Releasing.{ShowsLeft, all_released, framed_as, none_released, released_more}
-use Rattle.shore_core.proofs.Tables.{holds_at, in_none, is_of, next_is, no_such}
+use Rattle.shore_core.proofs.Coming.{comes_appended, comes_same, pages_same}
+use Rattle.shore_core.proofs.Keeping.{leaves_nothing, nothing_leaves}
+use Rattle.shore_core.proofs.Leaving.{comes_lacking, earlier_left, reserved_left}
+use Rattle.shore_core.proofs.Releasing.{ShowsLeft, all_released, framed_as, none_released, released_more, stays_fit}
+use Rattle.shore_core.proofs.Tables.{each_among, next_is, parts_logged}
+use Rattle.shore_core.proofs.Taking.{replied_as}
 use Rattle.shore_core.proofs.core_calls.Core.commit.Goals as goal
 
--- src/core_calls.rt:300:13
 pub returns-in_default-clause-replied : goal.returns-in_default-clause-replied
-returns-in_default-clause-replied g c ready front disk before s store is safe over = record {
-  later = s;
-  replies = (inr (refl, in_none c.args.self.now.txns s is.beside.parts.txns c.args.session (is.beside.parts.failed_is ∙ ready.running) c.in_default.ensures.none ready.free), refl);
-  comes = inr (comes_same c.args.self.now front disk before s store is over);
-}
-
--- src/core_calls.rt:309:32
-pub returns-in-Err-clause-replied : goal.returns-in-Err-clause-replied
-returns-in-Err-clause-replied g c ready front disk before s store is safe over =
+returns-in_default-clause-replied g c ready front disk before s store is safe over waits_not =
     let old = c.args.self.now in
+    let stands = is.beside.parts.stands in
+    let works = is.beside.parts.failed_is ∙ ready in
+    let none = in_none (waits_of old) s stands.waits c.args.session works waits_not (λ a m. c.in_default.ensures.none a (subst (IsAmong a) stands.txns.active m)) in
     record {
       later = s;
-      replies = (inl c.in-Err.ensures.refused.0, refl);
-      comes = inr (comes_same _ front disk before s store (record {
-        beside = record { first = c.push.ensures.first ∙ is.beside.first; parts = subst (λ l. HasParts old.txns l (durable_of old) (has_failed old) before s) (sym c.in-Err.ensures.none_added) is.beside.parts };
-        pages = is.pages;
-      }) (over_as old _ disk s s store refl refl refl refl over));
+      replies = inr (inr (inr (inr (inl (works, waits_not, (λ clash. cc), none, refl, refl)))));
+      comes = inr (comes_same old front disk before s store is over);
     }
 
--- src/core_calls.rt:312:9
+pub returns-in_default-clause-any_moment : goal.returns-in_default-clause-any_moment
+returns-in_default-clause-any_moment g c = nothing_leaves c.args.self.now
+
 pub loop-change-init : goal.loop-change-init
 loop-change-init g c =
     let at = frame_at c.args.self.now.heap in
-    (refl, refl, refl, refl, refl, λ k. refl, λ disk. pages_stay at at disk (λ k. refl), λ K front disk S shows. none_released (λ p. is_some (frame_of c.args.self.now.heap p)) K S c.args.self.now.heap front disk shows)
+    (refl, refl, refl, refl, refl, λ k. refl, λ disk. pages_stay at at disk (λ k. refl), λ K stay front disk S fit shows. none_released (λ p. is_some (frame_of c.args.self.now.heap p)) K stay S c.args.self.now.heap front disk shows)
 
 pub loop-change-preserved : goal.loop-change-preserved
 loop-change-preserved g c =
@@ -75,55 +81,134 @@ loop-change-preserved g c =
       c.release.ensures.device ∙ inv.4,
       λ k. c.release.ensures.held k ∙ inv.5 k,
       λ disk. pages_on (frame_at initial) (frame_at mid) (frame_at new) disk disk disk (inv.6 disk) (c.release.ensures.same disk),
-      λ K front disk S shows. released_more (λ p. is_some (frame_of initial p)) K S mid new front disk (take i items) (take (i + 1) items) e longer was held
-          (λ L T. c.release.ensures.shows L front disk T) (λ L M T. c.release.ensures.told L M front disk T) (inv.7 K front disk S shows),
+      λ K stay front disk S fit shows. released_more (λ p. is_some (frame_of initial p)) K stay S mid new front disk (take i items) (take (i + 1) items) e longer fit was held
+          (λ L T. c.release.ensures.shows L front disk T) (λ L M T. c.release.ensures.told L M front disk T) (inv.7 K stay front disk S fit shows),
     )
 
--- src/core_calls.rt:294:5
-pub returns-clause-replied : goal.returns-clause-replied
-returns-clause-replied g c ready front disk before s store is safe over =
+pub invariant_of-self : goal.invariant_of-self
+invariant_of-self g c =
     let old = c.args.self.now in
-    let t = c.in-Some.txn.now in
-    let there = c.in-Some.ensures.some in
-    let noted = c.note_commit-changes.ensures in
-    let inv = c.loop-change.invariant in
-    let items = c.deref-change-items.result.now in
-    let works = is.beside.parts.failed_is ∙ ready.running in
-    let none_waits = no_such (committing_in old.txns) (λ w it. ready.free w it (old.one.committing w it ∙ sym (sym there.1 ∙ old.one.active t there.0))) in
-    let waits = holds_at (λ (x : Txn). committing_in c.note_commit-changes.new.self ≡ Some record { txn = number_of x; session = x.session; number = c.in-Ok.number }) (active_in old.txns) t there.0 noted.committing in
-    let changes : items ≡ entries_of t = c.deref-change-items.ensures.value ∙ holds_at (λ (x : Txn). c.note_commit-changes.result.items ≡ entries_of x) (active_in old.txns) t there.0 noted.changes in
+    let txns = sym c.reserve_wait.ensures.txns in
+    let next = first_of old + length (waiting_of old) in
+    record {
+      some_number = old.some_number;
+      forced = old.forced;
+      numbers = subst (λ x. next + (room_in x).reserved ≤ LAST_OPENED) txns old.numbers;
+      earlier = subst (λ x. (t : Txn) → IsAmong t (table.txns_in x) → last_of t < next) txns old.earlier;
+    }
+
+pub returns-in_err-reserve_wait-clause-replied : goal.returns-in_err-reserve_wait-clause-replied
+returns-in_err-reserve_wait-clause-replied g c ready front disk before s store is safe over waits_not =
+    replied_as c.args.self.now _ front before s store c.args.session call.Commit c.from_residual.result fault.Memory c.from_residual.ensures.1 (inl (refl, refl))
+    (inr (comes_lacking c.args.self.now _ front disk before s store refl refl refl refl refl c.reserve_wait.ensures.txns (c.reserve_wait.ensures.stands s is.beside.parts.stands) is over))
+
+pub returns-in_err-reserve_wait-clause-any_moment : goal.returns-in_err-reserve_wait-clause-any_moment
+returns-in_err-reserve_wait-clause-any_moment g c = nothing_leaves c.args.self.now
+
+pub push-requires-clause-previous : goal.push-requires-clause-previous
+push-requires-clause-previous g c =
+    let earlier = c.args.self.now.earlier c.in-Some.txn.now c.in-Some.ensures.some.0 in
+    omega (arith, c.last.ensures, earlier)
+
+pub invariant_of-self-in-Err-1 : goal.invariant_of-self-in-Err-1
+invariant_of-self-in-Err-1 g c =
+    let old = c.args.self.now in
+    let txns = sym c.reserve_wait.ensures.txns in
+    let next : first_of old + length (waiting_of old) ≡ g.T.Tail.first c.push.new.self + length (g.T.Tail.records c.push.new.self) =
+    ap (λ n. n + length (waiting_of old)) (sym c.in-Err.ensures.first) ∙ ap (λ (l : List LogRecord). g.T.Tail.first c.push.new.self + length l) (sym c.in-Err.ensures.none_added) in
+    record {
+      some_number = subst (λ n. 1 ≤ n) next old.some_number;
+      forced = subst (λ n. old.durable < n) next old.forced;
+      numbers = subst (λ n. n + (room_in (txns_in c.reserve_wait.new.self)).reserved ≤ LAST_OPENED) next (subst (λ x. first_of old + length (waiting_of old) + (room_in x).reserved ≤ LAST_OPENED) txns old.numbers);
+      earlier = subst (λ n. (t : Txn) → IsAmong t (table.txns_in (txns_in c.reserve_wait.new.self)) → last_of t < n) next
+          (subst (λ x. (t : Txn) → IsAmong t (table.txns_in x) → last_of t < first_of old + length (waiting_of old)) txns old.earlier);
+    }
+
+pub returns-in-Err-clause-replied : goal.returns-in-Err-clause-replied
+returns-in-Err-clause-replied g c ready front disk before s store is safe over waits_not =
+    replied_as c.args.self.now _ front before s store c.args.session call.Commit (Err c.in-Err.fault) fault.Memory c.in-Err.ensures.refused.0 (inl (refl, refl))
+    (inr (comes_lacking c.args.self.now _ front disk before s store refl c.in-Err.ensures.first c.in-Err.ensures.none_added refl refl c.reserve_wait.ensures.txns
+    (c.reserve_wait.ensures.stands s is.beside.parts.stands) is over))
+
+pub returns-in-Err-clause-any_moment : goal.returns-in-Err-clause-any_moment
+returns-in-Err-clause-any_moment g c = nothing_leaves c.args.self.now
+
+pub commit-changes-requires-clause-there : goal.commit-changes-requires-clause-there
+commit-changes-requires-clause-there g c =
+    let a = as_session_txn c.in-Some.txn.now in
+    (a, subst (λ txns. IsAmong a (undos_in txns)) (sym c.reserve_wait.ensures.txns) c.in-Some.ensures.there, c.in-Some.ensures.some.1)
+
+pub invariant_of-self-2 : goal.invariant_of-self-2
+invariant_of-self-2 g c =
+    let old = c.args.self.now in
+    let new = txns_in c.commit-changes.new.self in
+    let left = subst (λ x. OneLeaves c.args.session c.commit-changes.result.items (table.txns_in x) (table.txns_in new)) c.reserve_wait.ensures.txns c.commit-changes.ensures.left in
     let r : LogRecord = record { txn = c.id.result; previous = c.last.result; payload = Commit } in
-    let r_is : r ≡ record { txn = number_of t; previous = last_of t; payload = Commit } =
-    ap (λ n. record { txn = n; previous = c.last.result; payload = Commit }) c.id.ensures.number ∙ ap (λ n. record { txn = number_of t; previous = n; payload = Commit }) c.last.ensures in
-    let number = c.in-Ok.ensures.number ∙ sym (next_is old.txns (waiting_of old) (durable_of old) (has_failed old) before s is.beside.parts (first_of old) is.beside.first 0) in
-    let parts = parts_committed old.txns c.note_commit-changes.new.self (waiting_of old) (durable_of old) (has_failed old) before s is.beside.parts t r c.in-Ok.number there.0 noted.active none_waits waits noted.next noted.kept noted.stream
-    r_is number works in
-    let logged = subst (λ l. HasParts c.note_commit-changes.new.self l (durable_of old) (has_failed old) before (committed s (as_session_txn t))) (sym c.in-Ok.ensures.added) parts in
-    let one : s.sessions.active ≡ as_session_txn t ∷ [] = is.beside.parts.txns.active ∙ ap as_session_txns there.0 in
-    let all : take c.loop-change.change-index items ≡ items = take-whole items c.loop-change.change-index c.loop-change-test.false in
-    let left = subst (ShowsLeft (λ p. is_some (frame_of old.heap p)) (kept_in old.txns) (page_slots s) c.loop-change.self.heap front disk) all (inv.7 (kept_in old.txns) front disk (page_slots s) (is.pages works)) in
-    let later = committed s (as_session_txn t) in
-    let none : (p : PageId) → kept_in c.loop-change.self.txns p ≡ [] = λ p. ap (λ tb. kept_in tb p) inv.1 ∙ noted.claims p in
-    let shows = all_released s t items one changes safe.roomy.pages c.loop-change.self.heap (λ p. is_some (frame_of old.heap p)) old.txns c.loop-change.self.txns front disk there.0 none left in
-    let logged_record : LogRecord = record { txn = number_of t; previous = previous_of (number_of t) s.log; payload = Commit } in
-    let pages = appended_without old.heap disk store logged_record (over.pages works) over.kept.recoverable over.kept.redone refl in
+    let next : first_of old + length (waiting_of old) + 1 ≡ g.T.Tail.first c.push.new.self + length (g.T.Tail.records c.push.new.self) =
+    let long = length-append (waiting_of old) (r ∷ []) in let more = ap length c.in-Ok.ensures.added in omega (arith, long, more, c.in-Ok.ensures.first) in
+    let reserved = reserved_left (txns_of old) new left in
+    record {
+      some_number = omega (arith, next);
+      forced = omega (arith, next, old.forced);
+      numbers = omega (arith, next, old.numbers, reserved);
+      earlier = subst (λ n. (t : Txn) → IsAmong t (table.txns_in new) → last_of t < n) next (earlier_left (txns_of old) new left (first_of old + length (waiting_of old)) old.earlier);
+    }
+
+pub returns-clause-replied : goal.returns-clause-replied
+returns-clause-replied g c ready front disk before s store is safe over waits_not =
+    let old = c.args.self.now in
+    let new = c.loop-change.self in
+    let commit = c.commit-changes.ensures in
+    let inv = c.loop-change.invariant in
+    let t = c.in-Some.txn.now in
+    let a = as_session_txn t in
+    let es = c.commit-changes.result.items in
+    let was = is.beside.parts.stands in
+    let mid = c.reserve_wait.ensures.stands s was in
+    let its = c.in-Some.ensures.of_session s was in
+    let works = is.beside.parts.failed_is ∙ ready in
+    let number = c.in-Ok.ensures.number ∙ sym (next_is (control_of old) (waiting_of old) (durable_of old) (has_failed old) before s is.beside.parts (first_of old) is.beside.first 0) in
+    let later = committed s a in
+    let stands = commit.stands s a mid its number in
+    let r : LogRecord = record { txn = a.txn; previous = previous_of a.txn s.log; payload = Commit } in
+    let last = each_among (IsLogged s.log) (table.txns_in (txns_of old)) was.txns.each t c.in-Some.ensures.some.0 in
+    let added : g.T.Tail.records c.push.new.self ≡ waiting_of old ++ r ∷ [] =
+    c.in-Ok.ensures.added ∙ ap (λ n. waiting_of old ++ record { txn = n; previous = c.last.result; payload = Commit } ∷ []) c.id.ensures.number
+    ∙ ap (λ n. waiting_of old ++ record { txn = a.txn; previous = n; payload = Commit } ∷ []) (c.last.ensures ∙ last.last) in
+    let parts = subst (λ l. HasParts c.commit-changes.new.self l (durable_of old) (has_failed old) before later) (sym added)
+    (parts_logged (control_of old) c.commit-changes.new.self (waiting_of old) (durable_of old) (has_failed old) before s later r is.beside.parts stands refl refl refl) in
+    let out : undos_in (txns_in c.commit-changes.new.self) ≡ without_txn a.txn (undos_in (txns_of old)) = sym stands.txns.active ∙ ap (without_txn a.txn) was.txns.active in
+    let more : (p : PageId) → HasMore (claims_on p es) (kept_in (txns_in c.commit-changes.new.self) p) (kept_in (txns_of old) p) =
+    λ p. subst (λ x. HasMore (claims_on p es) (kept_in (txns_in c.commit-changes.new.self) p) (kept_in x p)) c.reserve_wait.ensures.txns (commit.claims p) in
+    let undone = commit.undone s a mid its in
+    let older = table.txns_in (txns_of old) in
+    let those = table.txns_in (txns_in c.commit-changes.new.self) in
+    let all : take c.loop-change.change-index c.deref-change-items.result.now ≡ es = take-whole c.deref-change-items.result.now c.loop-change.change-index c.loop-change-test.false ∙ c.deref-change-items.ensures.value in
+    let fit = stays_fit s a es older those undone safe.roomy.pages its.0 was.txns.active out more in
+    let left = subst (ShowsLeft (λ p. is_some (frame_of old.heap p)) (kept_in (txns_of old)) (kept_in (txns_in c.commit-changes.new.self)) (page_slots s) new.heap front disk) all
+    (inv.7 (kept_in (txns_of old)) (kept_in (txns_in c.commit-changes.new.self)) front disk (page_slots s) fit (is.pages works)) in
+    let shows = all_released s a es older those undone safe.roomy.pages its.0 was.txns.active out more new.heap (λ p. is_some (frame_of old.heap p)) front disk left in
+    let pages = appended_without old.heap disk store r (over.pages works) over.kept.recoverable over.kept.redone refl in
     record {
       later = later;
-      replies = (refl, ap Durable number, (as_session_txn t, is_of old.txns s is.beside.parts.txns c.args.session t there.0 there.1, refl));
-      comes = comes_appended c.loop-change.self front disk before s later store logged_record over.kept refl refl
-          (record { beside = record { first = ap g.T.Tail.first inv.0 ∙ c.push.ensures.first ∙ is.beside.first; parts = same_parts inv.0 inv.1 inv.2 inv.3 logged }; pages = λ runs. shows })
-          (λ runs. pages_same old.heap c.loop-change.self.heap disk (after_append store logged_record) (inv.6 disk) (same_geometry c.loop-change.self.heap old.heap inv.4) pages.1);
+      replies = inr (inr (inr (inr (inr (works, waits_not, (a, its, inr (inr (refl, (ap Durable number, refl)))))))));
+      comes = comes_appended new front disk before s later store r over.kept refl refl
+          (record {
+            beside = record { first = ap g.T.Tail.first inv.0 ∙ c.push.ensures.first ∙ is.beside.first; parts = same_parts inv.0 inv.1 inv.2 inv.3 parts };
+            pages = λ runs. subst (λ (x : Control). Shows (kept_in (txns_in x)) new.heap front disk (page_slots later)) (sym inv.1) shows;
+          })
+          (λ runs. pages_same old.heap new.heap disk (after_append store r) (inv.6 disk) (same_geometry new.heap old.heap inv.4) pages.1);
     }
   where
-    same_parts : {later : State} {before : List LogRecord} → c.loop-change.self.tail ≡ c.push.new.self → c.loop-change.self.txns ≡ c.note_commit-changes.new.self
+    same_parts : {later : State} {before : List LogRecord} → c.loop-change.self.tail ≡ c.push.new.self → c.loop-change.self.control ≡ c.commit-changes.new.self
         → c.loop-change.self.durable ≡ c.args.self.now.durable → c.loop-change.self.failed ≡ c.args.self.now.failed
-        → HasParts c.note_commit-changes.new.self (g.T.Tail.records c.push.new.self) (durable_of c.args.self.now) (has_failed c.args.self.now) before later
-        → HasParts c.loop-change.self.txns (waiting_of c.loop-change.self) c.loop-change.self.durable c.loop-change.self.failed before later
-    same_parts {later = later} {before = before} tail txns durable failed has =
-        subst (λ f. HasParts c.loop-change.self.txns (waiting_of c.loop-change.self) c.loop-change.self.durable f before later) (sym failed)
-        (subst (λ d. HasParts c.loop-change.self.txns (waiting_of c.loop-change.self) d c.args.self.now.failed before later) (sym durable)
-        (subst (λ tb. HasParts tb (waiting_of c.loop-change.self) c.args.self.now.durable c.args.self.now.failed before later) (sym txns)
-        (subst (λ tl. HasParts c.note_commit-changes.new.self (g.T.Tail.records tl) c.args.self.now.durable c.args.self.now.failed before later) (sym tail) has)))
+        → HasParts c.commit-changes.new.self (g.T.Tail.records c.push.new.self) (durable_of c.args.self.now) (has_failed c.args.self.now) before later
+        → HasParts c.loop-change.self.control (waiting_of c.loop-change.self) c.loop-change.self.durable c.loop-change.self.failed before later
+    same_parts {later = later} {before = before} tail control durable failed has =
+        subst (λ f. HasParts c.loop-change.self.control (waiting_of c.loop-change.self) c.loop-change.self.durable f before later) (sym failed)
+        (subst (λ d. HasParts c.loop-change.self.control (waiting_of c.loop-change.self) d c.args.self.now.failed before later) (sym durable)
+        (subst (λ x. HasParts x (waiting_of c.loop-change.self) c.args.self.now.durable c.args.self.now.failed before later) (sym control)
+        (subst (λ tl. HasParts c.commit-changes.new.self (g.T.Tail.records tl) c.args.self.now.durable c.args.self.now.failed before later) (sym tail) has)))
 
 pub returns-clause-keeps : goal.returns-clause-keeps
 returns-clause-keeps g c =
@@ -141,12 +226,6 @@ returns-clause-keeps g c =
 
 pub returns-clause-faults : goal.returns-clause-faults
 returns-clause-faults g c = ap (λ d. g.V.Disk.faults (settled_device.device_of d)) c.loop-change.invariant.4
-
-pub returns-in_default-clause-any_moment : goal.returns-in_default-clause-any_moment
-returns-in_default-clause-any_moment g c = nothing_leaves c.args.self.now
-
-pub returns-in-Err-clause-any_moment : goal.returns-in-Err-clause-any_moment
-returns-in-Err-clause-any_moment g c = nothing_leaves c.args.self.now
 
 pub returns-clause-any_moment : goal.returns-clause-any_moment
 returns-clause-any_moment g c = leaves_nothing c.args.self.now c.loop-change.self (same_history c.loop-change.self.heap c.args.self.now.heap c.loop-change.invariant.4)

@@ -1,62 +1,62 @@
-use Rattle.std.proofs.Common.{◌≡◌, ◌⊎◌, inr, None, IsSome, refl, sym, subst, ◌∙◌}
-use Rattle.shore_types.specs.declared.faults.Fault.TheVariants as fault
+use Rattle.std.proofs.Common.{◌≡◌, inr, None, IsSome, refl, sym, subst, ◌∙◌}
+use Rattle.shore_types.specs.declared.locking.Granule.TheVariants.{Record}
+use Rattle.shore_types.specs.declared.locking.Mode.TheVariants.{EX}
 use Rattle.shore_model.specs.declared.calls.Call.TheVariants as call
-use Rattle.std.specs.FinMap.{get}
-use Rattle.shore_heap.specs.Heaps.{frame_of}
-use Rattle.shore_calls.specs.Refusals.{FindsRecord, IsRefusal}
-use Rattle.shore_core.specs.Cores.{IsSafe, durable_of, geometry_of, heap_of, last_of}
-use Rattle.shore_core.specs.Parts.{changed}
-use Rattle.shore_core.proofs.Tables.{is_of, some_and}
-use Rattle.shore_core.proofs.Taking.{replied_as}
-use Rattle.shore_core.proofs.Refusing.{delete_refusal, gone_fits, map_some, on_right}
-use Rattle.shore_core.specs.Replies.{Reads}
-use Rattle.shore_core.proofs.Earning.{earned_as}
-use Rattle.shore_core.proofs.Keeping.{leaves_then, reads_then_keeps}
+use Rattle.shore_path.specs.Acquires.{IsReached}
 use Rattle.shore_pool.specs.Pools.{NeedsForce}
+use Rattle.shore_heap.specs.Heaps.{frame_of}
+use Rattle.shore_calls.specs.CallSteps.{Finds}
+use Rattle.shore_control.specs.Controls.{locks_in}
+use Rattle.shore_control.specs.Standing.{changed}
+use Rattle.shore_core.specs.Cores.{IsSafe, durable_of, geometry_of, heap_of, last_of}
 use Rattle.shore_core.proofs.Coming.{comes_then}
+use Rattle.shore_core.proofs.Earning.{earned_as}
 use Rattle.shore_core.proofs.Forcing.{forced_as}
+use Rattle.shore_core.proofs.Keeping.{leaves_then, reads_then_keeps}
+use Rattle.shore_core.proofs.Refusing.{delete_fault, delete_unlogged, gone_fits, map_some}
+use Rattle.shore_core.proofs.Taking.{served_as}
 use Rattle.shore_core.proofs.core_calls.Core.delete.Goals as goal
 
-pub returns-in_err-find-clause-replied : goal.returns-in_err-find-clause-replied
-returns-in_err-find-clause-replied g c ready front disk before s store is safe over =
-    let why : (c.in_err-find.field-0.0 ≡ fault.Memory) ⊎ IsRefusal (geometry_of c.args.self.now) s c.args.session (call.Delete c.args.id) c.in_err-find.field-0.0 =
-    on_right (c.in_err-find.ensures.refused ready front disk before s store is safe over) (λ refusal. delete_refusal (geometry_of c.args.self.now) s c.args.session c.args.id _ refusal) in
-    replied_as c.args.self.now c.find.new.self front before s store c.args.session (call.Delete c.args.id) c.from_residual.result _ c.from_residual.ensures.1 why (c.in_err-find.ensures.stays front disk before s store is safe over)
+pub returns-in_err-find-clause-served : goal.returns-in_err-find-clause-served
+returns-in_err-find-clause-served g c running front disk before s store is safe over a of locked =
+    let old = c.args.self.now in
+    served_as old _ front before s store a (call.Delete c.args.id) c.from_residual.result _ c.from_residual.ensures.1
+    (delete_fault (geometry_of old) s a c.args.id _ (c.in_err-find.ensures.refused running front disk before s store is safe over))
+    (c.in_err-find.ensures.stays front disk before s store is safe over)
 
 pub change-requires-clause-found : goal.change-requires-clause-found
 change-requires-clause-found g c =
-    map_some _ _ (frame_of c.find.new.self.heap c.args.id.page) (λ f h. (h, gone_fits f.page.slots c.args.id.slot c.in_ok-find.field-0 c.in_ok-find.ensures.reached.1 h)) c.in_ok-find.ensures.framed
+    map_some _ _ (frame_of c.find.new.self.heap c.args.id.page) (λ f h. (h, gone_fits f.page.slots c.args.id.slot c.in_ok-find.field-0 c.requires.there.1 h)) c.in_ok-find.ensures.framed
 
-pub returns-in_err-change-clause-replied : goal.returns-in_err-change-clause-replied
-returns-in_err-change-clause-replied g c ready front disk before s store is safe over =
+pub returns-in_err-change-clause-served : goal.returns-in_err-change-clause-served
+returns-in_err-change-clause-served g c running front disk before s store is safe over a of locked =
     let old = c.args.self.now in
+    let reads = c.in_ok-find.ensures.reads in
     let comes = c.in_ok-find.ensures.stays front disk before s store is safe over in
-    let h = c.in_err-change.ensures.changed (c.in_ok-find.ensures.reads.failed ∙ ready.running) front comes.left before s comes.after comes.is_in (subst (λ it. IsSafe it s) (sym c.in_ok-find.ensures.reads.volume.geometry) safe) comes.over in
-    let t = some_and _ _ c.in_ok-find.ensures.txn in
-    let mine = is_of old.txns s is.beside.parts.txns c.args.session t.0 t.1 t.2 in
-    let there : IsSome (get s.sessions.records c.args.id) = subst IsSome (sym (c.in_ok-find.ensures.found ready.running front disk before s store is safe over)) refl in
-    let finds : FindsRecord (geometry_of old) s c.args.session c.args.id = (((_, mine), c.in_ok-find.ensures.reached.0), there) in
-    let why : (c.in_err-change.field-0.0 ≡ fault.Memory) ⊎ IsRefusal (geometry_of old) s c.args.session (call.Delete c.args.id) c.in_err-change.field-0.0 = on_right h.0 (λ full. subst (IsRefusal (geometry_of old) s c.args.session (call.Delete c.args.id)) (sym full.0) (finds, full.1)) in
-    replied_as old c.change.new.self front before s store c.args.session (call.Delete c.args.id) c.from_residual-in_err-change.result _ c.from_residual-in_err-change.ensures.1 why
+    let there : Finds s c.args.id = subst IsSome (sym (c.in_ok-find.ensures.found running front disk before s store is safe over)) refl in
+    let h = c.in_err-change.ensures.changed (reads.failed ∙ running) front comes.left before s comes.after comes.is_in (subst (λ it. IsSafe it s) (sym reads.volume.geometry) safe) comes.over a of
+    (subst (λ it. IsReached (locks_in it).requests a.txn (Record c.args.id) EX) (sym reads.control) locked) in
+    served_as old c.change.new.self front before s store a (call.Delete c.args.id) c.from_residual-in_err-change.result _ c.from_residual-in_err-change.ensures.1
+    (delete_unlogged (geometry_of old) s a c.args.id there _ h.0)
     (inr (comes_then c.find.new.self c.change.new.self front before s s store comes h.1))
 
-pub returns-clause-replied : goal.returns-clause-replied
-returns-clause-replied g c ready front disk before s store is safe over =
-    let old = c.args.self.now in
+pub returns-clause-served : goal.returns-clause-served
+returns-clause-served g c running front disk before s store is safe over a of locked =
+    let reads = c.in_ok-find.ensures.reads in
     let comes = c.in_ok-find.ensures.stays front disk before s store is safe over in
-    let h = c.in_ok-change.ensures.changed (c.in_ok-find.ensures.reads.failed ∙ ready.running) front comes.left before s comes.after comes.is_in (subst (λ it. IsSafe it s) (sym c.in_ok-find.ensures.reads.volume.geometry) safe) comes.over in
-    let there : IsSome (get s.sessions.records c.args.id) = subst IsSome (sym (c.in_ok-find.ensures.found ready.running front disk before s store is safe over)) refl in
-    let finds : FindsRecord (geometry_of old) s c.args.session c.args.id = (((h.0, h.2), c.in_ok-find.ensures.reached.0), there) in
+    let there : Finds s c.args.id = subst IsSome (sym (c.in_ok-find.ensures.found running front disk before s store is safe over)) refl in
+    let h = c.in_ok-change.ensures.changed (reads.failed ∙ running) front comes.left before s comes.after comes.is_in (subst (λ it. IsSafe it s) (sym reads.volume.geometry) safe) comes.over a of
+    (subst (λ it. IsReached (locks_in it).requests a.txn (Record c.args.id) EX) (sym reads.control) locked) in
     record {
-      later = changed s h.0 c.args.id None h.1;
-      replies = inr (h.0, h.1, h.2, (finds, h.3, refl), refl);
-      comes = comes_then c.find.new.self c.change.new.self front before s (changed s h.0 c.args.id None h.1) store comes h.4;
+      later = changed s a c.args.id None h.0;
+      serves = (there, refl, (h.0, h.1, refl));
+      comes = comes_then c.find.new.self c.change.new.self front before s (changed s a c.args.id None h.0) store comes h.2;
     }
 
 pub returns-in_err-find-clause-damaged : goal.returns-in_err-find-clause-damaged
 returns-in_err-find-clause-damaged g c front disk holds =
     let old = c.args.self.now in
-    earned_as (geometry_of old) disk (last_of old) (Reads (call.Delete c.args.id)) c.from_residual.result _ c.from_residual.ensures.1 (c.in_err-find.ensures.damaged front disk holds)
+    earned_as (geometry_of old) disk (last_of old) (λ page. page ≡ c.args.id.page) c.from_residual.result _ c.from_residual.ensures.1 (c.in_err-find.ensures.damaged front disk holds)
 
 pub returns-in_err-change-clause-keeps : goal.returns-in_err-change-clause-keeps
 returns-in_err-change-clause-keeps g c = reads_then_keeps c.args.self.now c.find.new.self c.change.new.self c.find.ensures.reads c.change.ensures.keeps

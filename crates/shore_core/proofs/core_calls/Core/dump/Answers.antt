@@ -2,8 +2,7 @@ use Rattle.std.proofs.Common.{◌≡◌, ◌⊎◌, inr, IsTrue, MatchResult, ap
 use Rattle.shore_types.specs.Layout.{HasStore}
 use Rattle.shore_types.specs.declared.faults.Fault.{Fault}
 use Rattle.shore_types.specs.declared.faults.Fault.TheVariants as fault
-use Rattle.shore_calls.specs.CallSteps.{after_refusal}
-use Rattle.shore_calls.specs.Refusals.{IsPageFault}
+use Rattle.shore_calls.specs.StateChanges.{IsPageFault, after_refusal}
 use Rattle.shore_core.specs.Cores.{ComesTo, geometry_of, has_failed}
 use Rattle.shore_core.specs.Replies.{Stays}
 use Rattle.shore_core.proofs.Taking.{map_err}
@@ -25,7 +24,7 @@ returns-in-Err-clause-left g c front disk before s plain is safe over =
     let mid = c.pairs_of-pairs.new.self in
     let stays = subst (λ r. Stays mid r front before s plain) c.in-Err.is (c.pairs_of-pairs.ensures.stays front disk before s plain is safe over) in
     subst (λ r. MatchResult r (λ _. ComesTo c.note_failure.new.self front before plain s) (λ f. ComesTo c.note_failure.new.self front before plain (after_refusal f s))) (sym c.in-Err.is)
-    (c.note_failure.ensures.left front before s plain over.kept stays)
+    (c.note_failure.ensures.left front before s plain stays)
 
 pub returns-in-Err-clause-refused : goal.returns-in-Err-clause-refused
 returns-in-Err-clause-refused g c front disk before s plain is safe over =

@@ -1,12 +1,12 @@
 use Rattle.std.proofs.Common.{◌≡◌, ◌⊎◌, ◌-◌, refl, sym, ap, ◌∙◌}
 use Rattle.shore_types.specs.declared.faults.Fault.TheVariants as fault
-use Rattle.shore_calls.specs.Refusals.{IsPageFault}
+use Rattle.shore_calls.specs.StateChanges.{IsPageFault}
 use Rattle.shore_calls.specs.States.{page_slots}
 use Rattle.shore_pool.specs.Pools.{NeedsForce}
 use Rattle.shore_core.proofs.Taking.{map_err}
-use Rattle.shore_core.proofs.Coming.{pages_may_go, stays_read}
+use Rattle.shore_core.proofs.Coming.{kept_lent, pages_may_go, stays_read}
 use Rattle.shore_core.proofs.Forcing.{fetch_force, page_fault}
-use Rattle.shore_core.specs.Cores.{durable_of, geometry_of, heap_of, last_of}
+use Rattle.shore_core.specs.Cores.{durable_of, geometry_of, heap_of, last_of, txns_of}
 use Rattle.shore_core.proofs.Earning.{page_earned}
 use Rattle.shore_core.proofs.core_calls.Core.fetch.Goals as goal
 
@@ -22,8 +22,10 @@ pub returns-clause-stays : goal.returns-clause-stays
 returns-clause-stays g c front disk before s store is safe over =
     let old = c.args.self.now in
     stays_read old _ front disk before s store is over
-    (record { volume = record { geometry = c.fetch.ensures.geometry; honest = c.fetch.ensures.honest; size = c.fetch.ensures.size }; durable = refl; failed = refl; tail = refl; txns = refl })
-    c.fetch.result (λ works. c.fetch.ensures.kept front disk (page_slots s) (is.pages works) (pages_may_go old before s is.beside safe))
+    (record { volume = record { geometry = c.fetch.ensures.geometry; honest = c.fetch.ensures.honest; size = c.fetch.ensures.size }; durable = refl; failed = refl; tail = refl; control = refl })
+    c.fetch.result
+    (λ works. kept_lent old.heap c.fetch.new.self c.fetch.result (durable_of old) front disk (page_slots s) c.txns.result.now (txns_of old) c.txns.ensures
+    (c.fetch.ensures.kept front disk (page_slots s)) (is.pages works) (pages_may_go old before s is.beside safe))
 
 pub returns-clause-damaged : goal.returns-clause-damaged
 returns-clause-damaged g c front disk holds =
@@ -42,5 +44,5 @@ returns-clause-reads g c = record {
   durable = refl;
   failed = refl;
   tail = refl;
-  txns = refl;
+  control = refl;
 }

@@ -1,143 +1,162 @@
-use Rattle.std.proofs.Common.{◌≡◌, ◌⊎◌, inr, Some, IsSomeAnd, length, refl, sym, ap, subst, ◌∙◌, arith}
+use Rattle.std.proofs.Common.{◌≡◌, inl, inr, Ok, Err, None, Some, IsSomeAnd, false, length, refl, sym, ap, subst, ◌∙◌}
 use Rattle.shore_types.specs.declared.faults.Fault.TheVariants as fault
-use Rattle.shore_types.specs.declared.layout.Geometry.{Geometry}
-use Rattle.shore_types.specs.Layout.{HasSlot, HasStore}
+use Rattle.shore_types.specs.declared.locking.Granule.TheVariants.{Record}
+use Rattle.shore_types.specs.declared.locking.Mode.TheVariants.{EX}
+use Rattle.shore_types.specs.Layout.{HasSlot}
 use Rattle.shore_model.specs.declared.calls.Call.TheVariants as call
+use Rattle.shore_locks.specs.Tables.{Table, is_waiting}
+use Rattle.shore_path.specs.Acquires.{IsReached}
+use Rattle.shore_path.specs.declared.answers.Acquired.TheVariants as acquire
+use Rattle.shore_path.specs.declared.answers.OnConflict.TheVariants.{Refuse}
+use Rattle.shore_path.specs.Walks.{acquired}
 use Rattle.shore_page.specs.Room.{Fits}
-use Rattle.shore_heap.specs.Heaps.{frame_of}
-use Rattle.shore_heap.specs.Places.{IsPlace, anywhere}
-use Rattle.shore_calls.specs.Refusals.{IsRefusal, IsShort}
-use Rattle.shore_calls.specs.States.{IsInTxn, page_slots}
-use Rattle.shore_core.specs.Cores.{IsSafe, durable_of, geometry_of, heap_of, last_of}
-use Rattle.shore_core.specs.Parts.{changed}
-use Rattle.shore_core.proofs.Placing.{is_place_for, place_fault}
-use Rattle.shore_core.proofs.Refusing.{map_some, on_right}
-use Rattle.shore_core.proofs.Tables.{in_none, is_of, none_told, some_told}
-use Rattle.shore_core.proofs.Taking.{replied_as, true_false}
-use Rattle.shore_core.specs.Replies.{Reads}
-use Rattle.shore_core.proofs.Earning.{earned_as}
-use Rattle.shore_core.proofs.Keeping.{leaves_then, nothing_leaves, reads_then_keeps}
-use Rattle.shore_txn.specs.Tables.{active_in}
+use Rattle.shore_page.specs.Slots.{image_at_slot}
 use Rattle.shore_pool.specs.Pools.{NeedsForce}
-use Rattle.shore_core.proofs.Coming.{comes_same, comes_then}
+use Rattle.shore_heap.specs.Heaps as heaps
+use Rattle.shore_heap.specs.Heaps.{frame_of}
+use Rattle.shore_txn.specs.Transactions.{HasTxnOf}
+use Rattle.shore_calls.specs.StateChanges.{after_refusal}
+use Rattle.shore_calls.specs.CallSteps.{behind_place, place_outcome, with_requests}
+use Rattle.shore_control.specs.Controls.{locks_in, txns_in}
+use Rattle.shore_control.specs.Standing.{HasControl, changed}
+use Rattle.shore_core.specs.Cores.{IsSafe, durable_of, geometry_of, heap_of, last_of, locks_of}
+use Rattle.shore_core.specs.Replies.{IsServedBehind, can_lock}
+use Rattle.shore_core.proofs.Coming.{comes_then}
+use Rattle.shore_core.proofs.Earning.{earned_as}
 use Rattle.shore_core.proofs.Forcing.{forced_as}
+use Rattle.shore_core.proofs.Keeping.{keeps_then, leaves_then, reads_then_keeps}
+use Rattle.shore_core.proofs.Placing.{found_place, insert_unlogged, no_place_fault, served_behind_place, tried_here}
+use Rattle.shore_core.proofs.Refusing.{map_some}
+use Rattle.shore_core.proofs.Safe.{comes_locked, locks_keep, never_waits, place_reached, safe_behind_place}
+use Rattle.shore_core.proofs.Taking.{served_as}
 use Rattle.shore_core.proofs.core_calls.Core.insert.Goals as goal
 
-pub returns-then-is_none-clause-replied : goal.returns-then-is_none-clause-replied
-returns-then-is_none-clause-replied g c ready front disk before s plain is safe over = record {
-  later = s;
-  replies = (inr (in_none c.args.self.now.txns s is.beside.parts.txns c.args.session (is.beside.parts.failed_is ∙ ready.running) (none_told _ c.if-is_none.ensures c.txn.ensures.none) ready.free), refl);
-  comes = inr (comes_same c.args.self.now front disk before s plain is over);
-}
-
-pub returns-then-len-gt-MAX_RECORD_BYTES-clause-replied : goal.returns-then-len-gt-MAX_RECORD_BYTES-clause-replied
-returns-then-len-gt-MAX_RECORD_BYTES-clause-replied g c ready front disk before s plain is safe over =
-    let t = some_told _ _ c.if-is_none.ensures c.txn.ensures.some in
-    record {
-      later = s;
-      replies = (inr ((_, is_of c.args.self.now.txns s is.beside.parts.txns c.args.session t.0.now t.1.0 t.1.1), omega (arith, c.if-len-gt-MAX_RECORD_BYTES.true, ap length c.as_slice-len.ensures)), refl);
-      comes = inr (comes_same c.args.self.now front disk before s plain is over);
-    }
-
-pub returns-then-not-has_store-clause-replied : goal.returns-then-not-has_store-clause-replied
-returns-then-not-has_store-clause-replied g c ready front disk before s plain is safe over =
-    let t = some_told _ _ c.if-is_none.ensures c.txn.ensures.some in
-    let short : IsShort c.args.bytes = omega (arith, c.if-len-gt-MAX_RECORD_BYTES.false, ap length c.as_slice-len.ensures) in
-    record {
-      later = s;
-      replies = (
-        inr (
-          (_, is_of c.args.self.now.txns s is.beside.parts.txns c.args.session t.0.now t.1.0 t.1.1),
-          short,
-          λ there. true_false (sym (c.has_store.ensures.1 (subst (λ (it : Geometry). HasStore it c.args.store) (sym c.geometry.ensures) there)) ∙ c.if-not-has_store.true),
-        ),
-        refl,
-      );
-      comes = inr (comes_same c.args.self.now front disk before s plain is over);
-    }
-
-pub returns-in_err-place-clause-replied : goal.returns-in_err-place-clause-replied
-returns-in_err-place-clause-replied g c ready front disk before s plain is safe over =
+pub returns-in_err-place-clause-served : goal.returns-in_err-place-clause-served
+returns-in_err-place-clause-served g c running front disk before s plain is safe over a of number =
     let old = c.args.self.now in
-    let t = some_told _ _ c.if-is_none.ensures c.txn.ensures.some in
-    let mine : IsInTxn s c.args.session = (_, is_of old.txns s is.beside.parts.txns c.args.session t.0.now t.1.0 t.1.1) in
-    let short : IsShort c.args.bytes = omega (arith, c.if-len-gt-MAX_RECORD_BYTES.false, ap length c.as_slice-len.ensures) in
-    let there : HasStore (geometry_of old) c.args.store = subst (λ (it : Geometry). HasStore it c.args.store) c.geometry.ensures (c.if-not-has_store.ensures.0 refl) in
-    let why = place_fault (geometry_of old) s safe.roomy.pages c.args.store c.args.session c.args.bytes _ mine short there (ap length c.as_slice-len.ensures) (c.in_err-place.ensures.found ready.running front disk before s plain is safe over) in
-    replied_as old c.find_place.new.self front before s plain c.args.session (call.Insert c.args.store c.args.bytes) c.from_residual.result _ c.from_residual.ensures.1 why
+    served_as old c.find_place.new.self front before s plain a (call.Insert c.args.store c.args.bytes) c.from_residual.result _ c.from_residual.ensures.1
+    (no_place_fault (geometry_of old) s safe.roomy.pages a c.args.store c.args.bytes (ap length c.as_slice.ensures) (locks_of old) c.args.txn is.beside.parts.stands.locks number _ (c.in_err-place.ensures.found running front disk before s plain is safe over))
     (c.in_err-place.ensures.stays front disk before s plain is safe over)
 
+pub lock_place-requires-clause-quiet : goal.lock_place-requires-clause-quiet
+lock_place-requires-clause-quiet g c = subst (λ l. is_waiting c.args.txn (locks_in l).requests ≡ false) (sym c.in_ok-place.ensures.reads.control) c.requires.quiet
+
+pub lock_place-requires-clause-lockable : goal.lock_place-requires-clause-lockable
+lock_place-requires-clause-lockable g c = subst (λ l. can_lock (locks_in l).requests c.args.txn c.in_ok-place.place) (sym c.in_ok-place.ensures.reads.control) c.in_ok-place.ensures.lockable
+
+pub returns-in_err-lock_place-clause-served : goal.returns-in_err-lock_place-clause-served
+returns-in_err-lock_place-clause-served g c running front disk before s plain is safe over a of number =
+    let old = c.args.self.now in
+    let mid = c.find_place.new.self in
+    let new = c.lock_place.new.self in
+    let id = c.in_ok-place.place in
+    let comes = c.in_ok-place.ensures.stays front disk before s plain is safe over in
+    let of_place = found_place (geometry_of old) s safe.roomy.pages a c.args.store c.args.bytes (ap length c.as_slice.ensures) (locks_of old) c.args.txn is.beside.parts.stands.locks number id (c.in_ok-place.ensures.found running front disk before s plain is safe over) in
+    let same = c.lock_place.ensures.only in
+    let full = c.in_err-lock_place.ensures.refused in
+    let answer : (place_outcome s a id).answer ≡ Err fault.LockTableFull =
+    tried_here s a id (locks_of mid) c.args.txn comes.is_in.beside.parts.stands.locks number ∙ c.in_err-lock_place.ensures.answer ∙ ap Err full in
+    let stands = λ (has : HasControl mid.control s). subst (λ t. HasControl new.control (with_requests s (acquired Refuse s.locks t (Record id) EX).requests)) (sym number) (c.lock_place.ensures.stands s has) in
+    served_behind_place old new front before s plain a c.args.store c.args.bytes id c.from_residual-in_err-lock_place.result _ c.from_residual-in_err-lock_place.ensures.1
+    (subst (λ f. IsServedBehind (geometry_of old) s a (call.Insert c.args.store c.args.bytes) (Err f) (after_refusal f (behind_place s a id))) (sym full) (inr (inr (inl (refl, (id, of_place, answer, refl))))))
+    (comes_locked mid new same front before s plain (place_outcome s a id).requests stands comes)
+
 pub change-requires-clause-there : goal.change-requires-clause-there
-change-requires-clause-there g c = subst (λ (it : Geometry). HasSlot it c.in_ok-place.place) (sym c.in_ok-place.ensures.reads.volume.geometry) c.in_ok-place.ensures.there
+change-requires-clause-there g c =
+    subst (λ it. HasSlot it c.in_ok-place.place) (sym (ap (λ h. heaps.geometry_of h) c.in_ok-lock_place.ensures.only.heap ∙ c.in_ok-place.ensures.reads.volume.geometry)) c.in_ok-place.ensures.there
 
 pub change-requires-clause-found : goal.change-requires-clause-found
 change-requires-clause-found g c =
-    let len = ap length c.as_slice-len.ensures in
-    map_some _ _ (frame_of c.find_place.new.self.heap c.in_ok-place.place.page) (λ f h. (h.0, subst (Fits f.page.slots c.in_ok-place.place.slot) len h.1)) c.in_ok-place.ensures.framed
+    let id = c.in_ok-place.place in
+    let len = ap length c.as_slice.ensures in
+    subst (λ h. IsSomeAnd (frame_of h id.page) (λ f. (image_at_slot f.page.slots id.slot ≡ None) × Fits f.page.slots id.slot (length c.args.bytes))) (sym c.in_ok-lock_place.ensures.only.heap)
+    (map_some _ _ (frame_of c.find_place.new.self.heap id.page) (λ f h. (h.0, subst (Fits f.page.slots id.slot) len h.1)) c.in_ok-place.ensures.framed)
 
-pub change-requires-clause-txn : goal.change-requires-clause-txn
-change-requires-clause-txn g c =
-    let t = some_told _ _ c.if-is_none.ensures c.txn.ensures.some in
-    subst (λ o. IsSomeAnd o (λ t. t.session ≡ c.args.session)) (sym (ap active_in c.in_ok-place.ensures.reads.txns ∙ t.1.0)) t.1.1
+pub change-requires-clause-owner : goal.change-requires-clause-owner
+change-requires-clause-owner g c = subst (HasTxnOf c.args.session) (sym (c.in_ok-lock_place.ensures.only.txns ∙ ap txns_in c.in_ok-place.ensures.reads.control)) c.requires.owner
 
-pub returns-in_err-change-clause-replied : goal.returns-in_err-change-clause-replied
-returns-in_err-change-clause-replied g c ready front disk before s plain is safe over =
+pub returns-in_err-change-clause-served : goal.returns-in_err-change-clause-served
+returns-in_err-change-clause-served g c running front disk before s plain is safe over a of number =
     let old = c.args.self.now in
-    let t = some_told _ _ c.if-is_none.ensures c.txn.ensures.some in
-    let mine : IsInTxn s c.args.session = (_, is_of old.txns s is.beside.parts.txns c.args.session t.0.now t.1.0 t.1.1) in
-    let short : IsShort c.args.bytes = omega (arith, c.if-len-gt-MAX_RECORD_BYTES.false, ap length c.as_slice-len.ensures) in
-    let there : HasStore (geometry_of old) c.args.store = subst (λ (it : Geometry). HasStore it c.args.store) c.geometry.ensures (c.if-not-has_store.ensures.0 refl) in
-    let place = is_place_for (geometry_of old) s safe.roomy.pages c.args.store c.args.bytes c.in_ok-place.place
-    (subst (λ n. IsPlace (geometry_of old) (page_slots s) c.args.store n anywhere c.in_ok-place.place) (ap length c.as_slice-len.ensures) (c.in_ok-place.ensures.found ready.running front disk before s plain is safe over)) in
+    let mid = c.find_place.new.self in
+    let locked = c.lock_place.new.self in
+    let id = c.in_ok-place.place in
     let comes = c.in_ok-place.ensures.stays front disk before s plain is safe over in
-    let h = c.in_err-change.ensures.changed (c.in_ok-place.ensures.reads.failed ∙ ready.running) front comes.left before s comes.after comes.is_in (subst (λ it. IsSafe it s) (sym c.in_ok-place.ensures.reads.volume.geometry) safe) comes.over in
-    let why : (c.in_err-change.field-0.0 ≡ fault.Memory) ⊎ IsRefusal (geometry_of old) s c.args.session (call.Insert c.args.store c.args.bytes) c.in_err-change.field-0.0 =
-    on_right h.0 (λ full. subst (IsRefusal (geometry_of old) s c.args.session (call.Insert c.args.store c.args.bytes)) (sym full.0) (mine, short, there, (c.in_ok-place.place, place, full.1))) in
-    replied_as old c.change.new.self front before s plain c.args.session (call.Insert c.args.store c.args.bytes) c.from_residual-in_err-change.result _ c.from_residual-in_err-change.ensures.1 why
-    (inr (comes_then c.find_place.new.self c.change.new.self front before s s plain comes h.1))
+    let reads = c.in_ok-place.ensures.reads in
+    let of_place = found_place (geometry_of old) s safe.roomy.pages a c.args.store c.args.bytes (ap length c.as_slice.ensures) (locks_of old) c.args.txn is.beside.parts.stands.locks number id (c.in_ok-place.ensures.found running front disk before s plain is safe over) in
+    let same = c.lock_place.ensures.only in
+    let done : (place_outcome s a id).answer ≡ Ok acquire.Done = tried_here s a id (locks_of mid) c.args.txn comes.is_in.beside.parts.stands.locks number ∙ c.in_ok-lock_place.ensures.answer in
+    let stands = λ (has : HasControl mid.control s). subst (λ t. HasControl locked.control (with_requests s (acquired Refuse s.locks t (Record id) EX).requests)) (sym number) (c.lock_place.ensures.stands s has) in
+    let there = comes_locked mid locked same front before s plain (place_outcome s a id).requests stands comes in
+    let quiet = subst (λ (l : Table). is_waiting a.txn l.requests ≡ false) (sym is.beside.parts.stands.locks) (subst (λ t. is_waiting t (locks_of old).requests ≡ false) (sym number) c.requires.quiet) in
+    let safe_there = subst (λ it. IsSafe it (behind_place s a id)) (sym ((locks_keep mid locked same).volume.geometry ∙ reads.volume.geometry)) (safe_behind_place (geometry_of old) s safe a of.0 quiet id (never_waits _ (Ok tt) done)) in
+    let reached = subst (λ (l : Table). IsReached l.requests a.txn (Record id) EX) (stands comes.is_in.beside.parts.stands).locks (place_reached (geometry_of old) s safe a of.0 quiet id done) in
+    let h = c.in_err-change.ensures.changed (same.failed ∙ reads.failed ∙ running) front there.left before (behind_place s a id) there.after there.is_in safe_there there.over a of reached in
+    served_behind_place old c.change.new.self front before s plain a c.args.store c.args.bytes id c.from_residual-in_err-change.result _ c.from_residual-in_err-change.ensures.1
+    (insert_unlogged (geometry_of old) s a c.args.store c.args.bytes id (of_place, done) _ h.0)
+    (comes_then locked c.change.new.self front before (behind_place s a id) (behind_place s a id) plain there h.1)
 
-pub returns-clause-replied : goal.returns-clause-replied
-returns-clause-replied g c ready front disk before s plain is safe over =
+pub returns-clause-served : goal.returns-clause-served
+returns-clause-served g c running front disk before s plain is safe over a of number =
     let old = c.args.self.now in
-    let short : IsShort c.args.bytes = omega (arith, c.if-len-gt-MAX_RECORD_BYTES.false, ap length c.as_slice-len.ensures) in
-    let there : HasStore (geometry_of old) c.args.store = subst (λ (it : Geometry). HasStore it c.args.store) c.geometry.ensures (c.if-not-has_store.ensures.0 refl) in
-    let place = is_place_for (geometry_of old) s safe.roomy.pages c.args.store c.args.bytes c.in_ok-place.place
-    (subst (λ n. IsPlace (geometry_of old) (page_slots s) c.args.store n anywhere c.in_ok-place.place) (ap length c.as_slice-len.ensures) (c.in_ok-place.ensures.found ready.running front disk before s plain is safe over)) in
+    let mid = c.find_place.new.self in
+    let locked = c.lock_place.new.self in
+    let id = c.in_ok-place.place in
     let comes = c.in_ok-place.ensures.stays front disk before s plain is safe over in
-    let h = c.in_ok-change.ensures.changed (c.in_ok-place.ensures.reads.failed ∙ ready.running) front comes.left before s comes.after comes.is_in (subst (λ it. IsSafe it s) (sym c.in_ok-place.ensures.reads.volume.geometry) safe) comes.over in
+    let reads = c.in_ok-place.ensures.reads in
+    let of_place = found_place (geometry_of old) s safe.roomy.pages a c.args.store c.args.bytes (ap length c.as_slice.ensures) (locks_of old) c.args.txn is.beside.parts.stands.locks number id (c.in_ok-place.ensures.found running front disk before s plain is safe over) in
+    let same = c.lock_place.ensures.only in
+    let done : (place_outcome s a id).answer ≡ Ok acquire.Done = tried_here s a id (locks_of mid) c.args.txn comes.is_in.beside.parts.stands.locks number ∙ c.in_ok-lock_place.ensures.answer in
+    let stands = λ (has : HasControl mid.control s). subst (λ t. HasControl locked.control (with_requests s (acquired Refuse s.locks t (Record id) EX).requests)) (sym number) (c.lock_place.ensures.stands s has) in
+    let there = comes_locked mid locked same front before s plain (place_outcome s a id).requests stands comes in
+    let quiet = subst (λ (l : Table). is_waiting a.txn l.requests ≡ false) (sym is.beside.parts.stands.locks) (subst (λ t. is_waiting t (locks_of old).requests ≡ false) (sym number) c.requires.quiet) in
+    let safe_there = subst (λ it. IsSafe it (behind_place s a id)) (sym ((locks_keep mid locked same).volume.geometry ∙ reads.volume.geometry)) (safe_behind_place (geometry_of old) s safe a of.0 quiet id (never_waits _ (Ok tt) done)) in
+    let reached = subst (λ (l : Table). IsReached l.requests a.txn (Record id) EX) (stands comes.is_in.beside.parts.stands).locks (place_reached (geometry_of old) s safe a of.0 quiet id done) in
+    let h = c.in_ok-change.ensures.changed (same.failed ∙ reads.failed ∙ running) front there.left before (behind_place s a id) there.after there.is_in safe_there there.over a of reached in
+    let later = changed (behind_place s a id) a id (Some c.args.bytes) h.0 in
     record {
-      later = changed s h.0 c.in_ok-place.place (Some c.args.bytes) h.1;
-      replies = inr (h.0, h.1, h.2, (short, there, (c.in_ok-place.place, place, h.3, refl)), refl);
-      comes = comes_then c.find_place.new.self c.change.new.self front before s (changed s h.0 c.in_ok-place.place (Some c.args.bytes) h.1) plain comes h.4;
+      later = later;
+      serves = (id, (of_place, done), refl, (h.0, h.1, refl));
+      comes = comes_then locked c.change.new.self front before (behind_place s a id) later plain there h.2;
     }
 
 pub returns-in_err-place-clause-damaged : goal.returns-in_err-place-clause-damaged
 returns-in_err-place-clause-damaged g c front disk holds =
     let old = c.args.self.now in
-    earned_as (geometry_of old) disk (last_of old) (Reads (call.Insert c.args.store c.args.bytes)) c.from_residual.result _ c.from_residual.ensures.1 (c.in_err-place.ensures.damaged front disk holds)
+    earned_as (geometry_of old) disk (last_of old) (λ page. page.store ≡ c.args.store) c.from_residual.result _ c.from_residual.ensures.1 (c.in_err-place.ensures.damaged front disk holds)
 
 pub returns-in_err-place-clause-forced : goal.returns-in_err-place-clause-forced
 returns-in_err-place-clause-forced g c front disk holds =
     let old = c.args.self.now in
     forced_as (NeedsForce (heap_of old).pool (durable_of old)) c.from_residual.result _ c.from_residual.ensures.1 (c.in_err-place.ensures.forced front disk holds)
 
+pub returns-in_err-lock_place-clause-keeps : goal.returns-in_err-lock_place-clause-keeps
+returns-in_err-lock_place-clause-keeps g c =
+    reads_then_keeps c.args.self.now c.find_place.new.self c.lock_place.new.self c.find_place.ensures.reads
+    (locks_keep c.find_place.new.self c.lock_place.new.self c.lock_place.ensures.only)
+
 pub returns-in_err-change-clause-keeps : goal.returns-in_err-change-clause-keeps
-returns-in_err-change-clause-keeps g c = reads_then_keeps c.args.self.now c.find_place.new.self c.change.new.self c.find_place.ensures.reads c.change.ensures.keeps
+returns-in_err-change-clause-keeps g c =
+    reads_then_keeps c.args.self.now c.find_place.new.self c.change.new.self c.find_place.ensures.reads
+    (keeps_then c.find_place.new.self c.lock_place.new.self c.change.new.self
+    (locks_keep c.find_place.new.self c.lock_place.new.self c.lock_place.ensures.only)
+    c.change.ensures.keeps)
 
 pub returns-clause-keeps : goal.returns-clause-keeps
-returns-clause-keeps g c = reads_then_keeps c.args.self.now c.find_place.new.self c.change.new.self c.find_place.ensures.reads c.change.ensures.keeps
+returns-clause-keeps g c =
+    reads_then_keeps c.args.self.now c.find_place.new.self c.change.new.self c.find_place.ensures.reads
+    (keeps_then c.find_place.new.self c.lock_place.new.self c.change.new.self
+    (locks_keep c.find_place.new.self c.lock_place.new.self c.lock_place.ensures.only)
+    c.change.ensures.keeps)
 
-pub returns-then-is_none-clause-any_moment : goal.returns-then-is_none-clause-any_moment
-returns-then-is_none-clause-any_moment g c = nothing_leaves c.args.self.now
-
-pub returns-then-len-gt-MAX_RECORD_BYTES-clause-any_moment : goal.returns-then-len-gt-MAX_RECORD_BYTES-clause-any_moment
-returns-then-len-gt-MAX_RECORD_BYTES-clause-any_moment g c = nothing_leaves c.args.self.now
-
-pub returns-then-not-has_store-clause-any_moment : goal.returns-then-not-has_store-clause-any_moment
-returns-then-not-has_store-clause-any_moment g c = nothing_leaves c.args.self.now
+pub returns-in_err-lock_place-clause-any_moment : goal.returns-in_err-lock_place-clause-any_moment
+returns-in_err-lock_place-clause-any_moment g c =
+    leaves_then c.args.self.now c.find_place.new.self c.lock_place.new.self c.find_place.ensures.any_moment (ap (λ h. heaps.history_of h) c.lock_place.ensures.only.heap)
 
 pub returns-in_err-change-clause-any_moment : goal.returns-in_err-change-clause-any_moment
-returns-in_err-change-clause-any_moment g c = leaves_then c.args.self.now c.find_place.new.self c.change.new.self c.find_place.ensures.any_moment c.change.ensures.history
+returns-in_err-change-clause-any_moment g c =
+    leaves_then c.args.self.now c.find_place.new.self c.change.new.self c.find_place.ensures.any_moment (c.change.ensures.history ∙ ap (λ h. heaps.history_of h) c.lock_place.ensures.only.heap)
 
 pub returns-clause-any_moment : goal.returns-clause-any_moment
-returns-clause-any_moment g c = leaves_then c.args.self.now c.find_place.new.self c.change.new.self c.find_place.ensures.any_moment c.change.ensures.history
+returns-clause-any_moment g c =
+    leaves_then c.args.self.now c.find_place.new.self c.change.new.self c.find_place.ensures.any_moment (c.change.ensures.history ∙ ap (λ h. heaps.history_of h) c.lock_place.ensures.only.heap)

@@ -6,15 +6,15 @@ use Rattle.shore_core.proofs.core_calls.Core.note_failure.Goals.{in-Device, in-D
 use Rattle.shore_core.proofs.core_calls.Core.note_failure.Goals as goal
 
 pub returns-then-matches-clause-left : goal.returns-then-matches-clause-left
-returns-then-matches-clause-left g c front before s store kept stays =
+returns-then-matches-clause-left g c front before s store stays =
     elim c.match-matches.branch [
       | in_default w ↦ absurd (true_false (sym c.if-matches.true ∙ w.matches-is))
-      | in-Device w ↦ comes_noted c.args.self.now _ front before s store c.args.fault.now refl refl refl refl w.in-Device.is kept stays
-      | in-Device-2 w ↦ comes_noted c.args.self.now _ front before s store c.args.fault.now refl refl refl refl w.in-Device.is kept stays
+      | in-Device w ↦ comes_noted c.args.self.now _ front before s store c.args.fault.now refl refl refl refl w.in-Device.is stays
+      | in-Device-2 w ↦ comes_noted c.args.self.now _ front before s store c.args.fault.now refl refl refl refl w.in-Device.is stays
     ]
 
 pub returns-else-matches-clause-left : goal.returns-else-matches-clause-left
-returns-else-matches-clause-left g c front before s store kept stays =
+returns-else-matches-clause-left g c front before s store stays =
     let old = c.args.self.now in
     elim c.match-matches.branch [
       | in_default w ↦

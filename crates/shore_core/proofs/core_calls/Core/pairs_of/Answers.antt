@@ -1,11 +1,14 @@
-use Rattle.std.proofs.Common.{◌≡◌, ◌⊎◌, ◌-◌, inr, refl, sym, ap, ◌∙◌, arith}
+use Rattle.std.proofs.Common.{◌≡◌, ◌⊎◌, ◌-◌, inr, refl, sym, ap, subst, ◌∙◌, arith}
 use Rattle.shore_types.specs.declared.faults.Fault.TheVariants as fault
 use Rattle.shore_model.specs.Records.{scan_of}
 use Rattle.shore_pool.specs.Pools.{NeedsForce}
-use Rattle.shore_calls.specs.Refusals.{IsPageFault}
+use Rattle.shore_heap.specs.Contents.{AreKept}
+use Rattle.shore_heap.specs.Heaps.{Shows}
+use Rattle.shore_txn.specs.Transactions.{kept_in}
+use Rattle.shore_calls.specs.StateChanges.{IsPageFault}
 use Rattle.shore_calls.specs.States.{page_slots}
-use Rattle.shore_core.specs.Cores.{durable_of, geometry_of, heap_of, last_of}
-use Rattle.shore_core.proofs.Coming.{pages_may_go, stays_read}
+use Rattle.shore_core.specs.Cores.{durable_of, geometry_of, heap_of, last_of, txns_of}
+use Rattle.shore_core.proofs.Coming.{kept_lent, pages_may_go, stays_read}
 use Rattle.shore_core.proofs.Forcing.{store_fault, store_force}
 use Rattle.shore_core.proofs.Pairs.{map_ok}
 use Rattle.shore_core.proofs.Placing.{scan_is}
@@ -18,7 +21,8 @@ returns-clause-pairs g c running front disk before s plain is safe over =
     let old = c.args.self.now in
     let works = is.beside.parts.failed_is ∙ running in
     map_ok _ (λ pairs. pairs ≡ scan_of c.args.store s.sessions.records) c.scan.result (λ pairs scan. scan_is (geometry_of old) s safe.roomy.pages c.args.store safe.inside pairs scan)
-    (c.scan.ensures.scanned front disk (page_slots s) (is.pages works) (inr (pages_may_go old before s is.beside safe)))
+    (c.scan.ensures.scanned front disk (page_slots s) (subst (λ t. Shows (kept_in t) old.heap front disk (page_slots s)) (sym c.txns.ensures) (is.pages works))
+    (inr (subst (λ t. AreKept (geometry_of old) (kept_in t) (page_slots s)) (sym c.txns.ensures) (pages_may_go old before s is.beside safe))))
 
 pub returns-clause-refused : goal.returns-clause-refused
 returns-clause-refused g c running front disk before s plain is safe over =
@@ -32,8 +36,10 @@ pub returns-clause-stays : goal.returns-clause-stays
 returns-clause-stays g c front disk before s plain is safe over =
     let old = c.args.self.now in
     stays_read old _ front disk before s plain is over
-    (record { volume = record { geometry = c.scan.ensures.geometry; honest = c.scan.ensures.honest; size = c.scan.ensures.size }; durable = refl; failed = refl; tail = refl; txns = refl })
-    c.scan.result (λ works. c.scan.ensures.kept front disk (page_slots s) (is.pages works) (pages_may_go old before s is.beside safe))
+    (record { volume = record { geometry = c.scan.ensures.geometry; honest = c.scan.ensures.honest; size = c.scan.ensures.size }; durable = refl; failed = refl; tail = refl; control = refl })
+    c.scan.result
+    (λ works. kept_lent old.heap c.scan.new.self c.scan.result (durable_of old) front disk (page_slots s) c.txns.result.now (txns_of old) c.txns.ensures
+    (c.scan.ensures.kept front disk (page_slots s)) (is.pages works) (pages_may_go old before s is.beside safe))
 
 pub returns-clause-damaged : goal.returns-clause-damaged
 returns-clause-damaged g c front disk holds =
@@ -54,5 +60,5 @@ returns-clause-reads g c = record {
   durable = refl;
   failed = refl;
   tail = refl;
-  txns = refl;
+  control = refl;
 }

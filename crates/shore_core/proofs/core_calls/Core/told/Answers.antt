@@ -1,7 +1,7 @@
-use Rattle.std.proofs.Common.{◌≡◌, ◌≤◌, ◌+◌, length, length-append, refl, sym, ap, ◌∙◌, arith}
+use Rattle.std.proofs.Common.{◌≡◌, ◌≤◌, ◌+◌, length, length-append, refl, ap, ◌∙◌, arith}
 use Rattle.shore_recovery.proofs.Invariant.{event_kept}
 use Rattle.shore_recovery.specs.Recovery.{ForceLog, after_force}
-use Rattle.shore_core.specs.Cores.{durable_of, has_failed, waiting_of}
+use Rattle.shore_core.specs.Cores.{control_of, durable_of, has_failed, waiting_of}
 use Rattle.shore_core.proofs.Taking.{parts_told}
 use Rattle.shore_core.proofs.core_calls.Core.told.Goals as goal
 
@@ -14,7 +14,7 @@ returns-clause-told g c front disk before s store is safe over =
     let more : store.durable ≤ n = omega (arith, told, c.requires.no_lower) in
     let within : n ≤ length store.log = omega (arith, long, is.beside.first, c.requires.logged) in (
       record {
-        beside = record { first = is.beside.first; parts = parts_told old.txns (waiting_of old) (durable_of old) n (has_failed old) before s is.beside.parts };
+        beside = record { first = is.beside.first; parts = parts_told (control_of old) (waiting_of old) (durable_of old) n (has_failed old) before s is.beside.parts };
         pages = is.pages;
       },
       record {

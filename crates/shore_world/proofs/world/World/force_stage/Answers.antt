@@ -7,7 +7,7 @@ use Rattle.shore_model.specs.declared.log_records.LogRecord.{LogRecord}
 use Rattle.shore_log.specs.Frames.{GivesBehind}
 use Rattle.shore_log.specs.Settled.{records_of_log, waiting, stable, IsSettled}
 use Rattle.shore_log.specs.declared.device.LogDev.{LogDev}
-use Rattle.shore_calls.specs.CallSteps.{with_failure}
+use Rattle.shore_calls.specs.StateChanges.{with_failure}
 use Rattle.shore_calls.specs.States.{cost_of_log}
 use Rattle.shore_core.specs.Cores.{IsIn, IsSafe, waiting_of}
 use Rattle.shore_world.specs.declared.event.Event.TheVariants.{ForceStage}

@@ -3,7 +3,7 @@ use Rattle.shore_heap.specs.Heaps as heaps
 use Rattle.shore_world.specs.declared.event.Event.TheVariants as event
 use Rattle.shore_world.proofs.CallLemmas.{call_moves, flush_moves, resume_moves}
 use Rattle.shore_world.proofs.DumpLemmas.{never_true}
-use Rattle.shore_world.proofs.RunLemmas.{call_is_no_flush, failed_asks_nothing, failed_says_nothing, flush_asks_nothing, flush_faults, flush_says_nothing, log_cause, no_force, open_is_no_flush, open_is_no_stage, resume_is_no_flush, same_volume, stage_is_no_flush, stage_is_no_open}
+use Rattle.shore_world.proofs.RunLemmas.{call_is_no_flush, flush_asks_nothing, flush_faults, flush_says_nothing, log_cause, no_force, open_is_no_flush, open_is_no_stage, resume_is_no_flush, same_volume, stage_is_no_flush, stage_is_no_open}
 use Rattle.shore_world.proofs.WorldLemmas.{failed_runs}
 use Rattle.shore_world.specs.Worlds.{failed_in}
 use Rattle.shore_world.proofs.world.World.step.Goals as goal
@@ -12,19 +12,17 @@ pub returns-in-Call : goal.returns-in-Call
 returns-in-Call g c =
     let old = c.args.self.now in
     let e = c.call.ensures in
-    let served = rw c.in-Call.is at c.requires in
     rw c.in-Call.is (
-    no_force old _ _ _ tt refl refl (call_moves old _ _ _ _ served e.volume.geometry refl e.step e.any_moment e.still e.durable) e.volume
+    no_force old _ _ _ tt refl refl (call_moves old _ _ _ _ e.volume.geometry refl e.step e.any_moment e.still e.durable) e.volume
     (λ is. absurd (call_is_no_flush (event.Call c.in-Call.session c.in-Call.call) tt is)) e.damaged e.forced e.cause)
 
 pub returns-in-Resume : goal.returns-in-Resume
 returns-in-Resume g c =
     let old = c.args.self.now in
     let e = c.resume.ensures in
-    let served = rw c.in-Resume.is at c.requires in
     rw c.in-Resume.is (
-    no_force old _ _ _ tt refl refl (resume_moves old _ _ _ served (ap heaps.geometry_of e.heap) refl e.step e.heap e.durable) (same_volume _ _ e.heap)
-    (λ is. absurd (resume_is_no_flush c.in-Resume.session is)) (failed_says_nothing old (event.Resume c.in-Resume.session) _ e.refused) (failed_asks_nothing old c.resume.result e.refused) e.cause)
+    no_force old _ _ _ tt refl refl (resume_moves old _ _ _ e.volume.geometry refl e.step e.any_moment e.still e.durable) e.volume
+    (λ is. absurd (resume_is_no_flush c.in-Resume.session is)) e.damaged e.forced e.cause)
 
 pub returns-in-ForceStage : goal.returns-in-ForceStage
 returns-in-ForceStage g c =

@@ -1,0 +1,15 @@
+use Rattle.shore_calls.proofs.LocksKept.{answer_has_locks, call_keeps_locks}
+use Rattle.shore_calls.proofs.WrongWaits.{append_holds_all, append_keeps_all}
+use Rattle.shore_calls.proofs.locks.calls_take_and_keep_locks.Goals as goal
+
+pub returns-clause-has : goal.returns-clause-has
+returns-clause-has d g found es s new session c answer a k of h = answer_has_locks g found es s new k session c answer a of h
+
+pub returns-clause-keeps : goal.returns-clause-keeps
+returns-clause-keeps d g found es s new session c step u k h = call_keeps_locks g found es s new k session c step h u
+
+pub returns-clause-append : goal.returns-clause-append
+returns-clause-append d = append_keeps_all
+
+pub returns-clause-append_held : goal.returns-clause-append_held
+returns-clause-append_held d = append_holds_all

@@ -1,0 +1,109 @@
+-- How calls go on that wait, or that have a transaction.
+use Rattle.std.proofs.Common.{◌≡◌, inl, inr, ℕ, List, Result, false, refl, sym, subst, ◌∙◌}
+use Rattle.std.specs.Prelude.{not, ◌==◌}
+use Rattle.shore_types.specs.declared.faults.Fault.{Fault}
+use Rattle.shore_types.specs.declared.layout.Geometry.{Geometry}
+use Rattle.shore_types.specs.declared.locking.Granule.{Granule}
+use Rattle.shore_model.specs.declared.calls.Call.{Call}
+use Rattle.shore_model.specs.declared.log_records.LogRecord.{LogRecord}
+use Rattle.shore_disk.specs.declared.device.Disk as disk
+use Rattle.shore_log.specs.declared.tail.Tail as tail
+use Rattle.shore_locks.specs.Tables.{is_waiting}
+use Rattle.shore_recovery.specs.Recovery.{RecoveryState}
+use Rattle.shore_sessions.specs.Sessions.{SessionTxn}
+use Rattle.shore_sessions.specs.Views.{IsAmong}
+use Rattle.shore_control.proofs.Lists.{among_filtered}
+use Rattle.shore_calls.proofs.OneSessionStep.{none_early}
+use Rattle.shore_calls.proofs.SessionFailures.{IsHarmless, early_harmless}
+use Rattle.shore_calls.proofs.SessionResumes.{apart, woken}
+use Rattle.shore_calls.proofs.SessionsWaiting.{woken_waits}
+use Rattle.shore_calls.specs.StateChanges.{after_refusal, wait_refused}
+use Rattle.shore_calls.specs.CallSteps.{GoesOn, MayAsk, RefusesEarly, ResumesWait, CallStep, ResumeStep}
+use Rattle.shore_calls.specs.declared.step.Step.{Step}
+use Rattle.shore_calls.specs.SessionWaits.{IsCommitWait, IsLockWait, WaitsOfSessions}
+use Rattle.shore_calls.specs.States.{DoesNotWait, IsOfSession, State, Waiting}
+use Rattle.shore_calls.specs.declared.step.Wait.{Wait}
+use Rattle.shore_calls.specs.declared.step.Wait.TheVariants.{Durable, Lock}
+use Rattle.shore_control.specs.Calls.{is_commit, is_durable}
+use Rattle.shore_control.specs.declared.waits.WaitingCall.{WaitingCall}
+use Rattle.shore_core.specs.declared.core_calls.Core.{Core}
+use Rattle.shore_core.specs.Cores.{IsSafe, geometry_of}
+use Rattle.shore_core.specs.Replies.{AskedFor, Replied, as_step, once_noted}
+use Rattle.shore_core.proofs.Taking.{stays_after}
+
+durable_lock : (n : ℕ) (at : Granule) → ◌≡◌ {A = Wait} (Durable n) (Lock at) → ⊥
+durable_lock n at e = cc
+
+-- who waits for a record is a commit, and who waits for a lock another call
+pub commit_waits : (base : ℕ) (s : State) (w : Waiting) (n : ℕ) → WaitsOfSessions base s → IsAmong w s.waiting → w.wait ≡ Durable n → IsCommitWait base s w
+commit_waits base s w n waits m is = elim (waits.each w m) [ inl commit ↦ commit | inr lock ↦ absurd (durable_lock n lock.at (sym is ∙ lock.is)) ]
+
+pub lock_waits : (base : ℕ) (s : State) (w : Waiting) (at : Granule) → WaitsOfSessions base s → IsAmong w s.waiting → w.wait ≡ Lock at → IsLockWait s w
+lock_waits base s w at waits m is =
+    elim (waits.each w m) [
+      | inl commit ↦ absurd (durable_lock commit.number at (sym (subst (λ (x : Waiting). x.wait ≡ Durable commit.number) (sym commit.is) refl) ∙ is))
+      | inr lock ↦ lock
+    ]
+
+-- who waits for a lock is no commit
+pub asks_lock : (w : WaitingCall) (at : Granule) → w.wait ≡ Lock at → is_commit w ≡ false
+asks_lock w at is = subst (λ (x : Wait). is_durable x ≡ false) (sym is) refl
+
+-- ---- a session's call that waits no more
+
+pub safe_woken : (g : Geometry) (s : State) (safe : IsSafe g s) (session : ℕ) (a : SessionTxn) → IsOfSession s session a → is_waiting a.txn s.locks.requests ≡ false → IsSafe g (wait_refused s session)
+safe_woken g s safe session a its quiet =
+    let k = safe.after in
+    record {
+      found = safe.found;
+      entries = safe.entries;
+      after = record {
+        sessions = woken g safe.found safe.entries s k.sessions a session its quiet;
+        waits = woken_waits safe.found safe.entries s k.sessions k.waits session (λ works b m of. apart g safe.found safe.entries s k.sessions b a m its.0 (its.1 ∙ sym of));
+        forced = record { least = k.forced.least; most = k.forced.most; acknowledged_kept = k.forced.acknowledged_kept };
+        few = k.few;
+      };
+      asks = λ w at m. safe.asks w at (among_filtered (λ (v : Waiting). not (v.session == session)) w s.waiting m).0;
+      roomy = record { pages = safe.roomy.pages; log = safe.roomy.log };
+      inside = safe.inside;
+    }
+
+-- ---- a call of a transaction, from what refuses it before its locks on
+
+-- a refusal before them is noted nowhere
+pub early_plain : (g : Geometry) (c : Call) (f : Fault) (s : State) → RefusesEarly g c f → after_refusal f s ≡ s
+early_plain g c f s refuses =
+    stays_after s f (λ device. subst IsHarmless device (early_harmless g c f refuses)) (λ d offset damaged. subst IsHarmless damaged (early_harmless g c f refuses))
+
+module _ {T V : Type 0} {G : tail.Ghosts T} {H : disk.Ghosts V} (old new : Core T V G H) (front : List ℕ) (before : List LogRecord) (s : State) (store : RecoveryState) (a : SessionTxn) (r : Result Step Fault) where
+  -- when it is made
+  pub asked_replies : (session : ℕ) (c : Call) → s.failed ≡ false → DoesNotWait s session → IsOfSession s session a → AskedFor a c r old new front before s store
+      → Replied session c r old new front before s store
+  asked_replies session c works idle its asked = record {
+    later = asked.later;
+    replies = elim asked.asks [
+      | inl early ↦
+          subst (λ x. CallStep (geometry_of old) s session c (as_step x) (once_noted x asked.later)) (sym early.2)
+          (inr (inr (inr (inr (inr (works, idle, (a, its, inl (early.0, early.1, refl, early_plain (geometry_of old) c early.0 asked.later early.1 ∙ early.3))))))))
+      | inr goes ↦ inr (inr (inr (inr (inr (works, idle, (a, its, inr (inl goes)))))))
+    ];
+    comes = asked.comes;
+  }
+
+  -- .. and when it goes on behind a wait
+  pub asked_resumes : (session : ℕ) (w : Waiting) (at : Granule) → s.failed ≡ false → IsAmong w s.waiting → w.session ≡ session → w.wait ≡ Lock at → MayAsk (geometry_of old) w.call
+      → IsOfSession s session a → is_waiting a.txn s.locks.requests ≡ false → (asked : AskedFor a w.call r old new front before (wait_refused s session) store)
+      → ResumeStep (geometry_of old) s session (as_step r) (once_noted r asked.later)
+  asked_resumes session w at works m same waits may its quiet asked =
+      let goes : GoesOn (geometry_of old) (wait_refused s session) a w.call (as_step r) (once_noted r asked.later) =
+      elim asked.asks [ inl early ↦ absurd (none_early (geometry_of old) w.call early.0 may early.1) | inr goes ↦ goes.1 ] in
+      inr (
+        w,
+        m,
+        same,
+        inr (
+          works,
+          subst (λ (x : Wait). ResumesWait (geometry_of old) s w x (as_step r) (once_noted r asked.later)) (sym waits)
+              (a, (its.0, its.1 ∙ sym same), inr (quiet, subst (λ n. GoesOn (geometry_of old) (wait_refused s n) a w.call (as_step r) (once_noted r asked.later)) (sym same) goes)),
+        ),
+      )

@@ -1,0 +1,58 @@
+-- What a commit leaves of what is reserved and of the other transactions, and what one leaves that lacks memory.
+use Rattle.std.proofs.Common.{◌≡◌, ◌≤◌, ◌<◌, ◌+◌, ◌++◌, ◌∷◌, ℕ, List, refl, sym, ap, subst, ◌∙◌, arith}
+use Rattle.shore_types.specs.declared.layout.TheConstants.{ENDING_COST}
+use Rattle.shore_model.specs.declared.log_records.LogRecord.{LogRecord}
+use Rattle.shore_disk.specs.declared.device.Disk as disk
+use Rattle.shore_log.specs.declared.tail.Tail as tail
+use Rattle.shore_heap.specs.declared.heap.Heap.{Heap}
+use Rattle.shore_heap.specs.Heaps.{Shows}
+use Rattle.shore_recovery.specs.Recovery.{RecoveryState}
+use Rattle.shore_room.specs.LogRooms.{owed, owed_by_all}
+use Rattle.shore_sessions.specs.Views.{IsAmong}
+use Rattle.shore_calls.specs.States.{State, page_slots}
+use Rattle.shore_txn.specs.ActiveTxns.{OneLeaves, session_txns}
+use Rattle.shore_txn.specs.Transactions.{kept_in, room_in, txns_in}
+use Rattle.shore_txn.specs.Txns.{as_session_txn, last_of}
+use Rattle.shore_txn.specs.declared.transactions.Transactions.{Transactions}
+use Rattle.shore_txn.specs.declared.txn.Txn.{Txn}
+use Rattle.shore_txn.specs.declared.undo.UndoEntry.{UndoEntry}
+use Rattle.shore_txn.proofs.OneOfMany.{among_more, map_join, map_parts, owed_parts}
+use Rattle.shore_control.specs.Standing.{HasControl}
+use Rattle.shore_core.specs.declared.core_calls.Core.{Core}
+use Rattle.shore_core.specs.Cores.{ComesTo, IsIn, IsOver, control_of, durable_of, first_of, has_failed, heap_of, txns_of, waiting_of}
+use Rattle.shore_core.proofs.Coming.{comes_same, over_as}
+
+module _ (old new : Transactions) {session : ℕ} {changes : List UndoEntry} (left : OneLeaves session changes (txns_in old) (txns_in new)) where
+  owed_without : owed_by_all (session_txns (left.newer ++ left.one ∷ left.older)) ≡ owed_by_all (session_txns (left.newer ++ left.older)) + owed (as_session_txn left.one)
+  owed_without =
+      ap owed_by_all (map_parts as_session_txn left.newer left.older left.one) ∙ owed_parts (session_txns left.newer) (session_txns left.older) (as_session_txn left.one)
+      ∙ ap (λ undos. owed_by_all undos + owed (as_session_txn left.one)) (sym (map_join as_session_txn left.newer left.older))
+
+  -- its ending is reserved no more
+  pub reserved_left : (room_in new).reserved + ENDING_COST ≤ (room_in old).reserved
+  reserved_left =
+      let was : (room_in old).reserved ≡ owed_by_all (session_txns (left.newer ++ left.one ∷ left.older)) = old.sum ∙ ap (λ ts. owed_by_all (session_txns ts)) left.was in
+      let is : (room_in new).reserved ≡ owed_by_all (session_txns (left.newer ++ left.older)) = new.sum ∙ ap (λ ts. owed_by_all (session_txns ts)) left.is in
+      omega (arith, was, is, owed_without)
+
+  -- a record more is logged, and all others are earlier still
+  pub earlier_left : (next : ℕ) → ((t : Txn) → IsAmong t (txns_in old) → last_of t < next) → (t : Txn) → IsAmong t (txns_in new) → last_of t < next + 1
+  earlier_left next earlier t m =
+      let before = earlier t (subst (IsAmong t) (sym left.was) (among_more t left.one left.newer left.older (subst (IsAmong t) left.is m))) in
+      omega (arith, before)
+
+module _ {T V : Type 0} {G : tail.Ghosts T} {H : disk.Ghosts V} (old new : Core T V G H) (front : List ℕ) (disk : ℕ → List ℕ) (before : List LogRecord) (s : State) (store : RecoveryState) where
+  -- nothing but memory has changed
+  pub comes_lacking : heap_of new ≡ heap_of old → first_of new ≡ first_of old → waiting_of new ≡ waiting_of old → durable_of new ≡ durable_of old → has_failed new ≡ has_failed old
+      → txns_of new ≡ txns_of old → HasControl (control_of new) s → IsIn front disk before old s → IsOver disk old s store → ComesTo new front before store s
+  comes_lacking heap first waiting durable failed txns stands is over =
+      comes_same new front disk before s store
+      (record {
+        beside = record {
+          first = first ∙ is.beside.first;
+          parts = record { stands = stands; log = is.beside.parts.log ∙ ap (λ l. before ++ l) (sym waiting); durable_is = is.beside.parts.durable_is ∙ sym durable; failed_is = is.beside.parts.failed_is ∙ sym failed };
+        };
+        pages = λ works. subst (λ x. Shows (kept_in x) (heap_of new) front disk (page_slots s)) (sym txns)
+            (subst (λ (h : Heap V H). Shows (kept_in (txns_of old)) h front disk (page_slots s)) (sym heap) (is.pages works));
+      })
+      (over_as old new disk s s store heap refl refl refl over)

@@ -1,0 +1,156 @@
+-- A state is safe behind a lock that was asked for, if it was before.
+use Rattle.std.proofs.Common.{◌≡◌, ◌≢◌, inl, inr, ℕ, ◌++◌, List, Result, Ok, Err, false, refl, sym, ap, subst, ◌∙◌}
+use Rattle.shore_disk.specs.declared.device.Disk as disk
+use Rattle.shore_disk.specs.Device.{size}
+use Rattle.shore_log.specs.declared.tail.Tail as tail
+use Rattle.shore_types.specs.declared.faults.Fault.{Fault}
+use Rattle.shore_types.specs.declared.ids.Rid.{Rid}
+use Rattle.shore_types.specs.declared.layout.Geometry.{Geometry}
+use Rattle.shore_types.specs.declared.locking.Granule.{Granule}
+use Rattle.shore_types.specs.declared.locking.Granule.TheVariants.{Record}
+use Rattle.shore_types.specs.declared.locking.Mode.TheVariants.{EX}
+use Rattle.shore_model.specs.Locks.{MayWrite}
+use Rattle.shore_model.specs.declared.calls.Answer.TheVariants.{Deleted}
+use Rattle.shore_model.specs.declared.calls.Call.{Call}
+use Rattle.shore_model.specs.declared.calls.Call.TheVariants as call
+use Rattle.shore_model.specs.declared.histories.Entry.{Entry}
+use Rattle.shore_model.specs.declared.holds.Hold.{Hold}
+use Rattle.shore_model.specs.declared.log_records.LogRecord.{LogRecord}
+use Rattle.shore_model.specs.declared.requests.Request.{Request}
+use Rattle.shore_locks.specs.Tables.{is_waiting}
+use Rattle.shore_path.specs.Acquires.{IsReached}
+use Rattle.shore_path.specs.declared.answers.Acquired.{Acquired}
+use Rattle.shore_path.specs.declared.answers.Acquired.TheVariants as acquire
+use Rattle.shore_path.specs.declared.answers.OnConflict.TheVariants.{Refuse}
+use Rattle.shore_held.specs.CallLocks.{Asked}
+use Rattle.shore_held.proofs.Held.{locked_of}
+use Rattle.shore_room.specs.Claims.{NoOthers}
+use Rattle.shore_sessions.proofs.GranuleLocks.{permitted}
+use Rattle.shore_sessions.specs.GranuleLocks.{HasLock}
+use Rattle.shore_sessions.specs.Sessions.{SessionTxn}
+use Rattle.shore_sessions.specs.Views.{IsAmong}
+use Rattle.shore_heap.specs.Heaps as heaps
+use Rattle.shore_heap.specs.Heaps.{Shows}
+use Rattle.shore_recovery.specs.Recovery.{RecoveryState}
+use Rattle.shore_txn.specs.Transactions.{kept_in}
+use Rattle.shore_calls.proofs.TakenLocks.{leaves, locked_state}
+use Rattle.shore_calls.specs.CallHistories.{IsForced, IsRoomyState}
+use Rattle.shore_calls.specs.CallSteps.{behind_lock, behind_place, lock_outcome, on_conflict_of, place_outcome, with_requests}
+use Rattle.shore_calls.specs.LockedStates.{IsSessionsState}
+use Rattle.shore_calls.specs.SessionWaits.{IsCommitWait, IsLockWait, WaitsOfSessions}
+use Rattle.shore_calls.specs.States.{State, Waiting, page_slots}
+use Rattle.shore_control.proofs.Alone.{writer_alone}
+use Rattle.shore_control.specs.Standing.{HasControl}
+use Rattle.shore_core.specs.declared.core_calls.Core.{Core}
+use Rattle.shore_core.specs.Cores.{ComesTo, IsSafe, control_of, heap_of, txns_of}
+use Rattle.shore_core.specs.Replies.{Keeps, OnlyLocks, acquire_as}
+use Rattle.shore_core.proofs.Coming.{over_as}
+
+-- an answer that is one of a call which may not wait
+pub never_waits : (answer : Result Acquired Fault) (r : Result (Unit {0}) Fault) → answer ≡ acquire_as r → (at : Granule) → answer ≢ Ok (acquire.Waiting at)
+never_waits answer (Ok done) is at waits = clash (sym is ∙ waits)
+  where
+    clash : ◌≡◌ {A = Result Acquired Fault} (Ok acquire.Done) (Ok (acquire.Waiting at)) → ⊥
+    clash e = cc
+never_waits answer (Err f) is at waits = clash (sym is ∙ waits)
+  where
+    clash : ◌≡◌ {A = Result Acquired Fault} (Err f) (Ok (acquire.Waiting at)) → ⊥
+    clash e = cc
+
+-- with other requests in the table all but its locks is the same
+module _ (s : State) (rs : List Request) where
+  commit_wait : (base : ℕ) (w : Waiting) → IsCommitWait base s w → IsCommitWait base (with_requests s rs) w
+  commit_wait base w h = record { number = h.number; txn = h.txn; is = h.is; committing = h.committing; some = h.some; there = h.there; decided = h.decided }
+
+  lock_wait : (w : Waiting) → IsLockWait s w → IsLockWait (with_requests s rs) w
+  lock_wait w h = record { txn = h.txn; active = h.active; of = h.of; at = h.at; is = h.is; lock = h.lock; asked = h.asked }
+
+  waits_behind : (base : ℕ) → WaitsOfSessions base s → WaitsOfSessions base (with_requests s rs)
+  waits_behind base h = record {
+    each = λ w m. elim (h.each w m) [ inl commit ↦ inl (commit_wait base w commit) | inr lock ↦ inr (lock_wait w lock) ];
+    once = h.once;
+    all = h.all;
+  }
+
+  forced_behind : (base : ℕ) (es : List Entry) → IsForced base es s → IsForced base es (with_requests s rs)
+  forced_behind base es h = record { least = h.least; most = h.most; acknowledged_kept = h.acknowledged_kept }
+
+  roomy_behind : IsRoomyState s → IsRoomyState (with_requests s rs)
+  roomy_behind h = record { pages = h.pages; log = h.log }
+
+  pub safe_behind : (g : Geometry) (safe : IsSafe g s) → IsSessionsState safe.found safe.entries (with_requests s rs) → IsSafe g (with_requests s rs)
+  safe_behind g safe sessions = record {
+    found = safe.found;
+    entries = safe.entries;
+    after = record {
+      sessions = sessions;
+      waits = waits_behind _ safe.after.waits;
+      forced = forced_behind _ safe.entries safe.after.forced;
+      few = safe.after.few;
+    };
+    asks = safe.asks;
+    roomy = roomy_behind safe.roomy;
+    inside = safe.inside;
+  }
+
+module _ (g : Geometry) (s : State) (safe : IsSafe g s) (a : SessionTxn) (mem : IsAmong a s.sessions.active) (quiet : is_waiting a.txn s.locks.requests ≡ false) where
+  -- behind a call's lock, unless the call waits for it
+  pub safe_behind_lock : (c : Call) (lock : Asked) → ((at : Granule) → (lock_outcome s a c lock).answer ≢ Ok (acquire.Waiting at)) → IsSafe g (behind_lock s a c lock)
+  safe_behind_lock c lock never =
+      safe_behind s (lock_outcome s a c lock).requests g safe
+      (locked_state safe.found safe.entries s safe.after.sessions a mem quiet (on_conflict_of c) lock.granule lock.mode never)
+
+  -- .. and behind that of an insert's place
+  pub safe_behind_place : (id : Rid) → ((at : Granule) → (place_outcome s a id).answer ≢ Ok (acquire.Waiting at)) → IsSafe g (behind_place s a id)
+  safe_behind_place id never =
+      safe_behind s (place_outcome s a id).requests g safe (locked_state safe.found safe.entries s safe.after.sessions a mem quiet Refuse (Record id) EX never)
+
+  -- .. which is reached
+  pub place_reached : (id : Rid) → (place_outcome s a id).answer ≡ Ok acquire.Done → IsReached (place_outcome s a id).requests a.txn (Record id) EX
+  place_reached id done = (leaves safe.found safe.entries s safe.after.sessions a mem quiet Refuse (Record id) EX).done done
+
+-- a core has asked for a lock, and all but its locks is the same
+module _ {T V : Type 0} {G : tail.Ghosts T} {H : disk.Ghosts V} (mid new : Core T V G H) where
+  pub comes_locked : OnlyLocks mid new → (front : List ℕ) (before : List LogRecord) (s : State) (store : RecoveryState) (rs : List Request)
+      → (HasControl (control_of mid) s → HasControl (control_of new) (with_requests s rs)) → ComesTo mid front before store s → ComesTo new front before store (with_requests s rs)
+  comes_locked same front before s store rs stands comes =
+      let was = comes.is_in.beside in
+      let shows = λ (works : s.failed ≡ false). subst (λ h. Shows (kept_in (txns_of mid)) h front comes.left (page_slots s)) (sym same.heap) (comes.is_in.pages works) in
+      record {
+        left = comes.left;
+        is_in = record {
+          beside = record {
+            first = ap G.first same.tail ∙ was.first;
+            parts = record {
+              stands = stands was.parts.stands;
+              log = was.parts.log ∙ ap (λ t. before ++ G.records t) (sym same.tail);
+              durable_is = was.parts.durable_is ∙ sym same.durable;
+              failed_is = was.parts.failed_is ∙ sym same.failed;
+            };
+          };
+          pages = λ works. subst (λ t. Shows (kept_in t) (heap_of new) front comes.left (page_slots s)) (sym same.txns) (shows works);
+        };
+        works = comes.works;
+        after = comes.after;
+        work = comes.work;
+        over = over_as mid new comes.left s (with_requests s rs) comes.after same.heap refl refl refl comes.over;
+      }
+
+  pub locks_keep : OnlyLocks mid new → Keeps mid new
+  locks_keep same = record {
+    volume = record {
+      geometry = ap (λ h. heaps.geometry_of h) same.heap;
+      honest = ap (λ h. heaps.honesty_of h) same.heap;
+      size = ap (λ h. size (heaps.history_of h)) same.heap;
+    };
+    durable = same.durable;
+    failed = same.failed;
+    first = ap G.first same.tail;
+  }
+
+-- who has a record locked for writing is alone there
+pub alone_in : (g : Geometry) (s : State) → IsSafe g s → (t : ℕ) (id : Rid) → IsReached s.locks.requests t (Record id) EX → NoOthers s.sessions.active t id
+alone_in g s safe t id reached =
+    let may : MayWrite s.sessions.held t id = permitted s.sessions.held t (call.Delete id) Deleted
+    (subst (λ (held : List Hold). HasLock held t (Record id) EX) (sym safe.after.sessions.locks.held) (locked_of s.locks.requests t (Record id) EX reached)) in
+    writer_alone _ safe.entries s.sessions safe.after.sessions.sound t id may

@@ -1,0 +1,135 @@
+use Rattle.std.proofs.Common.{◌≡◌, ◌<◌, ◌≤◌, ◌+◌, inl, inr, Ok, Err, IfErr, true, false, length, refl, sym, ap, subst, ◌∙◌}
+use Rattle.std.specs.Prelude.{IsSome}
+use Rattle.shore_types.specs.declared.layout.TheConstants.{LAST_OPENED}
+use Rattle.shore_sessions.specs.Views.{IsAmong}
+use Rattle.shore_heap.specs.Heaps as heaps
+use Rattle.shore_locks.specs.Tables.{Table, is_waiting}
+use Rattle.shore_held.specs.CallLocks.{asked_by}
+use Rattle.shore_calls.specs.StateChanges.{after_refusal, wait_refused}
+use Rattle.shore_calls.specs.CallSteps.{ResumesWait, ResumeStep}
+use Rattle.shore_calls.specs.States.{State, Waiting}
+use Rattle.shore_calls.specs.declared.step.Step.{Step}
+use Rattle.shore_calls.specs.declared.step.Step.TheVariants.{Waits}
+use Rattle.shore_calls.specs.declared.step.Wait.{Wait}
+use Rattle.shore_calls.specs.declared.step.Wait.TheVariants.{Lock}
+use Rattle.shore_txn.specs.Transactions as table
+use Rattle.shore_txn.specs.Transactions.{kept_in, room_in}
+use Rattle.shore_txn.specs.declared.transactions.Transactions.{Transactions}
+use Rattle.shore_control.proofs.WaitSteps.{call_waits}
+use Rattle.shore_control.specs.Calls.{as_waiting}
+use Rattle.shore_txn.specs.Txns as txns
+use Rattle.shore_txn.specs.declared.txn.Txn.{Txn}
+use Rattle.shore_core.specs.Cores.{first_of, geometry_of, last_of, locks_of, waiting_of, waits_of}
+use Rattle.shore_core.specs.Replies.{IsEarned, NeedsForce, ReadsWaiting, fault_at}
+use Rattle.shore_core.proofs.Coming.{comes_same, over_as}
+use Rattle.shore_core.proofs.Going.{asked_resumes, asks_lock, lock_waits, safe_woken}
+use Rattle.shore_core.proofs.Moving.{in_moved}
+use Rattle.shore_core.proofs.Keeping.{leaves_then, nothing_leaves}
+use Rattle.shore_core.proofs.core_calls.Core.resume_call.Goals as goal
+use Rattle.shore_core.proofs.core_calls.Core.resume_call.Goals.{then-is_waiting-via-then-is_waiting, then-is_waiting-via-else-is_waiting+then-not-has_txn}
+
+pub returns-then-is_waiting-clause-step : goal.returns-then-is_waiting-clause-step
+returns-then-is_waiting-clause-step g c running front disk before s store is safe over w m same waits a its number =
+    let old = c.args.self.now in
+    let was = is.beside.parts.stands in
+    let works = is.beside.parts.failed_is ∙ running in
+    let held : is_waiting a.txn s.locks.requests ≡ is_waiting c.args.txn (locks_of old).requests =
+    ap (λ t. is_waiting t s.locks.requests) number ∙ ap (λ (t : Table). is_waiting c.args.txn t.requests) was.locks in
+    let blocked : is_waiting a.txn s.locks.requests ≡ true = elim c.then-is_waiting.branch [
+      | then-is_waiting-via-then-is_waiting b ↦ held ∙ sym b.if-is_waiting.ensures
+      | then-is_waiting-via-else-is_waiting+then-not-has_txn b ↦ absurd (b.if-not-has_txn.ensures.none refl a (subst (IsAmong a) was.txns.active its.0) its.1)
+    ] in
+    let at = c.args.granule in
+    record {
+      later = s;
+      moves = inr (w, m, same, inr (works, subst (λ (x : Wait). ResumesWait (geometry_of old) s w x (Waits (Lock at)) s) (sym waits) (a, (its.0, its.1 ∙ sym same), inl (blocked, refl, refl))));
+      comes = comes_same old front disk before s store is over;
+    }
+
+pub returns-then-is_waiting-clause-any_moment : goal.returns-then-is_waiting-clause-any_moment
+returns-then-is_waiting-clause-any_moment g c = nothing_leaves c.args.self.now
+
+pub invariant_of-self : goal.invariant_of-self
+invariant_of-self g c =
+    let old = c.args.self.now in
+    let same = sym c.take_wait.ensures.txns in
+    let next = first_of old + length (waiting_of old) in
+    record {
+      some_number = old.some_number;
+      forced = old.forced;
+      numbers = subst (λ x. next + (room_in x).reserved ≤ LAST_OPENED) same old.numbers;
+      earlier = subst (λ x. (t : Txn) → IsAmong t (table.txns_in x) → txns.last_of t < next) same old.earlier;
+    }
+
+pub returns-in_default-clause-step : goal.returns-in_default-clause-step
+returns-in_default-clause-step g c running front disk before s store is safe over w m same waits a its number =
+    absurd ((c.in_default.ensures.same s is.beside.parts.stands).0 w m same)
+
+pub returns-in_default-clause-any_moment : goal.returns-in_default-clause-any_moment
+returns-in_default-clause-any_moment g c = nothing_leaves c.args.self.now
+
+pub returns-in-Ok-clause-step : goal.returns-in-Ok-clause-step
+returns-in-Ok-clause-step g c running front disk before s store is safe over w m same waits a its number =
+    let old = c.args.self.now in
+    let was = is.beside.parts.stands in
+    let works = is.beside.parts.failed_is ∙ running in
+    let v = c.in-Some.waiting in
+    let there : IsAmong (as_waiting v) s.waiting = call_waits (waits_of old) s was.waits v c.in-Some.ensures.some.0 in
+    let one : w ≡ as_waiting v = safe.after.waits.once w (as_waiting v) m there (same ∙ sym c.in-Some.ensures.some.1) in
+    let waited : v.wait ≡ Lock c.args.granule = sym (ap (λ (x : Waiting). x.wait) one) ∙ waits in
+    let lock = lock_waits _ s (as_waiting v) c.args.granule safe.after.waits there waited in
+    let asks : IsSome (asked_by v.call) = subst IsSome (sym lock.asked) refl in
+    let quiet : is_waiting a.txn s.locks.requests ≡ false =
+    ap (λ t. is_waiting t s.locks.requests) number ∙ ap (λ (t : Table). is_waiting c.args.txn t.requests) was.locks ∙ sym c.if-is_waiting.ensures in
+    let woken : State = wait_refused s c.args.session in
+    let stands = c.in-Some.ensures.stands s was (λ works. asks_lock v c.args.granule waited) in
+    let r = c.in-Ok.ensures.asked asks running front disk before woken store
+    (in_moved old _ front disk before s woken store refl refl refl refl refl (λ p. ap (λ (t : Transactions). kept_in t p) c.in-Some.ensures.txns) stands refl refl refl (λ p. refl) is)
+    (safe_woken (geometry_of old) s safe c.args.session a its quiet) (over_as old _ disk s woken store refl refl refl refl over) a its number in
+    record {
+      later = r.later;
+      moves = asked_resumes _ _ front before s store a (Ok c.in-Ok.step) c.args.session (as_waiting v) c.args.granule works there c.in-Some.ensures.some.1 waited
+          (safe.asks (as_waiting v) c.args.granule there waited) its quiet r;
+      comes = r.comes;
+    }
+
+pub returns-in-Err-clause-step : goal.returns-in-Err-clause-step
+returns-in-Err-clause-step g c running front disk before s store is safe over w m same waits a its number =
+    let old = c.args.self.now in
+    let was = is.beside.parts.stands in
+    let works = is.beside.parts.failed_is ∙ running in
+    let v = c.in-Some.waiting in
+    let there : IsAmong (as_waiting v) s.waiting = call_waits (waits_of old) s was.waits v c.in-Some.ensures.some.0 in
+    let one : w ≡ as_waiting v = safe.after.waits.once w (as_waiting v) m there (same ∙ sym c.in-Some.ensures.some.1) in
+    let waited : v.wait ≡ Lock c.args.granule = sym (ap (λ (x : Waiting). x.wait) one) ∙ waits in
+    let lock = lock_waits _ s (as_waiting v) c.args.granule safe.after.waits there waited in
+    let asks : IsSome (asked_by v.call) = subst IsSome (sym lock.asked) refl in
+    let quiet : is_waiting a.txn s.locks.requests ≡ false =
+    ap (λ t. is_waiting t s.locks.requests) number ∙ ap (λ (t : Table). is_waiting c.args.txn t.requests) was.locks ∙ sym c.if-is_waiting.ensures in
+    let woken : State = wait_refused s c.args.session in
+    let stands = c.in-Some.ensures.stands s was (λ works. asks_lock v c.args.granule waited) in
+    let r = c.in-Err.ensures.asked asks running front disk before woken store
+    (in_moved old _ front disk before s woken store refl refl refl refl refl (λ p. ap (λ (t : Transactions). kept_in t p) c.in-Some.ensures.txns) stands refl refl refl (λ p. refl) is)
+    (safe_woken (geometry_of old) s safe c.args.session a its quiet) (over_as old _ disk s woken store refl refl refl refl over) a its number in
+    record {
+      later = after_refusal c.in-Err.fault r.later;
+      moves = subst (λ (x : Step). ResumeStep (geometry_of old) s c.args.session x (after_refusal c.in-Err.fault r.later)) (sym c.refuse.ensures.refused)
+          (asked_resumes _ _ front before s store a (Err c.in-Err.fault) c.args.session (as_waiting v) c.args.granule works there c.in-Some.ensures.some.1 waited
+          (safe.asks (as_waiting v) c.args.granule there waited) its quiet r);
+      comes = c.refuse.ensures.left front before r.later store r.comes;
+    }
+
+pub returns-in-Err-clause-any_moment : goal.returns-in-Err-clause-any_moment
+returns-in-Err-clause-any_moment g c = leaves_then c.args.self.now c.ask.new.self c.refuse.new.self c.ask.ensures.any_moment (ap heaps.history_of c.refuse.ensures.heap)
+
+pub returns-in-Err-clause-damaged : goal.returns-in-Err-clause-damaged
+returns-in-Err-clause-damaged g c front disk holds =
+    let old = c.args.self.now in
+    let v = c.in-Some.waiting in
+    subst (λ (x : Step). IfErr (fault_at x) (IsEarned (geometry_of old) disk (last_of old) (ReadsWaiting old c.args.session))) (sym c.refuse.ensures.refused)
+    (λ d offset is.
+    let why = c.in-Err.ensures.damaged front disk holds d offset is in
+    let page = why.1 in (why.0, (page.0, (v, c.in-Some.ensures.some.0, c.in-Some.ensures.some.1, page.1), page.2, page.3, page.4)))
+
+pub returns-in-Err-clause-forced : goal.returns-in-Err-clause-forced
+returns-in-Err-clause-forced g c = subst (λ (x : Step). NeedsForce c.args.self.now (fault_at x)) (sym c.refuse.ensures.refused) c.in-Err.ensures.forced

@@ -1,0 +1,33 @@
+//! Places that a transaction could lock.
+ghost use Rattle.shore_types.specs.declared.locking.Granule.TheVariants.{Page};
+ghost use Rattle.shore_types.specs.declared.locking.Mode.TheVariants.{IX};
+ghost use Rattle.shore_path.specs.Judging.{CanLockNow};
+ghost use Rattle.shore_core.specs.Replies.{can_lock};
+
+use shore_heap::Places;
+use shore_locks::LockTable;
+use shore_path::laws::records_need_their_page;
+use shore_path::{may_lock, may_lock_in_page};
+use shore_types::{Granule, Mode, PageId, Rid, TxnId};
+
+/// The places that a transaction could lock now.
+#[derive(Drop)]
+pub(crate) struct Lockable<'a> {
+    pub(crate) locks: &'a LockTable,
+    pub(crate) txn: TxnId,
+}
+
+impl<'a> Places for Lockable<'a> {
+    ghost MayTake = { λ l id. can_lock l.locks.now.requests l.txn id };
+
+    ghost MayUse = { λ l page. CanLockNow l.locks.now.requests l.txn (Page page) IX };
+
+    fn may_use(&self, page: &PageId) -> bool {
+        records_need_their_page();
+        may_lock(self.locks, self.txn, Granule::Page(*page), Mode::IX)
+    }
+
+    fn may_take(&self, id: &Rid) -> bool {
+        may_lock_in_page(self.locks, self.txn, id)
+    }
+}

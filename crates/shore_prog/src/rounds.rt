@@ -1,0 +1,211 @@
+//! Rounds: after each line the calls that wait go on, session by session, until nothing changes.
+use crate::command::{Command, parse};
+use crate::forcing::force;
+use crate::manager::ScriptWorld;
+use crate::render;
+use crate::stop::Stop;
+use shore_calls::Wait;
+use shore_types::{Fault, SessionId};
+use shore_world::{Event, Step};
+use std::alloc::{AllocError, Global};
+use std::io::Write;
+
+/// A session's line whose call waits.
+#[derive(Drop)]
+struct WaitingLine {
+    session: SessionId,
+    wait: Wait,
+    /// The text of a line that waits for a lock: its call may need a force when it goes on, and is made again then.
+    line: Vec<u8>,
+}
+
+/// The lines whose calls wait, by session.
+#[derive(Drop)]
+pub struct WaitingLines {
+    lines: Vec<WaitingLine>,
+}
+
+impl WaitingLines {
+    pub fn new(alloc: Global) -> WaitingLines {
+        WaitingLines {
+            lines: Vec::new(alloc),
+        }
+    }
+
+    /// Takes the memory for a line more.
+    pub fn reserve(&mut self) -> Result<(), AllocError> {
+        self.lines.reserve(1)?;
+        Ok(())
+    }
+
+    /// The call of a line waits from now on.
+    pub fn add(
+        &mut self,
+        alloc: Global,
+        session: SessionId,
+        wait: Wait,
+        text: &[u8],
+    ) -> Result<(), AllocError> {
+        let mut line = Vec::new(alloc);
+        if matches!(wait, Wait::Lock(_)) {
+            line.extend_from_slice(text)?;
+        }
+        let at = self
+            .lines
+            .iter()
+            .position(|other| session.0 < other.session.0)
+            .unwrap_or(self.lines.len());
+        self.lines.insert(
+            at,
+            WaitingLine {
+                session,
+                wait,
+                line,
+            },
+        )?;
+        Ok(())
+    }
+
+    // The lowest session whose call waits for a number that is not durable.
+    fn to_be_forced(&self, world: &ScriptWorld) -> Option<SessionId> {
+        let durable = world.durable();
+        let line = self.lines.iter().find(|line| match line.wait {
+            Wait::Durable(number) => durable < number,
+            Wait::Lock(_) => false,
+        })?;
+        Some(line.session)
+    }
+}
+
+/// Forces the log if a call waits for it, and goes on with each call that waits, the lowest session first; again and again until a round changes
+/// nothing. If the device fails in the force, that is the answer of the lowest session that waits for it, and all others are refused. A force that was
+/// refused for another cause has changed nothing: the calls wait on, and the next line tries again.
+pub fn go_round<W: Write>(
+    alloc: Global,
+    world: &mut ScriptWorld,
+    waiting: &mut WaitingLines,
+    out: &mut W,
+) -> Result<(), Stop> {
+    for _ in 0..u64::MAX {
+        if let Some(session) = waiting.to_be_forced(world) {
+            match force(alloc, world) {
+                Ok(()) | Err(Fault::Failed) => {}
+                Err(Fault::Device) => give_up(alloc, world, waiting, session, out)?,
+                Err(_) => return Ok(()),
+            }
+        }
+        if !resume_all(alloc, world, waiting, out)? {
+            return Ok(());
+        }
+    }
+    Ok(())
+}
+
+// The call of a session that waits is answered by the failure of the device, and waits no more.
+fn give_up<W: Write>(
+    alloc: Global,
+    world: &mut ScriptWorld,
+    waiting: &mut WaitingLines,
+    session: SessionId,
+    out: &mut W,
+) -> Result<(), Stop> {
+    let _refused = world.step(alloc, Event::Resume(session));
+    waiting.lines.retain(|line| line.session != session);
+    render::fault(out, Some(session), &Fault::Device)?;
+    Ok(())
+}
+
+// Whether something has changed.
+fn resume_all<W: Write>(
+    alloc: Global,
+    world: &mut ScriptWorld,
+    waiting: &mut WaitingLines,
+    out: &mut W,
+) -> Result<bool, Stop> {
+    let mut is_changed = false;
+    let mut at = 0;
+    for _ in 0..waiting.lines.len() {
+        let Some(line) = waiting.lines.get_mut(at) else {
+            break;
+        };
+        let resumed = resume(alloc, world, line, out)?;
+        is_changed = is_changed || resumed != Resumed::Waits;
+        if resumed == Resumed::Ended {
+            if at < waiting.lines.len() {
+                waiting.lines.remove(at);
+            }
+        } else {
+            at += 1;
+        }
+    }
+    Ok(is_changed)
+}
+
+// What became of a call that waited.
+#[derive(Clone, Copy, PartialEq)]
+enum Resumed {
+    /// It waits for what it waited for.
+    Waits,
+    /// It has gone on, and waits for something else.
+    WaitsElsewhere,
+    /// It is answered or refused.
+    Ended,
+}
+
+fn resume<W: Write>(
+    alloc: Global,
+    world: &mut ScriptWorld,
+    line: &mut WaitingLine,
+    out: &mut W,
+) -> Result<Resumed, Stop> {
+    let mut step = world.step(alloc, Event::Resume(line.session));
+    for _ in 0..u64::MAX {
+        match step {
+            Step::Waits(wait) => return Ok(wait_on(line, wait)),
+            Step::Refused(Fault::NeedForce { .. }) => {
+                step = match force(alloc, world) {
+                    Ok(()) => make_again(alloc, world, line)?,
+                    Err(fault) => Step::Refused(fault),
+                };
+            }
+            Step::Refused(fault) => {
+                render::fault(out, Some(line.session), &fault)?;
+                return Ok(Resumed::Ended);
+            }
+            Step::Done(answer) => {
+                render::answer(out, line.session, &answer)?;
+                return Ok(Resumed::Ended);
+            }
+            Step::Nothing => return Ok(Resumed::Ended),
+        }
+    }
+    Ok(Resumed::Ended)
+}
+
+fn wait_on(line: &mut WaitingLine, wait: Wait) -> Resumed {
+    let is_same = match (&line.wait, &wait) {
+        (Wait::Lock(old), Wait::Lock(new)) => old == new,
+        (Wait::Durable(old), Wait::Durable(new)) => old == new,
+        _ => false,
+    };
+    line.wait = wait;
+    if is_same {
+        Resumed::Waits
+    } else {
+        Resumed::WaitsElsewhere
+    }
+}
+
+// The call of the line is made again, behind a force.
+fn make_again(alloc: Global, world: &mut ScriptWorld, line: &WaitingLine) -> Result<Step, Stop> {
+    let Ok(text) = str::from_utf8(&line.line) else {
+        return Ok(Step::Nothing);
+    };
+    let Some(command) = parse(alloc, text)? else {
+        return Ok(Step::Nothing);
+    };
+    match command {
+        Command::Ask(session, call) => Ok(world.step(alloc, Event::Call(session, call))),
+        _ => Ok(Step::Nothing),
+    }
+}

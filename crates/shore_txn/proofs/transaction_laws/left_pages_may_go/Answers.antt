@@ -1,9 +1,0 @@
-use Rattle.shore_txn.specs.Transactions.{txns_in}
-use Rattle.shore_txn.proofs.ActiveKept.{left_fit, left_read}
-use Rattle.shore_txn.proofs.transaction_laws.left_pages_may_go.Goals as goal
-
-pub returns-clause-claims : goal.returns-clause-claims
-returns-clause-claims c R counts a p claimed m out = left_read (txns_in c.args.old.now) (txns_in c.args.new.now) R counts a claimed m out p
-
-pub returns-clause-fit : goal.returns-clause-fit
-returns-clause-fit c R counts a p claimed m out = left_fit (txns_in c.args.old.now) (txns_in c.args.new.now) R counts a claimed m out p

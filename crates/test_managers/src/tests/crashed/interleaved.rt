@@ -1,0 +1,226 @@
+//! Managers with a few sessions side by side, by chance: behind each event the history and the locks are judged, and each crash as with one session.
+use super::chances::Chance;
+use super::crashes::check_entries;
+use super::devices::{Devices, Manager};
+use super::doings::Doing;
+use super::judged_locks::{check_asked, check_locks, waits_at, would_wait};
+use super::lives::{Ground, Life, ended, formatted, no_ground};
+use super::random_lives::{NOTHING_YET, Tally, check_dump, check_loss};
+use super::short_histories::ShortHistory;
+use super::trouble::{Trouble, require};
+use shore_model::{Answer, Request};
+use shore_types::{Fault, SessionId, TxnId};
+use shore_world::{Step, Wait};
+use std::alloc::Global;
+
+// A pair is made anew behind so many crashes.
+const LIVES_OF_A_PAIR: u32 = 6;
+
+/// What has come up.
+#[derive(Clone, Copy, Debug)]
+pub(super) struct Meetings {
+    pub(super) all: Tally,
+    /// Calls that came to wait for a lock.
+    pub(super) lock_waits: u64,
+    /// .. and those that were answered once they waited no more.
+    pub(super) answered_behind: u64,
+    /// Tries that somebody was in the way of.
+    pub(super) blocked: u64,
+    /// The most requests that there were at once.
+    pub(super) most_requests: usize,
+}
+
+impl Meetings {
+    /// So many events, and something of each kind.
+    pub(super) fn has_each(&self, events: u64) -> bool {
+        let of_locks = self.lock_waits > 0 && self.answered_behind > 0 && self.blocked > 0;
+        self.all.events >= events && of_locks && self.all.has_each()
+    }
+}
+
+pub(super) const NO_MEETINGS: Meetings = Meetings {
+    all: NOTHING_YET,
+    lock_waits: 0,
+    answered_behind: 0,
+    blocked: 0,
+    most_requests: 0,
+};
+
+// A manager with its sessions, as it is seen from outside.
+#[derive(Drop)]
+struct Meeting {
+    world: Manager,
+    history: ShortHistory,
+    requests: Vec<Request>,
+}
+
+// A session, the transaction that it stands in, and what it does.
+#[derive(Clone, Copy)]
+struct Turn {
+    session: SessionId,
+    txn: TxnId,
+    doing: Doing,
+}
+
+/// A pair is formatted, and then is opened, worked with by two to eight sessions and crashed a few times.
+pub(super) fn check_meetings(
+    alloc: Global,
+    chance: &mut Chance,
+    tally: &mut Meetings,
+) -> Result<(), Trouble> {
+    let mut devices = formatted(alloc)?;
+    let mut ground = no_ground(alloc);
+    let sessions = chance.below(7).saturating_add(2);
+    tally.all.pairs = tally.all.pairs.saturating_add(1);
+    for _ in 0..LIVES_OF_A_PAIR {
+        let life = live_together(alloc, devices, &ground, sessions, chance, tally)?;
+        (ground, devices) = check_loss(alloc, ground, life, chance, &mut tally.all)?;
+    }
+    Ok(())
+}
+
+// A manager from its open to the loss of power, which soon comes behind a failure.
+fn live_together(
+    alloc: Global,
+    devices: Devices,
+    ground: &Ground,
+    sessions: u32,
+    chance: &mut Chance,
+    tally: &mut Meetings,
+) -> Result<Life, Trouble> {
+    let mut meeting = Meeting {
+        world: devices.open(alloc)?,
+        history: ShortHistory::new(alloc),
+        requests: Vec::new(alloc),
+    };
+    meeting.go_on_by_chance(alloc, ground, sessions, chance, tally)?;
+    let Meeting { world, history, .. } = meeting;
+    ended(alloc, world, history)
+}
+
+impl Meeting {
+    fn go_on_by_chance(
+        &mut self,
+        alloc: Global,
+        ground: &Ground,
+        sessions: u32,
+        chance: &mut Chance,
+        tally: &mut Meetings,
+    ) -> Result<(), Trouble> {
+        for _ in 0..chance.below(140) {
+            match chance.below(400) {
+                0 => self.world.set_log_fuse(u64::from(chance.below(12))),
+                1 => self.world.set_volume_fuse(u64::from(chance.below(40))),
+                2 | 3 | 4 => check_dump(alloc, &mut self.world, &mut tally.all)?,
+                _ => {
+                    let turn = self.turn(sessions, chance);
+                    self.go_on(alloc, ground, turn, tally)?;
+                }
+            }
+            if self.world.has_failed() && chance.below(4) == 0 {
+                break;
+            }
+        }
+        if self.world.has_failed() {
+            tally.all.failures = tally.all.failures.saturating_add(1);
+        }
+        Ok(())
+    }
+
+    // Whose turn it is, and what it does.
+    fn turn(&self, sessions: u32, chance: &mut Chance) -> Turn {
+        let session = SessionId(chance.below(sessions).saturating_add(1));
+        let txn = self.history.txn(session);
+        let doing = match self.history.waiting(session) {
+            Some(_) => chance.doing_of_waiter(),
+            None => chance.doing_of_session(txn.0 > 0),
+        };
+        Turn {
+            session,
+            txn,
+            doing,
+        }
+    }
+
+    // One event, judged.
+    fn go_on(
+        &mut self,
+        alloc: Global,
+        ground: &Ground,
+        turn: Turn,
+        tally: &mut Meetings,
+    ) -> Result<(), Trouble> {
+        let was_waiting = self.history.waiting(turn.session);
+        let step = self
+            .world
+            .step(alloc, turn.doing.event(alloc, turn.session)?);
+        tally.all.events = tally.all.events.saturating_add(1);
+        let requests = self.world.nodes(alloc)?;
+        check_locks(alloc, &requests)?;
+        let is_over = matches!(step, Step::Done(Answer::Committed));
+        check_asked(&self.requests, &requests, turn.txn, is_over)?;
+        self.check_step(alloc, turn, was_waiting, &requests, &step)?;
+        count(turn, was_waiting, &step, requests.len(), tally);
+        self.requests = requests;
+        self.history.note(alloc, turn.session, turn.doing, step)?;
+        check_entries(alloc, ground, self.history.entries())
+    }
+
+    // A wait is for a request that waits, or for a record that is not durable. Only who waits is Busy, and a try names one for whom its transaction
+    // would wait.
+    fn check_step(
+        &self,
+        alloc: Global,
+        turn: Turn,
+        was_waiting: Option<Doing>,
+        requests: &[Request],
+        step: &Step,
+    ) -> Result<(), Trouble> {
+        match step {
+            Step::Waits(Wait::Lock(granule)) => require(
+                waits_at(requests, turn.txn, *granule),
+                "a wait for a lock without a request that waits",
+            ),
+            Step::Waits(Wait::Durable(number)) => require(
+                *number > self.world.durable(),
+                "a wait for a record that is durable",
+            ),
+            Step::Refused(Fault::Busy) => require(was_waiting.is_some(), "Busy without a call"),
+            Step::Refused(Fault::WouldBlock { holder }) => require(
+                would_wait(alloc, &self.requests, turn.txn, turn.doing, *holder)?,
+                "a try is refused for one who is not in the way",
+            ),
+            _ => Ok(()),
+        }
+    }
+}
+
+fn count(
+    turn: Turn,
+    was_waiting: Option<Doing>,
+    step: &Step,
+    requests: usize,
+    tally: &mut Meetings,
+) {
+    tally.most_requests = tally.most_requests.max(requests);
+    let counted = match step {
+        Step::Waits(Wait::Lock(_)) if was_waiting.is_none() => &mut tally.lock_waits,
+        Step::Done(Answer::Flushed(pages)) => {
+            let flushed = &mut tally.all.pages_flushed;
+            *flushed = flushed.saturating_add(*pages as u64);
+            return;
+        }
+        Step::Done(_) if goes_on(turn, was_waiting) => &mut tally.answered_behind,
+        Step::Refused(Fault::WouldBlock { .. }) => &mut tally.blocked,
+        _ => return,
+    };
+    *counted = counted.saturating_add(1);
+}
+
+// The turn goes on with a call that waited for a lock.
+fn goes_on(turn: Turn, was_waiting: Option<Doing>) -> bool {
+    match was_waiting {
+        Some(Doing::Commit) | None => false,
+        Some(_) => matches!(turn.doing, Doing::Resume),
+    }
+}

@@ -1,0 +1,115 @@
+//! The locks of a manager, judged by the slow functions.
+use super::doings::{Doing, granule_at, mode_at};
+use super::trouble::{Trouble, require};
+use shore_model::Request;
+use shore_modes::{parent_mode, sup};
+use shore_types::{Granule, Mode, TxnId};
+use slow_locks::holds::{harmony, well_rooted};
+use slow_locks::requests::{are_requests, held_by_all, placed_last, waits_for};
+use std::alloc::Global;
+
+/// No transaction has two requests for a granule, and what they hold is in harmony and well rooted.
+pub(super) fn check_locks(alloc: Global, requests: &[Request]) -> Result<(), Trouble> {
+    require(are_requests(requests), "two requests for one granule")?;
+    let held = held_by_all(alloc, requests)?;
+    require(harmony(held.as_slice()), "locks are not in harmony")?;
+    require(well_rooted(held.as_slice()), "a lock lacks its intention")
+}
+
+/// Only this transaction may have asked: of others each request is as it was, or was granted. Its own locks stay, and are not weaker, unless they all go.
+pub(super) fn check_asked(
+    old: &[Request],
+    new: &[Request],
+    txn: TxnId,
+    may_go: bool,
+) -> Result<(), Trouble> {
+    for request in new {
+        let is_explained = request.txn == txn || old.iter().any(|was| is_granted(was, request));
+        require(is_explained, "a lock that nobody asked for")?;
+    }
+    let is_gone = new.iter().all(|request| request.txn != txn);
+    for request in old {
+        let is_kept = new.iter().any(|now| is_kept(request, now));
+        let goes = request.txn == txn && may_go && is_gone;
+        require(is_kept || goes, "a lock went before its turn")?;
+    }
+    Ok(())
+}
+
+// The request is as it was, or waited and was granted.
+fn is_granted(was: &Request, now: &Request) -> bool {
+    was.txn == now.txn
+        && was.granule == now.granule
+        && (*was == *now || (was.wanted.is_some() && now.wanted.is_none()))
+}
+
+// The request is still there, and holds what it held.
+fn is_kept(was: &Request, now: &Request) -> bool {
+    let is_held = match (was.held, now.held) {
+        (Some(held), Some(still)) => sup(held, still) == still,
+        (Some(_), None) => false,
+        (None, _) => true,
+    };
+    was.txn == now.txn && was.granule == now.granule && is_held
+}
+
+/// The transaction waits at the granule.
+pub(super) fn waits_at(requests: &[Request], txn: TxnId, granule: Granule) -> bool {
+    requests.iter().any(|request| request.txn == txn
+        && request.granule == granule
+        && request.wanted.is_some())
+}
+
+/// Whether the transaction would wait for the other on the way to what it tried.
+pub(super) fn would_wait(
+    alloc: Global,
+    requests: &[Request],
+    txn: TxnId,
+    doing: Doing,
+    holder: TxnId,
+) -> Result<bool, Trouble> {
+    let Doing::TryOf(place, depth, index) = doing else {
+        return Ok(false);
+    };
+    let mode = mode_at(index);
+    for above in 0..depth {
+        let wanted = asked(requests, txn, granule_at(place, above), parent_mode(mode));
+        if waits_behind(alloc, requests, wanted, holder)? {
+            return Ok(true);
+        }
+    }
+    let wanted = asked(requests, txn, granule_at(place, depth), mode);
+    waits_behind(alloc, requests, wanted, holder)
+}
+
+// The request that the transaction makes if it asks for the granule in this mode.
+fn asked(requests: &[Request], txn: TxnId, granule: Granule, mode: Mode) -> Request {
+    let mut held = None;
+    for request in requests {
+        if request.txn == txn && request.granule == granule {
+            held = request.held;
+        }
+    }
+    let wanted = match held {
+        Some(held) => sup(held, mode),
+        None => mode,
+    };
+    Request {
+        txn,
+        granule,
+        held,
+        wanted: Some(wanted),
+    }
+}
+
+// Whether a request that is made last waits for the other transaction.
+fn waits_behind(
+    alloc: Global,
+    requests: &[Request],
+    wanted: Request,
+    holder: TxnId,
+) -> Result<bool, Trouble> {
+    let txn = wanted.txn;
+    let placed = placed_last(alloc, requests, wanted)?;
+    Ok(waits_for(alloc, placed.as_slice(), txn, holder)?)
+}
