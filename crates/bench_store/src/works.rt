@@ -9,41 +9,54 @@ use crate::store::{
 use shore_disk::{Disk, FileDisk};
 use shore_types::{Fault, Pairs, Rid};
 use std::alloc::Global;
+use std::time::Instant;
 
 const MILLION: u64 = 1_000_000;
 
 /// What a run does.
 #[derive(Clone, Copy)]
 pub enum Work {
-    /// Updates, each in a transaction that is answered once it is durable, in turns with a plain write and sync of as many bytes.
-    Durable,
+    /// Makes both files anew, with records in one transaction that is committed, and works on them.
+    New(WorkOnNew),
     /// Inserts, in one transaction.
     Insert,
+    /// Opens what a crash left.
+    Opened(WorkOnOpened),
+}
+
+#[derive(Clone, Copy)]
+pub enum WorkOnNew {
+    /// Updates, each in a transaction that is answered once it is durable, in turns with a plain write and sync of as many bytes.
+    Durable,
     /// A scan of all records.
     Scan,
     /// Updates as `Durable` makes, and one more that is not committed. The files are left as they are then: no call closes a manager.
     Crash,
-    /// An open of what a crash left.
-    Recover,
-    /// What an open shows of what a crash left, against what was acknowledged.
-    Verify,
     /// Updates in one transaction that is not committed, all of them written back. The files are left as they are then.
     Lose,
-    /// An open of what `Lose` left, which undoes all of it, and shows the records as they were before.
+}
+
+#[derive(Clone, Copy)]
+pub enum WorkOnOpened {
+    /// How long the open took.
+    Recover,
+    /// What the open shows, against what was acknowledged.
+    Verify,
+    /// How long the open of what `Lose` left took, which undoes all of it, and whether it shows the records as they were before.
     Undo,
 }
 
 impl Work {
     pub fn of(name: &str) -> Option<Work> {
         match name {
-            "durable" => Some(Work::Durable),
+            "durable" => Some(Work::New(WorkOnNew::Durable)),
             "insert" => Some(Work::Insert),
-            "scan" => Some(Work::Scan),
-            "crash" => Some(Work::Crash),
-            "recover" => Some(Work::Recover),
-            "verify" => Some(Work::Verify),
-            "lose" => Some(Work::Lose),
-            "undo" => Some(Work::Undo),
+            "scan" => Some(Work::New(WorkOnNew::Scan)),
+            "crash" => Some(Work::New(WorkOnNew::Crash)),
+            "recover" => Some(Work::Opened(WorkOnOpened::Recover)),
+            "verify" => Some(Work::Opened(WorkOnOpened::Verify)),
+            "lose" => Some(Work::New(WorkOnNew::Lose)),
+            "undo" => Some(Work::Opened(WorkOnOpened::Undo)),
             _ => None,
         }
     }
@@ -51,9 +64,8 @@ impl Work {
     /// How many calls are made if nothing is said.
     pub fn default_count(self) -> u64 {
         match self {
-            Work::Insert | Work::Scan => 100_000,
-            Work::Durable | Work::Crash | Work::Recover | Work::Verify | Work::Lose | Work::Undo =>
-                1_000,
+            Work::Insert | Work::New(WorkOnNew::Scan) => 100_000,
+            Work::New(_) | Work::Opened(_) => 1_000,
         }
     }
 }
@@ -61,24 +73,60 @@ impl Work {
 /// Does a work. A record that is missing or has other bytes is the fault `NoRecord`.
 pub fn perform(rt: &HostRuntime, work: Work, plan: &Plan) -> Result<Vec<Figure>, Fault> {
     match work {
-        Work::Durable => durable(rt, plan),
+        Work::New(work) => on_new(rt, plan, work),
         Work::Insert => inserts(rt, plan),
-        Work::Scan => scanned(rt, plan),
-        Work::Crash => crash(rt, plan),
-        Work::Recover => recover(rt, plan),
-        Work::Verify => verify(rt, plan),
-        Work::Lose => lose(rt, plan),
-        Work::Undo => undo(rt, plan),
+        Work::Opened(work) => on_opened(rt, plan, work),
     }
 }
 
-// A new manager with so many records, in one transaction that is committed. Record I tells the number I.
-fn filled(rt: &HostRuntime, plan: &Plan, records: u64) -> Result<Manager, Fault> {
+// A work on a new manager, which is lent: each way out of a function that owns one is dear to prove.
+fn on_new(rt: &HostRuntime, plan: &Plan, work: WorkOnNew) -> Result<Vec<Figure>, Fault> {
     let mut manager = new_manager(rt, plan)?;
-    fill(rt.alloc(), plan, &mut manager, records)?;
-    Ok(manager)
+    work_on(rt, plan, work, &mut manager)
 }
 
+fn work_on(
+    rt: &HostRuntime,
+    plan: &Plan,
+    work: WorkOnNew,
+    manager: &mut Manager,
+) -> Result<Vec<Figure>, Fault> {
+    let records = match work {
+        WorkOnNew::Scan => plan.count,
+        WorkOnNew::Durable | WorkOnNew::Crash | WorkOnNew::Lose => plan.updated_records(),
+    };
+    fill(rt.alloc(), plan, manager, records)?;
+    match work {
+        WorkOnNew::Durable => durable(rt, plan, manager),
+        WorkOnNew::Scan => scanned(rt, manager),
+        WorkOnNew::Crash => crash(rt.alloc(), plan, manager),
+        WorkOnNew::Lose => lose(rt.alloc(), plan, manager),
+    }
+}
+
+// A work on the manager that an open makes of what a crash left.
+fn on_opened(rt: &HostRuntime, plan: &Plan, work: WorkOnOpened) -> Result<Vec<Figure>, Fault> {
+    let start = now(rt)?;
+    let mut manager = open_manager(rt, plan)?;
+    tell_opened(rt, plan, work, &start, &mut manager)
+}
+
+fn tell_opened(
+    rt: &HostRuntime,
+    plan: &Plan,
+    work: WorkOnOpened,
+    start: &Instant,
+    manager: &mut Manager,
+) -> Result<Vec<Figure>, Fault> {
+    let nanos = nanos_since(rt, start)?;
+    match work {
+        WorkOnOpened::Recover => recover(rt.alloc(), manager, nanos),
+        WorkOnOpened::Verify => verify(rt.alloc(), plan, manager),
+        WorkOnOpened::Undo => undo(rt.alloc(), plan, manager, nanos),
+    }
+}
+
+// So many records, in one transaction that is committed. Record I tells the number I.
 fn fill(alloc: Global, plan: &Plan, manager: &mut Manager, records: u64) -> Result<(), Fault> {
     begin_alone(alloc, manager)?;
     for number in 0..records {
@@ -131,9 +179,8 @@ fn update_and_commit(
     commit(alloc, manager)
 }
 
-fn durable(rt: &HostRuntime, plan: &Plan) -> Result<Vec<Figure>, Fault> {
-    let mut manager = filled(rt, plan, plan.updated_records())?;
-    let (commits, syncs) = timed_commits(rt, plan, &mut manager)?;
+fn durable(rt: &HostRuntime, plan: &Plan, manager: &mut Manager) -> Result<Vec<Figure>, Fault> {
+    let (commits, syncs) = timed_commits(rt, plan, manager)?;
     let second = 1_000 * 1_000 * MILLION;
     let figures = [
         Figure::ratio("durable", plan.count, commits, second, "commits_per_second"),
@@ -224,9 +271,8 @@ fn written(name: &'static str, device: &CountDisk, records: u64) -> Figure {
     Figure::ratio(name, device.written(), records, 1_000, "bytes_per_byte")
 }
 
-fn scanned(rt: &HostRuntime, plan: &Plan) -> Result<Vec<Figure>, Fault> {
-    let mut manager = filled(rt, plan, plan.count)?;
-    let (nanos, count) = timed_scan(rt, &mut manager)?;
+fn scanned(rt: &HostRuntime, manager: &mut Manager) -> Result<Vec<Figure>, Fault> {
+    let (nanos, count) = timed_scan(rt, manager)?;
     let figures = [
         Figure::ratio("scan", nanos, count, 1, "microseconds_per_record"),
         Figure::whole("scan_shown", count, "records"),
@@ -242,11 +288,10 @@ fn timed_scan(rt: &HostRuntime, manager: &mut Manager) -> Result<(u64, u64), Fau
     Ok((nanos_since(rt, &start)?, pairs.len() as u64))
 }
 
-fn crash(rt: &HostRuntime, plan: &Plan) -> Result<Vec<Figure>, Fault> {
-    let mut manager = filled(rt, plan, plan.updated_records())?;
-    update_all(rt.alloc(), plan, &mut manager)?;
+fn crash(alloc: Global, plan: &Plan, manager: &mut Manager) -> Result<Vec<Figure>, Fault> {
+    update_all(alloc, plan, manager)?;
     let figures = [Figure::whole("crash", plan.count, "acknowledged_updates")];
-    Ok(Vec::from_slice(rt.alloc(), &figures)?)
+    Ok(Vec::from_slice(alloc, &figures)?)
 }
 
 // So many updates that are acknowledged, and one more that is not committed.
@@ -259,10 +304,7 @@ fn update_all(alloc: Global, plan: &Plan, manager: &mut Manager) -> Result<(), F
     update_one(alloc, manager, plan, &ids, plan.count)
 }
 
-fn recover(rt: &HostRuntime, plan: &Plan) -> Result<Vec<Figure>, Fault> {
-    let start = now(rt)?;
-    let manager = open_manager(rt, plan)?;
-    let nanos = nanos_since(rt, &start)?;
+fn recover(alloc: Global, manager: &Manager, nanos: u64) -> Result<Vec<Figure>, Fault> {
     let report = manager.report();
     let figures = [
         Figure::ratio(
@@ -276,14 +318,13 @@ fn recover(rt: &HostRuntime, plan: &Plan) -> Result<Vec<Figure>, Fault> {
         Figure::whole("recover_redone", report.redone, "records"),
         Figure::ratio("recover_open", nanos, MILLION, 1_000, "milliseconds"),
     ];
-    Ok(Vec::from_slice(rt.alloc(), &figures)?)
+    Ok(Vec::from_slice(alloc, &figures)?)
 }
 
-fn verify(rt: &HostRuntime, plan: &Plan) -> Result<Vec<Figure>, Fault> {
-    let mut manager = open_manager(rt, plan)?;
-    let count = verified(rt.alloc(), plan, &mut manager)?;
+fn verify(alloc: Global, plan: &Plan, manager: &mut Manager) -> Result<Vec<Figure>, Fault> {
+    let count = verified(alloc, plan, manager)?;
     let figures = [Figure::whole("verify", count, "records_as_acknowledged")];
-    Ok(Vec::from_slice(rt.alloc(), &figures)?)
+    Ok(Vec::from_slice(alloc, &figures)?)
 }
 
 fn verified(alloc: Global, plan: &Plan, manager: &mut Manager) -> Result<u64, Fault> {
@@ -292,11 +333,10 @@ fn verified(alloc: Global, plan: &Plan, manager: &mut Manager) -> Result<u64, Fa
     Ok(pairs.len() as u64)
 }
 
-fn lose(rt: &HostRuntime, plan: &Plan) -> Result<Vec<Figure>, Fault> {
-    let mut manager = filled(rt, plan, plan.updated_records())?;
-    leave_undecided(rt.alloc(), plan, &mut manager)?;
+fn lose(alloc: Global, plan: &Plan, manager: &mut Manager) -> Result<Vec<Figure>, Fault> {
+    leave_undecided(alloc, plan, manager)?;
     let figures = [Figure::whole("lose", plan.count, "undecided_updates")];
-    Ok(Vec::from_slice(rt.alloc(), &figures)?)
+    Ok(Vec::from_slice(alloc, &figures)?)
 }
 
 // So many updates in one transaction, forced and written back.
@@ -310,14 +350,16 @@ fn leave_undecided(alloc: Global, plan: &Plan, manager: &mut Manager) -> Result<
     write_back(alloc, manager)
 }
 
-fn undo(rt: &HostRuntime, plan: &Plan) -> Result<Vec<Figure>, Fault> {
-    let start = now(rt)?;
-    let mut manager = open_manager(rt, plan)?;
-    let nanos = nanos_since(rt, &start)?;
+fn undo(
+    alloc: Global,
+    plan: &Plan,
+    manager: &mut Manager,
+    nanos: u64,
+) -> Result<Vec<Figure>, Fault> {
     let report = manager.report();
     let (forced, _) = manager.records();
     let logged = (forced.len() as u64).saturating_sub(report.read);
-    let shown = shown_undone(rt.alloc(), plan, &mut manager)?;
+    let shown = shown_undone(alloc, plan, manager)?;
     let figures = [
         Figure::ratio("undo", nanos, plan.count, 1, "microseconds_per_update"),
         Figure::whole("undo_log", report.read, "records"),
@@ -326,7 +368,7 @@ fn undo(rt: &HostRuntime, plan: &Plan) -> Result<Vec<Figure>, Fault> {
         Figure::ratio("undo_open", nanos, MILLION, 1_000, "milliseconds"),
         Figure::whole("undo_shown", shown, "records_as_before"),
     ];
-    Ok(Vec::from_slice(rt.alloc(), &figures)?)
+    Ok(Vec::from_slice(alloc, &figures)?)
 }
 
 fn shown_undone(alloc: Global, plan: &Plan, manager: &mut Manager) -> Result<u64, Fault> {

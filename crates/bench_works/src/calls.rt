@@ -202,41 +202,46 @@ fn rounds_of(alloc: Global, manager: &mut Manager, work: Work, rounds: u64) -> R
 // A manager on which the rounds may begin.
 fn prepared(alloc: Global, work: Work, rounds: u64) -> Result<Manager, Fault> {
     let mut manager = new_manager(alloc, work.pages())?;
-    fill(alloc, &mut manager, work.records(rounds))?;
+    prepare(alloc, &mut manager, work, rounds)?;
+    Ok(manager)
+}
+
+fn prepare(alloc: Global, manager: &mut Manager, work: Work, rounds: u64) -> Result<(), Fault> {
+    fill(alloc, manager, work.records(rounds))?;
     match work {
         Work::Alone(_) | Work::Commit | Work::Open => {}
         Work::Beside(kind) => {
-            begin_beside(alloc, &mut manager, kind.intention_beside());
+            begin_beside(alloc, manager, kind.intention_beside());
         }
         Work::LetThrough => {
-            update_anew(alloc, &mut manager, SESSION)?;
+            update_anew(alloc, manager, SESSION)?;
             for number in 2..=LAST_SESSION {
-                update_anew(alloc, &mut manager, SessionId(number))?;
+                update_anew(alloc, manager, SessionId(number))?;
             }
         }
     }
-    Ok(manager)
+    Ok(())
 }
 
 /// The nanoseconds of a round, and how many were done; nothing is done if there is no memory.
 pub fn measured(rt: &HostRuntime, work: Work, rounds: u64) -> io::Result<(u128, u64)> {
-    let Ok(manager) = prepared(rt.alloc(), work, rounds) else {
+    let Ok(mut manager) = prepared(rt.alloc(), work, rounds) else {
         return Ok((0, 0));
     };
     match work {
         Work::Open => measured_open(rt, manager, rounds),
-        _ => measured_rounds(rt, manager, work, rounds),
+        _ => measured_rounds(rt, &mut manager, work, rounds),
     }
 }
 
 fn measured_rounds(
     rt: &HostRuntime,
-    mut manager: Manager,
+    manager: &mut Manager,
     work: Work,
     rounds: u64,
 ) -> io::Result<(u128, u64)> {
     let start = Instant::now(rt)?;
-    let done = rounds_of(rt.alloc(), &mut manager, work, rounds).unwrap_or(0);
+    let done = rounds_of(rt.alloc(), manager, work, rounds).unwrap_or(0);
     let nanos = start.elapsed(rt)?.as_nanos() / u128::from(rounds.max(1));
     Ok((nanos, done))
 }
@@ -246,9 +251,10 @@ fn measured_open(rt: &HostRuntime, manager: Manager, records: u64) -> io::Result
     let (log, volume) = crashed(manager);
     let start = Instant::now(rt)?;
     let opened = opened(rt.alloc(), log, volume);
-    let nanos = start.elapsed(rt)?.as_nanos() / u128::from(records.max(1));
-    match opened {
-        Ok(mut manager) => Ok((nanos, shown(rt.alloc(), &mut manager))),
-        Err(_) => Ok((nanos, 0)),
-    }
+    let time = start.elapsed(rt);
+    let shown = match opened {
+        Ok(mut manager) => shown(rt.alloc(), &mut manager),
+        Err(_) => 0,
+    };
+    Ok((time?.as_nanos() / u128::from(records.max(1)), shown))
 }

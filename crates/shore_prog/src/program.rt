@@ -51,7 +51,18 @@ fn run_input<F: Files<File = File>, R: Read + Drop, W: Write>(
 ) -> Result<Status, Stop> {
     let mut lines = Lines::new(alloc, input)?;
     let mut manager = start(alloc, files, &mut lines)?;
-    run_script(alloc, files, &mut manager, &mut lines, output)?;
+    run_with(alloc, files, &mut manager, &mut lines, output)
+}
+
+// The manager is lent, for what a function owns makes each of its ways out dear to prove.
+fn run_with<F: Files<File = File>, R: Read + Drop, W: Write>(
+    alloc: Global,
+    files: &F,
+    manager: &mut Manager,
+    lines: &mut Lines<R>,
+    output: &mut W,
+) -> Result<Status, Stop> {
+    run_script(alloc, files, manager, lines, output)?;
     output.flush()?;
     Ok(if manager.is_open() {
         Status::Done
