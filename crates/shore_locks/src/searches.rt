@@ -43,7 +43,7 @@ pub fn own_hold(nodes: &Nodes, txn: TxnId, granule: &Granule) -> Option<Option<M
 pub fn mode_held(nodes: &Nodes, txn: TxnId, granule: &Granule) -> Option<Mode>
     ensures { result ≡ tables.mode_held txn granule.now nodes.now.requests }
 {
-    request_for(nodes, txn, granule)?.held
+    own_hold(nodes, txn, granule)?
 }
 
 /// The request with which a transaction waits. It could only be its newest, which is mostly the last in its ring: then no other

@@ -110,8 +110,8 @@ module _ (t : ℕ) (target : Granule) (mode : Mode) (old : Table) (way : List Gr
           → ((new : List Request) → IsAlike g old.limit left old.requests new → rest + length (after_try (record { limit = old.limit; requests = new }) t g m) ≡ old.limit)
           → Judged t target mode old.limit rest (take (i + 1) way) (drop (i + 1) way) old.requests
       judged_on rest done room =
-          let more = goes_on Refuse t target mode old mid way i refl judged.through g (record { limit = old.limit; requests = after_try mid t g asked }) within is (spared_there ∙ free)
-          (sym (ap of_try told) ∙ done) refl in
+          let more = goes_on Refuse t target mode old mid way i refl judged.through g (record { limit = old.limit; requests = after_try mid t g asked }) within is
+          (record { needed = spared_there ∙ free; done = sym (ap of_try told) ∙ done; left = refl }) in
           let parts : Differ (g ∷ drop (suc i) way) = subst Differ ahead judged.differ in
           let plus : suc i ≡ i + 1 = omega arith in
           let next : drop (suc i) way ≡ drop (i + 1) way = ap (λ n. drop n way) plus in

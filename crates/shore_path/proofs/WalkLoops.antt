@@ -1,5 +1,5 @@
 -- The loop over a path: how far the walk has come, and what it gives when it ends.
-use Rattle.std.proofs.Common.{◌≡◌, ◌++◌, ◌<◌, ◌≤◌, ◌+◌, ℕ, suc, List, [], ◌∷◌, true, false, refl, ap, sym, subst, ◌∙◌, length, take, drop, get_or, min, arith, drop-cons}
+use Rattle.std.proofs.Common.{◌≡◌, ◌++◌, ◌<◌, ◌≤◌, ◌+◌, ℕ, suc, List, [], ◌∷◌, inl, inr, true, false, refl, ap, sym, subst, ◌∙◌, length, take, drop, get_or, min, arith, drop-cons}
 use Rattle.std.specs.Prelude.{Result, Ok}
 use Rattle.std.proofs.lemmas.List.{append-nil, take_min, take-append-drop}
 use Rattle.std.proofs.Math.Seq.{take-length}
@@ -13,6 +13,7 @@ use Rattle.shore_locks.proofs.Tables.{fit_of}
 use Rattle.shore_path.specs.declared.answers.Acquired.{Acquired}
 use Rattle.shore_path.specs.declared.answers.Acquired.TheVariants as acquire
 use Rattle.shore_path.specs.declared.answers.OnConflict.{OnConflict}
+use Rattle.shore_path.specs.Needs.{EndsAt, Passes}
 use Rattle.shore_path.specs.Walks.{ComesTo, after_at, answer_at, asked_of, is_spared}
 use Rattle.shore_path.proofs.Kept.{quiet_after}
 use Rattle.shore_path.proofs.Walking.{Through, done, stop, stops_at, table_of, through_more, through_walk, walk_on}
@@ -64,15 +65,22 @@ module _ (c : OnConflict) (t : ℕ) (target : Granule) (mode : Mode) (old table 
         left ∙ (λ k. record { limit = limit k; requests = after_at c (same_table k) t g (step g) }) ∙ ap (λ xs. table_of c t target mode old.limit xs) (sym (ap (λ o. o.requests) out)),
       )
 
-  pub goes_on : (g : Granule) (new : Table) → i < length path → g ≡ get_or path i g → is_spared t target mode g table.requests ≡ false → answer_at c table t g (step g) ≡ Ok acquire.Done
-      → new ≡ record { limit = table.limit; requests = after_at c table t g (step g) }
+  -- .. whichever way it ends at a granule
+  pub ends_here : (g : Granule) (answer : Result Acquired Fault) (new : Table) → i < length path → g ≡ get_or path i g → EndsAt c t target mode g table new answer
+      → ComesTo old (walk_on c t target mode old.limit path old.requests) answer new
+  ends_here g answer new within is (inl spared) =
+      let ends = ends_spared g within is spared.0 in (spared.1 ∙ ends.0, spared.2 ∙ ends.1)
+  ends_here g answer new within is (inr told) = ends_told g answer new within is told.0 told.1 told.2 told.3
+
+  pub goes_on : (g : Granule) (new : Table) → i < length path → g ≡ get_or path i g → Passes c t target mode g table new
       → Through c t target mode old.limit (take (i + 1) path) old.requests new.requests × (new.limit ≡ old.limit)
-  goes_on g new within is free told left =
-      let more = through_more c t target mode old.limit (take i path) g old.requests table.requests through free (ap (λ x. answer_at c x t g (step g)) (sym same_table) ∙ told) in
-      let now : new.requests ≡ after_at c (table_of c t target mode old.limit table.requests) t g (step g) = ap (λ x. x.requests) left ∙ ap (λ x. after_at c x t g (step g)) same_table in (
+  goes_on g new within is passes =
+      let more =
+      through_more c t target mode old.limit (take i path) g old.requests table.requests through passes.needed (ap (λ x. answer_at c x t g (step g)) (sym same_table) ∙ passes.done) in
+      let now : new.requests ≡ after_at c (table_of c t target mode old.limit table.requests) t g (step g) = ap (λ x. x.requests) passes.left ∙ ap (λ x. after_at c x t g (step g)) same_table in (
         subst (λ xs. Through c t target mode old.limit (take (i + 1) path) old.requests xs) (sym now)
             (subst (λ way. Through c t target mode old.limit way old.requests (after_at c (table_of c t target mode old.limit table.requests) t g (step g))) (sym (take-one_more path i g within is)) more),
-        ap (λ x. x.limit) left ∙ limit,
+        ap (λ x. x.limit) passes.left ∙ limit,
       )
 
   pub ends_whole : length path ≤ i → ComesTo old (walk_on c t target mode old.limit path old.requests) (Ok acquire.Done) table

@@ -1,4 +1,5 @@
 pub mod Acquires
 pub mod Judging
+pub mod Needs
 pub mod Rooted
 pub mod Walks

@@ -1,5 +1,5 @@
 //! Locks taken along a path.
-ghost use Rattle.std.specs.Prelude.{◌≡◌, ◌≢◌, ◌↔◌, false, Contains, IfErr, IsFalse, IsTrue};
+ghost use Rattle.std.specs.Prelude.{◌≡◌, ◌≢◌, ◌↔◌, false, Contains, IfErr, IsFalse, IsTrue, MatchOption};
 ghost use Rattle.shore_types.specs.declared.locking.Granule.{Granule};
 ghost use Rattle.shore_types.specs.Locking.{level_of};
 ghost use Rattle.shore_model.specs.Locks.{path};
@@ -8,13 +8,14 @@ ghost use Rattle.shore_locks.specs.Orderly.{IsOrderly};
 ghost use Rattle.shore_locks.specs.Tables.{is_waiting};
 ghost use Rattle.shore_path.specs.Acquires.{GrowsAsAsked, IsReached, MayRefuse, NoneWeaker, OthersOnlyGranted, WaitsAt};
 ghost use Rattle.shore_path.specs.Rooted.{AreRooted};
+ghost use Rattle.shore_path.specs.Needs.{EndsAt, IsNeeded, Passes};
 ghost use Rattle.shore_path.specs.Walks as walks;
 
 use crate::answers::{Acquired, OnConflict};
 use crate::paths::path_to;
 use shore_locks::laws::tables_are_orderly;
 use shore_locks::{LockTable, Requested, Tried};
-use shore_modes::{allowed, covers, parent_mode};
+use shore_modes::{allowed, covers, is_at_most, parent_mode};
 use shore_types::{Fault, Granule, Mode, TxnId};
 
 /// Takes a granule in a mode, after the intentions above it. From the root down each ancestor is asked for in the parent mode, and
@@ -54,6 +55,17 @@ pub fn acquire(
     walk(table, txn, target, mode, on_conflict, path.as_slice())
 }
 
+/// What an acquire needs at a granule of its path.
+#[derive(Drop)]
+enum Need {
+    /// Nothing here or further down: what is held of this ancestor covers it all.
+    Nothing,
+    /// Nothing here: as much is held of this ancestor.
+    Held,
+    /// This mode.
+    Asking(Mode),
+}
+
 // Asks for the granules of a path in their order.
 fn walk(
     table: &mut LockTable,
@@ -68,16 +80,36 @@ fn walk(
     ensures { walks.ComesTo table.old (walks.walk on_conflict txn target.now mode table.old.limit path.now table.old.requests) result table.new }
 {
     for granule in path {
-        if is_spared(table, txn, target, mode, granule) {
-            return Ok(Acquired::Done);
-        }
-        let asked = asked_of(target, mode, granule);
-        let acquired = ask(table, txn, granule, asked, on_conflict);
-        if !is_done(&acquired) {
-            return acquired;
+        if let Some(answer) = pass(table, txn, target, mode, granule, on_conflict) {
+            return answer;
         }
     }
     Ok(Acquired::Done)
+}
+
+// Passes one granule of a path, or ends the walk there with an answer.
+fn pass(
+    table: &mut LockTable,
+    txn: TxnId,
+    target: &Granule,
+    mode: Mode,
+    granule: &Granule,
+    on_conflict: OnConflict,
+) -> Option<Result<Acquired, Fault>>
+    requires { is_waiting txn table.old.requests ≡ false }
+    ensures { MatchOption result (Passes on_conflict txn target.now mode granule.now table.old table.new) (EndsAt on_conflict txn target.now mode granule.now table.old table.new) }
+{
+    let asked = match need_of(table, txn, target, mode, granule) {
+        Need::Nothing => return Some(Ok(Acquired::Done)),
+        Need::Held => return None,
+        Need::Asking(asked) => asked,
+    };
+    let acquired = ask(table, txn, granule, asked, on_conflict);
+    if is_done(&acquired) {
+        None
+    } else {
+        Some(acquired)
+    }
 }
 
 // Asks for one granule. Done: it is held.
@@ -141,11 +173,19 @@ pub(crate) fn asked_of(target: &Granule, mode: Mode, granule: &Granule) -> Mode
     }
 }
 
-// Whether the granule is an ancestor whose lock spares all that is left to ask.
-fn is_spared(table: &LockTable, txn: TxnId, target: &Granule, mode: Mode, granule: &Granule) -> bool
-    ensures { result ≡ walks.is_spared txn target.now mode granule.now table.now.requests }
+// What is needed at a granule on the way to the target. The target is asked for without a look, as mostly nothing is held of it.
+fn need_of(table: &LockTable, txn: TxnId, target: &Granule, mode: Mode, granule: &Granule) -> Need
+    ensures { IsNeeded txn target.now mode granule.now table.now.requests result }
 {
-    *granule != *target && is_covered(mode, table.held(txn, *granule))
+    let asked = asked_of(target, mode, granule);
+    if *target == *granule {
+        return Need::Asking(asked);
+    }
+    match table.held(txn, *granule) {
+        Some(held) if covers(held, mode) => Need::Nothing,
+        Some(held) if is_at_most(asked, held) => Need::Held,
+        _ => Need::Asking(asked),
+    }
 }
 
 // Whether what is held of an ancestor, if anything, covers a mode below it.

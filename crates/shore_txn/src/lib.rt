@@ -4,6 +4,7 @@
 mod active;
 mod chains;
 mod claims;
+mod guesses;
 pub mod laws;
 mod log_room;
 mod transactions;

@@ -15,6 +15,7 @@ ghost use Rattle.shore_txn.specs.UndoEntries.{claims_on, images_of};
 ghost use Rattle.shore_txn.specs.declared.txn.Txn.{Txn};
 
 use crate::active::ActiveTxn;
+use crate::guesses::Guesses;
 use crate::log_room::LogRoom;
 use crate::txn::Txn;
 use crate::undo::UndoEntry;
@@ -28,6 +29,7 @@ pub struct Transactions {
     next: u64,
     // The oldest first.
     pub(crate) active: Vec<ActiveTxn>,
+    guesses: Guesses,
     room: LogRoom,
     ghost some: { 1 ≤ next },
     ghost sum: { room.reserved ≡ owed_by_all (undos_of active.items) },
@@ -50,6 +52,7 @@ impl Transactions {
         Transactions {
             next,
             active: Vec::new(alloc),
+            guesses: Guesses::new(),
             room,
         }
     }
@@ -102,6 +105,7 @@ impl Transactions {
     {
         self.active.reserve(1)?;
         let number = TxnId(self.next);
+        self.guesses.note(session, self.active.len());
         self.active
             .push_reserved(ActiveTxn::new(alloc, number, session));
         self.next += 1;
@@ -166,6 +170,7 @@ impl Transactions {
     {
         let index = self.index_of(session);
         let decided = self.active.remove(index);
+        self.guesses.note_from(&self.active, index);
         self.room.release(decided.txn().reserved());
         self.room.append(ENDING_COST);
         decided.into_undo()
@@ -176,6 +181,12 @@ impl Transactions {
         ensures some { IfSome result (λ index. (index < length self.now.active.items) × HoldsAt (λ a. a.txn.session ≡ session) self.now.active.items index) }
         ensures none { IfNone result (All (λ a. a.txn.session ≢ session) self.now.active.items) }
     {
+        let guess = self.guesses.of(session);
+        if let Some(active) = self.active.get(guess)
+            && active.txn().session() == session
+        {
+            return Some(guess);
+        }
         self.active
             .iter()
             .position(|active| active.txn().session() == session)
