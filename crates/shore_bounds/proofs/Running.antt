@@ -3,7 +3,7 @@ use Rattle.std.proofs.Common.{◌≡◌, ◌⊎◌, inl, inr, ⊎_elim, ◌++◌
 use Rattle.std.specs.Prelude.{All, IsSome}
 use Rattle.std.specs.FinMap.{get}
 use Rattle.std.specs.List.{AllByRecursion}
-use Rattle.std.proofs.lemmas.List.Elements.{All-push}
+use Rattle.std.proofs.lemmas.List.Elements.{All-push, recursion_from_All}
 use Rattle.shore_types.specs.Images.{Image}
 use Rattle.shore_types.specs.Layout.{HasPage, HasSlot}
 use Rattle.shore_types.specs.declared.ids.PageId.{PageId}
@@ -17,7 +17,7 @@ use Rattle.shore_model.specs.Logs.{image_in, id_in, previous_of}
 use Rattle.shore_model.specs.Records.{Records}
 use Rattle.shore_analysis.specs.Meant.{IsInBounds, IsServed}
 use Rattle.shore_calls.proofs.Comings.{goes_keeps, like_keeps, session_event_comes}
-use Rattle.shore_calls.proofs.Links.{Changes, Commits, Goes, GoesBy, IsLike, Writes}
+use Rattle.shore_calls.proofs.Links.{Changes, Commits, Compensates, Ends, Goes, GoesBy, IsLike, Writes}
 use Rattle.shore_calls.proofs.SessionRooms.{goes_roomy, like_roomy, session_event_roomy}
 use Rattle.shore_calls.proofs.SessionStates.{session_event_stays}
 use Rattle.shore_calls.proofs.Sessions.{AreSessionsAfter}
@@ -36,7 +36,8 @@ use Rattle.shore_sessions.specs.SessionSteps.{SessionEvent, entries_by}
 use Rattle.shore_sessions.specs.Sessions.{Sessions}
 use Rattle.shore_bounds.proofs.Opens.{records_inside}
 use Rattle.shore_bounds.proofs.Prefixes.{push_roomy, whole_roomy}
-use Rattle.shore_bounds.proofs.SlotCounts.{behind_elsewhere, behind_here, slot_count-push}
+use Rattle.shore_bounds.proofs.LoggedIds.{logged_inside, logged_slot}
+use Rattle.shore_bounds.proofs.SlotCounts.{behind_elsewhere, behind_here, behind_within, slot_count-push}
 use Rattle.shore_bounds.proofs.StateLosers.{state_is_roomy}
 use Rattle.shore_bounds.specs.RoomyLogs.{AreRoomy, IsRoomyLog}
 use Rattle.shore_bounds.specs.RoomyStates.{LeavesRoomyLogs}
@@ -70,6 +71,33 @@ commit_appends g s new h = record {
   where
     nothing : (id : Rid) → ◌≡◌ {A = Option Rid} None (Some id) → ⊥
     nothing id e = cc
+
+end_appends : (g : Geometry) (s new : State) → Ends s new → AppendsOne g s.log new.log s.counts new.counts
+end_appends g s new h = record {
+  appended = record { txn = h.txn; previous = previous_of h.txn s.log; payload = payload.End };
+  is = h.log;
+  served = tt;
+  inside = λ id e. absurd (nothing id e);
+  grown = λ p. ap (λ (c : SlotCounts). c p) h.counts;
+}
+  where
+    nothing : (id : Rid) → ◌≡◌ {A = Option Rid} None (Some id) → ⊥
+    nothing id e = cc
+
+-- the page of an image that is put back has its slot
+compensation_appends : (g : Geometry) (s new : State) (h : Compensates s new) → HasSlot g h.id → h.id.slot < s.counts h.id.page → AppendsOne g s.log new.log s.counts new.counts
+compensation_appends g s new h inside slot = record {
+  appended = record { txn = h.txn; previous = previous_of h.txn s.log; payload = payload.Compensation h.id h.image h.next };
+  is = h.log;
+  served = tt;
+  inside = λ q e. subst (HasSlot g) (same q e) inside;
+  grown = λ p.
+      ap (λ (c : SlotCounts). c p) h.counts
+      ∙ sym (behind_within p (h.id, h.image) (s.counts p) (λ here. subst (λ q. h.id.slot < s.counts q) (sym here) slot));
+}
+  where
+    same : (q : Rid) → ◌≡◌ {A = Option Rid} (Some h.id) (Some q) → h.id ≡ q
+    same q e = cc
 
 change_appends : (g : Geometry) (s new : State) (h : Changes g s new) → HasPage g h.id.page → AppendsOne g s.log new.log s.counts new.counts
 change_appends g s new h page = record {
@@ -141,7 +169,12 @@ module _ (g : Geometry) (stream_bytes base : ℕ) (o : Records) (es : List Entry
     writes_leaving : Writes g s new → LeavesRoomyLogs g stream_bytes new
     writes_leaving (inl same) = stays_leaving new same.0 same.1 stream whole txns
     writes_leaving (inr (inl one)) = appended_leaving (commit_appends g s new one)
-    writes_leaving (inr (inr one)) = appended_leaving (change_appends g s new one (its_page one.id one.inside))
+    writes_leaving (inr (inr (inl one))) = appended_leaving (change_appends g s new one (its_page one.id one.inside))
+    writes_leaving (inr (inr (inr (inl one)))) = appended_leaving (end_appends g s new one)
+    writes_leaving (inr (inr (inr (inr one)))) =
+        let inside = recursion_from_All (IsInBounds g) s.log (whole_roomy g stream_bytes s.log h.prefixes).inside in
+        appended_leaving (compensation_appends g s new one (logged_inside g one.txn s.log one.id one.logged inside)
+        (subst (λ n. one.id.slot < n) (sym (h.counts one.id.page)) (logged_slot g one.txn s.log one.id one.logged)))
 
   goes_leaving : (new : State) (e : SessionEvent) → IsRoomyState s → txn_count s ≤ MAX_TRANSACTIONS → Goes g s e new → LeavesRoomyLogs g stream_bytes new
   goes_leaving new e roomy few goes =

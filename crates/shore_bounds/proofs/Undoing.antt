@@ -141,7 +141,7 @@ module _ (g : Geometry) (stream_bytes : ℕ) (log : List LogRecord) (k : IsRoomy
     kept = reverse (map (λ (c : UnansweredChange). (c.id, c.before)) cs)
 
     abbrev left : UndoList
-    left = record { images = kept; marks = a.undo.marks }
+    left = record { images = kept; marks = a.undo.marks; rolling = a.undo.rolling }
 
     abbrev undos_left : List SessionTxn
     undos_left = with_undo a.txn left k.undos
@@ -159,7 +159,7 @@ module _ (g : Geometry) (stream_bytes : ℕ) (log : List LogRecord) (k : IsRoomy
     same_count p =
         slot_count-push log r p ∙ ap (λ q. slots_behind p (image_in q) (slot_count log p)) says
         ∙ behind_within p e (slot_count log p)
-        (λ same. subst (λ q. c.id.slot < slot_count log q) (sym same) (its_slot k.records k.undos (slot_count log) k.pages a its.1 kept e a.undo.marks images))
+        (λ same. subst (λ q. c.id.slot < slot_count log q) (sym same) (its_slot k.records k.undos (slot_count log) k.pages a its.1 kept e a.undo.marks a.undo.rolling images))
 
     own_matches : MatchesUndo new t kept
     own_matches =
@@ -195,7 +195,7 @@ module _ (g : Geometry) (stream_bytes : ℕ) (log : List LogRecord) (k : IsRoomy
 
     pub compensated_roomy : IsRoomyLog g stream_bytes new
     compensated_roomy =
-        let room = (undone_takes LONGEST_FRAME k.undos (room_of_log stream_bytes log k.undos) k.room k.pages.once a its.1 kept e a.undo.marks images).1 in
+        let room = (undone_takes LONGEST_FRAME k.undos (room_of_log stream_bytes log k.undos) k.room k.pages.once a its.1 kept e a.undo.marks a.undo.rolling images).1 in
         let cost = cost_pushed log r in
         let says_cost = ap cost_of says in
         let bytes = compensation_bytes c.id c.before (undo_next_of cs) in
@@ -206,7 +206,7 @@ module _ (g : Geometry) (stream_bytes : ℕ) (log : List LogRecord) (k : IsRoomy
           undos = undos_left;
           losers = record { each = each_left; every = every_left };
           pages = same_claimed (put_image k.records c.id c.before) undos_left (slot_count log) (slot_count new) same_count
-              (undo_keeps k.records k.undos (slot_count log) k.pages a its.1 kept e a.undo.marks images);
+              (undo_keeps k.records k.undos (slot_count log) k.pages a its.1 kept e a.undo.marks a.undo.rolling images);
           room = as_room_of_log stream_bytes new undos_left (undone_room c.before (room_of_log stream_bytes log k.undos)) room (omega arith) refl (omega arith);
           inside = inside_more;
           few = few_more;

@@ -1,5 +1,5 @@
 -- What the refusals of sessions leave: the locks that were taken, and nothing else.
-use Rattle.std.proofs.Common.{◌≡◌, ◌≢◌, ◌⊎◌, inl, inr, ⊎_elim, ◌≤◌, ◌<◌, ℕ, List, Some, refl, sym, ap, subst, ◌∙◌, arith, Err}
+use Rattle.std.proofs.Common.{◌≡◌, ◌≢◌, ◌⊎◌, inl, inr, ⊎_elim, ◌≤◌, ◌<◌, ℕ, List, None, Some, refl, sym, ap, subst, ◌∙◌, arith, Err}
 use Rattle.std.specs.Prelude.{Option, IsTrue}
 use Rattle.shore_types.specs.declared.faults.Device.{Device}
 use Rattle.shore_types.specs.declared.faults.Fault.{Fault}
@@ -19,18 +19,20 @@ use Rattle.shore_model.specs.declared.requests.Request.{Request}
 use Rattle.shore_held.proofs.Held.{locked_of}
 use Rattle.shore_held.specs.CallLocks.{Asked, asked_by}
 use Rattle.shore_sessions.specs.GranuleLocks.{HasLock}
+use Rattle.shore_sessions.specs.declared.rollbacks.Rollback.{Rollback}
+use Rattle.shore_sessions.specs.declared.rollbacks.Rollback.TheVariants.{To, Whole}
 use Rattle.shore_sessions.specs.Sessions.{SessionTxn}
 use Rattle.shore_calls.specs.declared.step.Step.TheVariants.{Refused}
 use Rattle.shore_calls.proofs.AcquireAnswers.{IsLockFault, acquire_fault}
 use Rattle.shore_calls.proofs.LocksKept.{SameLocks, after_same, its_number, lock_leaves, may_ask_behind, may_ask_in, place_leaves, same_locks}
 use Rattle.shore_calls.proofs.RefusalCauses.{behind_lock_of, comes_behind, insert_log_full}
 use Rattle.shore_calls.proofs.SessionCalls.{names_no_slot}
-use Rattle.shore_calls.proofs.SessionInversions.{IsOwn, asks_no_begin, refused_in, same_lock}
+use Rattle.shore_calls.proofs.SessionInversions.{IsOwn, asks_no_begin, interrupted_in, refused_in, same_lock}
 use Rattle.shore_calls.proofs.WrongRefusals.{IsEarly, begin_fault, begin_refused}
 use Rattle.shore_calls.specs.StateChanges.{CanLog, after_refusal, with_failure}
-use Rattle.shore_calls.specs.CallSteps.{GoesOn, LacksMemory, RefusesBehind, RefusesEarly, CallStep, behind_lock, behind_place, lock_outcome, on_conflict_of, place_outcome, with_requests}
+use Rattle.shore_calls.specs.CallSteps.{GoesOn, InnerStep, LacksMemory, RefusesBehind, RefusesEarly, CallStep, behind_lock, behind_place, lock_outcome, on_conflict_of, place_outcome, with_requests}
 use Rattle.shore_calls.specs.LockedStates.{IsSessionsState}
-use Rattle.shore_calls.specs.Shapes.{store_lock, store_locked, with_locks_of}
+use Rattle.shore_calls.specs.Shapes.{rollback_of, store_lock, store_locked, with_locks_of}
 use Rattle.shore_calls.specs.States.{IsOfSession, State}
 
 -- ---- only locks change
@@ -85,14 +87,24 @@ module _ (g : Geometry) (s new : State) where
   goes_leaves a c f (inr (inr h)) = behind_leaves h.0 (itself s h.0 (behind_lock s a c h.1.0) h.1.3 (locked_leaves a c h.1.0)) a c f h.2
 
   module _ (session : ℕ) (c : Call) (f : Fault) where
-    pub refusal_leaves : CallStep g s session c (Refused f) new → new ≡ with_locks_of new s
-    refusal_leaves (inl h) = itself s new s h.1 refl
-    refusal_leaves (inr (inl h)) = itself s new s h.2 refl
-    refusal_leaves (inr (inr (inl h))) = itself s new s h.3 refl
-    refusal_leaves (inr (inr (inr (inl h)))) = itself s new s h.3.1 refl
-    refusal_leaves (inr (inr (inr (inr (inl h))))) = itself s new s h.5 refl
-    refusal_leaves (inr (inr (inr (inr (inr h))))) =
-        ⊎_elim (λ early. itself s new s early.3 refl) (⊎_elim (λ goes. goes_leaves h.2.0 c f goes.1) (λ commits. absurd commits.1)) h.2.2
+    -- what refuses a call of a transaction under way that asks for no rollback
+    inner_leaves : (a : SessionTxn) → rollback_of c ≡ None → InnerStep g s a c (Refused f) new → HasLocksOf new s
+    inner_leaves a plain (inl h) = itself s new s h.3 refl
+    inner_leaves a plain (inr (inl (whole, inl h))) = itself s new s h.3 refl
+    inner_leaves a plain (inr (inl (whole, inr (inl h)))) = goes_leaves a c f h.1
+    inner_leaves a plain (inr (inl (whole, inr (inr (inl h))))) = absurd h.1
+    inner_leaves a plain (inr (inl (whole, inr (inr (inr h))))) = itself s new s h.1.2 refl
+    inner_leaves a plain (inr (inr (inl h))) = let clash : None ≡ Some (To h.0) = sym plain ∙ ap rollback_of h.1 in absurd cc
+    inner_leaves a plain (inr (inr (inr h))) = let clash : None ≡ Some Whole = sym plain ∙ ap rollback_of h.0 in absurd cc
+
+    pub refusal_leaves : rollback_of c ≡ None → CallStep g s session c (Refused f) new → new ≡ with_locks_of new s
+    refusal_leaves plain (inl h) = itself s new s h.1 refl
+    refusal_leaves plain (inr (inl h)) = itself s new s h.2 refl
+    refusal_leaves plain (inr (inr (inl h))) = itself s new s h.3 refl
+    refusal_leaves plain (inr (inr (inr (inl h)))) = itself s new s h.3.1 refl
+    refusal_leaves plain (inr (inr (inr (inr (inl h))))) = itself s new s h.5 refl
+    refusal_leaves plain (inr (inr (inr (inr (inr h))))) =
+        inner_leaves h.2.0 plain h.2.2
 
 -- ---- and a device that failed, or a page that was damaged
 
@@ -121,8 +133,14 @@ module _ (g : Geometry) (s new : State) (session : ℕ) where
   behind_fails l a _ f fails h = absurd h
 
   faults_fail : (c : Call) (f : Fault) → IsOwn f → (IsLockFault f → ⊥) → (IsEarly f → ⊥) → c ≢ call.Begin → Fails f → CallStep g s session c (Refused f) new → IsTrue new.failed
-  faults_fail c f own table early other fails h =
-      let t = comes_behind g s new session c f own table early other h in behind_fails (behind_lock s t.txn c t.lock) t.txn c f fails t.refuses
+  faults_fail c f own table early other fails h = by (rollback_of c) refl
+    where
+      no_rollback : (o : Option Rollback) (r : Rollback) → o ≡ None → o ≡ Some r → ⊥
+      no_rollback o r d e = cc
+
+      by : (o : Option Rollback) → rollback_of c ≡ o → IsTrue new.failed
+      by (Some r) is = let t = interrupted_in g s new session c r f is own h in fails_after t.how.0 f t.how.3 fails
+      by None plain = let t = comes_behind g s new session c f own table early other (λ r is. absurd (no_rollback (rollback_of c) r plain is)) h in behind_fails (behind_lock s t.txn c t.lock) t.txn c f fails t.refuses
 
   no_begin_fails : (f : Fault) → IsOwn f → Fails f → CallStep g s session call.Begin (Refused f) new → ⊥
   no_begin_fails f own fails h =
@@ -140,6 +158,12 @@ module _ (g : Geometry) (s new : State) (session : ℕ) where
 
 -- ---- in words of locks
 
+-- a call that asks for a lock asks for no rollback
+no_lock_rollback : (c : Call) (lock : Asked) → asked_by c ≡ Some lock → (r : Rollback) → rollback_of c ≡ Some r → ⊥
+no_lock_rollback (call.BackTo n) lock asks r is = absurd cc
+no_lock_rollback call.Abort lock asks r is = absurd cc
+no_lock_rollback _ lock asks r is = absurd cc
+
 module _ (g : Geometry) (found : List LogRecord) (es : List Entry) (s new : State) (k : IsSessionsState found es s) (session : ℕ) where
   -- the place of an insert whose log is full stays locked
   pub log_full_locked : (store : ℕ) (bytes : List ℕ) (a : SessionTxn) → IsOfSession s session a → CallStep g s session (call.Insert store bytes) (Refused fault.LogFull) new
@@ -147,7 +171,7 @@ module _ (g : Geometry) (found : List LogRecord) (es : List Entry) (s new : Stat
   log_full_locked store bytes a of h =
       let t = insert_log_full g s new session store bytes h in
       let c : Call = call.Insert store bytes in
-      let start = refused_in g s new session c fault.LogFull tt (λ e. cc) h in
+      let start = refused_in g s new session c fault.LogFull tt (λ e. cc) (λ r is. absurd (no_lock_rollback c (store_lock store) refl r is)) h in
       let ready = may_ask_in g found es s new k session t.txn t.of start.running start.idle in
       let l = store_locked s t.txn store bytes in
       let left = place_leaves l t.txn (may_ask_behind s t.txn ready c (store_lock store) t.done) t.id in
@@ -191,8 +215,8 @@ module _ (g : Geometry) (found : List LogRecord) (es : List Entry) (s new : Stat
       → CallStep g s session c (Refused fault.NoRecord) new → HasLock new.sessions.held a.txn lock.granule lock.mode
   absence_locked c id lock a named within asks of h =
       let other = asks_no_begin c lock asks in
-      let t = behind_lock_of g s new session c fault.NoRecord tt (λ b l is. no_table_absence b c l is) (no_slot c id named within) other h in
-      let start = refused_in g s new session c fault.NoRecord tt other h in
+      let t = behind_lock_of g s new session c fault.NoRecord tt (λ b l is. no_table_absence b c l is) (no_slot c id named within) other (λ r is. absurd (no_lock_rollback c lock asks r is)) h in
+      let start = refused_in g s new session c fault.NoRecord tt other (λ r is. absurd (no_lock_rollback c lock asks r is)) h in
       let ready = may_ask_in g found es s new k session t.txn t.of start.running start.idle in
       let out = lock_outcome s t.txn c t.lock in
       let has = locked_of out.requests t.txn.txn t.lock.granule t.lock.mode ((lock_leaves s t.txn ready c t.lock).done t.done) in

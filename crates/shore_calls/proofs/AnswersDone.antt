@@ -28,7 +28,7 @@ use Rattle.shore_sessions.specs.Views.{IsAmong}
 use Rattle.shore_calls.specs.declared.step.Step.TheVariants.{Done, Waits}
 use Rattle.shore_calls.specs.declared.step.Wait.{Wait}
 use Rattle.shore_calls.proofs.Decided.{both_ways}
-use Rattle.shore_calls.proofs.SessionInversions.{AnsweredIn, WaitsIn, answered_in, begun_in, waits_in}
+use Rattle.shore_calls.proofs.SessionInversions.{AnsweredIn, IsLockless, WaitsIn, answered_in, begun_in, waits_in}
 use Rattle.shore_calls.proofs.Sessions.{one_txn}
 use Rattle.shore_calls.proofs.WrongAnswers.{Took, took}
 use Rattle.shore_calls.proofs.WrongResumes.{ends}
@@ -41,8 +41,8 @@ module _ (g : Geometry) (s new : State) (session : ℕ) where
   abbrev Answered : Call → Answer → Type 0
   Answered c answer = CallStep g s session c (Done answer) new
 
-  within : (c : Call) (answer : Answer) → c ≢ call.Begin → Answered c answer → AnsweredIn g s session c answer new
-  within c answer other h = answered_in g s new session c answer other h
+  within : (c : Call) (answer : Answer) → c ≢ call.Begin → (IsLockless c → ⊥) → Answered c answer → AnsweredIn g s session c answer new
+  within c answer other locks h = answered_in g s new session c answer other locks h
 
   -- ---- begins
 
@@ -90,10 +90,10 @@ module _ (g : Geometry) (s new : State) (session : ℕ) where
 
   updated : (id : Rid) (bytes : List ℕ) (answer : Answer) → Answered (call.Update id bytes) answer → Changed id (Some bytes)
   updated id bytes answer h =
-      let t = within (call.Update id bytes) answer (λ e. cc) h in updated_to t.txn id bytes answer t.from.lock t.from.behind.2.0 t.from.behind.2.2
+      let t = within (call.Update id bytes) answer (λ e. cc) (λ x. x) h in updated_to t.txn id bytes answer t.from.lock t.from.behind.2.0 t.from.behind.2.2
 
   deleted : (id : Rid) (answer : Answer) → Answered (call.Delete id) answer → Changed id None
-  deleted id answer h = let t = within (call.Delete id) answer (λ e. cc) h in deleted_at t.txn id answer t.from.lock t.from.behind.2.0 t.from.behind.2.2
+  deleted id answer h = let t = within (call.Delete id) answer (λ e. cc) (λ x. x) h in deleted_at t.txn id answer t.from.lock t.from.behind.2.0 t.from.behind.2.2
 
   unlogged : (id : Rid) (image : Image) → Changed id image → new.log ≡ s.log → ⊥
   unlogged id image h same =
@@ -106,7 +106,7 @@ module _ (g : Geometry) (s new : State) (session : ℕ) where
   update_unlogged id bytes answer same h = unlogged id (Some bytes) (updated id bytes answer h) same
 
   pub update_answered_other : (id : Rid) (bytes : List ℕ) (answer : Answer) → answer ≢ Updated → Answered (call.Update id bytes) answer → ⊥
-  update_answered_other id bytes answer other h = other (within (call.Update id bytes) answer (λ e. cc) h).from.behind.1
+  update_answered_other id bytes answer other h = other (within (call.Update id bytes) answer (λ e. cc) (λ x. x) h).from.behind.1
 
   pub delete_left_out : (id : Rid) (answer : Answer) → get new.sessions.records id ≢ None → Answered (call.Delete id) answer → ⊥
   delete_left_out id answer other h = other (deleted id answer h).there
@@ -115,7 +115,7 @@ module _ (g : Geometry) (s new : State) (session : ℕ) where
   delete_unlogged id answer same h = unlogged id None (deleted id answer h) same
 
   pub delete_answered_other : (id : Rid) (answer : Answer) → answer ≢ Deleted → Answered (call.Delete id) answer → ⊥
-  delete_answered_other id answer other h = other (within (call.Delete id) answer (λ e. cc) h).from.behind.1
+  delete_answered_other id answer other h = other (within (call.Delete id) answer (λ e. cc) (λ x. x) h).from.behind.1
 
   -- the page of a taken place has its slot
   taken : (a : SessionTxn) (store : ℕ) (bytes : List ℕ) (id : Rid) → Took g s new a store bytes id → new.counts id.page ≡ max (s.counts id.page) (id.slot + 1)
@@ -123,43 +123,43 @@ module _ (g : Geometry) (s new : State) (session : ℕ) where
 
   pub insert_without_slot : (store : ℕ) (bytes : List ℕ) (id : Rid) → new.counts id.page ≤ id.slot → Answered (call.Insert store bytes) (Inserted id) → ⊥
   insert_without_slot store bytes id low h =
-      let t = within (call.Insert store bytes) (Inserted id) (λ e. cc) h in
+      let t = within (call.Insert store bytes) (Inserted id) (λ e. cc) (λ x. x) h in
       let here = taken t.txn store bytes id (took g s new t.txn store bytes id t.from) in
       omega arith
 
   -- ---- locks
 
   pub lock_answered_other : (at : Granule) (mode : Mode) (answer : Answer) → answer ≢ Locked → Answered (call.Lock at mode) answer → ⊥
-  lock_answered_other at mode answer other h = other (within (call.Lock at mode) answer (λ e. cc) h).from.behind.0
+  lock_answered_other at mode answer other h = other (within (call.Lock at mode) answer (λ e. cc) (λ x. x) h).from.behind.0
 
   pub try_answered_other : (at : Granule) (mode : Mode) (answer : Answer) → answer ≢ Locked → Answered (call.TryLock at mode) answer → ⊥
-  try_answered_other at mode answer other h = other (within (call.TryLock at mode) answer (λ e. cc) h).from.behind.0
+  try_answered_other at mode answer other h = other (within (call.TryLock at mode) answer (λ e. cc) (λ x. x) h).from.behind.0
 
   -- ---- outside the volume
 
   pub for_update_outside : (id : Rid) (answer : Answer) → (HasSlot g id → ⊥) → Answered (call.GetForUpdate id) answer → ⊥
-  for_update_outside id answer none h = none (within (call.GetForUpdate id) answer (λ e. cc) h).may
+  for_update_outside id answer none h = none (within (call.GetForUpdate id) answer (λ e. cc) (λ x. x) h).may
 
   pub update_outside : (id : Rid) (bytes : List ℕ) (answer : Answer) → (HasSlot g id → ⊥) → Answered (call.Update id bytes) answer → ⊥
-  update_outside id bytes answer none h = none (within (call.Update id bytes) answer (λ e. cc) h).may.1
+  update_outside id bytes answer none h = none (within (call.Update id bytes) answer (λ e. cc) (λ x. x) h).may.1
 
   pub delete_outside : (id : Rid) (answer : Answer) → (HasSlot g id → ⊥) → Answered (call.Delete id) answer → ⊥
-  delete_outside id answer none h = none (within (call.Delete id) answer (λ e. cc) h).may
+  delete_outside id answer none h = none (within (call.Delete id) answer (λ e. cc) (λ x. x) h).may
 
   pub scan_outside : (store : ℕ) (answer : Answer) → (HasStore g store → ⊥) → Answered (call.Scan store) answer → ⊥
-  scan_outside store answer none h = none (within (call.Scan store) answer (λ e. cc) h).may
+  scan_outside store answer none h = none (within (call.Scan store) answer (λ e. cc) (λ x. x) h).may
 
   pub lock_outside : (at : Granule) (mode : Mode) (answer : Answer) → (HasGranule g at → ⊥) → Answered (call.Lock at mode) answer → ⊥
-  lock_outside at mode answer none h = none (within (call.Lock at mode) answer (λ e. cc) h).may.1
+  lock_outside at mode answer none h = none (within (call.Lock at mode) answer (λ e. cc) (λ x. x) h).may.1
 
   pub try_outside : (at : Granule) (mode : Mode) (answer : Answer) → (HasGranule g at → ⊥) → Answered (call.TryLock at mode) answer → ⊥
-  try_outside at mode answer none h = none (within (call.TryLock at mode) answer (λ e. cc) h).may.1
+  try_outside at mode answer none h = none (within (call.TryLock at mode) answer (λ e. cc) (λ x. x) h).may.1
 
   pub lock_in_bad_mode : (at : Granule) (mode : Mode) (answer : Answer) → is_allowed (level_of at) mode ≡ false → Answered (call.Lock at mode) answer → ⊥
-  lock_in_bad_mode at mode answer bad h = both_ways (is_allowed (level_of at) mode) (within (call.Lock at mode) answer (λ e. cc) h).may.0 bad
+  lock_in_bad_mode at mode answer bad h = both_ways (is_allowed (level_of at) mode) (within (call.Lock at mode) answer (λ e. cc) (λ x. x) h).may.0 bad
 
   pub try_in_bad_mode : (at : Granule) (mode : Mode) (answer : Answer) → is_allowed (level_of at) mode ≡ false → Answered (call.TryLock at mode) answer → ⊥
-  try_in_bad_mode at mode answer bad h = both_ways (is_allowed (level_of at) mode) (within (call.TryLock at mode) answer (λ e. cc) h).may.0 bad
+  try_in_bad_mode at mode answer bad h = both_ways (is_allowed (level_of at) mode) (within (call.TryLock at mode) answer (λ e. cc) (λ x. x) h).may.0 bad
 
 -- ---- commits
 

@@ -11,7 +11,7 @@ use Rattle.shore_types.specs.declared.locking.Granule.TheVariants as granule
 use Rattle.shore_types.specs.declared.locking.Mode.{Mode}
 use Rattle.shore_types.specs.declared.locking.Mode.TheVariants.{EX}
 use Rattle.shore_model.specs.declared.calls.Answer.{Answer}
-use Rattle.shore_model.specs.declared.calls.Answer.TheVariants.{Committed}
+use Rattle.shore_model.specs.declared.calls.Answer.TheVariants.{Aborted, Committed}
 use Rattle.shore_model.specs.declared.calls.Call.{Call}
 use Rattle.shore_model.specs.declared.calls.Call.TheVariants as call
 use Rattle.shore_model.specs.declared.histories.Entry.{Entry}
@@ -29,20 +29,23 @@ use Rattle.shore_path.proofs.Acquiring.{told_grows}
 use Rattle.shore_held.proofs.Held.{gone_of}
 use Rattle.shore_held.specs.CallLocks.{Asked, asked_by}
 use Rattle.shore_locks.specs.Orderly.{IsOrderly}
+use Rattle.shore_sessions.specs.declared.rollbacks.Rollback.TheVariants.{Whole}
 use Rattle.shore_sessions.specs.Sessions.{SessionTxn}
 use Rattle.shore_sessions.specs.Views.{IsAmong}
 use Rattle.shore_calls.specs.declared.step.Step.{Step}
 use Rattle.shore_calls.specs.declared.step.Step.TheVariants.{Done, Nothing, Refused, Waits}
 use Rattle.shore_calls.specs.declared.step.Wait.{Wait}
 use Rattle.shore_calls.specs.declared.step.Wait.TheVariants.{Durable, Lock}
-use Rattle.shore_calls.proofs.GoingOn.{behind, still_quiet}
+use Rattle.shore_calls.proofs.GoingOn.{never_waiting}
 use Rattle.shore_calls.proofs.Sessions.{its_txn}
+use Rattle.shore_calls.proofs.RollingLeaves.{back_table, interrupted_table, savepoint_table}
+use Rattle.shore_calls.proofs.SessionInversions.{aborted_in}
 use Rattle.shore_calls.proofs.SessionResumes.{woken}
-use Rattle.shore_calls.proofs.TakenLocks.{leaves}
+use Rattle.shore_calls.proofs.TakenLocks.{leaves, locked_state}
 use Rattle.shore_calls.specs.CallHistories.{txn_of}
 use Rattle.shore_calls.specs.StateChanges.{after_refusal, wait_refused}
 use Rattle.shore_calls.specs.LockChanges.{TakesAsAsked, TakesLock}
-use Rattle.shore_calls.specs.CallSteps.{AnswersBehind, BeginStep, CommitStep, GoesOn, HasLocked, InnerStep, RefusesBehind, ResumesCall, ResumesWait, CallStep, behind_lock, behind_place, lock_outcome, on_conflict_of}
+use Rattle.shore_calls.specs.CallSteps.{AbortStep, AnswersBehind, BeginStep, CommitStep, GoesOn, HasLocked, InnerStep, RefusesBehind, ResumesCall, ResumesWait, CallStep, behind_lock, behind_place, lock_outcome, on_conflict_of}
 use Rattle.shore_calls.specs.LockedStates.{IsSessionsState}
 use Rattle.shore_calls.specs.Events.{IsStateAfter}
 use Rattle.shore_calls.specs.States.{IsOfSession, State, Waiting}
@@ -158,7 +161,8 @@ module _ (g : Geometry) (found : List LogRecord) (es : List Entry) (session : �
     place_lock : (c : Call) (lock : Asked) → (lock_outcome s a c lock).answer ≡ Ok acquire.Done → (id : Rid)
         → TakesLock (behind_lock s a c lock).locks.requests a.txn (granule.Record id) EX (behind_place (behind_lock s a c lock) a id).locks.requests
     place_lock c lock done id =
-        takes_lock (behind_lock s a c lock) (behind g found es session a of s k mem quiet c lock done) mem (still_quiet g found es session a of s k mem quiet c lock done) Refuse (granule.Record id) EX
+        takes_lock (behind_lock s a c lock) (locked_state found es s k a mem quiet (on_conflict_of c) lock.granule lock.mode (never_waiting done)) mem
+        ((leaves found es s k a mem quiet (on_conflict_of c) lock.granule lock.mode).quiet (never_waiting done)) Refuse (granule.Record id) EX
 
     place_change : (c : Call) (lock : Asked) → asked_by c ≡ Some lock → (lock_outcome s a c lock).answer ≡ Ok acquire.Done → (new : State) → PlaceLocks (behind_lock s a c lock) a c new
         → TakesAsAsked s.locks.requests a.txn c new.locks.requests
@@ -206,30 +210,57 @@ abbrev pub ChangesAsAsked : State → ℕ → Call → State → Type 0
 ChangesAsAsked s session c new =
     (new.locks.requests ≡ s.locks.requests) ⊎ ((a : SessionTxn) × IsOfSession s session a × TakesAsAsked s.locks.requests a.txn c new.locks.requests)
 
+-- .. or with an abort's answer all of its transaction go
+abbrev pub ChangesByCall : State → ℕ → Call → Step → State → Type 0
+ChangesByCall s session c step new =
+    ChangesAsAsked s session c new
+    ⊎ ((c ≡ call.Abort) × (step ≡ Done Aborted) × ((a : SessionTxn) × IsOfSession s session a × (new.locks.requests ≡ released a.txn s.locks.requests)))
+
 no_change : (s : State) (session : ℕ) (c : Call) (new : State) → new.locks ≡ s.locks → ChangesAsAsked s session c new
 no_change s session c new same = inl (ap (λ (x : Table). x.requests) same)
 
 module _ (g : Geometry) (found : List LogRecord) (es : List Entry) (s : State) (k : IsStateAfter found es s) where
   inner_changes : (session : ℕ) (a : SessionTxn) → IsOfSession s session a → is_waiting a.txn s.locks.requests ≡ false → (c : Call) (step : Step) (new : State) → InnerStep g s a c step new
-      → ChangesAsAsked s session c new
-  inner_changes session a mem quiet c step new (inl h) = no_change s session c new (ap (λ (x : State). x.locks) h.3)
-  inner_changes session a mem quiet c step new (inr (inl h)) =
-      ⊎_elim (λ same. inl same) (λ taken. inr (a, mem, taken)) (on_changes g found es session a mem.1 s k.sessions mem.0 quiet c step new h.1)
-  inner_changes session a mem quiet c step new (inr (inr h)) = no_change s session c new (commit_keeps_locks s a step new h.1)
+      → ChangesByCall s session c step new
+  inner_changes session a mem quiet c step new (inl h) = inl (no_change s session c new (ap (λ (x : State). x.locks) h.3))
+  inner_changes session a mem quiet c step new (inr (inl (whole, inl h))) = inl (no_change s session c new (ap (λ (x : State). x.locks) h.3))
+  inner_changes session a mem quiet c step new (inr (inl (whole, inr (inl h)))) =
+      inl (⊎_elim (λ same. inl same) (λ taken. inr (a, mem, taken)) (on_changes g found es session a mem.1 s k.sessions mem.0 quiet c step new h.1))
+  inner_changes session a mem quiet c step new (inr (inl (whole, inr (inr (inl h))))) = inl (no_change s session c new (commit_keeps_locks s a step new h.1))
+  inner_changes session a mem quiet c step new (inr (inl (whole, inr (inr (inr h))))) = inl (no_change s session c new (savepoint_table s a step new h.1).locks)
+  inner_changes session a mem quiet c step new (inr (inr (inl h))) = inl (no_change s session c new (back_table s a h.0 step new h.3).locks)
+  inner_changes session a mem quiet c step new (inr (inr (inr h))) = abort_changes step h.1
+    where
+      abort_changes : (step : Step) → AbortStep s a step new → ChangesByCall s session c step new
+      abort_changes (Done answer) x = inr (h.0, ap Done x.0, (a, mem, ap (λ (y : State). y.locks.requests) x.1))
+      abort_changes (Refused f) x = inl (no_change s session c new (interrupted_table s a Whole f new x).locks)
+      abort_changes (Waits wait) x = absurd x
+      abort_changes Nothing x = absurd x
 
-  pub call_changes : (session : ℕ) (c : Call) (step : Step) (new : State) → CallStep g s session c step new → ChangesAsAsked s session c new
-  call_changes session c step new (inl h) = no_change s session c new (ap (λ (x : State). x.locks) h.1)
-  call_changes session c step new (inr (inl h)) = no_change s session c new (ap (λ (x : State). x.locks) h.2)
-  call_changes session c step new (inr (inr (inl h))) = no_change s session c new (ap (λ (x : State). x.locks) h.3)
-  call_changes session c step new (inr (inr (inr (inl h)))) = no_change s session c new (begin_keeps_locks s session step new h.3)
-  call_changes session c step new (inr (inr (inr (inr (inl h))))) = no_change s session c new (ap (λ (x : State). x.locks) h.5)
+  pub call_changes : (session : ℕ) (c : Call) (step : Step) (new : State) → CallStep g s session c step new → ChangesByCall s session c step new
+  call_changes session c step new (inl h) = inl (no_change s session c new (ap (λ (x : State). x.locks) h.1))
+  call_changes session c step new (inr (inl h)) = inl (no_change s session c new (ap (λ (x : State). x.locks) h.2))
+  call_changes session c step new (inr (inr (inl h))) = inl (no_change s session c new (ap (λ (x : State). x.locks) h.3))
+  call_changes session c step new (inr (inr (inr (inl h)))) = inl (no_change s session c new (begin_keeps_locks s session step new h.3))
+  call_changes session c step new (inr (inr (inr (inr (inl h))))) = inl (no_change s session c new (ap (λ (x : State). x.locks) h.5))
   call_changes session c step new (inr (inr (inr (inr (inr h))))) =
       let mem = h.2.1 in
       inner_changes session h.2.0 mem (k.sessions.locks.waits h.0 h.2.0 mem.0 (λ w m same. h.1 w m (same ∙ mem.1))) c step new h.2.2
 
   -- a Commit that goes last takes and gives no lock
   pub commit_keeps : (session : ℕ) (step : Step) (new : State) → CallStep g s session call.Commit step new → new.locks.requests ≡ s.locks.requests
-  commit_keeps session step new h = ⊎_elim (λ same. same) (λ taken. let clash = taken.2.1 in absurd cc) (call_changes session call.Commit step new h)
+  commit_keeps session step new h =
+      ⊎_elim (⊎_elim (λ same. same) (λ taken. let clash = taken.2.1 in absurd cc)) (λ abort. let clash = abort.0 in absurd cc) (call_changes session call.Commit step new h)
+
+  -- once an abort is answered, its transaction has no lock
+  pub abort_gone : (session : ℕ) (answer : Answer) (new : State) → CallStep g s session call.Abort (Done answer) new
+      → (new.locks.requests ≡ released (txn_of s.sessions session) s.locks.requests) × All (λ h. h.txn ≢ txn_of s.sessions session) new.sessions.held
+  abort_gone session answer new h =
+      let t = aborted_in g s new session answer h in
+      let its = sym (its_txn k.sessions.agree t.0 session (inl t.1.0) t.1.1) in
+      subst (λ n. (new.locks.requests ≡ released n s.locks.requests) × All (λ h. h.txn ≢ n) new.sessions.held) its
+      (subst (λ (x : State). (x.locks.requests ≡ released t.0.txn s.locks.requests) × All (λ h. h.txn ≢ t.0.txn) x.sessions.held) (sym t.2.1)
+      (refl, gone_of s.locks.requests t.0.txn k.sessions.locks.orderly))
 
   -- ---- going on
 

@@ -1,15 +1,18 @@
 -- Each event of a manager as events of its sessions, and what these keep.
 use Rattle.std.proofs.Common.{◌≡◌, inl, inr, ⊎_elim, ◌++◌, ◌∷◌, ℕ, List, [], Ok, map, drop, refl, sym, ap, subst, ◌∙◌, arith, length, take, take-append-drop}
 use Rattle.std.specs.Prelude.{Contains, Option, get_or}
+use Rattle.std.specs.List.{AllByRecursion}
+use Rattle.shore_types.specs.Images.{Image}
+use Rattle.shore_types.specs.declared.ids.Rid.{Rid}
 use Rattle.std.proofs.lemmas.List.Elements.{Contains-append_cases, filter_map-append}
 use Rattle.shore_types.specs.declared.layout.Geometry.{Geometry}
 use Rattle.shore_model.specs.declared.calls.Call.{Call}
 use Rattle.shore_model.specs.declared.calls.Call.TheVariants as call
-use Rattle.shore_model.specs.declared.calls.Answer.TheVariants.{Committed}
+use Rattle.shore_model.specs.declared.calls.Answer.TheVariants.{Aborted, Committed}
 use Rattle.shore_model.specs.declared.histories.Decision.{Decision}
 use Rattle.shore_model.specs.declared.histories.Decision.TheVariants as decision
 use Rattle.shore_model.specs.declared.histories.Entry.{Entry}
-use Rattle.shore_model.specs.declared.histories.Entry.TheVariants.{Decided}
+use Rattle.shore_model.specs.declared.histories.Entry.TheVariants.{Decided, Exchanged}
 use Rattle.shore_model.specs.declared.log_records.LogRecord.{LogRecord}
 use Rattle.shore_model.specs.Logs.{commit_of, committed_in}
 use Rattle.shore_model.specs.Records.{Records}
@@ -18,19 +21,28 @@ use Rattle.shore_locks.specs.Grants.{released}
 use Rattle.shore_held.proofs.Held.{released_moves}
 use Rattle.shore_sessions.proofs.Members.{txn_of_one}
 use Rattle.shore_sessions.specs.LogPrefixes.{decisions_in}
-use Rattle.shore_sessions.specs.SessionSteps.{AnswerCommit, AppendCommit, MoveLocks, SessionEvent, StepsTo, entries_by, exchange}
-use Rattle.shore_sessions.specs.Sessions.{SessionTxn, Sessions, commit_answered, txns_of}
+use Rattle.shore_sessions.specs.declared.rollbacks.Rollback.TheVariants.{Whole}
+use Rattle.shore_sessions.specs.LogTells.{AreLogged}
+use Rattle.shore_sessions.specs.Logged.{and_compensations, and_rollback}
+use Rattle.shore_sessions.specs.SessionSteps.{AnswerAbort, AnswerCommit, AppendCommit, MoveLocks, SessionEvent, StepsTo, entries_by, exchange}
+use Rattle.shore_sessions.specs.Sessions.{SessionTxn, Sessions, commit_answered, txns_of, with_undo, without_txn}
+use Rattle.shore_sessions.specs.UndoLists.{rolled_back, undo_rolled}
 use Rattle.shore_sessions.specs.Views.{IsAmong}
 use Rattle.shore_calls.specs.declared.step.Step.{Step}
-use Rattle.shore_calls.proofs.Links.{ComesBy, Goes, IsLike, answer_goes, commit_goes, locks_go, quietly_comes, with_answer, with_commit}
+use Rattle.shore_calls.proofs.Links.{ComesBy, Goes, GoesBy, IsDurable, IsLike, answer_goes, commit_goes, locks_go, quietly_comes, with_answer, with_commit}
 use Rattle.shore_calls.proofs.RefusalTells.{same_entry}
-use Rattle.shore_calls.proofs.SessionStates.{answer_is_durable, its_wait, no_wait}
+use Rattle.shore_calls.proofs.RollbackLinks.{abort_goes, all_put_backs, put_backs, with_abort}
+use Rattle.shore_calls.proofs.RollingCalls.{backs_go, ends_under_way}
+use Rattle.shore_calls.proofs.RollingPassages.{Aborts}
+use Rattle.shore_calls.proofs.Unwinding.{its_list, list_gone, rollback_ends, with_list}
+use Rattle.shore_calls.proofs.SessionStates.{answer_is_durable, its_wait, no_wait, waits_whole}
 use Rattle.shore_calls.proofs.Sessions.{AreSessionsAfter, event_keeps, its_txn}
 use Rattle.shore_calls.proofs.StepPassages.{CallPasses, Commits, IsAnswered, ResumePasses, call_passes, resume_passes}
 use Rattle.shore_calls.specs.CallHistories.{txn_of}
 use Rattle.shore_calls.specs.Events.{Called, Forced, HasFailed, IsStateAfter, ManagerEvent, Resumed, EventMoves, entries_of, entries_of_resume, entries_of_waiting}
 use Rattle.shore_calls.specs.StateChanges.{wait_refused}
-use Rattle.shore_calls.specs.CallSteps.{ResumesCall, CallStep, ResumeStep, commit_ended, with_requests}
+use Rattle.shore_calls.specs.CallSteps.{ResumesCall, CallStep, ResumeStep, aborted, commit_ended, with_requests}
+use Rattle.shore_calls.specs.Rollbacks.{put_back}
 use Rattle.shore_calls.specs.LockedStates.{entries_of_resumed, entries_of_call}
 use Rattle.shore_calls.specs.States.{State, Waiting}
 
@@ -77,7 +89,7 @@ like_itself s = record { sessions = refl; log = refl; counts = refl; stream = re
 
 -- nothing happens to the sessions
 nothing_comes : (g : Geometry) (s new : State) → IsLike s new → ComesBy g s new []
-nothing_comes g s new like = record { start = s; before = like_itself s; events = []; late = tt; durable = tt; mid = s; goes = (refl, refl); after = like }
+nothing_comes g s new like = record { start = s; before = like_itself s; events = []; durable = tt; mid = s; goes = (refl, refl); after = like }
 
 module _ (g : Geometry) (found : List LogRecord) (es : List Entry) (s : State) (k : IsStateAfter found es s) where
   commit_comes : (session : ℕ) (new : State) (made : List Entry) → Commits s session new made → ComesBy g s new made
@@ -88,19 +100,94 @@ module _ (g : Geometry) (found : List LogRecord) (es : List Entry) (s : State) (
         start = s;
         before = like_itself s;
         events = AppendCommit a ∷ [];
-        late = tt;
         durable = (tt, tt);
         mid = with_commit g s a;
-        goes = (with_commit g s a, [], commit_goes g s a h.of.0, (refl, refl), refl);
+        goes = (with_commit g s a, [], commit_goes g s a h.of.0 h.whole, (refl, refl), refl);
         after = subst (IsLike (with_commit g s a)) (sym h.is) (record { sessions = refl; log = refl; counts = refl; stream = refl });
       })
+
+  -- ---- an abort is answered: its images are put back, the newest first, and then its locks go
+
+  module _ (session : ℕ) (a : SessionTxn) (of : a.session ≡ session) (mem : IsAmong a s.sessions.active) where
+    -- the states before and behind the locks, and the events between
+    abbrev unlocked : State
+    unlocked = with_requests (with_abort s a) (released a.txn s.locks.requests)
+
+    abbrev unlocks_all : SessionEvent
+    unlocks_all = MoveLocks (held_by_all (released a.txn s.locks.requests))
+
+    unlocking : StepsTo (with_abort s a).sessions unlocks_all unlocked.sessions
+    unlocking =
+        released_moves (with_abort s a).sessions s.locks.requests a.txn k.sessions.locks.held k.sessions.locks.orderly k.sessions.locks.rooted k.sessions.locks.below
+        (ends_under_way g found es session a of s k.sessions mem)
+
+    abbrev left_by : Records → List SessionTxn → List LogRecord → State
+    left_by R xs log = record s { sessions = record s.sessions { records = R; active = xs }; log = log }
+
+    abbrev abort_entry : Entry
+    abort_entry = Exchanged a.session a.txn (exchange call.Abort (Ok Aborted))
+
+    -- behind the abort its locks go
+    then_unlocks : (start : State) (b : SessionTxn) → b.session ≡ a.session → b.txn ≡ a.txn → with_abort start b ≡ with_abort s a → Goes g start (AnswerAbort b) (with_abort start b)
+        → GoesBy g start (AnswerAbort b ∷ unlocks_all ∷ []) unlocked (abort_entry ∷ [])
+    then_unlocks start b session_is txn_is same goes = (
+      with_abort s a,
+      [],
+      subst (Goes g start (AnswerAbort b)) same goes,
+      (unlocked, [], locks_go g (with_abort s a) (released a.txn s.locks.requests) unlocking, (refl, refl), refl),
+      ap (λ n. Exchanged n a.txn (exchange call.Abort (Ok Aborted)) ∷ []) (sym session_is) ∙ ap (λ t. Exchanged b.session t (exchange call.Abort (Ok Aborted)) ∷ []) (sym txn_is),
+    )
+
+    aborting : (events : List SessionEvent) → AllByRecursion (IsDurable s) events → GoesBy g s events unlocked (abort_entry ∷ []) → ComesBy g s (aborted s a) (abort_entry ∷ [])
+    aborting events durable goes = record {
+      start = s;
+      before = like_itself s;
+      events = events;
+      durable = durable;
+      mid = unlocked;
+      goes = goes;
+      after = record { sessions = refl; log = refl; counts = refl; stream = refl };
+    }
+
+    -- nothing is to be put back
+    aborts_at_once : a.undo.images ≡ [] → ComesBy g s (aborted s a) (abort_entry ∷ [])
+    aborts_at_once none = aborting (AnswerAbort a ∷ unlocks_all ∷ []) (tt, (tt, tt)) (then_unlocks s a refl refl refl (abort_goes g s a mem none))
+
+    aborts_in_steps : (e : Rid × Image) (others : List (Rid × Image)) → a.undo.images ≡ e ∷ others → ComesBy g s (aborted s a) (abort_entry ∷ [])
+    aborts_in_steps e others images =
+        let undo = undo_rolled a.undo [] Whole in
+        let its = with_list a undo in
+        let unwound = put_back s a [] (e ∷ others) Whole in
+        let logged : AreLogged s.log a.txn (e ∷ others) = subst (AreLogged s.log a.txn) images (k.sessions.log.undo_logged a mem) in
+        let log : and_rollback a.txn (and_compensations a.txn s.log (e ∷ others)) [] ≡ and_rollback a.txn s.log a.undo.images =
+        rollback_ends a.txn (k.sessions.agree.above a (inl mem)) s.log e others logged ∙ ap (and_rollback a.txn s.log) (sym images) in
+        let same : with_abort unwound its ≡ with_abort s a =
+        ap (λ (x : List LogRecord). left_by (rolled_back s.sessions.records (e ∷ others)) (without_txn a.txn (with_undo a.txn undo s.sessions.active)) x) log
+        ∙ ap (λ (x : List SessionTxn). left_by (rolled_back s.sessions.records (e ∷ others)) x (and_rollback a.txn s.log a.undo.images)) (list_gone a.txn undo s.sessions.active)
+        ∙ ap (λ (x : List (Rid × Image)). left_by (rolled_back s.sessions.records x) (without_txn a.txn s.sessions.active) (and_rollback a.txn s.log a.undo.images)) (sym images) in
+        aborting (put_backs a [] e others Whole (AnswerAbort its ∷ unlocks_all ∷ []))
+        (all_put_backs (IsDurable s) a (λ undo kept e r. tt) [] e others Whole (AnswerAbort its ∷ unlocks_all ∷ []) (tt, (tt, tt)))
+        (backs_go g found es session a of s k.sessions mem Whole tt [] e others images (omega arith) (AnswerAbort its ∷ unlocks_all ∷ []) unlocked (abort_entry ∷ [])
+        (then_unlocks unwound its refl refl same (abort_goes g unwound its (its_list a undo s.sessions.active mem) refl)))
+
+    abort_leads : (xs : List (Rid × Image)) → a.undo.images ≡ xs → ComesBy g s (aborted s a) (abort_entry ∷ [])
+    abort_leads [] none = aborts_at_once none
+    abort_leads (e ∷ others) images = aborts_in_steps e others images
+
+  abort_comes : (session : ℕ) (new : State) (made : List Entry) → Aborts s session new made → ComesBy g s new made
+  abort_comes session new made h =
+      let a = h.txn in
+      let entry = same_entry a.session session a.txn (txn_of s.sessions session) (exchange call.Abort (Ok Aborted)) h.of.1 (sym (its_txn k.sessions.agree a session (inl h.of.0) h.of.1)) in
+      subst (λ (x : State). ComesBy g s x made) (sym h.is)
+      (subst (ComesBy g s (aborted s a)) (ap (λ (e : Entry). e ∷ []) entry ∙ sym h.entries) (abort_leads session a h.of.1 h.of.0 a.undo.images refl))
 
   pub session_call_comes : (session : ℕ) (c : Call) (step : Step) (new : State) → CallStep g s session c step new → ComesBy g s new (entries_of_call s session c step)
   session_call_comes session c step new h = by (call_passes g found es s k.sessions session c step new h)
     where
       by : CallPasses g s session new (entries_of_call s session c step) → ComesBy g s new (entries_of_call s session c step)
       by (inl quiet) = quietly_comes g session s s new (entries_of_call s session c step) (like_itself s) quiet
-      by (inr commit) = commit_comes session new (entries_of_call s session c step) commit
+      by (inr (inl commit)) = commit_comes session new (entries_of_call s session c step) commit
+      by (inr (inr abort)) = abort_comes session new (entries_of_call s session c step) abort
 
   module _ (w : Waiting) (there : IsAmong w s.waiting) (new : State) (made : List Entry) (h : IsAnswered s w.session w.wait new made) where
     abbrev a : SessionTxn
@@ -127,7 +214,6 @@ module _ (g : Geometry) (found : List LogRecord) (es : List Entry) (s : State) (
           start = s;
           before = like_itself s;
           events = AnswerCommit a ∷ MoveLocks (held_by_all (released a.txn s.locks.requests)) ∷ [];
-          late = (tt, tt);
           durable = (
             subst (λ t. IsAmong t (committed_in (take s.durable s.log))) its_number
                 (is_committed (length found) (txn_of s.sessions w.session) (take s.durable s.log) (answer_is_durable found es s k w there h.number h.waits h.durable a h.committing h.of)),
@@ -145,7 +231,7 @@ module _ (g : Geometry) (found : List LogRecord) (es : List Entry) (s : State) (
         })
 
   session_resumed_comes : (w : Waiting) → IsAmong w s.waiting → (step : Step) (new : State) → ResumesCall g s w step new → ComesBy g s new (entries_of_resumed s w step)
-  session_resumed_comes w m step new h = by (resume_passes g found es s k.sessions w step new h)
+  session_resumed_comes w m step new h = by (resume_passes g found es s k.sessions w (waits_whole found es s k w m) step new h)
     where
       by : ResumePasses g s w.session w.wait new (entries_of_resumed s w step) → ComesBy g s new (entries_of_resumed s w step)
       by (inl same) = subst (ComesBy g s new) (sym same.1) (nothing_comes g s new (subst (IsLike s) (sym same.0) (like_itself s)))

@@ -7,7 +7,11 @@ use Rattle.shore_types.specs.declared.layout.Geometry.{Geometry}
 use Rattle.shore_model.specs.declared.calls.Answer.{Answer}
 use Rattle.shore_model.specs.declared.calls.Call.{Call}
 use Rattle.shore_model.specs.declared.calls.Call.TheVariants as call
+use Rattle.shore_sessions.specs.declared.rollbacks.Rollback.{Rollback}
+use Rattle.shore_sessions.specs.declared.rollbacks.Rollback.TheVariants.{To, Whole}
 use Rattle.shore_sessions.specs.Sessions.{SessionTxn}
+use Rattle.shore_calls.proofs.RollingLeaves.{unwound_runs}
+use Rattle.shore_calls.specs.Rollbacks.{IsInterrupted}
 use Rattle.shore_sessions.specs.Views.{IsAmong}
 use Rattle.shore_calls.specs.declared.step.Step.TheVariants.{Done, Refused}
 use Rattle.shore_calls.specs.declared.step.Wait.{Wait}
@@ -16,7 +20,7 @@ use Rattle.shore_calls.proofs.AfterRefusals.{goes_leaves}
 use Rattle.shore_calls.proofs.SessionInversions.{answered_from}
 use Rattle.shore_calls.proofs.WrongResumes.{of_another}
 use Rattle.shore_calls.specs.StateChanges.{after_refusal, wait_refused}
-use Rattle.shore_calls.specs.CallSteps.{AnswersBehind, GoesOn, LacksMemory, RefusesBehind, ResumesWait, CallStep, ResumeStep, behind_lock}
+use Rattle.shore_calls.specs.CallSteps.{AnswersBehind, GoesOn, InnerStep, LacksMemory, RefusesBehind, ResumesWait, CallStep, ResumeStep, behind_lock}
 use Rattle.shore_calls.specs.States.{DoesNotWait, State, Waiting, without_waiting}
 
 -- ---- who waits
@@ -102,6 +106,18 @@ module _ (g : Geometry) (s new : State) (session : ℕ) where
   goes_runs a c f runs (inr (inl h)) = ap (λ (s : State). s.failed) h.3
   goes_runs a c f runs (inr (inr h)) = behind_runs h.0 a c f runs h.2 ∙ ap (λ (s : State). s.failed) h.1.3
 
+  interrupted_runs : (a : SessionTxn) (r : Rollback) (f : Fault) → Runs f → IsInterrupted s a r f new → new.failed ≡ s.failed
+  interrupted_runs a r f runs h = left h.0 f runs h.3 ∙ unwound_runs s a r h.0 h.1
+
+  inner_runs : (a : SessionTxn) (c : Call) (f : Fault) → Runs f → InnerStep g s a c (Refused f) new → new.failed ≡ s.failed
+  inner_runs a c f runs (inl h) = ap (λ (s : State). s.failed) h.3
+  inner_runs a c f runs (inr (inl (whole, inl h))) = ap (λ (s : State). s.failed) h.3
+  inner_runs a c f runs (inr (inl (whole, inr (inl h)))) = goes_runs a c f runs h.1
+  inner_runs a c f runs (inr (inl (whole, inr (inr (inl h))))) = absurd h.1
+  inner_runs a c f runs (inr (inl (whole, inr (inr (inr h))))) = ap (λ (s : State). s.failed) h.1.2
+  inner_runs a c f runs (inr (inr (inl h))) = ⊎_elim (λ late. ap (λ (s : State). s.failed) late.2) (λ rolls. interrupted_runs a (To h.0) f runs rolls.1) h.3
+  inner_runs a c f runs (inr (inr (inr h))) = interrupted_runs a Whole f runs h.1
+
   pub refusal_runs : (c : Call) (f : Fault) → f ≢ fault.Device → ((device : Device) (offset : ℕ) → f ≢ fault.Damaged device offset)
       → CallStep g s session c (Refused f) new → new.failed ≡ s.failed
   refusal_runs c f device damaged (inl h) = ap (λ (s : State). s.failed) h.1
@@ -110,7 +126,4 @@ module _ (g : Geometry) (s new : State) (session : ℕ) where
   refusal_runs c f device damaged (inr (inr (inr (inl h)))) = ap (λ (s : State). s.failed) h.3.1
   refusal_runs c f device damaged (inr (inr (inr (inr (inl h))))) = ap (λ (s : State). s.failed) h.5
   refusal_runs c f device damaged (inr (inr (inr (inr (inr h))))) =
-      ⊎_elim
-      (λ early. ap (λ (s : State). s.failed) early.3)
-      (⊎_elim (λ goes. goes_runs h.2.0 c f (device, damaged) goes.1) (λ commits. absurd commits.1))
-      h.2.2
+      inner_runs h.2.0 c f (device, damaged) h.2.2

@@ -86,7 +86,7 @@ page_fault_tells_nothing s f (inr (inr force)) = subst TellsNothing (sym force.1
 pub some_and : {A : Type 0} (o : Option A) (x : A) (P : A → Type 0) → o ≡ Some x → P x → IsSomeAnd o P
 some_and o x P e p = subst (λ o. IsSomeAnd o P) (sym e) p
 
-module _ (g : Geometry) (found : List LogRecord) (es : List Entry) (session : ℕ) (a : SessionTxn) (of : a.session ≡ session) where
+module _ (g : Geometry) (found : List LogRecord) (es : List Entry) (session : ℕ) (a : SessionTxn) (of : a.session ≡ session) (whole : a.undo.rolling ≡ None) where
   abbrev refused_entry : State → Call → Fault → Entry
   refused_entry s c f = Exchanged session (txn_of s.sessions session) (exchange c (Err f))
 
@@ -117,7 +117,7 @@ module _ (g : Geometry) (found : List LogRecord) (es : List Entry) (session : �
         → (answer : Answer) (counts : SlotCounts) → IsRight s.sessions.records (length a.undo.marks) c answer
         → IsSessionsState found (es ++ answer_entry s c answer ∷ []) (answered (behind_lock s a c lock) a c answer counts)
     given c lock asked done other answer counts right =
-        answer_given found es (behind_lock s a c lock) (behind c lock done) session a mem of c (asking_is_inner c lock asked) answer counts (permits c lock asked done other answer) right
+        answer_given found es (behind_lock s a c lock) (behind c lock done) session a mem of c (asking_is_inner c lock asked) answer counts (permits c lock asked done other answer) right (inl whole)
 
     -- the place of an insert is locked too
     module _ (l : State) (kl : IsSessionsState found es l) (meml : IsAmong a l.sessions.active) (quietl : is_waiting a.txn l.locks.requests ≡ false) (id : Rid) where
@@ -133,7 +133,7 @@ module _ (g : Geometry) (found : List LogRecord) (es : List Entry) (session : �
           → IsSessionsState found (es ++ answer_entry l (call.Insert store bytes) (Inserted id) ∷ []) (answered (behind_place l a id) a (call.Insert store bytes) (Inserted id) counts)
       inserted store bytes counts done in_store empty =
           answer_given found es (behind_place l a id) (at_place (never_waiting done)) session a meml of (call.Insert store bytes) tt (Inserted id) counts (place_permits store bytes done)
-          (id, refl, in_store, empty)
+          (id, refl, in_store, empty) (inl whole)
 
     answers_kept : (c : Call) (lock : Asked) → asked_by c ≡ Some lock → (lock_outcome s a c lock).answer ≡ Ok acquire.Done → (answer : Answer) (new : State)
         → AnswersBehind g (behind_lock s a c lock) a c answer new → IsSessionsState found (es ++ answer_entry s c answer ∷ []) new
@@ -170,7 +170,7 @@ module _ (g : Geometry) (found : List LogRecord) (es : List Entry) (session : �
         (told l kl c f)
         (λ none.
         subst (λ (x : Fault). IsSessionsState found (es ++ refused_entry l c x ∷ []) (after_refusal x l)) (sym none)
-        (absence_told found es l kl session a meml of c inner (known_absent (record_named_by c) id l.sessions.held l a.txn named may (subst (RefusesRead l id) none h))))
+        (absence_told found es l kl session a meml of c inner whole (known_absent (record_named_by c) id l.sessions.held l a.txn named may (subst (RefusesRead l id) none h))))
         (tells_or_none f)
 
     -- a refusal by this fault, which leaves all as it is

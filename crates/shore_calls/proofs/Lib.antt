@@ -1,6 +1,7 @@
 pub mod Acknowledged
 pub mod AcquireAnswers
 pub mod AfterRefusals
+pub mod AlikeEnds
 pub mod AnswersDone
 pub mod AskedLocks
 pub mod Comings
@@ -19,11 +20,16 @@ pub mod LowestPlaces
 pub mod OneBehind
 pub mod OneSessionStep
 pub mod Passing
-pub mod Prefixes
 pub mod PlainReads
+pub mod Prefixes
 pub mod RefusalCauses
 pub mod RefusalTells
 pub mod ReplyLinks
+pub mod RollbackLinks
+pub mod RollbackRuns
+pub mod RollingCalls
+pub mod RollingLeaves
+pub mod RollingPassages
 pub mod Rooms
 pub mod Rows
 pub mod SessionCalls
@@ -44,7 +50,9 @@ pub mod Sessions
 pub mod SessionsWaiting
 pub mod StepPassages
 pub mod TakenLocks
+pub mod Unwinding
 pub mod WrongAnswers
 pub mod WrongRefusals
 pub mod WrongResumes
+pub mod WrongRollbacks
 pub mod WrongWaits

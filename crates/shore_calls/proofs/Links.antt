@@ -1,5 +1,5 @@
 -- What a step of a manager is to its sessions: their events one after another, each with what it leaves of log, slots and room.
-use Rattle.std.proofs.Common.{◌≡◌, ◌⊎◌, inl, inr, ◌++◌, ◌∷◌, ◌+◌, ◌<◌, ◌≤◌, ℕ, List, [], Bool, true, false, cond, Some, Err, refl, sym, ap, subst, append-nil, arith, length, take}
+use Rattle.std.proofs.Common.{◌≡◌, ◌≢◌, ◌⊎◌, inl, inr, ◌++◌, ◌∷◌, ◌+◌, ◌<◌, ◌≤◌, ℕ, List, [], Bool, true, false, cond, None, Some, Err, refl, sym, ap, subst, append-nil, arith, length, take}
 use Rattle.std.specs.Prelude.{◌==◌, IsSome, not}
 use Rattle.std.specs.FinMap.{get}
 use Rattle.std.specs.List.{AllByRecursion}
@@ -16,7 +16,7 @@ use Rattle.shore_model.specs.declared.calls.Call.{Call}
 use Rattle.shore_model.specs.declared.histories.Entry.{Entry}
 use Rattle.shore_model.specs.declared.log_records.Payload.TheVariants as payload
 use Rattle.shore_model.specs.declared.requests.Request.{Request}
-use Rattle.shore_model.specs.Logs.{committed_in}
+use Rattle.shore_model.specs.Logs.{committed_in, logged_writes}
 use Rattle.shore_model.specs.Requests.{held_by_all}
 use Rattle.shore_nodes.proofs.Counts.{length-filter_most}
 use Rattle.shore_held.specs.CallLocks.{Asked, asked_by}
@@ -25,13 +25,13 @@ use Rattle.shore_room.specs.Events.{EventFits}
 use Rattle.shore_room.specs.LogRooms.{EventAdmits, LogRoom, RoomAfter, begun_room, ended_room, owed}
 use Rattle.shore_sessions.proofs.Lists.{length-push}
 use Rattle.shore_sessions.specs.Logged.{and_record, log_after}
-use Rattle.shore_sessions.specs.SessionSteps.{AnswerAbort, AnswerCommit, AppendCommit, BeginTxn, GiveReply, MoveLocks, RefuseCall, SessionEvent, StepsTo, entries_by}
+use Rattle.shore_sessions.specs.SessionSteps.{AnswerAbort, AnswerCommit, AppendCommit, BeginTxn, GiveReply, MoveLocks, PutBack, RefuseCall, SessionEvent, StepsTo, entries_by}
 use Rattle.shore_sessions.specs.Sessions.{SessionTxn, commit_answered, commit_appended, txn_begun, without_txn}
 use Rattle.shore_sessions.specs.Views.{IsAmong}
 use Rattle.shore_calls.proofs.Rooms.{cost_pushed}
 use Rattle.shore_calls.specs.StateChanges.{FitsAt, with_failure}
 use Rattle.shore_calls.specs.CallSteps.{lock_waiting, txn_count, with_requests}
-use Rattle.shore_calls.specs.States.{DoesNotWait, HasNoTxn, MayBegin, State, cost_of_log, log_room}
+use Rattle.shore_calls.specs.States.{DoesNotWait, HasNoTxn, MayBegin, State, Waiting, cost_of_log, log_room}
 
 -- ---- how many transactions there are
 
@@ -66,9 +66,25 @@ pub record Changes (g : Geometry) (s new : State) : Type 0 where
   pub fits : FitsAt s id image
   pub grows : Grows s.counts new.counts id
 
--- or log and slots stay
+-- .. or by an End
+pub record Ends (s new : State) : Type 0 where
+  pub txn : ℕ
+  pub log : new.log ≡ and_record txn s.log payload.End
+  pub counts : new.counts ≡ s.counts
+
+-- .. or by a Compensation at an id for which its transaction has logged an image
+pub record Compensates (s new : State) : Type 0 where
+  pub txn : ℕ
+  pub id : Rid
+  pub image : Image
+  pub next : ℕ
+  pub log : new.log ≡ and_record txn s.log (payload.Compensation id image next)
+  pub logged : IsSome (get (logged_writes s.log txn) id)
+  pub counts : new.counts ≡ s.counts
+
+-- one record at most, or log and slots stay
 abbrev pub Writes : Geometry → State → State → Type 0
-Writes g s new = ((new.log ≡ s.log) × (new.counts ≡ s.counts)) ⊎ (Commits s new ⊎ Changes g s new)
+Writes g s new = ((new.log ≡ s.log) × (new.counts ≡ s.counts)) ⊎ (Commits s new ⊎ (Changes g s new ⊎ (Ends s new ⊎ Compensates s new)))
 
 -- the room of the log behind the event is this one
 pub record HasRoomAfter (s : State) (e : SessionEvent) (new : State) : Type 0 where
@@ -173,9 +189,9 @@ module _ (g : Geometry) (s : State) where
     abbrev pub with_commit : State
     with_commit = record s { sessions = commit_appended s.sessions a; log = and_record a.txn s.log payload.Commit }
 
-    pub commit_goes : IsAmong a s.sessions.active → Goes g s (AppendCommit a) with_commit
-    commit_goes mem = record {
-      moves = (mem, refl);
+    pub commit_goes : IsAmong a s.sessions.active → a.undo.rolling ≡ None → Goes g s (AppendCommit a) with_commit
+    commit_goes mem whole = record {
+      moves = (mem, whole, refl);
       log = refl;
       durable = refl;
       stream = refl;
@@ -228,26 +244,6 @@ pub record IsLike (s t : State) : Type 0 where
   pub counts : t.counts ≡ s.counts
   pub stream : t.stream_bytes ≡ s.stream_bytes
 
--- the event appends no record
-abbrev pub IsMute : SessionEvent → Type 0
-IsMute (MoveLocks held) = Unit {0}
-IsMute (BeginTxn session) = Unit {0}
-IsMute (AnswerCommit a) = Unit {0}
-IsMute (RefuseCall session t c f) = Unit {0}
-IsMute (GiveReply a c reply) = ⊥
-IsMute (AppendCommit a) = ⊥
-IsMute (AnswerAbort a) = ⊥
-
--- what is appended is appended by the last
-abbrev pub AppendLast : List SessionEvent → Type 0
-AppendLast [] = Unit {0}
-AppendLast (e ∷ []) = Unit {0}
-AppendLast (e ∷ f ∷ events) = IsMute e × AppendLast (f ∷ events)
-
-mute_first : (e : SessionEvent) (events : List SessionEvent) → IsMute e → AppendLast events → AppendLast (e ∷ events)
-mute_first e [] mute last = tt
-mute_first e (f ∷ events) mute last = (mute, last)
-
 -- a commit is answered whose record is durable
 abbrev pub IsDurable : State → SessionEvent → Type 0
 IsDurable s (AnswerCommit a) = IsAmong a.txn (committed_in (take s.durable s.log))
@@ -255,6 +251,7 @@ IsDurable s (MoveLocks held) = Unit {0}
 IsDurable s (BeginTxn session) = Unit {0}
 IsDurable s (GiveReply a c reply) = Unit {0}
 IsDurable s (AppendCommit a) = Unit {0}
+IsDurable s (PutBack a kept e r) = Unit {0}
 IsDurable s (AnswerAbort a) = Unit {0}
 IsDurable s (RefuseCall session t c f) = Unit {0}
 
@@ -263,7 +260,6 @@ pub record ComesBy (g : Geometry) (s new : State) (made : List Entry) : Type 0 w
   pub start : State
   pub before : IsLike s start
   pub events : List SessionEvent
-  pub late : AppendLast events
   pub durable : AllByRecursion (IsDurable s) events
   pub mid : State
   pub goes : GoesBy g start events mid made
@@ -271,21 +267,23 @@ pub record ComesBy (g : Geometry) (s new : State) (made : List Entry) : Type 0 w
 
 -- ---- events behind which each call that waited waits on
 
--- no transaction is decided or ended
-abbrev pub IsQuiet : SessionEvent → Type 0
-IsQuiet (MoveLocks held) = Unit {0}
-IsQuiet (BeginTxn session) = Unit {0}
-IsQuiet (GiveReply a c reply) = Unit {0}
-IsQuiet (RefuseCall session t c f) = Unit {0}
-IsQuiet (AppendCommit a) = ⊥
-IsQuiet (AnswerAbort a) = ⊥
-IsQuiet (AnswerCommit a) = ⊥
+-- no transaction is decided or ended, and no image of one is put back of whose session a call waits
+abbrev pub IsQuiet : State → SessionEvent → Type 0
+IsQuiet s (MoveLocks held) = Unit {0}
+IsQuiet s (BeginTxn session) = Unit {0}
+IsQuiet s (GiveReply a c reply) = Unit {0}
+IsQuiet s (RefuseCall session t c f) = Unit {0}
+IsQuiet s (PutBack a kept e r) = (b : SessionTxn) (w : Waiting) → IsAmong b s.sessions.active → IsAmong w s.waiting → b.session ≡ w.session → b.txn ≢ a.txn
+IsQuiet s (AppendCommit a) = ⊥
+IsQuiet s (AnswerAbort a) = ⊥
+IsQuiet s (AnswerCommit a) = ⊥
 
 -- the call of a session begins to wait for a lock
 pub record BeginsToWait (session : ℕ) (mid new : State) : Type 0 where
   pub txn : SessionTxn
   pub active : IsAmong txn mid.sessions.active
   pub of : txn.session ≡ session
+  pub whole : txn.undo.rolling ≡ None
   pub idle : DoesNotWait mid session
   pub call : Call
   pub lock : Asked
@@ -299,26 +297,25 @@ IsLeft session mid new = (new ≡ mid) ⊎ ((new ≡ with_failure mid) ⊎ Begin
 
 pub record GoesQuietly (g : Geometry) (session : ℕ) (s new : State) (made : List Entry) : Type 0 where
   pub events : List SessionEvent
-  pub quiet : AllByRecursion IsQuiet events
-  pub late : AppendLast events
+  pub quiet : AllByRecursion (IsQuiet s) events
   pub mid : State
   pub goes : GoesBy g s events mid made
   pub left : IsLeft session mid new
 
 module _ (g : Geometry) (session : ℕ) where
   -- one event
-  pub quietly_one : (s : State) (e : SessionEvent) (mid new : State) → IsQuiet e → Goes g s e mid → IsLeft session mid new → GoesQuietly g session s new (entries_by s.sessions e)
-  quietly_one s e mid new quiet goes left = record { events = e ∷ []; quiet = (quiet, tt); late = tt; mid = mid; goes = (mid, [], goes, (refl, refl), sym (append-nil (entries_by s.sessions e))); left = left }
+  pub quietly_one : (s : State) (e : SessionEvent) (mid new : State) → IsQuiet s e → Goes g s e mid → IsLeft session mid new → GoesQuietly g session s new (entries_by s.sessions e)
+  quietly_one s e mid new quiet goes left = record { events = e ∷ []; quiet = (quiet, tt); mid = mid; goes = (mid, [], goes, (refl, refl), sym (append-nil (entries_by s.sessions e))); left = left }
 
-  -- .. and others behind it
-  pub quietly_then : (s : State) (e : SessionEvent) (mid new : State) (made : List Entry) → IsQuiet e → IsMute e → Goes g s e mid → GoesQuietly g session mid new made
-      → GoesQuietly g session s new (entries_by s.sessions e ++ made)
-  quietly_then s e mid new made quiet mute goes rest =
-      record { events = e ∷ rest.events; quiet = (quiet, rest.quiet); late = mute_first e rest.events mute rest.late; mid = rest.mid; goes = (mid, made, goes, rest.goes, refl); left = rest.left }
+  -- .. and before it locks move
+  pub quietly_behind : (s : State) (rs : List Request) (new : State) (made : List Entry) → Goes g s (MoveLocks (held_by_all rs)) (with_requests s rs)
+      → GoesQuietly g session (with_requests s rs) new made → GoesQuietly g session s new made
+  quietly_behind s rs new made goes rest =
+      record { events = MoveLocks (held_by_all rs) ∷ rest.events; quiet = (tt, rest.quiet); mid = rest.mid; goes = (with_requests s rs, made, goes, rest.goes, refl); left = rest.left }
 
   -- none
   pub quietly_none : (s new : State) → IsLeft session s new → GoesQuietly g session s new []
-  quietly_none s new left = record { events = []; quiet = tt; late = tt; mid = s; goes = (refl, refl); left = left }
+  quietly_none s new left = record { events = []; quiet = tt; mid = s; goes = (refl, refl); left = left }
 
 -- what is left is like the state before
 pub left_like : (session : ℕ) (mid new : State) → IsLeft session mid new → IsLike mid new
@@ -327,16 +324,17 @@ left_like session mid new (inr (inl failed)) = subst (IsLike mid) (sym failed) (
 left_like session mid new (inr (inr waits)) = subst (IsLike mid) (sym waits.is) (record { sessions = refl; log = refl; counts = refl; stream = refl })
 
 -- no commit is answered
-none_to_answer : (s : State) (events : List SessionEvent) → AllByRecursion IsQuiet events → AllByRecursion (IsDurable s) events
-none_to_answer s [] quiet = tt
-none_to_answer s (e ∷ events) quiet = (none e quiet.0, none_to_answer s events quiet.1)
+none_to_answer : (s start : State) (events : List SessionEvent) → AllByRecursion (IsQuiet start) events → AllByRecursion (IsDurable s) events
+none_to_answer s start [] quiet = tt
+none_to_answer s start (e ∷ events) quiet = (none e quiet.0, none_to_answer s start events quiet.1)
   where
-    none : (e : SessionEvent) → IsQuiet e → IsDurable s e
+    none : (e : SessionEvent) → IsQuiet start e → IsDurable s e
     none (AnswerCommit a) quiet = absurd quiet
     none (MoveLocks held) quiet = tt
     none (BeginTxn session) quiet = tt
     none (GiveReply a c reply) quiet = tt
     none (AppendCommit a) quiet = tt
+    none (PutBack a kept e r) quiet = tt
     none (AnswerAbort a) quiet = tt
     none (RefuseCall session t c f) quiet = tt
 
@@ -345,8 +343,7 @@ quietly_comes g session s start new made before h = record {
   start = start;
   before = before;
   events = h.events;
-  late = h.late;
-  durable = none_to_answer s h.events h.quiet;
+  durable = none_to_answer s start h.events h.quiet;
   mid = h.mid;
   goes = h.goes;
   after = left_like session h.mid new h.left;

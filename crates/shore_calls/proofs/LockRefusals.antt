@@ -22,7 +22,7 @@ use Rattle.shore_sessions.specs.Sessions.{SessionTxn}
 use Rattle.shore_calls.proofs.AcquireAnswers.{allowed_mode, wait_never_blocks}
 use Rattle.shore_calls.proofs.RefusalCauses.{table_full}
 use Rattle.shore_calls.proofs.SessionInversions.{IsOwn, RefusedIn, asks_no_begin, insert_asks, refused_in, same_lock}
-use Rattle.shore_calls.proofs.WrongRefusals.{IsBehind, RefusedWith, begin_fault, begin_refused, refused_behind, refused_early}
+use Rattle.shore_calls.proofs.WrongRefusals.{IsBehind, RefusedWith, begin_fault, begin_refused, page_behind, refused_behind, refused_early}
 use Rattle.shore_calls.specs.CallSteps.{Finds, IsPlaceOf, IsTooLong, RefusesBehind, RefusesEarly, RefusesGranule, RefusesLock, RefusesRead, behind_lock, lock_outcome, on_conflict_of, place_outcome}
 use Rattle.shore_calls.specs.StateChanges.{CanLog, FitsAt}
 use Rattle.shore_calls.specs.Shapes.{ForItsTxn, store_lock, store_locked}
@@ -37,7 +37,7 @@ module _ (g : Geometry) (s new : State) (session : ℕ) where
   -- a refusal that is none before the locks and none behind them is the table's
   by_table : (c : Call) (f : Fault) → IsOwn f → (RefusesEarly g c f → ⊥) → (IsBehind f → ⊥) → c ≢ call.Begin → Refuses c f
       → (a : SessionTxn) × IsOfSession s session a × ((lock : Asked) × (asked_by c ≡ Some lock) × ((lock_outcome s a c lock).answer ≡ Err f))
-  by_table c f own early behind other h = by (refused_in g s new session c f own other h)
+  by_table c f own early behind other h = by (refused_in g s new session c f own other (λ r is x p. behind (page_behind x f p)) h)
     where
       by : RefusedIn g s new session c f → (a : SessionTxn) × IsOfSession s session a × ((lock : Asked) × (asked_by c ≡ Some lock) × ((lock_outcome s a c lock).answer ≡ Err f))
       by t = ⊎_elim
@@ -125,7 +125,7 @@ module _ (g : Geometry) (s new : State) (session : ℕ) where
 
   full_how : (c : Call) → c ≢ call.Begin → Refuses c fault.LockTableFull → (a : SessionTxn) × IsOfSession s session a × ((lock : Asked) × (asked_by c ≡ Some lock)
       × (((lock_outcome s a c lock).answer ≡ Err fault.LockTableFull) ⊎ RefusesBehind g (behind_lock s a c lock) a c fault.LockTableFull new))
-  full_how c other h = by (refused_in g s new session c fault.LockTableFull tt other h)
+  full_how c other h = by (refused_in g s new session c fault.LockTableFull tt other (λ r is x p. table_full x p) h)
     where
       by : RefusedIn g s new session c fault.LockTableFull → (a : SessionTxn) × IsOfSession s session a × ((lock : Asked) × (asked_by c ≡ Some lock)
           × (((lock_outcome s a c lock).answer ≡ Err fault.LockTableFull) ⊎ RefusesBehind g (behind_lock s a c lock) a c fault.LockTableFull new))

@@ -5,7 +5,9 @@ use Rattle.shore_types.specs.declared.layout.Geometry.{Geometry}
 use Rattle.shore_types.specs.declared.locking.Granule.{Granule}
 use Rattle.shore_model.specs.declared.calls.Call.{Call}
 use Rattle.shore_model.specs.declared.log_records.LogRecord.{LogRecord}
+use Rattle.shore_sessions.specs.declared.rollbacks.Rollback.TheVariants.{Whole}
 use Rattle.shore_sessions.specs.Sessions.{SessionTxn}
+use Rattle.shore_calls.proofs.RollingLeaves.{back_table, interrupted_table, savepoint_table}
 use Rattle.shore_sessions.specs.Views.{IsAmong}
 use Rattle.shore_calls.specs.declared.step.Step.{Step}
 use Rattle.shore_calls.specs.declared.step.Step.TheVariants.{Done, Nothing, Refused, Waits}
@@ -17,7 +19,7 @@ use Rattle.shore_calls.proofs.SessionInversions.{answered_from, durable_no_lock}
 use Rattle.shore_calls.specs.CallHistories.{IsOpened}
 use Rattle.shore_calls.specs.Events.{Called, Forced, HasFailed, ManagerEvent, Resumed, EventMoves, EventsMove}
 use Rattle.shore_calls.specs.StateChanges.{commit_waiting, wait_refused}
-use Rattle.shore_calls.specs.CallSteps.{BeginStep, CommitStep, GoesOn, MayAsk, ResumesWait, CallStep, ResumeStep, behind_lock, lock_waiting}
+use Rattle.shore_calls.specs.CallSteps.{AbortStep, BeginStep, CommitStep, GoesOn, InnerStep, MayAsk, ResumesWait, CallStep, ResumeStep, behind_lock, lock_waiting}
 use Rattle.shore_calls.specs.Shapes.{LockWaitsMayAsk}
 use Rattle.shore_calls.specs.States.{State, Waiting, next_number, without_waiting}
 
@@ -68,6 +70,21 @@ module _ (g : Geometry) where
   commits s new a (Refused f) h = absurd h
   commits s new a Nothing h = absurd h
 
+  aborts : (s new : State) (a : SessionTxn) (step : Step) → AbortStep s a step new → LockWaitsMayAsk g s → LockWaitsMayAsk g new
+  aborts s new a (Done answer) h = as_before s new (ap (λ (s : State). s.waiting) h.1)
+  aborts s new a (Refused f) h = as_before s new (interrupted_table s a Whole f new h).waiting
+  aborts s new a (Waits wait) h = absurd h
+  aborts s new a Nothing h = absurd h
+
+  inner : (s new : State) (a : SessionTxn) (c : Call) (step : Step) → InnerStep g s a c step new → LockWaitsMayAsk g s → LockWaitsMayAsk g new
+  inner s new a c step (inl h) = as_before s new (ap (λ (s : State). s.waiting) h.3)
+  inner s new a c step (inr (inl (whole, inl h))) = as_before s new (ap (λ (s : State). s.waiting) h.3)
+  inner s new a c step (inr (inl (whole, inr (inl h)))) = goes_on s new a c h.0 step h.1
+  inner s new a c step (inr (inl (whole, inr (inr (inl h))))) = commits s new a step h.1
+  inner s new a c step (inr (inl (whole, inr (inr (inr h))))) = as_before s new (savepoint_table s a step new h.1).waiting
+  inner s new a c step (inr (inr (inl h))) = as_before s new (back_table s a h.0 step new h.3).waiting
+  inner s new a c step (inr (inr (inr h))) = aborts s new a step h.1
+
   called : (s new : State) (session : ℕ) (c : Call) (step : Step) → CallStep g s session c step new → LockWaitsMayAsk g s → LockWaitsMayAsk g new
   called s new session c step (inl h) = as_before s new (ap (λ (s : State). s.waiting) h.1)
   called s new session c step (inr (inl h)) = as_before s new (ap (λ (s : State). s.waiting) h.2)
@@ -75,10 +92,7 @@ module _ (g : Geometry) where
   called s new session c step (inr (inr (inr (inl h)))) = begins s new session step h.3
   called s new session c step (inr (inr (inr (inr (inl h))))) = as_before s new (ap (λ (s : State). s.waiting) h.5)
   called s new session c step (inr (inr (inr (inr (inr h))))) =
-      ⊎_elim
-      (λ early. as_before s new (ap (λ (s : State). s.waiting) early.3))
-      (⊎_elim (λ goes. goes_on s new h.2.0 c goes.0 step goes.1) (λ commit. commits s new h.2.0 step commit.1))
-      h.2.2
+      inner s new h.2.0 c step h.2.2
 
   resumed : (s new : State) (w : Waiting) → IsAmong w s.waiting → (wait : Wait) → w.wait ≡ wait → (step : Step) → ResumesWait g s w wait step new
       → LockWaitsMayAsk g s → LockWaitsMayAsk g new

@@ -1,5 +1,5 @@
 -- Behind its locks a call of a transaction is answered or refused: what the sessions are after its entry.
-use Rattle.std.proofs.Common.{◌≡◌, inl, ◌++◌, ◌∷◌, ℕ, List, [], false, Ok, Err, refl, sym, ap, subst, ◌∙◌, length}
+use Rattle.std.proofs.Common.{◌≡◌, inl, ◌++◌, ◌∷◌, ℕ, List, [], false, None, Ok, Err, refl, sym, ap, subst, ◌∙◌, length}
 use Rattle.std.specs.Prelude.{IsSomeAnd}
 use Rattle.shore_types.specs.declared.faults.Fault.{Fault}
 use Rattle.shore_types.specs.declared.faults.Fault.TheVariants as fault
@@ -15,7 +15,7 @@ use Rattle.shore_sessions.specs.LogTells.{records_committed}
 use Rattle.shore_sessions.specs.RepliesInPlace.{IsKnownAbsent, Permit}
 use Rattle.shore_sessions.specs.SessionSteps.{GiveReply, IsInnerCall, RefuseCall, TellsNothing, exchange}
 use Rattle.shore_sessions.specs.Sessions.{SessionTxn, reply_given}
-use Rattle.shore_sessions.specs.UndoLists.{undo_after}
+use Rattle.shore_sessions.specs.UndoLists.{MayGiveReply, undo_after}
 use Rattle.shore_sessions.specs.Views.{IsAmong}
 use Rattle.shore_room.specs.Claims.{SlotCounts}
 use Rattle.shore_locks.specs.Tables.{is_waiting}
@@ -36,12 +36,12 @@ inner_under s session _ inner = refl
 module _ (found : List LogRecord) (es : List Entry) (s : State) (k : IsSessionsState found es s) where
   module _ (session : ℕ) (a : SessionTxn) (mem : IsAmong a s.sessions.active) (of : a.session ≡ session) (c : Call) (inner : IsInnerCall c) where
     -- an answer that its locks permit, and that is right on the records in place
-    pub answer_given : (answer : Answer) (counts : SlotCounts) → Permit s.sessions.held a.txn c answer → IsRight s.sessions.records (length a.undo.marks) c answer
+    pub answer_given : (answer : Answer) (counts : SlotCounts) → Permit s.sessions.held a.txn c answer → IsRight s.sessions.records (length a.undo.marks) c answer → MayGiveReply a.undo c (Ok answer)
         → IsSessionsState found (es ++ Exchanged session (answered_under s.sessions session c) (exchange c (Ok answer)) ∷ []) (answered s a c answer counts)
-    answer_given answer counts permit right =
+    answer_given answer counts permit right may =
         let new = answered s a c answer counts in
         let undo = undo_after s.sessions.records a.undo c (Ok answer) in
-        let after = event_keeps (length found) (records_committed found) es s.sessions new.sessions (GiveReply a c (Ok answer)) s.log (sessions_of found es s k) (mem, inner, (permit, right), refl) in
+        let after = event_keeps (length found) (records_committed found) es s.sessions new.sessions (GiveReply a c (Ok answer)) s.log (sessions_of found es s k) (mem, inner, (permit, right), may, refl) in
         let under = inner_under s session c inner ∙ its_txn k.agree a session (inl mem) of in
         let entry = same_entry a.session session a.txn (answered_under s.sessions session c) (exchange c (Ok answer)) of (sym under) in
         state_of found es s k (es ++ Exchanged session (answered_under s.sessions session c) (exchange c (Ok answer)) ∷ []) new
@@ -57,12 +57,12 @@ module _ (found : List LogRecord) (es : List Entry) (s : State) (k : IsSessionsS
         })
 
     -- the record that it names is not there, and its transaction may know that
-    pub absence_told : IsSomeAnd (record_named_by c) (IsKnownAbsent s.sessions.held a.txn s.sessions.records)
+    pub absence_told : a.undo.rolling ≡ None → IsSomeAnd (record_named_by c) (IsKnownAbsent s.sessions.held a.txn s.sessions.records)
         → IsSessionsState found (es ++ Exchanged session (txn_of s.sessions session) (exchange c (Err fault.NoRecord)) ∷ []) s
-    absence_told known =
+    absence_told whole known =
         let same : s.sessions ≡ reply_given s.sessions a c (Err fault.NoRecord) =
         sym (ap (λ (xs : List SessionTxn). record s.sessions { active = xs }) (same_undo a s.sessions.active k.agree.once mem)) in
-        let after = event_keeps (length found) (records_committed found) es s.sessions s.sessions (GiveReply a c (Err fault.NoRecord)) s.log (sessions_of found es s k) (mem, inner, known, same) in
+        let after = event_keeps (length found) (records_committed found) es s.sessions s.sessions (GiveReply a c (Err fault.NoRecord)) s.log (sessions_of found es s k) (mem, inner, known, inl whole, same) in
         let entry = same_entry a.session session a.txn (txn_of s.sessions session) (exchange c (Err fault.NoRecord)) of (sym (its_txn k.agree a session (inl mem) of)) in
         state_of found es s k (es ++ Exchanged session (txn_of s.sessions session) (exchange c (Err fault.NoRecord)) ∷ []) s
         (subst (λ (e : Entry). AreSessionsAfter (length found) (records_committed found) (es ++ e ∷ []) s.sessions s.log) entry after) k.locks

@@ -9,7 +9,11 @@ use Rattle.shore_types.specs.declared.locking.Granule.{Granule}
 use Rattle.shore_types.specs.declared.locking.Granule.TheVariants as granule
 use Rattle.shore_types.specs.declared.locking.Mode.TheVariants.{EX}
 use Rattle.shore_model.specs.Locks.{HoldsAtLeast, MayRead, MayWrite}
+use Rattle.shore_locks.specs.Grants.{released}
+use Rattle.shore_path.proofs.Freeing.{weaker_released}
+use Rattle.shore_sessions.specs.declared.rollbacks.Rollback.TheVariants.{Whole}
 use Rattle.shore_model.specs.declared.calls.Answer.{Answer}
+use Rattle.shore_model.specs.declared.calls.Answer.TheVariants.{Aborted}
 use Rattle.shore_model.specs.declared.calls.Call.{Call}
 use Rattle.shore_model.specs.declared.calls.Call.TheVariants as call
 use Rattle.shore_model.specs.declared.histories.Entry.{Entry}
@@ -36,10 +40,11 @@ use Rattle.shore_sessions.specs.Sessions.{SessionTxn}
 use Rattle.shore_calls.specs.declared.step.Step.{Step}
 use Rattle.shore_calls.specs.declared.step.Step.TheVariants.{Done, Nothing, Refused, Waits}
 use Rattle.shore_calls.proofs.SessionCalls.{session_call_kept}
-use Rattle.shore_calls.proofs.SessionInversions.{AnsweredFrom, answered_from, answered_in}
+use Rattle.shore_calls.proofs.SessionInversions.{AnsweredFrom, IsLockless, answered_from, answered_in}
+use Rattle.shore_calls.proofs.RollingLeaves.{LeavesTable, back_table, interrupted_table, savepoint_table}
 use Rattle.shore_calls.proofs.Sessions.{one_txn}
 use Rattle.shore_calls.specs.StateChanges.{after_refusal, answered, committed, with_failure}
-use Rattle.shore_calls.specs.CallSteps.{AnswersBehind, BeginStep, CommitStep, GoesOn, LacksMemory, RefusesBehind, CallStep, behind_lock, behind_place, lock_outcome, on_conflict_of, place_outcome}
+use Rattle.shore_calls.specs.CallSteps.{AbortStep, AnswersBehind, BeginStep, CommitStep, GoesOn, InnerStep, LacksMemory, RefusesBehind, CallStep, aborted, behind_lock, behind_place, lock_outcome, on_conflict_of, place_outcome}
 use Rattle.shore_calls.specs.LockedStates.{IsSessionsState}
 use Rattle.shore_calls.specs.States.{DoesNotWait, IsOfSession, State}
 
@@ -165,19 +170,38 @@ module _ (g : Geometry) (found : List LogRecord) (es : List Entry) (s new : Stat
   commit_kept a (Refused f) h = absurd h
   commit_kept a Nothing h = absurd h
 
-  call_kept : (c : Call) (step : Step) → CallStep g s session c step new → NoLockWeaker s new
-  call_kept c step (inl h) = as_before h.1
-  call_kept c step (inr (inl h)) = as_before h.2
-  call_kept c step (inr (inr (inl h))) = as_before h.3
-  call_kept c step (inr (inr (inr (inl h)))) = begin_kept step h.3
-  call_kept c step (inr (inr (inr (inr (inl h))))) = as_before h.5
-  call_kept c step (inr (inr (inr (inr (inr h))))) =
-      ⊎_elim
-      (λ early. as_before early.3)
-      (⊎_elim
-      (λ goes. going_on_kept g s h.2.0 (may_ask_in h.2.0 h.2.1 h.0 h.1) new c step goes.1)
-      (λ commits. commit_kept h.2.0 step commits.1))
-      h.2.2
+  table_kept : LeavesTable s new → NoLockWeaker s new
+  table_kept h = still s new s (h.locks, h.held) (λ u at m enough. enough)
+
+  -- an abort is answered
+  record GoesAll (step : Step) : Type 0 where
+    txn : SessionTxn
+    of : IsOfSession s session txn
+    answered : step ≡ Done Aborted
+    is : new ≡ aborted s txn
+
+  abort_kept : (a : SessionTxn) → IsOfSession s session a → (step : Step) → AbortStep s a step new → NoLockWeaker s new ⊎ GoesAll step
+  abort_kept a of (Done answer) h = inr (record { txn = a; of = of; answered = ap Done h.0; is = h.1 })
+  abort_kept a of (Refused f) h = inl (table_kept (interrupted_table s a Whole f new h))
+  abort_kept a of (Waits wait) h = absurd h
+  abort_kept a of Nothing h = absurd h
+
+  inner_kept : (a : SessionTxn) → IsOfSession s session a → s.failed ≡ false → DoesNotWait s session → (c : Call) (step : Step) → InnerStep g s a c step new → NoLockWeaker s new ⊎ GoesAll step
+  inner_kept a of running idle c step (inl h) = inl (as_before h.3)
+  inner_kept a of running idle c step (inr (inl (whole, inl h))) = inl (as_before h.3)
+  inner_kept a of running idle c step (inr (inl (whole, inr (inl h)))) = inl (going_on_kept g s a (may_ask_in a of running idle) new c step h.1)
+  inner_kept a of running idle c step (inr (inl (whole, inr (inr (inl h))))) = inl (commit_kept a step h.1)
+  inner_kept a of running idle c step (inr (inl (whole, inr (inr (inr h))))) = inl (table_kept (savepoint_table s a step new h.1))
+  inner_kept a of running idle c step (inr (inr (inl h))) = inl (table_kept (back_table s a h.0 step new h.3))
+  inner_kept a of running idle c step (inr (inr (inr h))) = abort_kept a of step h.1
+
+  call_kept : (c : Call) (step : Step) → CallStep g s session c step new → NoLockWeaker s new ⊎ GoesAll step
+  call_kept c step (inl h) = inl (as_before h.1)
+  call_kept c step (inr (inl h)) = inl (as_before h.2)
+  call_kept c step (inr (inr (inl h))) = inl (as_before h.3)
+  call_kept c step (inr (inr (inr (inl h)))) = inl (begin_kept step h.3)
+  call_kept c step (inr (inr (inr (inr (inl h))))) = inl (as_before h.5)
+  call_kept c step (inr (inr (inr (inr (inr h))))) = inner_kept h.2.0 h.2.1 h.0 h.1 c step h.2.2
 
   -- ---- in words of locks
 
@@ -187,8 +211,25 @@ module _ (g : Geometry) (found : List LogRecord) (es : List Entry) (s new : Stat
       let now = holder_of u at m new.locks.requests (kept u at m (enough_of u at m s.locks.requests k.locks.orderly.one_each was)) in
       subst (λ (l : List Hold). HoldsAtLeast l u m at) (sym after.locks.held) (lock_from_holder u at m new.locks.requests now)
 
-  pub call_keeps_locks : (c : Call) (step : Step) → CallStep g s session c step new → (u : ℕ) → KeepsLocks s.sessions.held new.sessions.held u
-  call_keeps_locks c step h = locks_kept (session_call_kept g found es s k session c step new h) (call_kept c step h)
+  pub call_keeps_locks : (c : Call) (step : Step) → step ≢ Done Aborted → CallStep g s session c step new → (u : ℕ) → KeepsLocks s.sessions.held new.sessions.held u
+  call_keeps_locks c step other h =
+      ⊎_elim (λ kept. locks_kept (session_call_kept g found es s k session c step new h) kept) (λ all. absurd (other all.answered)) (call_kept c step h)
+
+  -- what an abort that is answered leaves of the locks of others
+  others_of_aborted : (a : SessionTxn) → new ≡ aborted s a → (u : ℕ) → u ≢ a.txn → KeepsLocks s.sessions.held new.sessions.held u
+  others_of_aborted a is u other m at held =
+      let was = holder_from_lock u at m s.locks.requests (subst (λ (l : List Hold). HoldsAtLeast l u m at) k.locks.held held) in
+      let enough = weaker_released a.txn s.locks.requests k.locks.orderly u at m other (enough_of u at m s.locks.requests k.locks.orderly.one_each was) in
+      subst (λ (s : State). HoldsAtLeast s.sessions.held u m at) (sym is)
+      (lock_from_holder u at m (released a.txn s.locks.requests) (holder_of u at m (released a.txn s.locks.requests) enough))
+
+  -- whatever a call comes to, others keep theirs
+  pub others_keep_locks : (c : Call) (step : Step) (a : SessionTxn) → IsOfSession s session a → CallStep g s session c step new → (u : ℕ) → u ≢ a.txn → KeepsLocks s.sessions.held new.sessions.held u
+  others_keep_locks c step a of h u other =
+      ⊎_elim
+      (λ kept. locks_kept (session_call_kept g found es s k session c step new h) kept u)
+      (λ all. others_of_aborted all.txn all.is u (λ same. other (same ∙ one_txn k.agree all.txn a (inl all.of.0) (inl of.0) (all.of.1 ∙ sym of.1))))
+      (call_kept c step h)
 
   -- ---- an answer has the locks that it needs
 
@@ -237,15 +278,25 @@ module _ (g : Geometry) (found : List LogRecord) (es : List Entry) (s new : Stat
   pub its_number : (a b : SessionTxn) → IsOfSession s session a → IsOfSession s session b → b.txn ≡ a.txn
   its_number a b x y = one_txn k.agree b a (inl y.0) (inl x.0) (y.1 ∙ sym x.1)
 
+  -- a call that undoes needs none
+  lockless_or_not : (c : Call) → ((held : List Hold) (t : ℕ) (answer : Answer) → HasLocksFor held t c answer) ⊎ (IsLockless c → ⊥)
+  lockless_or_not call.Savepoint = inl (λ held t answer. tt)
+  lockless_or_not (call.BackTo n) = inl (λ held t answer. tt)
+  lockless_or_not call.Abort = inl (λ held t answer. tt)
+  lockless_or_not _ = inr (λ none. none)
+
   pub answer_has_locks : (c : Call) (answer : Answer) (a : SessionTxn) → IsOfSession s session a → CallStep g s session c (Done answer) new
       → HasLocksFor new.sessions.held a.txn c answer
   answer_has_locks c answer a of h =
       ⊎_elim
       (λ begins. subst (λ (c : Call). HasLocksFor new.sessions.held a.txn c answer) (sym begins) tt)
-      (λ other.
-      let t = answered_in g s new session c answer other h in
+      (λ other. ⊎_elim
+      (λ none. none new.sessions.held a.txn answer)
+      (λ locks.
+      let t = answered_in g s new session c answer other locks h in
       subst (λ (n : ℕ). HasLocksFor new.sessions.held n c answer) (its_number a t.txn of t.of)
       (has_locks t.txn (may_ask_in t.txn t.of t.running t.idle) c answer t.from))
+      (lockless_or_not c))
       (begin_or_not c)
 
   -- ---- nobody reads what another may write
@@ -259,8 +310,8 @@ module _ (g : Geometry) (found : List LogRecord) (es : List Entry) (s new : Stat
 
     pub reads_of_writer : MayWrite s.sessions.held u id → (Permit new.sessions.held a.txn c answer → MayRead new.sessions.held a.txn id) → ⊥
     reads_of_writer writes reads =
-        apart id u a.txn other (writes_up s.sessions.held new.sessions.held u id (call_keeps_locks c (Done answer) h u) writes) (reads permit)
+        apart id u a.txn other (writes_up s.sessions.held new.sessions.held u id (others_keep_locks c (Done answer) a of h u other) writes) (reads permit)
 
     pub writes_of_reader : MayRead s.sessions.held u id → (Permit new.sessions.held a.txn c answer → MayWrite new.sessions.held a.txn id) → ⊥
     writes_of_reader reads writes =
-        apart id a.txn u (λ same. other (sym same)) (writes permit) (reads_up s.sessions.held new.sessions.held u id (call_keeps_locks c (Done answer) h u) reads)
+        apart id a.txn u (λ same. other (sym same)) (writes permit) (reads_up s.sessions.held new.sessions.held u id (others_keep_locks c (Done answer) a of h u other) reads)

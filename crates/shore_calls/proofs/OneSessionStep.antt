@@ -1,5 +1,5 @@
 -- The state alone decides what a call and a resume of a session come to, and what that leaves.
-use Rattle.std.proofs.Common.{◌≡◌, ◌≢◌, ◌⊎◌, inl, inr, ◌≤◌, ◌<◌, ℕ, List, [], ◌∷◌, true, false, Some, refl, sym, ap, subst, ◌∙◌, length, arith, Ok, Err}
+use Rattle.std.proofs.Common.{◌≡◌, ◌≢◌, ◌⊎◌, inl, inr, ⊎_elim, ◌≤◌, ◌<◌, ℕ, List, [], ◌∷◌, true, false, None, Some, refl, sym, ap, subst, ◌∙◌, length, arith, Ok, Err}
 use Rattle.std.specs.Prelude.{IsTrue, Result}
 use Rattle.shore_types.specs.Layout.{HasPage, HasSlot, HasStore}
 use Rattle.shore_types.specs.Locking.{level_of}
@@ -21,6 +21,8 @@ use Rattle.shore_locks.specs.Tables.{is_waiting}
 use Rattle.shore_path.specs.declared.answers.Acquired.{Acquired}
 use Rattle.shore_path.specs.declared.answers.Acquired.TheVariants as acquire
 use Rattle.shore_held.specs.CallLocks.{Asked, asked_by}
+use Rattle.shore_sessions.specs.declared.rollbacks.Rollback.{Rollback}
+use Rattle.shore_sessions.specs.declared.rollbacks.Rollback.TheVariants.{To, Whole}
 use Rattle.shore_sessions.specs.Sessions.{SessionTxn}
 use Rattle.shore_sessions.specs.Views.{IsAmong}
 use Rattle.shore_calls.specs.declared.step.Step.{Step}
@@ -28,12 +30,14 @@ use Rattle.shore_calls.specs.declared.step.Step.TheVariants.{Done, Nothing, Refu
 use Rattle.shore_calls.specs.declared.step.Wait.{Wait}
 use Rattle.shore_calls.specs.declared.step.Wait.TheVariants.{Durable, Lock}
 use Rattle.shore_calls.proofs.Decided.{both_ways}
-use Rattle.shore_calls.proofs.OneBehind.{AreOne, Comparable, StepsBehind, left_no_memory, one_behind, right_no_memory}
+use Rattle.shore_calls.proofs.OneBehind.{AreOne, Comparable, StepsBehind, left_no_memory, not_page_fault, one_behind, right_no_memory}
 use Rattle.shore_calls.proofs.Rows.{AllPass, FirstFails, Test, none_fails, one_fails, page_has_store, same_member, test}
 use Rattle.shore_calls.proofs.SessionInversions.{same_lock}
 use Rattle.shore_calls.proofs.Sessions.{one_txn}
-use Rattle.shore_calls.specs.StateChanges.{IsShort, wait_refused}
-use Rattle.shore_calls.specs.CallSteps.{AnswersBehind, BeginStep, CommitStep, GoesOn, HasGranule, InnerStep, MayAsk, RefusesBehind, RefusesEarly, RefusesGranule, RefusesId, RefusesLock, ResumesCall, ResumesWait, CallStep, ResumeStep, behind_lock, commit_ended, lock_outcome, lock_waiting, txn_count}
+use Rattle.shore_calls.specs.Rollbacks.{BackToStep, IsInterrupted, SavepointStep}
+use Rattle.shore_calls.specs.Shapes.{rollback_of}
+use Rattle.shore_calls.specs.StateChanges.{ComesOfState, IsShort, answered, wait_refused}
+use Rattle.shore_calls.specs.CallSteps.{AbortStep, AnswersBehind, BeginStep, CommitStep, GoesOn, HasGranule, InnerStep, MayAsk, OpenStep, RefusesBehind, RefusesEarly, RefusesGranule, RefusesId, RefusesLock, ResumesCall, ResumesWait, CallStep, ResumeStep, behind_lock, commit_ended, lock_outcome, lock_waiting, txn_count}
 use Rattle.shore_calls.specs.Events.{IsStateAfter}
 use Rattle.shore_calls.specs.States.{DoesNotWait, HasNoTxn, IsInTxn, IsOfSession, MayBegin, State, Waiting}
 
@@ -189,6 +193,10 @@ module _ (s : State) (session : ℕ) where
 
 -- ---- calls
 
+-- two steps of a call that are compared, of which none is a rollback that was interrupted
+abbrev pub Compares : Call → Step → Step → Type 0
+Compares c x y = Comparable x y × (ComesOfState x ⊎ (rollback_of c ≡ None))
+
 module _ (g : Geometry) (s : State) where
   one_commit : (a : SessionTxn) (x y : Step) (new later : State) → CommitStep s a x new → CommitStep s a y later → AreOne x y new later
   one_commit a (Waits v) (Waits w) new later h k = (ap Waits (h.0 ∙ sym k.0), h.1 ∙ sym k.1)
@@ -205,17 +213,120 @@ module _ (g : Geometry) (s : State) where
   no_commit_asks : (c : Call) → c ≡ call.Commit → MayAsk g c → ⊥
   no_commit_asks c e h = absurd (subst (MayAsk g) e h)
 
-  one_inner : (a : SessionTxn) (c : Call) (x y : Step) (new later : State) → Comparable x y → InnerStep g s a c x new → InnerStep g s a c y later → AreOne x y new later
-  one_inner a c x y new later both (inl h) (inl k) =
+  one_savepoint : (a : SessionTxn) (x y : Step) (new later : State) → SavepointStep s a x new → SavepointStep s a y later → AreOne x y new later
+  one_savepoint a (Done x) (Done y) new later h k =
+      let same : x ≡ y = h.1 ∙ sym k.1 in (ap Done same, h.2 ∙ ap (λ (v : Answer). answered s a call.Savepoint v s.counts) same ∙ sym k.2)
+  one_savepoint a (Done x) (Refused f) new later h k = let less = h.0 in let full = k.1 in absurd (omega arith)
+  one_savepoint a (Refused f) (Done y) new later h k = let less = k.0 in let full = h.1 in absurd (omega arith)
+  one_savepoint a (Refused e) (Refused f) new later h k = (ap Refused (h.0 ∙ sym k.0), h.2 ∙ sym k.2)
+  one_savepoint a (Waits v) y new later h k = absurd h
+  one_savepoint a Nothing y new later h k = absurd h
+  one_savepoint a (Done x) (Waits w) new later h k = absurd k
+  one_savepoint a (Done x) Nothing new later h k = absurd k
+  one_savepoint a (Refused e) (Waits w) new later h k = absurd k
+  one_savepoint a (Refused e) Nothing new later h k = absurd k
+
+  -- no call that undoes is refused before its locks, or asks for one
+  no_early : (x c : Call) → ((f : Fault) → RefusesEarly g x f → ⊥) → c ≡ x → (f : Fault) → RefusesEarly g c f → ⊥
+  no_early x c none e f h = none f (subst (λ (c : Call). RefusesEarly g c f) e h)
+
+  no_asking : (x c : Call) → (MayAsk g x → ⊥) → c ≡ x → MayAsk g c → ⊥
+  no_asking x c none e h = none (subst (MayAsk g) e h)
+
+  one_open : (a : SessionTxn) (c : Call) (x y : Step) (new later : State) → Comparable x y → OpenStep g s a c x new → OpenStep g s a c y later → AreOne x y new later
+  one_open a c x y new later both (inl h) (inl k) =
       (h.2 ∙ ap Refused (one_fails (early_tests g c) h.0 k.0 (early_fails g c h.0 h.1) (early_fails g c k.0 k.1)) ∙ sym k.2, h.3 ∙ sym k.3)
-  one_inner a c x y new later both (inl h) (inr (inl k)) = absurd (none_fails (early_tests g c) h.0 (early_fails g c h.0 h.1) (may_pass g c k.0))
-  one_inner a c x y new later both (inl h) (inr (inr k)) = absurd (no_commit_early c h.0 k.0 h.1)
-  one_inner a c x y new later both (inr (inl h)) (inl k) = absurd (none_fails (early_tests g c) k.0 (early_fails g c k.0 k.1) (may_pass g c h.0))
-  one_inner a c x y new later both (inr (inl h)) (inr (inl k)) = one_going g s a c x y new later both h.1 k.1
-  one_inner a c x y new later both (inr (inl h)) (inr (inr k)) = absurd (no_commit_asks c k.0 h.0)
-  one_inner a c x y new later both (inr (inr h)) (inl k) = absurd (no_commit_early c k.0 h.0 k.1)
-  one_inner a c x y new later both (inr (inr h)) (inr (inl k)) = absurd (no_commit_asks c h.0 k.0)
-  one_inner a c x y new later both (inr (inr h)) (inr (inr k)) = one_commit a x y new later h.1 k.1
+  one_open a c x y new later both (inl h) (inr (inl k)) = absurd (none_fails (early_tests g c) h.0 (early_fails g c h.0 h.1) (may_pass g c k.0))
+  one_open a c x y new later both (inl h) (inr (inr (inl k))) = absurd (no_commit_early c h.0 k.0 h.1)
+  one_open a c x y new later both (inl h) (inr (inr (inr k))) = absurd (no_early call.Savepoint c (λ f x. x) k.0 h.0 h.1)
+  one_open a c x y new later both (inr (inl h)) (inl k) = absurd (none_fails (early_tests g c) k.0 (early_fails g c k.0 k.1) (may_pass g c h.0))
+  one_open a c x y new later both (inr (inl h)) (inr (inl k)) = one_going g s a c x y new later both h.1 k.1
+  one_open a c x y new later both (inr (inl h)) (inr (inr (inl k))) = absurd (no_commit_asks c k.0 h.0)
+  one_open a c x y new later both (inr (inl h)) (inr (inr (inr k))) = absurd (no_asking call.Savepoint c (λ x. x) k.0 h.0)
+  one_open a c x y new later both (inr (inr (inl h))) (inl k) = absurd (no_commit_early c k.0 h.0 k.1)
+  one_open a c x y new later both (inr (inr (inl h))) (inr (inl k)) = absurd (no_commit_asks c h.0 k.0)
+  one_open a c x y new later both (inr (inr (inl h))) (inr (inr (inl k))) = one_commit a x y new later h.1 k.1
+  one_open a c x y new later both (inr (inr (inl h))) (inr (inr (inr k))) = let clash : call.Commit ≡ call.Savepoint = sym h.0 ∙ k.0 in absurd cc
+  one_open a c x y new later both (inr (inr (inr h))) (inl k) = absurd (no_early call.Savepoint c (λ f x. x) h.0 k.0 k.1)
+  one_open a c x y new later both (inr (inr (inr h))) (inr (inl k)) = absurd (no_asking call.Savepoint c (λ x. x) h.0 k.0)
+  one_open a c x y new later both (inr (inr (inr h))) (inr (inr (inl k))) = let clash : call.Savepoint ≡ call.Commit = sym h.0 ∙ k.0 in absurd cc
+  one_open a c x y new later both (inr (inr (inr h))) (inr (inr (inr k))) = one_savepoint a x y new later h.1 k.1
+
+  -- ---- rollbacks
+
+  -- what interrupts a rollback does not come of the state alone
+  not_interrupted : (a : SessionTxn) (r : Rollback) (f : Fault) (new : State) → ComesOfState (Refused f) → IsInterrupted s a r f new → ⊥
+  not_interrupted a r f new comes h = ⊎_elim (λ memory. comes.0 memory) (not_page_fault h.0 f comes) h.2
+
+  -- a rollback that is interrupted is compared with none
+  one_interrupted : (P : Type 0) (c : Call) (x y : Step) (f : Fault) (a : SessionTxn) (r : Rollback) (new : State) → Compares c x y → rollback_of c ≡ Some r → IsInterrupted s a r f new
+      → (x ≡ Refused f) ⊎ (y ≡ Refused f) → P
+  one_interrupted P c x y f a r new (inl both, plain) is h (inl e) = absurd (not_interrupted a r f new (subst ComesOfState e both.0) h)
+  one_interrupted P c x y f a r new (inl both, plain) is h (inr e) = absurd (not_interrupted a r f new (subst ComesOfState e both.1) h)
+  one_interrupted P c x y f a r new (inr same, inl comes) is h (inl e) = absurd (not_interrupted a r f new (subst ComesOfState e comes) h)
+  one_interrupted P c x y f a r new (inr same, inl comes) is h (inr e) = absurd (not_interrupted a r f new (subst ComesOfState (same.0 ∙ e) comes) h)
+  one_interrupted P c x y f a r new (inr same, inr plain) is h at = let clash : None ≡ Some r = sym plain ∙ is in absurd cc
+
+  one_back : (a : SessionTxn) (c : Call) (n : ℕ) (x y : Step) (new later : State) → c ≡ call.BackTo n → Compares c x y → BackToStep s a n x new → BackToStep s a n y later → AreOne x y new later
+  one_back a c n (Done x) (Done y) new later e both h k =
+      let same : x ≡ y = h.1 ∙ sym k.1 in (ap Done same, h.2 ∙ ap (λ (v : Answer). answered s a (call.BackTo n) v s.counts) same ∙ sym k.2)
+  one_back a c n (Done x) (Refused f) new later e both h (inl k) = let less = h.0 in let late = k.1 in absurd (omega arith)
+  one_back a c n (Done x) (Refused f) new later e both h (inr k) = one_interrupted (AreOne (Done x) (Refused f) new later) c (Done x) (Refused f) f a (To n) later both (ap rollback_of e) k.1 (inr refl)
+  one_back a c n (Refused f) (Done y) new later e both (inl h) k = let less = k.0 in let late = h.1 in absurd (omega arith)
+  one_back a c n (Refused f) (Done y) new later e both (inr h) k = one_interrupted (AreOne (Refused f) (Done y) new later) c (Refused f) (Done y) f a (To n) new both (ap rollback_of e) h.1 (inl refl)
+  one_back a c n (Refused f) (Refused d) new later e both (inl h) (inl k) = (ap Refused (h.0 ∙ sym k.0), h.2 ∙ sym k.2)
+  one_back a c n (Refused f) (Refused d) new later e both (inl h) (inr k) = let late = h.1 in let less = k.0 in absurd (omega arith)
+  one_back a c n (Refused f) (Refused d) new later e both (inr h) k =
+      one_interrupted (AreOne (Refused f) (Refused d) new later) c (Refused f) (Refused d) f a (To n) new both (ap rollback_of e) h.1 (inl refl)
+  one_back a c n (Waits v) y new later e both h k = absurd h
+  one_back a c n Nothing y new later e both h k = absurd h
+  one_back a c n (Done x) (Waits w) new later e both h k = absurd k
+  one_back a c n (Done x) Nothing new later e both h k = absurd k
+  one_back a c n (Refused f) (Waits w) new later e both h k = absurd k
+  one_back a c n (Refused f) Nothing new later e both h k = absurd k
+
+  one_abort : (a : SessionTxn) (c : Call) (x y : Step) (new later : State) → c ≡ call.Abort → Compares c x y → AbortStep s a x new → AbortStep s a y later → AreOne x y new later
+  one_abort a c (Done x) (Done y) new later e both h k = (ap Done (h.0 ∙ sym k.0), h.1 ∙ sym k.1)
+  one_abort a c (Done x) (Refused f) new later e both h k = one_interrupted (AreOne (Done x) (Refused f) new later) c (Done x) (Refused f) f a Whole later both (ap rollback_of e) k (inr refl)
+  one_abort a c (Refused f) y new later e both h k = one_interrupted (AreOne (Refused f) y new later) c (Refused f) y f a Whole new both (ap rollback_of e) h (inl refl)
+  one_abort a c (Waits v) y new later e both h k = absurd h
+  one_abort a c Nothing y new later e both h k = absurd h
+  one_abort a c (Done x) (Waits w) new later e both h k = absurd k
+  one_abort a c (Done x) Nothing new later e both h k = absurd k
+
+  -- no call that asks for a rollback goes as others do
+  no_open_rollback : (a : SessionTxn) (c d : Call) (r : Rollback) (step : Step) (new : State) → rollback_of d ≡ Some r → c ≡ d → OpenStep g s a c step new → ⊥
+  no_open_rollback a c (call.BackTo n) r step new is e (inl h) = no_early (call.BackTo n) c (λ f x. x) e h.0 h.1
+  no_open_rollback a c (call.BackTo n) r step new is e (inr (inl h)) = no_asking (call.BackTo n) c (λ x. x) e h.0
+  no_open_rollback a c (call.BackTo n) r step new is e (inr (inr (inl h))) = let clash : call.BackTo n ≡ call.Commit = sym e ∙ h.0 in cc
+  no_open_rollback a c (call.BackTo n) r step new is e (inr (inr (inr h))) = let clash : call.BackTo n ≡ call.Savepoint = sym e ∙ h.0 in cc
+  no_open_rollback a c call.Abort r step new is e (inl h) = no_early call.Abort c (λ f x. x) e h.0 h.1
+  no_open_rollback a c call.Abort r step new is e (inr (inl h)) = no_asking call.Abort c (λ x. x) e h.0
+  no_open_rollback a c call.Abort r step new is e (inr (inr (inl h))) = let clash : call.Abort ≡ call.Commit = sym e ∙ h.0 in cc
+  no_open_rollback a c call.Abort r step new is e (inr (inr (inr h))) = let clash : call.Abort ≡ call.Savepoint = sym e ∙ h.0 in cc
+  no_open_rollback a c _ r step new is e h = absurd cc
+
+  same_index : (n m : ℕ) → call.BackTo n ≡ call.BackTo m → m ≡ n
+  same_index n m e = cc
+
+  one_inner : (a : SessionTxn) (c : Call) (x y : Step) (new later : State) → Compares c x y → InnerStep g s a c x new → InnerStep g s a c y later → AreOne x y new later
+  one_inner a c x y new later both (inl h) (inl k) = (h.2 ∙ sym k.2, h.3 ∙ sym k.3)
+  one_inner a c x y new later both (inl h) (inr (inl k)) = absurd (h.1 (inl k.0))
+  one_inner a c x y new later both (inl h) (inr (inr (inl k))) = absurd (h.1 k.2)
+  one_inner a c x y new later both (inl h) (inr (inr (inr k))) = absurd (h.1 (inr (inl k.0)))
+  one_inner a c x y new later both (inr (inl h)) (inl k) = absurd (k.1 (inl h.0))
+  one_inner a c x y new later both (inr (inl h)) (inr (inl k)) = one_open a c x y new later both.0 h.1 k.1
+  one_inner a c x y new later both (inr (inl h)) (inr (inr (inl k))) = absurd (no_open_rollback a c (call.BackTo k.0) (To k.0) x new refl k.1 h.1)
+  one_inner a c x y new later both (inr (inl h)) (inr (inr (inr k))) = absurd (no_open_rollback a c call.Abort Whole x new refl k.0 h.1)
+  one_inner a c x y new later both (inr (inr (inl h))) (inl k) = absurd (k.1 h.2)
+  one_inner a c x y new later both (inr (inr (inl h))) (inr (inl k)) = absurd (no_open_rollback a c (call.BackTo h.0) (To h.0) y later refl h.1 k.1)
+  one_inner a c x y new later both (inr (inr (inl h))) (inr (inr (inl k))) =
+      one_back a c h.0 x y new later h.1 both h.3 (subst (λ n. BackToStep s a n y later) (same_index h.0 k.0 (sym h.1 ∙ k.1)) k.3)
+  one_inner a c x y new later both (inr (inr (inl h))) (inr (inr (inr k))) = let clash : call.BackTo h.0 ≡ call.Abort = sym h.1 ∙ k.0 in absurd cc
+  one_inner a c x y new later both (inr (inr (inr h))) (inl k) = absurd (k.1 (inr (inl h.0)))
+  one_inner a c x y new later both (inr (inr (inr h))) (inr (inl k)) = absurd (no_open_rollback a c call.Abort Whole y later refl h.0 k.1)
+  one_inner a c x y new later both (inr (inr (inr h))) (inr (inr (inl k))) = let clash : call.Abort ≡ call.BackTo k.0 = sym h.0 ∙ k.1 in absurd cc
+  one_inner a c x y new later both (inr (inr (inr h))) (inr (inr (inr k))) = one_abort a c x y new later h.0 both h.1 k.1
 
 module _ (g : Geometry) (found : List LogRecord) (es : List Entry) (s : State) (k : IsStateAfter found es s) (session : ℕ) where
   same_txn : (n : ℕ) (a b : SessionTxn) → IsOfSession s n a → IsOfSession s n b → a ≡ b
@@ -243,11 +354,15 @@ module _ (g : Geometry) (found : List LogRecord) (es : List Entry) (s : State) (
   levels c step new some (inr (inr (inr (inr (inr h))))) = inr (inr (h.0, h.1, inr (inr h.2)))
 
   no_begin_inside : (c : Call) (a : SessionTxn) (step : Step) (new : State) → c ≡ call.Begin → InnerStep g s a c step new → ⊥
-  no_begin_inside c a step new e (inl h) = absurd (subst (λ (c : Call). RefusesEarly g c h.0) e h.1)
-  no_begin_inside c a step new e (inr (inl h)) = absurd (subst (MayAsk g) e h.0)
-  no_begin_inside c a step new e (inr (inr h)) = let clash : call.Begin ≡ call.Commit = sym e ∙ h.0 in cc
+  no_begin_inside c a step new e (inl h) = h.0 e
+  no_begin_inside c a step new e (inr (inl (whole, inl h))) = absurd (subst (λ (c : Call). RefusesEarly g c h.0) e h.1)
+  no_begin_inside c a step new e (inr (inl (whole, inr (inl h)))) = absurd (subst (MayAsk g) e h.0)
+  no_begin_inside c a step new e (inr (inl (whole, inr (inr (inl h))))) = let clash : call.Begin ≡ call.Commit = sym e ∙ h.0 in cc
+  no_begin_inside c a step new e (inr (inl (whole, inr (inr (inr h))))) = let clash : call.Begin ≡ call.Savepoint = sym e ∙ h.0 in cc
+  no_begin_inside c a step new e (inr (inr (inl h))) = let clash : call.Begin ≡ call.BackTo h.0 = sym e ∙ h.1 in cc
+  no_begin_inside c a step new e (inr (inr (inr h))) = let clash : call.Begin ≡ call.Abort = sym e ∙ h.0 in cc
 
-  one_own : (c : Call) (x y : Step) (new later : State) → Comparable x y → Own c x new → Own c y later → AreOne x y new later
+  one_own : (c : Call) (x y : Step) (new later : State) → Compares c x y → Own c x new → Own c y later → AreOne x y new later
   one_own c x y new later both (inl h) (inl j) = one_begin s session x y new later h.1 j.1
   one_own c x y new later both (inl h) (inr (inl j)) = absurd (j.0 h.0)
   one_own c x y new later both (inl h) (inr (inr j)) = absurd (no_begin_inside c j.0 y later h.0 j.2)
@@ -259,7 +374,7 @@ module _ (g : Geometry) (found : List LogRecord) (es : List Entry) (s : State) (
   one_own c x y new later both (inr (inr h)) (inr (inr j)) =
       one_inner g s h.0 c x y new later both h.2 (subst (λ (a : SessionTxn). InnerStep g s a c y later) (same_txn session j.0 h.0 j.1 h.1) j.2)
 
-  one_level : (c : Call) (x y : Step) (new later : State) → Comparable x y → Levels c x new → Levels c y later → AreOne x y new later
+  one_level : (c : Call) (x y : Step) (new later : State) → Compares c x y → Levels c x new → Levels c y later → AreOne x y new later
   one_level c x y new later both (inl h) (inl j) = (h.1 ∙ sym j.1, h.2 ∙ sym j.2)
   one_level c x y new later both (inl h) (inr (inl j)) = absurd (both_ways s.failed h.0 j.0)
   one_level c x y new later both (inl h) (inr (inr j)) = absurd (both_ways s.failed h.0 j.0)
@@ -270,9 +385,9 @@ module _ (g : Geometry) (found : List LogRecord) (es : List Entry) (s : State) (
   one_level c x y new later both (inr (inr h)) (inr (inl j)) = absurd (j.1 h.1)
   one_level c x y new later both (inr (inr h)) (inr (inr j)) = one_own c x y new later both h.2 j.2
 
-  pub one_call : (c : Call) (x y : Step) (new later : State) → Comparable x y → CallStep g s session c x new → CallStep g s session c y later → AreOne x y new later
+  pub one_call : (c : Call) (x y : Step) (new later : State) → Compares c x y → CallStep g s session c x new → CallStep g s session c y later → AreOne x y new later
   one_call c x y new later both h j =
-      one_level c x y new later both (levels c x new (left_no_memory x y both) h) (levels c y later (right_no_memory x y both) j)
+      one_level c x y new later both (levels c x new (left_no_memory x y both.0) h) (levels c y later (right_no_memory x y both.0) j)
 
   -- ---- resumes
 

@@ -1,5 +1,5 @@
 -- A call of a transaction from its locks on: which events of the sessions it is.
-use Rattle.std.proofs.Common.{◌≡◌, ◌≢◌, inl, inr, ⊎_elim, ◌∷◌, ℕ, List, [], false, Some, Ok, Err, refl, sym, ap, subst, ◌∙◌, length}
+use Rattle.std.proofs.Common.{◌≡◌, ◌≢◌, inl, inr, ⊎_elim, ◌∷◌, ℕ, List, [], false, None, Some, Ok, Err, refl, sym, ap, subst, ◌∙◌, length}
 use Rattle.std.specs.Prelude.{IsSomeAnd}
 use Rattle.std.specs.FinMap.{get}
 use Rattle.shore_types.specs.declared.faults.Fault.{Fault}
@@ -17,7 +17,6 @@ use Rattle.shore_model.specs.declared.histories.Entry.TheVariants.{Exchanged}
 use Rattle.shore_model.specs.declared.log_records.LogRecord.{LogRecord}
 use Rattle.shore_model.specs.Alone.{IsRight, record_named_by}
 use Rattle.shore_model.specs.Locks.{MayRead}
-use Rattle.shore_model.specs.Requests.{held_by_all}
 use Rattle.shore_locks.specs.Tables.{is_waiting}
 use Rattle.shore_path.specs.declared.answers.Acquired.TheVariants as acquire
 use Rattle.shore_path.specs.declared.answers.OnConflict.TheVariants.{Refuse}
@@ -25,7 +24,7 @@ use Rattle.shore_held.specs.CallLocks.{Asked, asked_by}
 use Rattle.shore_held.proofs.Acquired.{acquired_refused}
 use Rattle.shore_sessions.proofs.Views.{read_of_write}
 use Rattle.shore_sessions.specs.RepliesInPlace.{IsKnownAbsent, Permit}
-use Rattle.shore_sessions.specs.SessionSteps.{GiveReply, IsInnerCall, MoveLocks, RefuseCall, TellsNothing, exchange}
+use Rattle.shore_sessions.specs.SessionSteps.{GiveReply, IsInnerCall, RefuseCall, TellsNothing, exchange}
 use Rattle.shore_sessions.specs.Sessions.{SessionTxn, reply_given}
 use Rattle.shore_sessions.specs.Views.{IsAmong}
 use Rattle.shore_room.specs.Claims.{SlotCounts}
@@ -33,7 +32,7 @@ use Rattle.shore_calls.specs.declared.step.Step.{Step}
 use Rattle.shore_calls.specs.declared.step.Step.TheVariants.{Done, Nothing, Refused, Waits}
 use Rattle.shore_calls.proofs.Elements.{same_undo}
 use Rattle.shore_calls.proofs.GoingOn.{asking_is_inner, at_place, behind, lock_refusal_tells_nothing, never_waiting, page_fault_tells_nothing, permits, place_permits, some_and, still_quiet}
-use Rattle.shore_calls.proofs.Links.{GoesQuietly, IsLeft, absence_goes, locks_go, quietly_none, quietly_one, quietly_then, refusal_goes}
+use Rattle.shore_calls.proofs.Links.{GoesQuietly, IsLeft, absence_goes, locks_go, quietly_behind, quietly_none, quietly_one, refusal_goes}
 use Rattle.shore_calls.proofs.LockedAnswers.{inner_under}
 use Rattle.shore_calls.proofs.RefusalTells.{known_absent, same_entry, tells_or_none}
 use Rattle.shore_calls.proofs.ReplyLinks.{Takes, delete_takes, get_for_update_takes, get_takes, insert_takes, lock_takes, reply_goes, scan_takes, try_lock_takes, update_takes}
@@ -68,7 +67,7 @@ module _ (g : Geometry) (found : List LogRecord) (es : List Entry) (session : �
       quietly_one g session s (RefuseCall session (txn_of s.sessions session) c f) s new tt
       (refusal_goes g s session (txn_of s.sessions session) c f (is_txn_of s.sessions session, nothing, refl)) left
 
-  module _ (a : SessionTxn) (of : a.session ≡ session) where
+  module _ (a : SessionTxn) (of : a.session ≡ session) (whole : a.undo.rolling ≡ None) where
     -- the record that a call names is not there
     pub absence_passes : (s : State) → IsSessionsState found es s → IsAmong a s.sessions.active → (c : Call) → IsInnerCall c
         → IsSomeAnd (record_named_by c) (IsKnownAbsent s.sessions.held a.txn s.sessions.records) → Passes s s (refused_entry s c fault.NoRecord ∷ [])
@@ -76,16 +75,16 @@ module _ (g : Geometry) (found : List LogRecord) (es : List Entry) (session : �
         let same : s.sessions ≡ reply_given s.sessions a c (Err fault.NoRecord) =
         sym (ap (λ (xs : List SessionTxn). record s.sessions { active = xs }) (same_undo a s.sessions.active k.agree.once mem)) in
         subst (λ (e : Entry). Passes s s (e ∷ [])) (same_entry a.session session a.txn (txn_of s.sessions session) (exchange c (Err fault.NoRecord)) of (sym (its_txn k.agree a session (inl mem) of)))
-        (quietly_one g session s (GiveReply a c (Err fault.NoRecord)) s s tt (absence_goes g s a c (mem, inner, known, same)) (inl refl))
+        (quietly_one g session s (GiveReply a c (Err fault.NoRecord)) s s tt (absence_goes g s a c (mem, inner, known, inl whole, same)) (inl refl))
 
     -- an answer that its locks permit, that is right on the records in place, and that has its room
-    reply_passes : (s : State) → IsSessionsState found es s → IsAmong a s.sessions.active → (c : Call) → IsInnerCall c → (answer : Answer) (counts : SlotCounts)
+    pub reply_passes : (s : State) → IsSessionsState found es s → IsAmong a s.sessions.active → (c : Call) → IsInnerCall c → (answer : Answer) (counts : SlotCounts)
         → Permit s.sessions.held a.txn c answer → IsRight s.sessions.records (length a.undo.marks) c answer → Takes g s a c answer counts
         → Passes s (answered s a c answer counts) (answer_entry s c answer ∷ [])
     reply_passes s k mem c inner answer counts permit right takes =
         subst (λ (e : Entry). Passes s (answered s a c answer counts) (e ∷ []))
         (same_entry a.session session a.txn (answered_under s.sessions session c) (exchange c (Ok answer)) of (sym (inner_under s session c inner ∙ its_txn k.agree a session (inl mem) of)))
-        (quietly_one g session s (GiveReply a c (Ok answer)) (answered s a c answer counts) (answered s a c answer counts) tt (reply_goes g s a mem c inner answer counts permit right takes) (inl refl))
+        (quietly_one g session s (GiveReply a c (Ok answer)) (answered s a c answer counts) (answered s a c answer counts) tt (reply_goes g s a mem c inner answer counts permit right (inl whole) takes) (inl refl))
 
     -- a page that was not read, or a record that is not there
     read_passes : (s : State) → IsSessionsState found es s → IsAmong a s.sessions.active → (c : Call) → IsInnerCall c → (id : Rid) → record_named_by c ≡ Some id → MayRead s.sessions.held a.txn id
@@ -107,7 +106,7 @@ module _ (g : Geometry) (found : List LogRecord) (es : List Entry) (session : �
       -- the place is locked first
       place_first : (id : Rid) (new : State) (made : List Entry) → Passes (behind_place s a id) new made → Passes s new made
       place_first id new made rest =
-          quietly_then g session s (MoveLocks (held_by_all (place_outcome s a id).requests)) (behind_place s a id) new made tt tt
+          quietly_behind g session s (place_outcome s a id).requests new made
           (locks_go g s (place_outcome s a id).requests (moved found es s k a mem quiet Refuse (granule.Record id) EX)) rest
 
       -- .. and what is refused then leaves the state as it was but for it
@@ -131,8 +130,8 @@ module _ (g : Geometry) (found : List LogRecord) (es : List Entry) (session : �
           let id = h.0 in
           let serves = h.1.0.serves in
           let place = behind_place s a id in
-          let at = at_place g found es session a of s k mem quiet s k mem quiet id (never_waiting h.1.1) in
-          let permit = place_permits g found es session a of s k mem quiet s k mem quiet id store bytes h.1.1 in
+          let at = at_place g found es session a of whole s k mem quiet s k mem quiet id (never_waiting h.1.1) in
+          let permit = place_permits g found es session a of whole s k mem quiet s k mem quiet id store bytes h.1.1 in
           subst (λ (n : State). Passes s n (answer_entry s (call.Insert store bytes) answer ∷ [])) (sym h.3.2)
           (subst (λ (x : Answer). Passes s (answered place a (call.Insert store bytes) x h.3.0) (answer_entry s (call.Insert store bytes) x ∷ [])) (sym h.2)
           (place_first id (answered place a (call.Insert store bytes) (Inserted id) h.3.0) (answer_entry s (call.Insert store bytes) (Inserted id) ∷ [])
@@ -144,7 +143,7 @@ module _ (g : Geometry) (found : List LogRecord) (es : List Entry) (session : �
       -- the lock that the call asks for comes first
       lock_first : (c : Call) (lock : Asked) (new : State) (made : List Entry) → Passes (behind_lock s a c lock) new made → Passes s new made
       lock_first c lock new made rest =
-          quietly_then g session s (MoveLocks (held_by_all (lock_outcome s a c lock).requests)) (behind_lock s a c lock) new made tt tt
+          quietly_behind g session s (lock_outcome s a c lock).requests new made
           (locks_go g s (lock_outcome s a c lock).requests (moved found es s k a mem quiet (on_conflict_of c) lock.granule lock.mode)) rest
 
       module _ (c : Call) (lock : Asked) (asked : asked_by c ≡ Some lock) (done : (lock_outcome s a c lock).answer ≡ Ok acquire.Done) where
@@ -152,13 +151,13 @@ module _ (g : Geometry) (found : List LogRecord) (es : List Entry) (session : �
         locked = behind_lock s a c lock
 
         has : IsSessionsState found es locked
-        has = behind g found es session a of s k mem quiet c lock done
+        has = behind g found es session a of whole s k mem quiet c lock done
 
         free : is_waiting a.txn locked.locks.requests ≡ false
-        free = still_quiet g found es session a of s k mem quiet c lock done
+        free = still_quiet g found es session a of whole s k mem quiet c lock done
 
         may : ((store : ℕ) (bytes : List ℕ) → c ≢ call.Insert store bytes) → (answer : Answer) → Permit locked.sessions.held a.txn c answer
-        may other answer = permits g found es session a of s k mem quiet c lock asked done other answer
+        may other answer = permits g found es session a of whole s k mem quiet c lock asked done other answer
 
         given : ((store : ℕ) (bytes : List ℕ) → c ≢ call.Insert store bytes) → (answer : Answer) (counts : SlotCounts) → IsRight s.sessions.records (length a.undo.marks) c answer
             → Takes g locked a c answer counts → Passes locked (answered locked a c answer counts) (answer_entry s c answer ∷ [])
@@ -255,7 +254,7 @@ module _ (g : Geometry) (found : List LogRecord) (es : List Entry) (session : �
           subst (λ w. Passes s new (entries_of_call s session c (Waits w))) (sym h.4)
           (lock_first c h.0 new []
           (quietly_none g session (behind_lock s a c h.0) new
-          (inr (inr (record { txn = a; active = mem; of = of; idle = idle; call = c; lock = h.0; asked = h.2; at = h.1; is = h.5 })))))
+          (inr (inr (record { txn = a; active = mem; of = of; whole = whole; idle = idle; call = c; lock = h.0; asked = h.2; at = h.1; is = h.5 })))))
       goes_on_passes idle c (Refused f) new (inl h) =
           subst (λ (x : Fault). Passes s new (refused_entry s c x ∷ [])) (sym h.0) (memory_passes c new h.1)
       goes_on_passes idle c (Refused f) new (inr (inl h)) =

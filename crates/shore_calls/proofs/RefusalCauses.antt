@@ -1,7 +1,7 @@
 -- The refusals of calls within a transaction have their causes.
-use Rattle.std.proofs.Common.{◌≡◌, ◌≢◌, ◌⊎◌, inl, inr, ⊎_elim, ◌≤◌, ◌<◌, ℕ, List, Some, None, refl, subst, length, arith, Ok, Err}
+use Rattle.std.proofs.Common.{◌≡◌, ◌≢◌, ◌⊎◌, inl, inr, ⊎_elim, ◌+◌, ◌≤◌, ◌<◌, ℕ, List, Some, None, refl, sym, ap, subst, ◌∙◌, length, length-append, arith, Ok, Err}
 use Rattle.std.specs.FinMap.{get}
-use Rattle.std.specs.Prelude.{IsSome}
+use Rattle.std.specs.Prelude.{IsSome, Option}
 use Rattle.shore_types.specs.Layout.{HasPage, HasStore}
 use Rattle.shore_types.specs.declared.faults.Device.TheVariants.{Volume}
 use Rattle.shore_types.specs.declared.faults.Fault.{Fault}
@@ -13,14 +13,19 @@ use Rattle.shore_model.specs.declared.calls.Call.{Call}
 use Rattle.shore_model.specs.declared.calls.Call.TheVariants as call
 use Rattle.shore_path.specs.declared.answers.Acquired.TheVariants as acquire
 use Rattle.shore_held.specs.CallLocks.{Asked, asked_by}
+use Rattle.shore_model.specs.declared.log_records.LogRecord.{LogRecord}
+use Rattle.shore_sessions.specs.declared.rollbacks.Rollback.{Rollback}
 use Rattle.shore_sessions.specs.Sessions.{SessionTxn}
+use Rattle.shore_calls.specs.declared.step.Step.TheVariants.{Refused}
+use Rattle.shore_calls.proofs.LongerLogs.{call_further}
+use Rattle.shore_calls.proofs.RollingLeaves.{unwound_durable}
 use Rattle.shore_calls.proofs.AcquireAnswers.{IsLockFault, acquire_fault}
 use Rattle.shore_calls.proofs.Decided.{no_record_both}
-use Rattle.shore_calls.proofs.SessionInversions.{IsOwn, RefusedIn, insert_asks, refused_in}
-use Rattle.shore_calls.proofs.WrongRefusals.{IsBehind, IsEarly, RefusedWith, begin_fault, begin_refused, refused_behind, refused_early}
+use Rattle.shore_calls.proofs.SessionInversions.{IsOwn, NoRollback, RefusedIn, insert_asks, interrupted_in, refused_in}
+use Rattle.shore_calls.proofs.WrongRefusals.{IsBehind, IsEarly, RefusedWith, begin_fault, begin_refused, page_behind, refused_behind, refused_early}
 use Rattle.shore_calls.specs.CallSteps.{Finds, HasPlace, RefusesBehind, RefusesEarly, RefusesId, RefusesRead, ServesTxn, behind_lock, behind_place, lock_outcome, on_conflict_of}
 use Rattle.shore_calls.specs.StateChanges.{CanLog, FitsAt, IsPageFault}
-use Rattle.shore_calls.specs.Shapes.{ForItsTxn, store_lock, store_locked}
+use Rattle.shore_calls.specs.Shapes.{ForItsTxn, rollback_of, store_lock, store_locked}
 use Rattle.shore_calls.specs.States.{IsOfSession, State}
 
 -- ---- page faults
@@ -61,8 +66,8 @@ module _ (g : Geometry) (s new : State) (session : ℕ) where
     pub refuses : RefusesBehind g (behind_lock s txn c lock) txn c f new
 
   pub behind_lock_of : (c : Call) (f : Fault) → IsOwn f → ((a : SessionTxn) (lock : Asked) → (lock_outcome s a c lock).answer ≡ Err f → ⊥) → (RefusesEarly g c f → ⊥)
-      → c ≢ call.Begin → RefusedWith g s new session c f → BehindLock c f
-  behind_lock_of c f own table early other h = by (refused_in g s new session c f own other h)
+      → c ≢ call.Begin → NoRollback g s new session c f → RefusedWith g s new session c f → BehindLock c f
+  behind_lock_of c f own table early other none h = by (refused_in g s new session c f own other none h)
     where
       by : RefusedIn g s new session c f → BehindLock c f
       by t = ⊎_elim
@@ -74,15 +79,15 @@ module _ (g : Geometry) (s new : State) (session : ℕ) where
           t.from
 
   -- the lock table does not give this refusal, and it is none before the locks
-  pub comes_behind : (c : Call) (f : Fault) → IsOwn f → (IsLockFault f → ⊥) → (IsEarly f → ⊥) → c ≢ call.Begin → RefusedWith g s new session c f → BehindLock c f
-  comes_behind c f own table early other h =
-      behind_lock_of c f own (λ a lock is. table (acquire_fault s.locks a.txn lock.granule lock.mode (on_conflict_of c) f is)) (λ x. early (refused_early g c f x)) other h
+  pub comes_behind : (c : Call) (f : Fault) → IsOwn f → (IsLockFault f → ⊥) → (IsEarly f → ⊥) → c ≢ call.Begin → NoRollback g s new session c f → RefusedWith g s new session c f → BehindLock c f
+  comes_behind c f own table early other none h =
+      behind_lock_of c f own (λ a lock is. table (acquire_fault s.locks a.txn lock.granule lock.mode (on_conflict_of c) f is)) (λ x. early (refused_early g c f x)) other none h
 
   abbrev Refuses : Call → Fault → Type 0
   Refuses c f = RefusedWith g s new session c f
 
   store_full_behind : (c : Call) → c ≢ call.Begin → Refuses c fault.StoreFull → BehindLock c fault.StoreFull
-  store_full_behind c other h = comes_behind c fault.StoreFull tt no_lock (λ x. x) other h
+  store_full_behind c other h = comes_behind c fault.StoreFull tt no_lock (λ x. x) other (λ r is x p. store_full x p) h
     where
       no_lock : IsLockFault fault.StoreFull → ⊥
       no_lock (inl e) = cc
@@ -90,15 +95,15 @@ module _ (g : Geometry) (s new : State) (session : ℕ) where
       no_lock (inr (inr e)) = let clash = e.1 in cc
 
   log_full_behind : (c : Call) → c ≢ call.Begin → Refuses c fault.LogFull → BehindLock c fault.LogFull
-  log_full_behind c other h = comes_behind c fault.LogFull tt no_lock (λ x. x) other h
+  log_full_behind c other h = comes_behind c fault.LogFull tt no_lock (λ x. x) other (λ r is x p. log_full x p) h
     where
       no_lock : IsLockFault fault.LogFull → ⊥
       no_lock (inl e) = cc
       no_lock (inr (inl e)) = cc
       no_lock (inr (inr e)) = let clash = e.1 in cc
 
-  force_behind : (c : Call) (n : ℕ) → c ≢ call.Begin → Refuses c (fault.NeedForce n) → BehindLock c (fault.NeedForce n)
-  force_behind c n other h = comes_behind c (fault.NeedForce n) tt no_lock (λ x. x) other h
+  force_behind : (c : Call) (n : ℕ) → c ≢ call.Begin → NoRollback g s new session c (fault.NeedForce n) → Refuses c (fault.NeedForce n) → BehindLock c (fault.NeedForce n)
+  force_behind c n other none h = comes_behind c (fault.NeedForce n) tt no_lock (λ x. x) other none h
     where
       no_lock : IsLockFault (fault.NeedForce n) → ⊥
       no_lock (inl e) = cc
@@ -212,7 +217,7 @@ module _ (g : Geometry) (s new : State) (session : ℕ) where
       → IsSome (get s.sessions.records id) → Refuses c fault.NoRecord → ⊥
   no_record id c other early reads there h =
       let t = behind_lock_of c fault.NoRecord tt
-      (λ a lock is. no_table_fault fault.NoRecord tt (λ e. cc) (acquire_fault s.locks a.txn lock.granule lock.mode (on_conflict_of c) fault.NoRecord is)) early other h in
+      (λ a lock is. no_table_fault fault.NoRecord tt (λ e. cc) (acquire_fault s.locks a.txn lock.granule lock.mode (on_conflict_of c) fault.NoRecord is)) early other (λ r is x p. no_page_fault x fault.NoRecord (λ e. cc) (λ offset e. cc) (λ n e. cc) p) h in
       no_record_both (get s.sessions.records id) there (reads (behind_lock s t.txn c t.lock) t.txn t.refuses)
 
   beyond : (id : Rid) → id.slot < MAX_SLOTS → RefusesId g id fault.NoRecord → ⊥
@@ -237,7 +242,7 @@ module _ (g : Geometry) (s new : State) (session : ℕ) where
 
   -- refusals of ids that are no page and no store
   early_of : (c : Call) (f : Fault) → IsOwn f → IsEarly f → f ≢ fault.BadMode → (IsBehind f → ⊥) → c ≢ call.Begin → Refuses c f → RefusesEarly g c f
-  early_of c f own early mode behind other h = by (refused_in g s new session c f own other h)
+  early_of c f own early mode behind other h = by (refused_in g s new session c f own other (λ r is x p. behind (page_behind x f p)) h)
     where
       by : RefusedIn g s new session c f → RefusesEarly g c f
       by t = ⊎_elim
@@ -277,16 +282,48 @@ module _ (g : Geometry) (s new : State) (session : ℕ) where
   behind_forces l a (call.Scan store) n h = force_cause l n h.0
   behind_forces l a _ n h = absurd h
 
-  forced : (c : Call) (n : ℕ) → c ≢ call.Begin → Refuses c (fault.NeedForce n) → (s.durable < n) × (n ≤ length s.log)
-  forced c n other h = let t = force_behind c n other h in behind_forces (behind_lock s t.txn c t.lock) t.txn c n t.refuses
+  forced : (c : Call) (n : ℕ) → c ≢ call.Begin → NoRollback g s new session c (fault.NeedForce n) → Refuses c (fault.NeedForce n) → (s.durable < n) × (n ≤ length s.log)
+  forced c n other none h = let t = force_behind c n other none h in behind_forces (behind_lock s t.txn c t.lock) t.txn c n t.refuses
 
-  force_of : (c : Call) (n : ℕ) → Refuses c (fault.NeedForce n) → (s.durable < n) × (n ≤ length s.log)
-  force_of call.Begin n h =
+  force_of : (c : Call) (n : ℕ) → rollback_of c ≡ None → Refuses c (fault.NeedForce n) → (s.durable < n) × (n ≤ length s.log)
+  force_of call.Begin n plain h =
       absurd (begin_fault g s new session (λ f. f ≢ fault.NeedForce n) (λ e. cc) (λ e. cc) (λ e. cc) (fault.NeedForce n) (begin_refused g s new session (fault.NeedForce n) tt h) refl)
-  force_of c n h = forced c n (λ e. cc) h
+  force_of c n plain h = forced c n (λ e. cc) (λ r is. absurd (no_rollback (rollback_of c) r plain is)) h
+    where
+      no_rollback : (o : Option Rollback) (r : Rollback) → o ≡ None → o ≡ Some r → ⊥
+      no_rollback o r d e = cc
+
+  -- .. and of a rollback: its own records are there then
+  rollback_force_of : (c : Call) (r : Rollback) (n : ℕ) → rollback_of c ≡ Some r → Refuses c (fault.NeedForce n) → (s.durable < n) × (n ≤ length new.log)
+  rollback_force_of c r n is h =
+      let t = interrupted_in g s new session c r (fault.NeedForce n) is tt h in
+      ⊎_elim
+      (λ memory. let clash = memory in absurd cc)
+      (λ page.
+      let force = force_cause t.how.0 n page in
+      let log : new.log ≡ t.how.0.log = ap (λ (x : State). x.log) t.how.3 in (
+        subst (λ d. d < n) (unwound_durable s t.txn r t.how.0 t.how.1) force.0,
+        subst (λ (l : List LogRecord). n ≤ length l) (sym log) force.1,
+      ))
+      t.how.2
+
+  any_force : (c : Call) (n : ℕ) → Refuses c (fault.NeedForce n) → (s.durable < n) × (n ≤ length new.log)
+  any_force c n h = by (rollback_of c) refl
+    where
+      by : (o : Option Rollback) → rollback_of c ≡ o → (s.durable < n) × (n ≤ length new.log)
+      by None plain =
+          let force = force_of c n plain h in
+          let on = (call_further g s session c (Refused (fault.NeedForce n)) new h).on in
+          let longer : length new.log ≡ length s.log + length on.0 = ap length on.1 ∙ length-append s.log on.0 in
+          let within = force.1 in
+          (force.0, omega (arith, within, longer))
+      by (Some r) is = rollback_force_of c r n is h
 
   pub force_of_durable : (c : Call) (n : ℕ) → n ≤ s.durable → Refuses c (fault.NeedForce n) → ⊥
-  force_of_durable c n durable h = let above = (force_of c n h).0 in omega arith
+  force_of_durable c n durable h = let above = (any_force c n h).0 in omega arith
 
-  pub force_beyond_log : (c : Call) (n : ℕ) → length s.log < n → Refuses c (fault.NeedForce n) → ⊥
-  force_beyond_log c n past h = let within = (force_of c n h).1 in omega arith
+  pub force_beyond_log : (c : Call) (n : ℕ) → rollback_of c ≡ None → length s.log < n → Refuses c (fault.NeedForce n) → ⊥
+  force_beyond_log c n plain past h = let within = (force_of c n plain h).1 in omega arith
+
+  pub force_beyond_all : (c : Call) (n : ℕ) → length new.log < n → Refuses c (fault.NeedForce n) → ⊥
+  force_beyond_all c n past h = let within = (any_force c n h).1 in omega arith

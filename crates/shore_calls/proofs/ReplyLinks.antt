@@ -1,5 +1,5 @@
 -- Replies to calls of a transaction, as events of the sessions with their room.
-use Rattle.std.proofs.Common.{◌≡◌, ◌⊎◌, inl, inr, ◌+◌, ℕ, List, cond, Some, None, Ok, refl, sym, length, arith}
+use Rattle.std.proofs.Common.{◌≡◌, ◌⊎◌, inl, inr, ◌+◌, ℕ, List, [], cond, Some, None, Ok, refl, sym, ap, length, arith}
 use Rattle.std.proofs.lemmas.List.{length-map}
 use Rattle.std.specs.Prelude.{◌==◌, IsSome}
 use Rattle.std.specs.FinMap.{get}
@@ -20,20 +20,20 @@ use Rattle.shore_model.specs.Logs.{previous_of}
 use Rattle.shore_room.proofs.Costs.{change_bytes}
 use Rattle.shore_room.specs.Claims.{SlotCounts}
 use Rattle.shore_room.specs.Events.{EventFits}
-use Rattle.shore_room.specs.LogRooms.{EventAdmits, change_cost, changed_room}
+use Rattle.shore_room.specs.LogRooms.{EventAdmits, change_cost, changed_room, undone_rooms}
 use Rattle.shore_sessions.proofs.Lists.{length-push}
-use Rattle.shore_sessions.specs.Logged.{and_record}
+use Rattle.shore_sessions.specs.Logged.{and_compensations, and_record}
 use Rattle.shore_sessions.specs.RepliesInPlace.{Permit}
 use Rattle.shore_sessions.specs.SessionSteps.{GiveReply, IsInnerCall}
 use Rattle.shore_sessions.specs.Sessions.{SessionTxn, with_undo}
-use Rattle.shore_sessions.specs.UndoLists.{UndoList, undo_after}
+use Rattle.shore_sessions.specs.UndoLists.{MayGiveReply, UndoList, images_since, undo_after}
 use Rattle.shore_sessions.specs.Views.{IsAmong}
 use Rattle.shore_calls.proofs.Links.{Goes, HasRoomAfter, Writes, same_room}
 use Rattle.shore_calls.proofs.Rooms.{cost_pushed}
 use Rattle.shore_calls.specs.StateChanges.{MayChange, answered}
 use Rattle.shore_calls.specs.States.{State, cost_of_log, log_room}
 
-as_many : (t : ℕ) (undo : UndoList) (xs : List SessionTxn) → length (with_undo t undo xs) ≡ length xs
+pub as_many : (t : ℕ) (undo : UndoList) (xs : List SessionTxn) → length (with_undo t undo xs) ≡ length xs
 as_many t undo xs = length-map xs (λ (a : SessionTxn). cond (a.txn == t) (record { session = a.session; txn = a.txn; undo = undo }) a)
 
 module _ (g : Geometry) (s : State) (a : SessionTxn) where
@@ -69,6 +69,26 @@ module _ (g : Geometry) (s : State) (a : SessionTxn) where
     writes = inl (refl, refl);
   }
 
+  pub savepoint_takes : (answer : Answer) → Takes call.Savepoint answer s.counts
+  savepoint_takes answer = record { fits = refl; admits = tt; room = same_room s (answered s a call.Savepoint answer s.counts) (GiveReply a call.Savepoint (Ok answer)) refl refl refl; writes = inl (refl, refl) }
+
+  -- a way back, once no image since its savepoint is left
+  pub back_takes : (n : ℕ) (answer : Answer) → images_since a.undo n ≡ [] → Takes (call.BackTo n) answer s.counts
+  back_takes n answer none =
+      let same : and_compensations a.txn s.log (images_since a.undo n) ≡ s.log = ap (and_compensations a.txn s.log) none in
+      record {
+        fits = refl;
+        admits = tt;
+        room = record {
+          room = log_room s;
+          after = ap (λ (es : List (Rid × Image)). undone_rooms es (log_room s)) (sym none);
+          kept = ap cost_of_log (sym same);
+          stream = refl;
+          last = ap length (sym same);
+        };
+        writes = inl (same, refl);
+      }
+
   change_costs : (id : Rid) (image : Image)
       → cost_of_log s.log + change_cost (get s.sessions.records id) image ≡ cost_of_log (and_record a.txn s.log (payload.Change id (get s.sessions.records id) image))
   change_costs id image =
@@ -83,7 +103,7 @@ module _ (g : Geometry) (s : State) (a : SessionTxn) where
       fits = (may.fits, may.grows);
       admits = may.logs;
       room = record { room = changed_room (get s.sessions.records id) (Some bytes) (log_room s); after = refl; kept = change_costs id (Some bytes); stream = refl; last = sym (length-push s.log _) };
-      writes = inr (inr (record { txn = a.txn; id = id; image = Some bytes; log = refl; inside = inside; fits = may.fits; grows = may.grows }));
+      writes = inr (inr (inl (record { txn = a.txn; id = id; image = Some bytes; log = refl; inside = inside; fits = may.fits; grows = may.grows })));
     }
 
     pub update_takes : (bytes : List ℕ) (answer : Answer) → MayChange s id (Some bytes) counts → Takes (call.Update id bytes) answer counts
@@ -91,7 +111,7 @@ module _ (g : Geometry) (s : State) (a : SessionTxn) where
       fits = (may.fits, may.grows);
       admits = may.logs;
       room = record { room = changed_room (get s.sessions.records id) (Some bytes) (log_room s); after = refl; kept = change_costs id (Some bytes); stream = refl; last = sym (length-push s.log _) };
-      writes = inr (inr (record { txn = a.txn; id = id; image = Some bytes; log = refl; inside = inside; fits = may.fits; grows = may.grows }));
+      writes = inr (inr (inl (record { txn = a.txn; id = id; image = Some bytes; log = refl; inside = inside; fits = may.fits; grows = may.grows })));
     }
 
     pub delete_takes : (answer : Answer) → MayChange s id None counts → Takes (call.Delete id) answer counts
@@ -99,14 +119,14 @@ module _ (g : Geometry) (s : State) (a : SessionTxn) where
       fits = (may.fits, may.grows);
       admits = may.logs;
       room = record { room = changed_room (get s.sessions.records id) None (log_room s); after = refl; kept = change_costs id None; stream = refl; last = sym (length-push s.log _) };
-      writes = inr (inr (record { txn = a.txn; id = id; image = None; log = refl; inside = inside; fits = may.fits; grows = may.grows }));
+      writes = inr (inr (inl (record { txn = a.txn; id = id; image = None; log = refl; inside = inside; fits = may.fits; grows = may.grows })));
     }
 
   -- an answer that its locks permit, that is right on the records in place, and that has its room
   pub reply_goes : IsAmong a s.sessions.active → (c : Call) → IsInnerCall c → (answer : Answer) (counts : SlotCounts) → Permit s.sessions.held a.txn c answer
-      → IsRight s.sessions.records (length a.undo.marks) c answer → Takes c answer counts → Goes g s (GiveReply a c (Ok answer)) (answered s a c answer counts)
-  reply_goes mem c inner answer counts permit right takes = record {
-    moves = (mem, inner, (permit, right), refl);
+      → IsRight s.sessions.records (length a.undo.marks) c answer → MayGiveReply a.undo c (Ok answer) → Takes c answer counts → Goes g s (GiveReply a c (Ok answer)) (answered s a c answer counts)
+  reply_goes mem c inner answer counts permit right may takes = record {
+    moves = (mem, inner, (permit, right), may, refl);
     log = refl;
     durable = refl;
     stream = refl;

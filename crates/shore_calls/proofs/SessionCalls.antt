@@ -1,5 +1,5 @@
 -- A call of a session, whatever it comes to: what the sessions are after its entry.
-use Rattle.std.proofs.Common.{◌≡◌, inl, inr, ⊎_elim, ◌+◌, ◌<◌, ◌++◌, ◌∷◌, ℕ, List, [], false, Some, Ok, Err, refl, sym, ap, subst, ◌∙◌, length, arith}
+use Rattle.std.proofs.Common.{◌≡◌, inl, inr, ⊎_elim, ◌+◌, ◌<◌, ◌++◌, ◌∷◌, ℕ, List, [], false, None, Some, Ok, Err, refl, sym, ap, subst, ◌∙◌, length, arith}
 use Rattle.std.specs.Prelude.{◌≤◌, IsSomeAnd, Option}
 use Rattle.std.proofs.lemmas.List.Elements.{All-weaker}
 use Rattle.shore_types.specs.declared.faults.Fault.{Fault}
@@ -30,11 +30,13 @@ use Rattle.shore_calls.specs.declared.step.Step.TheVariants.{Done, Nothing, Refu
 use Rattle.shore_calls.proofs.GoingOn.{goes_on_kept}
 use Rattle.shore_calls.proofs.LockedAnswers.{absence_told, refusal_told}
 use Rattle.shore_calls.proofs.RefusalTells.{tells_or_none}
+use Rattle.shore_calls.proofs.RollingCalls.{abort_kept, back_kept, savepoint_kept}
 use Rattle.shore_calls.proofs.Sessions.{AreSessionsAfter, event_keeps, its_txn}
 use Rattle.shore_calls.proofs.TakenLocks.{sessions_of, state_of}
 use Rattle.shore_calls.specs.CallHistories.{txn_of}
 use Rattle.shore_calls.specs.StateChanges.{committed}
-use Rattle.shore_calls.specs.CallSteps.{BeginStep, CommitStep, InnerStep, IsTooLong, RefusesEarly, RefusesGranule, CallStep}
+use Rattle.shore_calls.specs.CallSteps.{BeginStep, CommitStep, InnerStep, IsTooLong, OpenStep, RefusesEarly, RefusesGranule, CallStep}
+use Rattle.shore_calls.specs.Rollbacks.{TakesCall}
 use Rattle.shore_calls.specs.LockedStates.{IsSessionsState, entries_of_call}
 use Rattle.shore_calls.specs.States.{DoesNotWait, HasNoTxn, IsOfSession, State}
 
@@ -68,17 +70,17 @@ module _ (g : Geometry) (found : List LogRecord) (es : List Entry) (s : State) (
 
   -- ---- a commit
 
-  commit_kept : (a : SessionTxn) → IsOfSession s session a → (step : Step) (new : State) → CommitStep s a step new → IsSessionsState found (es ++ entries_of_call s session call.Commit step) new
-  commit_kept a mem (Done answer) new h = absurd h
-  commit_kept a mem (Refused f) new h = absurd h
-  commit_kept a mem Nothing new h = absurd h
-  commit_kept a mem (Waits wait) new h =
+  commit_kept : (a : SessionTxn) → a.undo.rolling ≡ None → IsOfSession s session a → (step : Step) (new : State) → CommitStep s a step new → IsSessionsState found (es ++ entries_of_call s session call.Commit step) new
+  commit_kept a whole mem (Done answer) new h = absurd h
+  commit_kept a whole mem (Refused f) new h = absurd h
+  commit_kept a whole mem Nothing new h = absurd h
+  commit_kept a whole mem (Waits wait) new h =
       subst (IsSessionsState found (es ++ entries_of_call s session call.Commit (Waits wait))) (sym h.1)
       (subst (λ w. IsSessionsState found (es ++ entries_of_call s session call.Commit (Waits w)) (committed s a)) (sym h.0)
       (state_of found es s k (es ++ Decided (decision.Commit (txn_of s.sessions session)) ∷ []) (committed s a)
       (subst (λ t. AreSessionsAfter (length found) (records_committed found) (es ++ Decided (decision.Commit t) ∷ []) (committed s a).sessions (committed s a).log)
       (sym (its_txn k.agree a session (inl mem.0) mem.1))
-      (event_keeps (length found) (records_committed found) es s.sessions (committed s a).sessions (AppendCommit a) s.log (sessions_of found es s k) (mem.0, refl)))
+      (event_keeps (length found) (records_committed found) es s.sessions (committed s a).sessions (AppendCommit a) s.log (sessions_of found es s k) (mem.0, whole, refl)))
       (record {
         held = k.locks.held;
         orderly = k.locks.orderly;
@@ -123,32 +125,44 @@ module _ (g : Geometry) (found : List LogRecord) (es : List Entry) (s : State) (
       record { id = is.0; named = ap (λ (x : Granule). record_named_by (call.TryLock x mode)) is.1; inner = tt; beyond = is.2 }
   names_no_slot _ h = absurd h
 
-  early_kept : (a : SessionTxn) → IsOfSession s session a → (c : Call) (f : Fault) → RefusesEarly g c f → IsSessionsState found (es ++ Exchanged session (txn_of s.sessions session) (exchange c (Err f)) ∷ []) s
-  early_kept a mem c f h = ⊎_elim
+  early_kept : (a : SessionTxn) → a.undo.rolling ≡ None → IsOfSession s session a → (c : Call) (f : Fault) → RefusesEarly g c f → IsSessionsState found (es ++ Exchanged session (txn_of s.sessions session) (exchange c (Err f)) ∷ []) s
+  early_kept a whole mem c f h = ⊎_elim
       (refusal_told found es s k session c f)
       (λ none.
       let names = names_no_slot c (subst (RefusesEarly g c) none h) in
       subst (λ (x : Fault). IsSessionsState found (es ++ Exchanged session (txn_of s.sessions session) (exchange c (Err x)) ∷ []) s) (sym none)
-      (absence_told found es s k session a mem.0 mem.1 c names.inner
+      (absence_told found es s k session a mem.0 mem.1 c names.inner whole
       (subst (λ (o : Option Rid). IsSomeAnd o (IsKnownAbsent s.sessions.held a.txn s.sessions.records)) (sym names.named) (inr names.beyond))))
       (tells_or_none f)
 
   -- ---- any call
 
-  inner_kept : s.failed ≡ false → (a : SessionTxn) → IsOfSession s session a → DoesNotWait s session → (c : Call) (step : Step) (new : State) → InnerStep g s a c step new
+  open_kept : s.failed ≡ false → (a : SessionTxn) → a.undo.rolling ≡ None → IsOfSession s session a → DoesNotWait s session → (c : Call) (step : Step) (new : State) → OpenStep g s a c step new
       → IsSessionsState found (es ++ entries_of_call s session c step) new
-  inner_kept running a mem idle c step new (inl h) =
+  open_kept running a whole mem idle c step new (inl h) =
       subst (IsSessionsState found (es ++ entries_of_call s session c step)) (sym h.3)
-      (subst (λ (x : Step). IsSessionsState found (es ++ entries_of_call s session c x) s) (sym h.2) (early_kept a mem c h.0 h.1))
-  inner_kept running a mem idle c step new (inr (inl h)) =
-      goes_on_kept g found es session a mem.1 s k mem.0 (k.locks.waits running a mem.0 (λ w m same. idle w m (same ∙ mem.1))) c step new h.1
-  inner_kept running a mem idle c step new (inr (inr h)) =
-      subst (λ (x : Call). IsSessionsState found (es ++ entries_of_call s session x step) new) (sym h.0) (commit_kept a mem step new h.1)
+      (subst (λ (x : Step). IsSessionsState found (es ++ entries_of_call s session c x) s) (sym h.2) (early_kept a whole mem c h.0 h.1))
+  open_kept running a whole mem idle c step new (inr (inl h)) =
+      goes_on_kept g found es session a mem.1 whole s k mem.0 (k.locks.waits running a mem.0 (λ w m same. idle w m (same ∙ mem.1))) c step new h.1
+  open_kept running a whole mem idle c step new (inr (inr (inl h))) =
+      subst (λ (x : Call). IsSessionsState found (es ++ entries_of_call s session x step) new) (sym h.0) (commit_kept a whole mem step new h.1)
+  open_kept running a whole mem idle c step new (inr (inr (inr h))) =
+      subst (λ (x : Call). IsSessionsState found (es ++ entries_of_call s session x step) new) (sym h.0) (savepoint_kept g found es session a mem.1 s k mem.0 whole step new h.1)
 
   refused_call : (c : Call) (step : Step) (new : State) (f : Fault) → TellsNothing f → step ≡ Refused f → new ≡ s → IsSessionsState found (es ++ entries_of_call s session c step) new
   refused_call c step new f nothing is same =
       subst (IsSessionsState found (es ++ entries_of_call s session c step)) (sym same)
       (subst (λ (x : Step). IsSessionsState found (es ++ entries_of_call s session c x) s) (sym is) (refusal_told found es s k session c f nothing))
+
+  inner_kept : s.failed ≡ false → (a : SessionTxn) → IsOfSession s session a → DoesNotWait s session → (c : Call) (step : Step) (new : State) → InnerStep g s a c step new
+      → IsSessionsState found (es ++ entries_of_call s session c step) new
+  inner_kept running a mem idle c step new (inl h) = refused_call c step new fault.MustAbort tt h.2 h.3
+  inner_kept running a mem idle c step new (inr (inl h)) = open_kept running a h.0 mem idle c step new h.1
+  inner_kept running a mem idle c step new (inr (inr (inl h))) =
+      subst (λ (x : Call). IsSessionsState found (es ++ entries_of_call s session x step) new) (sym h.1)
+      (back_kept g found es session a mem.1 s k mem.0 h.0 (subst (TakesCall a.undo) h.1 h.2) step new h.3)
+  inner_kept running a mem idle c step new (inr (inr (inr h))) =
+      subst (λ (x : Call). IsSessionsState found (es ++ entries_of_call s session x step) new) (sym h.0) (abort_kept g found es session a mem.1 s k mem.0 step new h.1)
 
   pub session_call_kept : (c : Call) (step : Step) (new : State) → CallStep g s session c step new → IsSessionsState found (es ++ entries_of_call s session c step) new
   session_call_kept c step new (inl h) = refused_call c step new fault.Memory tt h.0 h.1

@@ -10,7 +10,7 @@ use Rattle.shore_types.specs.declared.faults.Fault.{Fault}
 use Rattle.shore_types.specs.declared.faults.Fault.TheVariants as fault
 use Rattle.shore_types.specs.declared.ids.Rid.{Rid}
 use Rattle.shore_types.specs.declared.layout.Geometry.{Geometry}
-use Rattle.shore_types.specs.declared.layout.TheConstants.{ENDING_COST, LAST_TXN, MAX_RECORD_BYTES, MAX_SLOTS, MAX_TRANSACTIONS}
+use Rattle.shore_types.specs.declared.layout.TheConstants.{ENDING_COST, LAST_TXN, MAX_RECORD_BYTES, MAX_SAVEPOINTS, MAX_SLOTS, MAX_TRANSACTIONS}
 use Rattle.shore_types.specs.declared.locking.Granule.{Granule}
 use Rattle.shore_types.specs.declared.locking.Granule.TheVariants as granule
 use Rattle.shore_types.specs.declared.locking.Mode.{Mode}
@@ -18,7 +18,7 @@ use Rattle.shore_types.specs.declared.locking.Mode.TheVariants.{EX}
 use Rattle.shore_model.specs.Modes.{is_allowed}
 use Rattle.shore_model.specs.Records.{scan_of}
 use Rattle.shore_model.specs.declared.calls.Answer.{Answer}
-use Rattle.shore_model.specs.declared.calls.Answer.TheVariants.{Began, Committed, Deleted, Got, Inserted, Locked, Scanned, Updated}
+use Rattle.shore_model.specs.declared.calls.Answer.TheVariants.{Aborted, Began, Committed, Deleted, Got, Inserted, Locked, Saved, Scanned, Updated, WentBack}
 use Rattle.shore_model.specs.declared.calls.Call.{Call}
 use Rattle.shore_model.specs.declared.calls.Call.TheVariants as call
 use Rattle.shore_model.specs.declared.histories.Entry.{Entry}
@@ -34,6 +34,8 @@ use Rattle.shore_held.specs.CallLocks.{Asked, CanLockNow, asked_by}
 use Rattle.shore_room.proofs.Fitting.{delete_fits}
 use Rattle.shore_room.specs.Claims.{SlotCounts}
 use Rattle.shore_sessions.proofs.Lists.{within_or_beyond}
+use Rattle.shore_sessions.specs.declared.rollbacks.Rollback.{Rollback}
+use Rattle.shore_sessions.specs.declared.rollbacks.Rollback.TheVariants.{To, Whole}
 use Rattle.shore_sessions.specs.Sessions.{SessionTxn, txn_begun}
 use Rattle.shore_sessions.specs.Views.{IsAmong}
 use Rattle.shore_calls.specs.declared.step.Step.{Step}
@@ -43,11 +45,13 @@ use Rattle.shore_calls.specs.declared.step.Wait.TheVariants.{Durable, Lock}
 use Rattle.shore_calls.proofs.AcquireAnswers.{acquire_fault, lock_fault_ordinary}
 use Rattle.shore_calls.proofs.Decided.{IsOrdinary, OrNot, both, fits_or_not, grown, grows, image_or_none, less_than, none_or_not, ordinary, page_or_not, room_or_not, same_number, store_or_not, waits_or_not}
 use Rattle.shore_calls.proofs.LowestPlaces.{lowest_or_none}
+use Rattle.shore_calls.proofs.SessionInversions.{IsLockless}
 use Rattle.shore_calls.proofs.Sessions.{is_txn_of}
 use Rattle.shore_calls.specs.CallHistories.{IsRoomyState}
 use Rattle.shore_calls.specs.StateChanges.{CanLog, ComesOfState, FitsAt, MayChange, answered, commit_waiting, committed, wait_refused}
-use Rattle.shore_calls.specs.CallSteps.{AnswersBehind, BeginStep, GoesOn, HasGranule, HasLocked, HasPlace, InnerStep, IsPlaceOf, MayAsk, RefusesBehind, RefusesEarly, RefusesGranule, RefusesId, RefusesLock, ResumesWait, ServesTxn, CallStep, ResumeStep, behind_lock, behind_place, commit_ended, lock_outcome, lock_waiting, on_conflict_of, place_outcome, txn_count}
+use Rattle.shore_calls.specs.CallSteps.{AnswersBehind, BeginStep, GoesOn, HasGranule, HasLocked, HasPlace, InnerStep, IsPlaceOf, MayAsk, RefusesBehind, RefusesEarly, RefusesGranule, RefusesId, RefusesLock, ResumesWait, ServesTxn, CallStep, ResumeStep, aborted, behind_lock, behind_place, commit_ended, lock_outcome, lock_waiting, on_conflict_of, place_outcome, txn_count}
 use Rattle.shore_calls.specs.Events.{IsServed, IsStateAfter}
+use Rattle.shore_calls.specs.Rollbacks.{TakesCall}
 use Rattle.shore_calls.specs.SessionWaits.{IsCommitWait, IsLockWait}
 use Rattle.shore_calls.specs.States.{DoesNotWait, HasNoTxn, IsOfSession, State, Waiting, next_number, page_slots}
 
@@ -241,12 +245,12 @@ module _ (g : Geometry) where
       (λ not. inr (fault.BadMode, inl (refl, not), tt))
       (cases_Bool (is_allowed (level_of at) mode))
 
-  asks_or_not : (c : Call) → IsServed c → c ≢ call.Begin → c ≢ call.Commit → AsksOrNot c
-  asks_or_not call.Begin served other last = absurd (other refl)
-  asks_or_not call.Commit served other last = absurd (last refl)
-  asks_or_not (call.Get id) served other last = ⊎_elim (λ has. inl (has, (_, refl))) (λ h. inr h) (id_or_not id)
-  asks_or_not (call.GetForUpdate id) served other last = ⊎_elim (λ has. inl (has, (_, refl))) (λ h. inr h) (id_or_not id)
-  asks_or_not (call.Insert store bytes) served other last =
+  asks_or_not : (c : Call) → IsServed c → c ≢ call.Begin → c ≢ call.Commit → (IsLockless c → ⊥) → AsksOrNot c
+  asks_or_not call.Begin served other last locks = absurd (other refl)
+  asks_or_not call.Commit served other last locks = absurd (last refl)
+  asks_or_not (call.Get id) served other last locks = ⊎_elim (λ has. inl (has, (_, refl))) (λ h. inr h) (id_or_not id)
+  asks_or_not (call.GetForUpdate id) served other last locks = ⊎_elim (λ has. inl (has, (_, refl))) (λ h. inr h) (id_or_not id)
+  asks_or_not (call.Insert store bytes) served other last locks =
       ⊎_elim
       (λ short. ⊎_elim
       (λ has. inl ((short, has), (_, refl)))
@@ -254,7 +258,7 @@ module _ (g : Geometry) where
       (store_or_not g store))
       (λ long. inr (fault.TooLong, inl (refl, long), tt))
       (within_or_beyond (length bytes) MAX_RECORD_BYTES)
-  asks_or_not (call.Update id bytes) served other last =
+  asks_or_not (call.Update id bytes) served other last locks =
       ⊎_elim
       (λ short. ⊎_elim
       (λ has. inl ((short, has), (_, refl)))
@@ -262,11 +266,14 @@ module _ (g : Geometry) where
       (id_or_not id))
       (λ long. inr (fault.TooLong, inl (refl, long), tt))
       (within_or_beyond (length bytes) MAX_RECORD_BYTES)
-  asks_or_not (call.Delete id) served other last = ⊎_elim (λ has. inl (has, (_, refl))) (λ h. inr h) (id_or_not id)
-  asks_or_not (call.Scan store) served other last = ⊎_elim (λ has. inl (has, (_, refl))) (λ none. inr (fault.NoStore, (refl, none), tt)) (store_or_not g store)
-  asks_or_not (call.Lock at mode) served other last = ⊎_elim (λ has. inl (has, (_, refl))) (λ h. inr h) (lock_or_not at mode)
-  asks_or_not (call.TryLock at mode) served other last = ⊎_elim (λ has. inl (has, (_, refl))) (λ h. inr h) (lock_or_not at mode)
-  asks_or_not _ served other last = absurd served
+  asks_or_not (call.Delete id) served other last locks = ⊎_elim (λ has. inl (has, (_, refl))) (λ h. inr h) (id_or_not id)
+  asks_or_not (call.Scan store) served other last locks = ⊎_elim (λ has. inl (has, (_, refl))) (λ none. inr (fault.NoStore, (refl, none), tt)) (store_or_not g store)
+  asks_or_not (call.Lock at mode) served other last locks = ⊎_elim (λ has. inl (has, (_, refl))) (λ h. inr h) (lock_or_not at mode)
+  asks_or_not (call.TryLock at mode) served other last locks = ⊎_elim (λ has. inl (has, (_, refl))) (λ h. inr h) (lock_or_not at mode)
+  asks_or_not call.Savepoint served other last locks = absurd (locks tt)
+  asks_or_not (call.BackTo n) served other last locks = absurd (locks tt)
+  asks_or_not call.Abort served other last locks = absurd (locks tt)
+  asks_or_not _ served other last locks = absurd served
 
 module _ (g : Geometry) (s : State) (session : ℕ) where
   comes_refused : (c : Call) (f : Fault) → CallStep g s session c (Refused f) s → IsOrdinary f → SessionComesTo g s session c
@@ -297,17 +304,81 @@ module _ (g : Geometry) (s : State) (session : ℕ) where
       inner : (c : Call) (step : Step) (new : State) → InnerStep g s a c step new → ComesOfState step → SessionComesTo g s session c
       inner c step new h of = (step, new, inr (inr (inr (inr (inr (running, idle, (a, mine, h)))))), of)
 
-      asks : (c : Call) → IsServed c → c ≢ call.Begin → c ≢ call.Commit → SessionComesTo g s session c
-      asks c served other last =
+      -- no rollback is under way
+      module _ (whole : a.undo.rolling ≡ None) where
+        asks : (c : Call) → IsServed c → c ≢ call.Begin → c ≢ call.Commit → (IsLockless c → ⊥) → SessionComesTo g s session c
+        asks c served other last locks =
+            ⊎_elim
+            (λ h. let goes = goes_somewhere g s roomy a c h.1.0 h.1.1 in inner c goes.0 goes.1 (inr (inl (whole, inr (inl (h.0, goes.2))))) goes.3)
+            (λ h. inner c (Refused h.0) s (inr (inl (whole, inl (h.0, h.1, refl, refl)))) (ordinary h.0 h.2))
+            (asks_or_not g c served other last locks)
+
+        saves : SessionComesTo g s session call.Savepoint
+        saves =
+            ⊎_elim
+            (λ full. inner call.Savepoint (Refused fault.TooManySavepoints) s (inr (inl (whole, inr (inr (inr (refl, (refl, full, refl))))))) (ordinary fault.TooManySavepoints tt))
+            (λ less. inner call.Savepoint (Done (Saved (length a.undo.marks))) (answered s a call.Savepoint (Saved (length a.undo.marks)) s.counts)
+            (inr (inl (whole, inr (inr (inr (refl, (less, refl, refl))))))) tt)
+            (within_or_beyond MAX_SAVEPOINTS (length a.undo.marks))
+
+      -- a way back that is taken
+      goes_back : (n : ℕ) → TakesCall a.undo (call.BackTo n) → SessionComesTo g s session (call.BackTo n)
+      goes_back n takes =
           ⊎_elim
-          (λ h. let goes = goes_somewhere g s roomy a c h.1.0 h.1.1 in inner c goes.0 goes.1 (inr (inl (h.0, goes.2))) goes.3)
-          (λ h. inner c (Refused h.0) s (inl (h.0, h.1, refl, refl)) (ordinary h.0 h.2))
-          (asks_or_not g c served other last)
+          (λ late. inner (call.BackTo n) (Refused fault.NoSavepoint) s (inr (inr (inl (n, refl, takes, inl (refl, late, refl))))) (ordinary fault.NoSavepoint tt))
+          (λ less. inner (call.BackTo n) (Done WentBack) (answered s a (call.BackTo n) WentBack s.counts) (inr (inr (inl (n, refl, takes, (less, refl, refl))))) tt)
+          (within_or_beyond (length a.undo.marks) n)
+
+      must_abort : (c : Call) → c ≢ call.Begin → (TakesCall a.undo c → ⊥) → SessionComesTo g s session c
+      must_abort c other takes = inner c (Refused fault.MustAbort) s (inl (other, takes, refl, refl)) (ordinary fault.MustAbort tt)
+
+      -- once a rollback is under way, nothing else is taken than an abort, and the same way back
+      taken_back : (n : ℕ) → OrNot (TakesCall a.undo (call.BackTo n))
+      taken_back n = by a.undo.rolling refl
+        where
+          same_way : (m : ℕ) → Some (To m) ≡ Some (To n) → m ≡ n
+          same_way m e = cc
+
+          its_way : (m : ℕ) → call.BackTo n ≡ call.BackTo m → n ≡ m
+          its_way m e = cc
+
+          by : (o : Option Rollback) → a.undo.rolling ≡ o → OrNot (TakesCall a.undo (call.BackTo n))
+          by None whole = inl (inl whole)
+          by (Some Whole) rolls = inr (λ takes. ⊎_elim
+              (λ none. let clash : Some Whole ≡ None = sym rolls ∙ none in cc)
+              (⊎_elim (λ abort. let clash = abort in cc) (λ on. let clash : Some Whole ≡ Some (To on.0) = sym rolls ∙ on.1 in cc)) takes)
+          by (Some (To m)) rolls =
+              ⊎_elim
+              (λ same. inl (inr (inr (n, rolls ∙ ap (λ x. Some (To x)) same, refl))))
+              (λ other. inr (λ takes. ⊎_elim
+              (λ none. let clash : Some (To m) ≡ None = sym rolls ∙ none in cc)
+              (⊎_elim (λ abort. let clash = abort in cc)
+              (λ on. other (same_way m (sym rolls ∙ on.1 ∙ ap (λ x. Some (To x)) (sym (its_way on.0 on.2)))))) takes))
+              (same_number m n)
+
+      not_taken : (c : Call) (r : Rollback) → a.undo.rolling ≡ Some r → c ≢ call.Abort → ((n : ℕ) → c ≢ call.BackTo n) → TakesCall a.undo c → ⊥
+      not_taken c r rolls abort back takes =
+          ⊎_elim (λ none. let clash : Some r ≡ None = sym rolls ∙ none in cc) (⊎_elim abort (λ on. back on.0 on.2)) takes
 
       in_txn : (c : Call) → IsServed c → SessionComesTo g s session c
       in_txn call.Begin served = begins (Refused fault.AlreadyActive) s (inl (refl, (a, mine)), refl) (ordinary fault.AlreadyActive tt)
-      in_txn call.Commit served = inner call.Commit (Waits (Durable (next_number s))) (committed s a) (inr (inr (refl, (refl, refl)))) tt
-      in_txn c served = asks c served (λ e. cc) (λ e. cc)
+      in_txn call.Abort served = inner call.Abort (Done Aborted) (aborted s a) (inr (inr (inr (refl, (refl, refl))))) tt
+      in_txn (call.BackTo n) served = ⊎_elim (goes_back n) (must_abort (call.BackTo n) (λ e. cc)) (taken_back n)
+      in_txn call.Commit served = by a.undo.rolling refl
+        where
+          by : (o : Option Rollback) → a.undo.rolling ≡ o → SessionComesTo g s session call.Commit
+          by None whole = inner call.Commit (Waits (Durable (next_number s))) (committed s a) (inr (inl (whole, inr (inr (inl (refl, (refl, refl))))))) tt
+          by (Some r) rolls = must_abort call.Commit (λ e. cc) (not_taken call.Commit r rolls (λ e. cc) (λ n e. cc))
+      in_txn call.Savepoint served = by a.undo.rolling refl
+        where
+          by : (o : Option Rollback) → a.undo.rolling ≡ o → SessionComesTo g s session call.Savepoint
+          by None whole = saves whole
+          by (Some r) rolls = must_abort call.Savepoint (λ e. cc) (not_taken call.Savepoint r rolls (λ e. cc) (λ n e. cc))
+      in_txn c served = by a.undo.rolling refl
+        where
+          by : (o : Option Rollback) → a.undo.rolling ≡ o → SessionComesTo g s session c
+          by None whole = asks whole c served (λ e. cc) (λ e. cc) (λ none. none)
+          by (Some r) rolls = must_abort c (λ e. cc) (not_taken c r rolls (λ e. cc) (λ n e. cc))
 
   module _ (found : List LogRecord) (es : List Entry) (k : IsStateAfter found es s) (roomy : IsRoomyState s) where
     pub call_comes_to_something : (c : Call) → IsServed c → SessionComesTo g s session c

@@ -1,5 +1,5 @@
 -- How the waits of sessions begin and end, and how a state fails.
-use Rattle.std.proofs.Common.{◌≡◌, inl, inr, ⊎_elim, ℕ, refl, sym, ap, subst, ◌∙◌}
+use Rattle.std.proofs.Common.{◌≡◌, inl, inr, ⊎_elim, ℕ, None, refl, sym, ap, subst, ◌∙◌}
 use Rattle.shore_types.specs.declared.faults.Fault.{Fault}
 use Rattle.shore_types.specs.declared.faults.Fault.TheVariants as fault
 use Rattle.shore_types.specs.declared.layout.Geometry.{Geometry}
@@ -25,14 +25,20 @@ pub record IsCommit (s : State) (session : ℕ) (c : Call) (n : ℕ) (new : Stat
   pub own : n ≡ next_number s
   pub txn : SessionTxn
   pub of : IsOfSession s session txn
+  pub whole : txn.undo.rolling ≡ None
   pub idle : DoesNotWait s session
   pub is : new ≡ committed s txn
 
 module _ (g : Geometry) (s : State) (session : ℕ) (c : Call) where
   commit_in : (n : ℕ) (new : State) (a : SessionTxn) → IsOfSession s session a → DoesNotWait s session → InnerStep g s a c (Waits (Durable n)) new → IsCommit s session c n new
   commit_in n new a mem idle (inl h) = let clash = h.2 in absurd cc
-  commit_in n new a mem idle (inr (inl h)) = let clash = h.1.4 in absurd cc
-  commit_in n new a mem idle (inr (inr h)) = record { commit = h.0; own = ap number_of h.1.0; txn = a; of = mem; idle = idle; is = h.1.1 }
+  commit_in n new a mem idle (inr (inl (whole, inl h))) = let clash = h.2 in absurd cc
+  commit_in n new a mem idle (inr (inl (whole, inr (inl h)))) = let clash = h.1.4 in absurd cc
+  commit_in n new a mem idle (inr (inl (whole, inr (inr (inr h))))) = absurd h.1
+  commit_in n new a mem idle (inr (inr (inl h))) = absurd h.3
+  commit_in n new a mem idle (inr (inr (inr h))) = absurd h.1
+  commit_in n new a mem idle (inr (inl (whole, inr (inr (inl h))))) =
+      record { commit = h.0; own = ap number_of h.1.0; txn = a; of = mem; whole = whole; idle = idle; is = h.1.1 }
     where
       number_of : Wait → ℕ
       number_of (Durable m) = m
@@ -51,10 +57,14 @@ module _ (g : Geometry) (s : State) (session : ℕ) (c : Call) where
 
   inner_waits : (wait : Wait) (new : State) (a : SessionTxn) → a.session ≡ session → InnerStep g s a c (Waits wait) new → IsAmong (waits_with wait) new.waiting
   inner_waits wait new a of (inl h) = let clash = h.2 in absurd cc
-  inner_waits wait new a of (inr (inl h)) =
+  inner_waits wait new a of (inr (inl (whole, inl h))) = let clash = h.2 in absurd cc
+  inner_waits wait new a of (inr (inl (whole, inr (inr (inr h))))) = absurd h.1
+  inner_waits wait new a of (inr (inr (inl h))) = absurd h.3
+  inner_waits wait new a of (inr (inr (inr h))) = absurd h.1
+  inner_waits wait new a of (inr (inl (whole, inr (inl h)))) =
       subst (λ (x : State). IsAmong (waits_with wait) x.waiting) (sym h.1.5)
       (inl (ap (λ n. record { session = n; call = c; wait = Lock h.1.1 }) of ∙ ap waits_with (sym h.1.4)))
-  inner_waits wait new a of (inr (inr h)) =
+  inner_waits wait new a of (inr (inl (whole, inr (inr (inl h))))) =
       subst (λ (x : State). IsAmong (waits_with wait) x.waiting) (sym h.1.1)
       (inl (ap (λ n. record { session = n; call = call.Commit; wait = Durable (next_number s) }) of
       ∙ ap (λ (x : Call). record { session = session; call = x; wait = Durable (next_number s) }) (sym h.0) ∙ ap waits_with (sym h.1.0)))

@@ -19,13 +19,16 @@ use Rattle.shore_path.specs.declared.answers.Acquired.{Acquired}
 use Rattle.shore_path.specs.declared.answers.OnConflict.{OnConflict}
 use Rattle.shore_path.specs.Acquires.{MayRefuse}
 use Rattle.shore_held.proofs.Acquired.{acquired_refused}
+use Rattle.shore_sessions.specs.declared.rollbacks.Rollback.{Rollback}
+use Rattle.shore_sessions.specs.declared.rollbacks.Rollback.TheVariants.{To, Whole}
 use Rattle.shore_sessions.specs.Sessions.{SessionTxn}
+use Rattle.shore_calls.specs.Rollbacks.{IsInterrupted}
 use Rattle.shore_calls.specs.declared.step.Step.{Step}
 use Rattle.shore_calls.specs.declared.step.Step.TheVariants.{Refused}
 use Rattle.shore_calls.specs.declared.step.Wait.{Wait}
 use Rattle.shore_calls.specs.declared.step.Wait.TheVariants.{Durable, Lock}
 use Rattle.shore_calls.specs.StateChanges.{after_refusal, wait_refused}
-use Rattle.shore_calls.specs.CallSteps.{BeginStep, GoesOn, InnerStep, RefusesBehind, RefusesEarly, RefusesGranule, RefusesId, RefusesLock, ResumesWait, CallStep, ResumeStep, lock_outcome, on_conflict_of}
+use Rattle.shore_calls.specs.CallSteps.{BeginStep, GoesOn, InnerStep, OpenStep, RefusesBehind, RefusesEarly, RefusesGranule, RefusesId, RefusesLock, ResumesWait, CallStep, ResumeStep, lock_outcome, on_conflict_of}
 use Rattle.shore_calls.specs.Events.{IsStateAfter}
 use Rattle.shore_calls.specs.States.{State, Waiting}
 
@@ -118,10 +121,20 @@ begin_fails s session f new h = ⊎_elim (λ one. exactly f fault.AlreadyActive 
     (λ more. ⊎_elim (λ two. exactly f fault.TooManyTransactions new two.0 tt) (λ three. exactly f fault.LogFull new three.0 tt) more) h.0
 
 module _ (g : Geometry) (found : List LogRecord) (es : List Entry) (s : State) (k : IsStateAfter found es s) where
+  interrupted_fails : (a : SessionTxn) (r : Rollback) (f : Fault) (new : State) → IsInterrupted s a r f new → Fails f new
+  interrupted_fails a r f new h = subst (Fails f) (sym h.3) (after_fails f h.0)
+
+  open_fails : (a : SessionTxn) → is_waiting a.txn s.locks.requests ≡ false → (c : Call) (f : Fault) (new : State) → OpenStep g s a c (Refused f) new → Fails f new
+  open_fails a quiet c f new (inl h) = refused_exactly f h.0 new h.2 (early_harmless g c h.0 h.1)
+  open_fails a quiet c f new (inr (inl h)) = on_fails g s a k.sessions.locks.orderly quiet c f new h.1
+  open_fails a quiet c f new (inr (inr (inl h))) = absurd h.1
+  open_fails a quiet c f new (inr (inr (inr h))) = exactly f fault.TooManySavepoints new h.1.0 tt
+
   inner_fails : (a : SessionTxn) → is_waiting a.txn s.locks.requests ≡ false → (c : Call) (f : Fault) (new : State) → InnerStep g s a c (Refused f) new → Fails f new
-  inner_fails a quiet c f new (inl h) = refused_exactly f h.0 new h.2 (early_harmless g c h.0 h.1)
-  inner_fails a quiet c f new (inr (inl h)) = on_fails g s a k.sessions.locks.orderly quiet c f new h.1
-  inner_fails a quiet c f new (inr (inr h)) = absurd h.1
+  inner_fails a quiet c f new (inl h) = refused_exactly f fault.MustAbort new h.2 tt
+  inner_fails a quiet c f new (inr (inl h)) = open_fails a quiet c f new h.1
+  inner_fails a quiet c f new (inr (inr (inl h))) = ⊎_elim (λ none. exactly f fault.NoSavepoint new none.0 tt) (λ rolls. interrupted_fails a (To h.0) f new rolls.1) h.3
+  inner_fails a quiet c f new (inr (inr (inr h))) = interrupted_fails a Whole f new h.1
 
   pub call_fails : (session : ℕ) (c : Call) (f : Fault) (new : State) → CallStep g s session c (Refused f) new → Fails f new
   call_fails session c f new (inl h) = refused_exactly f fault.Memory new h.0 tt

@@ -122,11 +122,11 @@ module _ (g : Geometry) (stream_bytes : ℕ) (bytes : List ℕ) (store : HasStor
   inserts : EventMoves g s1 (Called 1 (call.Insert 0 bytes) (Done (Inserted first_id))) s2
   inserts = (
     tt,
-    inr (inr (inr (inr (inr (refl, λ w m. absurd m, (a1, (inl refl, refl), inr (inl ((short, store), (with_store, has_store, (first_id, has_place, refl, (one_slot, may, refl))))))))))),
+    inr (inr (inr (inr (inr (refl, λ w m. absurd m, (a1, (inl refl, refl), inr (inl (refl, inr (inl ((short, store), (with_store, has_store, (first_id, has_place, refl, (one_slot, may, refl))))))))))))),
   )
 
   commits : EventMoves g s2 (Called 1 call.Commit (Waits (Durable 2))) s3
-  commits = (tt, inr (inr (inr (inr (inr (refl, λ w m. absurd m, (a2, (inl refl, refl), inr (inr (refl, (refl, refl))))))))))
+  commits = (tt, inr (inr (inr (inr (inr (refl, λ w m. absurd m, (a2, (inl refl, refl), inr (inl (refl, inr (inr (inl (refl, (refl, refl)))))))))))))
 
   forces : EventMoves g s3 (Forced 2) s4
   forces = (omega arith, omega arith, refl)

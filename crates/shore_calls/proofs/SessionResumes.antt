@@ -1,5 +1,5 @@
 -- A call that waited goes on: what the sessions are after its entry.
-use Rattle.std.proofs.Common.{◌≡◌, ◌≢◌, inl, inr, ⊎_elim, ◌++◌, ◌∷◌, ℕ, List, [], Bool, true, false, cond, Ok, refl, sym, ap, subst, ◌∙◌, length, append-nil}
+use Rattle.std.proofs.Common.{◌≡◌, ◌≢◌, inl, inr, ⊎_elim, ◌++◌, ◌∷◌, ℕ, List, [], Bool, true, false, cond, None, Ok, refl, sym, ap, subst, ◌∙◌, length, append-nil}
 use Rattle.std.specs.Prelude.{◌==◌, IsTrue, not}
 use Rattle.std.proofs.lemmas.Bool.{cases_Bool, eqb-false, eqb-true}
 use Rattle.shore_types.specs.declared.faults.Fault.TheVariants as fault
@@ -48,6 +48,10 @@ waits_stay session w (x ∷ ws) there other = by (x.session == session) refl the
     by true e (inr later) rest = rest later
     by false e (inl same) rest = inl same
     by false e (inr later) rest = inr (rest later)
+
+-- a transaction whose call waits for a lock does not roll back
+abbrev pub WaitsWhole : State → ℕ → Wait → Type 0
+WaitsWhole s session wait = (at : Granule) (a : SessionTxn) → wait ≡ Lock at → IsOfSession s session a → a.undo.rolling ≡ None
 
 -- a call that goes on behind its lock adds what it would add if it were made now
 pub same_entries : (g : Geometry) (s : State) (a : SessionTxn) (session : ℕ) (c : Call) (at : Granule) (step : Step) (new : State) → GoesOn g s a c step new
@@ -116,27 +120,27 @@ module _ (g : Geometry) (found : List LogRecord) (es : List Entry) (s : State) (
   as_it_was : IsSessionsState found (es ++ []) s
   as_it_was = subst (λ (made : List Entry). IsSessionsState found made s) (sym (append-nil es)) k
 
-  wait_kept : (w : Waiting) (wait : Wait) (step : Step) (new : State) → ResumesWait g s w wait step new
+  wait_kept : (w : Waiting) (wait : Wait) → WaitsWhole s w.session wait → (step : Step) (new : State) → ResumesWait g s w wait step new
       → IsSessionsState found (es ++ entries_of_resumed s (record { session = w.session; call = w.call; wait = wait }) step) new
-  wait_kept w (Durable n) step new (inl h) =
+  wait_kept w (Durable n) whole step new (inl h) =
       subst (IsSessionsState found (es ++ entries_of_resumed s (record { session = w.session; call = w.call; wait = Durable n }) step)) (sym h.2)
       (subst (λ (x : Step). IsSessionsState found (es ++ entries_of_resumed s (record { session = w.session; call = w.call; wait = Durable n }) x) s) (sym h.1) as_it_was)
-  wait_kept w (Durable n) step new (inr h) =
+  wait_kept w (Durable n) whole step new (inr h) =
       subst (IsSessionsState found (es ++ entries_of_resumed s (record { session = w.session; call = w.call; wait = Durable n }) step)) (sym h.2.3)
       (subst (λ (x : Step). IsSessionsState found (es ++ entries_of_resumed s (record { session = w.session; call = w.call; wait = Durable n }) x) (commit_ended s h.2.0)) (sym h.1)
       (ended h.2.0 h.2.1 w.session h.2.2))
-  wait_kept w (Lock at) step new h = ⊎_elim
+  wait_kept w (Lock at) whole step new h = ⊎_elim
       (λ still.
       subst (IsSessionsState found (es ++ entries_of_resumed s (record { session = w.session; call = w.call; wait = Lock at }) step)) (sym still.2)
       (subst (λ (x : Step). IsSessionsState found (es ++ entries_of_resumed s (record { session = w.session; call = w.call; wait = Lock at }) x) s) (sym still.1) as_it_was))
       (λ free.
       subst (λ made. IsSessionsState found (es ++ made) new) (same_entries g (wait_refused s w.session) h.0 w.session w.call at step new free.1)
-      (goes_on_kept g found es w.session h.0 h.1.1 (wait_refused s w.session) (woken h.0 w.session h.1 free.0) h.1.0 free.0 w.call step new free.1))
+      (goes_on_kept g found es w.session h.0 h.1.1 (whole at h.0 refl h.1) (wait_refused s w.session) (woken h.0 w.session h.1 free.0) h.1.0 free.0 w.call step new free.1))
       h.2
 
-  pub resumed_call_kept : (w : Waiting) (step : Step) (new : State) → ResumesCall g s w step new → IsSessionsState found (es ++ entries_of_resumed s w step) new
-  resumed_call_kept w step new (inl h) =
+  pub resumed_call_kept : (w : Waiting) → WaitsWhole s w.session w.wait → (step : Step) (new : State) → ResumesCall g s w step new → IsSessionsState found (es ++ entries_of_resumed s w step) new
+  resumed_call_kept w whole step new (inl h) =
       subst (IsSessionsState found (es ++ entries_of_resumed s w step)) (sym h.2)
       (subst (λ (x : Step). IsSessionsState found (es ++ entries_of_resumed s w x) (wait_refused s w.session)) (sym h.1)
       (refusal_told found es (wait_refused s w.session) (let_go w.session h.0) w.session (resumed_call w.call w.wait) fault.Failed tt))
-  resumed_call_kept w step new (inr h) = wait_kept w w.wait step new h.1
+  resumed_call_kept w whole step new (inr h) = wait_kept w w.wait whole step new h.1

@@ -142,8 +142,11 @@ module _ (g : Geometry) (stream_bytes : ℕ) (bytes : List ℕ) (store : HasStor
         one,
         (inl refl, refl),
         inr (inl (
-          (short, store),
-          (inserting, (store_lock 0, refl, refl, refl), (first_id, (place, refl), refl, (one_slot, may, refl))),
+          refl,
+          inr (inl (
+            (short, store),
+            (inserting, (store_lock 0, refl, refl, refl), (first_id, (place, refl), refl, (one_slot, may, refl))),
+          )),
         )),
       ),
     ))))),
@@ -168,15 +171,18 @@ module _ (g : Geometry) (stream_bytes : ℕ) (bytes : List ℕ) (store : HasStor
         two,
         (inl refl, refl),
         inr (inl (
-          (page, omega arith),
-          (share, Record first_id, refl, refl, refl, refl),
+          refl,
+          inr (inl (
+            (page, omega arith),
+            (share, Record first_id, refl, refl, refl, refl),
+          )),
         )),
       ),
     ))))),
   )
 
   commits : EventMoves g two_waits (Called 1 call.Commit (Waits (Durable 2))) one_commits
-  commits = (tt, inr (inr (inr (inr (inr (refl, idle, (one_changed, (inr (inl refl), refl), inr (inr (refl, (refl, refl))))))))))
+  commits = (tt, inr (inr (inr (inr (inr (refl, idle, (one_changed, (inr (inl refl), refl), inr (inl (refl, inr (inr (inl (refl, (refl, refl)))))))))))))
     where
       idle : DoesNotWait two_waits 1
       idle w m is = ⊎_elim (λ same. let other = ap (λ (x : Waiting). x.session) same in omega arith) (λ later. absurd later) m

@@ -18,12 +18,14 @@ use Rattle.shore_calls.specs.declared.step.Step.{Step}
 use Rattle.shore_calls.specs.declared.step.Wait.{Wait}
 use Rattle.shore_calls.specs.declared.step.Wait.TheVariants.{Durable, Lock}
 use Rattle.shore_calls.proofs.Elements.{in_longer}
-use Rattle.shore_calls.proofs.Links.{GoesBy, GoesQuietly, answer_goes, commit_goes, left_like}
+use Rattle.shore_calls.proofs.Links.{GoesBy, GoesQuietly, answer_goes, commit_goes, left_like, shorter_without}
 use Rattle.shore_calls.proofs.SessionCalls.{session_call_kept}
-use Rattle.shore_calls.proofs.SessionForces.{answer_forced, commit_forced, quietly_forced}
-use Rattle.shore_calls.proofs.SessionResumes.{apart, resumed_call_kept}
-use Rattle.shore_calls.proofs.Sessions.{its_txn}
-use Rattle.shore_calls.proofs.SessionsWaiting.{commit_waits_on, ended_waits, failed_waits, quietly_waits, woken_waits}
+use Rattle.shore_calls.proofs.Rows.{same_member}
+use Rattle.shore_calls.proofs.SessionForces.{abort_forced, answer_forced, commit_forced, quietly_forced}
+use Rattle.shore_calls.proofs.SessionResumes.{WaitsWhole, apart, resumed_call_kept}
+use Rattle.shore_calls.proofs.Sessions.{its_txn, one_txn}
+use Rattle.shore_calls.proofs.Unwinding.{rollback_on}
+use Rattle.shore_calls.proofs.SessionsWaiting.{aborted_waits, commit_waits_on, ended_waits, failed_waits, quietly_waits, woken_waits}
 use Rattle.shore_calls.proofs.StepPassages.{CallPasses, ResumePasses, call_passes, resume_passes}
 use Rattle.shore_calls.specs.CallHistories.{IsForced, txn_of}
 use Rattle.shore_calls.specs.Events.{Called, Forced, HasFailed, IsStateAfter, ManagerEvent, Resumed, EventMoves, EventsMove, MovesMaking, call_waiting, entries_of, entries_of_resume, entries_of_waiting}
@@ -83,7 +85,7 @@ module _ (found : List LogRecord) (es : List Entry) (s : State) (k : IsStateAfte
         forced = quietly_forced g session (length found) es s new (entries_of_call s session c step) quiet k.forced;
         few = quietly_few g session s new (entries_of_call s session c step) quiet k.few;
       }
-      by (inr commit) =
+      by (inr (inl commit)) =
           let a = commit.txn in
           record {
             sessions = kept;
@@ -91,7 +93,19 @@ module _ (found : List LogRecord) (es : List Entry) (s : State) (k : IsStateAfte
             forced =
                 subst (λ made. IsForced (length found) (es ++ made) new) (sym commit.entries)
                 (subst (IsForced (length found) _) (sym commit.is) (commit_forced (length found) es s k.forced a (txn_of s.sessions session)));
-            few = subst (λ (x : State). txn_count x ≤ MAX_TRANSACTIONS) (sym commit.is) ((commit_goes g s a commit.of.0).few k.few);
+            few = subst (λ (x : State). txn_count x ≤ MAX_TRANSACTIONS) (sym commit.is) ((commit_goes g s a commit.of.0 commit.whole).few k.few);
+          }
+      by (inr (inr abort)) =
+          let a = abort.txn in
+          let on = rollback_on a.txn s.log a.undo.images in
+          let fewer = shorter_without a s.sessions.active abort.of.0 in
+          record {
+            sessions = kept;
+            waits = subst (WaitsOfSessions (length found)) (sym abort.is) (aborted_waits found es s k.sessions k.waits a abort.of.0 (λ w m same. abort.idle w m (same ∙ abort.of.1)) on);
+            forced =
+                subst (λ made. IsForced (length found) (es ++ made) new) (sym abort.entries)
+                (subst (IsForced (length found) _) (sym abort.is) (abort_forced (length found) es s k.forced a session (txn_of s.sessions session) on));
+            few = subst (λ (x : State). txn_count x ≤ MAX_TRANSACTIONS) (sym abort.is) (let few = k.few in omega (arith, few, fewer));
           }
 
   -- ---- resumes
@@ -116,12 +130,23 @@ module _ (found : List LogRecord) (es : List Entry) (s : State) (k : IsStateAfte
           (in_longer (length found) c.number s.durable s.log (decision.Commit c.txn.txn) (subst (λ x. x ≤ s.durable) same durable) c.decided)
       by (inr l) = let clash : Durable n ≡ Lock l.at = sym waits ∙ l.is in absurd cc
 
+  -- who waits for a lock does not roll back
+  pub waits_whole : (w : Waiting) → IsAmong w s.waiting → WaitsWhole s w.session w.wait
+  waits_whole w m at a is mem = by (k.waits.each w m)
+    where
+      by : IsCommitWait (length found) s w ⊎ IsLockWait s w → a.undo.rolling ≡ None
+      by (inl c) = let clash : Durable c.number ≡ Lock at = sym (ap (λ (v : Waiting). v.wait) c.is) ∙ is in absurd cc
+      by (inr l) =
+          let number = one_txn k.sessions.agree l.txn a (inl l.active) (inl mem.0) (l.of ∙ sym mem.1) in
+          let same : l.txn ≡ a = same_member l.txn a s.sessions.active k.sessions.agree.once l.active mem.0 number in
+          subst (λ (b : SessionTxn). b.undo.rolling ≡ None) same l.whole
+
   pub session_resumed_stays : (g : Geometry) (w : Waiting) → IsAmong w s.waiting → (step : Step) (new : State) → ResumesCall g s w step new
       → IsStateAfter found (es ++ entries_of_resumed s w step) new
-  session_resumed_stays g w m step new h = by (resume_passes g found es s k.sessions w step new h)
+  session_resumed_stays g w m step new h = by (resume_passes g found es s k.sessions w (waits_whole w m) step new h)
     where
       kept : IsSessionsState found (es ++ entries_of_resumed s w step) new
-      kept = resumed_call_kept g found es s k.sessions w step new h
+      kept = resumed_call_kept g found es s k.sessions w (waits_whole w m) step new h
 
       -- no commit waits with the session
       none_committing : (IsTrue s.failed ⊎ ((at : _) × (w.wait ≡ Lock at) × ((a : SessionTxn) × IsOfSession s w.session a)))
@@ -176,7 +201,7 @@ module _ (found : List LogRecord) (es : List Entry) (s : State) (k : IsStateAfte
     waits = record {
       each = λ w m. ⊎_elim
           (λ c. inl (record { number = c.number; txn = c.txn; is = c.is; committing = c.committing; some = c.some; there = c.there; decided = c.decided }))
-          (λ l. inr (record { txn = l.txn; active = l.active; of = l.of; at = l.at; is = l.is; lock = l.lock; asked = l.asked }))
+          (λ l. inr (record { txn = l.txn; active = l.active; of = l.of; whole = l.whole; at = l.at; is = l.is; lock = l.lock; asked = l.asked }))
           (k.waits.each w m);
       once = k.waits.once;
       all = k.waits.all;

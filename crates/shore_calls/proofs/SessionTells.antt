@@ -1,5 +1,5 @@
 -- What the log of a state of sessions tells, and that transactions under way run alone.
-use Rattle.std.proofs.Common.{◌≡◌, ◌≢◌, ◌++◌, ◌∷◌, inl, inr, ℕ, List, [], refl, sym, ap, ◌∙◌, arith, length, map, take, subst}
+use Rattle.std.proofs.Common.{◌≡◌, ◌≢◌, ◌++◌, ◌∷◌, inl, inr, ℕ, List, [], None, refl, sym, ap, ◌∙◌, arith, length, map, take, subst}
 use Rattle.std.specs.Prelude.{Contains, IsSome}
 use Rattle.std.proofs.lemmas.List.Elements.{All-weaker}
 use Rattle.std.specs.FinMap.{get}
@@ -12,15 +12,15 @@ use Rattle.shore_model.specs.declared.histories.Entry.TheVariants.{Decided, Exch
 use Rattle.shore_model.specs.declared.log_records.LogRecord.{LogRecord}
 use Rattle.shore_model.specs.Histories.{Kept, RunsAloneAfter, acknowledged, decisions, serial}
 use Rattle.shore_model.specs.Records.{Records, overlay, overlays}
-use Rattle.shore_sessions.proofs.EndSteps.{commit_now}
+use Rattle.shore_sessions.proofs.EndSteps.{commit_now, commit_sees}
 use Rattle.shore_sessions.proofs.InPlace.{is_overlaid}
 use Rattle.shore_sessions.proofs.LogDecisions.{event_midst, prefix_decides}
 use Rattle.shore_sessions.proofs.Members.{txn_among}
 use Rattle.shore_sessions.proofs.Views.{read_of_write}
 use Rattle.shore_sessions.specs.LogPrefixes.{DecidesNothing, decisions_in, LogDecides, TellsItsDecisions}
 use Rattle.shore_sessions.specs.LogTells.{records_committed}
-use Rattle.shore_sessions.specs.SessionSteps.{AnswerAbort, AnswerCommit, AppendCommit, BeginTxn, GiveReply, MoveLocks, RefuseCall, SessionEvent, entries_by}
-use Rattle.shore_sessions.specs.Sessions.{SessionTxn, txns_of}
+use Rattle.shore_sessions.specs.SessionSteps.{AnswerAbort, AnswerCommit, AppendCommit, BeginTxn, GiveReply, MoveLocks, PutBack, RefuseCall, SessionEvent, entries_by}
+use Rattle.shore_sessions.specs.Sessions.{SessionTxn, abort_answered, txns_of}
 use Rattle.shore_sessions.specs.Soundness.{history_from, serial_after, written_by}
 use Rattle.shore_sessions.specs.Views.{IsAmong}
 use Rattle.shore_calls.proofs.Comings.{goes_keeps}
@@ -28,7 +28,7 @@ use Rattle.shore_calls.proofs.Links.{Goes, GoesBy, GoesQuietly, IsQuiet, left_li
 use Rattle.shore_calls.proofs.Sessions.{AreSessionsAfter, its_txn}
 use Rattle.shore_calls.proofs.Elements.{in_longer}
 use Rattle.shore_calls.proofs.SessionEndings.{its_commit}
-use Rattle.shore_calls.proofs.SessionStates.{session_call_stays}
+use Rattle.shore_calls.proofs.SessionStates.{session_call_stays, waits_whole}
 use Rattle.shore_calls.proofs.StepPassages.{CallPasses, Commits, ResumePasses, call_passes, resume_passes}
 use Rattle.shore_calls.proofs.TakenLocks.{sessions_of}
 use Rattle.shore_calls.specs.declared.step.Step.{Step}
@@ -37,7 +37,7 @@ use Rattle.shore_calls.specs.declared.step.Wait.TheVariants.{Durable, Lock}
 use Rattle.shore_model.specs.declared.calls.Call.{Call}
 use Rattle.shore_calls.specs.CallHistories.{KeepsDurable, txn_of}
 use Rattle.shore_calls.specs.StateChanges.{wait_refused}
-use Rattle.shore_calls.specs.CallSteps.{CallStep, ResumeStep}
+use Rattle.shore_calls.specs.CallSteps.{CallStep, ResumeStep, aborted}
 use Rattle.shore_calls.specs.LockedStates.{entries_of_resumed, entries_of_call}
 use Rattle.shore_calls.specs.Events.{IsStateAfter}
 use Rattle.shore_calls.specs.States.{State}
@@ -53,33 +53,34 @@ abbrev IsDecided : Entry → Type 0
 IsDecided (Decided d) = Unit {0}
 IsDecided (Exchanged n t x) = ⊥
 
-quiet_decides_nothing : (e : SessionEvent) → IsQuiet e → DecidesNothing e
-quiet_decides_nothing (MoveLocks held) quiet = tt
-quiet_decides_nothing (BeginTxn session) quiet = tt
-quiet_decides_nothing (GiveReply a c reply) quiet = tt
-quiet_decides_nothing (RefuseCall session t c f) quiet = tt
-quiet_decides_nothing (AppendCommit a) quiet = absurd quiet
-quiet_decides_nothing (AnswerAbort a) quiet = absurd quiet
-quiet_decides_nothing (AnswerCommit a) quiet = absurd quiet
+quiet_decides_nothing : (start : State) (e : SessionEvent) → IsQuiet start e → DecidesNothing e
+quiet_decides_nothing start (MoveLocks held) quiet = tt
+quiet_decides_nothing start (BeginTxn session) quiet = tt
+quiet_decides_nothing start (GiveReply a c reply) quiet = tt
+quiet_decides_nothing start (RefuseCall session t c f) quiet = tt
+quiet_decides_nothing start (PutBack a kept e r) quiet = tt
+quiet_decides_nothing start (AppendCommit a) quiet = absurd quiet
+quiet_decides_nothing start (AnswerAbort a) quiet = absurd quiet
+quiet_decides_nothing start (AnswerCommit a) quiet = absurd quiet
 
 -- an event that decides nothing tells nothing
-goes_telling_none : (base : ℕ) (o : Records) (es : List Entry) (g : Geometry) (s new : State) (e : SessionEvent) → AreSessionsAfter base o es s.sessions s.log → IsQuiet e → Goes g s e new
+goes_telling_none : (base : ℕ) (o : Records) (es : List Entry) (g : Geometry) (s new : State) (e : SessionEvent) → AreSessionsAfter base o es s.sessions s.log → DecidesNothing e → Goes g s e new
     → records_committed new.log ≡ records_committed s.log
 goes_telling_none base o es g s new e k quiet h =
     ap records_committed h.log
-    ∙ whole_told base o es _ (event_midst base o es s.sessions new.sessions e s.log k.sound k.logged k.decides h.moves (quiet_decides_nothing e quiet))
+    ∙ whole_told base o es _ (event_midst base o es s.sessions new.sessions e s.log k.sound k.logged k.decides h.moves quiet)
     ∙ sym (whole_told base o es s.log k.decides)
 
-by_telling_none : (base : ℕ) (o : Records) (es : List Entry) (g : Geometry) (s : State) (events : List SessionEvent) (new : State) (made : List Entry) → AreSessionsAfter base o es s.sessions s.log
-    → AllByRecursion IsQuiet events → GoesBy g s events new made → records_committed new.log ≡ records_committed s.log
-by_telling_none base o es g s [] new made k quiet h = ap (λ (x : State). records_committed x.log) h.0
-by_telling_none base o es g s (e ∷ events) new made k quiet h =
-    by_telling_none base o (es ++ entries_by s.sessions e) g h.0 events new h.1 (goes_keeps base o es g s h.0 e k h.2) quiet.1 h.3 ∙ goes_telling_none base o es g s h.0 e k quiet.0 h.2
+by_telling_none : (base : ℕ) (o : Records) (es : List Entry) (g : Geometry) (start s : State) (events : List SessionEvent) (new : State) (made : List Entry) → AreSessionsAfter base o es s.sessions s.log
+    → AllByRecursion (IsQuiet start) events → GoesBy g s events new made → records_committed new.log ≡ records_committed s.log
+by_telling_none base o es g start s [] new made k quiet h = ap (λ (x : State). records_committed x.log) h.0
+by_telling_none base o es g start s (e ∷ events) new made k quiet h =
+    by_telling_none base o (es ++ entries_by s.sessions e) g start h.0 events new h.1 (goes_keeps base o es g s h.0 e k h.2) quiet.1 h.3 ∙ goes_telling_none base o es g s h.0 e k (quiet_decides_nothing start e quiet.0) h.2
 
 pub quietly_telling_none : (base : ℕ) (o : Records) (es : List Entry) (g : Geometry) (session : ℕ) (s new : State) (made : List Entry) → AreSessionsAfter base o es s.sessions s.log
     → GoesQuietly g session s new made → records_committed new.log ≡ records_committed s.log
 quietly_telling_none base o es g session s new made k h =
-    ap records_committed (left_like session h.mid new h.left).log ∙ by_telling_none base o es g s h.events h.mid made k h.quiet h.goes
+    ap records_committed (left_like session h.mid new h.left).log ∙ by_telling_none base o es g s s h.events h.mid made k h.quiet h.goes
 
 module _ (found : List LogRecord) (es : List Entry) (s : State) (k : IsStateAfter found es s) where
   pub sessions_told : records_committed s.log ≡ serial_after (records_committed found) es
@@ -88,14 +89,14 @@ module _ (found : List LogRecord) (es : List Entry) (s : State) (k : IsStateAfte
   -- if nobody is under way, all that is in place is told
   pub all_told : s.sessions.active ≡ [] → s.sessions.records ≡ records_committed s.log
   all_told none =
-      let over = ap (λ (xs : List SessionTxn). overlays (serial_after (records_committed found) es) (map (written_by es) (txns_of xs))) none in
+      let over = ap (λ (xs : List SessionTxn). overlays (serial_after (records_committed found) es) (map k.sessions.sound.standing (txns_of xs))) none in
       is_overlaid k.sessions.sound.stand ∙ over ∙ sym sessions_told
 
-  -- what a transaction has written is in place
-  pub own_in_place : (a : SessionTxn) → IsAmong a s.sessions.active → (id : Rid) → IsSome (get (written_by es a.txn) id)
+  -- what a transaction has written is in place, if no rollback of it is under way
+  pub own_in_place : (a : SessionTxn) → IsAmong a s.sessions.active → a.undo.rolling ≡ None → (id : Rid) → IsSome (get (written_by es a.txn) id)
       → get s.sessions.records id ≡ get (overlay (records_committed s.log) (written_by es a.txn)) id
-  own_in_place a mem id some =
-      let sees = k.sessions.sound.stand.each a.txn (txn_among a s.sessions.active mem) in
+  own_in_place a mem whole id some =
+      let sees = commit_sees k.sessions.sound a mem whole in
       sees.view id (read_of_write s.sessions.held a.txn id (sees.locked id some)) ∙ ap (λ R. get (overlay R (written_by es a.txn)) id) (sym sessions_told)
 
   -- a Commit tells what its transaction has written
@@ -130,11 +131,17 @@ module _ (found : List LogRecord) (es : List Entry) (s : State) (k : IsStateAfte
 
       by : CallPasses g s session new (entries_of_call s session c step) → records_committed new.log ≡ records_committed s.log
       by (inl quiet) = quietly_telling_none (length found) (records_committed found) es g session s new (entries_of_call s session c step) (sessions_of found es s k.sessions) quiet
-      by (inr commit) = absurd (none_decided step (Decided (decision.Commit (txn_of s.sessions session))) other tt commit.entries)
+      by (inr (inl commit)) = absurd (none_decided step (Decided (decision.Commit (txn_of s.sessions session))) other tt commit.entries)
+      by (inr (inr abort)) =
+          let a = abort.txn in
+          ap (λ (x : State). records_committed x.log) abort.is
+          ∙ whole_told (length found) (records_committed found) es (aborted s a).log
+          (event_midst (length found) (records_committed found) es s.sessions (abort_answered s.sessions a) (AnswerAbort a) s.log k.sessions.sound k.sessions.log k.sessions.decides (abort.of.0, refl) tt)
+          ∙ sym sessions_told
 
   pub resume_tells_none : (g : Geometry) (session : ℕ) (step : Step) (new : State) → ResumeStep g s session step new → records_committed new.log ≡ records_committed s.log
   resume_tells_none g session step new (inl h) = ap (λ (x : State). records_committed x.log) h.2
-  resume_tells_none g session step new (inr h) = by (resume_passes g found es s k.sessions h.0 step new h.3)
+  resume_tells_none g session step new (inr h) = by (resume_passes g found es s k.sessions h.0 (waits_whole found es s k h.0 h.1) step new h.3)
     where
       by : ResumePasses g s h.0.session h.0.wait new (entries_of_resumed s h.0 step) → records_committed new.log ≡ records_committed s.log
       by (inl same) = ap (λ (x : State). records_committed x.log) same.0
@@ -147,7 +154,7 @@ module _ (found : List LogRecord) (es : List Entry) (s : State) (k : IsStateAfte
   call_tells g session n c new h =
       let commit = its_commit g s session c n new h in
       commit_tells session new (Decided (decision.Commit (txn_of s.sessions session)) ∷ []) (session_call_stays found es s k g session c (Waits (Durable n)) new h)
-      (record { txn = commit.txn; of = commit.of; idle = commit.idle; is = commit.is; entries = refl })
+      (record { txn = commit.txn; of = commit.of; whole = commit.whole; idle = commit.idle; is = commit.is; entries = refl })
 
   -- ---- a crash
 

@@ -1,20 +1,27 @@
 -- What the calls that wait stand on stays with each step.
-use Rattle.std.proofs.Common.{◌≡◌, ◌≢◌, ◌⊎◌, inl, inr, ⊎_elim, ◌++◌, ◌∷◌, ℕ, List, [], false, refl, sym, ap, subst, ◌∙◌, append-nil, arith, length, take}
-use Rattle.std.specs.Prelude.{Contains}
+use Rattle.std.proofs.Common.{◌≡◌, ◌≢◌, ◌⊎◌, inl, inr, ⊎_elim, ◌++◌, ◌∷◌, ℕ, List, [], false, None, Ok, Err, refl, sym, ap, subst, ◌∙◌, append-nil, arith, length, take}
+use Rattle.std.specs.Prelude.{◌==◌, Contains, Result}
+use Rattle.std.proofs.lemmas.Bool.{cases_Bool, eqb-false, eqb-true}
 use Rattle.std.specs.List.{AllByRecursion}
 use Rattle.shore_types.specs.declared.layout.Geometry.{Geometry}
+use Rattle.shore_types.specs.declared.faults.Fault.{Fault}
+use Rattle.shore_model.specs.declared.calls.Answer.{Answer}
+use Rattle.shore_model.specs.declared.calls.Answer.TheVariants.{Inserted}
+use Rattle.shore_model.specs.declared.calls.Call.{Call}
+use Rattle.shore_model.specs.declared.calls.Call.TheVariants as call
 use Rattle.shore_model.specs.declared.histories.Decision.TheVariants as decision
 use Rattle.shore_model.specs.declared.histories.Entry.{Entry}
 use Rattle.shore_model.specs.declared.log_records.LogRecord.{LogRecord}
 use Rattle.shore_model.specs.declared.log_records.Payload.TheVariants as payload
 use Rattle.shore_model.specs.Logs.{previous_of}
+use Rattle.shore_model.specs.Records.{Records}
 use Rattle.shore_sessions.proofs.Lists.{length-push, take-beyond}
 use Rattle.shore_sessions.proofs.LogPrefixes.{decisions_more}
-use Rattle.shore_sessions.proofs.Members.{among_without, member_stays, with_among}
+use Rattle.shore_sessions.proofs.Members.{among_without, member_stays}
 use Rattle.shore_sessions.specs.LogPrefixes.{decisions_in}
-use Rattle.shore_sessions.specs.SessionSteps.{AnswerAbort, AnswerCommit, AppendCommit, BeginTxn, GiveReply, MoveLocks, RefuseCall, SessionEvent}
-use Rattle.shore_sessions.specs.Sessions.{SessionTxn, Sessions}
-use Rattle.shore_sessions.specs.UndoLists.{undo_after}
+use Rattle.shore_sessions.specs.SessionSteps.{AnswerAbort, AnswerCommit, AppendCommit, BeginTxn, GiveReply, MoveLocks, PutBack, RefuseCall, SessionEvent}
+use Rattle.shore_sessions.specs.Sessions.{SessionTxn, Sessions, with_undo}
+use Rattle.shore_sessions.specs.UndoLists.{MayGiveReply, UndoList, undo_after, undo_rolled}
 use Rattle.shore_sessions.specs.Views.{IsAmong}
 use Rattle.shore_calls.proofs.Elements.{among_contained, among_last, waits_on}
 use Rattle.shore_calls.proofs.Growing.{still_there}
@@ -22,18 +29,28 @@ use Rattle.shore_calls.proofs.Links.{BeginsToWait, Goes, GoesBy, GoesQuietly, Is
 use Rattle.shore_calls.proofs.Prefixes.{prefix_on, whole_prefix}
 use Rattle.shore_calls.proofs.SessionResumes.{waits_stay}
 use Rattle.shore_calls.proofs.Sessions.{one_txn}
+use Rattle.shore_calls.proofs.Unwinding.{its_list, other_list, with_list}
 use Rattle.shore_calls.specs.CallHistories.{IsPrefix}
 use Rattle.shore_calls.specs.StateChanges.{commit_waiting, committed, wait_refused, with_failure}
-use Rattle.shore_calls.specs.CallSteps.{commit_ended, lock_waiting}
+use Rattle.shore_calls.specs.CallSteps.{aborted, commit_ended, lock_waiting}
 use Rattle.shore_calls.specs.LockedStates.{IsSessionsState}
 use Rattle.shore_calls.specs.SessionWaits.{IsCommitWait, IsLockWait, WaitsOfSessions}
 use Rattle.shore_calls.specs.States.{DoesNotWait, State, Waiting, next_number}
 
--- The same calls wait, the same transactions are committed, each session under way still is, the log goes on, and a failed state stays so.
+-- The same calls wait, the same transactions are committed, each transaction under way still is, and of none whose call waits a rollback has begun; the log
+-- goes on, and a failed state stays so.
+-- a call of the transaction's session waits
+abbrev CallWaits : State → SessionTxn → Type 0
+CallWaits s a = (w : Waiting) × IsAmong w s.waiting × (a.session ≡ w.session)
+
+-- the transaction is under way, and if its call waits, no rollback of it has begun unless one had
+abbrev StaysIn : State → SessionTxn → Sessions → Type 0
+StaysIn s a n = (b : SessionTxn) × IsAmong b n.active × (b.session ≡ a.session) × (b.txn ≡ a.txn) × (CallWaits s a → a.undo.rolling ≡ None → b.undo.rolling ≡ None)
+
 pub record LeavesWaits (s new : State) : Type 0 where
   pub waiting : new.waiting ≡ s.waiting
   pub committing : new.sessions.committing ≡ s.sessions.committing
-  pub active : (a : SessionTxn) → IsAmong a s.sessions.active → (b : SessionTxn) × IsAmong b new.sessions.active × (b.session ≡ a.session)
+  pub active : (a : SessionTxn) → IsAmong a s.sessions.active → StaysIn s a new.sessions
   pub on : IsPrefix s.log new.log
   pub running : new.failed ≡ false → s.failed ≡ false
 
@@ -42,14 +59,14 @@ commit_wait_on base s new w same on h =
     let still = still_there base h.number s.log new.log (decision.Commit h.txn.txn) on h.there h.decided in
     record { number = h.number; txn = h.txn; is = h.is; committing = subst (IsAmong h.txn) (sym same) h.committing; some = h.some; there = still.0; decided = still.1 }
 
-lock_wait_on : (s new : State) (w : Waiting) → ((a : SessionTxn) → IsAmong a s.sessions.active → (b : SessionTxn) × IsAmong b new.sessions.active × (b.session ≡ a.session)) → IsLockWait s w → IsLockWait new w
-lock_wait_on s new w goes h =
+lock_wait_on : (s new : State) (w : Waiting) → IsAmong w s.waiting → ((a : SessionTxn) → IsAmong a s.sessions.active → StaysIn s a new.sessions) → IsLockWait s w → IsLockWait new w
+lock_wait_on s new w there goes h =
     let b = goes h.txn h.active in
-    record { txn = b.0; active = b.1; of = b.2 ∙ h.of; at = h.at; is = h.is; lock = h.lock; asked = h.asked }
+    record { txn = b.0; active = b.1; of = b.2 ∙ h.of; whole = b.4 (w, there, h.of) h.whole; at = h.at; is = h.is; lock = h.lock; asked = h.asked }
 
 pub waits_left : (base : ℕ) (s new : State) → LeavesWaits s new → WaitsOfSessions base s → WaitsOfSessions base new
 waits_left base s new h k = record {
-  each = λ w m. ⊎_elim (λ c. inl (commit_wait_on base s new w h.committing h.on c)) (λ l. inr (lock_wait_on s new w h.active l)) (k.each w (subst (IsAmong w) h.waiting m));
+  each = λ w m. ⊎_elim (λ c. inl (commit_wait_on base s new w h.committing h.on c)) (λ l. inr (lock_wait_on s new w (subst (IsAmong w) h.waiting m) h.active l)) (k.each w (subst (IsAmong w) h.waiting m));
   once = λ v w m n same. k.once v w (subst (IsAmong v) h.waiting m) (subst (IsAmong w) h.waiting n) same;
   all = λ running a m.
       let was = k.all (h.running running) a (subst (IsAmong a) h.committing m) in
@@ -61,65 +78,94 @@ waits_left base s new h k = record {
 writes_on : (g : Geometry) (s new : State) → Writes g s new → IsPrefix s.log new.log
 writes_on g s new (inl same) = ([], same.0 ∙ sym (append-nil s.log))
 writes_on g s new (inr (inl one)) = (_ ∷ [], one.log)
-writes_on g s new (inr (inr one)) = (_ ∷ [], one.log)
+writes_on g s new (inr (inr (inl one))) = (_ ∷ [], one.log)
+writes_on g s new (inr (inr (inr (inl one)))) = (_ ∷ [], one.log)
+writes_on g s new (inr (inr (inr (inr one)))) = (_ ∷ [], one.log)
 
 module _ (g : Geometry) (s new : State) where
   pub goes_on_log : (e : SessionEvent) → Goes g s e new → IsPrefix s.log new.log
   goes_on_log e h = writes_on g s new h.writes
 
-  same_committing : (e : SessionEvent) → IsQuiet e → Goes g s e new → new.sessions.committing ≡ s.sessions.committing
-  same_committing (MoveLocks held) quiet h = ap (λ (n : Sessions). n.committing) h.moves.3
-  same_committing (BeginTxn session) quiet h = ap (λ (n : Sessions). n.committing) h.moves.1
-  same_committing (GiveReply a c reply) quiet h = ap (λ (n : Sessions). n.committing) h.moves.3
-  same_committing (RefuseCall session t c f) quiet h = ap (λ (n : Sessions). n.committing) h.moves.2
-  same_committing (AppendCommit a) quiet h = absurd quiet
-  same_committing (AnswerAbort a) quiet h = absurd quiet
-  same_committing (AnswerCommit a) quiet h = absurd quiet
+  same_committing : (e : SessionEvent) → (start : State) → IsQuiet start e → Goes g s e new → new.sessions.committing ≡ s.sessions.committing
+  same_committing (MoveLocks held) start quiet h = ap (λ (n : Sessions). n.committing) h.moves.3
+  same_committing (BeginTxn session) start quiet h = ap (λ (n : Sessions). n.committing) h.moves.1
+  same_committing (GiveReply a c reply) start quiet h = ap (λ (n : Sessions). n.committing) h.moves.4
+  same_committing (PutBack a kept e r) start quiet h = ap (λ (n : Sessions). n.committing) h.moves.4
+  same_committing (RefuseCall session t c f) start quiet h = ap (λ (n : Sessions). n.committing) h.moves.2
+  same_committing (AppendCommit a) start quiet h = absurd quiet
+  same_committing (AnswerAbort a) start quiet h = absurd quiet
+  same_committing (AnswerCommit a) start quiet h = absurd quiet
 
-  -- the session of a transaction under way is in one
-  abbrev StaysIn : SessionTxn → Sessions → Type 0
-  StaysIn a n = (b : SessionTxn) × IsAmong b n.active × (b.session ≡ a.session)
+-- ---- transactions under way
 
-  still_under_way : (e : SessionEvent) → IsQuiet e → Goes g s e new → (a : SessionTxn) → IsAmong a s.sessions.active → StaysIn a new.sessions
-  still_under_way (MoveLocks held) quiet h a m = subst (StaysIn a) (sym h.moves.3) (a, m, refl)
-  still_under_way (BeginTxn session) quiet h a m = subst (StaysIn a) (sym h.moves.1) (a, inr m, refl)
-  still_under_way (GiveReply b c reply) quiet h a m = subst (StaysIn a) (sym h.moves.3) (with_among b.txn (undo_after s.sessions.records b.undo c reply) a s.sessions.active m)
-  still_under_way (RefuseCall session t c f) quiet h a m = subst (StaysIn a) (sym h.moves.2) (a, m, refl)
-  still_under_way (AppendCommit a) quiet h b m = absurd quiet
-  still_under_way (AnswerAbort a) quiet h b m = absurd quiet
-  still_under_way (AnswerCommit a) quiet h b m = absurd quiet
+module _ (start : State) (a : SessionTxn) where
+  -- another undo list is put in the place of a transaction's
+  relisted_in : (t : ℕ) (undo : UndoList) (n : Sessions) → StaysIn start a n → (a.txn ≡ t → CallWaits start a → undo.rolling ≡ None)
+      → (ys : List SessionTxn) → ys ≡ with_undo t undo n.active → (b : SessionTxn) × IsAmong b ys × (b.session ≡ a.session) × (b.txn ≡ a.txn) × (CallWaits start a → a.undo.rolling ≡ None → b.undo.rolling ≡ None)
+  relisted_in t undo n (b, m, session, txn, whole) own ys is =
+      ⊎_elim
+      (λ its.
+      let same = eqb-true b.txn t its in (
+        with_list b undo,
+        subst (IsAmong (with_list b undo)) (sym is) (subst (λ u. IsAmong (with_list b undo) (with_undo u undo n.active)) same (its_list b undo n.active m)),
+        session,
+        txn,
+        λ waits none. own (sym txn ∙ same) waits,
+      ))
+      (λ other. (b, subst (IsAmong b) (sym is) (other_list t undo b n.active m (eqb-false b.txn t other)), session, txn, whole))
+      (cases_Bool (b.txn == t))
 
-  goes_leaves : (e : SessionEvent) → IsQuiet e → Goes g s e new → LeavesWaits s new
-  goes_leaves e quiet h = record {
-    waiting = h.waiting;
-    committing = same_committing e quiet h;
-    active = still_under_way e quiet h;
-    on = goes_on_log e h;
-    running = λ running. sym h.failed ∙ running;
+-- no rollback is under way behind a reply
+whole_behind : (R : Records) (undo : UndoList) (c : Call) (reply : Result Answer Fault) → MayGiveReply undo c reply → (undo_after R undo c reply).rolling ≡ None
+whole_behind R undo c reply (inr h) =
+    subst (λ (r : Result Answer Fault). (undo_after R undo c r).rolling ≡ None) (sym h.4) (subst (λ (x : Call). (undo_after R undo x (Ok h.1)).rolling ≡ None) (sym h.3) refl)
+whole_behind R undo c (Err f) (inl whole) = whole
+whole_behind R undo (call.Insert store bytes) (Ok answer) (inl whole) = insert_whole answer
+  where
+    insert_whole : (answer : Answer) → (undo_after R undo (call.Insert store bytes) (Ok answer)).rolling ≡ None
+    insert_whole (Inserted id) = whole
+    insert_whole _ = whole
+whole_behind R undo (call.BackTo n) (Ok answer) (inl whole) = refl
+whole_behind R undo _ (Ok answer) (inl whole) = whole
+
+module _ (g : Geometry) (start s new : State) where
+  still_under_way : (e : SessionEvent) → IsQuiet start e → Goes g s e new → (a : SessionTxn) → IsAmong a start.sessions.active → StaysIn start a s.sessions → StaysIn start a new.sessions
+  still_under_way (MoveLocks held) quiet h a m k = subst (StaysIn start a) (sym h.moves.3) k
+  still_under_way (BeginTxn session) quiet h a m k = subst (StaysIn start a) (sym h.moves.1) (k.0, inr k.1, k.2, k.3, k.4)
+  still_under_way (GiveReply b c reply) quiet h a m k =
+      relisted_in start a b.txn (undo_after s.sessions.records b.undo c reply) s.sessions k (λ its waits. whole_behind s.sessions.records b.undo c reply h.moves.3)
+      new.sessions.active (ap (λ (n : Sessions). n.active) h.moves.4)
+  still_under_way (PutBack b kept e r) quiet h a m k =
+      relisted_in start a b.txn (undo_rolled b.undo kept r) s.sessions k (λ its waits. absurd (quiet a waits.0 m waits.1 waits.2 its))
+      new.sessions.active (ap (λ (n : Sessions). n.active) h.moves.4)
+  still_under_way (RefuseCall session t c f) quiet h a m k = subst (StaysIn start a) (sym h.moves.2) k
+  still_under_way (AppendCommit a) quiet h b m k = absurd quiet
+  still_under_way (AnswerAbort a) quiet h b m k = absurd quiet
+  still_under_way (AnswerCommit a) quiet h b m k = absurd quiet
+
+  goes_leaves : (e : SessionEvent) → IsQuiet start e → Goes g s e new → LeavesWaits start s → LeavesWaits start new
+  goes_leaves e quiet h k = record {
+    waiting = h.waiting ∙ k.waiting;
+    committing = same_committing g s new e start quiet h ∙ k.committing;
+    active = λ a m. still_under_way e quiet h a m (k.active a m);
+    on = prefix_on start.log s.log new.log k.on (goes_on_log g s new e h);
+    running = λ running. k.running (sym h.failed ∙ running);
   }
 
 leaves_all : (s : State) → LeavesWaits s s
-leaves_all s = record { waiting = refl; committing = refl; active = λ a m. (a, m, refl); on = whole_prefix s.log; running = λ running. running }
+leaves_all s = record { waiting = refl; committing = refl; active = λ a m. (a, m, refl, refl, λ waits whole. whole); on = whole_prefix s.log; running = λ running. running }
 
-leaves_then : (s mid new : State) → LeavesWaits s mid → LeavesWaits mid new → LeavesWaits s new
-leaves_then s mid new h k = record {
-  waiting = k.waiting ∙ h.waiting;
-  committing = k.committing ∙ h.committing;
-  active = λ a m. let b = h.active a m in let c = k.active b.0 b.1 in (c.0, c.1, c.2 ∙ b.2);
-  on = prefix_on s.log mid.log new.log h.on k.on;
-  running = λ running. h.running (k.running running);
-}
-
-by_leaves : (g : Geometry) (s : State) (events : List SessionEvent) (new : State) (made : List Entry) → AllByRecursion IsQuiet events → GoesBy g s events new made → LeavesWaits s new
-by_leaves g s [] new made quiet h = subst (LeavesWaits s) (sym h.0) (leaves_all s)
-by_leaves g s (e ∷ events) new made quiet h = leaves_then s h.0 new (goes_leaves g s h.0 e quiet.0 h.2) (by_leaves g h.0 events new h.1 quiet.1 h.3)
+by_leaves : (g : Geometry) (start s : State) (events : List SessionEvent) (new : State) (made : List Entry) → AllByRecursion (IsQuiet start) events → GoesBy g s events new made
+    → LeavesWaits start s → LeavesWaits start new
+by_leaves g start s [] new made quiet h k = subst (LeavesWaits start) (sym h.0) k
+by_leaves g start s (e ∷ events) new made quiet h k = by_leaves g start h.0 events new h.1 quiet.1 h.3 (goes_leaves g start s h.0 e quiet.0 h.2 k)
 
 -- a failed manager may leave a commit unanswered
 pub failed_waits : (base : ℕ) (s : State) → WaitsOfSessions base s → WaitsOfSessions base (with_failure s)
 failed_waits base s k = record {
   each = λ w m. ⊎_elim
       (λ c. inl (record { number = c.number; txn = c.txn; is = c.is; committing = c.committing; some = c.some; there = c.there; decided = c.decided }))
-      (λ l. inr (record { txn = l.txn; active = l.active; of = l.of; at = l.at; is = l.is; lock = l.lock; asked = l.asked }))
+      (λ l. inr (record { txn = l.txn; active = l.active; of = l.of; whole = l.whole; at = l.at; is = l.is; lock = l.lock; asked = l.asked }))
       (k.each w m);
   once = k.once;
   all = λ running. absurd cc;
@@ -139,10 +185,10 @@ lock_waits base session s new k h =
     let later = record s { waiting = x ∷ s.waiting } in
     subst (WaitsOfSessions base) (sym h.is) (record {
       each = λ w m. ⊎_elim
-          (λ same. inr (subst (IsLockWait later) same (record { txn = h.txn; active = h.active; of = refl; at = h.at; is = refl; lock = h.lock; asked = h.asked })))
+          (λ same. inr (subst (IsLockWait later) same (record { txn = h.txn; active = h.active; of = refl; whole = h.whole; at = h.at; is = refl; lock = h.lock; asked = h.asked })))
           (λ older. ⊎_elim
           (λ c. inl (record { number = c.number; txn = c.txn; is = c.is; committing = c.committing; some = c.some; there = c.there; decided = c.decided }))
-          (λ l. inr (record { txn = l.txn; active = l.active; of = l.of; at = l.at; is = l.is; lock = l.lock; asked = l.asked }))
+          (λ l. inr (record { txn = l.txn; active = l.active; of = l.of; whole = l.whole; at = l.at; is = l.is; lock = l.lock; asked = l.asked }))
           (k.each w older))
           m;
       once = λ v w m n same. one_more session s v w x h.of h.idle k.once m n same;
@@ -155,7 +201,7 @@ left_waits base session s new k (inr (inl failed)) = subst (WaitsOfSessions base
 left_waits base session s new k (inr (inr waits)) = lock_waits base session s new k waits
 
 pub quietly_waits : (base : ℕ) (g : Geometry) (session : ℕ) (s new : State) (made : List Entry) → WaitsOfSessions base s → GoesQuietly g session s new made → WaitsOfSessions base new
-quietly_waits base g session s new made k h = left_waits base session h.mid new (waits_left base s h.mid (by_leaves g s h.events h.mid made h.quiet h.goes) k) h.left
+quietly_waits base g session s new made k h = left_waits base session h.mid new (waits_left base s h.mid (by_leaves g s s h.events h.mid made h.quiet h.goes (leaves_all s)) k) h.left
 
 -- ---- a Commit goes last
 
@@ -183,7 +229,7 @@ module _ (found : List LogRecord) (es : List Entry) (s : State) (k : IsSessionsS
         inl (record { number = c.number; txn = c.txn; is = c.is; committing = inr c.committing; some = c.some; there = still.0; decided = still.1 })
     other_waits w m (inr l) =
         let other : l.txn.txn ≢ a.txn = λ same. idle w m (sym l.of ∙ k.agree.one l.txn a (inl l.active) (inl mem) same) in
-        inr (record { txn = l.txn; active = member_stays a.txn l.txn s.sessions.active l.active other; of = l.of; at = l.at; is = l.is; lock = l.lock; asked = l.asked })
+        inr (record { txn = l.txn; active = member_stays a.txn l.txn s.sessions.active l.active other; of = l.of; whole = l.whole; at = l.at; is = l.is; lock = l.lock; asked = l.asked })
 
     pub commit_waits_on : WaitsOfSessions (length found) (committed s a)
     commit_waits_on = record {
@@ -202,7 +248,7 @@ module _ (found : List LogRecord) (es : List Entry) (s : State) (k : IsSessionsS
     answered_waits w other (inl c) =
         let apart : c.txn.txn ≢ a.txn = λ same. other (ap (λ (v : Waiting). v.session) c.is ∙ k.agree.one c.txn a (inr c.committing) (inr mem) same) in
         inl (record { number = c.number; txn = c.txn; is = c.is; committing = member_stays a.txn c.txn s.sessions.committing c.committing apart; some = c.some; there = c.there; decided = c.decided })
-    answered_waits w other (inr l) = inr (record { txn = l.txn; active = l.active; of = l.of; at = l.at; is = l.is; lock = l.lock; asked = l.asked })
+    answered_waits w other (inr l) = inr (record { txn = l.txn; active = l.active; of = l.of; whole = l.whole; at = l.at; is = l.is; lock = l.lock; asked = l.asked })
 
     pub ended_waits : WaitsOfSessions (length found) (commit_ended s a)
     ended_waits = record {
@@ -215,6 +261,18 @@ module _ (found : List LogRecord) (es : List Entry) (s : State) (k : IsSessionsS
           (was.0, waits_stay a.session (commit_waiting b.session was.0) s.waiting was.1 other);
     }
 
+  -- ---- an abort is answered
+
+  module _ (a : SessionTxn) (mem : IsAmong a s.sessions.active) (idle : DoesNotWait s a.session) (on : IsPrefix s.log (aborted s a).log) where
+    waits_behind : (w : Waiting) → IsAmong w s.waiting → IsCommitWait (length found) s w ⊎ IsLockWait s w → IsCommitWait (length found) (aborted s a) w ⊎ IsLockWait (aborted s a) w
+    waits_behind w m (inl c) = inl (commit_wait_on (length found) s (aborted s a) w refl on c)
+    waits_behind w m (inr l) =
+        let other : l.txn.txn ≢ a.txn = λ same. idle w m (sym l.of ∙ k.agree.one l.txn a (inl l.active) (inl mem) same) in
+        inr (record { txn = l.txn; active = member_stays a.txn l.txn s.sessions.active l.active other; of = l.of; whole = l.whole; at = l.at; is = l.is; lock = l.lock; asked = l.asked })
+
+    pub aborted_waits : WaitsOfSessions (length found) (aborted s a)
+    aborted_waits = record { each = λ w m. waits_behind w m (h.each w m); once = h.once; all = h.all }
+
   -- ---- a call waits no more
 
   module _ (session : ℕ) (kept : s.failed ≡ false → (a : SessionTxn) → IsAmong a s.sessions.committing → a.session ≢ session) where
@@ -222,7 +280,7 @@ module _ (found : List LogRecord) (es : List Entry) (s : State) (k : IsSessionsS
     woken_waits = record {
       each = λ w m. ⊎_elim
           (λ c. inl (record { number = c.number; txn = c.txn; is = c.is; committing = c.committing; some = c.some; there = c.there; decided = c.decided }))
-          (λ l. inr (record { txn = l.txn; active = l.active; of = l.of; at = l.at; is = l.is; lock = l.lock; asked = l.asked }))
+          (λ l. inr (record { txn = l.txn; active = l.active; of = l.of; whole = l.whole; at = l.at; is = l.is; lock = l.lock; asked = l.asked }))
           (h.each w (waits_on session w s.waiting m).0);
       once = λ v w m n same. h.once v w (waits_on session v s.waiting m).0 (waits_on session w s.waiting n).0 same;
       all = λ running a m. let was = h.all running a m in (was.0, waits_stay session (commit_waiting a.session was.0) s.waiting was.1 (kept running a m));

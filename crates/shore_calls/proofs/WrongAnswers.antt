@@ -26,7 +26,7 @@ use Rattle.shore_sessions.specs.Sessions.{SessionTxn}
 use Rattle.shore_sessions.specs.Views.{IsAmong}
 use Rattle.shore_calls.specs.declared.step.Step.TheVariants.{Done}
 use Rattle.shore_calls.proofs.Decided.{both_ways, no_record_both}
-use Rattle.shore_calls.proofs.SessionInversions.{AnsweredFrom, AnsweredIn, answered_in, answered_running, asks_no_begin, begun_in, insert_asks, same_lock}
+use Rattle.shore_calls.proofs.SessionInversions.{AnsweredFrom, AnsweredIn, answered_in, answered_of, answered_running, asks_no_begin, asks_no_lockless, begun_in, insert_asks, same_lock}
 use Rattle.shore_calls.specs.StateChanges.{CanLog, FitsAt, MayChange, answered}
 use Rattle.shore_calls.specs.CallSteps.{AnswersBehind, HasPlace, ServesTxn, CallStep, behind_lock, behind_place, lock_outcome, place_outcome, txn_count}
 use Rattle.shore_calls.specs.Shapes.{ForItsTxn, store_locked}
@@ -70,22 +70,22 @@ module _ (g : Geometry) (s new : State) (session : ℕ) where
   Answered c answer = CallStep g s session c (Done answer) new
 
   got : (id : Rid) (answer : Answer) → Answered (call.Get id) answer → AnsweredIn g s session (call.Get id) answer new
-  got id answer h = answered_in g s new session (call.Get id) answer (λ e. cc) h
+  got id answer h = answered_in g s new session (call.Get id) answer (λ e. cc) (λ x. x) h
 
   got_for_update : (id : Rid) (answer : Answer) → Answered (call.GetForUpdate id) answer → AnsweredIn g s session (call.GetForUpdate id) answer new
-  got_for_update id answer h = answered_in g s new session (call.GetForUpdate id) answer (λ e. cc) h
+  got_for_update id answer h = answered_in g s new session (call.GetForUpdate id) answer (λ e. cc) (λ x. x) h
 
   inserted : (store : ℕ) (bytes : List ℕ) (answer : Answer) → Answered (call.Insert store bytes) answer → AnsweredIn g s session (call.Insert store bytes) answer new
-  inserted store bytes answer h = answered_in g s new session (call.Insert store bytes) answer (λ e. cc) h
+  inserted store bytes answer h = answered_in g s new session (call.Insert store bytes) answer (λ e. cc) (λ x. x) h
 
   updated : (id : Rid) (bytes : List ℕ) (answer : Answer) → Answered (call.Update id bytes) answer → AnsweredIn g s session (call.Update id bytes) answer new
-  updated id bytes answer h = answered_in g s new session (call.Update id bytes) answer (λ e. cc) h
+  updated id bytes answer h = answered_in g s new session (call.Update id bytes) answer (λ e. cc) (λ x. x) h
 
   deleted : (id : Rid) (answer : Answer) → Answered (call.Delete id) answer → AnsweredIn g s session (call.Delete id) answer new
-  deleted id answer h = answered_in g s new session (call.Delete id) answer (λ e. cc) h
+  deleted id answer h = answered_in g s new session (call.Delete id) answer (λ e. cc) (λ x. x) h
 
   scanned : (store : ℕ) (answer : Answer) → Answered (call.Scan store) answer → AnsweredIn g s session (call.Scan store) answer new
-  scanned store answer h = answered_in g s new session (call.Scan store) answer (λ e. cc) h
+  scanned store answer h = answered_in g s new session (call.Scan store) answer (λ e. cc) (λ x. x) h
 
   -- ---- reads
 
@@ -198,7 +198,7 @@ module _ (g : Geometry) (s new : State) (session : ℕ) where
   -- ---- any call
 
   pub answer_in_no_txn : (c : Call) (answer : Answer) → c ≢ call.Begin → HasNoTxn s session → Answered c answer → ⊥
-  answer_in_no_txn c answer other none h = let t = answered_in g s new session c answer other h in none t.txn (inl t.of.0) t.of.1
+  answer_in_no_txn c answer other none h = let t = answered_of g s new session c answer other h in none t.0 (inl t.1.0) t.1.1
 
   pub answer_while_waiting : (c : Call) (answer : Answer) (w : Waiting) → IsAmong w s.waiting → w.session ≡ session → Answered c answer → ⊥
   answer_while_waiting c answer w m of h = (answered_running g s new session c answer h).1 w m of
@@ -207,11 +207,11 @@ module _ (g : Geometry) (s new : State) (session : ℕ) where
   answer_after_failure c answer failed h = both_ways s.failed failed (answered_running g s new session c answer h).0
 
   pub commit_at_once : (answer : Answer) → Answered call.Commit answer → ⊥
-  commit_at_once answer h = (answered_in g s new session call.Commit answer (λ e. cc) h).may
+  commit_at_once answer h = (answered_in g s new session call.Commit answer (λ e. cc) (λ x. x) h).may
 
   -- a call is not answered if its lock is not taken
   pub answer_unlocked : (c : Call) (answer : Answer) (lock : Asked) → asked_by c ≡ Some lock
       → ForItsTxn s session (λ a. (lock_outcome s a c lock).answer ≢ Ok acquire.Done) → Answered c answer → ⊥
   answer_unlocked c answer lock asks none h =
-      let t = answered_in g s new session c answer (asks_no_begin c lock asks) h in
+      let t = answered_in g s new session c answer (asks_no_begin c lock asks) (asks_no_lockless c lock asks) h in
       none t.txn t.of (subst (λ (l : Asked). (lock_outcome s t.txn c l).answer ≡ Ok acquire.Done) (same_lock (asked_by c) t.from.lock lock t.from.asks asks) t.from.done)

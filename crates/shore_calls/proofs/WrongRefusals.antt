@@ -1,5 +1,5 @@
 -- Refusals of sessions that must not come.
-use Rattle.std.proofs.Common.{◌≡◌, ◌≢◌, inl, inr, ⊎_elim, ◌<◌, ℕ, List, false, refl, sym, subst, arith}
+use Rattle.std.proofs.Common.{◌≡◌, ◌≢◌, inl, inr, ⊎_elim, ◌<◌, ℕ, List, false, None, refl, sym, subst, ◌∙◌, arith}
 use Rattle.std.specs.Prelude.{IsTrue}
 use Rattle.shore_types.specs.declared.faults.Fault.{Fault}
 use Rattle.shore_types.specs.declared.faults.Fault.TheVariants as fault
@@ -11,6 +11,8 @@ use Rattle.shore_types.specs.declared.locking.Granule.TheVariants as granule
 use Rattle.shore_types.specs.declared.locking.Mode.{Mode}
 use Rattle.shore_model.specs.declared.calls.Call.{Call}
 use Rattle.shore_model.specs.declared.calls.Call.TheVariants as call
+use Rattle.shore_sessions.specs.declared.rollbacks.Rollback.{Rollback}
+use Rattle.shore_sessions.specs.declared.rollbacks.Rollback.TheVariants.{To, Whole}
 use Rattle.shore_sessions.specs.Sessions.{SessionTxn}
 use Rattle.shore_calls.specs.declared.step.Step.TheVariants.{Refused}
 use Rattle.shore_calls.proofs.AcquireAnswers.{IsLockFault, acquire_fault}
@@ -18,11 +20,13 @@ use Rattle.shore_calls.proofs.Decided.{both_ways}
 use Rattle.shore_calls.proofs.SessionInversions.{IsOwn, same_fault}
 use Rattle.shore_calls.specs.CallSteps.{BeginStep, GoesOn, InnerStep, IsTooLong, MayAsk, RefusesBehind, RefusesEarly, RefusesGranule, RefusesId, RefusesLock, RefusesRead, CallStep, on_conflict_of, txn_count}
 use Rattle.shore_calls.specs.StateChanges.{IsPageFault}
-use Rattle.shore_calls.specs.States.{DoesNotWait, HasNoTxn, IsInTxn, MayBegin, State}
+use Rattle.shore_calls.specs.Rollbacks.{IsInterrupted}
+use Rattle.shore_calls.specs.Shapes.{ForItsTxn}
+use Rattle.shore_calls.specs.States.{DoesNotWait, HasNoTxn, IsInTxn, IsOfSession, MayBegin, State}
 
 -- ---- which refusals there are
 
--- the refusals of a call of a transaction, before its locks, by the lock table, behind them, or for lack of memory
+-- the refusals of a call of a transaction, before its locks, by the lock table, behind them, of savepoints, or for lack of memory
 abbrev IsInner : Fault → Type 0
 IsInner fault.NoStore = Unit {0}
 IsInner fault.NoPage = Unit {0}
@@ -37,6 +41,8 @@ IsInner (fault.NeedForce n) = Unit {0}
 IsInner fault.Device = Unit {0}
 IsInner (fault.Damaged device offset) = Unit {0}
 IsInner fault.Memory = Unit {0}
+IsInner fault.TooManySavepoints = Unit {0}
+IsInner fault.NoSavepoint = Unit {0}
 IsInner _ = ⊥
 
 -- those before the locks
@@ -112,7 +118,7 @@ module _ (g : Geometry) where
   refused_early (call.TryLock at mode) f h = lock_early at mode f h
   refused_early _ f h = absurd h
 
-page_behind : (s : State) (f : Fault) → IsPageFault s f → IsBehind f
+pub page_behind : (s : State) (f : Fault) → IsPageFault s f → IsBehind f
 page_behind s f (inl device) = subst IsBehind (sym device) tt
 page_behind s f (inr (inl damaged)) = subst IsBehind (sym damaged.1) tt
 page_behind s f (inr (inr force)) = subst IsBehind (sym force.1) tt
@@ -153,6 +159,7 @@ module _ (g : Geometry) (s new : State) (session : ℕ) where
     is_busy : (DoesNotWait s session → ⊥) → f ≡ fault.Busy → Origin c f
     begins : c ≡ call.Begin → BeginStep s session (Refused f) new → Origin c f
     in_none : HasNoTxn s session → f ≡ fault.NoTransaction → Origin c f
+    rolls_back : (a : SessionTxn) → IsOfSession s session a → (a.undo.rolling ≡ None → ⊥) → f ≡ fault.MustAbort → (c ≡ call.Begin → ⊥) → Origin c f
     inside : IsInTxn s session → IsInner f → (c ≡ call.Begin → ⊥) → (c ≡ call.Commit → ⊥) → Origin c f
 
   origin_of : (c : Call) (f : Fault) → RefusedWith c f → Origin c f
@@ -166,19 +173,46 @@ module _ (g : Geometry) (s new : State) (session : ℕ) where
       no_early : (other : Call) (f : Fault) → (RefusesEarly g other f → ⊥) → c ≡ other → RefusesEarly g c f → ⊥
       no_early other f never e h = never (subst (λ (c : Call). RefusesEarly g c f) e h)
 
+      apart_calls : (x y : Call) → x ≢ y → c ≡ x → c ≡ y → ⊥
+      apart_calls x y apart d e = apart (sym d ∙ e)
+
       asks_none : (other : Call) → (MayAsk g other → ⊥) → c ≡ other → MayAsk g c → ⊥
       asks_none other never e h = never (subst (MayAsk g) e h)
 
+      interrupted : (r : Rollback) → IsInterrupted s h.2.0 r f new → IsInner f
+      interrupted r x = ⊎_elim (λ memory. subst IsInner (sym memory) tt) (λ page. behind_inner f (page_behind x.0 f page)) x.2
+
       by : InnerStep g s h.2.0 c (Refused f) new → Origin c f
-      by (inl x) =
+      by (inl x) = rolls_back h.2.0 h.2.1 (λ whole. x.1 (inl whole)) (same_fault f fault.MustAbort x.2) x.0
+      by (inr (inl (whole, inl x))) =
           inside (h.2.0, h.2.1) (subst IsInner (sym (same_fault f x.0 x.2)) (early_inner x.0 (refused_early g c x.0 x.1))) (λ e. no_early call.Begin x.0 (λ x. x) e x.1) (λ e. no_early call.Commit x.0 (λ x. x) e x.1)
-      by (inr (inl x)) = inside (h.2.0, h.2.1) (goes_inner h.2.0 c f x.1) (λ e. asks_none call.Begin (λ x. x) e x.0) (λ e. asks_none call.Commit (λ x. x) e x.0)
-      by (inr (inr x)) = absurd x.1
+      by (inr (inl (whole, inr (inl x)))) = inside (h.2.0, h.2.1) (goes_inner h.2.0 c f x.1) (λ e. asks_none call.Begin (λ x. x) e x.0) (λ e. asks_none call.Commit (λ x. x) e x.0)
+      by (inr (inl (whole, inr (inr (inl x))))) = absurd x.1
+      by (inr (inl (whole, inr (inr (inr x))))) =
+          inside (h.2.0, h.2.1) (subst IsInner (sym x.1.0) tt) (λ e. apart_calls call.Savepoint call.Begin (λ d. cc) x.0 e) (λ e. apart_calls call.Savepoint call.Commit (λ d. cc) x.0 e)
+      by (inr (inr (inl x))) =
+          inside (h.2.0, h.2.1) (⊎_elim (λ late. subst IsInner (sym late.0) tt) (λ rolls. interrupted (To x.0) rolls.1) x.3)
+          (λ e. apart_calls (call.BackTo x.0) call.Begin (λ d. cc) x.1 e) (λ e. apart_calls (call.BackTo x.0) call.Commit (λ d. cc) x.1 e)
+      by (inr (inr (inr x))) =
+          inside (h.2.0, h.2.1) (interrupted Whole x.1) (λ e. apart_calls call.Abort call.Begin (λ d. cc) x.0 e) (λ e. apart_calls call.Abort call.Commit (λ d. cc) x.0 e)
 
   -- what a begin is refused with
   pub begin_fault : (P : Fault → Type 0) → P fault.AlreadyActive → P fault.TooManyTransactions → P fault.LogFull → (f : Fault) → BeginStep s session (Refused f) new → P f
   begin_fault P active many full f h =
       ⊎_elim (λ x. subst P (sym x.0) active) (λ more. ⊎_elim (λ x. subst P (sym x.0) many) (λ x. subst P (sym x.0) full) more) h.0
+
+  -- who must abort rolls back
+  pub must_of : (c : Call) → RefusedWith c fault.MustAbort → (a : SessionTxn) × IsOfSession s session a × (a.undo.rolling ≡ None → ⊥)
+  must_of c h = by (origin_of c fault.MustAbort h)
+    where
+      by : Origin c fault.MustAbort → (a : SessionTxn) × IsOfSession s session a × (a.undo.rolling ≡ None → ⊥)
+      by (rolls_back a of rolling e first) = (a, of, rolling)
+      by (lacks_memory e) = absurd cc
+      by (has_failed failed e) = absurd cc
+      by (is_busy waits e) = absurd cc
+      by (begins e x) = absurd (begin_fault (λ f. f ≢ fault.MustAbort) (λ e. cc) (λ e. cc) (λ e. cc) fault.MustAbort x refl)
+      by (in_none none e) = absurd cc
+      by (inside mine inner first other) = absurd inner
 
   pub busy_though_idle : (c : Call) → DoesNotWait s session → RefusedWith c fault.Busy → ⊥
   busy_though_idle c idle h = by (origin_of c fault.Busy h)
@@ -189,6 +223,7 @@ module _ (g : Geometry) (s new : State) (session : ℕ) where
       by (is_busy waits e) = waits idle
       by (begins e x) = begin_fault (λ f. f ≢ fault.Busy) (λ e. cc) (λ e. cc) (λ e. cc) fault.Busy x refl
       by (in_none none e) = cc
+      by (rolls_back a of rolling e first) = cc
       by (inside mine inner first other) = inner
 
   pub none_though_in_one : (c : Call) → IsInTxn s session → RefusedWith c fault.NoTransaction → ⊥
@@ -200,6 +235,7 @@ module _ (g : Geometry) (s new : State) (session : ℕ) where
       by (is_busy waits e) = cc
       by (begins e x) = begin_fault (λ f. f ≢ fault.NoTransaction) (λ e. cc) (λ e. cc) (λ e. cc) fault.NoTransaction x refl
       by (in_none none e) = none mine.0 (inl mine.1.0) mine.1.1
+      by (rolls_back a of rolling e first) = cc
       by (inside mine inner first other) = inner
 
   pub failed_though_running : (c : Call) → s.failed ≡ false → RefusedWith c fault.Failed → ⊥
@@ -211,6 +247,7 @@ module _ (g : Geometry) (s new : State) (session : ℕ) where
       by (is_busy waits e) = cc
       by (begins e x) = begin_fault (λ f. f ≢ fault.Failed) (λ e. cc) (λ e. cc) (λ e. cc) fault.Failed x refl
       by (in_none none e) = cc
+      by (rolls_back a of rolling e first) = cc
       by (inside mine inner first other) = inner
 
   begin_when : (c : Call) (f : Fault) → IsOwn f → (IsInner f → ⊥) → RefusedWith c f → BeginStep s session (Refused f) new
@@ -222,6 +259,7 @@ module _ (g : Geometry) (s new : State) (session : ℕ) where
       by (is_busy waits e) = absurd (subst IsOwn e own)
       by (begins e x) = x
       by (in_none none e) = absurd (subst IsOwn e own)
+      by (rolls_back a of rolling e first) = absurd (subst IsOwn e own)
       by (inside mine inner first other) = absurd (outside inner)
 
   pub too_many_below : (c : Call) → txn_count s < MAX_TRANSACTIONS → RefusedWith c fault.TooManyTransactions → ⊥
@@ -243,16 +281,18 @@ module _ (g : Geometry) (s new : State) (session : ℕ) where
       by (is_busy waits e) = absurd (subst IsOwn e own)
       by (begins e x) = x
       by (in_none none e) = absurd (subst IsOwn e own)
+      by (rolls_back a of rolling e first) = absurd (first refl)
       by (inside mine inner first other) = absurd (first refl)
 
   pub begin_full_though_room : MayBegin s → RefusedWith call.Begin fault.LogFull → ⊥
   begin_full_though_room may h =
       ⊎_elim (λ x. let clash = x.0 in cc) (λ more. ⊎_elim (λ x. let clash = x.0 in cc) (λ x. x.3 may) more) (begin_refused fault.LogFull tt h).0
 
-  pub commit_in_txn : (f : Fault) → IsInTxn s session → f ≢ fault.Memory → s.failed ≡ false → DoesNotWait s session → RefusedWith call.Commit f → ⊥
-  commit_in_txn f mine memory running idle h = by (origin_of call.Commit f h)
+  pub commit_in_txn : (f : Fault) → IsInTxn s session → ForItsTxn s session (λ a. a.undo.rolling ≡ None) → f ≢ fault.Memory → s.failed ≡ false → DoesNotWait s session → RefusedWith call.Commit f → ⊥
+  commit_in_txn f mine whole memory running idle h = by (origin_of call.Commit f h)
     where
       by : Origin call.Commit f → ⊥
+      by (rolls_back a of rolling e first) = rolling (whole a of)
       by (lacks_memory e) = memory e
       by (has_failed failed e) = both_ways s.failed failed running
       by (is_busy waits e) = waits idle
@@ -269,6 +309,7 @@ module _ (g : Geometry) (s new : State) (session : ℕ) where
       by (is_busy waits e) = cc
       by (begins e x) = begin_fault (λ f. f ≢ fault.TooLong) (λ e. cc) (λ e. cc) (λ e. cc) fault.TooLong x refl
       by (in_none outside e) = cc
+      by (rolls_back a of rolling e first) = cc
       by (inside mine inner first other) = none mine.0 (inl mine.1.0) mine.1.1
 
   pub commit_forces_none : (n : ℕ) → RefusedWith call.Commit (fault.NeedForce n) → ⊥
@@ -280,4 +321,5 @@ module _ (g : Geometry) (s new : State) (session : ℕ) where
       by (is_busy waits e) = cc
       by (begins e x) = cc
       by (in_none none e) = cc
+      by (rolls_back a of rolling e first) = cc
       by (inside mine inner first other) = other refl

@@ -41,6 +41,8 @@ use Rattle.shore_calls.specs.declared.step.Wait.TheVariants.{Durable, Lock}
 use Rattle.shore_calls.proofs.AcquireAnswers.{outcome_by}
 use Rattle.shore_calls.proofs.Decided.{both_ways}
 use Rattle.shore_calls.proofs.SessionInversions.{durable_no_lock}
+use Rattle.shore_calls.proofs.SessionResumes.{WaitsWhole}
+use Rattle.shore_calls.proofs.SessionStates.{waits_whole}
 use Rattle.shore_calls.proofs.Sessions.{one_txn}
 use Rattle.shore_calls.specs.Events.{Forced, IsStateAfter, EventMoves}
 use Rattle.shore_calls.specs.StateChanges.{wait_refused}
@@ -226,6 +228,9 @@ module _ (g : Geometry) (found : List LogRecord) (es : List Entry) (s : State) (
   goes_on_as_call w there of at is may running quiet step new (inr h) =
       by (subst (λ (v : Waiting). ResumesCall g s v step new) (k.waits.once h.0 w h.1 there (h.2 ∙ sym of)) h.3)
     where
+      whole : WaitsWhole s w.session w.wait
+      whole = waits_whole found es s k w there
+
       on : ResumesWait g s w (Lock at) step new → CallStep g (wait_refused s session) session w.call step new
       on x =
           let mine : IsOfSession s session x.0 = (x.1.0, x.1.1 ∙ of) in
@@ -237,7 +242,7 @@ module _ (g : Geometry) (found : List LogRecord) (es : List Entry) (s : State) (
             (
               x.0,
               mine,
-              inr (inl (may, subst (λ (n : ℕ). GoesOn g (wait_refused s n) x.0 w.call step new) of goes.1)),
+              inr (inl (whole at x.0 is x.1, inr (inl (may, subst (λ (n : ℕ). GoesOn g (wait_refused s n) x.0 w.call step new) of goes.1)))),
             ),
           ))))))
           x.2
@@ -263,7 +268,7 @@ not_of t (r ∷ rs) = by (r.txn == t) refl (not_of t rs)
     by false e rest = All-cons (λ r. r.txn ≢ t) r (of_others t rs) (eqb-false r.txn t e) rest
 
 -- nobody's request is left in the table once he has released all
-gone : (t : ℕ) (rs : List Request) → IsOrderly rs → All (λ r. r.txn ≢ t) (released t rs)
+pub gone : (t : ℕ) (rs : List Request) → IsOrderly rs → All (λ r. r.txn ≢ t) (released t rs)
 gone t rs orderly =
     all_owned (λ n. n ≢ t) (released t rs)
     (subst (All (λ (k : ℕ × Granule). k.0 ≢ t)) (sym (released_own rs t orderly.one_each))

@@ -14,7 +14,7 @@ use Rattle.shore_types.specs.declared.locking.Granule.TheVariants as granule
 use Rattle.shore_types.specs.declared.locking.Mode.{Mode}
 use Rattle.shore_types.specs.declared.locking.Mode.TheVariants.{EX}
 use Rattle.shore_model.specs.declared.calls.Answer.{Answer}
-use Rattle.shore_model.specs.declared.calls.Answer.TheVariants.{Began, Committed, Deleted, Got, Inserted, Locked, Scanned, Updated}
+use Rattle.shore_model.specs.declared.calls.Answer.TheVariants.{Aborted, Began, Committed, Deleted, Got, Inserted, Locked, Scanned, Updated}
 use Rattle.shore_model.specs.declared.calls.Call.{Call}
 use Rattle.shore_model.specs.declared.calls.Call.TheVariants as call
 use Rattle.shore_model.specs.declared.requests.Request.{Request}
@@ -31,12 +31,16 @@ use Rattle.shore_path.specs.Walks.{Outcome, acquired}
 use Rattle.shore_held.specs.CallLocks.{Asked, CanLockNow, asked_by}
 use Rattle.shore_room.specs.Choosing.{IsLowest}
 use Rattle.shore_room.specs.Claims.{SlotCounts, rid_on}
-use Rattle.shore_sessions.specs.Sessions.{SessionTxn, commit_answered, locks_moved, txn_begun}
+use Rattle.shore_sessions.specs.Logged.{log_after}
+use Rattle.shore_sessions.specs.SessionSteps.{AnswerAbort}
+use Rattle.shore_sessions.specs.Sessions.{SessionTxn, abort_answered, commit_answered, locks_moved, txn_begun}
 use Rattle.shore_sessions.specs.Views.{IsAmong}
 use Rattle.shore_calls.specs.declared.step.Step.{Step}
 use Rattle.shore_calls.specs.declared.step.Step.TheVariants.{Done, Nothing, Refused, Waits}
 use Rattle.shore_calls.specs.declared.step.Wait.{Wait}
 use Rattle.shore_calls.specs.declared.step.Wait.TheVariants.{Durable, Lock}
+use Rattle.shore_sessions.specs.declared.rollbacks.Rollback.TheVariants.{Whole}
+use Rattle.shore_calls.specs.Rollbacks.{BackToStep, IsInterrupted, SavepointStep, TakesCall}
 use Rattle.shore_calls.specs.StateChanges.{CanLog, FitsAt, IsPageFault, IsShort, MayChange, after_refusal, answered, committed, wait_refused}
 use Rattle.shore_calls.specs.States.{DoesNotWait, HasNoTxn, IsInTxn, IsOfSession, MayBegin, State, Waiting, next_number, without_waiting}
 
@@ -277,12 +281,32 @@ CommitStep s a (Done answer) new = ⊥
 CommitStep s a (Refused f) new = ⊥
 CommitStep s a Nothing new = ⊥
 
--- the call of a transaction under way
-abbrev pub InnerStep : Geometry → State → SessionTxn → Call → Step → State → Type 0
-InnerStep g s a c step new =
+-- the abort is answered, and then its locks go
+abbrev pub aborted : State → SessionTxn → State
+aborted s a =
+    with_requests (record s { sessions = abort_answered s.sessions a; log = log_after s.log s.sessions (AnswerAbort a) }) (released a.txn s.locks.requests)
+
+abbrev pub AbortStep : State → SessionTxn → Step → State → Type 0
+AbortStep s a (Done answer) new = (answer ≡ Aborted) × (new ≡ aborted s a)
+AbortStep s a (Refused f) new = IsInterrupted s a Whole f new
+AbortStep s a (Waits wait) new = ⊥
+AbortStep s a Nothing new = ⊥
+
+-- the call of a transaction under way that no rollback keeps from it
+abbrev pub OpenStep : Geometry → State → SessionTxn → Call → Step → State → Type 0
+OpenStep g s a c step new =
     ((f : Fault) × RefusesEarly g c f × (step ≡ Refused f) × (new ≡ s))
     ⊎ (MayAsk g c × GoesOn g s a c step new)
     ⊎ ((c ≡ call.Commit) × CommitStep s a step new)
+    ⊎ ((c ≡ call.Savepoint) × SavepointStep s a step new)
+
+-- The call of a transaction under way. Once a rollback has begun, nothing else is taken than what ends it; a begin is refused as it ever is.
+abbrev pub InnerStep : Geometry → State → SessionTxn → Call → Step → State → Type 0
+InnerStep g s a c step new =
+    ((c ≢ call.Begin) × (TakesCall a.undo c → ⊥) × (step ≡ Refused fault.MustAbort) × (new ≡ s))
+    ⊎ ((a.undo.rolling ≡ None) × OpenStep g s a c step new)
+    ⊎ ((n : ℕ) × (c ≡ call.BackTo n) × TakesCall a.undo c × BackToStep s a n step new)
+    ⊎ ((c ≡ call.Abort) × AbortStep s a step new)
 
 -- The call of a session comes to this, and leaves that state.
 abbrev pub CallStep : Geometry → State → ℕ → Call → Step → State → Type 0

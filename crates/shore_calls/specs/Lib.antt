@@ -1,6 +1,7 @@
 pub mod States
 pub mod StateChanges
 pub mod CallHistories
+pub mod Rollbacks
 pub mod CallSteps
 pub mod LockedStates
 pub mod SessionWaits
@@ -9,3 +10,4 @@ pub mod Shapes
 pub mod LockChanges
 pub mod WorkedRun
 pub mod WorkedSessions
+pub mod WorkedRollbacks

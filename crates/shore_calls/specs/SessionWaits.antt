@@ -1,5 +1,5 @@
 -- What the calls of sessions wait for, and what is forced, beside their history.
-use Rattle.std.specs.Prelude.{◌≡◌, ◌<◌, ◌≤◌, ◌⊎◌, ℕ, Some, Contains, false, length, take}
+use Rattle.std.specs.Prelude.{◌≡◌, ◌<◌, ◌≤◌, ◌⊎◌, ℕ, None, Some, Contains, false, length, take}
 use Rattle.shore_types.specs.declared.locking.Granule.{Granule}
 use Rattle.shore_model.specs.declared.histories.Decision.TheVariants as decision
 use Rattle.shore_held.specs.CallLocks.{Asked, asked_by}
@@ -25,6 +25,8 @@ pub record IsLockWait (s : State) (w : Waiting) : Type 0 where
   pub txn : SessionTxn
   pub active : IsAmong txn s.sessions.active
   pub of : txn.session ≡ w.session
+  -- no rollback of it has begun
+  pub whole : txn.undo.rolling ≡ None
   pub at : Granule
   pub is : w.wait ≡ Lock at
   pub lock : Asked

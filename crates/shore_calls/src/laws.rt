@@ -10,9 +10,9 @@ ghost use Rattle.shore_types.specs.declared.ids.Rid.{Rid};
 ghost use Rattle.shore_types.specs.declared.layout.Geometry.{Geometry};
 ghost use Rattle.shore_types.specs.declared.layout.TheConstants.{LAST_OPENED, LONGEST_FRAME, MAX_LOG_BYTES, MAX_RECORD_BYTES};
 ghost use Rattle.shore_model.specs.declared.calls.Answer.{Answer};
-ghost use Rattle.shore_model.specs.declared.calls.Answer.TheVariants.{Committed};
+ghost use Rattle.shore_model.specs.declared.calls.Answer.TheVariants.{Aborted, Committed};
 ghost use Rattle.shore_model.specs.declared.calls.Call.{Call};
-ghost use Rattle.shore_model.specs.declared.calls.Call.TheVariants.{Commit};
+ghost use Rattle.shore_model.specs.declared.calls.Call.TheVariants.{Abort, Commit};
 ghost use Rattle.shore_model.specs.declared.histories.Decision.TheVariants as decision;
 ghost use Rattle.shore_model.specs.declared.histories.Entry.{Entry};
 ghost use Rattle.shore_model.specs.declared.log_records.LogRecord.{LogRecord};
@@ -89,8 +89,9 @@ pub fn crash_keeps_acknowledged_commits()
         × (records_committed (take n s.log) ≡ serial (written_by es) (records_committed found) (decisions_in (length found) (take n s.log))) }
 {}
 
-/// The log tells the serial records of all decisions. A call that is answered, refused or waits for a lock adds nothing to what it tells, and a Commit
-/// what its transaction has written, which is what stands at those ids. If nobody is under way, all that is in place is told.
+/// The log tells the serial records of all decisions. A call that is answered, refused or waits for a lock adds nothing to what it tells, a rollback neither,
+/// and a Commit what its transaction has written, which is what stands at those ids while no rollback of it is under way. If nobody is under way, all that is
+/// in place is told.
 pub fn log_tells_what_is_decided()
     ensures decided { (found : List LogRecord) (es : List Entry) (s : State) →
         IsStateAfter found es s → records_committed s.log ≡ serial_after (records_committed found) es }
@@ -104,7 +105,8 @@ pub fn log_tells_what_is_decided()
         → CallStep g old session c (Waits (Durable n)) new
         → records_committed new.log ≡ overlay (records_committed old.log) (written_by es (txn_of old.sessions session)) }
     ensures own { (found : List LogRecord) (es : List Entry) (s : State) (a : SessionTxn) (id : Rid) → IsStateAfter found es s → IsAmong a s.sessions.active
-        → IsSome (get (written_by es a.txn) id) → get s.sessions.records id ≡ get (overlay (records_committed s.log) (written_by es a.txn)) id }
+        → a.undo.rolling ≡ None → IsSome (get (written_by es a.txn) id)
+        → get s.sessions.records id ≡ get (overlay (records_committed s.log) (written_by es a.txn)) id }
 {}
 
 /// A transaction under way runs alone on the serial records of now.
@@ -113,8 +115,8 @@ pub fn undecided_transactions_run_alone()
         RunsAloneAfter (history_from (records_committed found) es) (decisions es) a.txn }
 {}
 
-/// Each call and each resume leaves room on pages and in the log for all that stands and all that may come back. So does an open whose pages and log have
-/// place for what they hold.
+/// Each call and each resume leaves room on pages and in the log for all that stands and all that may come back, a rollback too, which no lack of room
+/// refuses: so undo is never refused. So does an open whose pages and log have place for what they hold.
 pub fn calls_keep_room()
     ensures calls { (g : Geometry) (found : List LogRecord) (es : List Entry) (old new : State) (session : ℕ) (c : Call) (step : Step) →
         IsStateAfter found es old → IsRoomyState old → CallStep g old session c step new → IsRoomyState new }
@@ -159,11 +161,13 @@ pub fn locks_stay_in_harmony()
 
 /// Locks are taken only as calls ask: by a call of a session, and going on with it, the requests of every other transaction stay or are granted, the own ones
 /// grow along the path to the granule that is asked for, an insert's to its place too, and nobody's become weaker. A commit keeps all of its locks until
-/// its answer, and has none after it.
+/// its answer, and has none after it; so does an abort, however often it is interrupted.
 pub fn locks_change_as_asked()
     ensures calls { (g : Geometry) (found : List LogRecord) (es : List Entry) (old new : State) (session : ℕ) (c : Call) (step : Step) → IsStateAfter found es old
-        → CallStep g old session c step new → (new.locks.requests ≡ old.locks.requests)
-        ⊎ ((a : SessionTxn) × IsOfSession old session a × TakesAsAsked old.locks.requests a.txn c new.locks.requests) }
+        → CallStep g old session c step new → ((new.locks.requests ≡ old.locks.requests)
+        ⊎ ((a : SessionTxn) × IsOfSession old session a × TakesAsAsked old.locks.requests a.txn c new.locks.requests))
+        ⊎ ((c ≡ Abort) × (step ≡ Done Aborted) × ((a : SessionTxn) × IsOfSession old session a
+        × (new.locks.requests ≡ released a.txn old.locks.requests))) }
     ensures resumes { (g : Geometry) (found : List LogRecord) (es : List Entry) (old new : State) (w : Waiting) (step : Step) → IsStateAfter found es old
         → ResumesCall g old w step new → ((new.locks.requests ≡ old.locks.requests)
         ⊎ ((a : SessionTxn) × IsOfSession old w.session a × TakesAsAsked old.locks.requests a.txn w.call new.locks.requests))
@@ -174,6 +178,9 @@ pub fn locks_change_as_asked()
     ensures told { (g : Geometry) (found : List LogRecord) (es : List Entry) (old new : State) (w : Waiting) (n : ℕ) (answer : Answer) → IsStateAfter found es old
         → w.wait ≡ Durable n → ResumesCall g old w (Done answer) new → (new.locks.requests ≡ released (txn_of old.sessions w.session) old.locks.requests)
         × All (λ h. h.txn ≢ txn_of old.sessions w.session) new.sessions.held }
+    ensures told_abort { (g : Geometry) (found : List LogRecord) (es : List Entry) (old new : State) (session : ℕ) (answer : Answer) → IsStateAfter found es old
+        → CallStep g old session Abort (Done answer) new → (new.locks.requests ≡ released (txn_of old.sessions session) old.locks.requests)
+        × All (λ h. h.txn ≢ txn_of old.sessions session) new.sessions.held }
 {}
 
 /// The conditions can be met: over an empty volume, a transaction locks a store and a place, inserts a record and commits, and the commit is answered.

@@ -6,6 +6,7 @@ pub mod laws;
 pub mod locks;
 pub mod progress;
 pub mod refusals;
+pub mod rollbacks;
 mod step;
 pub mod waits;
 

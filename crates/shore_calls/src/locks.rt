@@ -4,7 +4,7 @@ ghost use Rattle.std.specs.FinMap.{get};
 ghost use Rattle.shore_types.specs.declared.ids.Rid.{Rid};
 ghost use Rattle.shore_types.specs.declared.layout.Geometry.{Geometry};
 ghost use Rattle.shore_model.specs.declared.calls.Answer.{Answer};
-ghost use Rattle.shore_model.specs.declared.calls.Answer.TheVariants.{Inserted};
+ghost use Rattle.shore_model.specs.declared.calls.Answer.TheVariants.{Aborted, Inserted};
 ghost use Rattle.shore_model.specs.declared.calls.Call.{Call};
 ghost use Rattle.shore_model.specs.declared.calls.Call.TheVariants.{Commit, Delete, Get, GetForUpdate, Insert, Scan, Update};
 ghost use Rattle.shore_model.specs.declared.histories.Entry.{Entry};
@@ -21,13 +21,15 @@ ghost use Rattle.shore_calls.specs.States.{IsOfSession, State};
 ghost use Rattle.shore_sessions.specs.GranuleLocks.{HasLocksFor};
 ghost use Rattle.shore_sessions.specs.SessionSteps.{KeepsLocks};
 
-/// An answer has the locks that it needs, and no call, whatever it comes to, makes a lock weaker: so neither a refusal nor the append of a commit gives a
-/// lock back.
+/// An answer has the locks that it needs, and no call makes a lock of another transaction weaker, whatever it comes to, nor one of its own, unless it is an
+/// abort that is answered: so neither a refusal, nor the append of a commit, nor a way back, nor an abort that is interrupted gives a lock back.
 pub fn calls_take_and_keep_locks()
     ensures has { (g : Geometry) (found : List LogRecord) (es : List Entry) (s new : State) (session : ℕ) (c : Call) (answer : Answer) (a : SessionTxn) →
         IsSessionsState found es s → IsOfSession s session a → CallStep g s session c (Done answer) new → HasLocksFor new.sessions.held a.txn c answer }
     ensures keeps { (g : Geometry) (found : List LogRecord) (es : List Entry) (s new : State) (session : ℕ) (c : Call) (step : Step) (u : ℕ) →
-        IsSessionsState found es s → CallStep g s session c step new → KeepsLocks s.sessions.held new.sessions.held u }
+        IsSessionsState found es s → step ≢ Done Aborted → CallStep g s session c step new → KeepsLocks s.sessions.held new.sessions.held u }
+    ensures keeps_others { (g : Geometry) (found : List LogRecord) (es : List Entry) (s new : State) (session : ℕ) (c : Call) (step : Step)
+        (a : SessionTxn) (u : ℕ) → IsSessionsState found es s → IsOfSession s session a → u ≢ a.txn → CallStep g s session c step new → KeepsLocks s.sessions.held new.sessions.held u }
     ensures append { (g : Geometry) (s new : State) (session : ℕ) (wait : Wait) → new.locks ≢ s.locks → CallStep g s session Commit (Waits wait) new → ⊥ }
     ensures append_held { (g : Geometry) (s new : State) (session : ℕ) (wait : Wait) →
         new.sessions.held ≢ s.sessions.held → CallStep g s session Commit (Waits wait) new → ⊥ }

@@ -1,5 +1,5 @@
 //! Steps leave no gap and no overlap, and can be made: each call comes to something, to one thing, and a call that waited goes on.
-ghost use Rattle.std.specs.Prelude.{◌≡◌, ◌≢◌, ◌≤◌, ℕ, List, [], length, false};
+ghost use Rattle.std.specs.Prelude.{◌≡◌, ◌≢◌, ◌⊎◌, ◌≤◌, ℕ, List, [], None, length, false};
 ghost use Rattle.shore_types.specs.Layout.{HasPage, HasStore};
 ghost use Rattle.shore_types.specs.declared.layout.Geometry.{Geometry};
 ghost use Rattle.shore_types.specs.declared.layout.TheConstants.{MAX_RECORD_BYTES};
@@ -20,7 +20,7 @@ ghost use Rattle.shore_calls.specs.WorkedRun.{first_page, opened_empty};
 ghost use Rattle.shore_types.specs.declared.faults.Fault.TheVariants.{Memory};
 ghost use Rattle.shore_locks.specs.Tables.{is_waiting};
 ghost use Rattle.shore_calls.specs.WorkedSessions.{told_to_two, two_sessions};
-ghost use Rattle.shore_calls.specs.Shapes.{ForItsTxn, LockWaitsMayAsk};
+ghost use Rattle.shore_calls.specs.Shapes.{ForItsTxn, LockWaitsMayAsk, rollback_of};
 
 /// The refusals and their order leave no gap: each call that is served comes to an answer, a wait, or a refusal that comes of the state alone.
 pub fn calls_come_to_something()
@@ -58,15 +58,17 @@ pub fn two_sessions_come_through()
         × MovesMaking g (opened_empty stream_bytes) (two_sessions bytes) last made × (made ≡ told_to_two bytes) }
 {}
 
-/// A state decides what a call and a resume come to, as far as it comes of the state alone, and what each step but a lack of memory leaves. So no refusal
-/// can come before its turn. After a lack of memory the locks that were taken till then stay.
+/// A state decides what a call and a resume come to, as far as it comes of the state alone, and what each step leaves but for a lack of memory and a rollback
+/// that is interrupted. So no refusal can come before its turn. After a lack of memory the locks that were taken till then stay, and after an interrupted
+/// rollback what was put back till then.
 pub fn calls_come_to_one_thing()
     ensures call_step { (g : Geometry) (found : List LogRecord) (es : List Entry) (s new later : State) (session : ℕ) (c : Call) (step other : Step) →
         IsStateAfter found es s →
         CallStep g s session c step new → CallStep g s session c other later → ComesOfState step → ComesOfState other → step ≡ other }
     ensures call_state { (g : Geometry) (found : List LogRecord) (es : List Entry) (s new later : State) (session : ℕ) (c : Call) (step : Step) →
         IsStateAfter found es s →
-        step ≢ Refused Memory → CallStep g s session c step new → CallStep g s session c step later → new ≡ later }
+        step ≢ Refused Memory → ComesOfState step ⊎ (rollback_of c ≡ None) →
+        CallStep g s session c step new → CallStep g s session c step later → new ≡ later }
     ensures resume_step { (g : Geometry) (found : List LogRecord) (es : List Entry) (s new later : State) (session : ℕ) (step other : Step) →
         IsStateAfter found es s →
         ResumeStep g s session step new → ResumeStep g s session other later → ComesOfState step → ComesOfState other → step ≡ other }

@@ -31,7 +31,7 @@ ghost use Rattle.shore_path.specs.declared.answers.Acquired.TheVariants as acqui
 ghost use Rattle.shore_path.specs.declared.answers.OnConflict.TheVariants.{Refuse};
 ghost use Rattle.shore_held.specs.CallLocks.{Asked, asked_by};
 ghost use Rattle.shore_sessions.specs.GranuleLocks.{HasLock};
-ghost use Rattle.shore_calls.specs.Shapes.{ForItsTxn, store_lock, store_locked, with_locks_of};
+ghost use Rattle.shore_calls.specs.Shapes.{ForItsTxn, rollback_of, store_lock, store_locked, with_locks_of};
 
 /// Refusals of a manager or a session that must not come: each without its cause.
 pub fn refusals_of_sessions_have_their_causes()
@@ -47,7 +47,8 @@ pub fn refusals_of_sessions_have_their_causes()
         HasNoTxn s session → CallStep g s session c (Refused AlreadyActive) new → ⊥ }
     ensures begin_full_though_room { (g : Geometry) (s new : State) (session : ℕ) → MayBegin s → CallStep g s session Begin (Refused LogFull) new → ⊥ }
     ensures commit_in_txn { (g : Geometry) (s new : State) (session : ℕ) (f : Fault) →
-        IsInTxn s session → f ≢ Memory → s.failed ≡ false → DoesNotWait s session → CallStep g s session Commit (Refused f) new → ⊥ }
+        IsInTxn s session → ForItsTxn s session (λ a. a.undo.rolling ≡ None) →
+        f ≢ Memory → s.failed ≡ false → DoesNotWait s session → CallStep g s session Commit (Refused f) new → ⊥ }
     ensures too_long_in_no_txn { (g : Geometry) (s new : State) (session : ℕ) (c : Call) →
         HasNoTxn s session → CallStep g s session c (Refused TooLong) new → ⊥ }
     ensures commit_forces_none { (g : Geometry) (s new : State) (session n : ℕ) → CallStep g s session Commit (Refused (NeedForce n)) new → ⊥ }
@@ -91,7 +92,9 @@ pub fn refusals_of_calls_have_their_causes()
     ensures force_of_durable { (g : Geometry) (s new : State) (session : ℕ) (c : Call) (n : ℕ) →
         n ≤ s.durable → CallStep g s session c (Refused (NeedForce n)) new → ⊥ }
     ensures force_beyond_log { (g : Geometry) (s new : State) (session : ℕ) (c : Call) (n : ℕ) →
-        length s.log < n → CallStep g s session c (Refused (NeedForce n)) new → ⊥ }
+        rollback_of c ≡ None → length s.log < n → CallStep g s session c (Refused (NeedForce n)) new → ⊥ }
+    ensures force_beyond_all { (g : Geometry) (s new : State) (session : ℕ) (c : Call) (n : ℕ) →
+        length new.log < n → CallStep g s session c (Refused (NeedForce n)) new → ⊥ }
 {}
 
 /// Refusals by the lock table that must not come: for a holder, of a call that may wait or if nobody is in the way; of a mode that is allowed; of a table
@@ -113,10 +116,10 @@ pub fn refusals_of_locks_have_their_causes()
         CallStep g s session (Insert store bytes) (Refused LockTableFull) new → ⊥ }
 {}
 
-/// A refusal changes locks alone, and a device that failed or a page that was damaged, and no other, fails the state. An insert whose log is full has
-/// locked its place, and who learns that a record is not there has its lock.
+/// A refusal changes locks alone, but for a rollback that is interrupted, and a device that failed or a page that was damaged, and no other, fails the
+/// state. An insert whose log is full has locked its place, and who learns that a record is not there has its lock.
 pub fn refusals_leave_locks_alone()
-    ensures locks_alone { (g : Geometry) (s new : State) (session : ℕ) (c : Call) (f : Fault) → CallStep g s session c (Refused f) new →
+    ensures locks_alone { (g : Geometry) (s new : State) (session : ℕ) (c : Call) (f : Fault) → rollback_of c ≡ None → CallStep g s session c (Refused f) new →
         new ≡ with_locks_of new s }
     ensures device { (g : Geometry) (s new : State) (session : ℕ) (c : Call) → CallStep g s session c (Refused fault.Device) new → IsTrue new.failed }
     ensures damage { (g : Geometry) (s new : State) (session : ℕ) (c : Call) (device : Device) (offset : ℕ) →

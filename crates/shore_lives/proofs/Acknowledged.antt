@@ -17,9 +17,9 @@ use Rattle.shore_sessions.proofs.Lists.{recursion-push}
 use Rattle.shore_sessions.proofs.LogPrefixes.{decisions_in-take}
 use Rattle.shore_sessions.proofs.Members.{among_with, among_without}
 use Rattle.shore_sessions.specs.LogPrefixes.{decisions_in}
-use Rattle.shore_sessions.specs.SessionSteps.{AnswerAbort, AnswerCommit, AppendCommit, BeginTxn, GiveReply, IsInnerCall, MoveLocks, RefuseCall, SessionEvent, StepsTo, entries_by}
+use Rattle.shore_sessions.specs.SessionSteps.{AnswerAbort, AnswerCommit, AppendCommit, BeginTxn, GiveReply, IsInnerCall, MoveLocks, PutBack, RefuseCall, SessionEvent, StepsTo, entries_by}
 use Rattle.shore_sessions.specs.Sessions.{IsCurrent, SessionTxn, Sessions}
-use Rattle.shore_sessions.specs.UndoLists.{undo_after}
+use Rattle.shore_sessions.specs.UndoLists.{undo_after, undo_rolled}
 use Rattle.shore_sessions.specs.Views.{IsAmong}
 
 -- ---- elements of lists
@@ -76,15 +76,20 @@ module _ (base floor : ℕ) (old : Sessions) (log : List LogRecord) (k : Numbers
       (λ active. ⊎_elim (λ e. subst (λ (x : SessionTxn). floor ≤ x.txn) e k.next) (λ later. k.each a (inl later)) active)
       (λ committing. k.each a (inr committing))))
   numbers_stay_new new (GiveReply a c reply) steps =
-      subst (λ s. NumbersAreNew base floor s log) (sym steps.3)
+      subst (λ s. NumbersAreNew base floor s log) (sym steps.4)
       (numbers_in _ k.next (λ b. ⊎_elim
       (λ active. let x = among_with a.txn (undo_after old.records a.undo c reply) b old.active active in subst (λ n. floor ≤ n) (sym x.txn) (k.each x.was (inl x.there)))
       (λ committing. k.each b (inr committing))))
   numbers_stay_new new (AppendCommit a) steps =
-      subst (λ s. NumbersAreNew base floor s log) (sym steps.1)
+      subst (λ s. NumbersAreNew base floor s log) (sym steps.2)
       (numbers_in _ k.next (λ b. ⊎_elim
       (λ active. k.each b (inl (among_without a.txn b old.active active).0))
       (λ committing. ⊎_elim (λ e. subst (λ (x : SessionTxn). floor ≤ x.txn) e (k.each a (inl steps.0))) (λ later. k.each b (inr later)) committing)))
+  numbers_stay_new new (PutBack a kept e r) steps =
+      subst (λ s. NumbersAreNew base floor s log) (sym steps.4)
+      (numbers_in _ k.next (λ b. ⊎_elim
+      (λ active. let x = among_with a.txn (undo_rolled a.undo kept r) b old.active active in subst (λ n. floor ≤ n) (sym x.txn) (k.each x.was (inl x.there)))
+      (λ committing. k.each b (inr committing))))
   numbers_stay_new new (AnswerAbort a) steps =
       subst (λ s. NumbersAreNew base floor s log) (sym steps.1)
       (numbers_in _ k.next (λ b. ⊎_elim (λ active. k.each b (inl (among_without a.txn b old.active active).0)) (λ committing. k.each b (inr committing))))
@@ -154,6 +159,7 @@ module _ (P : Decision → Type 0) (es : List Entry) (h : AllByRecursion P (ackn
   event_acknowledges old new (GiveReply a c reply) steps own =
       acknowledges_none _ (ap (λ o. cond (is_ok reply) o None) (inner_asks_none a.txn c steps.1) ∙ none_either_way (is_ok reply))
   event_acknowledges old new (AppendCommit a) steps own = acknowledges_none _ refl
+  event_acknowledges old new (PutBack a kept e r) steps own = subst (λ es. AllByRecursion P (acknowledged es)) (sym (append-nil es)) h
   event_acknowledges old new (AnswerAbort a) steps own = acknowledges_none _ refl
   event_acknowledges old new (AnswerCommit a) steps own = acknowledges_one _ (decision.Commit a.txn) refl (own a refl)
   event_acknowledges old new (RefuseCall session t c fault) steps own = acknowledges_none _ refl

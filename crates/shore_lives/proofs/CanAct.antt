@@ -1,5 +1,6 @@
 -- Every run of the sessions can happen over log and pages: the log is forced before each event, and then grows by what the event appends.
-use Rattle.std.proofs.Common.{◌≡◌, ◌≤◌, ◌<◌, ◌+◌, inl, inr, ⊎_elim, ◌++◌, ℕ, List, [], ◌∷◌, Result, Ok, Err, refl, sym, ap, subst, ◌∙◌, length, take, arith, append-nil, append_assoc, length-append, take_all}
+use Rattle.std.proofs.Common.{◌≡◌, ◌≤◌, ◌<◌, ◌+◌, inl, inr, ⊎_elim, ◌++◌, ℕ, List, [], ◌∷◌, true, false, cond, Result, Ok, Err, refl, sym, ap, subst, ◌∙◌, length, take, arith, append-nil, append_assoc, length-append, take_all}
+use Rattle.std.specs.Prelude.{◌==◌}
 use Rattle.std.specs.List.{AllByRecursion}
 use Rattle.std.proofs.lemmas.List.Elements.{filter_map-append}
 use Rattle.shore_types.specs.Images.{Image}
@@ -23,8 +24,8 @@ use Rattle.shore_recovery.specs.Undo.{HasNoLosers}
 use Rattle.shore_sessions.proofs.Lists.{recursion-weaker}
 use Rattle.shore_sessions.proofs.LogTells.{committed_one}
 use Rattle.shore_sessions.proofs.Members.{among_without}
-use Rattle.shore_sessions.specs.Logged.{and_compensations, log_after, log_after_answer, log_after_reply, next_to_undo}
-use Rattle.shore_sessions.specs.SessionSteps.{AnswerAbort, AnswerCommit, AppendCommit, BeginTxn, GiveReply, MoveLocks, RefuseCall, SessionEvent, StepsTo, entries_by}
+use Rattle.shore_sessions.specs.Logged.{and_compensations, and_record, and_rollback, log_after, log_after_answer, log_after_reply, next_to_undo}
+use Rattle.shore_sessions.specs.SessionSteps.{AnswerAbort, AnswerCommit, AppendCommit, BeginTxn, GiveReply, MoveLocks, PutBack, RefuseCall, SessionEvent, StepsTo, entries_by}
 use Rattle.shore_sessions.specs.Sessions.{SessionTxn, Sessions}
 use Rattle.shore_sessions.specs.Soundness.{RunsTo}
 use Rattle.shore_sessions.specs.UndoLists.{images_since}
@@ -69,6 +70,15 @@ compensations_grow t log (e ∷ images) =
     let r : LogRecord = record { txn = t; previous = previous_of t so_far; payload = Compensation e.0 e.1 (next_to_undo t so_far) } in
     (rest.0 ++ r ∷ [], ap (λ rs. rs ++ r ∷ []) rest.1 ∙ append_assoc log rest.0 (r ∷ []))
 
+rollback_grows : (t : ℕ) (log : List LogRecord) (images : List (Rid × Image)) → GrowsTo log (and_rollback t log images)
+rollback_grows t log images =
+    let undone = compensations_grow t log images in
+    let r : LogRecord = record { txn = t; previous = previous_of t (and_compensations t log images); payload = End } in
+    elim (previous_of t log == 0) as (λ b. GrowsTo log (cond b log (and_record t (and_compensations t log images) End))) [
+      | true ↦ grows_by_none log
+      | false ↦ (undone.0 ++ r ∷ [], ap (λ rs. rs ++ r ∷ []) undone.1 ∙ append_assoc log undone.0 (r ∷ []))
+    ]
+
 module _ (log : List LogRecord) (R : Records) (a : SessionTxn) where
   insert_grows : (store : ℕ) (bytes : List ℕ) (answer : Answer) → GrowsTo log (log_after_answer log R a (call.Insert store bytes) answer)
   insert_grows store bytes (Inserted id) = (_, refl)
@@ -90,10 +100,8 @@ event_grows log s (MoveLocks held) = grows_by_none log
 event_grows log s (BeginTxn session) = grows_by_none log
 event_grows log s (GiveReply a c reply) = reply_grows log s.records a c reply
 event_grows log s (AppendCommit a) = (_, refl)
-event_grows log s (AnswerAbort a) =
-    let undone = compensations_grow a.txn log a.undo.images in
-    let r : LogRecord = record { txn = a.txn; previous = previous_of a.txn (and_compensations a.txn log a.undo.images); payload = End } in
-    (undone.0 ++ r ∷ [], ap (λ rs. rs ++ r ∷ []) undone.1 ∙ append_assoc log undone.0 (r ∷ []))
+event_grows log s (PutBack a kept e r) = (_, refl)
+event_grows log s (AnswerAbort a) = rollback_grows a.txn log a.undo.images
 event_grows log s (AnswerCommit a) = grows_by_none log
 event_grows log s (RefuseCall session t c fault) = grows_by_none log
 
@@ -123,13 +131,14 @@ module _ (log : List LogRecord) (old : Sessions) (h : HaveCommits log old) where
   still_have : (new : Sessions) (e : SessionEvent) → StepsTo old e new → HaveCommits (log_after log old e) new
   still_have new (MoveLocks held) m = as_before new (MoveLocks held) (λ a at. subst (λ (s : Sessions). IsAmong a s.committing) m.3 at)
   still_have new (BeginTxn session) m = as_before new (BeginTxn session) (λ a at. subst (λ (s : Sessions). IsAmong a s.committing) m.1 at)
-  still_have new (GiveReply b c reply) m = as_before new (GiveReply b c reply) (λ a at. subst (λ (s : Sessions). IsAmong a s.committing) m.3 at)
+  still_have new (GiveReply b c reply) m = as_before new (GiveReply b c reply) (λ a at. subst (λ (s : Sessions). IsAmong a s.committing) m.4 at)
   still_have new (AppendCommit b) m = λ a at. ⊎_elim
       (λ e.
       let r : LogRecord = record { txn = b.txn; previous = previous_of b.txn log; payload = Commit } in
       subst (λ (x : SessionTxn). IsAmong x.txn (committed_in (log ++ r ∷ []))) e (subst (IsAmong b.txn) (sym (committed_one log r refl)) (among_pushed b.txn (committed_in log))))
       (λ later. still_committed a.txn log (log_after log old (AppendCommit b)) (event_grows log old (AppendCommit b)) (h a later))
-      (subst (λ (s : Sessions). IsAmong a s.committing) m.1 at)
+      (subst (λ (s : Sessions). IsAmong a s.committing) m.2 at)
+  still_have new (PutBack b kept e r) m = as_before new (PutBack b kept e r) (λ a at. subst (λ (s : Sessions). IsAmong a s.committing) m.4 at)
   still_have new (AnswerAbort b) m = as_before new (AnswerAbort b) (λ a at. subst (λ (s : Sessions). IsAmong a s.committing) m.1 at)
   still_have new (AnswerCommit b) m =
       as_before new (AnswerCommit b) (λ a at. (among_without b.txn a old.committing (subst (λ (s : Sessions). IsAmong a s.committing) m.1 at)).0)

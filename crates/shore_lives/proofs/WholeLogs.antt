@@ -21,6 +21,7 @@ use Rattle.shore_recovery.specs.Writers.{HasOneWriterAtMost, changes_id, is_this
 use Rattle.shore_sessions.proofs.EndedTxns.{over_same}
 use Rattle.shore_sessions.proofs.Lists.{recursion-push}
 use Rattle.shore_sessions.proofs.LogSteps.{disjoint}
+use Rattle.shore_sessions.proofs.LoggedInPlace.{stand_logged}
 use Rattle.shore_sessions.proofs.UnansweredChanges.{compensation_answers, unanswered_other}
 use Rattle.shore_sessions.specs.LogTells.{IsLogAfter, MatchesUndo, records_committed}
 use Rattle.shore_sessions.specs.Logged.{and_compensations, and_record, next_to_undo}
@@ -72,8 +73,7 @@ module _ {o : Records} {es : List Entry} {s : Sessions} {log : List LogRecord} (
   image_by_writer : (id : Rid) → HasOneWriterAtMost log id → image_of_record log id ≡ get s.records id
   image_by_writer id (inl none) =
       none.image ∙ ap (λ R. get R id) l.tells_serial.tells
-      ∙ sym (k.stand.others id (λ t a. (l.tells_serial.each t a).unwritten id
-      (writes_none log t id (never_true (has (changes_id id) t log) (λ h. true≢false (sym (none.over t h) ∙ w.unended t a))))))
+      ∙ sym ((stand_logged k l).others id (λ t a. writes_none log t id (never_true (has (changes_id id) t log) (λ h. true≢false (sym (none.over t h) ∙ w.unended t a)))))
   image_by_writer id (inr one) =
       sym ((l.tells_serial.each one.0 (w.writers one.0 id one.1.changed one.1.not_over)).in_place id (image_of_record log id) one.1.written).0
 

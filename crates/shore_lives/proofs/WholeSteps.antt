@@ -1,9 +1,9 @@
 -- What each event appends keeps the log whole.
-use Rattle.std.proofs.Common.{◌≡◌, ◌≢◌, ◌<◌, ◌⊎◌, inl, inr, ⊎_elim, ℕ, List, [], ◌∷◌, ◌++◌, true, false, map, Some, None, Result, Ok, Err, refl, sym, ap, subst, ◌∙◌, drop, take, length, arith, take-append-drop}
-use Rattle.std.specs.Prelude.{◌||◌}
+use Rattle.std.proofs.Common.{◌≡◌, ◌≢◌, ◌<◌, ◌⊎◌, inl, inr, ⊎_elim, ℕ, List, [], ◌∷◌, ◌++◌, true, false, cond, map, Some, None, Result, Ok, Err, refl, sym, ap, subst, ◌∙◌, drop, take, length, arith, take-append-drop}
+use Rattle.std.specs.Prelude.{◌==◌, ◌||◌}
 use Rattle.std.specs.FinMap.{get}
 use Rattle.std.specs.List.{AllByRecursion}
-use Rattle.std.proofs.lemmas.Bool.{true≢false}
+use Rattle.std.proofs.lemmas.Bool.{eqb-true, ne_eqb, true≢false}
 use Rattle.shore_types.specs.Images.{Image}
 use Rattle.shore_types.specs.declared.faults.Fault.{Fault}
 use Rattle.shore_types.specs.declared.ids.Rid.{Rid}
@@ -16,9 +16,10 @@ use Rattle.shore_model.specs.declared.log_records.LogRecord.{LogRecord}
 use Rattle.shore_model.specs.declared.log_records.Payload.{Payload}
 use Rattle.shore_model.specs.declared.log_records.Payload.TheVariants.{Change, Commit, End}
 use Rattle.shore_model.specs.Locks.{MayWrite}
-use Rattle.shore_model.specs.Logs.{MayFollow, is_commit, is_end, is_in_doubt, is_over, is_prepare, previous_of, unanswered}
-use Rattle.shore_model.specs.Records.{Records}
+use Rattle.shore_model.specs.Logs.{MayFollow, has, is_commit, is_end, is_in_doubt, is_over, is_prepare, last_of, previous_of, unanswered}
+use Rattle.shore_model.specs.Records.{Records, put_image}
 use Rattle.shore_recovery.proofs.OneMore.{by_push, has-not_this}
+use Rattle.shore_recovery.proofs.UndoEnds.{has_known}
 use Rattle.shore_recovery.proofs.UndoRecords.{lawful_next}
 use Rattle.shore_recovery.proofs.Writers.{same_or_not}
 use Rattle.shore_recovery.specs.Writers.{changes_id}
@@ -26,13 +27,14 @@ use Rattle.shore_sessions.proofs.EndedTxns.{over_now, over_other}
 use Rattle.shore_sessions.proofs.Lists.{recursion-push, recursion-unpush, recursion-weaker}
 use Rattle.shore_sessions.proofs.Members.{among_with, among_without, txn_among, txn_stays, txn_without, txns_with}
 use Rattle.shore_sessions.proofs.UnansweredChanges.{change_matches, compensations_match, unanswered_other}
+use Rattle.shore_sessions.specs.declared.rollbacks.Rollback.{Rollback}
 use Rattle.shore_sessions.specs.LogTells.{IsLogAfter, MatchesUndo}
 use Rattle.shore_sessions.specs.Logged.{and_compensations, and_record, log_after, log_after_answer, log_after_reply}
 use Rattle.shore_sessions.specs.RepliesInPlace.{MayReplyInPlace, Permit}
-use Rattle.shore_sessions.specs.SessionSteps.{AnswerAbort, AnswerCommit, AppendCommit, BeginTxn, GiveReply, MoveLocks, RefuseCall, SessionEvent, StepsTo}
-use Rattle.shore_sessions.specs.Sessions.{SessionTxn, Sessions, reply_given, txn_begun, txns_of, without_txn}
+use Rattle.shore_sessions.specs.SessionSteps.{AnswerAbort, AnswerCommit, AppendCommit, BeginTxn, GiveReply, MoveLocks, PutBack, RefuseCall, SessionEvent, StepsTo}
+use Rattle.shore_sessions.specs.Sessions.{SessionTxn, Sessions, image_put_back, reply_given, txn_begun, txns_of, with_undo, without_txn}
 use Rattle.shore_sessions.specs.Soundness.{IsSoundAfter}
-use Rattle.shore_sessions.specs.UndoLists.{UndoList, mark_of, undo_after, undo_after_answer}
+use Rattle.shore_sessions.specs.UndoLists.{UndoList, in_place_after, mark_of, undo_after, undo_after_answer, undo_rolled}
 use Rattle.shore_sessions.specs.Views.{IsAmong}
 use Rattle.shore_lives.proofs.WholeLogs.{HasMoreOf, all_undoable, all_unprepared, compensations_on, image_in_place, is_of_txn, no_more, one_more, others_have_ended}
 use Rattle.shore_lives.specs.WholeLogs.{IsWholeLog}
@@ -122,12 +124,10 @@ module _ {o : Records} {es : List Entry} {s : Sessions} {log : List LogRecord} (
     by_reply n c (Ok answer) h = by_answer c answer h.0
     by_reply n c (Err fault) h = unmoved
 
-    pub reply_stays_whole : (c : Call) (reply : Result Answer Fault) → MayReplyInPlace s.held a.txn s.records (length a.undo.marks) c reply
-        → IsWholeLog (log_after_reply log s.records a c reply) (reply_given s a c reply)
-    reply_stays_whole c reply served =
-        let more = log_after_reply log s.records a c reply in
-        let g = by_reply (length a.undo.marks) c reply served in
-        let undo = undo_after s.records a.undo c reply in
+    -- the transaction has this undo list then
+    gone_stays_whole : (R : Records) (undo : UndoList) (more : List LogRecord) → HasGone more undo.images
+        → IsWholeLog more record s { records = R; active = with_undo a.txn undo s.active }
+    gone_stays_whole R undo more g =
         let same_txns = txns_with a.txn undo s.active in
         record {
           lawful = g.by.lawful;
@@ -148,6 +148,23 @@ module _ {o : Records} {es : List Entry} {s : Sessions} {log : List LogRecord} (
               ap (map (λ c. (c.id, c.before))) (g.by.others b.txn old.0) ∙ w.undo_lists b there)
               x.one;
           some = w.some;
+        }
+
+    pub reply_stays_whole : (c : Call) (reply : Result Answer Fault) → MayReplyInPlace s.held a.txn s.records (length a.undo.marks) c reply
+        → IsWholeLog (log_after_reply log s.records a c reply) (reply_given s a c reply)
+    reply_stays_whole c reply served =
+        gone_stays_whole (in_place_after s.records a.undo c reply) (undo_after s.records a.undo c reply) (log_after_reply log s.records a c reply)
+        (by_reply (length a.undo.marks) c reply served)
+
+    -- ---- an image that is put back
+
+    pub put_back_stays_whole : (kept : List (Rid × Image)) (e : Rid × Image) (r : Rollback) → a.undo.images ≡ kept ++ e ∷ []
+        → IsWholeLog (log_after log s (PutBack a kept e r)) (image_put_back s a kept e r)
+    put_back_stays_whole kept e r is =
+        let newest : MatchesUndo log a.txn (kept ++ e ∷ []) = subst (MatchesUndo log a.txn) is (w.undo_lists a mem) in
+        gone_stays_whole (put_image s.records e.0 e.1) (undo_rolled a.undo kept r) (log_after log s (PutBack a kept e r)) record {
+          by = compensations_on a.txn log above not_over kept (e ∷ []) w.lawful w.no_prepare newest;
+          undo = compensations_match a.txn log kept (e ∷ []) newest;
         }
 
     -- ---- an end
@@ -192,9 +209,9 @@ module _ {o : Records} {es : List Entry} {s : Sessions} {log : List LogRecord} (
     mapped_from_none f [] e = refl
     mapped_from_none f (x ∷ xs) e = cc
 
-    pub abort_stays_whole : (new : Sessions) → new.active ≡ without_txn a.txn s.active → new.next_txn ≡ s.next_txn
+    ended_stays_whole : (new : Sessions) → new.active ≡ without_txn a.txn s.active → new.next_txn ≡ s.next_txn
         → IsWholeLog (and_record a.txn (and_compensations a.txn log a.undo.images) End) new
-    abort_stays_whole =
+    ended_stays_whole =
         let more = and_compensations a.txn log a.undo.images in
         let by = compensations_on a.txn log above not_over [] a.undo.images w.lawful w.no_prepare (w.undo_lists a mem) in
         let none : MatchesUndo more a.txn [] = compensations_match a.txn log [] a.undo.images (w.undo_lists a mem) in
@@ -204,6 +221,37 @@ module _ {o : Records} {es : List Entry} {s : Sessions} {log : List LogRecord} (
           not_over = by.over a.txn ∙ not_over;
           says = (all_undoable a.txn more by.no_prepare, mapped_from_none (λ c. (c.id, c.before)) (unanswered a.txn more) none);
         } refl (λ id. refl) (inr refl)
+
+    -- it has no record, and so has changed nothing in the log
+    changed_none : previous_of a.txn log ≡ 0 → (id : Rid) → has (changes_id id) a.txn log ≡ true → ⊥
+    changed_none none id h =
+        let last : previous_of a.txn log ≡ last_of a.txn log = ap (λ b. cond b 0 (last_of a.txn log)) (ne_eqb a.txn 0 (λ e. let some = above in omega arith)) in
+        let known = has_known id log w.lawful a.txn h in
+        let later = known.1 in
+        omega arith
+
+    unlogged_stays_whole : previous_of a.txn log ≡ 0 → (new : Sessions) → new.active ≡ without_txn a.txn s.active → new.next_txn ≡ s.next_txn
+        → IsWholeLog log new
+    unlogged_stays_whole none new active next =
+        let txns : txns_of new.active ≡ txns_of (without_txn a.txn s.active) = ap txns_of active in
+        record {
+          lawful = w.lawful;
+          no_prepare = w.no_prepare;
+          writers = λ u id h still. subst (IsAmong u) (sym txns) (txn_stays a.txn u s.active (w.writers u id h still)
+              (λ same. changed_none none id (ap (λ v. has (changes_id id) v log) (sym same) ∙ h)));
+          unended = λ u b. w.unended u (txn_without a.txn u s.active (subst (IsAmong u) txns b)).0;
+          above = λ u b. w.above u (txn_without a.txn u s.active (subst (IsAmong u) txns b)).0;
+          undo_lists = λ b member. w.undo_lists b (among_without a.txn b s.active (subst (IsAmong b) active member)).0;
+          some = subst (λ n. 0 < n) (sym next) w.some;
+        }
+
+    pub abort_stays_whole : (new : Sessions) → new.active ≡ without_txn a.txn s.active → new.next_txn ≡ s.next_txn
+        → IsWholeLog (log_after log s (AnswerAbort a)) new
+    abort_stays_whole new active next =
+        elim (previous_of a.txn log == 0) as (λ b. (previous_of a.txn log == 0) ≡ b → IsWholeLog (cond b log (and_record a.txn (and_compensations a.txn log a.undo.images) End)) new) [
+          | true ↦ λ e. unlogged_stays_whole (eqb-true (previous_of a.txn log) 0 e) new active next
+          | false ↦ λ e. ended_stays_whole new active next
+        ] refl
 
   -- ---- no record
 
@@ -239,9 +287,11 @@ pub event_stays_whole : (o : Records) (es : List Entry) (old new : Sessions) (e 
 event_stays_whole o es old new (MoveLocks held) log k l w steps = subst (IsWholeLog log) (sym steps.3) (quiet_stays_whole k l w _ refl refl)
 event_stays_whole o es old new (BeginTxn session) log k l w steps = subst (IsWholeLog log) (sym steps.1) (begin_stays_whole k l w session)
 event_stays_whole o es old new (GiveReply a c reply) log k l w steps =
-    subst (IsWholeLog (log_after_reply log old.records a c reply)) (sym steps.3) (reply_stays_whole k l w a steps.0 c reply steps.2)
+    subst (IsWholeLog (log_after_reply log old.records a c reply)) (sym steps.4) (reply_stays_whole k l w a steps.0 c reply steps.2)
 event_stays_whole o es old new (AppendCommit a) log k l w steps =
-    subst (IsWholeLog (log_after log old (AppendCommit a))) (sym steps.1) (commit_stays_whole k l w a steps.0 _ refl refl)
+    subst (IsWholeLog (log_after log old (AppendCommit a))) (sym steps.2) (commit_stays_whole k l w a steps.0 _ refl refl)
+event_stays_whole o es old new (PutBack a kept e r) log k l w steps =
+    subst (IsWholeLog (log_after log old (PutBack a kept e r))) (sym steps.4) (put_back_stays_whole k l w a steps.0 kept e r steps.1)
 event_stays_whole o es old new (AnswerAbort a) log k l w steps =
     subst (IsWholeLog (log_after log old (AnswerAbort a))) (sym steps.1) (abort_stays_whole k l w a steps.0 _ refl refl)
 event_stays_whole o es old new (AnswerCommit a) log k l w steps = subst (IsWholeLog log) (sym steps.1) (quiet_stays_whole k l w _ refl refl)

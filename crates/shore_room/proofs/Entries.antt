@@ -13,6 +13,7 @@ use Rattle.shore_page.specs.Undo.{longest}
 use Rattle.shore_page.proofs.UndoLemmas.{with_change_twice}
 use Rattle.shore_room.specs.Claims.{Claimed, NoOthers, SlotCounts, befores_at, befores_in, slots_of}
 use Rattle.shore_room.specs.Entries.{claim_before, claims_before, claims_behind}
+use Rattle.shore_sessions.specs.declared.rollbacks.Rollback.{Rollback}
 use Rattle.shore_sessions.specs.Sessions.{SessionTxn, with_undo}
 use Rattle.shore_sessions.specs.UndoLists.{UndoList, with_before_image}
 use Rattle.shore_sessions.specs.Views.{IsAmong}
@@ -82,9 +83,9 @@ module _ (R : Records) (undos : List SessionTxn) (counts : SlotCounts) (k : Clai
       → claims_before (with_before_image R a.undo id).images ≡ claims_before a.undo.images ++ claim_at (slots_of R undos id.page (counts id.page)) id.slot ∷ []
   changed id alone = before_push a.undo.images (id, get R id) ∙ ap (λ n. claims_before a.undo.images ++ n ∷ []) (sym (found id alone))
 
-  module _ (kept : List (Rid × Image)) (e : Rid × Image) (marks : List ℕ) (is : a.undo.images ≡ kept ++ e ∷ []) where
+  module _ (kept : List (Rid × Image)) (e : Rid × Image) (marks : List ℕ) (rolling : Option Rollback) (is : a.undo.images ≡ kept ++ e ∷ []) where
     abbrev left : UndoList
-    left = record { images = kept; marks = marks }
+    left = record { images = kept; marks = marks; rolling = rolling }
 
     pub newest_claim : claims_before a.undo.images ≡ claims_before kept ++ claim_before kept e ∷ []
     newest_claim = ap claims_before is ∙ before_push kept e
@@ -92,12 +93,12 @@ module _ (R : Records) (undos : List SessionTxn) (counts : SlotCounts) (k : Clai
     -- the claim is what it was before the change
     pub claim_back : claim_at (slots_of (put_image R e.0 e.1) (with_undo a.txn left undos) e.0.page (counts e.0.page)) e.0.slot ≡ claim_before kept e
     claim_back =
-        claim_is (put_image R e.0 e.1) (with_undo a.txn left undos) e.0.page (counts e.0.page) e.0.slot (its_slot R undos counts k a m kept e marks is)
+        claim_is (put_image R e.0 e.1) (with_undo a.txn left undos) e.0.page (counts e.0.page) e.0.slot (its_slot R undos counts k a m kept e marks rolling is)
         ∙ ap (λ (i : Image). max (image_len i) (longest (befores_at e.0 (with_undo a.txn left undos)))) (put_here R e.0 e.1)
-        ∙ ap (λ l. max (image_len e.1) (longest l)) (lone_with (split undos a k.once m) e.0 left (its_own R undos counts k a m kept e marks is))
+        ∙ ap (λ l. max (image_len e.1) (longest l)) (lone_with (split undos a k.once m) e.0 left (its_own R undos counts k a m kept e marks rolling is))
 
     pub unreserved : slots_of (put_image R e.0 e.1) (with_undo a.txn left undos) e.0.page (counts e.0.page)
         ≡ with_change (lowered (claim_before kept e)) (with_image (slots_of R undos e.0.page (counts e.0.page)) e.0.slot e.1) e.0.slot
     unreserved =
-        undo_slots R undos counts k a m kept e marks is
+        undo_slots R undos counts k a m kept e marks rolling is
         ∙ lower_over (longest (befores_in e.0 kept)) e.1 (slots_of R undos e.0.page (counts e.0.page)) e.0.slot

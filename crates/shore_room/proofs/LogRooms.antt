@@ -1,12 +1,13 @@
 -- The log keeps room for the undo and the ending of each transaction.
-use Rattle.std.proofs.Common.{◌≡◌, ⊎_elim, ◌+◌, ◌≤◌, ℕ, List, [], ◌∷◌, ◌++◌, drop, take, Some, None, Ok, Err, refl, sym, ap, subst, ◌∙◌, arith}
+use Rattle.std.proofs.Common.{◌≡◌, ⊎_elim, ◌+◌, ◌≤◌, ℕ, List, Option, [], ◌∷◌, ◌++◌, drop, take, Some, None, Ok, Err, refl, sym, ap, subst, ◌∙◌, arith}
 use Rattle.std.specs.FinMap.{get}
 use Rattle.std.proofs.lemmas.List.{append-nil, append_assoc, take-append-drop}
 use Rattle.shore_types.specs.declared.ids.Rid.{Rid}
 use Rattle.shore_room.specs.LogRooms.{Admits, AnswerAdmits, EventAdmits, HasLogRoom, LogRoom, RoomAfter, Takes, TurnsTake, answered_room, begun_room, change_cost, changed_room, compensation_cost, compensation_costs, ended_room, left_room, owed, owed_by_all, undone_room, undone_rooms}
-use Rattle.shore_sessions.specs.SessionSteps.{AnswerAbort, AnswerCommit, AppendCommit, BeginTxn, GiveReply, MoveLocks, RefuseCall, SessionEvent, StepsTo}
+use Rattle.shore_sessions.specs.declared.rollbacks.Rollback.{Rollback}
+use Rattle.shore_sessions.specs.SessionSteps.{AnswerAbort, AnswerCommit, AppendCommit, BeginTxn, GiveReply, MoveLocks, PutBack, RefuseCall, SessionEvent, StepsTo}
 use Rattle.shore_sessions.specs.Sessions.{EachOnce, SessionTxn, Sessions, txns_of, with_undo, without_txn}
-use Rattle.shore_sessions.specs.UndoLists.{UndoList, mark_of, nothing_to_undo, undo_after_answer, with_before_image}
+use Rattle.shore_sessions.specs.UndoLists.{UndoList, mark_of, marks_kept, nothing_to_undo, undo_after_answer, with_before_image}
 use Rattle.shore_sessions.specs.Views.{IsAmong}
 use Rattle.shore_types.specs.declared.layout.TheConstants.{ENDING_COST, GREATEST_CHECKPOINT, LONGEST_FRAME}
 use Rattle.shore_model.specs.declared.calls.Answer.{Answer}
@@ -78,11 +79,11 @@ module _ (spare : ℕ) (undos : List SessionTxn) (room : LogRoom) (h : HasLogRoo
         record { sum = omega arith; fits = omega arith; lsns = omega arith; short = h.short }
 
     -- a Compensation uses what was reserved for it
-    pub undone_takes : (kept : List (Rid × Image)) (e : Rid × Image) (marks : List ℕ) → a.undo.images ≡ kept ++ e ∷ []
-        → Takes spare room (compensation_cost e.1) × HasLogRoom spare (with_undo a.txn record { images = kept; marks = marks } undos) (undone_room e.1 room)
-    undone_takes kept e marks is =
+    pub undone_takes : (kept : List (Rid × Image)) (e : Rid × Image) (marks : List ℕ) (rolling : Option Rollback) → a.undo.images ≡ kept ++ e ∷ []
+        → Takes spare room (compensation_cost e.1) × HasLogRoom spare (with_undo a.txn record { images = kept; marks = marks; rolling = rolling } undos) (undone_room e.1 room)
+    undone_takes kept e marks rolling is =
         let one : compensation_costs a.undo.images ≡ compensation_costs kept + compensation_cost e.1 = ap compensation_costs is ∙ costs_push kept e in
-        let less = owed_with s record { images = kept; marks = marks } in
+        let less = owed_with s record { images = kept; marks = marks; rolling = rolling } in
         let whole = owed_whole s in
         let sum = h.sum in
         let fits = h.fits in
@@ -114,26 +115,26 @@ once_with t undo undos once = subst EachOnce (sym (txns_with t undo undos)) once
 pub turns_take : (spare : ℕ) (undos : List SessionTxn) (room : LogRoom) (turns : List ℕ)
     → EachOnce (txns_of undos) → HasLogRoom spare undos room → TurnsTake spare undos room turns
 turns_take spare undos room [] once h = λ a m. (ended_takes spare undos room h once a m).0
-turns_take spare undos room (t ∷ turns) once h = λ a kept e marks m txn is.
-    let one = undone_takes spare undos room h once a m kept e marks is in (
+turns_take spare undos room (t ∷ turns) once h = λ a kept e marks rolling m txn is.
+    let one = undone_takes spare undos room h once a m kept e marks rolling is in (
       one.0,
-      subst (λ t. TurnsTake spare (with_undo t record { images = kept; marks = marks } undos) (undone_room e.1 room) turns) txn
-          (turns_take spare (with_undo a.txn record { images = kept; marks = marks } undos) (undone_room e.1 room) turns (once_with a.txn record { images = kept; marks = marks } undos once) one.1),
+      subst (λ t. TurnsTake spare (with_undo t record { images = kept; marks = marks; rolling = rolling } undos) (undone_room e.1 room) turns) txn
+          (turns_take spare (with_undo a.txn record { images = kept; marks = marks; rolling = rolling } undos) (undone_room e.1 room) turns (once_with a.txn record { images = kept; marks = marks; rolling = rolling } undos once) one.1),
     )
 
 -- ---- events of the sessions
 
 module _ (spare : ℕ) (within : spare ≤ LONGEST_FRAME + GREATEST_CHECKPOINT) where
   undone_has : (undos : List SessionTxn) (room : LogRoom) → HasLogRoom spare undos room → EachOnce (txns_of undos) → (a : SessionTxn) → IsAmong a undos
-      → (es kept : List (Rid × Image)) (marks : List ℕ) → a.undo.images ≡ kept ++ es
-      → HasLogRoom spare (with_undo a.txn record { images = kept; marks = marks } undos) (undone_rooms es room)
-  undone_has undos room h once a m [] kept marks is =
-      marked_has spare undos room h once a m record { images = kept; marks = marks } (sym (is ∙ append-nil kept))
-  undone_has undos room h once a m (e ∷ es) kept marks is =
-      let one : UndoList = record { images = kept ++ e ∷ []; marks = marks } in
-      let h1 = undone_has undos room h once a m es (kept ++ e ∷ []) marks (is ∙ sym (append_assoc kept (e ∷ []) es)) in
-      subst (λ l. HasLogRoom spare l (undone_room e.1 (undone_rooms es room))) (with_twice a.txn one record { images = kept; marks = marks } undos)
-      (undone_takes spare (with_undo a.txn one undos) (undone_rooms es room) h1 (once_with a.txn one undos once) (with_its a one) (new_among (split undos a once m) one) kept e marks refl).1
+      → (es kept : List (Rid × Image)) (marks : List ℕ) (rolling : Option Rollback) → a.undo.images ≡ kept ++ es
+      → HasLogRoom spare (with_undo a.txn record { images = kept; marks = marks; rolling = rolling } undos) (undone_rooms es room)
+  undone_has undos room h once a m [] kept marks rolling is =
+      marked_has spare undos room h once a m record { images = kept; marks = marks; rolling = rolling } (sym (is ∙ append-nil kept))
+  undone_has undos room h once a m (e ∷ es) kept marks rolling is =
+      let one : UndoList = record { images = kept ++ e ∷ []; marks = marks; rolling = rolling } in
+      let h1 = undone_has undos room h once a m es (kept ++ e ∷ []) marks rolling (is ∙ sym (append_assoc kept (e ∷ []) es)) in
+      subst (λ l. HasLogRoom spare l (undone_room e.1 (undone_rooms es room))) (with_twice a.txn one record { images = kept; marks = marks; rolling = rolling } undos)
+      (undone_takes spare (with_undo a.txn one undos) (undone_rooms es room) h1 (once_with a.txn one undos once) (with_its a one) (new_among (split undos a once m) one) kept e marks rolling refl).1
 
   module _ (s : Sessions) (room : LogRoom) (h : HasLogRoom spare s.active room) (once : EachOnce (txns_of s.active)) where
     same_room : {undos : List SessionTxn} {new room' : LogRoom} → new ≡ room' → HasLogRoom spare undos room' → HasLogRoom spare undos new
@@ -158,14 +159,14 @@ module _ (spare : ℕ) (within : spare ≤ LONGEST_FRAME + GREATEST_CHECKPOINT) 
       answered (call.Update id bytes) answer admits = change id (Some bytes) admits
       answered (call.Delete id) answer admits = change id None admits
       answered (call.BackTo n) answer admits =
-          undone_has s.active room h once a m (drop (mark_of a.undo n) a.undo.images) (take (mark_of a.undo n) a.undo.images) (take (n + 1) a.undo.marks)
+          undone_has s.active room h once a m (drop (mark_of a.undo n) a.undo.images) (take (mark_of a.undo n) a.undo.images) (take (n + 1) a.undo.marks) None
           (sym (take-append-drop (mark_of a.undo n) a.undo.images))
       answered call.Savepoint answer admits = stays (undo_after_answer s.records a.undo call.Savepoint answer) refl
       answered _ answer admits = stays a.undo refl
 
       aborted : HasLogRoom spare (without_txn a.txn s.active) (ended_room ENDING_COST (undone_rooms a.undo.images room)) × HasLogRoom spare (without_txn a.txn s.active) (left_room ENDING_COST (undone_rooms a.undo.images room))
       aborted =
-          let h1 = undone_has s.active room h once a m a.undo.images [] [] refl in
+          let h1 = undone_has s.active room h once a m a.undo.images [] [] None refl in
           let both =
           (ended_takes spare (with_undo a.txn nothing_to_undo s.active) (undone_rooms a.undo.images room) h1 (once_with a.txn nothing_to_undo s.active once) (with_its a nothing_to_undo) (new_among (split s.active a once m) nothing_to_undo)) in (
             subst (λ l. HasLogRoom spare l (ended_room ENDING_COST (undone_rooms a.undo.images room))) (without_with a.txn nothing_to_undo s.active) both.1,
@@ -178,11 +179,13 @@ module _ (spare : ℕ) (within : spare ≤ LONGEST_FRAME + GREATEST_CHECKPOINT) 
     event_room (BeginTxn session) new room' moves admits is = subst (λ (n : Sessions). HasLogRoom spare n.active room') (sym moves.1)
         (same_room is (begun_has spare s.active room h within record { session = session; txn = s.next_txn; undo = nothing_to_undo } refl admits))
     event_room (GiveReply a c (Ok answer)) new room' moves admits is =
-        subst (λ (n : Sessions). HasLogRoom spare n.active room') (sym moves.3) (same_room is (answered a moves.0 c answer admits))
+        subst (λ (n : Sessions). HasLogRoom spare n.active room') (sym moves.4) (same_room is (answered a moves.0 c answer admits))
     event_room (GiveReply a c (Err fault)) new room' moves admits is =
-        subst (λ (n : Sessions). HasLogRoom spare n.active room') (sym moves.3) (same_room is (stays a moves.0 a.undo refl))
+        subst (λ (n : Sessions). HasLogRoom spare n.active room') (sym moves.4) (same_room is (stays a moves.0 a.undo refl))
     event_room (AppendCommit a) new room' moves admits is =
-        subst (λ (n : Sessions). HasLogRoom spare n.active room') (sym moves.1) (same_room is (ended_takes spare s.active room h once a moves.0).1)
+        subst (λ (n : Sessions). HasLogRoom spare n.active room') (sym moves.2) (same_room is (ended_takes spare s.active room h once a moves.0).1)
+    event_room (PutBack a kept e r) new room' moves admits is = subst (λ (n : Sessions). HasLogRoom spare n.active room') (sym moves.4)
+        (same_room is (undone_takes spare s.active room h once a moves.0 kept e (marks_kept r a.undo.marks) (Some r) moves.1).1)
     event_room (AnswerAbort a) new room' moves admits is = subst (λ (n : Sessions). HasLogRoom spare n.active room') (sym moves.1)
         (⊎_elim (λ ended. same_room ended (aborted a moves.0).0) (λ left. same_room left (aborted a moves.0).1) is)
     event_room (AnswerCommit a) new room' moves admits is = subst (λ (n : Sessions). HasLogRoom spare n.active room') (sym moves.1) (same_room is h)

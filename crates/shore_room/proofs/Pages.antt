@@ -18,6 +18,7 @@ use Rattle.shore_page.specs.Slots.{image_len, with_change}
 use Rattle.shore_page.specs.Undo.{Undecided, changing, claiming, claiming_all, undone, undoing, undo_image, untouched, with_undecided}
 use Rattle.shore_page.proofs.UndoLemmas.{undos_fit}
 use Rattle.shore_room.specs.Claims.{Claimed, NoOthers, SlotCounts, before_of, befores_at, befores_in, each_from, rid_on, slots_of, undecided_at, undecided_on}
+use Rattle.shore_sessions.specs.declared.rollbacks.Rollback.{Rollback}
 use Rattle.shore_sessions.specs.Sessions.{SessionTxn, with_undo}
 use Rattle.shore_sessions.specs.UndoLists.{UndoList, with_before_image}
 use Rattle.shore_sessions.specs.Views.{IsAmong}
@@ -158,9 +159,9 @@ module _ (R : Records) (undos : List SessionTxn) (counts : SlotCounts) (k : Clai
 
   -- ---- the newest image put back
 
-  module _ (kept : List (Rid × Image)) (e : Rid × Image) (marks : List ℕ) (is : a.undo.images ≡ kept ++ e ∷ []) where
+  module _ (kept : List (Rid × Image)) (e : Rid × Image) (marks : List ℕ) (rolling : Option Rollback) (is : a.undo.images ≡ kept ++ e ∷ []) where
     abbrev left : UndoList
-    left = record { images = kept; marks = marks }
+    left = record { images = kept; marks = marks; rolling = rolling }
 
     abbrev undone_undos : List SessionTxn
     undone_undos = with_undo a.txn left undos

@@ -1,5 +1,5 @@
 -- Each step keeps the room that slots claim.
-use Rattle.std.proofs.Common.{◌≡◌, ◌≢◌, ⊎_elim, ◌<◌, ◌≤◌, ℕ, zero, suc, List, [], ◌∷◌, ◌++◌, None, refl, sym, ap, subst, ◌∙◌, arith}
+use Rattle.std.proofs.Common.{◌≡◌, ◌≢◌, ⊎_elim, ◌<◌, ◌≤◌, ℕ, zero, suc, List, Option, [], ◌∷◌, ◌++◌, None, refl, sym, ap, subst, ◌∙◌, arith}
 use Rattle.std.specs.Prelude.{All}
 use Rattle.std.specs.FinMap.{get}
 use Rattle.std.specs.List.{AllByRecursion}
@@ -16,6 +16,7 @@ use Rattle.shore_page.proofs.RoomLemmas.{with_image_room}
 use Rattle.shore_page.proofs.UndoLemmas.{change_claims, undo_claims, length-with_change}
 use Rattle.shore_room.specs.Claims.{Claimed, Grows, NoOthers, SlotCounts, before_of, befores_in, slots_of, undecided_on}
 use Rattle.shore_room.specs.Turns.{TurnsFit}
+use Rattle.shore_sessions.specs.declared.rollbacks.Rollback.{Rollback}
 use Rattle.shore_sessions.specs.Sessions.{EachOnce, SessionTxn, with_undo}
 use Rattle.shore_sessions.specs.UndoLists.{UndoList, with_before_image}
 use Rattle.shore_sessions.specs.Views.{IsAmong}
@@ -156,19 +157,19 @@ module _ (R : Records) (undos : List SessionTxn) (counts : SlotCounts) (k : Clai
 
   -- ---- the newest image put back
 
-  module _ (kept : List (Rid × Image)) (e : Rid × Image) (marks : List ℕ) (is : a.undo.images ≡ kept ++ e ∷ []) where
+  module _ (kept : List (Rid × Image)) (e : Rid × Image) (marks : List ℕ) (rolling : Option Rollback) (is : a.undo.images ≡ kept ++ e ∷ []) where
     abbrev fewer : UndoList
-    fewer = record { images = kept; marks = marks }
+    fewer = record { images = kept; marks = marks; rolling = rolling }
 
     -- its claim falls to its record, and the longest image of its own that is left
     pub undo_slots : slots_of (put_image R e.0 e.1) (with_undo a.txn fewer undos) e.0.page (counts e.0.page)
         ≡ with_change (lowered (longest (befores_in e.0 kept))) (with_image (slots_of R undos e.0.page (counts e.0.page)) e.0.slot e.1) e.0.slot
     undo_slots =
-        ap claiming_all (undone_page R undos counts k a m kept e marks is)
-        ∙ sym (undo_claims (undecided_on R undos e.0.page (counts e.0.page)) e.0.slot (get R e.0) e.1 (befores_in e.0 kept) (stands_there R undos counts k a m kept e marks is))
+        ap claiming_all (undone_page R undos counts k a m kept e marks rolling is)
+        ∙ sym (undo_claims (undecided_on R undos e.0.page (counts e.0.page)) e.0.slot (get R e.0) e.1 (befores_in e.0 kept) (stands_there R undos counts k a m kept e marks rolling is))
 
     pub undo_others : (p : PageId) → p ≢ e.0.page → slots_of (put_image R e.0 e.1) (with_undo a.txn fewer undos) p (counts p) ≡ slots_of R undos p (counts p)
-    undo_others p other = ap claiming_all (undone_other R undos counts k a m kept e marks is p (counts p) other)
+    undo_others p other = ap claiming_all (undone_other R undos counts k a m kept e marks rolling is p (counts p) other)
 
     fewer_in : (q : Rid) → befores_in q a.undo.images ≡ [] → befores_in q kept ≡ []
     fewer_in q none = (append_empty (before_of q e) (befores_in q kept) (sym (befores_push q kept e) ∙ sym (ap (befores_in q) is) ∙ none)).1
@@ -180,7 +181,7 @@ module _ (R : Records) (undos : List SessionTxn) (counts : SlotCounts) (k : Clai
     undo_keeps = record {
       room = λ p. ⊎_elim
           (λ same. subst (λ q. HasRoom (slots_of (put_image R e.0 e.1) (with_undo a.txn fewer undos) q (counts q))) (sym same)
-          (subst HasRoom (sym undo_slots) (lower_room (longest (befores_in e.0 kept)) _ e.0.slot (with_image_room (slots_of R undos e.0.page (counts e.0.page)) e.0.slot e.1 (k.room e.0.page) (undo_fits R undos counts k a m kept e marks is)))))
+          (subst HasRoom (sym undo_slots) (lower_room (longest (befores_in e.0 kept)) _ e.0.slot (with_image_room (slots_of R undos e.0.page (counts e.0.page)) e.0.slot e.1 (k.room e.0.page) (undo_fits R undos counts k a m kept e marks rolling is)))))
           (λ other. subst HasRoom (sym (undo_others p other)) (k.room p))
           (page_or_other p e.0.page);
       behind = λ q far. put_there R e.0 e.1 q (other_id q e.0 (λ same. clash (subst (λ (q : Rid). counts q.page ≤ q.slot) same far))) ∙ k.behind q far;
@@ -188,7 +189,7 @@ module _ (R : Records) (undos : List SessionTxn) (counts : SlotCounts) (k : Clai
           let o = among_with a.txn fewer b undos among in
           ⊎_elim
           (λ new. subst (λ (tr : UndoList). AllByRecursion (λ e. e.0.slot < counts e.0.page) tr.images) (sym new.1)
-          (all_but_last R undos counts k a m kept e marks is (λ e. e.0.slot < counts e.0.page) kept (subst (AllByRecursion (λ e. e.0.slot < counts e.0.page)) is (k.within a m))))
+          (all_but_last R undos counts k a m kept e marks rolling is (λ e. e.0.slot < counts e.0.page) kept (subst (AllByRecursion (λ e. e.0.slot < counts e.0.page)) is (k.within a m))))
           (λ old. subst (λ (c : SessionTxn). AllByRecursion (λ e. e.0.slot < counts e.0.page) c.undo.images) (sym old.1) (k.within o.was o.there))
           o.one;
       owned = λ b among.
@@ -200,21 +201,21 @@ module _ (R : Records) (undos : List SessionTxn) (counts : SlotCounts) (k : Clai
           ⊎_elim
           (λ new. subst (λ t. AllByRecursion (λ e. NoOthers (with_undo a.txn fewer undos) t e.0) b.undo.images) (sym new.0)
           (subst (λ (tr : UndoList). AllByRecursion (λ e. NoOthers (with_undo a.txn fewer undos) a.txn e.0) tr.images) (sym new.1)
-          (weaker a.txn kept (all_but_last R undos counts k a m kept e marks is (λ e. NoOthers undos a.txn e.0) kept (subst (AllByRecursion (λ e. NoOthers undos a.txn e.0)) is (k.owned a m))))))
+          (weaker a.txn kept (all_but_last R undos counts k a m kept e marks rolling is (λ e. NoOthers undos a.txn e.0) kept (subst (AllByRecursion (λ e. NoOthers undos a.txn e.0)) is (k.owned a m))))))
           (λ old. subst (λ (c : SessionTxn). AllByRecursion (λ e. NoOthers (with_undo a.txn fewer undos) c.txn e.0) c.undo.images) (sym old.1) (weaker o.was.txn o.was.undo.images (k.owned o.was o.there)))
           o.one;
       once = subst EachOnce (sym (txns_with a.txn fewer undos)) k.once;
     }
       where
         clash : counts e.0.page ≤ e.0.slot → ⊥
-        clash far = let less = its_slot R undos counts k a m kept e marks is in omega arith
+        clash far = let less = its_slot R undos counts k a m kept e marks rolling is in omega arith
 
 -- ---- rollbacks in turns
 
 pub turns_fit : (R : Records) (undos : List SessionTxn) (counts : SlotCounts) (turns : List ℕ) → Claimed R undos counts → TurnsFit R undos counts turns
 turns_fit R undos counts [] k = tt
-turns_fit R undos counts (t ∷ turns) k = λ a kept e marks m txn is. (
-  undo_fits R undos counts k a m kept e marks is,
-  subst (λ t. TurnsFit (put_image R e.0 e.1) (with_undo t record { images = kept; marks = marks } undos) counts turns) txn
-      (turns_fit (put_image R e.0 e.1) (with_undo a.txn record { images = kept; marks = marks } undos) counts turns (undo_keeps R undos counts k a m kept e marks is)),
+turns_fit R undos counts (t ∷ turns) k = λ a kept e marks rolling m txn is. (
+  undo_fits R undos counts k a m kept e marks rolling is,
+  subst (λ t. TurnsFit (put_image R e.0 e.1) (with_undo t record { images = kept; marks = marks; rolling = rolling } undos) counts turns) txn
+      (turns_fit (put_image R e.0 e.1) (with_undo a.txn record { images = kept; marks = marks; rolling = rolling } undos) counts turns (undo_keeps R undos counts k a m kept e marks rolling is)),
 )

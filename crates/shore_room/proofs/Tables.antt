@@ -33,11 +33,11 @@ module _ (spare : ℕ) (within : spare ≤ LONGEST_FRAME + GREATEST_CHECKPOINT) 
     },
     tt,
   )
-  step_keeps s (SetMarks a marks) k may =
-      (record { pages = marked_keeps s.records s.undos s.counts k.pages a may record { images = a.undo.images; marks = marks } refl; log = marked_has spare s.undos s.room k.log k.pages.once a may record { images = a.undo.images; marks = marks } refl }, tt)
-  step_keeps s (UndoOne a kept e marks) k may =
-      let log = undone_takes spare s.undos s.room k.log k.pages.once a may.0 kept e marks may.1 in
-      (record { pages = undo_keeps s.records s.undos s.counts k.pages a may.0 kept e marks may.1; log = log.1 }, (undo_fits s.records s.undos s.counts k.pages a may.0 kept e marks may.1, log.0))
+  step_keeps s (SetMarks a marks rolling) k may =
+      (record { pages = marked_keeps s.records s.undos s.counts k.pages a may record { images = a.undo.images; marks = marks; rolling = rolling } refl; log = marked_has spare s.undos s.room k.log k.pages.once a may record { images = a.undo.images; marks = marks; rolling = rolling } refl }, tt)
+  step_keeps s (UndoOne a kept e marks rolling) k may =
+      let log = undone_takes spare s.undos s.room k.log k.pages.once a may.0 kept e marks rolling may.1 in
+      (record { pages = undo_keeps s.records s.undos s.counts k.pages a may.0 kept e marks rolling may.1; log = log.1 }, (undo_fits s.records s.undos s.counts k.pages a may.0 kept e marks rolling may.1, log.0))
   step_keeps s (EndTxn a) k may =
       let log = ended_takes spare s.undos s.room k.log k.pages.once a may in
       (record { pages = left_keeps s.records s.undos s.counts k.pages a may; log = log.1 }, log.0)

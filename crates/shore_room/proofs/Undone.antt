@@ -1,5 +1,5 @@
 -- Several images put back, one after another, and the claims after each event of the sessions.
-use Rattle.std.proofs.Common.{◌≡◌, inl, inr, ⊎_elim, ◌+◌, ◌<◌, ℕ, List, [], ◌∷◌, ◌++◌, drop, take, Some, None, Ok, Err, true, false, cond, refl, sym, ap, subst, ◌∙◌, arith}
+use Rattle.std.proofs.Common.{◌≡◌, inl, inr, ⊎_elim, ◌+◌, ◌<◌, ℕ, List, Option, [], ◌∷◌, ◌++◌, drop, take, Some, None, Ok, Err, true, false, cond, refl, sym, ap, subst, ◌∙◌, arith}
 use Rattle.std.specs.Prelude.{◌==◌, not}
 use Rattle.std.proofs.lemmas.List.{append-nil, append_assoc, take-append-drop}
 use Rattle.shore_types.specs.declared.ids.Rid.{Rid}
@@ -13,11 +13,12 @@ use Rattle.shore_types.specs.Images.{Image}
 use Rattle.shore_model.specs.Records.{Records, laid_over, put_image}
 use Rattle.shore_room.specs.Claims.{Claimed, NoOthers, SlotCounts, befores_in}
 use Rattle.shore_room.specs.Events.{AnswerFits, ChangeFitsPage, EventFits}
+use Rattle.shore_sessions.specs.declared.rollbacks.Rollback.{Rollback}
 use Rattle.shore_sessions.specs.RepliesInPlace.{Permit}
-use Rattle.shore_sessions.specs.SessionSteps.{AnswerAbort, AnswerCommit, AppendCommit, BeginTxn, GiveReply, MoveLocks, RefuseCall, SessionEvent, StepsTo}
+use Rattle.shore_sessions.specs.SessionSteps.{AnswerAbort, AnswerCommit, AppendCommit, BeginTxn, GiveReply, MoveLocks, PutBack, RefuseCall, SessionEvent, StepsTo}
 use Rattle.shore_sessions.specs.Sessions.{SessionTxn, Sessions, with_undo, without_txn}
 use Rattle.shore_sessions.specs.Soundness.{IsSoundAfter}
-use Rattle.shore_sessions.specs.UndoLists.{UndoList, in_place_after_answer, mark_of, nothing_to_undo, undo_after_answer, with_before_image}
+use Rattle.shore_sessions.specs.UndoLists.{UndoList, in_place_after_answer, mark_of, marks_kept, nothing_to_undo, undo_after_answer, undo_rolled, with_before_image}
 use Rattle.shore_sessions.specs.Views.{IsAmong}
 use Rattle.shore_sessions.proofs.Views.{read_of_write, writer_excludes}
 use Rattle.shore_room.proofs.Leaving.{begun_keeps, empty_or_not, found_at, left_keeps, marked_keeps}
@@ -51,14 +52,14 @@ pub new_among : {undos : List SessionTxn} {a : SessionTxn} → IsSplit undos a �
 new_among {undos} {a} s undo = subst (IsAmong (with_its a undo)) (sym (s.with_it undo)) (among_middle s.front s.back (with_its a undo))
 
 module _ (R : Records) (undos : List SessionTxn) (counts : SlotCounts) (k : Claimed R undos counts) (a : SessionTxn) (m : IsAmong a undos) where
-  pub undone_keeps : (es kept : List (Rid × Image)) (marks : List ℕ) → a.undo.images ≡ kept ++ es
-      → Claimed (laid_over R es) (with_undo a.txn record { images = kept; marks = marks } undos) counts
-  undone_keeps [] kept marks is = marked_keeps R undos counts k a m record { images = kept; marks = marks } (sym (is ∙ append-nil kept))
-  undone_keeps (e ∷ es) kept marks is =
-      let one : UndoList = record { images = kept ++ e ∷ []; marks = marks } in
-      let k1 = undone_keeps es (kept ++ e ∷ []) marks (is ∙ sym (append_assoc kept (e ∷ []) es)) in
-      subst (λ l. Claimed (put_image (laid_over R es) e.0 e.1) l counts) (with_twice a.txn one record { images = kept; marks = marks } undos)
-      (undo_keeps (laid_over R es) (with_undo a.txn one undos) counts k1 (with_its a one) (new_among (split undos a k.once m) one) kept e marks refl)
+  pub undone_keeps : (es kept : List (Rid × Image)) (marks : List ℕ) (rolling : Option Rollback) → a.undo.images ≡ kept ++ es
+      → Claimed (laid_over R es) (with_undo a.txn record { images = kept; marks = marks; rolling = rolling } undos) counts
+  undone_keeps [] kept marks rolling is = marked_keeps R undos counts k a m record { images = kept; marks = marks; rolling = rolling } (sym (is ∙ append-nil kept))
+  undone_keeps (e ∷ es) kept marks rolling is =
+      let one : UndoList = record { images = kept ++ e ∷ []; marks = marks; rolling = rolling } in
+      let k1 = undone_keeps es (kept ++ e ∷ []) marks rolling (is ∙ sym (append_assoc kept (e ∷ []) es)) in
+      subst (λ l. Claimed (put_image (laid_over R es) e.0 e.1) l counts) (with_twice a.txn one record { images = kept; marks = marks; rolling = rolling } undos)
+      (undo_keeps (laid_over R es) (with_undo a.txn one undos) counts k1 (with_its a one) (new_among (split undos a k.once m) one) kept e marks rolling refl)
 
 -- ---- events of the sessions
 
@@ -97,7 +98,7 @@ module _ {o : Records} {es : List Entry} {s : Sessions} (after : IsSoundAfter o 
     answer_on (call.Update id bytes) answer w h = change_on id (Some bytes) w h
     answer_on (call.Delete id) answer w h = change_on id None w h
     answer_on (call.BackTo n) answer w h =
-        same_counts h (undone_keeps s.records s.active counts k a m (drop (mark_of a.undo n) a.undo.images) (take (mark_of a.undo n) a.undo.images) (take (n + 1) a.undo.marks) (parts (mark_of a.undo n) a.undo.images))
+        same_counts h (undone_keeps s.records s.active counts k a m (drop (mark_of a.undo n) a.undo.images) (take (mark_of a.undo n) a.undo.images) (take (n + 1) a.undo.marks) None (parts (mark_of a.undo n) a.undo.images))
     answer_on call.Savepoint answer w h = stays_on (undo_after_answer s.records a.undo call.Savepoint answer) refl h
     answer_on _ answer w h = stays_on a.undo refl h
 
@@ -113,14 +114,18 @@ module _ {o : Records} {es : List Entry} {s : Sessions} (after : IsSoundAfter o 
       low : s.next_txn < s.next_txn → ⊥
       low less = omega arith
   event_claims (GiveReply a c (Ok answer)) new counts' h fits =
-      subst (λ (n : Sessions). Claimed n.records n.active counts') (sym h.3) (answer_on a h.0 counts' c answer h.2.0 fits)
+      subst (λ (n : Sessions). Claimed n.records n.active counts') (sym h.4) (answer_on a h.0 counts' c answer h.2.0 fits)
   event_claims (GiveReply a c (Err fault)) new counts' h fits =
-      subst (λ (n : Sessions). Claimed n.records n.active counts') (sym h.3) (stays_on a h.0 counts' a.undo refl fits)
+      subst (λ (n : Sessions). Claimed n.records n.active counts') (sym h.4) (stays_on a h.0 counts' a.undo refl fits)
   event_claims (AppendCommit a) new counts' h fits =
-      subst (λ (n : Sessions). Claimed n.records n.active counts') (sym h.1)
+      subst (λ (n : Sessions). Claimed n.records n.active counts') (sym h.2)
       (subst (Claimed s.records (without_txn a.txn s.active)) (sym fits) (left_keeps s.records s.active counts k a h.0))
+  event_claims (PutBack a kept e r) new counts' h fits =
+      subst (λ (n : Sessions). Claimed n.records n.active counts') (sym h.4)
+      (subst (Claimed (put_image s.records e.0 e.1) (with_undo a.txn (undo_rolled a.undo kept r) s.active)) (sym fits)
+      (undo_keeps s.records s.active counts k a h.0 kept e (marks_kept r a.undo.marks) (Some r) h.1))
   event_claims (AnswerAbort a) new counts' h fits =
-      let k1 = undone_keeps s.records s.active counts k a h.0 a.undo.images [] [] refl in
+      let k1 = undone_keeps s.records s.active counts k a h.0 a.undo.images [] [] None refl in
       let m1 = new_among (split s.active a k.once h.0) nothing_to_undo in
       subst (λ (n : Sessions). Claimed n.records n.active counts') (sym h.1)
       (subst (Claimed (laid_over s.records a.undo.images) (without_txn a.txn s.active)) (sym fits)

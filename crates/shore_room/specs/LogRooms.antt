@@ -1,6 +1,6 @@
 -- The log's room over a table of transactions: what its records cost, and what is reserved for the undo and the ending of each
 -- transaction.
-use Rattle.std.specs.Prelude.{◌≡◌, ◌⊎◌, ◌<◌, ◌≤◌, ◌+◌, ◌-◌, ℕ, List, [], ◌∷◌, ◌++◌, None, Some, Ok, Err, length}
+use Rattle.std.specs.Prelude.{◌≡◌, ◌⊎◌, ◌<◌, ◌≤◌, ◌+◌, ◌-◌, ℕ, List, Option, [], ◌∷◌, ◌++◌, None, Some, Ok, Err, length}
 use Rattle.std.specs.FinMap.{get}
 use Rattle.shore_types.specs.Images.{Image}
 use Rattle.shore_types.specs.declared.ids.Rid.{Rid}
@@ -10,7 +10,8 @@ use Rattle.shore_model.specs.declared.calls.Answer.TheVariants.{Inserted}
 use Rattle.shore_model.specs.declared.calls.Call.{Call}
 use Rattle.shore_model.specs.declared.calls.Call.TheVariants as call
 use Rattle.shore_model.specs.Records.{Records}
-use Rattle.shore_sessions.specs.SessionSteps.{AnswerAbort, AnswerCommit, AppendCommit, BeginTxn, GiveReply, MoveLocks, RefuseCall, SessionEvent}
+use Rattle.shore_sessions.specs.declared.rollbacks.Rollback.{Rollback}
+use Rattle.shore_sessions.specs.SessionSteps.{AnswerAbort, AnswerCommit, AppendCommit, BeginTxn, GiveReply, MoveLocks, PutBack, RefuseCall, SessionEvent}
 use Rattle.shore_sessions.specs.Sessions.{SessionTxn, Sessions, with_undo}
 use Rattle.shore_sessions.specs.UndoLists.{images_since}
 use Rattle.shore_sessions.specs.Views.{IsAmong}
@@ -123,6 +124,7 @@ RoomAfter s (BeginTxn session) room new = new ≡ begun_room room
 RoomAfter s (GiveReply a c (Ok answer)) room new = new ≡ answered_room s.records a c answer room
 RoomAfter s (GiveReply a c (Err fault)) room new = new ≡ room
 RoomAfter s (AppendCommit a) room new = new ≡ ended_room (owed a) room
+RoomAfter s (PutBack a kept e r) room new = new ≡ undone_room e.1 room
 RoomAfter s (AnswerAbort a) room new =
     (new ≡ ended_room ENDING_COST (undone_rooms a.undo.images room)) ⊎ (new ≡ left_room ENDING_COST (undone_rooms a.undo.images room))
 RoomAfter s (MoveLocks held) room new = new ≡ room
@@ -159,6 +161,7 @@ EventAdmits s (GiveReply a c (Ok answer)) room = AnswerAdmits s.records c answer
 EventAdmits s (GiveReply a c (Err fault)) room = Unit {0}
 EventAdmits s (MoveLocks held) room = Unit {0}
 EventAdmits s (AppendCommit a) room = Unit {0}
+EventAdmits s (PutBack a kept e r) room = Unit {0}
 EventAdmits s (AnswerAbort a) room = Unit {0}
 EventAdmits s (AnswerCommit a) room = Unit {0}
 EventAdmits s (RefuseCall session t c fault) room = Unit {0}
@@ -169,7 +172,7 @@ EventAdmits s (RefuseCall session t c fault) room = Unit {0}
 -- behind it; then each ending has.
 abbrev pub TurnsTake : ℕ → List SessionTxn → LogRoom → List ℕ → Type 0
 TurnsTake spare undos room [] = (a : SessionTxn) → IsAmong a undos → Takes spare room ENDING_COST
-TurnsTake spare undos room (t ∷ turns) = (a : SessionTxn) (kept : List (Rid × Image)) (e : Rid × Image) (marks : List ℕ)
+TurnsTake spare undos room (t ∷ turns) = (a : SessionTxn) (kept : List (Rid × Image)) (e : Rid × Image) (marks : List ℕ) (rolling : Option Rollback)
     → IsAmong a undos → a.txn ≡ t → a.undo.images ≡ kept ++ e ∷ []
     → Takes spare room (compensation_cost e.1)
-    × TurnsTake spare (with_undo t record { images = kept; marks = marks } undos) (undone_room e.1 room) turns
+    × TurnsTake spare (with_undo t record { images = kept; marks = marks; rolling = rolling } undos) (undone_room e.1 room) turns

@@ -1,6 +1,6 @@
 -- The table of transactions, the records in place, how many slots the pages have, and the log's room: what one step does to them, whoever
 -- makes it.
-use Rattle.std.specs.Prelude.{◌≡◌, ℕ, List, [], ◌∷◌, ◌++◌}
+use Rattle.std.specs.Prelude.{◌≡◌, ℕ, List, Option, [], ◌∷◌, ◌++◌}
 use Rattle.std.specs.FinMap.{get}
 use Rattle.shore_types.specs.Images.{Image}
 use Rattle.shore_types.specs.declared.ids.Rid.{Rid}
@@ -8,6 +8,7 @@ use Rattle.shore_types.specs.declared.layout.TheConstants.{ENDING_COST}
 use Rattle.shore_model.specs.Records.{Records, put_image}
 use Rattle.shore_page.specs.Room.{Fits}
 use Rattle.shore_page.specs.Slots.{image_len}
+use Rattle.shore_sessions.specs.declared.rollbacks.Rollback.{Rollback}
 use Rattle.shore_sessions.specs.SessionSteps.{SessionEvent, StepsTo}
 use Rattle.shore_sessions.specs.Sessions.{SessionTxn, Sessions, txns_of, with_undo, without_txn}
 use Rattle.shore_sessions.specs.UndoLists.{with_before_image}
@@ -32,10 +33,10 @@ pub data TableStep : Type 0 where
   EnterTxn : SessionTxn → TableStep
   -- a Change of it, and how many slots the pages have then
   MakeChange : SessionTxn → Rid → Image → SlotCounts → TableStep
-  -- its savepoints change
-  SetMarks : SessionTxn → List ℕ → TableStep
-  -- a Compensation of it: what is left of its undo list, the newest entry, and its savepoints then
-  UndoOne : SessionTxn → List (Rid × Image) → Rid × Image → List ℕ → TableStep
+  -- its savepoints change, or a rollback of it begins or is complete
+  SetMarks : SessionTxn → List ℕ → Option Rollback → TableStep
+  -- a Compensation of it: what is left of its undo list, the newest entry, and its savepoints and the rollback under way then
+  UndoOne : SessionTxn → List (Rid × Image) → Rid × Image → List ℕ → Option Rollback → TableStep
   -- its Commit or its End
   EndTxn : SessionTxn → TableStep
   -- it leaves the table with nothing logged
@@ -46,8 +47,8 @@ abbrev pub MayStep : Table → TableStep → Type 0
 MayStep s (EnterTxn a) = (a.undo.images ≡ []) × (IsAmong a.txn (txns_of s.undos) → ⊥) × Admits s.room ENDING_COST
 MayStep s (MakeChange a id image new) =
     IsAmong a s.undos × NoOthers s.undos a.txn id × ChangeFitsPage s.records s.undos s.counts id image new × ChangeAdmits s.records id image s.room
-MayStep s (SetMarks a marks) = IsAmong a s.undos
-MayStep s (UndoOne a kept e marks) = IsAmong a s.undos × (a.undo.images ≡ kept ++ e ∷ [])
+MayStep s (SetMarks a marks rolling) = IsAmong a s.undos
+MayStep s (UndoOne a kept e marks rolling) = IsAmong a s.undos × (a.undo.images ≡ kept ++ e ∷ [])
 MayStep s (EndTxn a) = IsAmong a s.undos
 MayStep s (LeaveTable a) = IsAmong a s.undos
 
@@ -59,10 +60,10 @@ stepped s (MakeChange a id image new) = record {
   counts = new;
   room = changed_room (get s.records id) image s.room;
 }
-stepped s (SetMarks a marks) = record s { undos = with_undo a.txn record { images = a.undo.images; marks = marks } s.undos }
-stepped s (UndoOne a kept e marks) = record {
+stepped s (SetMarks a marks rolling) = record s { undos = with_undo a.txn record { images = a.undo.images; marks = marks; rolling = rolling } s.undos }
+stepped s (UndoOne a kept e marks rolling) = record {
   records = put_image s.records e.0 e.1;
-  undos = with_undo a.txn record { images = kept; marks = marks } s.undos;
+  undos = with_undo a.txn record { images = kept; marks = marks; rolling = rolling } s.undos;
   counts = s.counts;
   room = undone_room e.1 s.room;
 }
@@ -71,12 +72,12 @@ stepped s (LeaveTable a) = record s { undos = without_txn a.txn s.undos; room = 
 
 -- A step that asks for no room has it: its page has room for what is put back, and the log for its record.
 abbrev pub HasItsRoom : ℕ → Table → TableStep → Type 0
-HasItsRoom spare s (UndoOne a kept e marks) =
+HasItsRoom spare s (UndoOne a kept e marks rolling) =
     Fits (slots_of s.records s.undos e.0.page (s.counts e.0.page)) e.0.slot (image_len e.1) × Takes spare s.room (compensation_cost e.1)
 HasItsRoom spare s (EndTxn a) = Takes spare s.room ENDING_COST
 HasItsRoom spare s (EnterTxn a) = Unit {0}
 HasItsRoom spare s (MakeChange a id image new) = Unit {0}
-HasItsRoom spare s (SetMarks a marks) = Unit {0}
+HasItsRoom spare s (SetMarks a marks rolling) = Unit {0}
 HasItsRoom spare s (LeaveTable a) = Unit {0}
 
 -- ---- steps of any transactions, one after another

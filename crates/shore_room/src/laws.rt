@@ -1,5 +1,5 @@
 //! The laws of claims and of the log's room, each stated as the contract of an empty function.
-ghost use Rattle.std.specs.Prelude.{◌*◌, ◌+◌, ◌++◌, ◌<◌, ◌≡◌, ◌≢◌, ◌≤◌, ◌↔◌, ◌∷◌, ℕ, Bool, IsTrue, List, [], None, Some, length, max};
+ghost use Rattle.std.specs.Prelude.{◌*◌, ◌+◌, ◌++◌, ◌<◌, ◌≡◌, ◌≢◌, ◌≤◌, ◌↔◌, ◌∷◌, ℕ, Bool, IsTrue, List, Option, [], None, Some, length, max};
 ghost use Rattle.std.specs.FinMap.{get};
 ghost use Rattle.shore_types.specs.Images.{Image};
 ghost use Rattle.shore_types.specs.declared.ids.PageId.{PageId};
@@ -16,6 +16,7 @@ ghost use Rattle.shore_page.specs.Undo.{UndoFits, longest};
 ghost use Rattle.shore_sessions.specs.SessionSteps.{SessionEvent, StepsTo};
 ghost use Rattle.shore_sessions.specs.Sessions.{EachOnce, SessionTxn, Sessions, txns_of, with_undo, without_txn};
 ghost use Rattle.shore_sessions.specs.Soundness.{IsJustOpened, IsSoundAfter};
+ghost use Rattle.shore_sessions.specs.declared.rollbacks.Rollback.{Rollback};
 ghost use Rattle.shore_sessions.specs.UndoLists.{UndoList, with_before_image};
 ghost use Rattle.shore_sessions.specs.Views.{IsAmong};
 ghost use Rattle.shore_room.specs.Choosing.{IsChoice, Serves, first_of};
@@ -76,14 +77,14 @@ pub fn changes_keep_claims()
 /// The newest image of any transaction fits when it is put back, and keeps the claims: its page is as `Page::apply` leaves it, and then
 /// `Page::unreserve` by the longest image of the slot that the transaction has left. Its savepoints may change as they like.
 pub fn undos_keep_claims()
-    ensures { (R : Records) (undos : List SessionTxn) (counts : SlotCounts) (a : SessionTxn) (kept : List (Rid × Image)) (e : Rid × Image) (marks : List ℕ) →
+    ensures { (R : Records) (undos : List SessionTxn) (counts : SlotCounts) (a : SessionTxn) (kept : List (Rid × Image)) (e : Rid × Image) (marks : List ℕ) (rolling : Option Rollback) →
         Claimed R undos counts → IsAmong a undos → a.undo.images ≡ kept ++ e ∷ [] →
         Fits (slots_of R undos e.0.page (counts e.0.page)) e.0.slot (image_len e.1)
-        × Claimed (put_image R e.0 e.1) (with_undo a.txn record { images = kept; marks = marks } undos) counts
-        × (slots_of (put_image R e.0 e.1) (with_undo a.txn record { images = kept; marks = marks } undos) e.0.page (counts e.0.page)
+        × Claimed (put_image R e.0 e.1) (with_undo a.txn record { images = kept; marks = marks; rolling = rolling } undos) counts
+        × (slots_of (put_image R e.0 e.1) (with_undo a.txn record { images = kept; marks = marks; rolling = rolling } undos) e.0.page (counts e.0.page)
         ≡ with_change (lowered (longest (befores_in e.0 kept))) (with_image (slots_of R undos e.0.page (counts e.0.page)) e.0.slot e.1) e.0.slot)
         × ((p : PageId) → p ≢ e.0.page →
-        slots_of (put_image R e.0 e.1) (with_undo a.txn record { images = kept; marks = marks } undos) p (counts p) ≡ slots_of R undos p (counts p)) }
+        slots_of (put_image R e.0 e.1) (with_undo a.txn record { images = kept; marks = marks; rolling = rolling } undos) p (counts p) ≡ slots_of R undos p (counts p)) }
 {}
 
 /// A transaction that is decided, or has ended, lets its claims go: `Page::unreserve` with no bytes for each of its entries does it.
@@ -100,12 +101,12 @@ pub fn entries_keep_claims_before()
         Claimed R undos counts → IsAmong a undos → NoOthers undos a.txn id →
         claims_before (with_before_image R a.undo id).images
         ≡ claims_before a.undo.images ++ claim_at (slots_of R undos id.page (counts id.page)) id.slot ∷ [] }
-    ensures undo { (R : Records) (undos : List SessionTxn) (counts : SlotCounts) (a : SessionTxn) (kept : List (Rid × Image)) (e : Rid × Image) (marks : List ℕ) →
+    ensures undo { (R : Records) (undos : List SessionTxn) (counts : SlotCounts) (a : SessionTxn) (kept : List (Rid × Image)) (e : Rid × Image) (marks : List ℕ) (rolling : Option Rollback) →
         Claimed R undos counts → IsAmong a undos → a.undo.images ≡ kept ++ e ∷ [] →
         (claims_before a.undo.images ≡ claims_before kept ++ claim_before kept e ∷ [])
-        × (slots_of (put_image R e.0 e.1) (with_undo a.txn record { images = kept; marks = marks } undos) e.0.page (counts e.0.page)
+        × (slots_of (put_image R e.0 e.1) (with_undo a.txn record { images = kept; marks = marks; rolling = rolling } undos) e.0.page (counts e.0.page)
         ≡ with_change (lowered (claim_before kept e)) (with_image (slots_of R undos e.0.page (counts e.0.page)) e.0.slot e.1) e.0.slot)
-        × (claim_at (slots_of (put_image R e.0 e.1) (with_undo a.txn record { images = kept; marks = marks } undos) e.0.page (counts e.0.page)) e.0.slot
+        × (claim_at (slots_of (put_image R e.0 e.1) (with_undo a.txn record { images = kept; marks = marks; rolling = rolling } undos) e.0.page (counts e.0.page)) e.0.slot
         ≡ claim_before kept e) }
 {}
 
@@ -190,10 +191,10 @@ pub fn steps_keep_log_room()
         → HasLogRoom spare (with_undo a.txn (with_before_image R a.undo id) undos) (changed_room (get R id) image room) }
     ensures marks { (spare : ℕ) (undos : List SessionTxn) (room : LogRoom) (a : SessionTxn) (undo : UndoList) → HasLogRoom spare undos room
         → EachOnce (txns_of undos) → IsAmong a undos → undo.images ≡ a.undo.images → HasLogRoom spare (with_undo a.txn undo undos) room }
-    ensures compensation { (spare : ℕ) (undos : List SessionTxn) (room : LogRoom) (a : SessionTxn) (kept : List (Rid × Image)) (e : Rid × Image) (marks : List ℕ) →
+    ensures compensation { (spare : ℕ) (undos : List SessionTxn) (room : LogRoom) (a : SessionTxn) (kept : List (Rid × Image)) (e : Rid × Image) (marks : List ℕ) (rolling : Option Rollback) →
         HasLogRoom spare undos room → EachOnce (txns_of undos) → IsAmong a undos → a.undo.images ≡ kept ++ e ∷ [] →
         Takes spare room (compensation_cost e.1)
-        × HasLogRoom spare (with_undo a.txn record { images = kept; marks = marks } undos) (undone_room e.1 room) }
+        × HasLogRoom spare (with_undo a.txn record { images = kept; marks = marks; rolling = rolling } undos) (undone_room e.1 room) }
     ensures ending { (spare : ℕ) (undos : List SessionTxn) (room : LogRoom) (a : SessionTxn) →
         HasLogRoom spare undos room → EachOnce (txns_of undos) → IsAmong a undos →
         Takes spare room ENDING_COST

@@ -14,17 +14,18 @@ use Rattle.shore_model.specs.declared.holds.Hold.{Hold}
 use Rattle.shore_model.specs.Alone.{start, after, writes_of}
 use Rattle.shore_model.specs.Histories.{calls_of, decisions, serial}
 use Rattle.shore_model.specs.Locks.{MayRead}
-use Rattle.shore_model.specs.Records.{Records}
+use Rattle.shore_model.specs.Records.{Records, WriteSet}
 use Rattle.shore_sessions.proofs.Entries.{calls-other, calls-own, decisions-exchanged}
 use Rattle.shore_sessions.proofs.Lists.{recursion-weaker}
 use Rattle.shore_sessions.proofs.Members.{txn_among}
 use Rattle.shore_sessions.proofs.Soundness.{sound_stays}
+use Rattle.shore_sessions.proofs.Standing.{stands_on, stands_whole, standing_its, standing_others, with_standing}
 use Rattle.shore_sessions.proofs.Turns.{AreKept, KeepsTurn, kept_by_other, serial-kept}
 use Rattle.shore_sessions.proofs.UndoLists.{begin_undoes}
 use Rattle.shore_sessions.proofs.Views.{one_begins}
 use Rattle.shore_sessions.specs.SessionSteps.{exchange}
 use Rattle.shore_sessions.specs.Sessions.{SessionTxn, Sessions, txn_begun, txns_of}
-use Rattle.shore_sessions.specs.Soundness.{IsSoundAfter, decided_txn, serial_after, written_by}
+use Rattle.shore_sessions.specs.Soundness.{IsSoundAfter, StandsFor, decided_txn, serial_after, written_by}
 use Rattle.shore_sessions.specs.UndoLists.{CanUndo, nothing_to_undo}
 use Rattle.shore_sessions.specs.Views.{IsAmong, Stand, StayRight}
 
@@ -70,13 +71,30 @@ module _ {o : Records} {es : List Entry} {s : Sessions} (k : IsSoundAfter o es s
     differs : (u : ℕ) → IsAmong u (txns_of s.active) → u ≢ s.next_txn
     differs u b same = not_yet (subst (λ v. IsAmong v (txns_of s.active)) same b)
 
+    -- what stands for each then
+    abbrev standing' : ℕ → WriteSet
+    standing' = with_standing k.standing s.next_txn (written_by with_begin s.next_txn)
+
+    begun_for : (a : SessionTxn) → IsAmong a (txn_begun s session).active → StandsFor with_begin a (standing' a.txn)
+    begun_for a m = ⊎_elim
+        (λ same. subst (λ (a : SessionTxn). StandsFor with_begin a (standing' a.txn)) same
+        (stands_whole with_begin record { session = session; txn = s.next_txn; undo = nothing_to_undo } (standing' s.next_txn) refl
+        (standing_its k.standing s.next_txn (written_by with_begin s.next_txn))))
+        (λ later.
+        let other : a.txn ≢ s.next_txn = differs a.txn (txn_among a s.active later) in
+        subst (StandsFor with_begin a) (sym (standing_others k.standing s.next_txn (written_by with_begin s.next_txn) a.txn other))
+        (stands_on es with_begin a (k.standing a.txn) (ap writes_of (begin_others a.txn other)) (k.stands_for a later)))
+        m
+
     pub begin_stays_sound : IsSoundAfter o with_begin (txn_begun s session)
     begin_stays_sound = record {
       sound = sound_stays o es with_begin (decisions-exchanged es s.next_txn session began) begin_kept k.sound;
+      standing = standing';
+      stands_for = begun_for;
       stand =
-          subst (λ now. Stand s.held now s.records (s.next_txn ∷ txns_of s.active) (written_by with_begin)) (sym begin_now)
-          (one_begins k.stand s.next_txn (written_by with_begin) (λ u other. ap writes_of (begin_others u other)) holds_none
-          (λ id. ap (λ xs. get (writes_of xs) id) begin_called ∙ get-empty rid_cmp id) not_yet);
+          subst (λ now. Stand s.held now s.records (s.next_txn ∷ txns_of s.active) standing') (sym begin_now)
+          (one_begins k.stand s.next_txn standing' (λ u other. standing_others k.standing s.next_txn (written_by with_begin s.next_txn) u other) holds_none
+          (λ id. ap (λ W. get W id) (standing_its k.standing s.next_txn (written_by with_begin s.next_txn)) ∙ ap (λ xs. get (writes_of xs) id) begin_called ∙ get-empty rid_cmp id) not_yet);
       replies = λ u b. subst (λ now. StayRight s.held u now (calls_of u with_begin)) (sym begin_now)
           (⊎_elim
           (λ same. subst (λ v. StayRight s.held v now (calls_of v with_begin)) same (subst (StayRight s.held s.next_txn now) (sym begin_called) (λ S agree. ((s.next_txn, refl), tt))))

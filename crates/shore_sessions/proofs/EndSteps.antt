@@ -1,5 +1,5 @@
 -- A transaction ends, by an abort or a commit, and the history stays sound.
-use Rattle.std.proofs.Common.{◌≡◌, ◌≢◌, ◌⊎◌, inl, inr, ⊎_elim, ◌++◌, ◌<◌, ℕ, List, [], ◌∷◌, Ok, refl, sym, ap, subst, ◌∙◌}
+use Rattle.std.proofs.Common.{◌≡◌, ◌≢◌, ◌⊎◌, inl, inr, ⊎_elim, ◌++◌, ◌<◌, ℕ, List, [], ◌∷◌, None, Ok, refl, sym, ap, subst, ◌∙◌}
 use Rattle.std.specs.FinMap.{get}
 use Rattle.std.specs.List.{AllByRecursion}
 use Rattle.shore_types.specs.declared.ids.Rid.{Rid}
@@ -17,6 +17,7 @@ use Rattle.shore_sessions.proofs.Entries.{calls-decided, decisions-decided}
 use Rattle.shore_sessions.proofs.Lists.{recursion-each, recursion-push}
 use Rattle.shore_sessions.proofs.Members.{among_without, txn_among, txn_stays, txn_without}
 use Rattle.shore_sessions.proofs.Soundness.{sound_commit}
+use Rattle.shore_sessions.proofs.Standing.{stands_on}
 use Rattle.shore_sessions.proofs.Turns.{AreKept, KeepsTurn, kept_by_decided, serial-kept, serial-push}
 use Rattle.shore_sessions.proofs.UndoLists.{undo_kept_by_others, undone_agrees, undone_changes}
 use Rattle.shore_sessions.proofs.Views.{one_ends, overlay_none, some_or_none, writer_excludes}
@@ -48,9 +49,12 @@ module _ {o : Records} {es : List Entry} {s : Sessions} (k : IsSoundAfter o es s
         let more = with_reply k a mem aborted in
         record {
           sound = reply_sound k a mem aborted;
+          standing = k.standing;
+          stands_for = λ b in_rest. let there = among_without a.txn b s.active in_rest in
+              stands_on es more b (k.standing b.txn) (ap writes_of (others_called k a mem aborted b.txn there.1)) (k.stands_for b there.0);
           stand =
-              subst (λ now. Stand s.held now R' (txns_of (without_txn a.txn s.active)) (written_by more)) (sym (reply_now k a mem aborted))
-              (one_ends k.stand a.txn (txn_in k a mem aborted) now R' (txns_of (without_txn a.txn s.active)) (written_by more) (λ u other. ap writes_of (others_called k a mem aborted u other))
+              subst (λ now. Stand s.held now R' (txns_of (without_txn a.txn s.active)) k.standing) (sym (reply_now k a mem aborted))
+              (one_ends k.stand a.txn (txn_in k a mem aborted) now R' (txns_of (without_txn a.txn s.active)) k.standing (λ u other. refl)
               (λ u b. txn_without a.txn u s.active b) (λ u b other. txn_stays a.txn u s.active b other)
               (λ id. ⊎_elim (λ kept. inl (kept, refl)) (λ w. inr w) (undone_changes abort_can id)) (undone_agrees abort_can));
           replies = λ u b. let there = txn_without a.txn u s.active b in
@@ -88,39 +92,45 @@ module _ {o : Records} {es : List Entry} {s : Sessions} (k : IsSoundAfter o es s
     pub commit_called : (u : ℕ) → calls_of u with_commit ≡ calls_of u es
     commit_called u = calls-decided es u (decision.Commit a.txn)
 
-    pub commit_sees : Sees s.held now s.records a.txn (written_by es a.txn)
-    commit_sees = k.stand.each a.txn (txn_among a s.active mem)
+    -- no rollback of it is under way
+    module _ (none : a.undo.rolling ≡ None) where
+      pub commit_sees : Sees s.held now s.records a.txn (written_by es a.txn)
+      commit_sees =
+          subst (Sees s.held now s.records a.txn) ((k.stands_for a mem).written none) (k.stand.each a.txn (txn_among a s.active mem))
 
-    commit_changes : (id : Rid) → ((get s.records id ≡ get s.records id) × (get next_now id ≡ get now id)) ⊎ MayWrite s.held a.txn id
-    commit_changes id =
-        ⊎_elim (λ w. inr (commit_sees.locked id w)) (λ none. inl (refl, overlay_none now (written_by es a.txn) id none))
-        (some_or_none (get (written_by es a.txn) id))
+      commit_changes : (id : Rid) → ((get s.records id ≡ get s.records id) × (get next_now id ≡ get now id)) ⊎ MayWrite s.held a.txn id
+      commit_changes id =
+          ⊎_elim (λ w. inr (commit_sees.locked id w)) (λ none. inl (refl, overlay_none now (written_by es a.txn) id none))
+          (some_or_none (get (written_by es a.txn) id))
 
-    commit_elsewhere : (u : ℕ) → u ≢ a.txn → (id : Rid) → MayRead s.held u id → (get s.records id ≡ get s.records id) × (get next_now id ≡ get now id)
-    commit_elsewhere u other id r = ⊎_elim (λ kept. kept) (λ w. absurd (writer_excludes k.stand a.txn u id (λ same. other (sym same)) w r)) (commit_changes id)
+      commit_elsewhere : (u : ℕ) → u ≢ a.txn → (id : Rid) → MayRead s.held u id → (get s.records id ≡ get s.records id) × (get next_now id ≡ get now id)
+      commit_elsewhere u other id r = ⊎_elim (λ kept. kept) (λ w. absurd (writer_excludes k.stand a.txn u id (λ same. other (sym same)) w r)) (commit_changes id)
 
-    pub commit_stays_sound : IsSoundAfter o with_commit (commit_appended s a)
-    commit_stays_sound = record {
-      sound = sound_commit o es a.txn k.sound (k.replies a.txn (txn_among a s.active mem) now (λ id r. refl));
-      stand =
-          subst (λ now. Stand s.held now s.records (txns_of (without_txn a.txn s.active)) (written_by with_commit)) (sym commit_now)
-          (one_ends k.stand a.txn (txn_among a s.active mem) next_now s.records (txns_of (without_txn a.txn s.active)) (written_by with_commit) (λ u other. ap writes_of (commit_called u))
-          (λ u b. txn_without a.txn u s.active b) (λ u b other. txn_stays a.txn u s.active b other) commit_changes commit_sees.view);
-      replies = λ u b. let there = txn_without a.txn u s.active b in
-          subst (λ now. StayRight s.held u now (calls_of u with_commit)) (sym commit_now)
-          (subst (StayRight s.held u next_now) (sym (commit_called u))
-          (λ S agree. k.replies u there.0 S (λ id r. agree id r ∙ (commit_elsewhere u there.1 id r).1)));
-      undoes = λ b in_rest. let there = among_without a.txn b s.active in_rest in
-          subst (λ now. CanUndo s.held now s.records b.txn b.undo (after start (calls_of b.txn with_commit))) (sym commit_now)
-          (subst (λ xs. CanUndo s.held next_now s.records b.txn b.undo (after start xs)) (sym (commit_called b.txn))
-          (undo_kept_by_others (k.undoes b there.0) next_now s.records (commit_elsewhere b.txn there.1)));
-      undecided = λ u b. let there = txn_without a.txn u s.active b in
-          subst (AllByRecursion (λ d. decided_txn d ≢ u)) (sym (decisions-decided es (decision.Commit a.txn)))
-          (recursion-push (λ d. decided_txn d ≢ u) (decisions es) (decision.Commit a.txn) (k.undecided u there.0) (λ same. there.1 (sym same)));
-      below = λ u b. k.below u (txn_without a.txn u s.active b).0;
-      decided =
-          subst (AllByRecursion (λ d. decided_txn d < s.next_txn)) (sym (decisions-decided es (decision.Commit a.txn)))
-          (recursion-push (λ d. decided_txn d < s.next_txn) (decisions es) (decision.Commit a.txn) k.decided (k.below a.txn (txn_among a s.active mem)));
-      uncalled = λ u le. commit_called u ∙ k.uncalled u le;
-      unheld = k.unheld;
-    }
+      pub commit_stays_sound : IsSoundAfter o with_commit (commit_appended s a)
+      commit_stays_sound = record {
+        sound = sound_commit o es a.txn k.sound (k.replies a.txn (txn_among a s.active mem) now (λ id r. refl));
+        standing = k.standing;
+        stands_for = λ b in_rest.
+            stands_on es with_commit b (k.standing b.txn) (ap writes_of (commit_called b.txn)) (k.stands_for b (among_without a.txn b s.active in_rest).0);
+        stand =
+            subst (λ now. Stand s.held now s.records (txns_of (without_txn a.txn s.active)) k.standing) (sym commit_now)
+            (one_ends k.stand a.txn (txn_among a s.active mem) next_now s.records (txns_of (without_txn a.txn s.active)) k.standing (λ u other. refl)
+            (λ u b. txn_without a.txn u s.active b) (λ u b other. txn_stays a.txn u s.active b other) commit_changes commit_sees.view);
+        replies = λ u b. let there = txn_without a.txn u s.active b in
+            subst (λ now. StayRight s.held u now (calls_of u with_commit)) (sym commit_now)
+            (subst (StayRight s.held u next_now) (sym (commit_called u))
+            (λ S agree. k.replies u there.0 S (λ id r. agree id r ∙ (commit_elsewhere u there.1 id r).1)));
+        undoes = λ b in_rest. let there = among_without a.txn b s.active in_rest in
+            subst (λ now. CanUndo s.held now s.records b.txn b.undo (after start (calls_of b.txn with_commit))) (sym commit_now)
+            (subst (λ xs. CanUndo s.held next_now s.records b.txn b.undo (after start xs)) (sym (commit_called b.txn))
+            (undo_kept_by_others (k.undoes b there.0) next_now s.records (commit_elsewhere b.txn there.1)));
+        undecided = λ u b. let there = txn_without a.txn u s.active b in
+            subst (AllByRecursion (λ d. decided_txn d ≢ u)) (sym (decisions-decided es (decision.Commit a.txn)))
+            (recursion-push (λ d. decided_txn d ≢ u) (decisions es) (decision.Commit a.txn) (k.undecided u there.0) (λ same. there.1 (sym same)));
+        below = λ u b. k.below u (txn_without a.txn u s.active b).0;
+        decided =
+            subst (AllByRecursion (λ d. decided_txn d < s.next_txn)) (sym (decisions-decided es (decision.Commit a.txn)))
+            (recursion-push (λ d. decided_txn d < s.next_txn) (decisions es) (decision.Commit a.txn) k.decided (k.below a.txn (txn_among a s.active mem)));
+        uncalled = λ u le. commit_called u ∙ k.uncalled u le;
+        unheld = k.unheld;
+      }

@@ -12,7 +12,10 @@ pub mod LogDecisions
 pub mod LogPrefixes
 pub mod LogSteps
 pub mod LogTells
+pub mod LoggedInPlace
+pub mod LoggedUndos
 pub mod Members
+pub mod PutBacks
 pub mod QuietSteps
 pub mod Replies
 pub mod ReplySteps
@@ -20,6 +23,7 @@ pub mod RollingBack
 pub mod Runs
 pub mod SessionsAgree
 pub mod Soundness
+pub mod Standing
 pub mod Steps
 pub mod StrongerLocks
 pub mod Turns

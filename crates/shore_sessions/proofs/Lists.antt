@@ -13,6 +13,10 @@ pub recursion-unpush : {A : Type 0} (P : A → Type 0) (xs : List A) (x : A) →
 recursion-unpush P [] x h = tt
 recursion-unpush P (y ∷ ys) x h = (h.0, recursion-unpush P ys x h.1)
 
+pub recursion-last : {A : Type 0} (P : A → Type 0) (xs : List A) (x : A) → AllByRecursion P (xs ++ x ∷ []) → P x
+recursion-last P [] x h = h.0
+recursion-last P (y ∷ ys) x h = recursion-last P ys x h.1
+
 pub recursion-at : {A : Type 0} (P : A → Type 0) (xs : List A) (n : ℕ) (x : A) → AllByRecursion P xs → slice_get xs n ≡ Some x → P x
 recursion-at P [] n x h e = cc
 recursion-at P (y ∷ ys) zero x h e = let same : y ≡ x = cc in subst P same h.0
@@ -64,6 +68,24 @@ drop-between zero (suc m) (x ∷ xs) le within = ap (λ ys. x ∷ ys) (drop-betw
 drop-between (suc n) zero xs le within = absurd (omega arith)
 drop-between (suc n) (suc m) [] le within = absurd (omega arith)
 drop-between (suc n) (suc m) (x ∷ xs) le within = drop-between n m xs (omega arith) (omega arith)
+
+-- prefixes of a prefix
+pub take-take : {A : Type 0} (n m : ℕ) (xs : List A) → n ≤ m → take n (take m xs) ≡ take n xs
+take-take zero m xs le = refl
+take-take (suc n) zero xs le = absurd (omega arith)
+take-take (suc n) (suc m) [] le = refl
+take-take (suc n) (suc m) (x ∷ xs) le = ap (λ ys. x ∷ ys) (take-take n m xs (omega arith))
+
+pub slice_get-take : {A : Type 0} (n m : ℕ) (xs : List A) → n < m → slice_get (take m xs) n ≡ slice_get xs n
+slice_get-take n zero xs less = absurd (omega arith)
+slice_get-take n (suc m) [] less = refl
+slice_get-take zero (suc m) (x ∷ xs) less = refl
+slice_get-take (suc n) (suc m) (x ∷ xs) less = slice_get-take n m xs (omega arith)
+
+pub length-take_most : {A : Type 0} (n : ℕ) (xs : List A) → length (take n xs) ≤ length xs
+length-take_most zero xs = omega arith
+length-take_most (suc n) [] = omega arith
+length-take_most (suc n) (x ∷ xs) = let le = length-take_most n xs in omega arith
 
 -- prefixes of a list with one element more
 pub take-push : {A : Type 0} (n : ℕ) (xs : List A) (x : A) → n ≤ length xs → take n (xs ++ x ∷ []) ≡ take n xs

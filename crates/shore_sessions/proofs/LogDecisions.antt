@@ -1,7 +1,10 @@
 -- Each event keeps the decisions of the log those of the history, and what prefixes of the log tell.
-use Rattle.std.proofs.Common.{◌≡◌, ◌≤◌, ◌++◌, ℕ, List, [], ◌∷◌, Result, Ok, Err, refl, sym, ap, subst, ◌∙◌, length, map, take, arith, append-nil}
+use Rattle.std.proofs.Common.{◌≡◌, ◌≤◌, ◌++◌, ℕ, List, [], ◌∷◌, true, false, cond, None, Result, Ok, Err, refl, sym, ap, subst, ◌∙◌, length, map, take, arith, append-nil}
 use Rattle.std.proofs.Math.Seq.{take-length}
+use Rattle.std.specs.Prelude.{◌==◌}
+use Rattle.shore_types.specs.Images.{Image}
 use Rattle.shore_types.specs.declared.faults.Fault.{Fault}
+use Rattle.shore_types.specs.declared.ids.Rid.{Rid}
 use Rattle.shore_model.specs.declared.calls.Answer.{Answer}
 use Rattle.shore_model.specs.declared.calls.Answer.TheVariants.{Began, Aborted, Committed}
 use Rattle.shore_model.specs.declared.calls.Call.{Call}
@@ -26,10 +29,11 @@ use Rattle.shore_sessions.proofs.Members.{txn_among}
 use Rattle.shore_sessions.proofs.QuietSteps.{all_kept}
 use Rattle.shore_sessions.proofs.ReplySteps.{decided_kept}
 use Rattle.shore_sessions.proofs.Turns.{AreKept, KeepsTurn}
-use Rattle.shore_sessions.specs.Logged.{and_compensations, log_after, log_after_reply}
+use Rattle.shore_sessions.specs.Logged.{and_compensations, and_record, log_after, log_after_reply}
+use Rattle.shore_sessions.specs.declared.rollbacks.Rollback.{Rollback}
 use Rattle.shore_sessions.specs.LogPrefixes.{DecidesNothing, LogDecides, TellsItsDecisions, decisions_in}
 use Rattle.shore_sessions.specs.LogTells.{IsLogAfter, records_committed}
-use Rattle.shore_sessions.specs.SessionSteps.{AnswerAbort, AnswerCommit, AppendCommit, BeginTxn, GiveReply, MoveLocks, RefuseCall, SessionEvent, StepsTo, entries_by, exchange}
+use Rattle.shore_sessions.specs.SessionSteps.{AnswerAbort, AnswerCommit, AppendCommit, BeginTxn, GiveReply, MoveLocks, PutBack, RefuseCall, SessionEvent, StepsTo, entries_by, exchange}
 use Rattle.shore_sessions.specs.Sessions.{SessionTxn, Sessions}
 use Rattle.shore_sessions.specs.Soundness.{IsSoundAfter, decided_txn, written_by}
 use Rattle.shore_sessions.specs.Views.{IsAmong}
@@ -72,9 +76,18 @@ module _ {base : ℕ} {o : Records} {es : List Entry} {s : Sessions} {log : List
 
     pub abort_midst : LogDecides base o es (log_after log s (AnswerAbort a))
     abort_midst =
-        as_decided a.txn (log_after log s (AnswerAbort a))
-        (record_more base o (written_by es) a.txn (decisions es) (and_compensations a.txn log a.undo.images) End refl
-        (compensations_more base o (written_by es) a.txn (decisions es) log a.undo.images (under_way a mem)))
+        let aborts = and_compensations a.txn log a.undo.images in
+        elim (previous_of a.txn log == 0) as (λ b. LogDecides base o es (cond b log (and_record a.txn aborts End))) [
+          | true ↦ d
+          | false ↦ as_decided a.txn (and_record a.txn aborts End)
+              (record_more base o (written_by es) a.txn (decisions es) aborts End refl
+              (compensations_more base o (written_by es) a.txn (decisions es) log a.undo.images (under_way a mem)))
+        ]
+
+    pub put_back_midst : (kept : List (Rid × Image)) (e : Rid × Image) (r : Rollback) → LogDecides base o es (log_after log s (PutBack a kept e r))
+    put_back_midst kept e r =
+        as_decided a.txn (log_after log s (PutBack a kept e r))
+        (compensations_more base o (written_by es) a.txn (decisions es) log (e ∷ []) (under_way a mem))
 
     pub reply_decides : (c : Call) (reply : Result Answer Fault)
         → LogDecides base o (es ++ entries_by s (GiveReply a c reply)) (log_after_reply log s.records a c reply)
@@ -87,8 +100,8 @@ module _ {base : ℕ} {o : Records} {es : List Entry} {s : Sessions} {log : List
         exchange_decides (log_after log s (AnswerAbort a)) a.session a.txn (exchange call.Abort (Ok Aborted))
         (decided_kept k a mem (exchange call.Abort (Ok Aborted))) abort_midst
 
-    pub commit_decides : LogDecides base o (es ++ entries_by s (AppendCommit a)) (log_after log s (AppendCommit a))
-    commit_decides =
+    pub commit_decides : a.undo.rolling ≡ None → LogDecides base o (es ++ entries_by s (AppendCommit a)) (log_after log s (AppendCommit a))
+    commit_decides none =
         let more = es ++ entries_by s (AppendCommit a) in
         let r : LogRecord = record { txn = a.txn; previous = previous_of a.txn log; payload = Commit } in
         let longer = length-push log r in
@@ -99,7 +112,7 @@ module _ {base : ℕ} {o : Records} {es : List Entry} {s : Sessions} {log : List
           long = omega arith;
           all = all;
           prefixes = prefixes_more base o (written_by more) log r
-              ((commit_keeps_log k l a mem).tells_serial.tells ∙ ap (serial (written_by more) o) all)
+              ((commit_keeps_log k l a mem none).tells_serial.tells ∙ ap (serial (written_by more) o) all)
               (prefixes_kept base o es more (decisions es) log (commit_kept k a mem) d.all d.prefixes);
         }
 
@@ -108,7 +121,9 @@ pub event_decides : (base : ℕ) (o : Records) (es : List Entry) (old new : Sess
 event_decides base o es old new (MoveLocks held) log k l d moves = subst (λ es. LogDecides base o es log) (sym (append-nil es)) d
 event_decides base o es old new (BeginTxn session) log k l d moves = begin_decides k l d session
 event_decides base o es old new (GiveReply a c reply) log k l d moves = reply_decides k l d a moves.0 c reply
-event_decides base o es old new (AppendCommit a) log k l d moves = commit_decides k l d a moves.0
+event_decides base o es old new (AppendCommit a) log k l d moves = commit_decides k l d a moves.0 moves.1
+event_decides base o es old new (PutBack a kept e r) log k l d moves =
+    subst (λ es. LogDecides base o es (log_after log old (PutBack a kept e r))) (sym (append-nil es)) (put_back_midst k l d a moves.0 kept e r)
 event_decides base o es old new (AnswerAbort a) log k l d moves = abort_decides k l d a moves.0
 event_decides base o es old new (AnswerCommit a) log k l d moves =
     quiet_decides k l d a.session a.txn (exchange call.Commit (Ok Committed)) commit_is_quiet
@@ -122,6 +137,7 @@ event_midst base o es old new (MoveLocks held) log k l d moves none = d
 event_midst base o es old new (BeginTxn session) log k l d moves none = d
 event_midst base o es old new (GiveReply a c reply) log k l d moves none = reply_midst k l d a moves.0 c reply
 event_midst base o es old new (AppendCommit a) log k l d moves none = absurd none
+event_midst base o es old new (PutBack a kept e r) log k l d moves none = put_back_midst k l d a moves.0 kept e r
 event_midst base o es old new (AnswerAbort a) log k l d moves none = abort_midst k l d a moves.0
 event_midst base o es old new (AnswerCommit a) log k l d moves none = d
 event_midst base o es old new (RefuseCall session t c fault) log k l d moves none = d

@@ -1,6 +1,6 @@
 -- Each event keeps the log beside the history.
 use Rattle.std.proofs.Common.{◌≡◌, ◌≢◌, ⊎_elim, ◌++◌, ◌<◌, ◌+◌, ℕ, zero, suc, List, [], ◌∷◌, true, false, cond, Some, None, Result, Ok, Err, refl, sym, ap, subst, ◌∙◌, map, length, drop, take, arith, append-nil}
-use Rattle.std.specs.Prelude.{◌==◌, filter, slice_get, unwrap_or}
+use Rattle.std.specs.Prelude.{◌==◌, IsSome, filter, slice_get, unwrap_or}
 use Rattle.std.specs.FinMap.{empty, get, insert, get-empty}
 use Rattle.std.specs.List.{AllByRecursion, cons_option}
 use Rattle.std.proofs.lemmas.Bool.{eqb-true, eqb-false, ne_eqb}
@@ -17,7 +17,7 @@ use Rattle.shore_model.specs.declared.histories.Entry.TheVariants.{Exchanged}
 use Rattle.shore_model.specs.declared.holds.Hold.{Hold}
 use Rattle.shore_model.specs.declared.log_records.LogRecord.{LogRecord}
 use Rattle.shore_model.specs.declared.log_records.Payload.{Payload}
-use Rattle.shore_model.specs.declared.log_records.Payload.TheVariants.{Change, Commit, End}
+use Rattle.shore_model.specs.declared.log_records.Payload.TheVariants.{Change, Compensation, Commit, End}
 use Rattle.shore_model.specs.declared.progress.Progress.{Progress}
 use Rattle.shore_model.specs.Alone.{start, after, after_answer, after_reply}
 use Rattle.shore_model.specs.Histories.{calls_of}
@@ -27,22 +27,26 @@ use Rattle.shore_model.specs.Records.{overlays, Records, WriteSet, overlay, put_
 use Rattle.shore_types.specs.Images.{Image}
 use Rattle.shore_sessions.proofs.Exchanges.{IsQuiet, after-push, commit_is_quiet, refusal_is_quiet}
 use Rattle.shore_sessions.proofs.Ids.{told_apart, wrote_here, wrote_there}
-use Rattle.shore_sessions.proofs.Lists.{recursion-drop, recursion-push, recursion-take, recursion-weaker}
-use Rattle.shore_sessions.proofs.LogTells.{committed_one, committed_same, compensations_tell, image_tells, logged_as_written, logged_imageless, logged_own, none_some, tells_commit, tells_same}
-use Rattle.shore_sessions.proofs.Members.{txn_among, txn_without, txns_with}
+use Rattle.shore_sessions.proofs.Lists.{recursion-drop, recursion-push, recursion-take, recursion-unpush, recursion-weaker}
+use Rattle.shore_sessions.proofs.LogTells.{committed_one, committed_same, compensations_tell, image_tells, logged_as_written, logged_elsewhere, logged_imageless, logged_own, none_some, tells_commit, tells_same}
+use Rattle.shore_sessions.proofs.LoggedUndos.{own_reply, still_logged, with_compensations, with_reply}
+use Rattle.shore_sessions.proofs.Members.{HasNewUndo, among_with, among_without, txn_among, txn_without, txns_with}
 use Rattle.shore_sessions.proofs.BeginSteps.{begin_called, begin_now, begin_others, not_yet}
 use Rattle.shore_sessions.proofs.EndSteps.{abort_can, commit_called, commit_now, commit_sees}
 use Rattle.shore_sessions.proofs.QuietSteps.{all_kept, quiet_now}
-use Rattle.shore_sessions.proofs.ReplySteps.{others_called, own_called, reply_now, t_below}
+use Rattle.shore_sessions.proofs.PutBacks.{may_put_back}
+use Rattle.shore_sessions.proofs.ReplySteps.{others_called, others_see, own_called, reply_now, t_below}
 use Rattle.shore_sessions.proofs.StrongerLocks.{writes_up}
+use Rattle.shore_sessions.proofs.UndoLists.{undone_changes}
 use Rattle.shore_sessions.proofs.Views.{read_of_write, writer_excludes}
-use Rattle.shore_sessions.specs.LogTells.{records_committed, HasLogged, IsLogAfter, TellsSerial}
-use Rattle.shore_sessions.specs.Logged.{and_compensations, and_record, log_after, log_after_answer, log_after_reply}
+use Rattle.shore_sessions.specs.LogTells.{records_committed, AreLogged, HasLogged, IsLogAfter, TellsSerial}
+use Rattle.shore_sessions.specs.Logged.{and_compensations, and_record, log_after, log_after_answer, log_after_reply, next_to_undo}
 use Rattle.shore_sessions.specs.RepliesInPlace.{MayReplyInPlace, Permit}
-use Rattle.shore_sessions.specs.SessionSteps.{AnswerAbort, AnswerCommit, AppendCommit, BeginTxn, GiveReply, KeepsLocks, MoveLocks, RefuseCall, SessionEvent, StepsTo, entries_by, exchange}
-use Rattle.shore_sessions.specs.Sessions.{SessionTxn, Sessions, abort_answered, commit_appended, locks_moved, reply_given, txn_begun, txns_of, without_txn}
+use Rattle.shore_sessions.specs.declared.rollbacks.Rollback.{Rollback}
+use Rattle.shore_sessions.specs.SessionSteps.{AnswerAbort, AnswerCommit, AppendCommit, BeginTxn, GiveReply, KeepsLocks, MoveLocks, PutBack, RefuseCall, SessionEvent, StepsTo, entries_by, exchange}
+use Rattle.shore_sessions.specs.Sessions.{SessionTxn, Sessions, abort_answered, commit_appended, image_put_back, locks_moved, reply_given, txn_begun, txns_of, without_txn}
 use Rattle.shore_sessions.specs.Soundness.{IsJustOpened, IsSoundAfter, progress_in, serial_after}
-use Rattle.shore_sessions.specs.UndoLists.{CanUndo, in_place_after, in_place_after_answer, mark_of, undo_after, rolled_back}
+use Rattle.shore_sessions.specs.UndoLists.{CanUndo, UndoList, in_place_after, in_place_after_answer, mark_of, undo_after, undo_rolled, rolled_back}
 use Rattle.shore_sessions.specs.Views.{IsAmong}
 
 -- ---- a transaction comes further
@@ -210,13 +214,13 @@ module _ {o : Records} {es : List Entry} {s : Sessions} {log : List LogRecord} (
         l.tells_serial (length a.undo.marks) c reply served
 
     own_progress : progress_in more a.txn ≡ after_reply (progress_in es a.txn) c reply
-    own_progress = ap (after start) (own_called k a mem c reply served) ∙ after-push start (calls_of a.txn es) (exchange c reply)
+    own_progress = ap (after start) (own_called k a mem (exchange c reply)) ∙ after-push start (calls_of a.txn es) (exchange c reply)
 
     other_progress : (u : ℕ) → u ≢ a.txn → progress_in more u ≡ progress_in es u
     other_progress u other = ap (after start) (others_called k a mem (exchange c reply) u other)
 
-    still_logged : (u : ℕ) → StillLogged s.held R' u (logged_writes log' u) (progress_in es u) (progress_in more u)
-    still_logged u =
+    comes_further : (u : ℕ) → StillLogged s.held R' u (logged_writes log' u) (progress_in es u) (progress_in more u)
+    comes_further u =
         elim (u == a.txn) as (λ x. (u == a.txn) ≡ x → StillLogged s.held R' u (logged_writes log' u) (progress_in es u) (progress_in more u)) [
           | true ↦ λ e.
               subst (λ v. StillLogged s.held R' v (logged_writes log' v) (progress_in es v) (progress_in more v)) (sym (eqb-true u a.txn e))
@@ -225,12 +229,24 @@ module _ {o : Records} {es : List Entry} {s : Sessions} {log : List LogRecord} (
               subst (StillLogged s.held R' u (logged_writes log' u) (progress_in es u)) (sym (other_progress u (eqb-false u a.txn e))) (λ g. g)
         ] refl
 
+    abbrev undo' : UndoList
+    undo' = undo_after s.records a.undo c reply
+
+    reply_logged : (b : SessionTxn) → HasNewUndo a.txn undo' s.active b → AreLogged log' b.txn b.undo.images
+    reply_logged b one =
+        ⊎_elim
+        (λ it. subst (λ u. AreLogged log' u b.undo.images) (sym it.0)
+        (subst (λ (undo : UndoList). AreLogged log' a.txn undo.images) (sym it.1) (own_reply log s.records a (l.undo_logged a mem) c reply)))
+        (λ other. with_reply b.txn b.undo.images log s.records a (l.undo_logged b (subst (λ y. IsAmong y s.active) (sym other.1) one.there)) c reply)
+        one.one
+
     pub reply_keeps_log : IsLogAfter o more (reply_given s a c reply) log'
     reply_keeps_log = record {
       tells_serial =
-          subst (λ ts. TellsSerial log' s.held (serial_after o more) R' ts (progress_in more)) (sym (txns_with a.txn (undo_after s.records a.undo c reply) s.active))
+          subst (λ ts. TellsSerial log' s.held (serial_after o more) R' ts (progress_in more)) (sym (txns_with a.txn undo' s.active))
           (subst (λ now. TellsSerial log' s.held now R' (txns_of s.active) (progress_in more)) (sym (reply_now k a mem (exchange c reply)))
-          (further (txns_of s.active) (progress_in more) (λ u b. (b, still_logged u)) reply_on.tells_serial));
+          (further (txns_of s.active) (progress_in more) (λ u b. (b, comes_further u)) reply_on.tells_serial));
+      undo_logged = λ b in_with. reply_logged b (among_with a.txn undo' b s.active in_with);
       below = reply_grown a c reply (t_below k a mem (exchange c reply));
     }
 
@@ -241,14 +257,14 @@ module _ {o : Records} {es : List Entry} {s : Sessions} {log : List LogRecord} (
     less : a.txn < s.next_txn
     less = k.below a.txn t_in
 
-    pub commit_keeps_log : IsLogAfter o (es ++ entries_by s (AppendCommit a)) (commit_appended s a) (log_after log s (AppendCommit a))
-    commit_keeps_log =
+    pub commit_keeps_log : a.undo.rolling ≡ None → IsLogAfter o (es ++ entries_by s (AppendCommit a)) (commit_appended s a) (log_after log s (AppendCommit a))
+    commit_keeps_log none =
         let r : LogRecord = record { txn = a.txn; previous = previous_of a.txn log; payload = Commit } in
         record {
           tells_serial = record {
             tells =
                 tells_commit log r refl ∙ ap (λ R. overlay R (logged_writes log a.txn)) l.tells_serial.tells
-                ∙ logged_as_written (commit_sees k a mem) (l.tells_serial.each a.txn t_in) ∙ sym (commit_now k a mem);
+                ∙ logged_as_written (commit_sees k a mem none) (l.tells_serial.each a.txn t_in) ∙ sym (commit_now k a mem);
             uncommitted = λ u b. let there = txn_without a.txn u s.active b in
                 subst (AllByRecursion (λ v. v ≢ u)) (sym (committed_one log r refl))
                 (recursion-push (λ v. v ≢ u) (committed_in log) a.txn (l.tells_serial.uncommitted u there.0) (λ same. there.1 (sym same)));
@@ -257,36 +273,95 @@ module _ {o : Records} {es : List Entry} {s : Sessions} {log : List LogRecord} (
                 (subst (HasLogged s.held s.records u (progress_in es u)) (sym (logged_imageless log r refl u))
                 (l.tells_serial.each u (txn_without a.txn u s.active b).0));
           };
+          undo_logged = λ b in_rest. still_logged b.txn b.undo.images log r (l.undo_logged b (among_without a.txn b s.active in_rest).0);
           below = grown a.txn log Commit less l.below;
         }
+
+    -- an image: its Compensation
+    put_back_logged : (kept : List (Rid × Image)) (e : Rid × Image) (r : Rollback) → a.undo.images ≡ kept ++ e ∷ [] → (b : SessionTxn)
+        → HasNewUndo a.txn (undo_rolled a.undo kept r) s.active b → AreLogged (log_after log s (PutBack a kept e r)) b.txn b.undo.images
+    put_back_logged kept e r is b one =
+        let record_of : LogRecord = record { txn = a.txn; previous = previous_of a.txn log; payload = Compensation e.0 e.1 (next_to_undo a.txn log) } in
+        still_logged b.txn b.undo.images log record_of (⊎_elim
+        (λ it. subst (λ u. AreLogged log u b.undo.images) (sym it.0)
+        (subst (λ (undo : UndoList). AreLogged log a.txn undo.images) (sym it.1)
+        (recursion-unpush (λ e. IsSome (get (logged_writes log a.txn) e.0)) kept e (subst (AreLogged log a.txn) is (l.undo_logged a mem)))))
+        (λ other. l.undo_logged b (subst (λ y. IsAmong y s.active) (sym other.1) one.there))
+        one.one)
+
+    pub put_back_keeps_log : (kept : List (Rid × Image)) (e : Rid × Image) (r : Rollback) → a.undo.images ≡ kept ++ e ∷ []
+        → IsLogAfter o es (image_put_back s a kept e r) (log_after log s (PutBack a kept e r))
+    put_back_keeps_log kept e r is = record {
+      tells_serial =
+          subst (λ ts. TellsSerial (log_after log s (PutBack a kept e r)) s.held now (put_image s.records e.0 e.1) ts (progress_in es))
+          (sym (txns_with a.txn (undo_rolled a.undo kept r) s.active))
+          (compensations_tell s.held disjoint now (txns_of s.active) (progress_in es) a.txn t_in s.records log (e ∷ []) (may_put_back k a mem kept e is, tt) l.tells_serial);
+      undo_logged = λ b in_with. put_back_logged kept e r is b (among_with a.txn (undo_rolled a.undo kept r) b s.active in_with);
+      below = grown a.txn log (Compensation e.0 e.1 (next_to_undo a.txn log)) less l.below;
+    }
+
+    abbrev aborted : Exchange
+    aborted = exchange call.Abort (Ok Aborted)
+
+    abbrev undone : Records
+    undone = rolled_back s.records a.undo.images
+
+    -- the list tells the same, and the others have logged what they had
+    ended_keeps : (log' : List LogRecord) → TellsSerial log' s.held now undone (txns_of s.active) (progress_in es)
+        → ((b : SessionTxn) → IsAmong b s.active → AreLogged log' b.txn b.undo.images)
+        → AllByRecursion (λ r. r.txn < s.next_txn) log' → IsLogAfter o (es ++ entries_by s (AnswerAbort a)) (abort_answered s a) log'
+    ended_keeps log' tells logged below = record {
+      tells_serial = record {
+        tells = tells.tells ∙ sym (reply_now k a mem aborted);
+        uncommitted = λ u b. tells.uncommitted u (txn_without a.txn u s.active b).0;
+        each = λ u b. let there = txn_without a.txn u s.active b in
+            subst (λ p. HasLogged s.held undone u p (logged_writes log' u)) (sym (ap (after start) (others_called k a mem aborted u there.1))) (tells.each u there.0);
+      };
+      undo_logged = λ b in_rest. logged b (among_without a.txn b s.active in_rest).0;
+      below = below;
+    }
 
     -- an abort: Compensations, and an End
     abbrev aborts : List LogRecord
     aborts = and_compensations a.txn log a.undo.images
 
-    abbrev left : Records
-    left = rolled_back s.records a.undo.images
-
-    abort_undone : TellsSerial aborts s.held now left (txns_of s.active) (progress_in es)
+    abort_undone : TellsSerial aborts s.held now undone (txns_of s.active) (progress_in es)
     abort_undone =
         compensations_tell s.held disjoint now (txns_of s.active) (progress_in es) a.txn t_in s.records log a.undo.images (abort_can k a mem).changed
         l.tells_serial
 
+    end_keeps : IsLogAfter o (es ++ entries_by s (AnswerAbort a)) (abort_answered s a) (and_record a.txn aborts End)
+    end_keeps =
+        let r : LogRecord = record { txn = a.txn; previous = previous_of a.txn aborts; payload = End } in
+        ended_keeps (aborts ++ r ∷ []) (record {
+          tells = tells_same aborts r refl (abort_undone.uncommitted a.txn t_in) ∙ abort_undone.tells;
+          uncommitted = λ u b. subst (AllByRecursion (λ v. v ≢ u)) (sym (committed_same aborts r refl)) (abort_undone.uncommitted u b);
+          each = λ u b. subst (HasLogged s.held undone u (progress_in es u)) (sym (logged_imageless aborts r refl u)) (abort_undone.each u b);
+        })
+        (λ b there. still_logged b.txn b.undo.images aborts r (with_compensations b.txn b.undo.images a.txn log a.undo.images (l.undo_logged b there)))
+        (grown a.txn aborts End less (undo_grown a.txn log a.undo.images less l.below))
+
+    -- or nothing, of one that has logged nothing
+    unlogged_keeps : IsLogAfter o (es ++ entries_by s (AnswerAbort a)) (abort_answered s a) log
+    unlogged_keeps = record {
+      tells_serial = record {
+        tells = l.tells_serial.tells ∙ sym (reply_now k a mem aborted);
+        uncommitted = λ u b. l.tells_serial.uncommitted u (txn_without a.txn u s.active b).0;
+        each = λ u b. let there = txn_without a.txn u s.active b in
+            subst (λ p. HasLogged s.held undone u p (logged_writes log u)) (sym (ap (after start) (others_called k a mem aborted u there.1)))
+            (logged_elsewhere undone (λ id w. others_see k a mem aborted undone (undone_changes (abort_can k a mem)) u there.1 id (read_of_write s.held u id w))
+            (l.tells_serial.each u there.0));
+      };
+      undo_logged = λ b in_rest. l.undo_logged b (among_without a.txn b s.active in_rest).0;
+      below = l.below;
+    }
+
     pub abort_keeps_log : IsLogAfter o (es ++ entries_by s (AnswerAbort a)) (abort_answered s a) (log_after log s (AnswerAbort a))
     abort_keeps_log =
-        let r : LogRecord = record { txn = a.txn; previous = previous_of a.txn aborts; payload = End } in
-        let aborted : Exchange = exchange call.Abort (Ok Aborted) in
-        record {
-          tells_serial = record {
-            tells = tells_same aborts r refl (abort_undone.uncommitted a.txn t_in) ∙ abort_undone.tells ∙ sym (reply_now k a mem aborted);
-            uncommitted = λ u b. let there = txn_without a.txn u s.active b in
-                subst (AllByRecursion (λ v. v ≢ u)) (sym (committed_same aborts r refl)) (abort_undone.uncommitted u there.0);
-            each = λ u b. let there = txn_without a.txn u s.active b in
-                subst (λ p. HasLogged s.held left u p (logged_writes (aborts ++ r ∷ []) u)) (sym (ap (after start) (others_called k a mem aborted u there.1)))
-                (subst (HasLogged s.held left u (progress_in es u)) (sym (logged_imageless aborts r refl u)) (abort_undone.each u there.0));
-          };
-          below = grown a.txn aborts End less (undo_grown a.txn log a.undo.images less l.below);
-        }
+        elim (previous_of a.txn log == 0) as (λ b. IsLogAfter o (es ++ entries_by s (AnswerAbort a)) (abort_answered s a) (cond b log (and_record a.txn aborts End))) [
+          | true ↦ unlogged_keeps
+          | false ↦ end_keeps
+        ]
 
   pub begin_keeps_log : (session : ℕ) → IsLogAfter o (es ++ entries_by s (BeginTxn session)) (txn_begun s session) log
   begin_keeps_log session =
@@ -309,6 +384,7 @@ module _ {o : Records} {es : List Entry} {s : Sessions} {log : List LogRecord} (
                   subst (λ p. HasLogged s.held s.records u p (logged_writes log u)) (sym (ap (after start) (begin_others k session u other))) (l.tells_serial.each u later))
                   b;
             });
+        undo_logged = λ a m. ⊎_elim (λ same. subst (λ (a : SessionTxn). AreLogged log a.txn a.undo.images) same tt) (λ later. l.undo_logged a later) m;
         below = recursion-weaker (λ r. r.txn < s.next_txn) (λ r. r.txn < s.next_txn + 1) (λ r less. omega arith) log l.below;
       }
 
@@ -324,6 +400,7 @@ module _ {o : Records} {es : List Entry} {s : Sessions} {log : List LogRecord} (
         unsaved = g.unsaved;
       };
     };
+    undo_logged = l.undo_logged;
     below = l.below;
   }
 
@@ -336,6 +413,7 @@ module _ {o : Records} {es : List Entry} {s : Sessions} {log : List LogRecord} (
         tells_serial =
             subst (λ now. TellsSerial log s.held now s.records (txns_of s.active) (progress_in more)) (sym (quiet_now k session u x quiet))
             (further (txns_of s.active) (progress_in more) (λ v b. (b, still v)) l.tells_serial);
+        undo_logged = l.undo_logged;
         below = l.below;
       }
 
@@ -352,8 +430,11 @@ event_keeps_log o es old new (MoveLocks held) log k l moves =
     (subst (λ es. IsLogAfter o es (locks_moved old held) log) (sym (append-nil es)) (locks_keep_log k l held moves.1))
 event_keeps_log o es old new (BeginTxn session) log k l moves = at_new o _ _ _ new moves.1 (begin_keeps_log k l session)
 event_keeps_log o es old new (GiveReply a c reply) log k l moves =
-    at_new o _ _ _ new moves.3 (reply_keeps_log k l a moves.0 c reply moves.2)
-event_keeps_log o es old new (AppendCommit a) log k l moves = at_new o _ _ _ new moves.1 (commit_keeps_log k l a moves.0)
+    at_new o _ _ _ new moves.4 (reply_keeps_log k l a moves.0 c reply moves.2)
+event_keeps_log o es old new (AppendCommit a) log k l moves = at_new o _ _ _ new moves.2 (commit_keeps_log k l a moves.0 moves.1)
+event_keeps_log o es old new (PutBack a kept e r) log k l moves =
+    at_new o _ _ _ new moves.4
+    (subst (λ es. IsLogAfter o es (image_put_back old a kept e r) (log_after log old (PutBack a kept e r))) (sym (append-nil es)) (put_back_keeps_log k l a moves.0 kept e r moves.1))
 event_keeps_log o es old new (AnswerAbort a) log k l moves = at_new o _ _ _ new moves.1 (abort_keeps_log k l a moves.0)
 event_keeps_log o es old new (AnswerCommit a) log k l moves =
     at_new o _ _ _ new moves.1
@@ -369,6 +450,7 @@ open_has_log o s log opened tells below =
     let nobody : (t : ℕ) → IsAmong t (txns_of s.active) → ⊥ = λ t a. subst (λ xs. IsAmong t (txns_of xs)) opened.active a in
     record {
       tells_serial = record { tells = tells; uncommitted = λ t a. absurd (nobody t a); each = λ t a. absurd (nobody t a) };
+      undo_logged = λ a m. absurd (nobody a.txn (txn_among a s.active m));
       below = below;
     }
 

@@ -119,7 +119,7 @@ module _ {held : List Hold} {R : Records} where
       }
 
   -- another transaction has changed something elsewhere
-  logged_elsewhere : {t : ℕ} {p : Progress} {L : WriteSet} (R' : Records) → ((id : Rid) → MayWrite held t id → get R' id ≡ get R id)
+  pub logged_elsewhere : {t : ℕ} {p : Progress} {L : WriteSet} (R' : Records) → ((id : Rid) → MayWrite held t id → get R' id ≡ get R id)
       → HasLogged held R t p L → HasLogged held R' t p L
   logged_elsewhere R' same g = record {
     in_place = λ id image at. let was = g.in_place id image at in (same id was.1 ∙ was.0, was.1);

@@ -11,13 +11,14 @@ use Rattle.shore_model.specs.declared.holds.Hold.{Hold}
 use Rattle.shore_model.specs.Alone.{start, after}
 use Rattle.shore_model.specs.Histories.{calls_of, decisions, serial}
 use Rattle.shore_model.specs.Locks.{Harmony, MayRead, MayWrite}
-use Rattle.shore_model.specs.Records.{Records, WriteSet}
+use Rattle.shore_model.specs.Records.{Records}
 use Rattle.shore_sessions.proofs.Entries.{calls-other, decisions-exchanged}
 use Rattle.shore_sessions.proofs.Exchanges.{IsQuiet}
 use Rattle.shore_sessions.proofs.Lists.{recursion-each}
 use Rattle.shore_sessions.proofs.Members.{txn_among}
 use Rattle.shore_sessions.proofs.Soundness.{sound_stays}
 use Rattle.shore_sessions.proofs.StrongerLocks.{reads_up, writes_up}
+use Rattle.shore_sessions.proofs.Standing.{stands_on}
 use Rattle.shore_sessions.proofs.Turns.{KeepsTurn, kept_by_quiet, serial-kept}
 use Rattle.shore_sessions.proofs.UndoLists.{undo_kept_by_locks}
 use Rattle.shore_sessions.proofs.Views.{locks_may_move}
@@ -26,10 +27,6 @@ use Rattle.shore_sessions.specs.Sessions.{SessionTxn, Sessions, locks_moved, txn
 use Rattle.shore_sessions.specs.Soundness.{IsSoundAfter, decided_txn, serial_after, written_by}
 use Rattle.shore_sessions.specs.UndoLists.{CanUndo}
 use Rattle.shore_sessions.specs.Views.{IsAmong, Stand}
-
-same_writes : {held : List Hold} {now R : Records} {ts : List ℕ} (v w : ℕ → WriteSet) → ((t : ℕ) → v t ≡ w t) → Stand held now R ts v
-    → Stand held now R ts w
-same_writes {held} {now} {R} {ts} v w same k = let e : v ≡ w = λ i t. same t i in subst (Stand held now R ts) e k
 
 module _ {o : Records} {es : List Entry} {s : Sessions} (k : IsSoundAfter o es s) where
   abbrev now : Records
@@ -54,8 +51,9 @@ module _ {o : Records} {es : List Entry} {s : Sessions} (k : IsSoundAfter o es s
       sound =
           sound_stays o es with_quiet (decisions-exchanged es u session x)
           (recursion-each (λ d. KeepsTurn es with_quiet (decided_txn d)) (λ d. all_kept (decided_txn d)) (decisions es)) k.sound;
-      stand = subst (λ now. Stand s.held now s.records (txns_of s.active) (written_by with_quiet)) (sym quiet_now)
-          (same_writes (written_by es) (written_by with_quiet) (λ t. ap (λ p. p.writes) (sym (all_kept t).progress)) k.stand);
+      standing = k.standing;
+      stands_for = λ a m. stands_on es with_quiet a (k.standing a.txn) (ap (λ p. p.writes) (all_kept a.txn).progress) (k.stands_for a m);
+      stand = subst (λ now. Stand s.held now s.records (txns_of s.active) k.standing) (sym quiet_now) k.stand;
       replies = λ t a S agree. (all_kept t).replies S (k.replies t a S (λ id r. agree id r ∙ ap (λ R. get R id) quiet_now));
       undoes = λ a m. subst (λ now. CanUndo s.held now s.records a.txn a.undo (after start (calls_of a.txn with_quiet))) (sym quiet_now)
           (subst (CanUndo s.held now s.records a.txn a.undo) (sym (all_kept a.txn).progress) (k.undoes a m));
@@ -74,16 +72,18 @@ module _ {o : Records} {es : List Entry} {s : Sessions} (k : IsSoundAfter o es s
     pub still_writes : (t : ℕ) (id : Rid) → IsAmong t (txns_of s.active) → MayWrite s.held t id → MayWrite held t id
     still_writes t id b w = writes_up s.held held t id (kept t b) w
 
-    moved_stand : Stand held now s.records (txns_of s.active) (written_by es)
+    moved_stand : Stand held now s.records (txns_of s.active) k.standing
     moved_stand = locks_may_move k.stand held harmony still_reads still_writes
 
     pub locks_stay_sound : IsSoundAfter o es (locks_moved s held)
     locks_stay_sound = record {
       sound = k.sound;
+      standing = k.standing;
+      stands_for = k.stands_for;
       stand = moved_stand;
       replies = λ u b S agree. k.replies u b S (λ id r. agree id (still_reads u id b r));
       undoes = λ a m. let b = txn_among a s.active m in
-          undo_kept_by_locks (k.undoes a m) held (λ id r. still_reads a.txn id b r) (λ id w. still_writes a.txn id b w) (k.stand.each a.txn b) (moved_stand.each a.txn b);
+          undo_kept_by_locks (k.undoes a m) held (k.standing a.txn) (λ id r. still_reads a.txn id b r) (λ id w. still_writes a.txn id b w) (k.stand.each a.txn b) (moved_stand.each a.txn b);
       undecided = k.undecided;
       below = k.below;
       decided = k.decided;

@@ -1,6 +1,6 @@
 -- One reply to a transaction under way: it is right for every lone run that it must be right for, and keeps what the transaction sees.
 use Rattle.shore_sessions.specs.SessionSteps.{exchange}
-use Rattle.std.proofs.Common.{◌≡◌, ◌⊎◌, inl, inr, ⊎_elim, ◌++◌, ℕ, List, [], ◌∷◌, Option, Some, None, Result, Ok, Err, refl, sym, ap, subst, ◌∙◌, length}
+use Rattle.std.proofs.Common.{◌≡◌, ◌⊎◌, inl, inr, ⊎_elim, ◌++◌, ◌<◌, ℕ, List, [], ◌∷◌, Option, Some, None, Result, Ok, Err, refl, sym, ap, subst, ◌∙◌, length, arith}
 use Rattle.std.specs.Prelude.{IsSome, IsSomeAnd, unwrap_or}
 use Rattle.std.specs.FinMap.{get, insert}
 use Rattle.shore_types.specs.declared.faults.Fault.{Fault}
@@ -20,10 +20,10 @@ use Rattle.shore_model.proofs.Overlays.{get-overlay}
 use Rattle.shore_types.specs.Images.{Image}
 use Rattle.shore_sessions.proofs.Exchanges.{after-push, replies-push}
 use Rattle.shore_sessions.proofs.Ids.{overlays_agree, put_here, put_there, scans_agree, told_apart, wrote_here, wrote_there}
-use Rattle.shore_sessions.proofs.UndoLists.{back_changes, back_sees, back_undoes, change_undoes, savepoint_undoes}
+use Rattle.shore_sessions.proofs.UndoLists.{back_changes, back_sees, back_undoes, change_undoes, marks_saved, savepoint_undoes}
 use Rattle.shore_sessions.proofs.Views.{read_of_write}
 use Rattle.shore_sessions.specs.RepliesInPlace.{IsKnownAbsent, MayRefuseInPlace, MayReplyInPlace, Permit}
-use Rattle.shore_sessions.specs.UndoLists.{CanUndo, UndoList, in_place_after, in_place_after_answer, undo_after, undo_after_answer}
+use Rattle.shore_sessions.specs.UndoLists.{CanUndo, MayGiveReply, UndoList, in_place_after, in_place_after_answer, undo_after, undo_after_answer}
 use Rattle.shore_sessions.specs.Views.{AgreeWhere, Sees, StayRight}
 
 if_some : {A : Type 0} (o : Option A) (P Q : A → Type 0) → ((x : A) → P x → Q x) → IsSomeAnd o P → IsSomeAnd o Q
@@ -108,7 +108,11 @@ module _ {held : List Hold} {now R : Records} {t : ℕ} (es : List Exchange) (m 
   may_reply c (Ok answer) h S agree = right_there held t R (overlay S progress.writes) (seen S agree) (length progress.saved) c answer h.0 h.1
   may_reply c (Err fault) h S agree = refused_there held t R (overlay S progress.writes) (seen S agree) c fault h
 
-  module _ (undo : UndoList) (k : CanUndo held now R t undo progress) where
+  -- no rollback of it is under way
+  module _ (undo : UndoList) (k : CanUndo held now R t undo progress) (none : undo.rolling ≡ None) where
+    marked : (n : ℕ) → n < length progress.saved → n < length undo.marks
+    marked n less = let same = k.complete none in omega arith
+
     insert_sees : (s : ℕ) (bytes : List ℕ) (answer : Answer) → Permit held t (call.Insert s bytes) answer
         → StillSees progress.writes m (in_place_after_answer R undo (call.Insert s bytes) answer) (after_answer progress (call.Insert s bytes) answer).writes
     insert_sees s bytes (Inserted id) permits = one_written progress.writes m id (Some bytes) permits
@@ -119,7 +123,7 @@ module _ {held : List Hold} {now R : Records} {t : ℕ} (es : List Exchange) (m 
     answer_sees (call.Insert s bytes) answer permits h = insert_sees s bytes answer permits
     answer_sees (call.Update id bytes) answer permits h = one_written progress.writes m id (Some bytes) permits
     answer_sees (call.Delete id) answer permits h = one_written progress.writes m id None permits
-    answer_sees (call.BackTo n) answer permits h = let m = back_sees k n h.0 in record { view = m.view; locked = m.locked; changes = back_changes k n h.0 }
+    answer_sees (call.BackTo n) answer permits h = let few = marked n h.0 in let m = back_sees k n few in record { view = m.view; locked = m.locked; changes = back_changes k n few }
     answer_sees call.Savepoint answer permits h = nothing_written progress.writes m
     answer_sees _ answer permits h = nothing_written progress.writes m
 
@@ -133,8 +137,8 @@ module _ {held : List Hold} {now R : Records} {t : ℕ} (es : List Exchange) (m 
     answer_undoes (call.Insert s bytes) answer permits h = insert_undoes s bytes answer permits
     answer_undoes (call.Update id bytes) answer permits h = change_undoes k id (Some bytes) (insert progress.writes id (Some bytes)) permits
     answer_undoes (call.Delete id) answer permits h = change_undoes k id None (insert progress.writes id None) permits
-    answer_undoes (call.BackTo n) answer permits h = back_undoes k n h.0
-    answer_undoes call.Savepoint answer permits h = savepoint_undoes k m
+    answer_undoes (call.BackTo n) answer permits h = back_undoes k n (marked n h.0)
+    answer_undoes call.Savepoint answer permits h = savepoint_undoes k none m
     answer_undoes _ answer permits h = k
 
     pub reply_sees : (c : Call) (reply : Result Answer Fault) → MayReplyInPlace held t R (length progress.saved) c reply
@@ -169,3 +173,64 @@ module _ {held : List Hold} {now R : Records} {t : ℕ} (es : List Exchange) (m 
   pub right_after : (c : Call) (reply : Result Answer Fault) → MayReplyInPlace held t R (length progress.saved) c reply → StayRight held t now es
       → StayRight held t now (es ++ exchange c reply ∷ [])
   right_after c reply h right S agree = replies-push S start es (exchange c reply) (right S agree) (may_reply c reply h S agree)
+
+-- ---- a reply that may be given to a transaction that has made the calls es, whether a rollback of it is under way or none
+
+module _ (held : List Hold) (now R : Records) (t : ℕ) (es : List Exchange) (undo : UndoList) where
+  -- it sees as it must, it can still be undone, all its replies stay right, and only ids that it may write have changed
+  pub record LeavesAll (c : Call) (reply : Result Answer Fault) : Type 0 where
+    pub changes : (id : Rid) → (get (in_place_after R undo c reply) id ≡ get R id) ⊎ MayWrite held t id
+    pub sees : Sees held now (in_place_after R undo c reply) t (writes_of (es ++ exchange c reply ∷ []))
+    pub undoes : CanUndo held now (in_place_after R undo c reply) t (undo_after R undo c reply) (after start (es ++ exchange c reply ∷ []))
+    pub right : StayRight held t now (es ++ exchange c reply ∷ [])
+
+  module _ (k : CanUndo held now R t undo (after start es)) (right : StayRight held t now es) where
+    -- a rollback to a savepoint leaves what was saved there, whatever of it was done before
+    back_leaves : (n : ℕ) (answer : Answer) → MayReplyInPlace held t R (length undo.marks) (call.BackTo n) (Ok answer)
+        → LeavesAll (call.BackTo n) (Ok answer)
+    back_leaves n answer h =
+        let x : Exchange = exchange (call.BackTo n) (Ok answer) in
+        let less = h.1.0 in
+        let R' = in_place_after R undo (call.BackTo n) (Ok answer) in
+        let come = sym (after-push start es x) in
+        record {
+          changes = back_changes k n less;
+          sees = subst (λ p. Sees held now R' t p.writes) come (back_sees k n less);
+          undoes = subst (CanUndo held now R' t (undo_after R undo (call.BackTo n) (Ok answer))) come (back_undoes k n less);
+          right = λ S agree. replies-push S start es x (right S agree) (let most = marks_saved k in omega arith, h.1.1);
+        }
+
+    pub leaves_all : (L : WriteSet) → Sees held now R t L → (undo.rolling ≡ None → L ≡ writes_of es) → (c : Call) (reply : Result Answer Fault)
+        → MayGiveReply undo c reply → MayReplyInPlace held t R (length undo.marks) c reply → LeavesAll c reply
+    leaves_all L m is c reply (inl none) h =
+        let own : Sees held now R t (writes_of es) = subst (Sees held now R t) (is none) m in
+        let judged : MayReplyInPlace held t R (length (after start es).saved) c reply = subst (λ n. MayReplyInPlace held t R n c reply) (k.complete none) h in
+        record {
+          changes = (reply_sees es own undo k none c reply judged).changes;
+          sees = sees_after es own undo k none c reply judged;
+          undoes = undoes_after es own undo k none c reply judged;
+          right = right_after es own c reply judged right;
+        }
+    leaves_all L m is c reply (inr goes) h =
+        let it : MayReplyInPlace held t R (length undo.marks) (call.BackTo goes.0) (Ok goes.1) =
+        subst (λ c. MayReplyInPlace held t R (length undo.marks) c (Ok goes.1)) goes.3 (subst (MayReplyInPlace held t R (length undo.marks) c) goes.4 h) in
+        subst (LeavesAll c) (sym goes.4) (subst (λ c. LeavesAll c (Ok goes.1)) (sym goes.3) (back_leaves goes.0 goes.1 it))
+
+  -- after it no rollback is under way
+  insert_ends : undo.rolling ≡ None → (s : ℕ) (bytes : List ℕ) (answer : Answer) → (undo_after_answer R undo (call.Insert s bytes) answer).rolling ≡ None
+  insert_ends none s bytes (Inserted id) = none
+  insert_ends none s bytes _ = none
+
+  answer_ends : undo.rolling ≡ None → (c : Call) (answer : Answer) → (undo_after_answer R undo c answer).rolling ≡ None
+  answer_ends none (call.Insert s bytes) answer = insert_ends none s bytes answer
+  answer_ends none (call.Update id bytes) answer = none
+  answer_ends none (call.Delete id) answer = none
+  answer_ends none (call.BackTo n) answer = refl
+  answer_ends none call.Savepoint answer = none
+  answer_ends none _ answer = none
+
+  pub none_rolls : (c : Call) (reply : Result Answer Fault) → MayGiveReply undo c reply → (undo_after R undo c reply).rolling ≡ None
+  none_rolls c (Ok answer) (inl none) = answer_ends none c answer
+  none_rolls c (Err fault) (inl none) = none
+  none_rolls c reply (inr goes) =
+      ap (λ reply. (undo_after R undo c reply).rolling) goes.4 ∙ ap (λ c. (undo_after R undo c (Ok goes.1)).rolling) goes.3

@@ -14,20 +14,21 @@ use Rattle.shore_model.specs.declared.histories.Entry.TheVariants.{Exchanged}
 use Rattle.shore_model.specs.Alone.{start, after, writes_of}
 use Rattle.shore_model.specs.Histories.{Sound, calls_of, decisions, serial}
 use Rattle.shore_model.specs.Locks.{MayRead, MayWrite}
-use Rattle.shore_model.specs.Records.{Records}
+use Rattle.shore_model.specs.Records.{Records, WriteSet}
 use Rattle.shore_sessions.proofs.Entries.{calls-other, calls-own, decisions-exchanged}
 use Rattle.shore_sessions.proofs.Lists.{recursion-weaker}
 use Rattle.shore_sessions.proofs.Members.{HasNewUndo, among_with, txn_among, txns_with}
-use Rattle.shore_sessions.proofs.Replies.{reply_sees, right_after, sees_after, undoes_after}
+use Rattle.shore_sessions.proofs.Replies.{LeavesAll, leaves_all, none_rolls}
 use Rattle.shore_sessions.proofs.Soundness.{sound_stays}
 use Rattle.shore_sessions.proofs.Turns.{AreKept, KeepsTurn, kept_by_other, serial-kept}
-use Rattle.shore_sessions.proofs.UndoLists.{marks_alike, undo_kept_by_others}
+use Rattle.shore_sessions.proofs.Standing.{stands_on, stands_whole, standing_its, standing_others, with_standing}
+use Rattle.shore_sessions.proofs.UndoLists.{undo_kept_by_others}
 use Rattle.shore_sessions.proofs.Views.{one_writes, writer_excludes}
 use Rattle.shore_sessions.specs.RepliesInPlace.{MayReplyInPlace}
 use Rattle.shore_sessions.specs.SessionSteps.{exchange}
 use Rattle.shore_sessions.specs.Sessions.{SessionTxn, Sessions, reply_given, txns_of}
-use Rattle.shore_sessions.specs.Soundness.{IsSoundAfter, decided_txn, history_from, serial_after, written_by}
-use Rattle.shore_sessions.specs.UndoLists.{CanUndo, UndoList, in_place_after, undo_after}
+use Rattle.shore_sessions.specs.Soundness.{IsSoundAfter, StandsFor, decided_txn, history_from, serial_after, written_by}
+use Rattle.shore_sessions.specs.UndoLists.{CanUndo, MayGiveReply, UndoList, in_place_after, undo_after}
 use Rattle.shore_sessions.specs.Views.{IsAmong, Sees, Stand, StayRight}
 
 module _ {o : Records} {es : List Entry} {s : Sessions} (k : IsSoundAfter o es s) where
@@ -47,6 +48,9 @@ module _ {o : Records} {es : List Entry} {s : Sessions} (k : IsSoundAfter o es s
 
     pub others_called : (u : ℕ) → u ≢ t → calls_of u with_reply ≡ calls_of u es
     others_called u other = calls-other es u t a.session x (λ same. other (sym same))
+
+    pub own_called : calls_of t with_reply ≡ calls_of t es ++ x ∷ []
+    own_called = calls-own es t a.session x
 
     pub decided_kept : AreKept es with_reply (decisions es)
     decided_kept =
@@ -77,7 +81,7 @@ module _ {o : Records} {es : List Entry} {s : Sessions} (k : IsSoundAfter o es s
     others_see R' changes u other id r = ⊎_elim (λ kept. kept) (λ w. absurd (writer_excludes k.stand t u id (λ same. other (sym same)) w r)) (changes id)
 
   -- a reply, judged on the records in place
-  module _ (a : SessionTxn) (mem : IsAmong a s.active) (c : Call) (reply : Result Answer Fault) (served : MayReplyInPlace s.held a.txn s.records (length a.undo.marks) c reply) where
+  module _ (a : SessionTxn) (mem : IsAmong a s.active) (c : Call) (reply : Result Answer Fault) (served : MayReplyInPlace s.held a.txn s.records (length a.undo.marks) c reply) (may : MayGiveReply a.undo c reply) where
     abbrev pub x : Exchange
     x = exchange c reply
 
@@ -93,45 +97,55 @@ module _ {o : Records} {es : List Entry} {s : Sessions} (k : IsSoundAfter o es s
     abbrev pub undo' : UndoList
     undo' = undo_after s.records a.undo c reply
 
-    pub sees : Sees s.held now s.records a.txn (writes_of own)
-    sees = k.stand.each a.txn (txn_in a mem x)
+    -- what it leaves of its own transaction
+    pub reply_leaves_all : LeavesAll s.held now s.records a.txn own a.undo c reply
+    reply_leaves_all =
+        leaves_all s.held now s.records a.txn own a.undo (k.undoes a mem) (k.replies a.txn (txn_in a mem x))
+        (k.standing a.txn) (k.stand.each a.txn (txn_in a mem x)) (k.stands_for a mem).written c reply may served
 
-    pub undoable : CanUndo s.held now s.records a.txn a.undo (after start own)
-    undoable = k.undoes a mem
+    -- what stands for each then
+    abbrev pub standing' : ℕ → WriteSet
+    standing' = with_standing k.standing a.txn (written_by more a.txn)
 
-    -- it has as many marks as savepoints
-    pub judged : MayReplyInPlace s.held a.txn s.records (length (after start own).saved) c reply
-    judged =
-        subst (λ n. MayReplyInPlace s.held a.txn s.records n c reply)
-        (marks_alike s.held a.txn now s.records a.undo.images a.undo.marks (after start own).saved undoable.savepoints) served
-
-    pub own_called : calls_of a.txn more ≡ own ++ x ∷ []
-    own_called = calls-own es a.txn a.session x
+    moved_stands : (b : SessionTxn) → HasNewUndo a.txn undo' s.active b → StandsFor more b (standing' b.txn)
+    moved_stands b one =
+        ⊎_elim
+        (λ it.
+        stands_whole more b (standing' b.txn) (ap (λ (undo : UndoList). undo.rolling) it.1 ∙ none_rolls s.held now s.records a.txn own a.undo c reply may)
+        (subst (λ u. standing' u ≡ written_by more u) (sym it.0) (standing_its k.standing a.txn (written_by more a.txn))))
+        (λ other.
+        subst (StandsFor more b) (sym (standing_others k.standing a.txn (written_by more a.txn) b.txn other.0))
+        (stands_on es more b (k.standing b.txn) (ap writes_of (others_called a mem x b.txn other.0))
+        (k.stands_for b (subst (λ y. IsAmong y s.active) (sym other.1) one.there))))
+        one.one
 
     moved_undoes : (b : SessionTxn) → HasNewUndo a.txn undo' s.active b → CanUndo s.held now R' b.txn b.undo (after start (calls_of b.txn more))
     moved_undoes b one =
         ⊎_elim
         (λ it. subst (λ u. CanUndo s.held now R' u b.undo (after start (calls_of u more))) (sym it.0)
         (subst (λ tr. CanUndo s.held now R' a.txn tr (after start (calls_of a.txn more))) (sym it.1)
-        (subst (λ xs. CanUndo s.held now R' a.txn undo' (after start xs)) (sym own_called) (undoes_after own sees a.undo undoable c reply judged))))
+        (subst (λ xs. CanUndo s.held now R' a.txn undo' (after start xs)) (sym (own_called a mem x)) reply_leaves_all.undoes)))
         (λ other. subst (λ xs. CanUndo s.held now R' b.txn b.undo (after start xs)) (sym (others_called a mem x b.txn other.0))
         (undo_kept_by_others (k.undoes b (subst (λ y. IsAmong y s.active) (sym other.1) one.there)) now R'
-        (λ id r. (others_see a mem x R' (reply_sees own sees a.undo undoable c reply judged).changes b.txn other.0 id r, refl))))
+        (λ id r. (others_see a mem x R' reply_leaves_all.changes b.txn other.0 id r, refl))))
         one.one
 
     pub reply_stays_sound : IsSoundAfter o more (reply_given s a c reply)
     reply_stays_sound = record {
       sound = reply_sound a mem x;
+      standing = standing';
+      stands_for = λ b in_with. moved_stands b (among_with a.txn undo' b s.active in_with);
       stand =
-          subst (λ ts. Stand s.held (serial_after o more) R' ts (written_by more)) (sym (txns_with a.txn undo' s.active))
-          (subst (λ now. Stand s.held now R' (txns_of s.active) (written_by more)) (sym (reply_now a mem x))
-          (one_writes k.stand a.txn (txn_in a mem x) R' (written_by more) (λ u other. ap writes_of (others_called a mem x u other))
-          (reply_sees own sees a.undo undoable c reply judged).changes
-          (subst (λ xs. Sees s.held now R' a.txn (writes_of xs)) (sym own_called) (sees_after own sees a.undo undoable c reply judged))));
+          subst (λ ts. Stand s.held (serial_after o more) R' ts standing') (sym (txns_with a.txn undo' s.active))
+          (subst (λ now. Stand s.held now R' (txns_of s.active) standing') (sym (reply_now a mem x))
+          (one_writes k.stand a.txn (txn_in a mem x) R' standing' (λ u other. standing_others k.standing a.txn (written_by more a.txn) u other)
+          reply_leaves_all.changes
+          (subst (Sees s.held now R' a.txn) (sym (standing_its k.standing a.txn (written_by more a.txn)))
+          (subst (λ xs. Sees s.held now R' a.txn (writes_of xs)) (sym (own_called a mem x)) reply_leaves_all.sees))));
       replies = λ u b. subst (λ now. StayRight s.held u now (calls_of u more)) (sym (reply_now a mem x))
           (elim (u == a.txn) as (λ b. (u == a.txn) ≡ b → StayRight s.held u now (calls_of u more)) [
             | true ↦ λ e. subst (λ v. StayRight s.held v now (calls_of v more)) (sym (eqb-true u a.txn e))
-                (subst (StayRight s.held a.txn now) (sym own_called) (right_after own sees c reply judged (k.replies a.txn (txn_in a mem x))))
+                (subst (StayRight s.held a.txn now) (sym (own_called a mem x)) reply_leaves_all.right)
             | false ↦ λ e. subst (StayRight s.held u now) (sym (others_called a mem x u (eqb-false u a.txn e)))
                 (k.replies u (subst (IsAmong u) (txns_with a.txn undo' s.active) b))
           ] refl);

@@ -4,7 +4,9 @@ use Rattle.std.specs.Prelude.{◌==◌, ◌&&◌, All, IfSome, IsSomeAnd, slice_
 use Rattle.std.specs.FinMap.{get}
 use Rattle.std.proofs.lemmas.Bool.{eqb-true, eqb-false, eq-eqb, ne_eqb}
 use Rattle.std.proofs.lemmas.List.Elements.{All-nil, All-push, All-weaker}
+use Rattle.shore_types.specs.Images.{Image}
 use Rattle.shore_types.specs.declared.faults.Fault.{Fault}
+use Rattle.shore_types.specs.declared.ids.Rid.{Rid}
 use Rattle.shore_model.specs.declared.calls.Answer.{Answer}
 use Rattle.shore_model.specs.declared.calls.Answer.TheVariants.{Began, Got, Inserted, Updated, Deleted, Scanned, Locked, Saved, WentBack, Aborted, Committed}
 use Rattle.shore_model.specs.declared.calls.Call.{Call}
@@ -21,10 +23,11 @@ use Rattle.shore_model.specs.Records.{Records, scan_of}
 use Rattle.shore_sessions.proofs.Entries.{history-push, session_state-push}
 use Rattle.shore_sessions.proofs.Members.{among_with, among_without, member_stays, once_without, txn_of_one, txns_with, with_among}
 use Rattle.shore_sessions.specs.RepliesInPlace.{MayReplyInPlace}
-use Rattle.shore_sessions.specs.SessionSteps.{AnswerAbort, AnswerCommit, AppendCommit, BeginTxn, GiveReply, IsInnerCall, MoveLocks, RefuseCall, SessionEvent, StepsTo, entries_by, exchange}
-use Rattle.shore_sessions.specs.Sessions.{EachOnce, IsCurrent, IsInNoTxn, IsTxnOf, SessionTxn, Sessions, abort_answered, commit_answered, commit_appended, locks_moved, reply_given, txn_begun, txns_of}
+use Rattle.shore_sessions.specs.declared.rollbacks.Rollback.{Rollback}
+use Rattle.shore_sessions.specs.SessionSteps.{AnswerAbort, AnswerCommit, AppendCommit, BeginTxn, GiveReply, IsInnerCall, MoveLocks, PutBack, RefuseCall, SessionEvent, StepsTo, entries_by, exchange}
+use Rattle.shore_sessions.specs.Sessions.{EachOnce, IsCurrent, IsInNoTxn, IsTxnOf, SessionTxn, Sessions, abort_answered, commit_answered, commit_appended, image_put_back, locks_moved, reply_given, txn_begun, txns_of}
 use Rattle.shore_sessions.specs.Soundness.{IsJustOpened, SessionsAgree, history_from, in_txn, opening_with}
-use Rattle.shore_sessions.specs.UndoLists.{nothing_to_undo, undo_after}
+use Rattle.shore_sessions.specs.UndoLists.{nothing_to_undo, undo_after, undo_rolled}
 use Rattle.shore_sessions.specs.Views.{IsAmong}
 
 -- ---- replies that leave their sessions as they are
@@ -156,6 +159,28 @@ module _ {o : Records} {es : List Entry} {s : Sessions} (k : SessionsAgree o es 
       (λ b d x y same. let one = among_with a.txn undo b s.active x in k.apart one.was d one.there y (sym one.txn ∙ same))
       (subst EachOnce (sym (txns_with a.txn undo s.active)) k.once)
 
+  -- an image is put back: each session is where it was
+  pub put_back_agrees : (a : SessionTxn) (kept : List (Rid × Image)) (e : Rid × Image) (r : Rollback) → SessionsAgree o es (image_put_back s a kept e r)
+  put_back_agrees a kept e r =
+      let undo = undo_rolled a.undo kept r in
+      let new : Sessions = image_put_back s a kept e r in
+      let was : (b : SessionTxn) → IsCurrent new b → (d : SessionTxn) × IsCurrent s d × (b.session ≡ d.session) × (b.txn ≡ d.txn) =
+      λ b y. ⊎_elim (λ x. let one = among_with a.txn undo b s.active x in (one.was, inl one.there, one.session, one.txn)) (λ x. (b, inr x, refl, refl)) y in
+      let still : (b : SessionTxn) → IsCurrent s b → (d : SessionTxn) × IsCurrent new d × (d.session ≡ b.session) =
+      λ b y. ⊎_elim (λ x. let w = with_among a.txn undo b s.active x in (w.0, inl w.1, w.2)) (λ x. (b, inr x, refl)) y in
+      record {
+        history = k.history;
+        current = λ b y. let d = was b y in ap (λ n. session_state n free es) d.2 ∙ k.current d.0 d.1 ∙ ap in_txn (sym d.3);
+        idle = λ n idle. k.idle n (λ b y same. let d = still b y in idle d.0 d.1 (d.2 ∙ same));
+        one = λ b c y z same. let d = was b y in let f = was c z in d.2 ∙ k.one d.0 f.0 d.1 f.1 (sym d.3 ∙ same ∙ f.3) ∙ sym f.2;
+        once = subst EachOnce (sym (txns_with a.txn undo s.active)) k.once;
+        apart = λ b c x y same. let one = among_with a.txn undo b s.active x in k.apart one.was c one.there y (sym one.txn ∙ same);
+        above = λ b y. let d = was b y in subst (λ t. 0 < t) (sym d.3) (k.above d.0 d.1);
+        below = λ b y. let d = was b y in subst (λ t. t < s.next_txn) (sym d.3) (k.below d.0 d.1);
+        begun = k.begun;
+        some = k.some;
+      }
+
   pub refusal_agrees : (session t : ℕ) (c : Call) (fault : Fault) → IsTxnOf s session t
       → SessionsAgree o (es ++ Exchanged session t (exchange c (Err fault)) ∷ []) s
   refusal_agrees session t c fault of =
@@ -285,8 +310,11 @@ event_agrees o es old new (MoveLocks held) k moves =
     subst (SessionsAgree o (es ++ [])) (sym moves.3) (subst (λ es. SessionsAgree o es (locks_moved old held)) (sym (append-nil es))
     (record { history = k.history; current = k.current; idle = k.idle; one = k.one; once = k.once; apart = k.apart; above = k.above; below = k.below; begun = k.begun; some = k.some }))
 event_agrees o es old new (BeginTxn session) k moves = subst (SessionsAgree o _) (sym moves.1) (begin_agrees k session moves.0)
-event_agrees o es old new (GiveReply a c reply) k moves = subst (SessionsAgree o _) (sym moves.3) (reply_agrees k a c reply moves.0 moves.1 moves.2)
-event_agrees o es old new (AppendCommit a) k moves = subst (SessionsAgree o _) (sym moves.1) (commit_agrees k a moves.0)
+event_agrees o es old new (GiveReply a c reply) k moves = subst (SessionsAgree o _) (sym moves.4) (reply_agrees k a c reply moves.0 moves.1 moves.2)
+event_agrees o es old new (AppendCommit a) k moves = subst (SessionsAgree o _) (sym moves.2) (commit_agrees k a moves.0)
+event_agrees o es old new (PutBack a kept e r) k moves =
+    subst (SessionsAgree o (es ++ [])) (sym moves.4)
+    (subst (λ es. SessionsAgree o es (image_put_back old a kept e r)) (sym (append-nil es)) (put_back_agrees k a kept e r))
 event_agrees o es old new (AnswerAbort a) k moves = subst (SessionsAgree o _) (sym moves.1) (abort_agrees k a moves.0)
 event_agrees o es old new (AnswerCommit a) k moves = subst (SessionsAgree o _) (sym moves.1) (answer_agrees k a moves.0)
 event_agrees o es old new (RefuseCall session t c fault) k moves = subst (SessionsAgree o _) (sym moves.2) (refusal_agrees k session t c fault moves.0)

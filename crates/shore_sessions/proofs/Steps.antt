@@ -12,12 +12,13 @@ use Rattle.shore_model.specs.Histories.{decisions}
 use Rattle.shore_model.specs.Records.{Records}
 use Rattle.shore_sessions.proofs.Exchanges.{commit_is_quiet, refusal_is_quiet}
 use Rattle.shore_sessions.proofs.StrongerLocks.{no_locks_in_harmony}
-use Rattle.shore_sessions.specs.SessionSteps.{AnswerAbort, AnswerCommit, AppendCommit, BeginTxn, GiveReply, MoveLocks, RefuseCall, SessionEvent, StepsTo, entries_by, exchange}
-use Rattle.shore_sessions.specs.Sessions.{IsTxnOf, Sessions, locks_moved, txns_of, without_txn}
+use Rattle.shore_sessions.specs.SessionSteps.{AnswerAbort, AnswerCommit, AppendCommit, BeginTxn, GiveReply, MoveLocks, PutBack, RefuseCall, SessionEvent, StepsTo, entries_by, exchange}
+use Rattle.shore_sessions.specs.Sessions.{IsTxnOf, Sessions, image_put_back, locks_moved, txns_of, without_txn}
 use Rattle.shore_sessions.specs.Soundness.{IsJustOpened, IsSoundAfter, SessionsAgree, written_by}
 use Rattle.shore_sessions.specs.Views.{IsAmong, Stand}
 use Rattle.shore_sessions.proofs.BeginSteps.{begin_stays_sound}
 use Rattle.shore_sessions.proofs.EndSteps.{abort_stays_sound, commit_stays_sound}
+use Rattle.shore_sessions.proofs.PutBacks.{put_back_stays_sound}
 use Rattle.shore_sessions.proofs.QuietSteps.{locks_stay_sound, quiet_stays_sound}
 use Rattle.shore_sessions.proofs.ReplySteps.{reply_stays_sound}
 
@@ -35,8 +36,11 @@ event_stays_sound o es old new (MoveLocks held) k agree moves =
     subst (IsSoundAfter o (es ++ [])) (sym moves.3)
     (subst (λ es. IsSoundAfter o es (locks_moved old held)) (sym (append-nil es)) (locks_stay_sound k held moves.0 moves.1 moves.2))
 event_stays_sound o es old new (BeginTxn session) k agree moves = subst (IsSoundAfter o _) (sym moves.1) (begin_stays_sound k session)
-event_stays_sound o es old new (GiveReply a c reply) k agree moves = subst (IsSoundAfter o _) (sym moves.3) (reply_stays_sound k a moves.0 c reply moves.2)
-event_stays_sound o es old new (AppendCommit a) k agree moves = subst (IsSoundAfter o _) (sym moves.1) (commit_stays_sound k a moves.0)
+event_stays_sound o es old new (GiveReply a c reply) k agree moves = subst (IsSoundAfter o _) (sym moves.4) (reply_stays_sound k a moves.0 c reply moves.2 moves.3)
+event_stays_sound o es old new (AppendCommit a) k agree moves = subst (IsSoundAfter o _) (sym moves.2) (commit_stays_sound k a moves.0 moves.1)
+event_stays_sound o es old new (PutBack a kept e r) k agree moves =
+    subst (IsSoundAfter o (es ++ [])) (sym moves.4)
+    (subst (λ es. IsSoundAfter o es (image_put_back old a kept e r)) (sym (append-nil es)) (put_back_stays_sound k a moves.0 kept e moves.1 r moves.2 moves.3))
 event_stays_sound o es old new (AnswerAbort a) k agree moves = subst (IsSoundAfter o _) (sym moves.1) (abort_stays_sound k a moves.0)
 event_stays_sound o es old new (AnswerCommit a) k agree moves =
     subst (IsSoundAfter o _) (sym moves.1)
@@ -49,6 +53,8 @@ event_stays_sound o es old new (RefuseCall session t c fault) k agree moves =
 pub open_is_sound : (o : Records) (s : Sessions) → IsJustOpened o s → IsSoundAfter o [] s
 open_is_sound o s h = record {
   sound = λ n d at. absurd (none_at n d at);
+  standing = written_by [];
+  stands_for = λ a m. absurd (subst (IsAmong a) h.active m);
   stand = subst (λ xs. Stand s.held o s.records (txns_of xs) (written_by [])) (sym h.active) (subst (λ hs. Stand hs o s.records [] (written_by [])) (sym h.held)
       (record { harmony = no_locks_in_harmony; each = λ t b. absurd b; others = λ id none. ap (λ R. get R id) h.records }));
   replies = λ t b. absurd (subst (λ xs. IsAmong t (txns_of xs)) h.active b);

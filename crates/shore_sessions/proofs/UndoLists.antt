@@ -1,5 +1,6 @@
--- Undo lists, step by step: a change, a savepoint, a rollback to one or of the whole, and what others do meanwhile.
-use Rattle.std.proofs.Common.{◌≡◌, ◌⊎◌, inl, inr, ⊎_elim, ◌++◌, ◌≤◌, ◌<◌, ◌+◌, ℕ, zero, suc, List, [], ◌∷◌, refl, sym, ap, subst, ◌∙◌, length, drop, take, arith, add-one}
+-- Undo lists, step by step: a change, a savepoint, a rollback to one or of the whole, at once or image by image, and what others do meanwhile.
+use Rattle.std.proofs.Common.{◌≡◌, ◌⊎◌, inl, inr, ⊎_elim, ◌++◌, ◌≤◌, ◌<◌, ◌+◌, ℕ, zero, suc, List, [], ◌∷◌, Option, None, refl, sym, ap, subst, ◌∙◌, length, drop, take, arith, add-one}
+use Rattle.std.proofs.Math.Seq.{take-length}
 use Rattle.std.specs.Prelude.{slice_get, unwrap_or}
 use Rattle.std.specs.FinMap.{empty, get, find, get-empty, same_map}
 use Rattle.std.specs.List.{AllByRecursion}
@@ -13,9 +14,11 @@ use Rattle.shore_model.proofs.Overlays.{get-laid_over}
 use Rattle.shore_model.specs.Alone.{start}
 use Rattle.shore_types.specs.Images.{Image}
 use Rattle.shore_sessions.proofs.Ids.{overlay_empty, overlays_agree, put_here, put_there, told_apart}
-use Rattle.shore_sessions.proofs.Lists.{drop-between, drop-push, drop-whole, length-push, length-take_within, recursion-drop, recursion-push, recursion-take, recursion-weaker}
+use Rattle.shore_sessions.proofs.Lists.{drop-between, drop-push, drop-whole, length-push, length-take_most, length-take_within, recursion-drop, recursion-push, recursion-take, recursion-unpush, recursion-weaker, slice_get-take, take-beyond, take-take}
 use Rattle.shore_sessions.proofs.Views.{not_some, overlay_none, read_of_write, some_or_none}
-use Rattle.shore_sessions.specs.UndoLists.{AreRising, CanUndo, UndoList, UndoToSavepoints, UndoesTo, mark_of, nothing_to_undo, rolled_back, with_before_image}
+use Rattle.shore_sessions.specs.declared.rollbacks.Rollback.{Rollback}
+use Rattle.shore_sessions.specs.declared.rollbacks.Rollback.TheVariants.{Whole, To}
+use Rattle.shore_sessions.specs.UndoLists.{AreRising, CanUndo, MayRoll, UndoList, UndoToSavepoints, UndoesTo, least_kept, mark_of, nothing_to_undo, rolled_back, undo_rolled, with_before_image}
 use Rattle.shore_sessions.specs.Views.{Sees}
 
 -- ---- images put back
@@ -122,6 +125,20 @@ rise_below n d [] less h = absurd (omega arith)
 -- ---- a transaction that can be undone
 
 module _ {held : List Hold} {now R : Records} {t : ℕ} {undo : UndoList} {p : Progress} (k : CanUndo held now R t undo p) where
+  -- the write sets of the savepoints that are left
+  abbrev left_saved : List WriteSet
+  left_saved = take (length undo.marks) p.saved
+
+  all_left : undo.rolling ≡ None → left_saved ≡ p.saved
+  all_left none = ap (λ n. take n p.saved) (k.complete none) ∙ take-length p.saved
+
+  -- there is no mark without its savepoint
+  pub marks_saved : length undo.marks ≤ length p.saved
+  marks_saved =
+      let same : length undo.marks ≡ length left_saved = marks_alike held t now R undo.images undo.marks left_saved k.savepoints in
+      let most = length-take_most (length undo.marks) p.saved in
+      omega arith
+
   -- others change nothing that it may read, in place or in the serial records
   pub undo_kept_by_others : (now' R' : Records) → ((id : Rid) → MayRead held t id → (get R' id ≡ get R id) × (get now' id ≡ get now id))
       → CanUndo held now' R' t undo p
@@ -135,8 +152,9 @@ module _ {held : List Hold} {now R : Records} {t : ℕ} {undo : UndoList} {p : P
       record {
         changed = k.changed;
         whole = keep 0 empty tt k.whole;
-        savepoints = each_mark (λ m. Unit {0}) keep undo.marks p.saved (anything undo.marks) k.savepoints;
+        savepoints = each_mark (λ m. Unit {0}) keep undo.marks left_saved (anything undo.marks) k.savepoints;
         rise = k.rise;
+        complete = k.complete;
       }
 
   -- It changes an id. The new image is put back first, so that what is undone down to each mark is as before.
@@ -159,25 +177,36 @@ module _ {held : List Hold} {now R : Records} {t : ℕ} {undo : UndoList} {p : P
       record {
         changed = recursion-push (λ e. MayWrite held t e.0) undo.images (id, get R id) k.changed w;
         whole = keep 0 empty tt k.whole;
-        savepoints = each_mark (λ m. Unit {0}) keep undo.marks p.saved (anything undo.marks) k.savepoints;
+        savepoints = each_mark (λ m. Unit {0}) keep undo.marks left_saved (anything undo.marks) k.savepoints;
         rise = k.rise;
+        complete = k.complete;
       }
 
   -- it sets a savepoint, and there is nothing to undo beyond that yet
-  pub savepoint_undoes : Sees held now R t p.writes → CanUndo held now R t record { images = undo.images; marks = undo.marks ++ length undo.images ∷ [] } record { writes = p.writes; saved = p.saved ++ p.writes ∷ [] }
-  savepoint_undoes m = record {
-    changed = k.changed;
-    whole = k.whole;
-    savepoints = marks_push held t now R undo.images undo.marks p.saved (length undo.images) p.writes k.savepoints record {
-      within = omega arith;
-      view = λ id r. ap (λ es. get (laid_over R es) id) (drop-whole undo.images) ∙ m.view id r;
-      locked = m.locked;
-    };
-    rise = rise_push undo.marks (length undo.images) k.rise (marks_within held t now R undo.images undo.marks p.saved k.savepoints);
-  }
+  pub savepoint_undoes : undo.rolling ≡ None → Sees held now R t p.writes
+      → CanUndo held now R t record { images = undo.images; marks = undo.marks ++ length undo.images ∷ []; rolling = undo.rolling } record { writes = p.writes; saved = p.saved ++ p.writes ∷ [] }
+  savepoint_undoes none m =
+      let more = undo.marks ++ length undo.images ∷ [] in
+      let lengths : length more ≡ length undo.marks + 1 = length-push undo.marks (length undo.images) in
+      let longer : length (p.saved ++ p.writes ∷ []) ≡ length p.saved + 1 = length-push p.saved p.writes in
+      let same = k.complete none in
+      record {
+        changed = k.changed;
+        whole = k.whole;
+        savepoints =
+            subst (UndoToSavepoints held now R t undo.images more) (sym (take-beyond (length more) p.saved p.writes (omega arith)))
+            (marks_push held t now R undo.images undo.marks p.saved (length undo.images) p.writes
+            (subst (UndoToSavepoints held now R t undo.images undo.marks) (all_left none) k.savepoints) record {
+              within = omega arith;
+              view = λ id r. ap (λ es. get (laid_over R es) id) (drop-whole undo.images) ∙ m.view id r;
+              locked = m.locked;
+            });
+        rise = rise_push undo.marks (length undo.images) k.rise (marks_within held t now R undo.images undo.marks left_saved k.savepoints);
+        complete = λ i. omega arith;
+      }
 
-  -- it goes back to its savepoint n
-  module _ (n : ℕ) (less : n < length p.saved) where
+  -- it goes back to its savepoint n, at once or in steps
+  module _ (n : ℕ) (less : n < length undo.marks) where
     abbrev back_mark : ℕ
     back_mark = mark_of undo n
 
@@ -185,7 +214,27 @@ module _ {held : List Hold} {now R : Records} {t : ℕ} {undo : UndoList} {p : P
     back_writes = unwrap_or (slice_get p.saved n) p.writes
 
     goes_back : UndoesTo held now R t undo.images back_mark back_writes
-    goes_back = marks_at held t now R undo.images n undo.marks p.saved (length undo.images) p.writes less k.savepoints
+    goes_back =
+        let most = marks_saved in
+        let within : length left_saved ≡ length undo.marks = length-take_within (length undo.marks) p.saved most in
+        subst (λ (W : Option WriteSet). UndoesTo held now R t undo.images back_mark (unwrap_or W p.writes)) (slice_get-take n (length undo.marks) p.saved less)
+        (marks_at held t now R undo.images n undo.marks left_saved (length undo.images) p.writes (omega arith) k.savepoints)
+
+    -- of the savepoints up to it each has its write set, and a mark that is not above its own
+    few_left : take (n + 1) left_saved ≡ take (n + 1) p.saved
+    few_left = take-take (n + 1) (length undo.marks) p.saved (omega arith)
+
+    few_marks : length (take (n + 1) undo.marks) ≡ n + 1
+    few_marks = length-take_within (n + 1) undo.marks (omega arith)
+
+    marks_below : AllByRecursion (λ m. m ≤ back_mark) (take (n + 1) undo.marks)
+    marks_below =
+        subst (λ j. AllByRecursion (λ m. m ≤ back_mark) (take j undo.marks)) (sym (add-one n)) (rise_below n (length undo.images) undo.marks less k.rise)
+
+    savepoints_left : UndoToSavepoints held now R t undo.images (take (n + 1) undo.marks) (take (n + 1) p.saved)
+    savepoints_left =
+        subst (UndoToSavepoints held now R t undo.images (take (n + 1) undo.marks)) few_left
+        (marks_take held t now R undo.images (n + 1) undo.marks left_saved k.savepoints)
 
     pub back_sees : Sees held now (rolled_back R (drop back_mark undo.images)) t back_writes
     back_sees = record { view = goes_back.view; locked = goes_back.locked }
@@ -205,19 +254,52 @@ module _ {held : List Hold} {now R : Records} {t : ℕ} {undo : UndoList} {p : P
           locked = g.locked;
         }
 
-    pub back_undoes : CanUndo held now (rolled_back R (drop back_mark undo.images)) t record { images = take back_mark undo.images; marks = take (n + 1) undo.marks } record { writes = back_writes; saved = take (n + 1) p.saved }
+    pub back_undoes : CanUndo held now (rolled_back R (drop back_mark undo.images)) t record { images = take back_mark undo.images; marks = take (n + 1) undo.marks; rolling = None } record { writes = back_writes; saved = take (n + 1) p.saved }
     back_undoes =
-        let alike : length undo.marks ≡ length p.saved = marks_alike held t now R undo.images undo.marks p.saved k.savepoints in
-        let few : n < length undo.marks = omega arith in
+        let R' = rolled_back R (drop back_mark undo.images) in
+        let few : length (take (n + 1) p.saved) ≡ n + 1 = let most = marks_saved in length-take_within (n + 1) p.saved (omega arith) in
         record {
           changed = recursion-take (λ e. MayWrite held t e.0) back_mark undo.images k.changed;
           whole = back_keeps 0 empty (omega arith) k.whole;
           savepoints =
-              each_mark (λ m. m ≤ back_mark) back_keeps (take (n + 1) undo.marks) (take (n + 1) p.saved)
-              (subst (λ j. AllByRecursion (λ m. m ≤ back_mark) (take j undo.marks)) (sym (add-one n)) (rise_below n (length undo.images) undo.marks few k.rise))
-              (marks_take held t now R undo.images (n + 1) undo.marks p.saved k.savepoints);
+              subst (UndoToSavepoints held now R' t (take back_mark undo.images) (take (n + 1) undo.marks))
+              (sym (ap (λ j. take j (take (n + 1) p.saved)) few_marks ∙ take-take (n + 1) (n + 1) p.saved (omega arith)))
+              (each_mark (λ m. m ≤ back_mark) back_keeps (take (n + 1) undo.marks) (take (n + 1) p.saved) marks_below savepoints_left);
           rise = rise_take (n + 1) undo.marks k.rise;
+          complete = λ none. few_marks ∙ sym few;
         }
+
+  -- the newest image is put back; the rest is left to undo
+  module _ (kept : List (Rid × Image)) (e : Rid × Image) (is : undo.images ≡ kept ++ e ∷ []) where
+    step_keeps : (m : ℕ) (W : WriteSet) → m ≤ length kept → UndoesTo held now R t undo.images m W → UndoesTo held now (put_image R e.0 e.1) t kept m W
+    step_keeps m W le g =
+        let same : rolled_back (put_image R e.0 e.1) (drop m kept) ≡ rolled_back R (drop m undo.images) =
+        sym (laid_over-append R (drop m kept) (e ∷ [])) ∙ ap (laid_over R) (sym (drop-push m kept e le) ∙ ap (drop m) (sym is)) in
+        record { within = le; view = λ id r. ap (λ S. get S id) same ∙ g.view id r; locked = g.locked }
+
+    step_changed : AllByRecursion (λ d. MayWrite held t d.0) kept
+    step_changed = recursion-unpush (λ d. MayWrite held t d.0) kept e (subst (AllByRecursion (λ d. MayWrite held t d.0)) is k.changed)
+
+    pub step_undoes : (r : Rollback) → MayRoll undo r → least_kept undo r ≤ length kept → CanUndo held now (put_image R e.0 e.1) t (undo_rolled undo kept r) p
+    step_undoes Whole may least = record {
+      changed = step_changed;
+      whole = step_keeps 0 empty (omega arith) k.whole;
+      savepoints = tt;
+      rise = tt;
+      complete = λ none. cc;
+    }
+    step_undoes (To n) may least = record {
+      changed = step_changed;
+      whole = step_keeps 0 empty (omega arith) k.whole;
+      savepoints =
+          subst (UndoToSavepoints held now (put_image R e.0 e.1) t kept (take (n + 1) undo.marks))
+          (ap (λ j. take j p.saved) (sym (few_marks n may.0)))
+          (each_mark (λ m. m ≤ length kept) step_keeps (take (n + 1) undo.marks) (take (n + 1) p.saved)
+          (recursion-weaker (λ m. m ≤ mark_of undo n) (λ m. m ≤ length kept) (λ m le. omega arith) (take (n + 1) undo.marks) (marks_below n may.0))
+          (savepoints_left n may.0));
+      rise = rise_take (n + 1) undo.marks k.rise;
+      complete = λ none. cc;
+    }
 
   -- it is undone as a whole: the records that it may read are serial again
   pub undone_agrees : (id : Rid) → MayRead held t id → get (rolled_back R undo.images) id ≡ get now id
@@ -227,10 +309,10 @@ module _ {held : List Hold} {now R : Records} {t : ℕ} {undo : UndoList} {p : P
   undone_changes id = laid_or_left (MayWrite held t) R undo.images id k.changed
 
   -- Locks move, and it loses none. At an id that it may read only now neither its changes nor their undo have changed anything.
-  pub undo_kept_by_locks : (new : List Hold) → ((id : Rid) → MayRead held t id → MayRead new t id)
+  pub undo_kept_by_locks : (new : List Hold) (L : WriteSet) → ((id : Rid) → MayRead held t id → MayRead new t id)
       → ((id : Rid) → MayWrite held t id → MayWrite new t id)
-      → Sees held now R t p.writes → Sees new now R t p.writes → CanUndo new now R t undo p
-  undo_kept_by_locks new reads writes m m' =
+      → Sees held now R t L → Sees new now R t L → CanUndo new now R t undo p
+  undo_kept_by_locks new L reads writes m m' =
       let keep : (n : ℕ) (W : WriteSet) → Unit {0} → UndoesTo held now R t undo.images n W → UndoesTo new now R t undo.images n W =
       λ n W _ g. record {
         within = g.within;
@@ -240,8 +322,8 @@ module _ {held : List Hold} {now R : Records} {t : ℕ} {undo : UndoList} {p : P
             ⊎_elim (λ w. old (read_of_write held t id (g.locked id w)))
             (λ none.
             ⊎_elim (λ w. old (read_of_write held t id (m.locked id w)))
-            (λ unwritten. left ∙ m'.view id r ∙ overlay_none now p.writes id unwritten ∙ sym (overlay_none now W id none))
-            (some_or_none (get p.writes id)))
+            (λ unwritten. left ∙ m'.view id r ∙ overlay_none now L id unwritten ∙ sym (overlay_none now W id none))
+            (some_or_none (get L id)))
             (some_or_none (get W id)))
             (λ w. old (read_of_write held t id w))
             (laid_or_left (MayWrite held t) R (drop n undo.images) id (recursion-drop (λ e. MayWrite held t e.0) n undo.images k.changed));
@@ -250,8 +332,9 @@ module _ {held : List Hold} {now R : Records} {t : ℕ} {undo : UndoList} {p : P
       record {
         changed = recursion-weaker (λ e. MayWrite held t e.0) (λ e. MayWrite new t e.0) (λ e w. writes e.0 w) undo.images k.changed;
         whole = keep 0 empty tt k.whole;
-        savepoints = each_mark (λ m. Unit {0}) keep undo.marks p.saved (anything undo.marks) k.savepoints;
+        savepoints = each_mark (λ m. Unit {0}) keep undo.marks left_saved (anything undo.marks) k.savepoints;
         rise = k.rise;
+        complete = k.complete;
       }
 
 -- it has only begun
@@ -261,4 +344,5 @@ begin_undoes held now R t holds_none = record {
   whole = record { within = omega arith; view = λ id r. absurd (holds_none id r); locked = λ id w. absurd (not_some (get-empty rid_cmp id) w) };
   savepoints = tt;
   rise = tt;
+  complete = λ i. refl;
 }

@@ -16,9 +16,10 @@ use Rattle.shore_model.specs.Modes.{is_write}
 use Rattle.shore_model.specs.Records.{Records, put_image}
 use Rattle.shore_model.proofs.RecordPaths.{OnPath, at_page, at_record, at_store, at_volume, head_contained, on_path}
 use Rattle.shore_sessions.proofs.Ids.{put_here, put_there, told_apart}
-use Rattle.shore_sessions.specs.Sessions.{IsInNoTxn, SessionTxn, Sessions, abort_answered, commit_answered, commit_appended, locks_moved, reply_given, txn_begun}
+use Rattle.shore_sessions.specs.declared.rollbacks.Rollback.TheVariants.{Whole, To}
+use Rattle.shore_sessions.specs.Sessions.{IsInNoTxn, SessionTxn, Sessions, abort_answered, commit_answered, commit_appended, image_put_back, locks_moved, reply_given, txn_begun}
 use Rattle.shore_sessions.specs.Soundness.{RunsTo}
-use Rattle.shore_sessions.specs.WorkedRun.{interleaved, just_opened, once_deleted, once_saved, once_updated, read_lock, reader, reads_and_writes, write_lock, writer}
+use Rattle.shore_sessions.specs.WorkedRun.{abort_interrupted, half_way_back, interleaved, just_opened, once_deleted, once_put_back, once_saved, once_updated, read_lock, reader, reads_and_writes, saved_first, saved_then_deleted, saved_then_updated, twice_changed, way_back_interrupted, write_lock, writer}
 use Rattle.shore_sessions.specs.UndoLists.{nothing_to_undo}
 
 -- ---- locks
@@ -169,6 +170,153 @@ module _ (a b : Rid) (differ : a ≢ b) where
     b_is_new : get after_undo b ≡ Some z
     b_is_new = put_here after_delete b (get after_change b) ∙ put_here o b (Some z)
 
+    -- the abort of the writer, in two steps
+    abbrev t4 : Sessions
+    t4 = reply_given s3 (writer nothing_to_undo) (call.Update b z) (Ok Updated)
+
+    abbrev t5 : Sessions
+    t5 = reply_given t4 (writer (once_updated o b)) (call.Delete b) (Ok Deleted)
+
+    abbrev t6 : Sessions
+    t6 = image_put_back t5 (writer (twice_changed o b z)) ((b, get o b) ∷ []) (b, get after_change b) Whole
+
+    abbrev t7 : Sessions
+    t7 = reply_given t6 reader (call.Get a) (Ok (Got x))
+
+    abbrev t8 : Sessions
+    t8 = abort_answered t7 (writer (once_put_back o b))
+
+    abbrev t9 : Sessions
+    t9 = abort_answered t8 reader
+
+    pub interrupt_abort : (last : Sessions) × (made : List Entry) × RunsTo (just_opened o) (abort_interrupted o a b x z) [] last made × (get last.records b ≡ Some y)
+    interrupt_abort =
+        let run : (made : List Entry) × RunsTo (just_opened o) (abort_interrupted o a b x z) [] t9 made = (
+          _,
+          (
+            s1,
+            ((λ c current e. ⊎_elim (λ none. none) (λ none. none) current), refl),
+            (
+              s2,
+              (second_is_idle, refl),
+              (
+                s3,
+                (harmony, (λ t among m g h. absurd (none_below_0 h.0 h.2)), given, refl),
+                (
+                  t4,
+                  (inl refl, tt, (writes, (subst IsSome (sym at_b) refl, refl)), inl refl, refl),
+                  (
+                    t5,
+                    (inl refl, tt, (writes, (subst IsSome (sym (put_here o b (Some z))) refl, refl)), inl refl, refl),
+                    (
+                      t6,
+                      (inl refl, refl, tt, omega arith, refl),
+                      (
+                        t7,
+                        (inr (inl refl), tt, (reads, got after_undo x a_stays), inl refl, refl),
+                        (
+                          t8,
+                          (inl refl, refl),
+                          (
+                            t9,
+                            (inl refl, refl),
+                            (refl, refl),
+                          ),
+                        ),
+                      ),
+                    ),
+                  ),
+                ),
+              ),
+            ),
+          ),
+        ) in
+        (t9, run.0, run.1, put_here after_undo b (get o b) ∙ at_b)
+
+    -- the way back of the writer, in two steps
+    abbrev u4 : Sessions
+    u4 = reply_given s3 (writer nothing_to_undo) call.Savepoint (Ok (Saved 0))
+
+    abbrev u5 : Sessions
+    u5 = reply_given u4 (writer saved_first) (call.Update b z) (Ok Updated)
+
+    abbrev u6 : Sessions
+    u6 = reply_given u5 (writer (saved_then_updated o b)) (call.Delete b) (Ok Deleted)
+
+    abbrev u7 : Sessions
+    u7 = image_put_back u6 (writer (saved_then_deleted o b z)) ((b, get o b) ∷ []) (b, get after_change b) (To 0)
+
+    abbrev u8 : Sessions
+    u8 = reply_given u7 reader (call.Get a) (Ok (Got x))
+
+    abbrev u9 : Sessions
+    u9 = reply_given u8 (writer (half_way_back o b)) (call.BackTo 0) (Ok WentBack)
+
+    abbrev u10 : Sessions
+    u10 = commit_appended u9 (writer saved_first)
+
+    abbrev u11 : Sessions
+    u11 = commit_answered u10 (writer saved_first)
+
+    abbrev u12 : Sessions
+    u12 = abort_answered u11 reader
+
+    pub interrupt_way_back : (last : Sessions) × (made : List Entry) × RunsTo (just_opened o) (way_back_interrupted o a b x z) [] last made × (get last.records b ≡ Some y)
+    interrupt_way_back =
+        let run : (made : List Entry) × RunsTo (just_opened o) (way_back_interrupted o a b x z) [] u12 made = (
+          _,
+          (
+            s1,
+            ((λ c current e. ⊎_elim (λ none. none) (λ none. none) current), refl),
+            (
+              s2,
+              (second_is_idle, refl),
+              (
+                s3,
+                (harmony, (λ t among m g h. absurd (none_below_0 h.0 h.2)), given, refl),
+                (
+                  u4,
+                  (inl refl, tt, (tt, refl), inl refl, refl),
+                  (
+                    u5,
+                    (inl refl, tt, (writes, (subst IsSome (sym at_b) refl, refl)), inl refl, refl),
+                    (
+                      u6,
+                      (inl refl, tt, (writes, (subst IsSome (sym (put_here o b (Some z))) refl, refl)), inl refl, refl),
+                      (
+                        u7,
+                        (inl refl, refl, (omega arith, inl refl), omega arith, refl),
+                        (
+                          u8,
+                          (inr (inl refl), tt, (reads, got after_undo x a_stays), inl refl, refl),
+                          (
+                            u9,
+                            (inl refl, tt, (tt, (omega arith, refl)), inr (0, WentBack, refl, refl, refl), refl),
+                            (
+                              u10,
+                              (inl refl, refl, refl),
+                              (
+                                u11,
+                                (inl refl, refl),
+                                (
+                                  u12,
+                                  (inl refl, refl),
+                                  (refl, refl),
+                                ),
+                              ),
+                            ),
+                          ),
+                        ),
+                      ),
+                    ),
+                  ),
+                ),
+              ),
+            ),
+          ),
+        ) in
+        (u12, run.0, run.1, put_here after_undo b (get o b) ∙ at_b)
+
     pub interleave : (last : Sessions) × (made : List Entry) × RunsTo (just_opened o) (interleaved o a b x z) [] last made × (get last.records b ≡ Some z)
     interleave =
         let run : (made : List Entry) × RunsTo (just_opened o) (interleaved o a b x z) [] s12 made = (
@@ -184,25 +332,25 @@ module _ (a b : Rid) (differ : a ≢ b) where
                 (harmony, (λ t among m g h. absurd (none_below_0 h.0 h.2)), given, refl),
                 (
                   s4,
-                  (inr (inl refl), tt, (reads, got o x at_a), refl),
+                  (inr (inl refl), tt, (reads, got o x at_a), inl refl, refl),
                   (
                     s5,
-                    (inl refl, tt, (writes, (subst IsSome (sym at_b) refl, refl)), refl),
+                    (inl refl, tt, (writes, (subst IsSome (sym at_b) refl, refl)), inl refl, refl),
                     (
                       s6,
-                      (inl refl, tt, (tt, refl), refl),
+                      (inl refl, tt, (tt, refl), inl refl, refl),
                       (
                         s7,
-                        (inl refl, tt, (writes, (subst IsSome (sym (put_here o b (Some z))) refl, refl)), refl),
+                        (inl refl, tt, (writes, (subst IsSome (sym (put_here o b (Some z))) refl, refl)), inl refl, refl),
                         (
                           s8,
-                          (inl refl, tt, (tt, (omega arith, refl)), refl),
+                          (inl refl, tt, (tt, (omega arith, refl)), inl refl, refl),
                           (
                             s9,
-                            (inl refl, refl),
+                            (inl refl, refl, refl),
                             (
                               s10,
-                              (inl refl, tt, (reads, got after_undo x a_stays), refl),
+                              (inl refl, tt, (reads, got after_undo x a_stays), inl refl, refl),
                               (
                                 s11,
                                 (inl refl, refl),

@@ -1,6 +1,6 @@
 -- What ties the list of log records to the history: it tells the serial records, and it has of each transaction under way what stands
 -- in place for it and what is left to undo.
-use Rattle.std.specs.Prelude.{◌≡◌, ◌≢◌, ◌<◌, ℕ, List, None, Some, map, reverse}
+use Rattle.std.specs.Prelude.{◌≡◌, ◌≢◌, ◌<◌, ℕ, List, None, Some, IsSome, map, reverse}
 use Rattle.std.specs.FinMap.{empty, get}
 use Rattle.std.specs.List.{AllByRecursion}
 use Rattle.shore_types.specs.Images.{Image}
@@ -12,7 +12,7 @@ use Rattle.shore_model.specs.declared.progress.Progress.{Progress}
 use Rattle.shore_model.specs.Locks.{MayWrite}
 use Rattle.shore_model.specs.Logs.{committed_in, logged_writes, unanswered}
 use Rattle.shore_model.specs.Records.{Records, WriteSet, overlays}
-use Rattle.shore_sessions.specs.Sessions.{Sessions, txns_of}
+use Rattle.shore_sessions.specs.Sessions.{SessionTxn, Sessions, txns_of}
 use Rattle.shore_sessions.specs.Soundness.{progress_in, serial_after}
 use Rattle.shore_sessions.specs.Views.{IsAmong}
 
@@ -34,9 +34,15 @@ pub record TellsSerial (log : List LogRecord) (held : List Hold) (now R : Record
   pub uncommitted : (t : ℕ) → IsAmong t ts → AllByRecursion (λ u. u ≢ t) (committed_in log)
   pub each : (t : ℕ) → IsAmong t ts → HasLogged held R t (p t) (logged_writes log t)
 
--- The list is one that the sessions' history has left, and the next transaction's number is above all of its records.
+-- the transaction has logged an image for the id of each of these
+abbrev pub AreLogged : List LogRecord → ℕ → List (Rid × Image) → Type 0
+AreLogged log t images = AllByRecursion (λ e. IsSome (get (logged_writes log t) e.0)) images
+
+-- The list is one that the sessions' history has left: each transaction under way has logged what it has to put back. The next
+-- transaction's number is above all of its records.
 pub record IsLogAfter (o : Records) (es : List Entry) (s : Sessions) (log : List LogRecord) : Type 0 where
   pub tells_serial : TellsSerial log s.held (serial_after o es) s.records (txns_of s.active) (progress_in es)
+  pub undo_logged : (a : SessionTxn) → IsAmong a s.active → AreLogged log a.txn a.undo.images
   pub below : AllByRecursion (λ r. r.txn < s.next_txn) log
 
 -- a transaction's Changes that no Compensation has answered have, from the newest on, the before images of its undo list

@@ -1,5 +1,5 @@
 -- The records that each event appends to the log, as one list beside the state of the sessions.
-use Rattle.std.specs.Prelude.{ℕ, List, [], ◌∷◌, ◌++◌, None, Some, Result, Ok, Err, drop}
+use Rattle.std.specs.Prelude.{◌==◌, ℕ, List, [], ◌∷◌, ◌++◌, if◌then◌else◌, None, Some, Result, Ok, Err, drop}
 use Rattle.std.specs.FinMap.{get}
 use Rattle.shore_types.specs.Images.{Image}
 use Rattle.shore_types.specs.declared.faults.Fault.{Fault}
@@ -13,7 +13,7 @@ use Rattle.shore_model.specs.declared.log_records.Payload.{Payload}
 use Rattle.shore_model.specs.declared.log_records.Payload.TheVariants.{Change, Compensation, Commit, End}
 use Rattle.shore_model.specs.Logs.{previous_of, undo_next_of, unanswered}
 use Rattle.shore_model.specs.Records.{Records}
-use Rattle.shore_sessions.specs.SessionSteps.{SessionEvent, MoveLocks, BeginTxn, GiveReply, AppendCommit, AnswerAbort, AnswerCommit, RefuseCall}
+use Rattle.shore_sessions.specs.SessionSteps.{SessionEvent, MoveLocks, BeginTxn, GiveReply, AppendCommit, PutBack, AnswerAbort, AnswerCommit, RefuseCall}
 use Rattle.shore_sessions.specs.Sessions.{SessionTxn, Sessions}
 use Rattle.shore_sessions.specs.UndoLists.{images_since}
 
@@ -55,12 +55,18 @@ abbrev pub log_after_reply : List LogRecord → Records → SessionTxn → Call 
 log_after_reply log R a c (Ok answer) = log_after_answer log R a c answer
 log_after_reply log R a c (Err fault) = log
 
--- the list after an event: an abort appends Compensations and an End, and an answered commit nothing, as its Commit is there already
+-- the list after a rollback of all that is left: the End comes if the transaction has logged anything
+abbrev pub and_rollback : ℕ → List LogRecord → List (Rid × Image) → List LogRecord
+and_rollback t log images = if previous_of t log == 0 then log else and_record t (and_compensations t log images) End
+
+-- the list after an event: an image that is put back appends its Compensation, an abort those of all that are left and an End, and an
+-- answered commit nothing, as its Commit is there already
 abbrev pub log_after : List LogRecord → Sessions → SessionEvent → List LogRecord
 log_after log s (MoveLocks held) = log
 log_after log s (BeginTxn session) = log
 log_after log s (GiveReply a c reply) = log_after_reply log s.records a c reply
 log_after log s (AppendCommit a) = and_record a.txn log Commit
-log_after log s (AnswerAbort a) = and_record a.txn (and_compensations a.txn log a.undo.images) End
+log_after log s (PutBack a kept e r) = and_record a.txn log (Compensation e.0 e.1 (next_to_undo a.txn log))
+log_after log s (AnswerAbort a) = and_rollback a.txn log a.undo.images
 log_after log s (AnswerCommit a) = log
 log_after log s (RefuseCall session t c fault) = log

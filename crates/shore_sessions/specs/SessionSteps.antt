@@ -1,7 +1,9 @@
 -- The events of the sessions: when each may come, what state it leaves, and what it adds to the history.
-use Rattle.std.specs.Prelude.{◌≡◌, ◌<◌, ℕ, List, [], ◌∷◌, Result, Ok, Err, All, length}
+use Rattle.std.specs.Prelude.{◌≡◌, ◌<◌, ◌≤◌, ℕ, List, [], ◌∷◌, ◌++◌, None, Result, Ok, Err, All, length}
+use Rattle.shore_types.specs.Images.{Image}
 use Rattle.shore_types.specs.declared.faults.Fault.{Fault}
 use Rattle.shore_types.specs.declared.faults.Fault.TheVariants.{NoRecord}
+use Rattle.shore_types.specs.declared.ids.Rid.{Rid}
 use Rattle.shore_types.specs.declared.locking.Granule.{Granule}
 use Rattle.shore_types.specs.declared.locking.Mode.{Mode}
 use Rattle.shore_model.specs.declared.calls.Answer.{Answer}
@@ -15,7 +17,9 @@ use Rattle.shore_model.specs.declared.histories.Entry.TheVariants.{Exchanged, De
 use Rattle.shore_model.specs.declared.holds.Hold.{Hold}
 use Rattle.shore_model.specs.Locks.{Harmony, HoldsAtLeast}
 use Rattle.shore_sessions.specs.RepliesInPlace.{MayReplyInPlace}
-use Rattle.shore_sessions.specs.Sessions.{IsInNoTxn, IsTxnOf, SessionTxn, Sessions, abort_answered, commit_answered, commit_appended, locks_moved, reply_given, txn_begun, txns_of}
+use Rattle.shore_sessions.specs.declared.rollbacks.Rollback.{Rollback}
+use Rattle.shore_sessions.specs.Sessions.{IsInNoTxn, IsTxnOf, SessionTxn, Sessions, abort_answered, commit_answered, commit_appended, image_put_back, locks_moved, reply_given, txn_begun, txns_of}
+use Rattle.shore_sessions.specs.UndoLists.{MayGiveReply, MayRoll, least_kept}
 use Rattle.shore_sessions.specs.Views.{IsAmong}
 
 pub data SessionEvent : Type 0 where
@@ -27,7 +31,9 @@ pub data SessionEvent : Type 0 where
   GiveReply : SessionTxn → Call → Result Answer Fault → SessionEvent
   -- the Commit record of a transaction is appended
   AppendCommit : SessionTxn → SessionEvent
-  -- a transaction is rolled back, and its abort answered
+  -- one image of a transaction is put back, the newest that is left; the others stay
+  PutBack : SessionTxn → List (Rid × Image) → Rid × Image → Rollback → SessionEvent
+  -- all images of a transaction that are left are put back, and its abort is answered
   AnswerAbort : SessionTxn → SessionEvent
   -- a commit is answered
   AnswerCommit : SessionTxn → SessionEvent
@@ -65,7 +71,7 @@ IsInnerCall call.InDoubt = ⊥
 -- ---- steps
 
 -- The event may come, and leaves this. A transaction under way keeps its locks; of one that is committed they may go even before it
--- is answered.
+-- is answered. One whose rollback has begun only goes on with that.
 abbrev pub StepsTo : Sessions → SessionEvent → Sessions → Type 0
 StepsTo s (MoveLocks held) new =
     Harmony held × ((t : ℕ) → IsAmong t (txns_of s.active) → KeepsLocks s.held held t)
@@ -73,8 +79,11 @@ StepsTo s (MoveLocks held) new =
 StepsTo s (BeginTxn session) new = IsInNoTxn s session × (new ≡ txn_begun s session)
 StepsTo s (GiveReply a c reply) new =
     IsAmong a s.active × IsInnerCall c × MayReplyInPlace s.held a.txn s.records (length a.undo.marks) c reply
-    × (new ≡ reply_given s a c reply)
-StepsTo s (AppendCommit a) new = IsAmong a s.active × (new ≡ commit_appended s a)
+    × MayGiveReply a.undo c reply × (new ≡ reply_given s a c reply)
+StepsTo s (AppendCommit a) new = IsAmong a s.active × (a.undo.rolling ≡ None) × (new ≡ commit_appended s a)
+StepsTo s (PutBack a kept e r) new =
+    IsAmong a s.active × (a.undo.images ≡ kept ++ e ∷ []) × MayRoll a.undo r × (least_kept a.undo r ≤ length kept)
+    × (new ≡ image_put_back s a kept e r)
 StepsTo s (AnswerAbort a) new = IsAmong a s.active × (new ≡ abort_answered s a)
 StepsTo s (AnswerCommit a) new = IsAmong a s.committing × (new ≡ commit_answered s a)
 StepsTo s (RefuseCall session t c fault) new = IsTxnOf s session t × TellsNothing fault × (new ≡ s)
@@ -90,6 +99,7 @@ entries_by s (MoveLocks held) = []
 entries_by s (BeginTxn session) = Exchanged session s.next_txn (exchange call.Begin (Ok (Began s.next_txn))) ∷ []
 entries_by s (GiveReply a c reply) = Exchanged a.session a.txn (exchange c reply) ∷ []
 entries_by s (AppendCommit a) = Decided (decision.Commit a.txn) ∷ []
+entries_by s (PutBack a kept e r) = []
 entries_by s (AnswerAbort a) = Exchanged a.session a.txn (exchange call.Abort (Ok Aborted)) ∷ []
 entries_by s (AnswerCommit a) = Exchanged a.session a.txn (exchange call.Commit (Ok Committed)) ∷ []
 entries_by s (RefuseCall session t c fault) = Exchanged session t (exchange c (Err fault)) ∷ []

@@ -4,8 +4,11 @@ use Rattle.shore_types.specs.declared.faults.Fault.{Fault}
 use Rattle.shore_model.specs.declared.calls.Answer.{Answer}
 use Rattle.shore_model.specs.declared.calls.Call.{Call}
 use Rattle.shore_model.specs.declared.holds.Hold.{Hold}
-use Rattle.shore_model.specs.Records.{Records}
-use Rattle.shore_sessions.specs.UndoLists.{UndoList, in_place_after, nothing_to_undo, undo_after, rolled_back}
+use Rattle.shore_model.specs.Records.{Records, put_image}
+use Rattle.shore_types.specs.Images.{Image}
+use Rattle.shore_types.specs.declared.ids.Rid.{Rid}
+use Rattle.shore_sessions.specs.declared.rollbacks.Rollback.{Rollback}
+use Rattle.shore_sessions.specs.UndoLists.{UndoList, in_place_after, nothing_to_undo, undo_after, undo_rolled, rolled_back}
 use Rattle.shore_sessions.specs.Views.{IsAmong}
 
 -- a transaction of a session, with its undo list
@@ -70,6 +73,12 @@ abbrev pub reply_given : Sessions → SessionTxn → Call → Result Answer Faul
 reply_given s a c reply = record s {
   records = in_place_after s.records a.undo c reply;
   active = with_undo a.txn (undo_after s.records a.undo c reply) s.active;
+}
+
+abbrev pub image_put_back : Sessions → SessionTxn → List (Rid × Image) → Rid × Image → Rollback → Sessions
+image_put_back s a kept e r = record s {
+  records = put_image s.records e.0 e.1;
+  active = with_undo a.txn (undo_rolled a.undo kept r) s.active;
 }
 
 abbrev pub commit_appended : Sessions → SessionTxn → Sessions

@@ -1,7 +1,9 @@
 -- What holds of the sessions after a history, in two invariants side by side: that the history is sound, with what locks keep of
 -- records; and that each session is in the transaction that the history gives it. What a run of events is.
-use Rattle.std.specs.Prelude.{false, ◌≡◌, ◌≢◌, ◌<◌, ◌≤◌, ℕ, List, [], ◌∷◌, ◌++◌, All, IfSome}
+use Rattle.std.specs.Prelude.{false, ◌≡◌, ◌≢◌, ◌<◌, ◌≤◌, ℕ, List, [], ◌∷◌, ◌++◌, None, All, IfSome, IsSome, map}
+use Rattle.std.specs.FinMap.{get}
 use Rattle.std.specs.List.{AllByRecursion}
+use Rattle.shore_types.specs.declared.ids.Rid.{Rid}
 use Rattle.shore_model.specs.declared.histories.Decision.{Decision}
 use Rattle.shore_model.specs.declared.histories.Decision.TheVariants as decision
 use Rattle.shore_model.specs.declared.histories.Entry.{Entry}
@@ -49,11 +51,19 @@ in_txn t = record { txn = t; prepared = false }
 
 -- ---- invariants
 
--- The history is sound. Under the locks that are held the records in place stand as they must, the replies of each transaction under
--- way stay right, and its undo list undoes it.
+-- What stands in place for a transaction: what the history says that it wrote. If its rollback has begun, some of that is put back, and
+-- the history does not say so; what stands for it then lies at ids that are left to put back.
+pub record StandsFor (es : List Entry) (a : SessionTxn) (W : WriteSet) : Type 0 where
+  pub written : a.undo.rolling ≡ None → W ≡ written_by es a.txn
+  pub left : a.undo.rolling ≢ None → (id : Rid) → IsSome (get W id) → IsAmong id (map (λ e. e.0) a.undo.images)
+
+-- The history is sound. Under the locks that are held the records in place stand as they must for the write sets that stand for those
+-- under way, the replies of each transaction under way stay right, and its undo list undoes it.
 pub record IsSoundAfter (o : Records) (es : List Entry) (s : Sessions) : Type 0 where
   pub sound : Sound (history_from o es)
-  pub stand : Stand s.held (serial_after o es) s.records (txns_of s.active) (written_by es)
+  pub standing : ℕ → WriteSet
+  pub stands_for : (a : SessionTxn) → IsAmong a s.active → StandsFor es a (standing a.txn)
+  pub stand : Stand s.held (serial_after o es) s.records (txns_of s.active) standing
   pub replies : (t : ℕ) → IsAmong t (txns_of s.active) → StayRight s.held t (serial_after o es) (calls_of t es)
   pub undoes : (a : SessionTxn) → IsAmong a s.active → CanUndo s.held (serial_after o es) s.records a.txn a.undo (progress_in es a.txn)
   -- a transaction under way is not decided

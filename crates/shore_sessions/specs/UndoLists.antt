@@ -1,5 +1,6 @@
--- The undo list of a transaction under way: what a rollback puts back, whole or down to a savepoint, and what makes it right.
-use Rattle.std.specs.Prelude.{◌≡◌, ◌≤◌, ◌+◌, ℕ, List, [], ◌∷◌, ◌++◌, None, Some, Result, Ok, Err, IsSome, drop, length, slice_get, take, unwrap_or}
+-- The undo list of a transaction under way: what a rollback puts back, whole or down to a savepoint, at once or in steps, and what
+-- makes it right.
+use Rattle.std.specs.Prelude.{◌≡◌, ◌⊎◌, ◌<◌, ◌≤◌, ◌+◌, ℕ, List, [], ◌∷◌, ◌++◌, Option, None, Some, Result, Ok, Err, IsSome, drop, length, slice_get, take, unwrap_or}
 use Rattle.std.specs.FinMap.{empty, get}
 use Rattle.std.specs.List.{AllByRecursion}
 use Rattle.shore_types.specs.Images.{Image}
@@ -13,15 +14,18 @@ use Rattle.shore_model.specs.declared.holds.Hold.{Hold}
 use Rattle.shore_model.specs.declared.progress.Progress.{Progress}
 use Rattle.shore_model.specs.Locks.{MayRead, MayWrite}
 use Rattle.shore_model.specs.Records.{Records, WriteSet, laid_over, overlay, put_image}
+use Rattle.shore_sessions.specs.declared.rollbacks.Rollback.{Rollback}
+use Rattle.shore_sessions.specs.declared.rollbacks.Rollback.TheVariants.{Whole, To}
 
--- the before images of a transaction's changes, in the order of the changes, and for each savepoint its mark: how many images there
--- were when it was set
+-- the before images of a transaction's changes, in the order of the changes; for each savepoint its mark: how many images there
+-- were when it was set; and the rollback that has begun and is not complete, if there is one
 pub record UndoList : Type 0 where
   pub images : List (Rid × Image)
   pub marks : List ℕ
+  pub rolling : Option Rollback
 
 abbrev pub nothing_to_undo : UndoList
-nothing_to_undo = record { images = []; marks = [] }
+nothing_to_undo = record { images = []; marks = []; rolling = None }
 
 -- Records with images put back, from the last of the list to the first.
 abbrev pub rolled_back : Records → List (Rid × Image) → Records
@@ -64,7 +68,7 @@ in_place_after R undo c (Err fault) = R
 
 -- a change goes to the end of the undo list with the image that it finds
 abbrev pub with_before_image : Records → UndoList → Rid → UndoList
-with_before_image R undo id = record { images = undo.images ++ (id, get R id) ∷ []; marks = undo.marks }
+with_before_image R undo id = record { images = undo.images ++ (id, get R id) ∷ []; marks = undo.marks; rolling = undo.rolling }
 
 -- the undo list after a call that was answered
 abbrev pub undo_after_answer : Records → UndoList → Call → Answer → UndoList
@@ -72,8 +76,8 @@ undo_after_answer R undo (call.Insert s bytes) (Inserted id) = with_before_image
 undo_after_answer R undo (call.Insert s bytes) _ = undo
 undo_after_answer R undo (call.Update id bytes) answer = with_before_image R undo id
 undo_after_answer R undo (call.Delete id) answer = with_before_image R undo id
-undo_after_answer R undo call.Savepoint answer = record { images = undo.images; marks = undo.marks ++ length undo.images ∷ [] }
-undo_after_answer R undo (call.BackTo n) answer = record { images = take (mark_of undo n) undo.images; marks = take (n + 1) undo.marks }
+undo_after_answer R undo call.Savepoint answer = record { images = undo.images; marks = undo.marks ++ length undo.images ∷ []; rolling = undo.rolling }
+undo_after_answer R undo (call.BackTo n) answer = record { images = take (mark_of undo n) undo.images; marks = take (n + 1) undo.marks; rolling = None }
 undo_after_answer R undo call.Begin answer = undo
 undo_after_answer R undo (call.Get id) answer = undo
 undo_after_answer R undo (call.GetForUpdate id) answer = undo
@@ -89,6 +93,34 @@ undo_after_answer R undo call.InDoubt answer = undo
 abbrev pub undo_after : Records → UndoList → Call → Result Answer Fault → UndoList
 undo_after R undo c (Ok answer) = undo_after_answer R undo c answer
 undo_after R undo c (Err fault) = undo
+
+-- ---- a rollback in steps
+
+-- a rollback of all may begin or go on at any time; one to a savepoint that is there begins if none is under way, and goes on if it is
+-- the one that is
+abbrev pub MayRoll : UndoList → Rollback → Type 0
+MayRoll undo Whole = Unit {0}
+MayRoll undo (To n) = (n < length undo.marks) × ((undo.rolling ≡ None) ⊎ (undo.rolling ≡ Some (To n)))
+
+-- how many images it leaves once it is complete
+abbrev pub least_kept : UndoList → Rollback → ℕ
+least_kept undo Whole = 0
+least_kept undo (To n) = mark_of undo n
+
+-- the marks of the savepoints that are left as soon as it has begun
+abbrev pub marks_kept : Rollback → List ℕ → List ℕ
+marks_kept Whole marks = []
+marks_kept (To n) marks = take (n + 1) marks
+
+-- the undo list once it has come down to these images
+abbrev pub undo_rolled : UndoList → List (Rid × Image) → Rollback → UndoList
+undo_rolled undo kept r = record { images = kept; marks = marks_kept r undo.marks; rolling = Some r }
+
+-- no rollback is under way, or one to a savepoint, and this answer completes it
+abbrev pub MayGiveReply : UndoList → Call → Result Answer Fault → Type 0
+MayGiveReply undo c reply =
+    (undo.rolling ≡ None)
+    ⊎ ((n : ℕ) × (answer : Answer) × (undo.rolling ≡ Some (To n)) × (c ≡ call.BackTo n) × (reply ≡ Ok answer))
 
 -- ---- what a rollback comes to
 
@@ -111,10 +143,12 @@ abbrev pub AreRising : List ℕ → Type 0
 AreRising [] = Unit {0}
 AreRising (mark ∷ marks) = AllByRecursion (λ later. mark ≤ later) marks × AreRising marks
 
--- The undo list undoes a transaction that has come so far: whole, it leaves an empty write set, and down to a savepoint the one that
--- was saved there. It changes nothing that the transaction may not write, so that no rollback needs a lock.
+-- The undo list undoes a transaction that has come so far: whole, it leaves an empty write set, and down to a savepoint that is left
+-- the one that was saved there. It changes nothing that the transaction may not write, so that no rollback needs a lock.
 pub record CanUndo (held : List Hold) (now R : Records) (t : ℕ) (undo : UndoList) (p : Progress) : Type 0 where
   pub changed : AllByRecursion (λ e. MayWrite held t e.0) undo.images
   pub whole : UndoesTo held now R t undo.images 0 empty
-  pub savepoints : UndoToSavepoints held now R t undo.images undo.marks p.saved
+  pub savepoints : UndoToSavepoints held now R t undo.images undo.marks (take (length undo.marks) p.saved)
   pub rise : AreRising undo.marks
+  -- all savepoints are left unless a rollback is under way
+  pub complete : undo.rolling ≡ None → length undo.marks ≡ length p.saved

@@ -1,5 +1,5 @@
 //! The laws of sessions under locks, each stated as the contract of an empty function.
-ghost use Rattle.std.specs.Prelude.{◌≡◌, ◌≢◌, ◌<◌, ◌≤◌, ◌∷◌, ◌++◌, ℕ, List, [], Contains, Err, IsSome, Ok, Some, Result, length, map, take};
+ghost use Rattle.std.specs.Prelude.{◌≡◌, ◌≢◌, ◌<◌, ◌≤◌, ◌∷◌, ◌++◌, ℕ, List, [], Contains, Err, IsSome, None, Ok, Some, Result, length, map, take};
 ghost use Rattle.std.specs.FinMap.{get, insert};
 ghost use Rattle.std.specs.List.{AllByRecursion};
 ghost use Rattle.shore_types.specs.Images.{Image};
@@ -12,28 +12,30 @@ ghost use Rattle.shore_types.specs.declared.locking.Mode.{Mode};
 ghost use Rattle.shore_model.specs.declared.calls.Answer.{Answer};
 ghost use Rattle.shore_model.specs.declared.calls.Answer.TheVariants.{Inserted};
 ghost use Rattle.shore_model.specs.declared.calls.Call.{Call};
-ghost use Rattle.shore_model.specs.declared.calls.Call.TheVariants.{Get, Insert, Scan};
+ghost use Rattle.shore_model.specs.declared.calls.Call.TheVariants.{BackTo, Get, Insert, Scan};
 ghost use Rattle.shore_model.specs.declared.calls.Exchange.{Exchange};
 ghost use Rattle.shore_model.specs.declared.histories.Entry.{Entry};
 ghost use Rattle.shore_model.specs.declared.holds.Hold.{Hold};
 ghost use Rattle.shore_model.specs.declared.log_records.LogRecord.{LogRecord};
-ghost use Rattle.shore_model.specs.declared.log_records.Payload.TheVariants.{Change};
+ghost use Rattle.shore_model.specs.declared.log_records.Payload.TheVariants.{Change, Compensation};
 ghost use Rattle.shore_model.specs.declared.progress.Progress.{Progress};
 ghost use Rattle.shore_model.specs.Alone.{after, start, writes_of};
 ghost use Rattle.shore_model.specs.Histories.{IsHistory, Sound, decisions, serial};
 ghost use Rattle.shore_model.specs.Locks.{Harmony, HoldsAtLeast, MayRead, MayWrite};
-ghost use Rattle.shore_model.specs.Logs.{Answers, in_doubt_in, records_told, unanswered};
+ghost use Rattle.shore_model.specs.Logs.{Answers, in_doubt_in, logged_writes, records_told, unanswered};
 ghost use Rattle.shore_model.specs.Records.{Records, WriteSet, overlays, put_image};
+ghost use Rattle.shore_sessions.specs.declared.rollbacks.Rollback.{Rollback};
+ghost use Rattle.shore_sessions.specs.declared.rollbacks.Rollback.TheVariants.{To};
 ghost use Rattle.shore_sessions.specs.GranuleLocks.{HasLocksFor};
 ghost use Rattle.shore_sessions.specs.LogPrefixes.{DecidesNothing, LogDecides, decisions_in};
 ghost use Rattle.shore_sessions.specs.LogTells.{HasLogged, IsLogAfter, MatchesUndo, records_committed};
 ghost use Rattle.shore_sessions.specs.Logged.{and_compensations, and_record, log_after, next_to_undo};
 ghost use Rattle.shore_sessions.specs.RepliesInPlace.{MayReplyInPlace, Permit};
-ghost use Rattle.shore_sessions.specs.SessionSteps.{AnswerAbort, BeginTxn, GiveReply, MoveLocks, SessionEvent, StepsTo, entries_by, exchange};
+ghost use Rattle.shore_sessions.specs.SessionSteps.{AnswerAbort, AppendCommit, BeginTxn, GiveReply, MoveLocks, PutBack, SessionEvent, StepsTo, entries_by, exchange};
 ghost use Rattle.shore_sessions.specs.Sessions.{IsCurrent, SessionTxn, Sessions, txns_of};
 ghost use Rattle.shore_sessions.specs.Soundness.{IsJustOpened, IsSoundAfter, RunsTo, SessionsAgree, history_from, serial_after, written_by};
-ghost use Rattle.shore_sessions.specs.UndoLists.{CanUndo, UndoList, in_place_after, undo_after};
-ghost use Rattle.shore_sessions.specs.WorkedRun.{interleaved, just_opened, read_lock};
+ghost use Rattle.shore_sessions.specs.UndoLists.{CanUndo, MayGiveReply, MayRoll, UndoList, images_since, in_place_after, in_place_after_answer, least_kept, mark_of, rolled_back, undo_after, undo_after_answer, undo_rolled};
+ghost use Rattle.shore_sessions.specs.WorkedRun.{abort_interrupted, interleaved, just_opened, read_lock, way_back_interrupted};
 ghost use Rattle.shore_sessions.specs.Views.{IsAmong, Sees, Stand, StayRight};
 
 /// New locks never harm what transactions under way see, nor does it if others lose theirs.
@@ -46,11 +48,12 @@ pub fn moved_locks_keep_views()
 {}
 
 /// A reply that its locks permit, and that is right on the records in place, leaves what every transaction sees as it must be. It stays
-/// right for its own transaction, which can still be undone.
+/// right for its own transaction, which can still be undone. A reply that completes a rollback, which has begun, does so too, whatever stands
+/// in place for its transaction before it.
 pub fn replies_keep_views()
     ensures { (held : List Hold) (now R : Records) (ts : List ℕ) (before later : ℕ → WriteSet) (t : ℕ) (es : List Exchange) (undo : UndoList) (c : Call) (reply : Result Answer Fault) →
-        Stand held now R ts before → IsAmong t ts → before t ≡ writes_of es → StayRight held t now es → CanUndo held now R t undo (after start es)
-        → MayReplyInPlace held t R (length (after start es).saved) c reply
+        Stand held now R ts before → IsAmong t ts → (undo.rolling ≡ None → before t ≡ writes_of es) → StayRight held t now es
+        → CanUndo held now R t undo (after start es) → MayGiveReply undo c reply → MayReplyInPlace held t R (length undo.marks) c reply
         → ((u : ℕ) → u ≢ t → later u ≡ before u) → later t ≡ writes_of (es ++ exchange c reply ∷ [])
         → Stand held now (in_place_after R undo c reply) ts later × StayRight held t now (es ++ exchange c reply ∷ [])
         × CanUndo held now (in_place_after R undo c reply) t (undo_after R undo c reply) (after start (es ++ exchange c reply ∷ [])) }
@@ -74,21 +77,35 @@ pub fn sessions_make_sound_histories()
         IsJustOpened o first → RunsTo first events [] last made → IsSoundAfter o made last × SessionsAgree o made last }
 {}
 
-/// In place are the serial records, overlaid with the write sets of all transactions under way.
+/// In place are the serial records, overlaid with what stands for each transaction under way: what it has written, if no rollback of it is
+/// under way. With the log beside them, they are overlaid with the last images that each has logged, in the midst of a rollback too, and
+/// each of these images is in place.
 pub fn records_in_place_are_overlaid()
-    ensures { (o : Records) (es : List Entry) (s : Sessions) → IsSoundAfter o es s →
-        s.records ≡ overlays (serial_after o es) (map (written_by es) (txns_of s.active)) }
+    ensures overlaid { (o : Records) (es : List Entry) (s : Sessions) (k : IsSoundAfter o es s) →
+        s.records ≡ overlays (serial_after o es) (map k.standing (txns_of s.active)) }
+    ensures written { (o : Records) (es : List Entry) (s : Sessions) (a : SessionTxn) (k : IsSoundAfter o es s) →
+        IsAmong a s.active → a.undo.rolling ≡ None → k.standing a.txn ≡ written_by es a.txn }
+    ensures logged { (o : Records) (es : List Entry) (s : Sessions) (log : List LogRecord) → IsSoundAfter o es s → IsLogAfter o es s log →
+        s.records ≡ overlays (serial_after o es) (map (logged_writes log) (txns_of s.active)) }
+    ensures last_images { (o : Records) (es : List Entry) (s : Sessions) (log : List LogRecord) (t : ℕ) (id : Rid) (image : Image) → IsLogAfter o es s log →
+        IsAmong t (txns_of s.active) → get (logged_writes log t) id ≡ Some image → get s.records id ≡ image }
 {}
 
-/// What a transaction under way has written no other may read, or write over; and what one may read, no reply to another and no rollback
-/// of another changes in place.
+/// What a transaction under way has written no other may read, or write over, nor what stands for it while it rolls back, nor what it has
+/// logged; and what one may read, no reply to another and no rollback of another changes in place, whole or image by image.
 pub fn transactions_are_isolated()
-    ensures written { (o : Records) (es : List Entry) (s : Sessions) (t u : ℕ) (id : Rid) → IsSoundAfter o es s →
-        t ≢ u → IsAmong u (txns_of s.active) → IsSome (get (written_by es u) id) → MayRead s.held t id → ⊥ }
+    ensures written { (o : Records) (es : List Entry) (s : Sessions) (t : ℕ) (a : SessionTxn) (id : Rid) → IsSoundAfter o es s →
+        t ≢ a.txn → IsAmong a s.active → a.undo.rolling ≡ None → IsSome (get (written_by es a.txn) id) → MayRead s.held t id → ⊥ }
+    ensures standing { (o : Records) (es : List Entry) (s : Sessions) (t u : ℕ) (id : Rid) (k : IsSoundAfter o es s) →
+        t ≢ u → IsAmong u (txns_of s.active) → IsSome (get (k.standing u) id) → MayRead s.held t id → ⊥ }
+    ensures logged { (o : Records) (es : List Entry) (s : Sessions) (log : List LogRecord) (t u : ℕ) (id : Rid) → IsSoundAfter o es s →
+        IsLogAfter o es s log → t ≢ u → IsAmong u (txns_of s.active) → IsSome (get (logged_writes log u) id) → MayRead s.held t id → ⊥ }
     ensures reply { (o : Records) (es : List Entry) (old new : Sessions) (a : SessionTxn) (c : Call) (reply : Result Answer Fault) (t : ℕ) (id : Rid) →
         IsSoundAfter o es old → StepsTo old (GiveReply a c reply) new → t ≢ a.txn → MayRead old.held t id → get new.records id ≡ get old.records id }
     ensures rollback { (o : Records) (es : List Entry) (old new : Sessions) (a : SessionTxn) (t : ℕ) (id : Rid) →
         IsSoundAfter o es old → StepsTo old (AnswerAbort a) new → t ≢ a.txn → MayRead old.held t id → get new.records id ≡ get old.records id }
+    ensures put_back { (o : Records) (es : List Entry) (old new : Sessions) (a : SessionTxn) (kept : List (Rid × Image)) (e : Rid × Image) (r : Rollback) (t : ℕ) (id : Rid) →
+        IsSoundAfter o es old → StepsTo old (PutBack a kept e r) new → t ≢ a.txn → MayRead old.held t id → get new.records id ≡ get old.records id }
 {}
 
 /// The granules and modes that calls are answered under permit the answers.
@@ -119,15 +136,30 @@ pub fn log_prefixes_tell_decision_prefixes()
 {}
 
 /// A rollback may be made of steps, with other events between them. What its transaction has logged stands for its write set: each
-/// image that is put back and logged leaves what it sees as it must be, and the rest of the undo list undoes the rest.
+/// image that is put back and logged leaves what it sees as it must be, and the rest of the undo list undoes the rest, whole or down to the
+/// savepoint.
 pub fn rollback_steps_keep_views()
     ensures begin { (held : List Hold) (now R : Records) (t : ℕ) (p : Progress) (L : WriteSet) →
         Sees held now R t p.writes → HasLogged held R t p L → Sees held now R t L }
     ensures step { (held : List Hold) (now R : Records) (t : ℕ) (L : WriteSet) (id : Rid) (image : Image) →
         MayWrite held t id → Sees held now R t L → Sees held now (put_image R id image) t (insert L id image) }
-    ensures rest { (held : List Hold) (now R : Records) (t : ℕ) (p : Progress) (images : List (Rid × Image)) (e : Rid × Image) →
-        CanUndo held now R t record { images = images ++ e ∷ []; marks = [] } p → p.saved ≡ []
-        → CanUndo held now (put_image R e.0 e.1) t record { images = images; marks = [] } p }
+    ensures rest { (held : List Hold) (now R : Records) (t : ℕ) (p : Progress) (undo : UndoList) (kept : List (Rid × Image)) (e : Rid × Image) (r : Rollback) →
+        CanUndo held now R t undo p → undo.images ≡ kept ++ e ∷ [] → MayRoll undo r → least_kept undo r ≤ length kept
+        → CanUndo held now (put_image R e.0 e.1) t (undo_rolled undo kept r) p }
+{}
+
+/// A rollback whose first image was put back in a step of its own ends as one that was made at once: with the same records in place, the same
+/// undo list, and the same log.
+pub fn rollbacks_in_steps_end_alike()
+    ensures abort { (t : ℕ) (R : Records) (log : List LogRecord) (undo : UndoList) (kept : List (Rid × Image)) (e : Rid × Image) → undo.images ≡ kept ++ e ∷ [] →
+        (rolled_back (put_image R e.0 e.1) kept ≡ rolled_back R undo.images)
+        × (and_compensations t (and_record t log (Compensation e.0 e.1 (next_to_undo t log))) kept ≡ and_compensations t log undo.images) }
+    ensures back_to { (t : ℕ) (R : Records) (log : List LogRecord) (undo : UndoList) (kept : List (Rid × Image)) (e : Rid × Image) (n : ℕ) (answer : Answer) →
+        undo.images ≡ kept ++ e ∷ [] → n < length undo.marks → mark_of undo n ≤ length kept →
+        (in_place_after_answer (put_image R e.0 e.1) (undo_rolled undo kept (To n)) (BackTo n) answer ≡ in_place_after_answer R undo (BackTo n) answer)
+        × (undo_after_answer (put_image R e.0 e.1) (undo_rolled undo kept (To n)) (BackTo n) answer ≡ undo_after_answer R undo (BackTo n) answer)
+        × (and_compensations t (and_record t log (Compensation e.0 e.1 (next_to_undo t log))) (images_since (undo_rolled undo kept (To n)) n)
+        ≡ and_compensations t log (images_since undo n)) }
 {}
 
 /// The undo list and the unanswered Changes of the log stay the same: a Change goes to the end of both, a rollback takes its
@@ -148,9 +180,19 @@ pub fn two_sessions_interleave()
         (last : Sessions) × (made : List Entry) × RunsTo (just_opened o) (interleaved o a b x z) [] last made × (get last.records b ≡ Some z) }
 {}
 
+/// So may they in the midst of a rollback: one session changes a record twice, and its abort, or its way back to a savepoint, puts one image
+/// back; the other reads; then the rollback puts back what is left, and in place is what was there before.
+pub fn rollbacks_are_interrupted()
+    ensures abort { (o : Records) (a b : Rid) (x y z : List ℕ) → a ≢ b → get o a ≡ Some x → get o b ≡ Some y →
+        (last : Sessions) × (made : List Entry) × RunsTo (just_opened o) (abort_interrupted o a b x z) [] last made × (get last.records b ≡ Some y) }
+    ensures back_to { (o : Records) (a b : Rid) (x y z : List ℕ) → a ≢ b → get o a ≡ Some x → get o b ≡ Some y →
+        (last : Sessions) × (made : List Entry) × RunsTo (just_opened o) (way_back_interrupted o a b x z) [] last made × (get last.records b ≡ Some y) }
+{}
+
 /// What must not come, though each other condition of it may hold: a get and its refusal without a lock, an insert if only a read lock
 /// is held, a scan under a lock of a record; a second transaction of a session; locks that a transaction under way loses, that clash, or
-/// that are of no transaction yet.
+/// that are of no transaction yet; a commit or a get of one that rolls back; a way back, or an image put back, to another savepoint
+/// than that of the rollback under way; an image put back out of turn, or from before the savepoint.
 pub fn wrong_events_do_not_come()
     ensures get_unlocked { (t n : ℕ) (R : Records) (id : Rid) (answer : Answer) → MayReplyInPlace [] t R n (Get id) (Ok answer) → ⊥ }
     ensures absent_unlocked { (t n : ℕ) (R : Records) (id : Rid) → id.slot < MAX_SLOTS → MayReplyInPlace [] t R n (Get id) (Err NoRecord) → ⊥ }
@@ -164,4 +206,15 @@ pub fn wrong_events_do_not_come()
     ensures locks_clash { (s new : Sessions) (held : List Hold) (t u : ℕ) (id : Rid) →
         t ≢ u → MayWrite held t id → MayRead held u id → StepsTo s (MoveLocks held) new → ⊥ }
     ensures lock_of_nobody { (s new : Sessions) (h : Hold) (held : List Hold) → Contains held h → s.next_txn ≤ h.txn → StepsTo s (MoveLocks held) new → ⊥ }
+    ensures commit_in_rollback { (s new : Sessions) (a : SessionTxn) → a.undo.rolling ≢ None → StepsTo s (AppendCommit a) new → ⊥ }
+    ensures get_in_rollback { (s new : Sessions) (a : SessionTxn) (id : Rid) (reply : Result Answer Fault) →
+        a.undo.rolling ≢ None → StepsTo s (GiveReply a (Get id) reply) new → ⊥ }
+    ensures other_savepoint { (s new : Sessions) (a : SessionTxn) (kept : List (Rid × Image)) (e : Rid × Image) (n m : ℕ) →
+        a.undo.rolling ≡ Some (To n) → n ≢ m → StepsTo s (PutBack a kept e (To m)) new → ⊥ }
+    ensures other_back_to { (s new : Sessions) (a : SessionTxn) (n m : ℕ) (reply : Result Answer Fault) →
+        a.undo.rolling ≡ Some (To n) → n ≢ m → StepsTo s (GiveReply a (BackTo m) reply) new → ⊥ }
+    ensures not_the_newest { (s new : Sessions) (a : SessionTxn) (older kept : List (Rid × Image)) (newest e : Rid × Image) (r : Rollback) →
+        a.undo.images ≡ older ++ newest ∷ [] → newest ≢ e → StepsTo s (PutBack a kept e r) new → ⊥ }
+    ensures before_savepoint { (s new : Sessions) (a : SessionTxn) (kept : List (Rid × Image)) (e : Rid × Image) (n : ℕ) →
+        length kept < mark_of a.undo n → StepsTo s (PutBack a kept e (To n)) new → ⊥ }
 {}

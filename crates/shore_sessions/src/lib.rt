@@ -3,3 +3,6 @@
 #![tactic(auto)]
 
 pub mod laws;
+pub mod rollbacks;
+
+pub use rollbacks::Rollback;

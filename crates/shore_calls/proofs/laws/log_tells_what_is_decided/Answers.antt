@@ -17,4 +17,4 @@ pub returns-clause-commit : goal.returns-clause-commit
 returns-clause-commit d g found es old new session n c k h = call_tells found es old k g session n c new h
 
 pub returns-clause-own : goal.returns-clause-own
-returns-clause-own d found es s a id k mem some = own_in_place found es s k a mem id some
+returns-clause-own d found es s a id k mem whole some = own_in_place found es s k a mem whole id some

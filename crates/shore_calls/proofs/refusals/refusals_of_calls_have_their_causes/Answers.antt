@@ -1,4 +1,4 @@
-use Rattle.shore_calls.proofs.RefusalCauses.{delete_log_full_though_room, delete_none_though_there, for_update_none_though_there, force_beyond_log, force_of_durable, full_though_served, get_none_though_there, insert_log_full_though_room, insert_log_full_unlocked, log_before_page, no_page_of_no_store, no_page_though_there, no_store_though_there, too_long_though_short, update_full_though_fits, update_log_full_though_room, update_none_though_there}
+use Rattle.shore_calls.proofs.RefusalCauses.{delete_log_full_though_room, delete_none_though_there, for_update_none_though_there, force_beyond_all, force_beyond_log, force_of_durable, full_though_served, get_none_though_there, insert_log_full_though_room, insert_log_full_unlocked, log_before_page, no_page_of_no_store, no_page_though_there, no_store_though_there, too_long_though_short, update_full_though_fits, update_log_full_though_room, update_none_though_there}
 use Rattle.shore_calls.proofs.refusals.refusals_of_calls_have_their_causes.Goals as goal
 
 pub returns-clause-full_though_served : goal.returns-clause-full_though_served
@@ -51,3 +51,6 @@ returns-clause-force_of_durable d = force_of_durable
 
 pub returns-clause-force_beyond_log : goal.returns-clause-force_beyond_log
 returns-clause-force_beyond_log d = force_beyond_log
+
+pub returns-clause-force_beyond_all : goal.returns-clause-force_beyond_all
+returns-clause-force_beyond_all d = force_beyond_all

@@ -5,8 +5,8 @@ pub returns-clause-change : goal.returns-clause-change
 returns-clause-change c R undos counts a id k m alone = changed R undos counts k a m id alone
 
 pub returns-clause-undo : goal.returns-clause-undo
-returns-clause-undo c R undos counts a kept e marks k m is = (
-  newest_claim R undos counts k a m kept e marks is,
-  unreserved R undos counts k a m kept e marks is,
-  claim_back R undos counts k a m kept e marks is,
+returns-clause-undo c R undos counts a kept e marks rolling k m is = (
+  newest_claim R undos counts k a m kept e marks rolling is,
+  unreserved R undos counts k a m kept e marks rolling is,
+  claim_back R undos counts k a m kept e marks rolling is,
 )

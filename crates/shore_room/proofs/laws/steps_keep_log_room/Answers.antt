@@ -15,7 +15,7 @@ pub returns-clause-marks : goal.returns-clause-marks
 returns-clause-marks c spare undos room a undo h once m same = marked_has spare undos room h once a m undo same
 
 pub returns-clause-compensation : goal.returns-clause-compensation
-returns-clause-compensation c spare undos room a kept e marks h once m is = undone_takes spare undos room h once a m kept e marks is
+returns-clause-compensation c spare undos room a kept e marks rolling h once m is = undone_takes spare undos room h once a m kept e marks rolling is
 
 pub returns-clause-ending : goal.returns-clause-ending
 returns-clause-ending c spare undos room a h once m = ended_takes spare undos room h once a m

@@ -1,4 +1,5 @@
-use Rattle.shore_sessions.proofs.RollingBack.{sees_logged, step_sees, step_undoes}
+use Rattle.shore_sessions.proofs.RollingBack.{sees_logged, step_sees}
+use Rattle.shore_sessions.proofs.UndoLists.{step_undoes}
 use Rattle.shore_sessions.proofs.laws.rollback_steps_keep_views.Goals as goal
 
 pub returns-clause-begin : goal.returns-clause-begin
@@ -8,4 +9,4 @@ pub returns-clause-step : goal.returns-clause-step
 returns-clause-step c held now R t L id image w m = step_sees id image w m
 
 pub returns-clause-rest : goal.returns-clause-rest
-returns-clause-rest c held now R t p images e k none = step_undoes images e k none
+returns-clause-rest c held now R t p undo kept e r k is may least = step_undoes k kept e is r may least

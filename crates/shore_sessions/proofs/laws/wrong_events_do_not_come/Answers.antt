@@ -1,4 +1,4 @@
-use Rattle.shore_sessions.proofs.WrongEvents.{absent_unlocked, get_unlocked, insert_under_read_lock, lock_lost, lock_of_nobody, locks_clash, scan_under_record_lock, second_txn}
+use Rattle.shore_sessions.proofs.WrongEvents.{absent_unlocked, before_savepoint, commit_in_rollback, get_in_rollback, get_unlocked, insert_under_read_lock, lock_lost, lock_of_nobody, locks_clash, not_the_newest, other_back_to, other_savepoint, scan_under_record_lock, second_txn}
 use Rattle.shore_sessions.proofs.laws.wrong_events_do_not_come.Goals as goal
 
 pub returns-clause-get_unlocked : goal.returns-clause-get_unlocked
@@ -24,3 +24,21 @@ returns-clause-locks_clash c s new held t u id other w r step = locks_clash s ne
 
 pub returns-clause-lock_of_nobody : goal.returns-clause-lock_of_nobody
 returns-clause-lock_of_nobody c s new h held among beyond step = lock_of_nobody s new h held among beyond step
+
+pub returns-clause-commit_in_rollback : goal.returns-clause-commit_in_rollback
+returns-clause-commit_in_rollback c s new a rolls step = commit_in_rollback s new a rolls step
+
+pub returns-clause-get_in_rollback : goal.returns-clause-get_in_rollback
+returns-clause-get_in_rollback c s new a id reply rolls step = get_in_rollback s new a id reply rolls step
+
+pub returns-clause-other_savepoint : goal.returns-clause-other_savepoint
+returns-clause-other_savepoint c s new a kept e n m rolls differ step = other_savepoint s new a kept e n m rolls differ step
+
+pub returns-clause-other_back_to : goal.returns-clause-other_back_to
+returns-clause-other_back_to c s new a n m reply rolls differ step = other_back_to s new a n m reply rolls differ step
+
+pub returns-clause-not_the_newest : goal.returns-clause-not_the_newest
+returns-clause-not_the_newest c s new a older kept newest e r is differ step = not_the_newest s new a older kept newest e r is differ step
+
+pub returns-clause-before_savepoint : goal.returns-clause-before_savepoint
+returns-clause-before_savepoint c s new a kept e n less step = before_savepoint s new a kept e n less step
