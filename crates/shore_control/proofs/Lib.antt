@@ -5,4 +5,5 @@ pub mod Lists
 pub mod LogSteps
 pub mod Taking
 pub mod TxnSteps
+pub mod RollbackSteps
 pub mod WaitSteps

@@ -5,7 +5,7 @@ use Rattle.std.specs.List.{AllByRecursion, enumerate_from}
 use Rattle.std.proofs.lemmas.Bool.{eq-eqb, ne_eqb}
 use Rattle.std.proofs.lemmas.List.Sums.{sum_by-append}
 use Rattle.shore_model.specs.declared.log_records.LogRecord.{LogRecord}
-use Rattle.shore_model.specs.Logs.{first_number, last_of, previous_of, records_of}
+use Rattle.shore_model.specs.Logs.{first_number, last_of, previous_of, records_of, unanswered, unanswered_in}
 use Rattle.shore_model.proofs.LogSteps.{newest-push}
 use Rattle.shore_logrec.specs.Text.{cost_of}
 use Rattle.shore_calls.specs.States.{cost_of_log}
@@ -39,6 +39,10 @@ none_from t n (r ∷ log) below =
 -- a transaction above all records has none
 pub previous_none : (t : ℕ) (log : List LogRecord) → 0 < t → AllByRecursion (λ r. r.txn < t) log → previous_of t log ≡ 0
 previous_none t log some below = previous_positive t (last_of t log) some ∙ ap (λ es. first_number (reverse es)) (none_from t 1 log below)
+
+-- .. and no Change
+pub unanswered_none : (t : ℕ) (log : List LogRecord) → AllByRecursion (λ r. r.txn < t) log → unanswered t log ≡ []
+unanswered_none t log below = ap (λ es. unanswered_in (reverse es)) (none_from t 1 log below)
 
 pub all_higher : (n m : ℕ) (log : List LogRecord) → n ≤ m → AllByRecursion (λ r. r.txn < n) log → AllByRecursion (λ r. r.txn < m) log
 all_higher n m [] rise all = tt

@@ -126,27 +126,29 @@ module _ (calls : List WaitingCall) (s : State) (was : HasWaits calls s) where
         (among_either w calls (it ∷ []) n);
   }
 
+  -- who waits for a lock is under way still if one leaves of whose session no call waits
+  pub still_asks : (a : SessionTxn) → IsAmong a s.sessions.active → EachOnce (txns_of s.sessions.active) → All (λ w. w.session ≢ a.session) calls
+      → (w : WaitingCall) → IsAmong w calls → is_commit w ≡ false → IsAmong (caller_of w) (names_of (without_txn a.txn s.sessions.active))
+  still_asks a m once free w n is =
+      let its = map_among name_of (caller_of w) s.sessions.active (was.asking w n is) in
+      let other : its.0.txn ≢ a.txn = λ same. among_all (λ (v : WaitingCall). v.session ≢ a.session) calls free w n
+      (sym (ap (λ (p : ℕ × ℕ). p.0) its.2) ∙ ap (λ (b : SessionTxn). b.session) (once_same (λ (b : SessionTxn). b.txn) s.sessions.active once its.0 a its.1 m same)) in
+      subst (λ v. IsAmong v (names_of (without_txn a.txn s.sessions.active))) its.2
+      (among_map name_of its.0 (without_txn a.txn s.sessions.active) (member_stays a.txn its.0 s.sessions.active its.1 other))
+
   -- a commit waits
   pub waits_committed : (a : SessionTxn) → IsAmong a s.sessions.active → EachOnce (txns_of s.sessions.active) → All (λ w. w.session ≢ a.session) calls
       → HasWaits (calls ++ record { session = a.session; txn = a.txn; call = call.Commit; wait = Durable (next_number s) } ∷ []) (committed s a)
   waits_committed a m once free = let it : WaitingCall = record { session = a.session; txn = a.txn; call = call.Commit; wait = Durable (next_number s) } in record {
     waiting = ap (λ ws. commit_waiting a.session (next_number s) ∷ ws) was.waiting ∙ sym (waitings-push calls it);
     committing = λ f. ap (λ ns. name_of a ∷ ns) (was.committing f) ∙ sym (committers-pushed calls it (it ∷ []) refl);
-    asking = λ w n is. ⊎_elim (λ old. stays w old is)
+    asking = λ w n is. ⊎_elim (λ old. still_asks a m once free w old is)
         (λ new. ⊎_elim (λ same. absurd (clash (ap is_commit same ∙ is))) (λ none. absurd none) new)
         (among_either w calls (it ∷ []) n);
   }
     where
       clash : true ≡ false → ⊥
       clash e = cc
-
-      stays : (w : WaitingCall) → IsAmong w calls → is_commit w ≡ false → IsAmong (caller_of w) (names_of (without_txn a.txn s.sessions.active))
-      stays w n is =
-          let its = map_among name_of (caller_of w) s.sessions.active (was.asking w n is) in
-          let other : its.0.txn ≢ a.txn = λ same. among_all (λ (v : WaitingCall). v.session ≢ a.session) calls free w n
-          (sym (ap (λ (p : ℕ × ℕ). p.0) its.2) ∙ ap (λ (b : SessionTxn). b.session) (once_same (λ (b : SessionTxn). b.txn) s.sessions.active once its.0 a its.1 m same)) in
-          subst (λ v. IsAmong v (names_of (without_txn a.txn s.sessions.active))) its.2
-          (among_map name_of its.0 (without_txn a.txn s.sessions.active) (member_stays a.txn its.0 s.sessions.active its.1 other))
 
   taken_asks : (session : ℕ) (w : WaitingCall) → IsAmong w (filter (is_other session) calls) → is_commit w ≡ false → IsAmong (caller_of w) (names_of s.sessions.active)
   taken_asks session w m is = was.asking w (among_filtered (is_other session) w calls m).0 is

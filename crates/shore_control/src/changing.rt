@@ -21,7 +21,7 @@ ghost use Rattle.shore_txn.specs.Transactions.{HasNoTxnOf, HasRoomToNote, HasTxn
 
 use crate::control::Control;
 use shore_txn::UndoEntry;
-use shore_types::{Lsn, SessionId, TxnId};
+use shore_types::{SessionId, TxnId};
 use std::alloc::{AllocError, Global};
 
 impl Control {
@@ -61,32 +61,25 @@ impl Control {
         self.txns.reserve_entry(alloc, session)
     }
 
-    /// A change of a session's transaction was logged under this number. `logged` is what its record costs, and `undo` what that of its undo would.
+    /// A change of a session's transaction was logged. `logged` is what its record costs, and `undo` what that of its undo would.
     /// It stands for the state with another image at the id, if nobody else could put an image back there.
-    pub fn note_change(
-        &mut self,
-        session: SessionId,
-        lsn: Lsn,
-        entry: UndoEntry,
-        logged: u64,
-        undo: u64,
-    )
+    pub fn note_change(&mut self, session: SessionId, entry: UndoEntry, logged: u64, undo: u64)
         requires there { HasTxnOf session (txns_in self.old) }
         requires memory { HasRoomToNote session (txns_in self.old) }
         requires short { image_len entry.before ≤ MAX_RECORD_BYTES }
         requires cost { undo ≡ compensation_cost entry.before }
         requires room { (room_in (txns_in self.old)).kept + (room_in (txns_in self.old)).reserved + logged + undo ≤ (room_in (txns_in self.old)).stream_bytes }
-        ensures noted { OneBecomes session (λ old new. IsAfterChange old lsn entry new) (table.txns_in (txns_in self.old)) (table.txns_in (txns_in self.new)) }
+        ensures noted { OneBecomes session (λ old new. IsAfterChange old entry new) (table.txns_in (txns_in self.old)) (table.txns_in (txns_in self.new)) }
         ensures reserved { (room_in (txns_in self.new)).reserved ≡ (room_in (txns_in self.old)).reserved + undo }
         ensures claimed { HasMore ((entry.id.slot, image_len entry.before) ∷ []) (kept_in (txns_in self.old) entry.id.page) (kept_in (txns_in self.new) entry.id.page) }
         ensures elsewhere { (p : PageId) → p ≢ entry.id.page → kept_in (txns_in self.new) p ≡ kept_in (txns_in self.old) p }
         ensures locks { locks_in self.new ≡ locks_in self.old }
         ensures waits { waits_in self.new ≡ waits_in self.old }
         ensures stands { (s : State) (a : SessionTxn) (image : Image) (counts : SlotCounts) → HasControl self.old s → IsOfSession s session a
-            → lsn ≡ 1 + length s.log → entry.before ≡ get s.sessions.records entry.id → logged ≡ cost_of (Change entry.id entry.before image)
+            → entry.lsn ≡ 1 + length s.log → entry.before ≡ get s.sessions.records entry.id → logged ≡ cost_of (Change entry.id entry.before image)
             → Claimed s.sessions.records s.sessions.active s.counts → NoOthers s.sessions.active a.txn entry.id → entry.claim ≡ claim_at (page_slots s entry.id.page) entry.id.slot
             → HasControl self.new (changed s a entry.id image counts) }
     {
-        self.txns.note_change(session, lsn, entry, logged, undo);
+        self.txns.note_change(session, entry, logged, undo);
     }
 }

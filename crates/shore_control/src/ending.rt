@@ -52,7 +52,7 @@ impl Control {
     }
 
     // The number of the transaction of a session that has one.
-    fn number_of(&self, session: SessionId) -> TxnId
+    pub(crate) fn number_of(&self, session: SessionId) -> TxnId
         requires { HasTxnOf session (txns_in self.now) }
         ensures { (a : SessionTxn) → IsAmong a (table.undos_in (txns_in self.now)) → a.session ≡ session → result ≡ a.txn }
     {

@@ -5,6 +5,7 @@ mod changing;
 mod control;
 mod ending;
 pub mod laws;
+mod rolling_back;
 mod waiting;
 mod waits;
 

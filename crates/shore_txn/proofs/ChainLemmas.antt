@@ -87,6 +87,42 @@ module _ (links : List Link) (heads : List ℕ) (link : Link) (chained : IsChain
   pub chained_more : IsChained longer (set heads link.bucket (length longer))
   chained_more = record { count = length-set heads link.bucket (length longer) ∙ chained.count; newest = newest_more; older = older_more }
 
+-- ---- one place less
+
+module _ (links : List Link) (heads : List ℕ) (link : Link) (chained : IsChained (links ++ link ∷ []) heads) where
+  abbrev spare : Link
+  spare = record { bucket = 0; older = 0 }
+
+  buckets_were : buckets_of (links ++ link ∷ []) ≡ buckets_of links ++ link.bucket ∷ []
+  buckets_were = map-append (λ (l : Link). l.bucket) links (link ∷ [])
+
+  few : length (buckets_of links) ≡ length links
+  few = length-map links (λ (l : Link). l.bucket)
+
+  -- the newest place leads to the newest one of the others
+  newest_leads : IsLink (buckets_of links) link
+  newest_leads =
+      subst (λ (l : Link). IsLink (buckets_of links) l) (get_or-append_seam links link [] spare)
+      (subst (λ (bs : List ℕ). IsLink bs (link_at (links ++ link ∷ []) (length links)))
+      (ap (take (length links)) buckets_were ∙ ap (λ n. take n (buckets_of links ++ link.bucket ∷ [])) (sym few) ∙ take-append_seam (buckets_of links) (link.bucket ∷ []))
+      (chained.older (length links) (let long = length_push links link in omega (arith, long))))
+
+  newest_less : (b : ℕ) → b < 1024 → get_or (set heads link.bucket link.older) b 0 ≡ newest_in b (buckets_of links)
+  newest_less b below = elim (cases_eq link.bucket b) [
+    | inl same ↦ subst (λ (n : ℕ). get_or (set heads link.bucket link.older) n 0 ≡ newest_in n (buckets_of links)) same
+        (get_or-set_same heads link.bucket link.older 0 (let c = chained.count in let inside = newest_leads.inside in omega (arith, c, inside)) ∙ newest_leads.leads)
+    | inr apart ↦ get_or-set_other heads link.bucket b link.older 0 (λ is. apart (sym is)) ∙ chained.newest b below ∙ ap (newest_in b) buckets_were ∙ newest_other (buckets_of links) b link.bucket apart
+  ]
+
+  older_less : (k : ℕ) → k < length links → IsLink (take k (buckets_of links)) (link_at links k)
+  older_less k less =
+      subst (λ (l : Link). IsLink (take k (buckets_of links)) l) (get_or-append links (link ∷ []) spare k less)
+      (subst (λ (bs : List ℕ). IsLink bs (link_at (links ++ link ∷ []) k)) (ap (take k) buckets_were ∙ take-append-le k (buckets_of links) (link.bucket ∷ []) (omega (arith, less, few)))
+      (chained.older k (let long = length_push links link in omega (arith, less, long))))
+
+  pub chained_less : IsChained links (set heads link.bucket link.older)
+  chained_less = record { count = length-set heads link.bucket link.older ∙ chained.count; newest = newest_less; older = older_less }
+
 -- no place is chained
 pub fresh_chained : (heads : List ℕ) → heads ≡ replicate 1024 0 → IsChained [] heads
 fresh_chained heads is =

@@ -8,3 +8,4 @@ pub mod ActiveSteps
 pub mod ActivePlaces
 pub mod ActiveKept
 pub mod ActiveOthers
+pub mod Lending

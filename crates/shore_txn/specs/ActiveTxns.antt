@@ -1,15 +1,16 @@
 -- Transactions under way, as a list that has the newest first, and the places of their changes.
-use Rattle.std.specs.Prelude.{◌≡◌, ◌/◌, ◌%◌, ◌++◌, ◌∷◌, [], ℕ, List, Option, None, Some, map, reverse, slice_get, take}
+use Rattle.std.specs.Prelude.{◌≡◌, ◌/◌, ◌%◌, ◌+◌, ◌++◌, ◌∷◌, [], ℕ, List, Option, None, Some, length, map, reverse, slice_get, take}
 use Rattle.std.specs.Coded.{×_prop, →_prop, Unit-prop}
 use Rattle.shore_sessions.specs.Sessions.{EachOnce, SessionTxn}
 use Rattle.shore_sessions.specs.UndoLists.{UndoList}
 use Rattle.shore_txn.specs.declared.active.ActiveTxn.{ActiveTxn}
 use Rattle.shore_txn.specs.declared.claims.TheConstants.{OWN_PLACES}
 use Rattle.shore_txn.specs.declared.txn.Txn.{Txn}
+use Rattle.shore_txn.specs.declared.txn_state.TxnState.TheVariants as state
 use Rattle.shore_txn.specs.declared.undo.UndoEntry.{UndoEntry}
 use Rattle.shore_txn.specs.Chains.{IsOfBucket}
 use Rattle.shore_txn.specs.Places.{HasLinkRoomIf, buckets_if}
-use Rattle.shore_txn.specs.Txns.{HasEntryRoom, as_session_txn, entries_of, last_of, number_of}
+use Rattle.shore_txn.specs.Txns.{HasEntryRoom, as_session_txn, entries_of, last_of, marks_of, number_of, state_of}
 use Rattle.shore_txn.specs.UndoEntries.{image_of}
 
 -- the transactions of a list that has the oldest first: the newest first
@@ -44,6 +45,8 @@ pub record IsBegun (number who : ℕ) (t : Txn) : Type 0 where
   pub session : t.session ≡ who
   pub last : last_of t ≡ 0
   pub entries : entries_of t ≡ []
+  pub marks : marks_of t ≡ []
+  pub state : state_of t ≡ state.Active
 
 -- the session's transaction is another one then, and all others are as they were
 pub record OneBecomes (who : ℕ) (Becomes : Txn → Txn → Type 0) (old new : List Txn) : Type 0 where
@@ -68,7 +71,15 @@ pub record OneLeaves (who : ℕ) (changes : List UndoEntry) (old new : List Txn)
 
 -- an undo list with one entry more
 abbrev pub with_entry : UndoList → UndoEntry → UndoList
-with_entry undo e = record { images = undo.images ++ image_of e ∷ []; marks = undo.marks }
+with_entry undo e = record { images = undo.images ++ image_of e ∷ []; marks = undo.marks; rolling = undo.rolling }
+
+-- .. with one savepoint more
+abbrev pub with_mark : UndoList → UndoList
+with_mark undo = record { images = undo.images; marks = undo.marks ++ length undo.images ∷ []; rolling = undo.rolling }
+
+-- .. that is back at a savepoint, as the rollback is complete
+abbrev pub back_at : ℕ → UndoList → UndoList
+back_at index undo = record { images = undo.images; marks = take (index + 1) undo.marks; rolling = None }
 
 -- one list has what another has, and at some place something more
 pub record HasMore {A : Type 0} (more old new : List A) : Type 0 where

@@ -1,5 +1,5 @@
 -- An undo list as a transaction keeps it: beside each image the claim that its slot had before the change.
-use Rattle.std.specs.Prelude.{◌≡◌, ◌≤◌, ℕ, List, [], ◌∷◌, map, All, if◌then◌else◌}
+use Rattle.std.specs.Prelude.{◌≡◌, ◌≤◌, ℕ, List, [], ◌∷◌, map, All, drop, reverse, if◌then◌else◌}
 use Rattle.std.specs.Ordering.{eq_by_cmp}
 use Rattle.shore_types.specs.Ids.{page_cmp}
 use Rattle.shore_types.specs.Images.{Image}
@@ -20,6 +20,15 @@ images_of es = map image_of es
 -- each entry has the claim that its slot had before the change
 abbrev pub HaveClaims : List UndoEntry → Type 0
 HaveClaims es = map (λ e. e.claim) es ≡ claims_before (images_of es)
+
+-- the number of the first change of a list, 0 for none
+abbrev pub first_number : List UndoEntry → ℕ
+first_number [] = 0
+first_number (e ∷ es) = e.lsn
+
+-- the number of the newest change but one: what a Compensation of the newest names
+abbrev pub number_behind : List UndoEntry → ℕ
+number_behind es = first_number (drop 1 (reverse es))
 
 -- no image is longer than a record
 abbrev pub AreShort : List UndoEntry → Type 0

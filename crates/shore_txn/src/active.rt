@@ -1,17 +1,18 @@
 //! A transaction of the table, with the places of its changes.
-ghost use Rattle.std.specs.Prelude.{◌≡◌, ◌-◌, ◌+◌, ◌<◌, ◌≤◌, ◌∷◌, [], IsSome, OnOk, Some, get_or, length, option_to_list, slice_get, take};
-ghost use Rattle.shore_types.specs.declared.layout.TheConstants.{LAST_TXN, MAX_LOG_BYTES, MAX_RECORD_BYTES};
+ghost use Rattle.std.specs.Prelude.{◌≡◌, ◌-◌, ◌+◌, ◌<◌, ◌≤◌, ◌++◌, ◌∷◌, [], List, IfOk, IsSome, OnErr, OnOk, Some, get_or, length, option_to_list, slice_get, take};
+ghost use Rattle.shore_types.specs.declared.layout.TheConstants.{LAST_TXN, MAX_LOG_BYTES, MAX_RECORD_BYTES, MAX_SAVEPOINTS};
 ghost use Rattle.shore_page.specs.Slots.{image_len};
 ghost use Rattle.shore_room.specs.LogRooms.{compensation_cost};
 ghost use Rattle.shore_txn.specs.Chains.{bucket_of, newest_in};
 ghost use Rattle.shore_txn.specs.Places.{buckets_if};
-ghost use Rattle.shore_txn.specs.Txns.{IsAfterChange, SameTxn, entries_of};
+ghost use Rattle.shore_txn.specs.Txns.{IsAfterChange, IsAfterSavepoint, IsAfterUndo, IsBackAt, SameTxn, entries_of, marks_of};
 ghost use Rattle.shore_txn.specs.UndoEntries.{claims_on, page_buckets};
 ghost use Rattle.shore_txn.specs.declared.undo.UndoEntry.{UndoEntry};
 
 use crate::chains::PageChains;
 use crate::txn::Txn;
 use crate::undo::UndoEntry;
+use shore_sessions::Rollback;
 use shore_types::{Lsn, PageId, SessionId, TxnId};
 use std::alloc::{AllocError, Global};
 
@@ -67,18 +68,48 @@ impl ActiveTxn {
         Ok(())
     }
 
-    /// A change of it was logged under this number, and its undo costs so much.
-    pub(crate) fn note_change(&mut self, lsn: Lsn, entry: UndoEntry, cost: u64)
+    /// A change of it was logged, and its undo costs so much.
+    pub(crate) fn note_change(&mut self, entry: UndoEntry, cost: u64)
         requires room { CanNote self.old }
         requires short { image_len entry.before ≤ MAX_RECORD_BYTES }
         requires cost { cost ≡ compensation_cost entry.before }
         requires sum { self.old.txn.reserved + cost ≤ MAX_LOG_BYTES }
-        ensures { IsAfterChange self.old.txn lsn entry self.new.txn }
+        ensures { IsAfterChange self.old.txn entry self.new.txn }
     {
         if let Some(chains) = &mut self.chains {
             chains.push(&entry.id.page);
         }
-        self.txn.note_change(lsn, entry, cost);
+        self.txn.note_change(entry, cost);
+    }
+
+    /// A savepoint more. Answers its index. If memory is short nothing has changed.
+    pub(crate) fn savepoint(&mut self) -> Result<usize, AllocError>
+        requires few { length (marks_of self.old.txn) < MAX_SAVEPOINTS }
+        ensures index { IfOk result (λ index. index ≡ length (marks_of self.old.txn)) }
+        ensures set { OnOk result (IsAfterSavepoint self.old.txn self.new.txn) }
+        ensures same { OnErr result (SameTxn self.old.txn self.new.txn) }
+    {
+        self.txn.savepoint()
+    }
+
+    /// Its newest change was put back in this rollback, and the Compensation, which costs so much, was logged under this number. Hands the change
+    /// over. It takes no memory.
+    pub(crate) fn note_compensation(&mut self, lsn: Lsn, rollback: Rollback, cost: u64) -> UndoEntry
+        requires some { 0 < length (entries_of self.old.txn) }
+        requires cost { (kept : List UndoEntry) (e : UndoEntry) → entries_of self.old.txn ≡ kept ++ e ∷ [] → cost ≡ compensation_cost e.before }
+        ensures { IsAfterUndo lsn rollback result self.old.txn self.new.txn }
+    {
+        if let Some(chains) = &mut self.chains {
+            chains.pop();
+        }
+        self.txn.note_compensation(lsn, rollback, cost)
+    }
+
+    /// It is back at the savepoint of this index: those behind it are gone.
+    pub(crate) fn go_back(&mut self, index: usize)
+        ensures { IsBackAt index self.old.txn self.new.txn }
+    {
+        self.txn.go_back(index);
     }
 
     /// The newest place of a page's bucket, 0 for none.

@@ -1,5 +1,5 @@
 //! Chains of places: the changes of a page are found without a walk over those of all pages.
-ghost use Rattle.std.specs.Prelude.{◌≡◌, ◌+◌, ◌-◌, ◌<◌, ◌≤◌, ◌++◌, ◌∷◌, [], IfOk, OnOk, get_or, length, take};
+ghost use Rattle.std.specs.Prelude.{◌≡◌, ◌+◌, ◌-◌, ◌<◌, ◌≤◌, ◌++◌, ◌∷◌, [], ℕ, IfOk, OnOk, get_or, length, take};
 ghost use Rattle.shore_types.specs.declared.ids.PageId.{PageId};
 ghost use Rattle.shore_txn.specs.Chains as chains;
 ghost use Rattle.shore_txn.specs.Chains.{IsChained, newest_in};
@@ -56,6 +56,15 @@ impl PageChains {
         let older = self.newest[bucket];
         self.links.push_reserved(Link { bucket, older });
         self.newest[bucket] = self.links.len();
+    }
+
+    /// Takes the newest place away: its bucket leads to the next older one again.
+    pub(crate) fn pop(&mut self)
+        requires { 1 ≤ length (buckets_in self.old) }
+        ensures { (bucket : ℕ) × (buckets_in self.old ≡ buckets_in self.new ++ bucket ∷ []) }
+    {
+        let link = self.links.take_last();
+        self.newest[link.bucket] = link.older;
     }
 
     /// The newest place of a page's bucket, 0 for none.

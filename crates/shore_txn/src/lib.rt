@@ -7,11 +7,14 @@ mod claims;
 mod guesses;
 pub mod laws;
 mod log_room;
+mod rolling_back;
 mod transactions;
 mod txn;
+mod txn_state;
 mod undo;
 
 pub use log_room::LogRoom;
 pub use transactions::Transactions;
 pub use txn::Txn;
+pub use txn_state::TxnState;
 pub use undo::UndoEntry;

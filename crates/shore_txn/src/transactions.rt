@@ -10,7 +10,7 @@ ghost use Rattle.shore_sessions.specs.Sessions.{EachOnce, SessionTxn, txns_of, w
 ghost use Rattle.shore_sessions.specs.UndoLists.{nothing_to_undo};
 ghost use Rattle.shore_sessions.specs.Views.{IsAmong};
 ghost use Rattle.shore_txn.specs.ActiveTxns.{EachOnce-prop, HasMore, IsBegun, OneBecomes, OneLeaves, sessions_of, undos_of, with_entry};
-ghost use Rattle.shore_txn.specs.Txns.{IsAfterChange, SameTxn, as_session_txn};
+ghost use Rattle.shore_txn.specs.Txns.{IsAfterChange, SameTxn, as_session_txn, entries_of};
 ghost use Rattle.shore_txn.specs.UndoEntries.{claims_on, images_of};
 ghost use Rattle.shore_txn.specs.declared.txn.Txn.{Txn};
 
@@ -20,7 +20,7 @@ use crate::log_room::LogRoom;
 use crate::txn::Txn;
 use crate::undo::UndoEntry;
 use shore_types::layout::{ENDING_COST, LAST_TXN};
-use shore_types::{Lsn, SessionId, TxnId};
+use shore_types::{SessionId, TxnId};
 use std::alloc::{AllocError, Global};
 
 /// The transactions under way, and the room of the log that they share with all records. A session has one at most.
@@ -29,8 +29,8 @@ pub struct Transactions {
     next: u64,
     // The oldest first.
     pub(crate) active: Vec<ActiveTxn>,
-    guesses: Guesses,
-    room: LogRoom,
+    pub(crate) guesses: Guesses,
+    pub(crate) room: LogRoom,
     ghost some: { 1 ≤ next },
     ghost sum: { room.reserved ≡ owed_by_all (undos_of active.items) },
     ghost numbers: { EachOnce (txns_of (undos_of active.items)) } by { EachOnce-prop (txns_of (undos_of active.items)) },
@@ -127,21 +127,14 @@ impl Transactions {
         self.active[index].reserve_entry(alloc)
     }
 
-    /// A change of a session's transaction was logged under this number. `logged` is what its record costs, and `undo` what that of its undo would.
-    pub fn note_change(
-        &mut self,
-        session: SessionId,
-        lsn: Lsn,
-        entry: UndoEntry,
-        logged: u64,
-        undo: u64,
-    )
+    /// A change of a session's transaction was logged. `logged` is what its record costs, and `undo` what that of its undo would.
+    pub fn note_change(&mut self, session: SessionId, entry: UndoEntry, logged: u64, undo: u64)
         requires there { HasTxnOf session self.old }
         requires memory { HasRoomToNote session self.old }
         requires short { image_len entry.before ≤ MAX_RECORD_BYTES }
         requires cost { undo ≡ compensation_cost entry.before }
         requires room { (room_in self.old).kept + (room_in self.old).reserved + logged + undo ≤ (room_in self.old).stream_bytes }
-        ensures noted { OneBecomes session (λ old new. IsAfterChange old lsn entry new) (txns_in self.old) (txns_in self.new) }
+        ensures noted { OneBecomes session (λ old new. IsAfterChange old entry new) (txns_in self.old) (txns_in self.new) }
         ensures undos { (a : SessionTxn) → IsAmong a (undos_in self.old) → a.session ≡ session → undos_in self.new ≡ with_undo a.txn (with_entry a.undo entry) (undos_in self.old) }
         ensures claimed { HasMore ((entry.id.slot, image_len entry.before) ∷ []) (kept_in self.old entry.id.page) (kept_in self.new entry.id.page) }
         ensures elsewhere { (p : PageId) → p ≢ entry.id.page → kept_in self.new p ≡ kept_in self.old p }
@@ -151,7 +144,7 @@ impl Transactions {
         ensures stream { (room_in self.new).stream_bytes ≡ (room_in self.old).stream_bytes }
     {
         let index = self.index_of(session);
-        self.active[index].note_change(lsn, entry, undo);
+        self.active[index].note_change(entry, undo);
         self.room.append(logged);
         self.room.reserve(undo);
     }
@@ -168,12 +161,25 @@ impl Transactions {
         ensures reserved { (room_in self.new).reserved + ENDING_COST + compensation_costs (images_of result.items) ≡ (room_in self.old).reserved }
         ensures stream { (room_in self.new).stream_bytes ≡ (room_in self.old).stream_bytes }
     {
-        let index = self.index_of(session);
-        let decided = self.active.remove(index);
-        self.guesses.note_from(&self.active, index);
-        self.room.release(decided.txn().reserved());
+        let decided = self.take_out(session);
         self.room.append(ENDING_COST);
         decided.into_undo()
+    }
+
+    // Takes a session's transaction out: what was reserved for it is free.
+    pub(crate) fn take_out(&mut self, session: SessionId) -> ActiveTxn
+        requires there { HasTxnOf session self.old }
+        ensures left { OneLeaves session (entries_of result.txn) (txns_in self.old) (txns_in self.new) }
+        ensures next { next_in self.new ≡ next_in self.old }
+        ensures reserved { (room_in self.new).reserved + ENDING_COST + compensation_costs (images_of (entries_of result.txn)) ≡ (room_in self.old).reserved }
+        ensures kept { (room_in self.new).kept ≡ (room_in self.old).kept }
+        ensures stream { (room_in self.new).stream_bytes ≡ (room_in self.old).stream_bytes }
+    {
+        let index = self.index_of(session);
+        let one = self.active.remove(index);
+        self.guesses.note_from(&self.active, index);
+        self.room.release(one.txn().reserved());
+        one
     }
 
     // Where a session's transaction is.
@@ -193,7 +199,7 @@ impl Transactions {
     }
 
     // .. of a session that has one.
-    fn index_of(&self, session: SessionId) -> usize
+    pub(crate) fn index_of(&self, session: SessionId) -> usize
         requires { HasTxnOf session self.now }
         ensures inside { result < length self.now.active.items }
         ensures its { HoldsAt (λ a. a.txn.session ≡ session) self.now.active.items result }

@@ -1,12 +1,16 @@
 //! A transaction under way.
-ghost use Rattle.std.specs.Prelude.{◌≡◌, ◌+◌, ◌<◌, ◌≤◌, ◌++◌, ◌∷◌, [], OnOk, Some, length, option_to_list, slice_get};
-ghost use Rattle.shore_types.specs.declared.layout.TheConstants.{ENDING_COST, LAST_TXN, MAX_LOG_BYTES, MAX_RECORD_BYTES};
+ghost use Rattle.std.specs.Prelude.{◌≡◌, ◌+◌, ◌<◌, ◌≤◌, ◌++◌, ◌∷◌, [], List, IfNone, IfOk, IfSome, OnErr, OnOk, Some, length, option_to_list, slice_get};
+ghost use Rattle.shore_types.specs.declared.layout.TheConstants.{ENDING_COST, LAST_TXN, MAX_LOG_BYTES, MAX_RECORD_BYTES, MAX_SAVEPOINTS};
 ghost use Rattle.shore_page.specs.Slots.{image_len};
 ghost use Rattle.shore_room.specs.LogRooms.{compensation_cost, compensation_costs};
-ghost use Rattle.shore_txn.specs.UndoEntries.{AreShort, claims_on, images_of};
+ghost use Rattle.shore_sessions.specs.UndoLists.{marks_kept};
+ghost use Rattle.shore_txn.specs.UndoEntries.{AreShort, claims_on, images_of, number_behind};
+ghost use Rattle.shore_txn.specs.declared.txn_state.TxnState.TheVariants as state;
 ghost use Rattle.shore_txn.specs.declared.undo.UndoEntry.{UndoEntry};
 
+use crate::txn_state::TxnState;
 use crate::undo::UndoEntry;
+use shore_sessions::Rollback;
 use shore_types::layout::ENDING_COST;
 use shore_types::{Lsn, PageId, SessionId, TxnId};
 use std::alloc::{AllocError, Global};
@@ -18,16 +22,20 @@ pub struct Txn {
     session: SessionId,
     last: Lsn,
     undo: Vec<UndoEntry>,
+    // For each savepoint, how many changes there were when it was set.
+    marks: Vec<usize>,
+    state: TxnState,
     // What is reserved for its ending and for the undo of its changes.
     reserved: u64,
     ghost some: { 1 ≤ txn },
     ghost below: { txn < LAST_TXN },
     ghost owed: { reserved ≡ ENDING_COST + compensation_costs (images_of undo.items) },
     ghost short: { AreShort undo.items },
+    ghost few: { length marks.items ≤ MAX_SAVEPOINTS },
 }
 
 impl Txn {
-    ghost use Rattle.shore_txn.specs.Txns.{HasEntryRoom, entries_of, last_of, number_of};
+    ghost use Rattle.shore_txn.specs.Txns.{HasEntryRoom, IsAfterChange, IsAfterSavepoint, IsAfterUndo, IsBackAt, SameTxn, entries_of, last_of, marks_of, number_of, state_of};
 
     /// A transaction that has logged nothing.
     pub fn new(alloc: Global, txn: TxnId, session: SessionId) -> Txn
@@ -37,6 +45,8 @@ impl Txn {
         ensures session { result.session ≡ session }
         ensures last { last_of result ≡ 0 }
         ensures nothing { entries_of result ≡ [] }
+        ensures marks { marks_of result ≡ [] }
+        ensures state { state_of result ≡ state.Active }
         ensures reserved { result.reserved ≡ ENDING_COST }
     {
         Txn {
@@ -44,6 +54,8 @@ impl Txn {
             session,
             last: Lsn(0),
             undo: Vec::new(alloc),
+            marks: Vec::new(alloc),
+            state: TxnState::Active,
             reserved: ENDING_COST,
         }
     }
@@ -97,32 +109,107 @@ impl Txn {
         Some((entry.id.slot, entry.image_len() as u16))
     }
 
+    /// What it may do.
+    pub fn state(&self) -> TxnState
+        ensures { result ≡ state_of self.now }
+    {
+        self.state
+    }
+
+    /// How many savepoints stand.
+    pub fn savepoints(&self) -> usize
+        ensures { result ≡ length (marks_of self.now) }
+    {
+        self.marks.len()
+    }
+
+    /// How many changes there were when the savepoint of an index was set. None if it does not stand.
+    pub fn mark(&self, index: usize) -> Option<usize>
+        ensures { result ≡ slice_get (marks_of self.now) index }
+    {
+        self.marks.get(index).copied()
+    }
+
+    /// The change that is undone next: the newest.
+    pub fn newest(&self) -> Option<&UndoEntry>
+        ensures some { IfSome result (λ e. (kept : List UndoEntry) × (entries_of self.now ≡ kept ++ e.now ∷ [])) }
+        ensures none { IfNone result (entries_of self.now ≡ []) }
+    {
+        self.undo.last()
+    }
+
+    /// The number of the change that is undone behind the newest, 0 if there is none. A Compensation of the newest names it.
+    pub fn undo_next(&self) -> Lsn
+        ensures { result ≡ number_behind (entries_of self.now) }
+    {
+        let count = self.undo.len();
+        if count < 2 {
+            return Lsn(0);
+        }
+        self.undo[count - 2].lsn
+    }
+
     /// Takes the memory for an entry more. If that fails nothing has changed.
     pub fn reserve_entry(&mut self) -> Result<(), AllocError>
         ensures room { OnOk result (HasEntryRoom self.new) }
-        ensures txn { (number_of self.new ≡ number_of self.old) × (self.new.session ≡ self.old.session) }
-        ensures last { last_of self.new ≡ last_of self.old }
-        ensures entries { entries_of self.new ≡ entries_of self.old }
+        ensures same { SameTxn self.old self.new }
         ensures reserved { self.new.reserved ≡ self.old.reserved }
     {
         self.undo.reserve(1)?;
         Ok(())
     }
 
-    /// A change of it was logged under this number, and its undo costs so much.
-    pub fn note_change(&mut self, lsn: Lsn, entry: UndoEntry, cost: u64)
+    /// A change of it was logged, and its undo costs so much.
+    pub fn note_change(&mut self, entry: UndoEntry, cost: u64)
         requires room { HasEntryRoom self.old }
         requires short { image_len entry.before ≤ MAX_RECORD_BYTES }
         requires cost { cost ≡ compensation_cost entry.before }
         requires sum { self.old.reserved + cost ≤ MAX_LOG_BYTES }
-        ensures txn { (number_of self.new ≡ number_of self.old) × (self.new.session ≡ self.old.session) }
-        ensures last { last_of self.new ≡ lsn }
-        ensures entries { entries_of self.new ≡ entries_of self.old ++ entry ∷ [] }
+        ensures noted { IsAfterChange self.old entry self.new }
         ensures reserved { self.new.reserved ≡ self.old.reserved + cost }
     {
+        self.last = entry.lsn;
         self.undo.push_reserved(entry);
         self.reserved += cost;
+    }
+
+    /// A savepoint more. Answers its index. If memory is short nothing has changed.
+    pub fn savepoint(&mut self) -> Result<usize, AllocError>
+        requires few { length (marks_of self.old) < MAX_SAVEPOINTS }
+        ensures index { IfOk result (λ index. index ≡ length (marks_of self.old)) }
+        ensures set { OnOk result (IsAfterSavepoint self.old self.new) }
+        ensures same { OnErr result (SameTxn self.old self.new) }
+        ensures reserved { self.new.reserved ≡ self.old.reserved }
+    {
+        self.marks.reserve(1)?;
+        let index = self.marks.len();
+        self.marks.push_reserved(self.undo.len());
+        Ok(index)
+    }
+
+    /// Its newest change was put back in this rollback, and the Compensation, which costs so much, was logged under this number. Hands the change
+    /// over. It takes no memory.
+    pub fn note_compensation(&mut self, lsn: Lsn, rollback: Rollback, cost: u64) -> UndoEntry
+        requires some { 0 < length (entries_of self.old) }
+        requires cost { (kept : List UndoEntry) (e : UndoEntry) → entries_of self.old ≡ kept ++ e ∷ [] → cost ≡ compensation_cost e.before }
+        ensures undone { IsAfterUndo lsn rollback result self.old self.new }
+        ensures reserved { self.new.reserved + cost ≡ self.old.reserved }
+    {
+        let undone = self.undo.take_last();
+        keep_marks(&mut self.marks, rollback);
+        self.state = TxnState::RollingBack(rollback);
+        self.reserved -= cost;
         self.last = lsn;
+        undone
+    }
+
+    /// It is back at the savepoint of this index: those behind it are gone.
+    pub fn go_back(&mut self, index: usize)
+        ensures back { IsBackAt index self.old self.new }
+        ensures reserved { self.new.reserved ≡ self.old.reserved }
+    {
+        keep_marks(&mut self.marks, Rollback::To(index));
+        self.state = TxnState::Active;
     }
 
     /// Its changes, the oldest first, once it is decided.
@@ -130,5 +217,20 @@ impl Txn {
         ensures { result.items ≡ entries_of self }
     {
         self.undo
+    }
+}
+
+// The marks of the savepoints that a rollback keeps stay.
+fn keep_marks(marks: &mut Vec<usize>, rollback: Rollback)
+    ensures kept { marks.new.items ≡ marks_kept rollback marks.old.items }
+    ensures fewer { length marks.new.items ≤ length marks.old.items }
+{
+    match rollback {
+        Rollback::Whole => marks.clear(),
+        Rollback::To(index) => {
+            if index < marks.len() {
+                marks.truncate(index + 1);
+            }
+        }
     }
 }

@@ -2,12 +2,14 @@
 ghost use Rattle.std.specs.Prelude.{◌≡◌};
 ghost use Rattle.shore_page.specs.Slots.{image_len};
 
-use shore_types::{Bytes, Rid};
+use shore_types::{Bytes, Lsn, Rid};
 
 /// A change of a transaction under way.
 #[derive(Drop)]
 pub struct UndoEntry {
     pub id: Rid,
+    /// The number of its Change.
+    pub lsn: Lsn,
     /// The image before the change; None if there was no record.
     pub before: Option<Bytes>,
     /// What the slot claimed before the change, in bytes: an undo lowers the claim to it again.

@@ -30,9 +30,9 @@ invariant_of-self c =
     let old = c.args.self.now in
     let one = one_at old.active.items c.index_of-index.result c.index_of-index.ensures.inside in
     let it : c.index_mut.result.now ≡ one.0 = c.index_mut.ensures.value ∙ read_at one.1 c.index_mut.result.now in
-    let after = subst (λ (a : ActiveTxn). IsAfterChange a.txn c.args.lsn c.args.entry c.note_change.new.self.txn) it c.note_change.ensures in
+    let after = subst (λ (a : ActiveTxn). IsAfterChange a.txn c.args.entry c.note_change.new.self.txn) it c.note_change.ensures in
     let was : AreKept (undos_of old.active.items) old.room.reserved old.next = record { sum = old.sum; numbers = old.numbers; sessions = old.sessions; below = old.below } in
-    let now = kept_noted (becomes_at one.1 c.note_change.new.self one.0.txn.session (λ t u. IsAfterChange t c.args.lsn c.args.entry u) refl after) old.room.reserved old.next was in
+    let now = kept_noted (becomes_at one.1 c.note_change.new.self one.0.txn.session (λ t u. IsAfterChange t c.args.entry u) refl after) old.room.reserved old.next was in
     record { some = old.some; sum = omega (arith, now.sum, c.reserve.ensures.reserved, c.append.ensures.others.0, c.requires.cost); numbers = now.numbers; sessions = now.sessions; below = now.below }
 
 pub returns-clause-noted : goal.returns-clause-noted
@@ -40,9 +40,9 @@ returns-clause-noted c =
     let old = c.args.self.now in
     let one = one_at old.active.items c.index_of-index.result c.index_of-index.ensures.inside in
     let it : c.index_mut.result.now ≡ one.0 = c.index_mut.ensures.value ∙ read_at one.1 c.index_mut.result.now in
-    becomes_at one.1 c.note_change.new.self c.args.session (λ t u. IsAfterChange t c.args.lsn c.args.entry u)
+    becomes_at one.1 c.note_change.new.self c.args.session (λ t u. IsAfterChange t c.args.entry u)
     (holds_at one.1 (λ a. a.txn.session ≡ c.args.session) c.index_of-index.ensures.its)
-    (subst (λ (a : ActiveTxn). IsAfterChange a.txn c.args.lsn c.args.entry c.note_change.new.self.txn) it c.note_change.ensures)
+    (subst (λ (a : ActiveTxn). IsAfterChange a.txn c.args.entry c.note_change.new.self.txn) it c.note_change.ensures)
 
 pub returns-clause-undos : goal.returns-clause-undos
 returns-clause-undos c = undos_noted (returns-clause-noted c) c.args.self.now.numbers c.args.self.now.sessions

@@ -1,0 +1,20 @@
+use Rattle.std.proofs.Common.{List, ap, arith}
+use Rattle.shore_room.specs.LogRooms.{compensation_costs}
+use Rattle.shore_txn.specs.UndoEntries.{images_of}
+use Rattle.shore_txn.specs.declared.undo.UndoEntry.{UndoEntry}
+use Rattle.shore_txn.proofs.ActiveSteps.{claims_kept, leaves_empty, none_changed, undos_without}
+use Rattle.shore_txn.proofs.transactions.Transactions.note_end.Goals as goal
+
+pub returns-clause-left : goal.returns-clause-left
+returns-clause-left c = leaves_empty c.take_out-ended.ensures.left c.requires.empty
+
+pub returns-clause-undos : goal.returns-clause-undos
+returns-clause-undos c a m its = let old = c.args.self.now in undos_without c.take_out-ended.ensures.left a old.numbers old.sessions m its
+
+pub returns-clause-claims : goal.returns-clause-claims
+returns-clause-claims c = claims_kept (leaves_empty c.take_out-ended.ensures.left c.requires.empty)
+
+pub returns-clause-reserved : goal.returns-clause-reserved
+returns-clause-reserved c =
+    let none = ap (λ (es : List UndoEntry). compensation_costs (images_of es)) (none_changed c.take_out-ended.ensures.left c.requires.empty) in
+    omega (arith, none, c.take_out-ended.ensures.reserved, c.append.ensures.others.0)
