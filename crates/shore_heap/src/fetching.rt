@@ -46,6 +46,10 @@ impl<D: Disk> Heap<D> {
             ⊎ ((fault ≡ Fault.Damaged Device.Volume (page_offset (page_number (geometry_of self.old) page)))
             × HasNoPage (disk (page_number (geometry_of self.old) page)) page last) ⊎ AsksForForce self.old seen fault) }
 
+        // Where a force is needed nothing has changed: each frame is as it was.
+        ensures unmoved { (front : List ℕ) (disk : ℕ → List ℕ) → Holds (pool_of self.old) front disk
+            → IfErr result (λ fault. (number : ℕ) → fault ≡ Fault.NeedForce number → (k : ℕ) → frame_at self.new k ≡ frame_at self.old k) }
+
         // With a frame for each page of the volume nothing leaves its frame, and nothing is written.
         ensures still { IsWhole self.old → (front : List ℕ) (disk : ℕ → List ℕ) (S : PageId → List Slot) → Shows (claims_in C.Claims claims.now) self.old front disk S
             → OnlyReads (claims_in C.Claims claims.now) self.old self.new front disk S }

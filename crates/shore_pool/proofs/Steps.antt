@@ -57,6 +57,11 @@ pub match_err : {T E : Type 0} {B P : E → Type 0} (C : Type 0) (r : Result T E
 match_err C (Ok x) is to = absurd is
 match_err C (Err e) is to = to e is
 
+-- what is said of a refusal says another thing of it
+pub refusal_says : {T E : Type 0} {P Q : E → Type 0} (r : Result T E) → ((e : E) → P e → Q e) → IfErr r P → IfErr r Q
+refusal_says (Ok x) to says = tt
+refusal_says (Err e) to says = to e says
+
 -- a page with no frame is left as it was
 pub left_alone : (at : ℕ → Option Frame) (seen : ℕ) (disk left : ℕ → List ℕ) (n : ℕ) → MayBeLeft at seen disk left → at n ≡ None → left n ≡ disk n
 left_alone at seen disk left n may none = elim (may n) [

@@ -131,6 +131,10 @@ impl<D: Disk> Pool<D> {
             × HasNoPage (disk (page_number (geometry_of self.old) id)) id last × (frame_of self.old id ≡ None))
             ⊎ ((number : ℕ) × (fault ≡ Fault.NeedForce number) × NeedsForce self.old seen number)) }
 
+        // Where a force is needed nothing has changed: each frame is as it was.
+        ensures unmoved { (front : List ℕ) (disk : ℕ → List ℕ) → Holds self.old front disk
+            → IfErr result (λ fault. (number : ℕ) → fault ≡ Fault.NeedForce number → (k : ℕ) → frame_at self.new k ≡ frame_at self.old k) }
+
         // With a frame for each page of the volume nothing leaves its frame, and nothing is written.
         ensures still { page_count (geometry_of self.old) ≤ limit_of self.old → (front : List ℕ) (disk : ℕ → List ℕ) → Holds self.old front disk
             → ReadsOnly self.old self.new id front disk }
@@ -169,6 +173,7 @@ impl<D: Disk> Pool<D> {
             → MatchResult result (λ _. WroteBack self.old self.new seen front disk) (λ fault. (fault ≡ Fault.Device) ⊎ WroteBack self.old self.new seen front disk) }
         ensures refused { IfErr result (λ fault. (fault ≡ Fault.Device) ⊎ (fault ≡ Fault.Memory)
             ⊎ ((number : ℕ) × (fault ≡ Fault.NeedForce number) × NeedsForce self.old seen number)) }
+        ensures unmoved { IfErr result (λ fault. (number : ℕ) → fault ≡ Fault.NeedForce number → (k : ℕ) → frame_at self.new k ≡ frame_at self.old k) }
         ensures any_moment { (front : List ℕ) (disk : ℕ → List ℕ) → Holds self.old front disk
             → LeavesOnly (history_of self.old) (history_of self.new) (LeavesPages self.old seen front disk) }
         ensures honest { honesty_of self.new ≡ honesty_of self.old }
@@ -310,6 +315,7 @@ impl<D: Disk> Pool<D> {
             → MatchResult result (λ _. WroteBack self.old self.new seen front disk) (λ fault. (fault ≡ Fault.Device) ⊎ WroteBack self.old self.new seen front disk) }
         ensures refused { IfErr result (λ fault. (fault ≡ Fault.Device) ⊎ (fault ≡ Fault.Memory)
             ⊎ ((number : ℕ) × (fault ≡ Fault.NeedForce number) × NeedsForce self.old seen number)) }
+        ensures unmoved { IfErr result (λ fault. (number : ℕ) → fault ≡ Fault.NeedForce number → (k : ℕ) → frame_at self.new k ≡ frame_at self.old k) }
 
         // A crash at any moment of the call leaves pages that are old, or those of their frames with durable numbers.
         ensures any_moment { (front : List ℕ) (disk : ℕ → List ℕ) → Holds self.old front disk
@@ -336,6 +342,7 @@ impl<D: Disk> Pool<D> {
             → MatchResult result (λ _. WroteBack self.old self.new seen front disk) (λ fault. (fault ≡ Fault.Device) ⊎ WroteBack self.old self.new seen front disk) }
         ensures refused { maps.AllDirty self.old.frames → IfErr result (λ fault. (fault ≡ Fault.Device) ⊎ (fault ≡ Fault.Memory)
             ⊎ ((number : ℕ) × (fault ≡ Fault.NeedForce number) × NeedsForce self.old seen number)) }
+        ensures unmoved { IfErr result (λ fault. (number : ℕ) → fault ≡ Fault.NeedForce number → (k : ℕ) → frame_at self.new k ≡ frame_at self.old k) }
         ensures any_moment { (front : List ℕ) (disk : ℕ → List ℕ) → Holds self.old front disk
             → LeavesOnly (history_of self.old) (history_of self.new) (LeavesPages self.old seen front disk) }
         ensures honest { honesty_of self.new ≡ honesty_of self.old }

@@ -184,3 +184,6 @@ returns-in-Read-clause-dirty g c front disk holds =
     let clean = clean_by old mid id c.args.last number read in
     dirty_of old mid c.args.seen id (claims_in g.C.Claims c.args.claims.now) c.args.last c.requires new (geometry_by new mid c.keep_claims.ensures.device ∙ c.fetch.ensures.geometry) c.keep_claims.ensures.bounds
     (others_by old mid new id number c.fetch.ensures.others c.keep_claims.ensures.others) clean (c.keep_claims.ensures.dirt _)
+
+pub returns-in_err-fetch-clause-unmoved : goal.returns-in_err-fetch-clause-unmoved
+returns-in_err-fetch-clause-unmoved g c front disk holds = if_err c.from_residual.result c.from_residual.ensures.1 (λ fault is number forced. c.in_err-fetch.ensures.unmoved front disk holds number (sym is ∙ forced))

@@ -1,4 +1,4 @@
-use Rattle.std.proofs.Common.{◌≡◌, ◌≢◌, ℕ, Option, None, Some, sym, subst}
+use Rattle.std.proofs.Common.{◌≡◌, ◌≢◌, ◌∙◌, ℕ, Option, None, Some, sym, subst}
 use Rattle.shore_disk.specs.Device.{LeavesOnly}
 use Rattle.shore_dwrite.specs.declared.device.PageDev.{PageDev}
 use Rattle.shore_dwrite.specs.Settled as settled_device
@@ -7,7 +7,7 @@ use Rattle.shore_pool.specs.FrameMaps as maps
 use Rattle.shore_pool.specs.Pages.{AreInOrder, AreWritten, SamePages}
 use Rattle.shore_pool.specs.Pools.{LeavesPages, frame_at, history_of}
 use Rattle.shore_pool.proofs.Moments.{Leaves, as_it_was, while_still}
-use Rattle.shore_pool.proofs.Steps.{alike, kept_from, refused_from}
+use Rattle.shore_pool.proofs.Steps.{alike, kept_from, refusal_says, refused_from}
 use Rattle.shore_pool.proofs.pool.Pool.evict.Goals as goal
 
 pub invariant_of-self-clause-in_order : goal.invariant_of-self-clause-in_order
@@ -57,3 +57,6 @@ returns-clause-any_moment g c front disk holds =
     let same = alike at (maps.frame_at c.cold.new.self) c.cold.ensures.same in
     subst (λ (now : ℕ → Option Frame). LeavesOnly (history_of old) (history_of c.steal.new.self) (Leaves (settled_device.geometry_of old.device) now c.args.seen front disk)) same
     (c.steal.ensures.any_moment front disk (record { settled = holds.settled; written = subst (λ (now : ℕ → Option Frame). AreWritten now disk) (sym same) holds.written }))
+
+pub returns-clause-unmoved : goal.returns-clause-unmoved
+returns-clause-unmoved g c = refusal_says c.steal.result (λ fault still number is k. still number is k ∙ c.cold.ensures.same k) c.steal.ensures.unmoved

@@ -202,3 +202,14 @@ returns-clause-still g c many front disk holds =
     let held = c.read.ensures.kept front disk (held_still old mid front disk device frames holds) in
     only_read old mid c.read.new.self c.args.id frames (ap history_of idle.1) c.make_room.ensures.geometry front disk (ap (maps.frame_at old.frames) (sym c.number-number.ensures.number) ∙ absent) held.0
     (c.read.ensures.history front disk (held_still old mid front disk device frames holds)) c.read.ensures.others
+
+pub returns-in_err-make_room-clause-unmoved : goal.returns-in_err-make_room-clause-unmoved
+returns-in_err-make_room-clause-unmoved g c front disk holds =
+    if_err c.from_residual.result c.from_residual.ensures.1 (λ fault is number forced k. c.in_err-make_room.ensures.unmoved number (sym is ∙ forced) k ∙ c.touch.ensures.same k)
+
+pub returns-in_err-read-clause-unmoved : goal.returns-in_err-read-clause-unmoved
+returns-in_err-read-clause-unmoved g c front disk holds =
+    let old = c.args.self.now in
+    let same = alike (maps.frame_at old.frames) (maps.frame_at c.touch.new.self) c.touch.ensures.same in
+    let w = c.in_ok-make_room.ensures.kept front disk (record { settled = holds.settled; written = subst (λ (a : ℕ → Option Frame). AreWritten a disk) (sym same) holds.written }) in
+    if_err c.from_residual-in_err-read.result c.from_residual-in_err-read.ensures.1 (λ fault is number forced. absurd (no_force _ _ number _ fault is (c.in_err-read.ensures.refused front w.left w.holds) forced))
