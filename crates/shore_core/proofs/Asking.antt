@@ -1,33 +1,86 @@
--- Which calls ask for a lock.
-use Rattle.std.proofs.Common.{◌≡◌, ◌≢◌, refl, subst}
-use Rattle.std.specs.Prelude.{IsSome}
+-- Which calls ask for a lock, and when a call has to need the force that it asks for.
+use Rattle.std.proofs.Common.{◌≡◌, ℕ, Result, refl, sym, subst}
+use Rattle.std.specs.Prelude.{IfErr, IsSome}
 use Rattle.shore_model.specs.declared.calls.Call.{Call}
 use Rattle.shore_model.specs.declared.calls.Call.TheVariants as call
+use Rattle.shore_disk.specs.declared.device.Disk as disk
+use Rattle.shore_log.specs.declared.tail.Tail as tail
+use Rattle.shore_pool.specs.Pools.{NeedsForce}
+use Rattle.shore_heap.specs.declared.heap.Heap.{Heap}
+use Rattle.shore_heap.specs.Heaps.{pool_of}
+use Rattle.shore_types.specs.declared.faults.Fault.{Fault}
+use Rattle.shore_types.specs.declared.faults.Fault.TheVariants as fault
 use Rattle.shore_held.specs.CallLocks.{asked_by}
 use Rattle.shore_calls.specs.Events.{IsServed}
+use Rattle.shore_core.specs.declared.core_calls.Core.{Core}
+use Rattle.shore_core.specs.Cores.{durable_of, heap_of}
+use Rattle.shore_core.specs.Replies.{NeedsForceIn, forced_at}
 
--- a call that is served, but for a begin and a commit
-pub asks : (c : Call) → IsServed c → (c ≡ call.Begin → ⊥) → (c ≡ call.Commit → ⊥) → IsSome (asked_by c)
-asks call.Begin served begin commit = absurd (begin refl)
-asks call.Commit served begin commit = absurd (commit refl)
-asks (call.Get id) served begin commit = refl
-asks (call.GetForUpdate id) served begin commit = refl
-asks (call.Insert store bytes) served begin commit = refl
-asks (call.Update id bytes) served begin commit = refl
-asks (call.Delete id) served begin commit = refl
-asks (call.Scan store) served begin commit = refl
-asks (call.Lock granule mode) served begin commit = refl
-asks (call.TryLock granule mode) served begin commit = refl
-asks call.Savepoint served begin commit = absurd served
-asks (call.BackTo index) served begin commit = absurd served
-asks call.Abort served begin commit = absurd served
-asks (call.Prepare global) served begin commit = absurd served
-asks (call.Resolve global outcome) served begin commit = absurd served
-asks call.InDoubt served begin commit = absurd served
+-- a call that is served, but for those that begin a transaction, end it or roll it back
+pub asks : (c : Call) → IsServed c → (c ≡ call.Begin → ⊥) → (c ≡ call.Commit → ⊥) → (c ≡ call.Savepoint → ⊥) → ((index : ℕ) → c ≡ call.BackTo index → ⊥) → (c ≡ call.Abort → ⊥)
+    → IsSome (asked_by c)
+asks call.Begin served begin commit savepoint back abort = absurd (begin refl)
+asks call.Commit served begin commit savepoint back abort = absurd (commit refl)
+asks (call.Get id) served begin commit savepoint back abort = refl
+asks (call.GetForUpdate id) served begin commit savepoint back abort = refl
+asks (call.Insert store bytes) served begin commit savepoint back abort = refl
+asks (call.Update id bytes) served begin commit savepoint back abort = refl
+asks (call.Delete id) served begin commit savepoint back abort = refl
+asks (call.Scan store) served begin commit savepoint back abort = refl
+asks (call.Lock granule mode) served begin commit savepoint back abort = refl
+asks (call.TryLock granule mode) served begin commit savepoint back abort = refl
+asks call.Savepoint served begin commit savepoint back abort = absurd (savepoint refl)
+asks (call.BackTo index) served begin commit savepoint back abort = absurd (back index refl)
+asks call.Abort served begin commit savepoint back abort = absurd (abort refl)
+asks (call.Prepare global) served begin commit savepoint back abort = absurd served
+asks (call.Resolve global outcome) served begin commit savepoint back abort = absurd served
+asks call.InDoubt served begin commit savepoint back abort = absurd served
 
--- a begin asks for none
-pub no_begin : (c : Call) → IsSome (asked_by c) → c ≢ call.Begin
-no_begin c some is = clash (subst (λ x. IsSome (asked_by x)) is some)
-  where
-    clash : IsSome (asked_by call.Begin) → ⊥
-    clash e = cc
+module _ {T V : Type 0} {G : tail.Ghosts T} {H : disk.Ghosts V} (old : Core T V G H) where
+  -- a call that asks for a lock has to need a force as it begins
+  pub forced_as_asked : (new : Core T V G H) (c : Call) → IsSome (asked_by c) → forced_at c old new ≡ old
+  forced_as_asked new (call.Get id) asked = refl
+  forced_as_asked new (call.GetForUpdate id) asked = refl
+  forced_as_asked new (call.Insert store bytes) asked = refl
+  forced_as_asked new (call.Update id bytes) asked = refl
+  forced_as_asked new (call.Delete id) asked = refl
+  forced_as_asked new (call.Scan store) asked = refl
+  forced_as_asked new (call.Lock granule mode) asked = refl
+  forced_as_asked new (call.TryLock granule mode) asked = refl
+  forced_as_asked new call.Begin asked = refl
+  forced_as_asked new call.Savepoint asked = refl
+  forced_as_asked new (call.BackTo index) asked = cc
+  forced_as_asked new call.Commit asked = refl
+  forced_as_asked new call.Abort asked = cc
+  forced_as_asked new (call.Prepare global) asked = refl
+  forced_as_asked new (call.Resolve global outcome) asked = refl
+  forced_as_asked new call.InDoubt asked = refl
+
+  -- a failure that is noted moves no page
+  pub forced_behind : (mid new : Core T V G H) (c : Call) {A : Type 0} (r : Result A Fault) → heap_of new ≡ heap_of mid → durable_of new ≡ durable_of mid
+      → NeedsForceIn old (forced_at c old mid) r → NeedsForceIn old (forced_at c old new) r
+  forced_behind mid new c r heap durable = by_call c
+    where
+      -- .. of a call that needs it as it has left the pages
+      left : NeedsForceIn old mid r → NeedsForceIn old new r
+      left needs front disk holds =
+          subst (λ (h : Heap V H). IfErr r (λ f. (n : ℕ) → f ≡ fault.NeedForce n → NeedsForce (pool_of h) (durable_of new) n)) (sym heap)
+          (subst (λ d. IfErr r (λ f. (n : ℕ) → f ≡ fault.NeedForce n → NeedsForce (pool_of (heap_of mid)) d n)) (sym durable) (needs front disk holds))
+
+      by_call : (c : Call) → NeedsForceIn old (forced_at c old mid) r → NeedsForceIn old (forced_at c old new) r
+      by_call (call.BackTo index) needs = left needs
+      by_call call.Abort needs = left needs
+      by_call (call.Get id) needs = needs
+      by_call (call.GetForUpdate id) needs = needs
+      by_call (call.Insert store bytes) needs = needs
+      by_call (call.Update id bytes) needs = needs
+      by_call (call.Delete id) needs = needs
+      by_call (call.Scan store) needs = needs
+      by_call (call.Lock granule mode) needs = needs
+      by_call (call.TryLock granule mode) needs = needs
+      by_call call.Begin needs = needs
+      by_call call.Savepoint needs = needs
+      by_call call.Commit needs = needs
+      by_call (call.Prepare global) needs = needs
+      by_call (call.Resolve global outcome) needs = needs
+      by_call call.InDoubt needs = needs

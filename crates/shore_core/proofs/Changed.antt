@@ -1,5 +1,5 @@
 -- The pages and the room of the log, when a transaction changes a record.
-use Rattle.std.proofs.Common.{◌≡◌, ◌⊎◌, ◌≢◌, ◌+◌, ◌<◌, ◌≤◌, inl, inr, ℕ, List, Option, None, Some, IsSomeAnd, IsTrue, false, true, is_some, Result, Ok, Err, IsErrAnd, max, refl, sym, ap, subst, ◌∙◌, arith}
+use Rattle.std.proofs.Common.{◌≡◌, ◌⊎◌, ◌≢◌, ◌+◌, ◌<◌, ◌≤◌, inl, inr, ℕ, List, Option, None, Some, IsSomeAnd, IsTrue, false, true, is_some, Result, Ok, Err, OnErr, OnOk, IsErrAnd, max, refl, sym, ap, subst, ◌∙◌, arith}
 use Rattle.std.specs.FinMap.{get}
 use Rattle.shore_disk.specs.declared.device.Disk as disk
 use Rattle.shore_log.specs.declared.tail.Tail as tail
@@ -38,7 +38,7 @@ use Rattle.shore_txn.specs.declared.txn.Txn.{Txn}
 use Rattle.shore_txn.specs.declared.undo.UndoEntry.{UndoEntry}
 use Rattle.shore_txn.specs.ActiveTxns.{OneBecomes}
 use Rattle.shore_txn.specs.Transactions.{kept_in, txns_in}
-use Rattle.shore_txn.specs.Txns.{IsAfterChange, SameTxn, last_of}
+use Rattle.shore_txn.specs.Txns.{IsAfterChange, IsAfterSavepoint, SameTxn, last_of}
 use Rattle.shore_txn.proofs.ActiveOthers.{AreApart, each_becomes}
 use Rattle.shore_pool.specs.declared.frame.Frame.{Frame}
 use Rattle.shore_page.specs.Slots.{Slot}
@@ -141,8 +141,15 @@ module _ (table new : Transactions) (next : ℕ) (earlier : (t : Txn) → IsAmon
   pub earlier_same : {session : ℕ} → OneBecomes session SameTxn (txns_in table) (txns_in new) → (t : Txn) → IsAmong t (txns_in new) → last_of t < next
   earlier_same one = each_becomes (λ t. last_of t < next) (λ t. last_of t < next) apart earlier one (λ t number session less. less) (λ less. omega (arith, one.becomes.last, less))
 
+  -- a savepoint was set, or memory was taken
+  pub earlier_marked : {A E : Type 0} (session : ℕ) (r : Result A E) → OnOk r (OneBecomes session IsAfterSavepoint (txns_in table) (txns_in new))
+      → OnErr r (OneBecomes session SameTxn (txns_in table) (txns_in new)) → (t : Txn) → IsAmong t (txns_in new) → last_of t < next
+  earlier_marked session (Ok x) one none =
+      each_becomes (λ t. last_of t < next) (λ t. last_of t < next) apart earlier one (λ t number session less. less) (λ less. omega (arith, one.becomes.last, less))
+  earlier_marked session (Err e) none one = earlier_same one
+
   -- a record was logged under the next number
-  pub earlier_changed : {session lsn : ℕ} {entry : UndoEntry} → OneBecomes session (λ old new. IsAfterChange old lsn entry new) (txns_in table) (txns_in new) → lsn ≡ next
+  pub earlier_changed : {session : ℕ} {entry : UndoEntry} → OneBecomes session (λ old new. IsAfterChange old entry new) (txns_in table) (txns_in new) → entry.lsn ≡ next
       → (t : Txn) → IsAmong t (txns_in new) → last_of t < next + 1
   earlier_changed one number =
       each_becomes (λ t. last_of t < next) (λ t. last_of t < next + 1) apart earlier one (λ t other session less. omega (arith, less)) (λ less. omega (arith, one.becomes.last, number))

@@ -4,20 +4,22 @@ use Rattle.shore_types.specs.declared.faults.Fault.{Fault}
 use Rattle.shore_types.specs.declared.faults.Fault.TheVariants as fault
 use Rattle.shore_model.specs.declared.log_records.LogRecord.{LogRecord}
 use Rattle.shore_disk.specs.declared.device.Disk as disk
+use Rattle.shore_disk.proofs.Moments.{at_end}
 use Rattle.shore_log.specs.declared.tail.Tail as tail
 use Rattle.shore_page.specs.Slots.{Slot, settled}
 use Rattle.shore_page.specs.Text.{images_of}
 use Rattle.shore_heap.specs.Contents.{AreKept, FitIn, claimed_by}
 use Rattle.shore_txn.proofs.ActiveKept.{back_again, fit_again}
 use Rattle.shore_heap.specs.Heaps as heaps
-use Rattle.shore_heap.specs.Heaps.{KeepsSlots, Shows}
+use Rattle.shore_heap.specs.Heaps.{KeepsSlots, LeavesPages, Shows}
 use Rattle.shore_lives.specs.ManagerSteps.{WorksTo}
-use Rattle.shore_recovery.specs.Recovery.{AppendRecord, LeadsTo, RecoveryEvent, RecoveryState, after_append}
+use Rattle.shore_recovery.specs.Pages.{LoggedPages}
+use Rattle.shore_recovery.specs.Recovery.{AppendRecord, CrashMayLeave, LeadsTo, RecoveryEvent, RecoveryState, after_append}
 use Rattle.shore_recovery.proofs.Invariant.{event_kept}
 use Rattle.shore_lives.proofs.Works.{all_work}
-use Rattle.shore_logged.proofs.Flushes.{work_of}
+use Rattle.shore_logged.proofs.Flushes.{left_amid, work_of}
 use Rattle.shore_logged.proofs.Stores.{store_over}
-use Rattle.shore_logged.specs.LoggedHeaps.{IsStoreOf}
+use Rattle.shore_logged.specs.LoggedHeaps.{IsStoreOf, LeavesStore}
 use Rattle.shore_heap.specs.declared.heap.Heap.{Heap}
 use Rattle.shore_heap.proofs.Showing.{shows_told}
 use Rattle.shore_pool.proofs.Same.{pages_stay}
@@ -29,11 +31,11 @@ use Rattle.shore_txn.specs.Transactions.{kept_in, undos_in}
 use Rattle.shore_txn.specs.Transactions as table
 use Rattle.shore_room.specs.Claims.{Claimed, slots_of}
 use Rattle.shore_core.specs.declared.core_calls.Core.{Core}
-use Rattle.shore_core.specs.Cores.{ComesTo, IsBeside, IsIn, IsKept, IsOver, IsSafe, control_of, durable_of, geometry_of, has_failed, heap_of, tail_of, txns_of, waiting_of}
+use Rattle.shore_core.specs.Cores.{ComesTo, FailsOver, IsBeside, IsIn, IsKept, IsKeptBehind, IsOver, IsSafe, control_of, durable_of, geometry_of, has_failed, heap_of, history_of, tail_of, txns_of, waiting_of}
 use Rattle.shore_control.specs.declared.control.Control.{Control}
 use Rattle.shore_control.specs.Controls.{txns_in}
 use Rattle.shore_core.specs.Parts.{HasParts}
-use Rattle.shore_core.specs.Replies.{OnlyReads, Stays}
+use Rattle.shore_core.specs.Replies.{MayLeave, OnlyReads, Stays}
 
 -- a state runs, or has failed
 pub runs_or_failed : (b : Bool) → (b ≡ false) ⊎ (b ≡ true)
@@ -56,6 +58,10 @@ kept_after s store later works kept work log durable =
       recoverable = worked.recoverable;
     }
 
+-- nothing was done to it
+pub kept_behind : (s : State) (store : RecoveryState) → IsKept s store → IsKeptBehind s store
+kept_behind s store kept = record { works = []; after = store; work = refl; kept = kept }
+
 module _ {T V : Type 0} {G : tail.Ghosts T} {H : disk.Ghosts V} where
   -- beside its pages the core is that of the state
   pub beside_same : (old new : Core T V G H) (before : List LogRecord) (s : State) → tail_of new ≡ tail_of old → control_of new ≡ control_of old → durable_of new ≡ durable_of old
@@ -76,14 +82,14 @@ module _ {T V : Type 0} {G : tail.Ghosts T} {H : disk.Ghosts V} where
 
   -- a core that has failed is in each state beside
   pub comes_failed : (new : Core T V G H) (front : List ℕ) (before : List LogRecord) (s : State) (store : RecoveryState) → s.failed ≡ true
-      → IsBeside before new s → IsKept s store → ComesTo new front before store s
-  comes_failed new front before s store fails beside kept = record {
+      → IsBeside before new s → IsKeptBehind s store → ComesTo new front before store s
+  comes_failed new front before s store fails beside behind = record {
     left = λ k. [];
     is_in = record { beside = beside; pages = λ works. never_both s.failed fails works };
-    works = [];
-    after = store;
-    work = refl;
-    over = record { kept = kept; pages = λ works. never_both s.failed fails works };
+    works = behind.works;
+    after = behind.after;
+    work = behind.work;
+    over = record { kept = behind.kept; pages = λ works. never_both s.failed fails works };
   }
 
   module _ (old new : Core T V G H) (front : List ℕ) (disk : ℕ → List ℕ) (before : List LogRecord) (s : State) (store : RecoveryState)
@@ -92,7 +98,7 @@ module _ {T V : Type 0} {G : tail.Ghosts T} {H : disk.Ghosts V} where
     beside = beside_same old new before s reads.tail reads.control reads.durable reads.failed is.beside
 
     pub read_failed : s.failed ≡ true → ComesTo new front before store s
-    read_failed fails = comes_failed new front before s store fails beside over.kept
+    read_failed fails = comes_failed new front before s store fails beside (kept_behind s store over.kept)
 
     -- pages were written back, and all are in place as they were
     pub read_running : s.failed ≡ false → KeepsSlots (kept_in (txns_of old)) (heap_of old) (heap_of new) (durable_of old) front disk (page_slots s) → ComesTo new front before store s
@@ -108,12 +114,25 @@ module _ {T V : Type 0} {G : tail.Ghosts T} {H : disk.Ghosts V} where
           over = record { kept = kept_after s store back.1 back.0 over.kept back.2 back.5 back.6; pages = λ w. back.4 };
         }
 
+    -- the volume failed on the way: a crash leaves what it may have left in the midst
+    fails_over : MayLeave old new → s.failed ≡ false → FailsOver new front s store
+    unfolding kept_behind
+    fails_over leaves works =
+        let durable : durable_of old ≡ store.durable = sym (over.kept.stored.durable ∙ is.beside.parts.durable_is) in
+        record {
+          behind = kept_behind s store over.kept;
+          left = λ image may.
+              let amid = at_end (history_of old) (history_of new) (LeavesPages (heap_of old) (durable_of old) front disk) (leaves front disk (is.pages works).holds) image may in
+              subst (λ g. (pages : LoggedPages) × CrashMayLeave store pages × LeavesStore store.log g front pages image) (sym reads.volume.geometry)
+              (left_amid (heap_of old) (durable_of old) front disk store image (over.pages works) amid (omega (arith, durable)));
+        }
+
     -- .. by a call that was not refused, or was for another reason than the device
-    pub stays_read : {A : Type 0} (r : Result A Fault) → (s.failed ≡ false → MatchResult r (λ _. KeepsSlots (kept_in (txns_of old)) (heap_of old) (heap_of new) (durable_of old) front disk (page_slots s))
+    pub stays_read : MayLeave old new → {A : Type 0} (r : Result A Fault) → (s.failed ≡ false → MatchResult r (λ _. KeepsSlots (kept_in (txns_of old)) (heap_of old) (heap_of new) (durable_of old) front disk (page_slots s))
         (λ f. (f ≡ fault.Device) ⊎ KeepsSlots (kept_in (txns_of old)) (heap_of old) (heap_of new) (durable_of old) front disk (page_slots s))) → Stays new r front before s store
-    stays_read (Ok x) kept = elim (runs_or_failed s.failed) [ inl works ↦ read_running works (kept works) | inr fails ↦ read_failed fails ]
-    stays_read (Err f) kept = elim (runs_or_failed s.failed) [
-      | inl works ↦ elim (kept works) [ inl device ↦ inl (device, beside, over.kept) | inr slots ↦ inr (read_running works slots) ]
+    stays_read leaves (Ok x) kept = elim (runs_or_failed s.failed) [ inl works ↦ read_running works (kept works) | inr fails ↦ read_failed fails ]
+    stays_read leaves (Err f) kept = elim (runs_or_failed s.failed) [
+      | inl works ↦ elim (kept works) [ inl device ↦ inl (device, beside, fails_over leaves works) | inr slots ↦ inr (read_running works slots) ]
       | inr fails ↦ inr (read_failed fails)
     ]
 
@@ -132,7 +151,7 @@ pages_may_go core before s was safe id has =
 module _ {T V : Type 0} {G : tail.Ghosts T} {H : disk.Ghosts V} (new : Core T V G H) (front : List ℕ) (before : List LogRecord) (s : State) (store : RecoveryState) where
   -- a call that was refused
   abbrev pub StaysRefused : Fault → Type 0
-  StaysRefused f = ((f ≡ fault.Device) × IsBeside before new s × IsKept s store) ⊎ ComesTo new front before store s
+  StaysRefused f = ((f ≡ fault.Device) × IsBeside before new s × FailsOver new front s store) ⊎ ComesTo new front before store s
 
   pub stays_beside : (f : Fault) → StaysRefused f → IsBeside before new s
   stays_beside f (inl device) = device.1
@@ -175,6 +194,26 @@ comes_then mid new front before s later store one two = record {
   work = works_then store one.after two.after one.works two.works one.work two.work;
   over = two.over;
 }
+
+-- a fault behind a call that was answered
+pub stays_behind : {T V : Type 0} {G : tail.Ghosts T} {H : disk.Ghosts V} (mid new : Core T V G H) (front : List ℕ) (before : List LogRecord) (s later : State) (store : RecoveryState) (f : Fault)
+    → (one : ComesTo mid front before store s) → StaysRefused new front before later one.after f → StaysRefused new front before later store f
+stays_behind mid new front before s later store f one (inl device) =
+    let behind = device.2.behind in
+    inl (
+      device.0,
+      device.1,
+      record {
+        behind = record {
+          works = one.works ++ behind.works;
+          after = behind.after;
+          work = works_then store one.after behind.after one.works behind.works one.work behind.work;
+          kept = behind.kept;
+        };
+        left = device.2.left;
+      },
+    )
+stays_behind mid new front before s later store f one (inr comes) = inr (comes_then mid new front before s later store one comes)
 
 -- ---- a record
 

@@ -1,5 +1,5 @@
 -- That a call which asks for a force needs it: what it asks for is in the log and not durable.
-use Rattle.std.proofs.Common.{◌≡◌, ◌⊎◌, ◌≤◌, ◌∙◌, inl, inr, ℕ, List, Option, None, Some, IsSomeAnd, Result, Ok, Err, IfErr, IsErrAnd, refl, sym, ap, subst, length, arith}
+use Rattle.std.proofs.Common.{◌≡◌, ◌⊎◌, ◌≤◌, ◌∙◌, inl, inr, ℕ, List, Option, None, Some, IsSomeAnd, Result, Ok, Err, IfErr, IsErrAnd, MatchResult, OnOk, refl, sym, ap, subst, length, arith}
 use Rattle.shore_types.specs.declared.faults.Device.TheVariants.{Volume}
 use Rattle.shore_types.specs.declared.faults.Fault.{Fault}
 use Rattle.shore_types.specs.declared.faults.Fault.TheVariants as fault
@@ -8,9 +8,11 @@ use Rattle.shore_types.specs.declared.layout.Geometry.{Geometry}
 use Rattle.shore_disk.specs.declared.device.Disk as disk
 use Rattle.shore_dwrite.specs.Volumes.{HasNoPage, page_number, page_offset}
 use Rattle.shore_heap.specs.declared.heap.Heap.{Heap}
-use Rattle.shore_heap.specs.Heaps.{AsksForForce, frame_at, geometry_of}
+use Rattle.shore_heap.specs.Heaps.{AsksForForce, WroteBack, frame_at, geometry_of}
 use Rattle.shore_heap.specs.Places.{IsRefused}
-use Rattle.shore_pool.specs.Pools.{NeedsForce}
+use Rattle.shore_pool.specs.Pools as pools
+use Rattle.shore_pool.specs.Pools.{Holds, NeedsForce}
+use Rattle.shore_pool.specs.declared.pool.Pool.{Pool}
 use Rattle.shore_pool.specs.declared.frame.Frame.{Frame}
 use Rattle.shore_recovery.specs.Recovery.{RecoveryState}
 use Rattle.shore_logged.specs.LoggedHeaps.{IsStoreOf}
@@ -97,3 +99,26 @@ pub forced_as : {A : Type 0} (P : ℕ → Type 0) (r : Result A Fault) (f : Faul
     → IfErr r (λ e. (number : ℕ) → e ≡ fault.NeedForce number → P number)
 forced_as P (Err e) f same needs = λ number is. needs number (sym same ∙ is)
 forced_as P (Ok x) f same needs = tt
+
+-- ---- where nothing has moved
+
+pub both_err : {A : Type 0} (P Q R : Fault → Type 0) (r : Result A Fault) → ((f : Fault) → P f → Q f → R f) → IfErr r P → IfErr r Q → IfErr r R
+both_err P Q R (Ok x) each one two = tt
+both_err P Q R (Err f) each one two = each f one two
+
+module _ {V : Type 0} {H : disk.Ghosts V} where
+  -- a force that is needed is needed over the same frames
+  pub force_still : (old new : Pool V H) (seen number : ℕ) → ((k : ℕ) → pools.frame_at new k ≡ pools.frame_at old k) → NeedsForce old seen number → NeedsForce new seen number
+  force_still old new seen number same needs = record {
+    above = needs.above;
+    one = (needs.one.0, subst (λ o. IsSomeAnd o (λ f. f.page.number ≡ number)) (sym (same needs.one.0)) needs.one.1);
+    all = λ k f is. needs.all k f (sym (same k) ∙ is);
+  }
+
+  -- pages that were written back by a call that was not refused
+  pub wrote_ok : {A : Type 0} (old new : Heap V H) (seen : ℕ) (r : Result A Fault)
+      → ((front : List ℕ) (disk : ℕ → List ℕ) → Holds old.pool front disk
+      → MatchResult r (λ done. WroteBack old new seen front disk) (λ f. (f ≡ fault.Device) ⊎ WroteBack old new seen front disk))
+      → OnOk r ((front : List ℕ) (disk : ℕ → List ℕ) → Holds old.pool front disk → WroteBack old new seen front disk)
+  wrote_ok old new seen (Ok x) wrote = wrote
+  wrote_ok old new seen (Err f) wrote = tt

@@ -1,5 +1,5 @@
 -- How calls go on that wait, or that have a transaction.
-use Rattle.std.proofs.Common.{◌≡◌, inl, inr, ℕ, List, Result, false, refl, sym, subst, ◌∙◌}
+use Rattle.std.proofs.Common.{◌≡◌, inl, inr, ℕ, List, None, Result, false, refl, sym, subst, ◌∙◌}
 use Rattle.std.specs.Prelude.{not, ◌==◌}
 use Rattle.shore_types.specs.declared.faults.Fault.{Fault}
 use Rattle.shore_types.specs.declared.layout.Geometry.{Geometry}
@@ -65,6 +65,8 @@ safe_woken g s safe session a its quiet =
       };
       asks = λ w at m. safe.asks w at (among_filtered (λ (v : Waiting). not (v.session == session)) w s.waiting m).0;
       roomy = record { pages = safe.roomy.pages; log = safe.roomy.log };
+      stream_bytes = safe.stream_bytes;
+      leaves = record { as_long = safe.leaves.as_long; prefixes = safe.leaves.prefixes; counts = safe.leaves.counts; whole = safe.leaves.whole; txns = safe.leaves.txns };
       inside = safe.inside;
     }
 
@@ -77,15 +79,15 @@ early_plain g c f s refuses =
 
 module _ {T V : Type 0} {G : tail.Ghosts T} {H : disk.Ghosts V} (old new : Core T V G H) (front : List ℕ) (before : List LogRecord) (s : State) (store : RecoveryState) (a : SessionTxn) (r : Result Step Fault) where
   -- when it is made
-  pub asked_replies : (session : ℕ) (c : Call) → s.failed ≡ false → DoesNotWait s session → IsOfSession s session a → AskedFor a c r old new front before s store
+  pub asked_replies : (session : ℕ) (c : Call) → s.failed ≡ false → DoesNotWait s session → IsOfSession s session a → a.undo.rolling ≡ None → AskedFor a c r old new front before s store
       → Replied session c r old new front before s store
-  asked_replies session c works idle its asked = record {
+  asked_replies session c works idle its whole asked = record {
     later = asked.later;
     replies = elim asked.asks [
       | inl early ↦
           subst (λ x. CallStep (geometry_of old) s session c (as_step x) (once_noted x asked.later)) (sym early.2)
-          (inr (inr (inr (inr (inr (works, idle, (a, its, inl (early.0, early.1, refl, early_plain (geometry_of old) c early.0 asked.later early.1 ∙ early.3))))))))
-      | inr goes ↦ inr (inr (inr (inr (inr (works, idle, (a, its, inr (inl goes)))))))
+          (inr (inr (inr (inr (inr (works, idle, (a, its, inr (inl (whole, inl (early.0, early.1, refl, early_plain (geometry_of old) c early.0 asked.later early.1 ∙ early.3))))))))))
+      | inr goes ↦ inr (inr (inr (inr (inr (works, idle, (a, its, inr (inl (whole, inr (inl goes)))))))))
     ];
     comes = asked.comes;
   }

@@ -6,6 +6,7 @@ pub mod Releasing
 pub mod Leaving
 pub mod Placing
 pub mod Asking
+pub mod Opening
 pub mod Earning
 pub mod Forcing
 pub mod Coming
@@ -18,3 +19,9 @@ pub mod Begun
 pub mod Moving
 pub mod Going
 pub mod Acquiring
+pub mod Undoing
+pub mod Rewinding
+pub mod Ending
+pub mod Rolling
+pub mod Unwinding
+pub mod RolledBack

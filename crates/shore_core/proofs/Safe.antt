@@ -33,6 +33,7 @@ use Rattle.shore_heap.specs.Heaps as heaps
 use Rattle.shore_heap.specs.Heaps.{Shows}
 use Rattle.shore_recovery.specs.Recovery.{RecoveryState}
 use Rattle.shore_txn.specs.Transactions.{kept_in}
+use Rattle.shore_bounds.specs.RoomyStates.{LeavesRoomyLogs}
 use Rattle.shore_calls.proofs.TakenLocks.{leaves, locked_state}
 use Rattle.shore_calls.specs.CallHistories.{IsForced, IsRoomyState}
 use Rattle.shore_calls.specs.CallSteps.{behind_lock, behind_place, lock_outcome, on_conflict_of, place_outcome, with_requests}
@@ -63,7 +64,7 @@ module _ (s : State) (rs : List Request) where
   commit_wait base w h = record { number = h.number; txn = h.txn; is = h.is; committing = h.committing; some = h.some; there = h.there; decided = h.decided }
 
   lock_wait : (w : Waiting) → IsLockWait s w → IsLockWait (with_requests s rs) w
-  lock_wait w h = record { txn = h.txn; active = h.active; of = h.of; at = h.at; is = h.is; lock = h.lock; asked = h.asked }
+  lock_wait w h = record { txn = h.txn; active = h.active; of = h.of; whole = h.whole; at = h.at; is = h.is; lock = h.lock; asked = h.asked }
 
   waits_behind : (base : ℕ) → WaitsOfSessions base s → WaitsOfSessions base (with_requests s rs)
   waits_behind base h = record {
@@ -78,6 +79,15 @@ module _ (s : State) (rs : List Request) where
   roomy_behind : IsRoomyState s → IsRoomyState (with_requests s rs)
   roomy_behind h = record { pages = h.pages; log = h.log }
 
+  leaves_behind : (g : Geometry) (n : ℕ) → LeavesRoomyLogs g n s → LeavesRoomyLogs g n (with_requests s rs)
+  leaves_behind g n h = record {
+    as_long = h.as_long;
+    prefixes = h.prefixes;
+    counts = h.counts;
+    whole = record { lawful = h.whole.lawful; no_prepare = h.whole.no_prepare; writers = h.whole.writers; unended = h.whole.unended; above = h.whole.above; undo_lists = h.whole.undo_lists; some = h.whole.some };
+    txns = h.txns;
+  }
+
   pub safe_behind : (g : Geometry) (safe : IsSafe g s) → IsSessionsState safe.found safe.entries (with_requests s rs) → IsSafe g (with_requests s rs)
   safe_behind g safe sessions = record {
     found = safe.found;
@@ -90,6 +100,8 @@ module _ (s : State) (rs : List Request) where
     };
     asks = safe.asks;
     roomy = roomy_behind safe.roomy;
+    stream_bytes = safe.stream_bytes;
+    leaves = leaves_behind g safe.stream_bytes safe.leaves;
     inside = safe.inside;
   }
 

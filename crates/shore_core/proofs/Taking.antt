@@ -27,10 +27,16 @@ use Rattle.shore_calls.specs.CallSteps.{RefusesRead, CallStep}
 use Rattle.shore_disk.specs.Cause.{HasCause}
 use Rattle.shore_disk.specs.declared.device.Disk as disk
 use Rattle.shore_log.specs.declared.tail.Tail as tail
+use Rattle.shore_disk.specs.Device.{may_leave}
+use Rattle.shore_heap.specs.declared.heap.Heap.{Heap}
+use Rattle.shore_heap.specs.Heaps as heaps
+use Rattle.shore_logged.specs.LoggedHeaps.{LeavesStore}
+use Rattle.shore_logged.proofs.Left.{left_settled}
+use Rattle.shore_recovery.specs.Pages.{LoggedPages}
 use Rattle.shore_heap.proofs.Finding.{ok_same}
 use Rattle.shore_core.specs.declared.core_calls.Core.{Core}
-use Rattle.shore_core.specs.Cores.{ComesTo, IsBeside, IsIn, IsKept, IsOver, control_of, durable_of, geometry_of, has_failed, tail_of, waiting_of}
-use Rattle.shore_recovery.specs.Recovery.{RecoveryState}
+use Rattle.shore_core.specs.Cores.{ComesTo, FailsOver, IsBeside, IsIn, IsKept, IsKeptBehind, IsOver, control_of, durable_of, geometry_of, has_failed, heap_of, tail_of, waiting_of}
+use Rattle.shore_recovery.specs.Recovery.{CrashMayLeave, RecoveryState}
 use Rattle.shore_calls.specs.declared.step.Step.{Step}
 use Rattle.shore_calls.specs.declared.step.Step.TheVariants.{Refused}
 use Rattle.shore_model.specs.declared.calls.Call.{Call}
@@ -124,6 +130,10 @@ module _ {T V : Type 0} {G : tail.Ghosts T} {H : disk.Ghosts V} where
 pub kept_failed : (s : State) (store : RecoveryState) → IsKept s store → IsKept (with_failure s) store
 kept_failed s store kept = record { stored = record { log = kept.stored.log; durable = kept.stored.durable }; redone = kept.redone; recoverable = kept.recoverable }
 
+-- .. and so is what works have made of it
+pub behind_failed : (s : State) (store : RecoveryState) → IsKeptBehind s store → IsKeptBehind (with_failure s) store
+behind_failed s store behind = record { works = behind.works; after = behind.after; work = behind.work; kept = kept_failed s behind.after behind.kept }
+
 pub over_failed : {T V : Type 0} {G : tail.Ghosts T} {H : disk.Ghosts V} (core : Core T V G H) (disk : ℕ → List ℕ) (s : State) (store : RecoveryState) → IsKept s store → IsOver disk core (with_failure s) store
 over_failed core disk s store kept = record { kept = kept_failed s store kept; pages = λ works. absurd (true_false works) }
 
@@ -133,7 +143,7 @@ pub comes_noted : {T V : Type 0} {G : tail.Ghosts T} {H : disk.Ghosts V} (old ne
     → (f ≡ fault.Device) ⊎ ((d : Device) × (offset : ℕ) × (f ≡ fault.Damaged d offset)) → StaysRefused old front before s store f → ComesTo new front before store (after_refusal f s)
 comes_noted old new front before s store f tail control durable noted why stays =
     let failed : ComesTo new front before store (with_failure s) = elim stays [
-      | inl device ↦ comes_failed new front before (with_failure s) store refl (beside_failed old new before s device.1 tail control durable noted) (kept_failed s store device.2)
+      | inl device ↦ comes_failed new front before (with_failure s) store refl (beside_failed old new before s device.1 tail control durable noted) (behind_failed s store device.2.behind)
       | inr comes ↦ record {
         left = comes.left;
         is_in = record { beside = beside_failed old new before s comes.is_in.beside tail control durable noted; pages = λ works. absurd (true_false works) };
@@ -181,6 +191,35 @@ stays_after s fault.WrongPair device damaged = refl
 stays_after s (fault.BadConfig place) device damaged = refl
 stays_after s fault.Device device damaged = absurd (device refl)
 stays_after s (fault.Damaged d offset) device damaged = absurd (damaged d offset refl)
+
+-- a refusal takes nothing from the store
+kept_refused : (f : Fault) (s : State) (store : RecoveryState) → IsKept s store → IsKept (after_refusal f s) store
+kept_refused fault.Device s store kept = kept_failed s store kept
+kept_refused (fault.Damaged d offset) s store kept = kept_failed s store kept
+kept_refused _ s store kept = kept
+
+behind_refused : (f : Fault) (s : State) (store : RecoveryState) → IsKeptBehind s store → IsKeptBehind (after_refusal f s) store
+behind_refused f s store behind = record { works = behind.works; after = behind.after; work = behind.work; kept = kept_refused f s behind.after behind.kept }
+
+-- A core that ran is refused, be it for a failure or not: a crash leaves of its volume what the store may lose power with.
+pub fails_refused : {T V : Type 0} {G : tail.Ghosts T} {H : disk.Ghosts V} (old new : Core T V G H) (front : List ℕ) (before : List LogRecord) (s : State) (store : RecoveryState) (f : Fault)
+    → heap_of new ≡ heap_of old → s.failed ≡ false → StaysRefused old front before s store f → FailsOver new front (after_refusal f s) store
+unfolding behind_refused
+fails_refused {V = V} {H = H} old new front before s store f heap works stays = record { behind = behind_refused f s store so.0; left = subst (λ h. Left h so.0) (sym heap) so.1 }
+  where
+    Left : Heap V H → IsKeptBehind s store → Type 0
+    Left h behind = (image : List ℕ) → may_leave (heaps.history_of h) image
+        → (pages : LoggedPages) × CrashMayLeave behind.after pages × LeavesStore behind.after.log (heaps.geometry_of h) front pages image
+
+    by_cause : StaysRefused old front before s store f → (behind : IsKeptBehind s store) × Left (heap_of old) behind
+    by_cause (inl device) = (device.2.behind, device.2.left)
+    by_cause (inr comes) = (
+      record { works = comes.works; after = comes.after; work = comes.work; kept = comes.over.kept },
+      λ image may. (comes.after.volume, (λ p. inl refl), left_settled (heap_of old) front comes.left comes.after image (comes.over.pages works) (comes.is_in.pages works).holds may),
+    )
+
+    so : (behind : IsKeptBehind s store) × Left (heap_of old) behind
+    so = by_cause stays
 
 -- ---- replies
 

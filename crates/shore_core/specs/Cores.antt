@@ -1,6 +1,6 @@
 -- What a core has, and the state that it is in.
 use Rattle.std.specs.Prelude.{◌≡◌, ◌+◌, ◌-◌, ℕ, List, Bool, false, length}
-use Rattle.shore_disk.specs.Device.{History}
+use Rattle.shore_disk.specs.Device.{History, may_leave}
 use Rattle.shore_disk.specs.declared.device.Disk as disk
 use Rattle.shore_log.specs.declared.tail.Tail as tail
 use Rattle.shore_types.specs.declared.layout.Geometry.{Geometry}
@@ -15,10 +15,12 @@ use Rattle.shore_control.specs.declared.waits.WaitingCall.{WaitingCall}
 use Rattle.shore_locks.specs.Tables.{Table}
 use Rattle.shore_txn.specs.Transactions.{kept_in}
 use Rattle.shore_txn.specs.declared.transactions.Transactions.{Transactions}
-use Rattle.shore_recovery.specs.Recovery.{IsRecoverable, RecoveryEvent, RecoveryState}
+use Rattle.shore_recovery.specs.Pages.{LoggedPages}
+use Rattle.shore_recovery.specs.Recovery.{CrashMayLeave, IsRecoverable, RecoveryEvent, RecoveryState}
 use Rattle.shore_lives.specs.ManagerSteps.{WorksTo}
 use Rattle.shore_managers.specs.StoredRuns.{IsStored}
-use Rattle.shore_logged.specs.LoggedHeaps.{IsStoreOf}
+use Rattle.shore_bounds.specs.RoomyStates.{LeavesRoomyLogs}
+use Rattle.shore_logged.specs.LoggedHeaps.{IsStoreOf, LeavesStore}
 use Rattle.shore_model.specs.Records.{AreRecords}
 use Rattle.shore_types.specs.declared.locking.Granule.{Granule}
 use Rattle.shore_model.specs.declared.histories.Entry.{Entry}
@@ -37,6 +39,13 @@ pub record IsKept (s : State) (store : RecoveryState) : Type 0 where
   pub stored : IsStored s store
   pub redone : store.redone ≡ length store.log
   pub recoverable : IsRecoverable store
+
+-- .. or what works have made of a store is, of whose pages nothing more is said
+pub record IsKeptBehind (s : State) (store : RecoveryState) : Type 0 where
+  pub works : List RecoveryEvent
+  pub after : RecoveryState
+  pub work : WorksTo store works after
+  pub kept : IsKept s after
 
 module _ {T V : Type 0} {G : tail.Ghosts T} {H : disk.Ghosts V} where
   -- the last number whose force was told
@@ -116,12 +125,20 @@ module _ {T V : Type 0} {G : tail.Ghosts T} {H : disk.Ghosts V} where
     pub work : WorksTo store works after
     pub over : IsOver left new later after
 
+  -- Its volume has failed: of its pages no more is said than that a crash leaves what the store may lose power with that such works have made.
+  pub record FailsOver (new : Core T V G H) (front : List ℕ) (later : State) (store : RecoveryState) : Type 0 where
+    pub behind : IsKeptBehind later store
+    pub left : (image : List ℕ) → may_leave (history_of new) image
+        → (pages : LoggedPages) × CrashMayLeave behind.after pages × LeavesStore behind.after.log (geometry_of new) front pages image
+
 -- What is kept of the state beside, by the laws over plain data: it is what a manager has come to, its calls that wait are such as may ask for locks, pages
--- and log have room, and the records lie in the geometry.
+-- and log have room, also for whatever a crash leaves of the log, and the records lie in the geometry.
 pub record IsSafe (g : Geometry) (s : State) : Type 0 where
   pub found : List LogRecord
   pub entries : List Entry
   pub after : IsStateAfter found entries s
   pub asks : (w : Waiting) (at : Granule) → IsAmong w s.waiting → w.wait ≡ Lock at → MayAsk g w.call
   pub roomy : IsRoomyState s
+  pub stream_bytes : ℕ
+  pub leaves : LeavesRoomyLogs g stream_bytes s
   pub inside : AreRecords g s.sessions.records

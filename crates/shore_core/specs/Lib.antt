@@ -2,3 +2,4 @@ pub mod Parts
 pub mod Cores
 pub mod Replies
 pub mod Flushing
+pub mod Undoing

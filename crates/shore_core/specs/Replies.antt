@@ -1,5 +1,5 @@
 -- What a call comes to behind the refusals that stand before every call.
-use Rattle.std.specs.Prelude.{◌≡◌, ◌⊎◌, ℕ, List, Result, Ok, Err, IfErr, false}
+use Rattle.std.specs.Prelude.{◌≡◌, ◌≢◌, ◌⊎◌, ℕ, List, None, Result, Ok, Err, IfErr, true, false}
 use Rattle.shore_disk.specs.declared.device.Disk as disk
 use Rattle.shore_log.specs.declared.tail.Tail as tail
 use Rattle.shore_dwrite.specs.Volumes.{HasNoPage, page_number, page_offset}
@@ -29,6 +29,7 @@ use Rattle.shore_types.specs.Images.{Image}
 use Rattle.shore_types.specs.declared.ids.Rid.{Rid}
 use Rattle.shore_room.specs.Claims.{SlotCounts}
 use Rattle.shore_control.specs.Standing.{changed}
+use Rattle.shore_txn.specs.Transactions.{HasNoTxnOf, undos_in}
 use Rattle.shore_control.specs.declared.waits.WaitingCall.{WaitingCall}
 use Rattle.shore_sessions.specs.Views.{IsAmong}
 use Rattle.shore_calls.specs.States.{IsOfSession, State}
@@ -40,7 +41,7 @@ use Rattle.shore_path.specs.Acquires.{IsReached}
 use Rattle.shore_path.specs.declared.answers.Acquired.{Acquired}
 use Rattle.shore_path.specs.declared.answers.Acquired.TheVariants as acquire
 use Rattle.shore_core.specs.declared.core_calls.Core.{Core}
-use Rattle.shore_core.specs.Cores.{ComesTo, IsBeside, IsIn, IsKept, IsOver, IsSafe, durable_of, first_of, geometry_of, has_failed, heap_of, history_of, last_of, control_of, tail_of, txns_of, waits_of}
+use Rattle.shore_core.specs.Cores.{ComesTo, FailsOver, IsBeside, IsIn, IsOver, IsSafe, durable_of, first_of, geometry_of, has_failed, heap_of, history_of, last_of, control_of, tail_of, txns_of, waits_of}
 
 -- ---- faults of the volume
 
@@ -54,7 +55,8 @@ abbrev pub IsEarned : Geometry → (ℕ → List ℕ) → ℕ → (PageId → Ty
 IsEarned g disk last IsRead f = (device : Device) (offset : ℕ) → f ≡ fault.Damaged device offset → (device ≡ Volume)
     × ((id : PageId) × IsRead id × HasPage g id × (offset ≡ page_offset (page_number g id)) × HasNoPage (disk (page_number g id)) id last)
 
--- the pages that a call may read: that of its record, or those of its store
+-- The pages that a call may read: that of its record, or those of its store. A rollback reads those of its transaction's changes, which its call does not
+-- name: of it nothing more is said than that they lie in the volume.
 abbrev pub Reads : Call → PageId → Type 0
 Reads (call.Get id) page = page ≡ id.page
 Reads (call.Insert store bytes) page = page.store ≡ store
@@ -66,9 +68,9 @@ Reads (call.GetForUpdate id) page = page ≡ id.page
 Reads (call.Lock granule mode) page = ⊥
 Reads (call.TryLock granule mode) page = ⊥
 Reads call.Savepoint page = ⊥
-Reads (call.BackTo index) page = ⊥
+Reads (call.BackTo index) page = Unit {0}
 Reads call.Commit page = ⊥
-Reads call.Abort page = ⊥
+Reads call.Abort page = Unit {0}
 Reads (call.Prepare global) page = ⊥
 Reads (call.Resolve global outcome) page = ⊥
 Reads call.InDoubt page = ⊥
@@ -115,6 +117,12 @@ abbrev pub ForWriter : ℕ → List Request → Rid → State → (SessionTxn �
 ForWriter session rs id s P = (a : SessionTxn) → IsOfSession s session a → IsReached rs a.txn (Record id) EX → P a
 
 module _ {T V : Type 0} {G : tail.Ghosts T} {H : disk.Ghosts V} where
+  -- No transaction of the session may do more than end a rollback: there is none, or its rollback has begun.
+  abbrev pub IsNotOpen : Core T V G H → ℕ → Fault → Type 0
+  IsNotOpen core session f =
+      ((f ≡ fault.NoTransaction) × HasNoTxnOf session (txns_of core))
+      ⊎ ((f ≡ fault.MustAbort) × ((a : SessionTxn) × IsAmong a (undos_in (txns_of core)) × (a.session ≡ session) × (a.undo.rolling ≢ None)))
+
   -- the volume is the same device, of the same length, and as honest
   pub record SameVolume (old new : Core T V G H) : Type 0 where
     pub geometry : geometry_of new ≡ geometry_of old
@@ -152,7 +160,7 @@ module _ {T V : Type 0} {G : tail.Ghosts T} {H : disk.Ghosts V} where
   -- it is in the state that it was in; but after a failure of the volume nothing is said of its pages
   abbrev pub Stays : {A : Type 0} → Core T V G H → Result A Fault → List ℕ → List LogRecord → State → RecoveryState → Type 0
   Stays new (Ok done) front before s store = ComesTo new front before store s
-  Stays new (Err f) front before s store = ((f ≡ fault.Device) × IsBeside before new s × IsKept s store) ⊎ ComesTo new front before store s
+  Stays new (Err f) front before s store = ((f ≡ fault.Device) × IsBeside before new s × FailsOver new front s store) ⊎ ComesTo new front before store s
 
   -- In whatever safe state the core was, it has come to another, which is a step of the manager over plain data once a failure is noted.
   pub record Replied (session : ℕ) (c : Call) (result : Result Step Fault) (old new : Core T V G H) (front : List ℕ) (before : List LogRecord) (s : State) (store : RecoveryState) : Type 0 where
@@ -177,6 +185,8 @@ module _ {T V : Type 0} {G : tail.Ghosts T} {H : disk.Ghosts V} where
     pub later : State
     pub moves : CallStep (geometry_of old) s session c step later
     pub comes : ComesTo new front before store later
+    -- if a call fails the core, a crash leaves of its volume what the store may lose power with, though its log has grown
+    pub fails : has_failed old ≡ false → later.failed ≡ true → FailsOver new front later store
 
   -- so has a resume
   pub record Resumed (session : ℕ) (step : Step) (old new : Core T V G H) (front : List ℕ) (before : List LogRecord) (s : State) (store : RecoveryState) : Type 0 where
@@ -192,10 +202,34 @@ module _ {T V : Type 0} {G : tail.Ghosts T} {H : disk.Ghosts V} where
   abbrev pub Earns : {A : Type 0} → Core T V G H → (PageId → Type 0) → Result A Fault → Type 0
   Earns core IsRead r = (front : List ℕ) (disk : ℕ → List ℕ) → Holds (pool_of (heap_of core)) front disk → IfErr r (IsEarned (geometry_of core) disk (last_of core) IsRead)
 
-  -- .. and one by `NeedForce` by the pages in all frames: none is clean, and each has a number that is not durable. One has this number.
+  -- .. and one by `NeedForce` by the pages in all frames, as this core has them: none is clean, and each has a number that is not durable. One has this
+  -- number.
+  abbrev pub NeedsForceIn : {A : Type 0} → Core T V G H → Core T V G H → Result A Fault → Type 0
+  NeedsForceIn old at r = (front : List ℕ) (disk : ℕ → List ℕ) → Holds (pool_of (heap_of old)) front disk
+      → IfErr r (λ f. (number : ℕ) → f ≡ fault.NeedForce number → pools.NeedsForce (pool_of (heap_of at)) (durable_of at) number)
+
+  -- .. as the call found them
   abbrev pub NeedsForce : {A : Type 0} → Core T V G H → Result A Fault → Type 0
-  NeedsForce core r = (front : List ℕ) (disk : ℕ → List ℕ) → Holds (pool_of (heap_of core)) front disk
-      → IfErr r (λ f. (number : ℕ) → f ≡ fault.NeedForce number → pools.NeedsForce (pool_of (heap_of core)) (durable_of core) number)
+  NeedsForce core r = NeedsForceIn core core r
+
+  -- When a call has to need the force that it asks for: as it begins. A rollback changes page after page, so it needs it as it has left them.
+  abbrev pub forced_at : Call → Core T V G H → Core T V G H → Core T V G H
+  forced_at (call.BackTo index) old new = new
+  forced_at call.Abort old new = new
+  forced_at (call.Get id) old new = old
+  forced_at (call.Insert store bytes) old new = old
+  forced_at (call.Update id bytes) old new = old
+  forced_at (call.Delete id) old new = old
+  forced_at (call.Scan store) old new = old
+  forced_at call.Begin old new = old
+  forced_at (call.GetForUpdate id) old new = old
+  forced_at (call.Lock granule mode) old new = old
+  forced_at (call.TryLock granule mode) old new = old
+  forced_at call.Savepoint old new = old
+  forced_at call.Commit old new = old
+  forced_at (call.Prepare global) old new = old
+  forced_at (call.Resolve global outcome) old new = old
+  forced_at call.InDoubt old new = old
 
   -- in each safe state, over each store that is its
   abbrev pub InEach : ((front : List ℕ) (disk : ℕ → List ℕ) (before : List LogRecord) (s : State) (store : RecoveryState) → Type 0) → Core T V G H → Type 0

@@ -18,7 +18,7 @@ use shore_log::Tail;
 use shore_logrec::{LogRecord, Payload, change_cost, compensation_cost};
 use shore_model::Answer;
 use shore_txn::UndoEntry;
-use shore_types::{Bytes, Fault, Rid, Sequence, SessionId};
+use shore_types::{Bytes, Fault, Lsn, Rid, Sequence, SessionId};
 use std::alloc::Global;
 
 impl<T: Tail, V: Disk> Core<T, V> {
@@ -102,8 +102,10 @@ impl<T: Tail, V: Disk> Core<T, V> {
         if !self.admits(logged + undo) {
             return Err(Fault::LogFull);
         }
-        let entry = UndoEntry {
+        // It gets the number of its record once that is logged.
+        let mut entry = UndoEntry {
             id,
+            lsn: Lsn(0),
             before: copy_of(alloc, &before)?,
             claim: self.heap.claim(id),
         };
@@ -118,8 +120,9 @@ impl<T: Tail, V: Disk> Core<T, V> {
             Ok(lsn) => lsn,
             Err((fault, _)) => return Err(fault),
         };
+        entry.lsn = lsn;
         self.heap.change(id, lsn, bytes_of(&image));
-        self.control.note_change(session, lsn, entry, logged, undo);
+        self.control.note_change(session, entry, logged, undo);
         Ok(())
     }
 }

@@ -29,9 +29,7 @@ impl<T: Tail, V: Disk> Core<T, V> {
         ensures cause { HasCause result (faults_of self.old) (faults_of self.new) }
         ensures faults { faults_of self.new ≡ faults_of self.old }
     {
-        let Some(txn) = self.control.txn(session) else {
-            return Err(Fault::NoTransaction);
-        };
+        let txn = self.active(session)?;
         let record = LogRecord {
             txn: txn.id(),
             previous: txn.last(),

@@ -45,13 +45,13 @@ pub struct Core<T: Tail, V: Disk> {
 impl<T: Tail, V: Disk> Core<T, V> {
     ghost use Rattle.shore_core.specs.Cores.{ComesTo, IsIn, IsOver, control_of, durable_of, faults_of, first_of, geometry_of, has_failed, heap_of, tail_of, txns_of, waiting_of};
     ghost use Rattle.shore_core.specs.Cores as cores;
-    ghost use Rattle.shore_core.specs.Replies.{Earns, Fails, InEach, Keeps, MayLeave, NeedsForce, Reads, ReadsWaiting, Replied, Resumed, SameVolume, Stays, Stepped, fault_at};
+    ghost use Rattle.shore_core.specs.Replies.{Earns, Fails, InEach, Keeps, MayLeave, NeedsForce, NeedsForceIn, Reads, ReadsWaiting, Replied, Resumed, SameVolume, Stays, Stepped, fault_at, forced_at};
 
     /// A call of a session. Refused in this order: `Failed` after a failure of a device or a damaged page, `Busy` while the session's earlier
     /// call waits, `AlreadyActive` or `NoTransaction`, as the call says before its locks, as its locks are refused, and as the call says behind them;
     /// `Memory` if an allocation failed, and `NeedForce(n)` if a page needs a frame that is free once the log is forced up to number n. A refused call
-    /// has changed nothing but locks that were taken; but after `Device` and `Damaged` every later call is refused. A call that waits for a lock goes on
-    /// at a resume, once another has let it through.
+    /// has changed nothing but locks that were taken, and a rollback keeps the steps that it has made: the same call goes on with the others. But after
+    /// `Device` and `Damaged` every later call is refused. A call that waits for a lock goes on at a resume, once another has let it through.
     pub fn call(&mut self, alloc: Global, session: SessionId, call: Call) -> Step
         requires { IsServed call }
 
@@ -64,8 +64,8 @@ impl<T: Tail, V: Disk> Core<T, V> {
         // `Damaged` names the page that could not be read, of those that the call may read.
         ensures damaged { Earns self.old (Reads call) (fault_at result) }
 
-        // `NeedForce` comes only if no page may leave its frame: its number is one that is not durable.
-        ensures forced { NeedsForce self.old (fault_at result) }
+        // `NeedForce` comes only if no page may leave its frame: its number is one that is not durable. A rollback has changed pages before it asks.
+        ensures forced { NeedsForceIn self.old (forced_at call self.old self.new) (fault_at result) }
 
         // After a failure no page is touched.
         ensures still { IsTrue (has_failed self.old) → heap_of self.new ≡ heap_of self.old }
@@ -120,7 +120,7 @@ impl<T: Tail, V: Disk> Core<T, V> {
         ensures replied { has_failed self.old ≡ false → InEach (λ front disk before s store. DoesNotWait s session → Replied session call result self.old self.new front before s store) self.old }
         ensures keeps { Keeps self.old self.new }
         ensures any_moment { MayLeave self.old self.new }
-        ensures forced { NeedsForce self.old result }
+        ensures forced { NeedsForceIn self.old (forced_at call self.old self.new) result }
         ensures damaged { Earns self.old (Reads call) result }
         ensures plain { IfOk result (λ step. fault_at step ≡ Ok tt) }
         ensures cause { HasCause result (faults_of self.old) (faults_of self.new) }
@@ -128,6 +128,9 @@ impl<T: Tail, V: Disk> Core<T, V> {
         match call {
             Call::Begin => self.begin(alloc, session),
             Call::Commit => self.commit(session),
+            Call::Savepoint => self.savepoint(session),
+            Call::BackTo(index) => self.back_to(alloc, session, index),
+            Call::Abort => self.abort(alloc, session),
             call => self.serve(alloc, session, call),
         }
     }

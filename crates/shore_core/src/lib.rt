@@ -18,6 +18,7 @@ mod making;
 mod nodes;
 mod reading;
 mod resuming;
+mod rolling_back;
 
 pub use core_calls::Core;
 pub use shore_calls::{Step, Wait};

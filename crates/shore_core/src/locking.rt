@@ -38,10 +38,8 @@ impl<T: Tail, V: Disk> Core<T, V> {
         ensures plain { IfOk result (λ step. fault_at step ≡ Ok tt) }
         ensures cause { HasCause result (faults_of self.old) (faults_of self.new) }
     {
-        let txn = match self.control.txn(session) {
-            Some(txn) => txn.id(),
-            None => return Err(Fault::NoTransaction),
-        };
+        let own = self.active(session)?;
+        let txn = own.id();
         // Who waits in the table has a call that waits, so this is never so.
         if self.control.is_waiting(txn) {
             return Err(Fault::Busy);

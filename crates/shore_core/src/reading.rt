@@ -24,7 +24,8 @@ use std::alloc::Global;
 
 impl<T: Tail, V: Disk> Core<T, V> {
     ghost use Rattle.shore_core.specs.Cores.{faults_of, geometry_of, has_failed, heap_of};
-    ghost use Rattle.shore_core.specs.Replies.{Earns, InEach, Keeps, MayLeave, NeedsForce, OnlyReads, Served, Stays, fault_at};
+    ghost use Rattle.shore_core.specs.Replies.{Earns, InEach, Keeps, MayLeave, NeedsForce, NeedsForceIn, OnlyReads, Served, Stays, fault_at};
+    ghost use Rattle.shore_core.specs.Undoing.{WritesBack};
 
     pub(crate) fn get(&mut self, alloc: Global, id: Rid) -> Result<Step, Fault>
         requires { HasSlot (geometry_of self.old) id }
@@ -70,6 +71,8 @@ impl<T: Tail, V: Disk> Core<T, V> {
         ensures stays { InEach (λ front disk before s store. Stays self.new result front before s store) self.old }
         ensures any_moment { MayLeave self.old self.new }
         ensures forced { NeedsForce self.old result }
+        ensures forced_now { NeedsForceIn self.old self.new result }
+        ensures wrote { OnOk result (WritesBack self.old self.new) }
         ensures reads { OnlyReads self.old self.new }
         ensures cause { HasCause result (faults_of self.old) (faults_of self.new) }
     {

@@ -132,6 +132,9 @@ fn plain_call_of(words: &[&str]) -> Option<Call>
     match words {
         [word] if *word == "begin" => Some(Call::Begin),
         [word] if *word == "commit" => Some(Call::Commit),
+        [word] if *word == "abort" => Some(Call::Abort),
+        [word] if *word == "savepoint" => Some(Call::Savepoint),
+        [word, index] if *word == "back" => Some(Call::BackTo(words::index(index)?)),
         [word, record] if *word == "get" => Some(Call::Get(words::record(record)?)),
         [word, record] if *word == "getu" => Some(Call::GetForUpdate(words::record(record)?)),
         [word, record] if *word == "delete" => Some(Call::Delete(words::record(record)?)),

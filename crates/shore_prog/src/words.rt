@@ -22,6 +22,11 @@ fn short_number(word: &str) -> Option<u32> {
     u32::try_from(number(word)?).ok()
 }
 
+/// The index of a savepoint.
+pub fn index(word: &str) -> Option<usize> {
+    usize::try_from(number(word)?).ok()
+}
+
 /// A session, 1 to 999.
 pub fn session(word: &str) -> Option<SessionId> {
     let id = short_number(word)?;

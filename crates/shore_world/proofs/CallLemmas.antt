@@ -1,9 +1,10 @@
 -- What calls of the core that touch the volume alone make of a world: a call of a session, and a step of the flush.
-use Rattle.std.proofs.Common.{◌≡◌, ℕ, IsTrue, false, true, sym, ap, subst}
+use Rattle.std.proofs.Common.{◌≡◌, inl, inr, ℕ, IsTrue, false, true, sym, ap, subst, ◌∙◌}
 use Rattle.shore_disk.specs.declared.device.Disk.{Ghosts}
 use Rattle.shore_log.specs.Settled.{records_of_log}
 use Rattle.shore_log.specs.declared.device.LogDev.{LogDev}
 use Rattle.shore_model.specs.declared.calls.Call.{Call}
+use Rattle.shore_calls.specs.States.{State}
 use Rattle.shore_calls.specs.declared.step.Step.{Step}
 use Rattle.shore_core.specs.Cores as cores
 use Rattle.shore_core.specs.Cores.{IsKept, heap_of, tail_of}
@@ -12,9 +13,9 @@ use Rattle.shore_core.specs.Replies.{InEach, MayLeave, Resumed, Stepped}
 use Rattle.shore_world.specs.declared.event.Event.TheVariants as event
 use Rattle.shore_world.specs.declared.world.World.{World}
 use Rattle.shore_world.specs.Worlds.{Moves, durable_in, failed_in, geometry_in}
-use Rattle.shore_world.proofs.GrowLemmas.{call_grows, failed_call_keeps, failed_resume_keeps, flush_same, kept_same, resume_grows}
+use Rattle.shore_world.proofs.GrowLemmas.{call_grows, failed_call_stays, failed_resume_keeps, flush_same, kept_same, resume_grows}
 use Rattle.shore_world.proofs.RunLemmas.{call_is_no_flush, resume_is_no_flush}
-use Rattle.shore_world.proofs.VolumeLemmas.{comes_written, volume_alone, volume_written, written_flushes}
+use Rattle.shore_world.proofs.VolumeLemmas.{comes_worked, comes_written, runs_or_failed, volume_alone, volume_written, written_flushes}
 use Rattle.shore_world.proofs.WorldLemmas.{kept_as_before, grown_kept, ready_same, same_list}
 
 module _ {L V : Type 0} {G : Ghosts L} {H : Ghosts V} where
@@ -30,12 +31,17 @@ module _ {L V : Type 0} {G : Ghosts L} {H : Ghosts V} where
         let comes = subst (λ (l : LogDev L G). cores.ComesTo new.core front (records_of_log l) store stepped.later) (sym log) stepped.comes in
         let grows = call_grows old new s stepped.later session c step at.is_in.beside comes.is_in.beside stepped.moves durable in
         let kept = grown_kept old new (ap (λ (l : LogDev L G). l.device) log) grows (ready_same old.log new.log log) log_front at.log in
+        let wrote = volume_written old new leaves still log_front front disk s store at in
         record {
           later = stepped.later;
           moves = stepped.moves;
           flushes = λ is. absurd (call_is_no_flush (event.Call session c) tt is);
-          comes = comes_written old new geometry log_front front store (volume_written old new leaves still log_front front disk s store at) kept stepped.later comes
-              (λ failed. kept_same s stepped.later store (failed_call_keeps (geometry_in old) s session c step stepped.later stepped.moves failed) at.over.kept);
+          comes = elim (runs_or_failed s.failed) [
+            | inl runs ↦ comes_worked old new geometry log_front front store wrote kept stepped.later comes (stepped.fails (sym at.is_in.beside.parts.failed_is ∙ runs))
+            | inr fails ↦
+                comes_written old new geometry log_front front store wrote kept stepped.later comes
+                (λ failed. subst (λ (x : State). IsKept x store) (sym (failed_call_stays (geometry_in old) s session c step stepped.later stepped.moves fails)) at.over.kept)
+          ];
         };
     any_moment = volume_alone old new (ap (λ (l : LogDev L G). G.history l.device) log) leaves still;
   }

@@ -1,4 +1,4 @@
--- What no call and no resume takes away: the list grows, and what was durable stays so. After a failure log and durable number are as they were.
+-- What no call and no resume takes away: the list grows, and what was durable stays so. Behind a failure log and durable number are as they were.
 use Rattle.std.proofs.Common.{◌≡◌, inl, inr, ⊎_elim, List, ◌++◌, ℕ, false, true, refl, sym, ap, subst, ◌∙◌}
 use Rattle.shore_types.specs.declared.layout.Geometry.{Geometry}
 use Rattle.shore_disk.specs.declared.device.Disk.{Ghosts}
@@ -15,7 +15,7 @@ use Rattle.shore_calls.proofs.AfterRefusals.{goes_leaves}
 use Rattle.shore_calls.proofs.LongerLogs.{call_further, further_on, resume_further}
 use Rattle.shore_calls.proofs.SessionInversions.{answered_from}
 use Rattle.shore_calls.specs.StateChanges.{wait_refused, with_failure}
-use Rattle.shore_calls.specs.CallSteps.{AnswersBehind, BeginStep, CommitStep, GoesOn, ResumesWait, CallStep, ResumeStep, behind_lock}
+use Rattle.shore_calls.specs.CallSteps.{AnswersBehind, GoesOn, ResumesWait, CallStep, ResumeStep, behind_lock}
 use Rattle.shore_calls.specs.Shapes.{with_locks_of}
 use Rattle.shore_calls.specs.States.{State, Waiting}
 use Rattle.shore_recovery.specs.Recovery.{RecoveryState}
@@ -73,18 +73,6 @@ module _ (g : Geometry) (s new : State) (running : s.failed ≡ false) (failed :
   behind_keeps locked same a (call.TryLock at mode) answer moves = runs_on s new _ running moves.1 same failed
   behind_keeps locked same a _ answer moves = absurd moves
 
-  begin_keeps : (session : ℕ) (step : Step) → BeginStep s session step new → HasSameLog s new
-  begin_keeps session (Done answer) moves = runs_on s new _ running moves.4 refl failed
-  begin_keeps session (Waits wait) moves = absurd moves
-  begin_keeps session (Refused f) moves = same_log_of s new s moves.1 (refl, refl)
-  begin_keeps session Nothing moves = absurd moves
-
-  commit_keeps : (a : SessionTxn) (step : Step) → CommitStep s a step new → HasSameLog s new
-  commit_keeps a (Done answer) moves = absurd moves
-  commit_keeps a (Waits wait) moves = runs_on s new _ running moves.1 refl failed
-  commit_keeps a (Refused f) moves = absurd moves
-  commit_keeps a Nothing moves = absurd moves
-
 -- a call from its locks on
 goes_keeps : (g : Geometry) (s new : State) → s.failed ≡ false → new.failed ≡ true → (a : SessionTxn) (c : Call) (step : Step) → GoesOn g s a c step new → HasSameLog s new
 goes_keeps g s new running failed a c (Done answer) moves =
@@ -93,17 +81,14 @@ goes_keeps g s new running failed a c (Waits wait) moves = runs_on s new _ runni
 goes_keeps g s new running failed a c (Refused f) moves = only_locks s new (goes_leaves g s new a c f moves)
 goes_keeps g s new running failed a c Nothing moves = absurd moves
 
-pub failed_call_keeps : (g : Geometry) (s : State) (session : ℕ) (c : Call) (step : Step) (new : State) → CallStep g s session c step new → new.failed ≡ true → HasSameLog s new
-failed_call_keeps g s session c step new (inl same) failed = same_log_of s new s same.1 (refl, refl)
-failed_call_keeps g s session c step new (inr (inl before)) failed = same_log_of s new s before.2 (refl, refl)
-failed_call_keeps g s session c step new (inr (inr (inl busy))) failed = same_log_of s new s busy.3 (refl, refl)
-failed_call_keeps g s session c step new (inr (inr (inr (inl begins)))) failed = begin_keeps g s new begins.0 failed session step begins.3
-failed_call_keeps g s session c step new (inr (inr (inr (inr (inl none))))) failed = same_log_of s new s none.5 (refl, refl)
-failed_call_keeps g s session c step new (inr (inr (inr (inr (inr inner))))) failed =
-    ⊎_elim
-    (λ early. same_log_of s new s early.3 (refl, refl))
-    (⊎_elim (λ goes. goes_keeps g s new inner.0 failed inner.2.0 c step goes.1) (λ commits. commit_keeps g s new inner.0 failed inner.2.0 step commits.1))
-    inner.2.2
+-- after a failure no call changes anything; one that fails itself may have rolled back until then
+pub failed_call_stays : (g : Geometry) (s : State) (session : ℕ) (c : Call) (step : Step) (new : State) → CallStep g s session c step new → s.failed ≡ true → new ≡ s
+failed_call_stays g s session c step new (inl same) fails = same.1
+failed_call_stays g s session c step new (inr (inl before)) fails = before.2
+failed_call_stays g s session c step new (inr (inr (inl busy))) fails = never_both s.failed fails busy.0
+failed_call_stays g s session c step new (inr (inr (inr (inl begins)))) fails = never_both s.failed fails begins.0
+failed_call_stays g s session c step new (inr (inr (inr (inr (inl none))))) fails = never_both s.failed fails none.0
+failed_call_stays g s session c step new (inr (inr (inr (inr (inr inner))))) fails = never_both s.failed fails inner.0
 
 wait_keeps : (g : Geometry) (s : State) (w : Waiting) (wait : Wait) (step : Step) (new : State) → s.failed ≡ false → ResumesWait g s w wait step new → new.failed ≡ true → HasSameLog s new
 wait_keeps g s w (Durable n) step new running (inl still) failed = same_log_of s new s still.2 (refl, refl)

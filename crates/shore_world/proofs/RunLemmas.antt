@@ -17,12 +17,12 @@ use Rattle.shore_log.specs.declared.tail.Tail as tail
 use Rattle.shore_core.specs.declared.core_calls.Core.{Core}
 use Rattle.shore_core.specs.Cores.{faults_of, heap_of}
 use Rattle.shore_core.specs.Flushing.{FlushAnswers}
-use Rattle.shore_core.specs.Replies.{Earns, NeedsForce, SameVolume, fault_at}
+use Rattle.shore_core.specs.Replies.{Earns, NeedsForce, NeedsForceIn, SameVolume, fault_at}
 use Rattle.shore_format.specs.Causes.{HasCauseOfPair}
 use Rattle.shore_world.specs.declared.event.Event.{Event}
 use Rattle.shore_world.specs.declared.event.Event.TheVariants as event
 use Rattle.shore_world.specs.declared.world.World.{World}
-use Rattle.shore_world.specs.Events.{IsCall, IsOfForce, IsOfPages, ReadBy}
+use Rattle.shore_world.specs.Events.{IsCall, IsOfForce, IsOfPages, ReadBy, force_needed_at}
 use Rattle.shore_world.specs.EventMoves.{all_moves, moves_by}
 use Rattle.shore_world.specs.Worlds.{EventStep, HasFlushed, IsLike, Moves, Runs, Steps, report_in}
 use Rattle.shore_world.proofs.VolumeLemmas.{both_still, comes_unworked}
@@ -134,7 +134,8 @@ log_cause step log log_now volume volume_now same cause = record {
 -- one for which the log device stands still
 pub no_force : {L V : Type 0} {G : Ghosts L} {H : Ghosts V} (old new : World L V G H) (e : Event) (step : Step) → IsOfPages e → new.log.device ≡ old.log.device
     → report_in new ≡ report_in old → Moves old e step new → SameVolume old.core new.core → (e ≡ event.FlushStep → HasFlushed old step new)
-    → Earns old.core (ReadBy old.core e) (fault_at step) → NeedsForce old.core (fault_at step) → HasCause (fault_at step) (faults_of old.core) (faults_of new.core) → Steps old e step new
+    → Earns old.core (ReadBy old.core e) (fault_at step) → NeedsForceIn old.core (force_needed_at e old.core new.core) (fault_at step)
+    → HasCause (fault_at step) (faults_of old.core) (faults_of new.core) → Steps old e step new
 no_force {G = G} old new e step other device report moves same flushed earned unforced cause = record {
   moves = moves;
   still = λ is. device;
@@ -168,8 +169,8 @@ memory_cause n = record { no_lower = omega arith; reported = λ is. absurd cc; u
 pub memory_says_nothing : {L V : Type 0} {G : Ghosts L} {H : Ghosts V} (w : World L V G H) (e : Event) → Earns w.core (ReadBy w.core e) (fault_at (Refused Memory))
 memory_says_nothing w e front disk holds d offset is = absurd cc
 
-pub memory_asks_nothing : {L V : Type 0} {G : Ghosts L} {H : Ghosts V} (w : World L V G H) → NeedsForce w.core (fault_at (Refused Memory))
-memory_asks_nothing w front disk holds n is = absurd cc
+pub memory_asks_nothing : {L V : Type 0} {G : Ghosts L} {H : Ghosts V} (w : World L V G H) (e : Event) → NeedsForceIn w.core (force_needed_at e w.core w.core) (fault_at (Refused Memory))
+memory_asks_nothing w e front disk holds n is = absurd cc
 
 -- the faults that a flush may have name no page, and ask for no force
 abbrev pub IsOfFlush : Fault → Type 0

@@ -109,6 +109,8 @@ module _ {L V : Type 0} {G : Ghosts L} {H : Ghosts V} (g : Geometry) (stream_byt
         after = up.under_way.state;
         asks = λ w at there is. up.under_way.asks w there at is;
         roomy = up.under_way.roomy;
+        stream_bytes = stream_bytes;
+        leaves = up.under_way.leaves;
         inside = under_way_inside g stream_bytes found es m up.under_way;
       })
 

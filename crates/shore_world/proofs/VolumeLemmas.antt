@@ -16,7 +16,7 @@ use Rattle.shore_logged.specs.LoggedHeaps.{LeavesStore}
 use Rattle.shore_logged.proofs.Flushes.{left_amid}
 use Rattle.shore_logged.proofs.Left.{left_settled}
 use Rattle.shore_core.specs.Cores as cores
-use Rattle.shore_core.specs.Cores.{IsKept, IsSafe, durable_of, heap_of}
+use Rattle.shore_core.specs.Cores.{FailsOver, IsKept, IsSafe, durable_of, heap_of}
 use Rattle.shore_core.specs.Flushing.{AreFlushes}
 use Rattle.shore_core.specs.Replies.{MayLeave}
 use Rattle.shore_world.specs.declared.world.World.{World}
@@ -124,13 +124,13 @@ module _ {L V : Type 0} {G : Ghosts L} {H : Ghosts V} where
       comes_still old new same geometry log_front front disk s store at later (ForceLog n ∷ []) (after_force store n) (tt, after_force store n, (more, within, refl), refl) refl
       (left_after_force store n more) is_in over kept
 
-  -- Pages may have been written back. After a failure of the volume the store is as it was: what is left of the pages is what a crash may have
-  -- left in the midst.
+  -- Pages may have been written back. After a failure of the volume the store is as it was, or as a call has left it that had done work before: what is
+  -- left of the pages is what a crash may have left in the midst.
   module _ (old new : World L V G H) (geometry : geometry_in new ≡ geometry_in old) (log_front front : List ℕ) (store : RecoveryState)
       (leaves : LeavesOnly (volume_history_in old) (volume_history_in new) (ShowsLeft (geometry_in old) front store)) (kept : SurvivesCrashes new log_front)
-      (later : State) (comes : cores.ComesTo new.core front (records_of_log new.log) store later) (fails : later.failed ≡ true → IsKept later store) where
-    written_so : (later.failed ≡ false) ⊎ (later.failed ≡ true) → ComesTo new log_front front store later
-    written_so (inl runs) = record {
+      (later : State) (comes : cores.ComesTo new.core front (records_of_log new.log) store later) where
+    written_running : later.failed ≡ false → ComesTo new log_front front store later
+    written_running runs = record {
       left = comes.left;
       works = comes.works;
       after = comes.after;
@@ -142,28 +142,50 @@ module _ {L V : Type 0} {G : Ghosts L} {H : Ghosts V} where
         volume = λ c may. (comes.after.volume, (λ p. inl refl), left_settled (heap_of new.core) front comes.left comes.after c (comes.over.pages runs) (comes.is_in.pages runs).holds may);
       };
     }
-    written_so (inr failed) = record {
+
+    -- a call may have worked before the volume failed
+    worked_failed : later.failed ≡ true → FailsOver new.core front later store → ComesTo new log_front front store later
+    worked_failed failed over = record {
       left = comes.left;
-      works = [];
-      after = store;
-      work = refl;
+      works = over.behind.works;
+      after = over.behind.after;
+      work = over.behind.work;
       at = record {
         is_in = comes.is_in;
-        over = record { kept = fails failed; pages = λ runs. never_both later.failed failed runs };
+        over = record { kept = over.behind.kept; pages = λ runs. never_both later.failed failed runs };
         log = kept;
-        volume = λ c may. subst (λ (g : Geometry). ShowsLeft g front store c) (sym geometry)
-            (at_end (volume_history_in old) (volume_history_in new) (ShowsLeft (geometry_in old) front store) leaves c may);
+        volume = over.left;
       };
     }
 
-    flushes_so : AreFlushes comes.works → (so : (later.failed ≡ false) ⊎ (later.failed ≡ true)) → AreFlushes (written_so so).works
-    unfolding written_so
-    flushes_so flushes (inl runs) = flushes
-    flushes_so flushes (inr failed) = tt
+    pub comes_worked : (later.failed ≡ true → FailsOver new.core front later store) → ComesTo new log_front front store later
+    comes_worked fails = elim (runs_or_failed later.failed) [ inl runs ↦ written_running runs | inr failed ↦ worked_failed failed (fails failed) ]
 
-    pub comes_written : ComesTo new log_front front store later
-    comes_written = written_so (runs_or_failed later.failed)
+    module _ (fails : later.failed ≡ true → IsKept later store) where
+      written_so : (later.failed ≡ false) ⊎ (later.failed ≡ true) → ComesTo new log_front front store later
+      written_so (inl runs) = written_running runs
+      written_so (inr failed) = record {
+        left = comes.left;
+        works = [];
+        after = store;
+        work = refl;
+        at = record {
+          is_in = comes.is_in;
+          over = record { kept = fails failed; pages = λ runs. never_both later.failed failed runs };
+          log = kept;
+          volume = λ c may. subst (λ (g : Geometry). ShowsLeft g front store c) (sym geometry)
+              (at_end (volume_history_in old) (volume_history_in new) (ShowsLeft (geometry_in old) front store) leaves c may);
+        };
+      }
 
-    pub written_flushes : AreFlushes comes.works → AreFlushes comes_written.works
-    unfolding comes_written written_so
-    written_flushes flushes = flushes_so flushes (runs_or_failed later.failed)
+      flushes_so : AreFlushes comes.works → (so : (later.failed ≡ false) ⊎ (later.failed ≡ true)) → AreFlushes (written_so so).works
+      unfolding written_so written_running
+      flushes_so flushes (inl runs) = flushes
+      flushes_so flushes (inr failed) = tt
+
+      pub comes_written : ComesTo new log_front front store later
+      comes_written = written_so (runs_or_failed later.failed)
+
+      pub written_flushes : AreFlushes comes.works → AreFlushes comes_written.works
+      unfolding comes_written written_so written_running
+      written_flushes flushes = flushes_so flushes (runs_or_failed later.failed)

@@ -4,7 +4,7 @@ use Rattle.shore_disk.specs.declared.device.Disk as disk
 use Rattle.shore_log.specs.declared.tail.Tail as tail
 use Rattle.shore_calls.specs.Events.{IsServed}
 use Rattle.shore_core.specs.declared.core_calls.Core.{Core}
-use Rattle.shore_core.specs.Replies.{Reads, ReadsWaiting}
+use Rattle.shore_core.specs.Replies.{Reads, ReadsWaiting, forced_at}
 use Rattle.shore_world.specs.declared.event.Event.{Event}
 use Rattle.shore_world.specs.declared.event.Event.TheVariants as event
 
@@ -47,3 +47,11 @@ ReadBy core (event.Resume session) page = ReadsWaiting core session page
 ReadBy core event.ForceStage page = ⊥
 ReadBy core event.ForceOpen page = ⊥
 ReadBy core event.FlushStep page = ⊥
+
+-- When an event of a core has to need the force that it asks for: a call when it says so, and every other event as it begins.
+abbrev pub force_needed_at : {T V : Type 0} {G : tail.Ghosts T} {H : disk.Ghosts V} → Event → Core T V G H → Core T V G H → Core T V G H
+force_needed_at (event.Call session call) old new = forced_at call old new
+force_needed_at (event.Resume session) old new = old
+force_needed_at event.ForceStage old new = old
+force_needed_at event.ForceOpen old new = old
+force_needed_at event.FlushStep old new = old

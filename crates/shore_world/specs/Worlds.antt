@@ -27,12 +27,12 @@ use Rattle.shore_logged.specs.LoggedHeaps.{LeavesStore}
 use Rattle.shore_core.specs.Cores as cores
 use Rattle.shore_core.specs.Cores.{IsIn, IsOver, IsSafe}
 use Rattle.shore_core.specs.Flushing.{AreFlushes, FlushAnswers, FlushMoves}
-use Rattle.shore_core.specs.Replies.{Earns, NeedsForce, SameVolume, fault_at}
+use Rattle.shore_core.specs.Replies.{Earns, NeedsForceIn, SameVolume, fault_at}
 use Rattle.shore_restart.specs.declared.recovering.Report.{Report}
 use Rattle.shore_world.specs.declared.event.Event.{Event}
 use Rattle.shore_world.specs.declared.event.Event.TheVariants as event
 use Rattle.shore_world.specs.declared.world.World.{World}
-use Rattle.shore_world.specs.Events.{IsOfForce, IsOfPages, ReadBy}
+use Rattle.shore_world.specs.Events.{IsOfForce, IsOfPages, ReadBy, force_needed_at}
 use Rattle.shore_world.specs.EventMoves.{moves_by}
 
 -- ---- what it has
@@ -214,9 +214,10 @@ module _ {L V : Type 0} {G : Ghosts L} {H : Ghosts V} where
     pub full : e ≡ event.ForceStage → step ≡ Refused LogFull → ¬ HasForceRoom old
     pub flushed : e ≡ event.FlushStep → HasFlushed old step new
     pub report : report_in new ≡ report_in old
-    -- `Damaged` names a page that the event may read and that has no text; `NeedForce` comes if no page may leave its frame
+    -- `Damaged` names a page that the event may read and that has no text; `NeedForce` comes if no page may leave its frame, as the event begins, and of a
+    -- rollback as it has left the pages
     pub damaged : Earns old.core (ReadBy old.core e) (fault_at step)
-    pub unforced : NeedsForce old.core (fault_at step)
+    pub unforced : NeedsForceIn old.core (force_needed_at e old.core new.core) (fault_at step)
     pub cause : HasCauseOfPair (fault_at step) (G.faults old.log.device) (G.faults new.log.device) (cores.faults_of old.core) (cores.faults_of new.core)
 
   -- ---- between two events

@@ -28,33 +28,26 @@ use Rattle.shore_txn.specs.declared.undo.UndoEntry.{UndoEntry}
 use Rattle.shore_control.specs.Controls.{txns_in}
 use Rattle.shore_control.specs.Standing.{IsLogged}
 use Rattle.shore_control.specs.declared.control.Control.{Control}
-use Rattle.shore_control.proofs.WaitSteps.{in_none}
 use Rattle.shore_logged.proofs.Made.{appended_without}
-use Rattle.shore_core.specs.Cores.{control_of, durable_of, first_of, has_failed, txns_of, waiting_of, waits_of}
+use Rattle.shore_core.specs.Cores.{control_of, durable_of, first_of, has_failed, txns_of, waiting_of}
 use Rattle.shore_core.specs.Parts.{HasParts}
 use Rattle.shore_core.proofs.Changed.{same_geometry, same_history}
-use Rattle.shore_core.proofs.Coming.{comes_appended, comes_same, pages_same}
+use Rattle.shore_core.proofs.Coming.{comes_appended, pages_same}
 use Rattle.shore_core.proofs.Keeping.{leaves_nothing, nothing_leaves}
 use Rattle.shore_core.proofs.Leaving.{comes_lacking, earlier_left, reserved_left}
+use Rattle.shore_core.proofs.Opening.{inner_commit, replied_not_open}
 use Rattle.shore_core.proofs.Releasing.{ShowsLeft, all_released, framed_as, none_released, released_more, stays_fit}
 use Rattle.shore_core.proofs.Tables.{each_among, next_is, parts_logged}
 use Rattle.shore_core.proofs.Taking.{replied_as}
 use Rattle.shore_core.proofs.core_calls.Core.commit.Goals as goal
 
-pub returns-in_default-clause-replied : goal.returns-in_default-clause-replied
-returns-in_default-clause-replied g c ready front disk before s store is safe over waits_not =
-    let old = c.args.self.now in
-    let stands = is.beside.parts.stands in
-    let works = is.beside.parts.failed_is ∙ ready in
-    let none = in_none (waits_of old) s stands.waits c.args.session works waits_not (λ a m. c.in_default.ensures.none a (subst (IsAmong a) stands.txns.active m)) in
-    record {
-      later = s;
-      replies = inr (inr (inr (inr (inl (works, waits_not, (λ clash. cc), none, refl, refl)))));
-      comes = inr (comes_same old front disk before s store is over);
-    }
+pub returns-in_err-txn-clause-replied : goal.returns-in_err-txn-clause-replied
+returns-in_err-txn-clause-replied g c ready front disk before s store is safe over waits_not =
+    replied_not_open c.args.self.now front disk before s store c.args.session call.Commit c.from_residual.result c.in_err-txn.field-0.0 is over inner_commit
+    (is.beside.parts.failed_is ∙ ready) waits_not c.from_residual.ensures.1 c.in_err-txn.ensures.refused
 
-pub returns-in_default-clause-any_moment : goal.returns-in_default-clause-any_moment
-returns-in_default-clause-any_moment g c = nothing_leaves c.args.self.now
+pub returns-in_err-txn-clause-any_moment : goal.returns-in_err-txn-clause-any_moment
+returns-in_err-txn-clause-any_moment g c = nothing_leaves c.args.self.now
 
 pub loop-change-init : goal.loop-change-init
 loop-change-init g c =
@@ -99,7 +92,7 @@ invariant_of-self g c =
 
 pub returns-in_err-reserve_wait-clause-replied : goal.returns-in_err-reserve_wait-clause-replied
 returns-in_err-reserve_wait-clause-replied g c ready front disk before s store is safe over waits_not =
-    replied_as c.args.self.now _ front before s store c.args.session call.Commit c.from_residual.result fault.Memory c.from_residual.ensures.1 (inl (refl, refl))
+    replied_as c.args.self.now _ front before s store c.args.session call.Commit c.from_residual-in_err-reserve_wait.result fault.Memory c.from_residual-in_err-reserve_wait.ensures.1 (inl (refl, refl))
     (inr (comes_lacking c.args.self.now _ front disk before s store refl refl refl refl refl c.reserve_wait.ensures.txns (c.reserve_wait.ensures.stands s is.beside.parts.stands) is over))
 
 pub returns-in_err-reserve_wait-clause-any_moment : goal.returns-in_err-reserve_wait-clause-any_moment
@@ -107,7 +100,7 @@ returns-in_err-reserve_wait-clause-any_moment g c = nothing_leaves c.args.self.n
 
 pub push-requires-clause-previous : goal.push-requires-clause-previous
 push-requires-clause-previous g c =
-    let earlier = c.args.self.now.earlier c.in-Some.txn.now c.in-Some.ensures.some.0 in
+    let earlier = c.args.self.now.earlier c.in_ok-txn.txn.now c.in_ok-txn.ensures.some.0 in
     omega (arith, c.last.ensures, earlier)
 
 pub invariant_of-self-in-Err-1 : goal.invariant_of-self-in-Err-1
@@ -135,8 +128,8 @@ returns-in-Err-clause-any_moment g c = nothing_leaves c.args.self.now
 
 pub commit-changes-requires-clause-there : goal.commit-changes-requires-clause-there
 commit-changes-requires-clause-there g c =
-    let a = as_session_txn c.in-Some.txn.now in
-    (a, subst (λ txns. IsAmong a (undos_in txns)) (sym c.reserve_wait.ensures.txns) c.in-Some.ensures.there, c.in-Some.ensures.some.1)
+    let a = as_session_txn c.in_ok-txn.txn.now in
+    (a, subst (λ txns. IsAmong a (undos_in txns)) (sym c.reserve_wait.ensures.txns) c.in_ok-txn.ensures.there, c.in_ok-txn.ensures.some.1)
 
 pub invariant_of-self-2 : goal.invariant_of-self-2
 invariant_of-self-2 g c =
@@ -160,18 +153,18 @@ returns-clause-replied g c ready front disk before s store is safe over waits_no
     let new = c.loop-change.self in
     let commit = c.commit-changes.ensures in
     let inv = c.loop-change.invariant in
-    let t = c.in-Some.txn.now in
+    let t = c.in_ok-txn.txn.now in
     let a = as_session_txn t in
     let es = c.commit-changes.result.items in
     let was = is.beside.parts.stands in
     let mid = c.reserve_wait.ensures.stands s was in
-    let its = c.in-Some.ensures.of_session s was in
+    let its = c.in_ok-txn.ensures.of_session s was in
     let works = is.beside.parts.failed_is ∙ ready in
     let number = c.in-Ok.ensures.number ∙ sym (next_is (control_of old) (waiting_of old) (durable_of old) (has_failed old) before s is.beside.parts (first_of old) is.beside.first 0) in
     let later = committed s a in
     let stands = commit.stands s a mid its number in
     let r : LogRecord = record { txn = a.txn; previous = previous_of a.txn s.log; payload = Commit } in
-    let last = each_among (IsLogged s.log) (table.txns_in (txns_of old)) was.txns.each t c.in-Some.ensures.some.0 in
+    let last = each_among (IsLogged s.log) (table.txns_in (txns_of old)) was.txns.each t c.in_ok-txn.ensures.some.0 in
     let added : g.T.Tail.records c.push.new.self ≡ waiting_of old ++ r ∷ [] =
     c.in-Ok.ensures.added ∙ ap (λ n. waiting_of old ++ record { txn = n; previous = c.last.result; payload = Commit } ∷ []) c.id.ensures.number
     ∙ ap (λ n. waiting_of old ++ record { txn = a.txn; previous = n; payload = Commit } ∷ []) (c.last.ensures ∙ last.last) in
@@ -191,7 +184,7 @@ returns-clause-replied g c ready front disk before s store is safe over waits_no
     let pages = appended_without old.heap disk store r (over.pages works) over.kept.recoverable over.kept.redone refl in
     record {
       later = later;
-      replies = inr (inr (inr (inr (inr (works, waits_not, (a, its, inr (inr (refl, (ap Durable number, refl)))))))));
+      replies = inr (inr (inr (inr (inr (works, waits_not, (a, its, inr (inl (c.in_ok-txn.ensures.whole, inr (inr (inl (refl, (ap Durable number, refl))))))))))));
       comes = comes_appended new front disk before s later store r over.kept refl refl
           (record {
             beside = record { first = ap g.T.Tail.first inv.0 ∙ c.push.ensures.first ∙ is.beside.first; parts = same_parts inv.0 inv.1 inv.2 inv.3 parts };

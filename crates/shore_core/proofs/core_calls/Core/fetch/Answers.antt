@@ -5,7 +5,7 @@ use Rattle.shore_calls.specs.States.{page_slots}
 use Rattle.shore_pool.specs.Pools.{NeedsForce}
 use Rattle.shore_core.proofs.Taking.{map_err}
 use Rattle.shore_core.proofs.Coming.{kept_lent, pages_may_go, stays_read}
-use Rattle.shore_core.proofs.Forcing.{fetch_force, page_fault}
+use Rattle.shore_core.proofs.Forcing.{both_err, fetch_force, force_still, page_fault, wrote_ok}
 use Rattle.shore_core.specs.Cores.{durable_of, geometry_of, heap_of, last_of, txns_of}
 use Rattle.shore_core.proofs.Earning.{page_earned}
 use Rattle.shore_core.proofs.core_calls.Core.fetch.Goals as goal
@@ -23,7 +23,7 @@ returns-clause-stays g c front disk before s store is safe over =
     let old = c.args.self.now in
     stays_read old _ front disk before s store is over
     (record { volume = record { geometry = c.fetch.ensures.geometry; honest = c.fetch.ensures.honest; size = c.fetch.ensures.size }; durable = refl; failed = refl; tail = refl; control = refl })
-    c.fetch.result
+    c.fetch.ensures.any_moment c.fetch.result
     (λ works. kept_lent old.heap c.fetch.new.self c.fetch.result (durable_of old) front disk (page_slots s) c.txns.result.now (txns_of old) c.txns.ensures
     (c.fetch.ensures.kept front disk (page_slots s)) (is.pages works) (pages_may_go old before s is.beside safe))
 
@@ -37,6 +37,17 @@ pub returns-clause-forced : goal.returns-clause-forced
 returns-clause-forced g c front disk holds =
     let old = c.args.self.now in
     map_err _ _ c.fetch.result (λ f. fetch_force (heap_of old) (durable_of old) (geometry_of old) disk _ c.args.page f) (c.fetch.ensures.refused front disk holds)
+
+-- where a force is needed no page has moved
+pub returns-clause-forced_now : goal.returns-clause-forced_now
+returns-clause-forced_now g c front disk holds =
+    let old = c.args.self.now in
+    let durable = durable_of old in
+    let needs = map_err _ _ c.fetch.result (λ f. fetch_force (heap_of old) durable (geometry_of old) disk _ c.args.page f) (c.fetch.ensures.refused front disk holds) in
+    both_err _ _ _ c.fetch.result (λ f forced still number is. force_still (heap_of old).pool c.fetch.new.self.pool durable number (still number is) (forced number is)) needs (c.fetch.ensures.unmoved front disk holds)
+
+pub returns-clause-wrote : goal.returns-clause-wrote
+returns-clause-wrote g c = wrote_ok (heap_of c.args.self.now) c.fetch.new.self (durable_of c.args.self.now) c.fetch.result c.fetch.ensures.wrote
 
 pub returns-clause-reads : goal.returns-clause-reads
 returns-clause-reads g c = record {

@@ -58,14 +58,14 @@ returns-in-Some-clause-lockable g c =
 pub returns-in-Some-clause-stays : goal.returns-in-Some-clause-stays
 returns-in-Some-clause-stays g c front disk before s plain is safe over =
     let old = c.args.self.now in
-    stays_read old _ front disk before s plain is over (record { volume = record { geometry = c.place_for.ensures.geometry; honest = c.place_for.ensures.honest; size = c.place_for.ensures.size }; durable = refl; failed = refl; tail = refl; control = refl }) (Ok c.in_ok-place.place)
+    stays_read old _ front disk before s plain is over (record { volume = record { geometry = c.place_for.ensures.geometry; honest = c.place_for.ensures.honest; size = c.place_for.ensures.size }; durable = refl; failed = refl; tail = refl; control = refl }) c.place_for.ensures.any_moment (Ok c.in_ok-place.place)
     (λ runs. kept_lent old.heap c.place_for.new.self (Ok c.in_ok-place.place) (durable_of old) front disk (page_slots s) c.txns.result.now (txns_of old) c.txns.ensures
     (c.in_ok-place.ensures.kept front disk (page_slots s)) (is.pages runs) (pages_may_go old before s is.beside safe))
 
 pub returns-in-None-clause-stays : goal.returns-in-None-clause-stays
 returns-in-None-clause-stays g c front disk before s plain is safe over =
     let old = c.args.self.now in
-    inr (stays_read old _ front disk before s plain is over (record { volume = record { geometry = c.place_for.ensures.geometry; honest = c.place_for.ensures.honest; size = c.place_for.ensures.size }; durable = refl; failed = refl; tail = refl; control = refl }) (Ok c.in_ok-place.place)
+    inr (stays_read old _ front disk before s plain is over (record { volume = record { geometry = c.place_for.ensures.geometry; honest = c.place_for.ensures.honest; size = c.place_for.ensures.size }; durable = refl; failed = refl; tail = refl; control = refl }) c.place_for.ensures.any_moment (Ok c.in_ok-place.place)
     (λ runs. kept_lent old.heap c.place_for.new.self (Ok c.in_ok-place.place) (durable_of old) front disk (page_slots s) c.txns.result.now (txns_of old) c.txns.ensures
     (c.in_ok-place.ensures.kept front disk (page_slots s)) (is.pages runs) (pages_may_go old before s is.beside safe)))
 
@@ -73,7 +73,7 @@ pub returns-in_err-place-clause-stays : goal.returns-in_err-place-clause-stays
 returns-in_err-place-clause-stays g c front disk before s plain is safe over =
     let old = c.args.self.now in
     stays_as _ front before s plain c.from_residual.result _ c.from_residual.ensures.1
-    (stays_read old _ front disk before s plain is over (record { volume = record { geometry = c.place_for.ensures.geometry; honest = c.place_for.ensures.honest; size = c.place_for.ensures.size }; durable = refl; failed = refl; tail = refl; control = refl }) {A = Unit {0}} (Err c.in_err-place.field-0.0)
+    (stays_read old _ front disk before s plain is over (record { volume = record { geometry = c.place_for.ensures.geometry; honest = c.place_for.ensures.honest; size = c.place_for.ensures.size }; durable = refl; failed = refl; tail = refl; control = refl }) c.place_for.ensures.any_moment {A = Unit {0}} (Err c.in_err-place.field-0.0)
     (λ runs. kept_lent {A = Unit {0}} old.heap c.place_for.new.self (Err c.in_err-place.field-0.0) (durable_of old) front disk (page_slots s) c.txns.result.now (txns_of old) c.txns.ensures
     (c.in_err-place.ensures.kept front disk (page_slots s)) (is.pages runs) (pages_may_go old before s is.beside safe)))
 

@@ -37,7 +37,7 @@ returns-clause-stays g c front disk before s plain is safe over =
     let old = c.args.self.now in
     stays_read old _ front disk before s plain is over
     (record { volume = record { geometry = c.scan.ensures.geometry; honest = c.scan.ensures.honest; size = c.scan.ensures.size }; durable = refl; failed = refl; tail = refl; control = refl })
-    c.scan.result
+    c.scan.ensures.any_moment c.scan.result
     (λ works. kept_lent old.heap c.scan.new.self c.scan.result (durable_of old) front disk (page_slots s) c.txns.result.now (txns_of old) c.txns.ensures
     (c.scan.ensures.kept front disk (page_slots s)) (is.pages works) (pages_may_go old before s is.beside safe))
 

@@ -1,4 +1,4 @@
-use Rattle.std.proofs.Common.{◌≡◌, ◌<◌, ◌≤◌, ◌+◌, inl, inr, true, false, length, refl, sym, ap, subst, ◌∙◌}
+use Rattle.std.proofs.Common.{◌≡◌, ◌<◌, ◌≤◌, ◌+◌, inl, inr, true, length, refl, sym, ap, subst, ◌∙◌}
 use Rattle.shore_types.specs.declared.layout.TheConstants.{LAST_OPENED}
 use Rattle.shore_heap.specs.Heaps as heaps
 use Rattle.shore_sessions.specs.Views.{IsAmong}

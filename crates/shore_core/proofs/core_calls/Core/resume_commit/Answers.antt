@@ -7,7 +7,6 @@ use Rattle.shore_calls.specs.declared.step.Step.TheVariants.{Done, Waits}
 use Rattle.shore_calls.specs.declared.step.Wait.{Wait}
 use Rattle.shore_calls.specs.declared.step.Wait.TheVariants.{Durable}
 use Rattle.shore_model.specs.declared.calls.Answer.TheVariants.{Committed}
-use Rattle.shore_control.specs.Controls.{txns_in}
 use Rattle.shore_txn.specs.Transactions as table
 use Rattle.shore_txn.specs.Transactions.{kept_in, room_in}
 use Rattle.shore_txn.specs.Txns.{last_of}

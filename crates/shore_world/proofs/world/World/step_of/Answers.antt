@@ -9,4 +9,4 @@ returns-in-Err g c =
     let w = c.args.self.now in
     let call = c.in-Err.ensures.refused in
     no_force w w _ _ (call_is_no_force _ call) refl refl (nothing_done w _ _ (call_is_no_flush _ call) (λ s is. not_copied (geometry_in w) s _ call)) (same_volume w.core w.core refl) (λ is. absurd (call_is_no_flush _ call is))
-    (memory_says_nothing w _) (memory_asks_nothing w) (memory_cause _)
+    (memory_says_nothing w _) (memory_asks_nothing w _) (memory_cause _)

@@ -1,0 +1,167 @@
+-- The row of steps that a rollback makes: what holds before each of them, and what it comes to.
+use Rattle.std.proofs.Common.{◌≡◌, ◌++◌, ◌∷◌, ◌+◌, ◌-◌, ◌<◌, ◌≤◌, inl, ℕ, List, [], append-nil, Result, Ok, Err, IsErrAnd, length, false, refl, sym, ap, subst, ◌∙◌, arith}
+use Rattle.std.proofs.lemmas.List.{length-map}
+use Rattle.shore_disk.specs.declared.device.Disk as disk
+use Rattle.shore_disk.specs.Cause.{HasCause}
+use Rattle.shore_log.specs.declared.tail.Tail as tail
+use Rattle.shore_types.specs.Images.{Image}
+use Rattle.shore_types.specs.declared.faults.Fault.{Fault}
+use Rattle.shore_types.specs.declared.ids.Rid.{Rid}
+use Rattle.shore_types.specs.declared.layout.Geometry.{Geometry}
+use Rattle.shore_sessions.specs.Sessions.{SessionTxn}
+use Rattle.shore_sessions.specs.UndoLists.{MayRoll, least_kept}
+use Rattle.shore_sessions.specs.Views.{IsAmong}
+use Rattle.shore_sessions.specs.declared.rollbacks.Rollback.{Rollback}
+use Rattle.shore_calls.specs.Rollbacks.{put_back}
+use Rattle.shore_calls.specs.States.{DoesNotWait, IsOfSession, State}
+use Rattle.shore_control.specs.Standing.{HasControl}
+use Rattle.shore_txn.specs.Transactions.{HasTxnOf, undos_in}
+use Rattle.shore_txn.specs.Txns.{as_session_txn, entries_of}
+use Rattle.shore_txn.specs.UndoEntries.{image_of}
+use Rattle.shore_txn.specs.declared.transactions.Transactions.{Transactions}
+use Rattle.shore_txn.specs.declared.txn.Txn.{Txn}
+use Rattle.shore_core.specs.declared.core_calls.Core.{Core}
+use Rattle.shore_core.specs.Cores.{ComesTo, IsSafe, control_of, durable_of, faults_of, geometry_of, has_failed, last_of, txns_of, waits_of}
+use Rattle.shore_core.specs.Replies.{InEach, Keeps, MayLeave}
+use Rattle.shore_core.specs.Undoing.{IsDownTo, PutsBack, Rewinds, Unwinds}
+use Rattle.shore_core.proofs.Coming.{comes_same, comes_then, stays_behind}
+use Rattle.shore_core.proofs.Keeping.{keeps_then, nothing_leaves}
+use Rattle.shore_core.proofs.Rewinding.{leaves_rewound, rewinds_none, rewinds_then}
+use Rattle.shore_core.proofs.Rolling.{goes_on_from, split_last}
+use Rattle.shore_core.proofs.Undoing.{own_is}
+
+-- the entries of the session's transaction in the table are as many as its images
+pub count_own : (table : Transactions) (own : Txn) → IsAmong (as_session_txn own) (undos_in table) → (a : SessionTxn) → IsAmong a (undos_in table) → a.session ≡ own.session → length a.undo.images ≡ length (entries_of own)
+count_own table own there a among is = ap (λ (b : SessionTxn). length b.undo.images) (own_is table own there a among is) ∙ length-map (entries_of own) image_of
+
+-- calls that report no failure of the device, and then one that may
+pub cause_then : {A : Type 0} (r : Result A Fault) (old mid new : ℕ) → mid ≡ old → HasCause r mid new → HasCause r old new
+cause_then r old mid new same cause = subst (λ n. HasCause r n new) same cause
+
+-- what is said of a transaction that may be rolled back so far
+abbrev pub ForRollback : ℕ → Rollback → ℕ → State → (SessionTxn → Type 0) → Type 0
+ForRollback session rollback least s P = (a : SessionTxn) → DoesNotWait s session → IsOfSession s session a → MayRoll a.undo rollback → least ≡ least_kept a.undo rollback → least ≤ length a.undo.images → P a
+
+err_is : {A : Type 0} {e d : Fault} → ◌≡◌ {A = Result A Fault} (Err e) (Err d) → e ≡ d
+err_is is = cc
+
+-- a refusal that is handed on has the same cause
+pub cause_handed : {A B : Type 0} (r : Result B Fault) (f : Fault) (old new : ℕ) → IsErrAnd r (λ e. e ≡ f) → HasCause {T = A} (Err f) old new → HasCause r old new
+cause_handed (Err e) f old new same cause = record {
+  no_lower = cause.no_lower;
+  reported = λ is. cause.reported (ap Err (sym same ∙ err_is is));
+  unreported = λ other. cause.unreported (λ is. other (ap Err (same ∙ err_is is)));
+}
+cause_handed (Ok x) f old new same cause = absurd same
+
+module _ {T V : Type 0} {G : tail.Ghosts T} {H : disk.Ghosts V} where
+  -- the session's transaction has so many images
+  abbrev pub HasCount : Core T V G H → ℕ → ℕ → Type 0
+  HasCount core session count = (s : State) → HasControl (control_of core) s → (a : SessionTxn) → IsOfSession s session a → length a.undo.images ≡ count
+
+  -- the steps so far: each transaction of a safe state has come down by one image a step, and what else they keep
+  pub record IsRolling (old now : Core T V G H) (session : ℕ) (rollback : Rollback) (least counter : ℕ) : Type 0 where
+    pub come : has_failed old ≡ false → InEach (λ front disk before s store. ForRollback session rollback least s (λ a.
+        (mid : State) × IsDownTo s a rollback (length a.undo.images + least - counter) mid × ComesTo now front before store mid)) old
+    pub from : least ≤ counter
+    pub rewinds : Rewinds old now
+    pub longer : last_of old ≤ last_of now
+    pub told : durable_of old ≤ last_of old
+    pub there : HasTxnOf session (txns_of old) → HasTxnOf session (txns_of now)
+    pub waits : waits_of now ≡ waits_of old
+    pub keeps : Keeps old now
+    pub leaves : MayLeave old now
+    pub faults : faults_of now ≡ faults_of old
+
+  -- nothing is changed by none
+  keeps_none : (core : Core T V G H) → Keeps core core
+  keeps_none core = record { volume = record { geometry = refl; honest = refl; size = refl }; durable = refl; failed = refl; first = refl }
+
+  pub rolling_first : (core : Core T V G H) (session : ℕ) (rollback : Rollback) (least : ℕ) → durable_of core ≤ last_of core → IsRolling core core session rollback least least
+  rolling_first core session rollback least told = record {
+    come = λ running front disk before s store is safe over a idle of may at within. (
+      s,
+      record { kept = a.undo.images; undone = []; images = sym (append-nil a.undo.images); left = omega arith; state = inl (refl, refl) },
+      comes_same core front disk before s store is over,
+    );
+    from = omega arith;
+    rewinds = rewinds_none core;
+    longer = omega arith;
+    told = told;
+    there = λ has. has;
+    waits = refl;
+    keeps = keeps_none core;
+    leaves = nothing_leaves core;
+    faults = refl;
+  }
+
+  -- one image that is put back
+  abbrev pub StepPuts : Core T V G H → Core T V G H → ℕ → Rollback → Result (Unit {0}) Fault → Type 0
+  StepPuts now new session rollback r = has_failed now ≡ false → InEach (λ front disk before s store. (a : SessionTxn) (kept : List (Rid × Image)) (e : Rid × Image) → IsOfSession s session a
+      → a.undo.images ≡ kept ++ e ∷ [] → PutsBack new a kept e rollback r front before s store) now
+
+  module _ (old now new : Core T V G H) (session : ℕ) (rollback : Rollback) (least counter count : ℕ) (rolls : IsRolling old now session rollback least counter) (counts : HasCount old session count) (less : counter < count) where
+    on_come : StepPuts now new session rollback (Ok tt) → has_failed old ≡ false → InEach (λ front disk before s store. ForRollback session rollback least s (λ a.
+        (mid : State) × IsDownTo s a rollback (length a.undo.images + least - (counter + 1)) mid × ComesTo new front before store mid)) old
+    on_come puts running front disk before s store is safe over a idle of may at within =
+        let many : length a.undo.images ≡ count = counts s is.beside.parts.stands a of in
+        let from = rolls.from in
+        let n = length a.undo.images + least - counter in
+        let m = length a.undo.images + least - (counter + 1) in
+        let down = rolls.come running front disk before s store is safe over a idle of may at within in
+        let comes = down.2 in
+        let here = goes_on_from (geometry_of old) s safe session a of (is.beside.parts.failed_is ∙ running) idle rollback may n down.0 (omega (arith, at, many, less, from)) down.1 in
+        let split = split_last here.its.undo.images m (here.left ∙ omega (arith, many, less, from)) in
+        let h = puts (rolls.keeps.failed ∙ running) front comes.left before down.0 comes.after comes.is_in (subst (λ (it : Geometry). IsSafe it down.0) (sym rolls.keeps.volume.geometry) here.stays_safe) comes.over
+        here.its split.0 split.1 here.owned split.2 in
+        let later = put_back down.0 here.its split.0 (split.1 ∷ []) rollback in (
+          later,
+          subst (λ k. IsDownTo s a rollback k later) split.3 (here.next split.0 split.1 split.2),
+          comes_then now new front before down.0 later store comes h.1,
+        )
+
+    pub rolls_on : StepPuts now new session rollback (Ok tt) → Rewinds now new → last_of now ≤ last_of new → (HasTxnOf session (txns_of now) → HasTxnOf session (txns_of new)) → waits_of new ≡ waits_of now → Keeps now new → MayLeave now new → faults_of new ≡ faults_of now
+        → IsRolling old new session rollback least (counter + 1)
+    rolls_on puts rewinds longer there waits keeps leaves faults =
+        let from = rolls.from in
+        let so_far = rolls.longer in
+        record {
+          come = on_come puts;
+          from = omega arith;
+          rewinds = rewinds_then old now rolls.keeps.volume.geometry rolls.keeps.durable new rolls.rewinds rewinds;
+          longer = omega arith;
+          told = rolls.told;
+          there = λ has. there (rolls.there has);
+          waits = waits ∙ rolls.waits;
+          keeps = keeps_then old now new rolls.keeps keeps;
+          leaves = leaves_rewound old now rolls.keeps.volume.geometry rolls.keeps.durable new rolls.leaves rolls.rewinds leaves;
+          faults = faults ∙ rolls.faults;
+        }
+
+    -- it was refused
+    pub rolls_refused : (f : Fault) (r : Result (Unit {0}) Fault) → IsErrAnd r (λ e. e ≡ f) → StepPuts now new session rollback (Err f) → has_failed old ≡ false
+        → InEach (λ front disk before s store. ForRollback session rollback least s (λ a. Unwinds new a rollback least r front before s store)) old
+    rolls_refused f (Ok done) same puts running front disk before s store is safe over a idle of may at within = absurd same
+    rolls_refused f (Err e) same puts running front disk before s store is safe over a idle of may at within =
+        let many : length a.undo.images ≡ count = counts s is.beside.parts.stands a of in
+        let from = rolls.from in
+        let n = length a.undo.images + least - counter in
+        let m = length a.undo.images + least - (counter + 1) in
+        let down = rolls.come running front disk before s store is safe over a idle of may at within in
+        let comes = down.2 in
+        let here = goes_on_from (geometry_of old) s safe session a of (is.beside.parts.failed_is ∙ running) idle rollback may n down.0 (omega (arith, at, many, less, from)) down.1 in
+        let split = split_last here.its.undo.images m (here.left ∙ omega (arith, many, less, from)) in
+        let h = puts (rolls.keeps.failed ∙ running) front comes.left before down.0 comes.after comes.is_in (subst (λ (it : Geometry). IsSafe it down.0) (sym rolls.keeps.volume.geometry) here.stays_safe) comes.over
+        here.its split.0 split.1 here.owned split.2 in
+        subst (λ (x : Fault). Unwinds new a rollback least (Err x) front before s store) (sym same)
+        (down.0, n, down.1, omega (arith, many, less, from), h.0, stays_behind now new front before down.0 down.0 store f comes h.1)
+
+  -- all are put back
+  pub rolls_done : (old now : Core T V G H) (session : ℕ) (rollback : Rollback) (least counter count : ℕ) → IsRolling old now session rollback least counter → HasCount old session count
+      → count ≤ counter → (least ≤ count → counter ≡ count) → has_failed old ≡ false
+      → InEach (λ front disk before s store. ForRollback session rollback least s (λ a. Unwinds now a rollback least (Ok tt) front before s store)) old
+  rolls_done old now session rollback least counter count rolls counts all last running front disk before s store is safe over a idle of may at within =
+      let many : length a.undo.images ≡ count = counts s is.beside.parts.stands a of in
+      let down = rolls.come running front disk before s store is safe over a idle of may at within in
+      let here : counter ≡ count = last (omega (arith, within, many)) in
+      (down.0, subst (λ k. IsDownTo s a rollback k down.0) (omega (arith, many, here)) down.1, down.2)

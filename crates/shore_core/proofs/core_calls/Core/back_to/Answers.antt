@@ -1,0 +1,154 @@
+use Rattle.std.proofs.Common.{◌≡◌, ◌⊎◌, ◌+◌, ◌≤◌, None, Some, inl, inr, length, refl, sym, subst, ◌∙◌, arith}
+use Rattle.shore_types.specs.declared.layout.TheConstants.{LAST_OPENED}
+use Rattle.shore_model.specs.declared.calls.Answer.TheVariants.{WentBack}
+use Rattle.shore_model.specs.declared.calls.Call.TheVariants as call
+use Rattle.shore_pool.specs.Pools.{NeedsForce}
+use Rattle.shore_sessions.specs.UndoLists.{MayRoll}
+use Rattle.shore_sessions.specs.Views.{IsAmong}
+use Rattle.shore_sessions.specs.declared.rollbacks.Rollback.TheVariants.{To}
+use Rattle.shore_calls.proofs.RollingCalls.{mark_of_within}
+use Rattle.shore_calls.specs.StateChanges.{answered}
+use Rattle.shore_calls.specs.States.{State}
+use Rattle.shore_control.proofs.WaitSteps.{in_none}
+use Rattle.shore_control.specs.Controls.{txns_in}
+use Rattle.shore_txn.specs.Txns.{as_session_txn, rolling_of}
+use Rattle.shore_txn.specs.declared.txn_state.TxnState.{TxnState}
+use Rattle.shore_core.specs.Cores.{ComesTo, durable_of, faults_of, first_of, geometry_of, heap_of, last_of, txns_of, waiting_of, waits_of}
+use Rattle.shore_core.proofs.Coming.{comes_same, comes_then}
+use Rattle.shore_core.proofs.Earning.{earned_as}
+use Rattle.shore_core.proofs.Forcing.{forced_as}
+use Rattle.shore_core.proofs.Keeping.{nothing_leaves}
+use Rattle.shore_core.proofs.Moving.{comes_moved}
+use Rattle.shore_core.proofs.Rolling.{goes_back_done, goes_on_from, none_since}
+use Rattle.shore_core.proofs.RolledBack.{back_log, back_slots, earlier_back, interrupted_replied, mark_inside, mark_is, mark_past, may_take, takes_back}
+use Rattle.shore_core.proofs.Taking.{true_false}
+use Rattle.shore_core.proofs.Unwinding.{cause_handed}
+use Rattle.shore_core.proofs.core_calls.Core.back_to.Goals as goal
+
+pub returns-in_default-clause-replied : goal.returns-in_default-clause-replied
+returns-in_default-clause-replied g c running front disk before s store is safe over idle =
+    let old = c.args.self.now in
+    let stands = is.beside.parts.stands in
+    let works = is.beside.parts.failed_is ∙ running in
+    let none = in_none (waits_of old) s stands.waits c.args.session works idle (λ a m. c.in_default.ensures.none a (subst (IsAmong a) stands.txns.active m)) in
+    record {
+      later = s;
+      replies = inr (inr (inr (inr (inl (works, idle, (λ clash. cc), none, refl, refl)))));
+      comes = inr (comes_same old front disk before s store is over);
+    }
+
+pub returns-in_default-clause-any_moment : goal.returns-in_default-clause-any_moment
+returns-in_default-clause-any_moment g c = nothing_leaves c.args.self.now
+
+pub returns-then-not-may_go_back-clause-replied : goal.returns-then-not-may_go_back-clause-replied
+returns-then-not-may_go_back-clause-replied g c running front disk before s store is safe over idle =
+    let old = c.args.self.now in
+    let a = as_session_txn c.in-Some.own.now in
+    let its = c.in-Some.ensures.of_session s is.beside.parts.stands in
+    let works = is.beside.parts.failed_is ∙ running in
+    record {
+      later = s;
+      replies = inr (inr (inr (inr (inr (
+        works,
+        idle,
+        (
+          a,
+          its,
+          inl (
+            (λ clash. cc),
+            (λ takes. true_false (sym (c.may_go_back.ensures.1 (subst (λ (st : TxnState). (rolling_of st ≡ None) ⊎ (rolling_of st ≡ Some (To c.args.index))) (sym c.state.ensures) (may_take a.undo c.args.index takes))) ∙ c.if-not-may_go_back.true)),
+            refl,
+            refl,
+          ),
+        ),
+      )))));
+      comes = inr (comes_same old front disk before s store is over);
+    }
+
+pub returns-then-not-may_go_back-clause-any_moment : goal.returns-then-not-may_go_back-clause-any_moment
+returns-then-not-may_go_back-clause-any_moment g c = nothing_leaves c.args.self.now
+
+pub returns-in_default-mark-clause-replied : goal.returns-in_default-mark-clause-replied
+returns-in_default-mark-clause-replied g c running front disk before s store is safe over idle =
+    let old = c.args.self.now in
+    let a = as_session_txn c.in-Some.own.now in
+    let its = c.in-Some.ensures.of_session s is.beside.parts.stands in
+    let works = is.beside.parts.failed_is ∙ running in
+    let past : length a.undo.marks ≤ c.args.index = mark_past a.undo.marks c.args.index (λ mark has. c.in_default-mark.not-Some mark (c.mark.ensures ∙ has)) in
+    record {
+      later = s;
+      replies = inr (inr (inr (inr (inr (works, idle, (a, its, inr (inr (inl (c.args.index, refl, takes_back a.undo c.args.index (subst (λ (st : TxnState). (rolling_of st ≡ None) ⊎ (rolling_of st ≡ Some (To c.args.index))) c.state.ensures (c.if-not-may_go_back.ensures.0 refl)), inl (refl, past, refl))))))))));
+      comes = inr (comes_same old front disk before s store is over);
+    }
+
+pub returns-in_default-mark-clause-any_moment : goal.returns-in_default-mark-clause-any_moment
+returns-in_default-mark-clause-any_moment g c = nothing_leaves c.args.self.now
+
+pub returns-in_err-put_back-clause-replied : goal.returns-in_err-put_back-clause-replied
+returns-in_err-put_back-clause-replied g c running front disk before s store is safe over idle =
+    let old = c.args.self.now in
+    let a = as_session_txn c.in-Some.own.now in
+    let its = c.in-Some.ensures.of_session s is.beside.parts.stands in
+    let works = is.beside.parts.failed_is ∙ running in
+    let inside = mark_inside a.undo.marks c.args.index c.in-Some-mark.least (sym c.mark.ensures ∙ c.in-Some-mark.is) in
+    let may : MayRoll a.undo (To c.args.index) = (inside, subst (λ (st : TxnState). (rolling_of st ≡ None) ⊎ (rolling_of st ≡ Some (To c.args.index))) c.state.ensures (c.if-not-may_go_back.ensures.0 refl)) in
+    let at = mark_is a.undo c.args.index c.in-Some-mark.least (sym c.mark.ensures ∙ c.in-Some-mark.is) in
+    let within = mark_of_within (geometry_of old) safe.found safe.entries c.args.session a its.1 s safe.after.sessions its.0 c.args.index inside in
+    interrupted_replied old c.put_back.new.self front before s store c.args.session a safe its works idle (To c.args.index) may c.in-Some-mark.least at c.from_residual.result _ c.from_residual.ensures.1
+    (c.in_err-put_back.ensures.unwinds running front disk before s store is safe over a idle its may at (omega (arith, at, within)))
+
+pub returns-in_err-put_back-clause-forced : goal.returns-in_err-put_back-clause-forced
+returns-in_err-put_back-clause-forced g c front disk holds =
+    let new = c.put_back.new.self in
+    forced_as (NeedsForce (heap_of new).pool (durable_of new)) c.from_residual.result _ c.from_residual.ensures.1 (c.in_err-put_back.ensures.forced front disk holds)
+
+pub returns-in_err-put_back-clause-damaged : goal.returns-in_err-put_back-clause-damaged
+returns-in_err-put_back-clause-damaged g c front disk holds =
+    let old = c.args.self.now in
+    earned_as (geometry_of old) disk (last_of old) (λ page. Unit {0}) c.from_residual.result _ c.from_residual.ensures.1 (c.in_err-put_back.ensures.damaged front disk holds)
+
+pub returns-in_err-put_back-clause-cause : goal.returns-in_err-put_back-clause-cause
+returns-in_err-put_back-clause-cause g c =
+    cause_handed c.from_residual.result _ (faults_of c.args.self.now) (faults_of c.put_back.new.self) c.from_residual.ensures.1 c.in_err-put_back.ensures.cause
+
+pub go_back-requires : goal.go_back-requires
+go_back-requires g c = record { there = c.put_back.ensures.there (as_session_txn c.in-Some.own.now, c.in-Some.ensures.there, c.in-Some.ensures.some.1) }
+
+pub invariant_of-self : goal.invariant_of-self
+invariant_of-self g c =
+    let mid = c.put_back.new.self in
+    let done = c.go_back.ensures in
+    let next = first_of mid + length (waiting_of mid) in
+    record {
+      some_number = mid.some_number;
+      forced = mid.forced;
+      numbers = subst (λ r. next + r.reserved ≤ LAST_OPENED) (sym done.room) mid.numbers;
+      earlier = earlier_back (txns_of mid) (txns_in c.go_back.new.self) next c.args.session c.args.index mid.earlier done.back;
+    }
+
+pub returns-clause-replied : goal.returns-clause-replied
+returns-clause-replied g c running front disk before s store is safe over idle =
+    let old = c.args.self.now in
+    let mid = c.put_back.new.self in
+    let n = c.args.index in
+    let a = as_session_txn c.in-Some.own.now in
+    let its = c.in-Some.ensures.of_session s is.beside.parts.stands in
+    let works = is.beside.parts.failed_is ∙ running in
+    let inside = mark_inside a.undo.marks n c.in-Some-mark.least (sym c.mark.ensures ∙ c.in-Some-mark.is) in
+    let may : MayRoll a.undo (To n) = (inside, subst (λ (st : TxnState). (rolling_of st ≡ None) ⊎ (rolling_of st ≡ Some (To c.args.index))) c.state.ensures (c.if-not-may_go_back.ensures.0 refl)) in
+    let at = mark_is a.undo n c.in-Some-mark.least (sym c.mark.ensures ∙ c.in-Some-mark.is) in
+    let within = mark_of_within (geometry_of old) safe.found safe.entries c.args.session a its.1 s safe.after.sessions its.0 n inside in
+    let h = c.in_ok-put_back.ensures.unwinds running front disk before s store is safe over a idle its may at (omega (arith, at, within)) in
+    let comes = h.2 in
+    let here = goes_on_from (geometry_of old) s safe c.args.session a its works idle (To n) may c.in-Some-mark.least h.0 (omega (arith, at)) h.1 in
+    let level : length here.its.undo.images ≡ _ = here.left ∙ at ∙ sym (here.mark n refl) in
+    let none = none_since here.its.undo n level in
+    let later : State = answered h.0 here.its (call.BackTo n) WentBack h.0.counts in
+    let two = comes_moved mid _ front comes.left before h.0 later comes.after refl refl refl refl refl c.go_back.ensures.claims
+    (c.go_back.ensures.stands h.0 here.its comes.is_in.beside.parts.stands here.owned none) (back_log h.0 here.its n none level) refl refl
+    (back_slots h.0 here.its n none level (geometry_of old) here.stays_safe here.owned.0) comes.is_in comes.over in
+    record {
+      later = answered s a (call.BackTo n) WentBack s.counts;
+      replies = goes_back_done (geometry_of old) s safe c.args.session a its works idle n may;
+      comes = subst (ComesTo _ front before store) (here.goes_back n refl) (comes_then mid _ front before h.0 later store comes two);
+    }

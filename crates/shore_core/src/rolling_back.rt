@@ -1,0 +1,354 @@
+//! Savepoints and rollbacks.
+ghost use Rattle.std.specs.Prelude.{◌≡◌, ◌≢◌, ◌⊎◌, ◌↔◌, ◌≤◌, ◌++◌, ◌∷◌, [], ℕ, None, Some, List, IfErr, IfOk, IfSome, IfNone, IsSomeAnd, IsTrue, OnOk, Ok, false, is_some, length};
+ghost use Rattle.shore_types.specs.Images.{Image};
+ghost use Rattle.shore_types.specs.Layout.{HasPage};
+ghost use Rattle.shore_types.specs.declared.faults.Fault.TheVariants as Fault;
+ghost use Rattle.shore_types.specs.declared.ids.Rid.{Rid};
+ghost use Rattle.shore_model.specs.declared.calls.Call.TheVariants as Call;
+ghost use Rattle.shore_model.specs.declared.log_records.LogRecord.{LogRecord};
+ghost use Rattle.shore_disk.specs.Cause.{HasCause};
+ghost use Rattle.shore_page.specs.Room.{Fits};
+ghost use Rattle.shore_page.specs.Slots.{image_len};
+ghost use Rattle.shore_heap.specs.Heaps.{frame_of};
+ghost use Rattle.shore_sessions.specs.Sessions.{SessionTxn};
+ghost use Rattle.shore_sessions.specs.UndoLists.{MayRoll, least_kept};
+ghost use Rattle.shore_sessions.specs.declared.rollbacks.Rollback.TheVariants as Rollback;
+ghost use Rattle.shore_calls.specs.Rollbacks.{Interrupts};
+ghost use Rattle.shore_calls.specs.States.{DoesNotWait, IsOfSession, State};
+ghost use Rattle.shore_control.specs.Controls.{IsFree};
+ghost use Rattle.shore_control.specs.Standing.{HasControl};
+ghost use Rattle.shore_sessions.specs.Views.{IsAmong};
+ghost use Rattle.shore_txn.specs.Transactions.{HasTxnOf, undos_in};
+ghost use Rattle.shore_txn.specs.Transactions as table;
+ghost use Rattle.shore_txn.specs.Txns.{as_session_txn, entries_of, rolling_of};
+ghost use Rattle.shore_txn.specs.declared.txn.Txn.{Txn};
+ghost use Rattle.shore_txn.specs.declared.undo.UndoEntry.{UndoEntry};
+ghost use Rattle.shore_core.specs.Undoing.{IsNext};
+
+use crate::core_calls::Core;
+use crate::images::{bytes_of, copy_of, len_of};
+use shore_calls::Step;
+use shore_disk::Disk;
+use shore_log::Tail;
+use shore_logrec::{LogRecord, Payload, compensation_cost};
+use shore_model::Answer;
+use shore_sessions::Rollback;
+use shore_txn::{Txn, TxnState};
+use shore_types::layout::MAX_SAVEPOINTS;
+use shore_types::{Fault, Lsn, PageId, Rid, SessionId};
+use std::alloc::Global;
+
+/// The newest change of a transaction, as it is put back.
+#[derive(Drop)]
+struct Undo {
+    id: Rid,
+    bytes: usize,
+    cost: u64,
+    logged: LogRecord,
+}
+
+impl<T: Tail, V: Disk> Core<T, V> {
+    ghost use Rattle.shore_core.specs.Cores.{control_of, faults_of, geometry_of, has_failed, heap_of, history_of, last_of, txns_of, waits_of};
+    ghost use Rattle.shore_core.specs.Replies.{Earns, InEach, IsNotOpen, Keeps, MayLeave, NeedsForce, NeedsForceIn, OnlyReads, Reads, Replied, Stays, fault_at};
+    ghost use Rattle.shore_core.specs.Undoing.{Ends, PutsBack, Rewinds, Unwinds, WritesBack};
+
+    // The session's transaction, if it may do more than end a rollback.
+    pub(crate) fn active(&self, session: SessionId) -> Result<&Txn, Fault>
+        ensures some { IfOk result (λ t. IsAmong t.now (table.txns_in (txns_of self.now)) × (t.now.session ≡ session)) }
+        ensures there { IfOk result (λ t. IsAmong (as_session_txn t.now) (undos_in (txns_of self.now))) }
+        ensures of_session { IfOk result (λ t. (s : State) → HasControl (control_of self.now) s → IsOfSession s session (as_session_txn t.now)) }
+        ensures whole { IfOk result (λ t. (as_session_txn t.now).undo.rolling ≡ None) }
+        ensures refused { IfErr result (IsNotOpen self.now session) }
+    {
+        let Some(own) = self.control.txn(session) else {
+            return Err(Fault::NoTransaction);
+        };
+        match own.state() {
+            TxnState::Active => Ok(own),
+            TxnState::RollingBack(_) => Err(Fault::MustAbort),
+        }
+    }
+
+    pub(crate) fn savepoint(&mut self, session: SessionId) -> Result<Step, Fault>
+        ensures replied { has_failed self.old ≡ false → InEach (λ front disk before s store. DoesNotWait s session → Replied session Call.Savepoint result self.old self.new front before s store) self.old }
+        ensures keeps { Keeps self.old self.new }
+        ensures any_moment { MayLeave self.old self.new }
+        ensures forced { NeedsForce self.old result }
+        ensures damaged { Earns self.old (Reads Call.Savepoint) result }
+        ensures plain { IfOk result (λ step. fault_at step ≡ Ok tt) }
+        ensures cause { HasCause result (faults_of self.old) (faults_of self.new) }
+        ensures heap { heap_of self.new ≡ heap_of self.old }
+    {
+        let own = self.active(session)?;
+        if own.savepoints() >= MAX_SAVEPOINTS {
+            return Err(Fault::TooManySavepoints);
+        }
+        let index = self.control.savepoint(session)?;
+        Ok(Step::Done(Answer::Saved(index)))
+    }
+
+    pub(crate) fn back_to(
+        &mut self,
+        alloc: Global,
+        session: SessionId,
+        index: usize,
+    ) -> Result<Step, Fault>
+        requires { IsFree session (control_of self.old) }
+        ensures replied { has_failed self.old ≡ false → InEach (λ front disk before s store. DoesNotWait s session → Replied session (Call.BackTo index) result self.old self.new front before s store) self.old }
+        ensures keeps { Keeps self.old self.new }
+        ensures any_moment { MayLeave self.old self.new }
+        ensures forced { NeedsForceIn self.old self.new result }
+        ensures damaged { Earns self.old (Reads (Call.BackTo index)) result }
+        ensures plain { IfOk result (λ step. fault_at step ≡ Ok tt) }
+        ensures cause { HasCause result (faults_of self.old) (faults_of self.new) }
+    {
+        let Some(own) = self.control.txn(session) else {
+            return Err(Fault::NoTransaction);
+        };
+        if !may_go_back(own.state(), index) {
+            return Err(Fault::MustAbort);
+        }
+        let Some(least) = own.mark(index) else {
+            return Err(Fault::NoSavepoint);
+        };
+        self.put_back(alloc, session, Rollback::To(index), least)?;
+        self.control.go_back(session, index);
+        Ok(Step::Done(Answer::WentBack))
+    }
+
+    pub(crate) fn abort(&mut self, alloc: Global, session: SessionId) -> Result<Step, Fault>
+        requires { IsFree session (control_of self.old) }
+        ensures replied { has_failed self.old ≡ false → InEach (λ front disk before s store. DoesNotWait s session → Replied session (Call.Abort) result self.old self.new front before s store) self.old }
+        ensures keeps { Keeps self.old self.new }
+        ensures any_moment { MayLeave self.old self.new }
+        ensures forced { NeedsForceIn self.old self.new result }
+        ensures damaged { Earns self.old (Reads (Call.Abort)) result }
+        ensures plain { IfOk result (λ step. fault_at step ≡ Ok tt) }
+        ensures cause { HasCause result (faults_of self.old) (faults_of self.new) }
+    {
+        if !self.control.has_txn(session) {
+            return Err(Fault::NoTransaction);
+        }
+        self.put_back(alloc, session, Rollback::Whole, 0)?;
+        self.end(session)?;
+        Ok(Step::Done(Answer::Aborted))
+    }
+
+    // Puts the newest changes of a session's transaction back until so many are left. What was put back before a refusal stays so, and the same rollback
+    // goes on with the rest.
+    fn put_back(
+        &mut self,
+        alloc: Global,
+        session: SessionId,
+        rollback: Rollback,
+        least: usize,
+    ) -> Result<(), Fault>
+        ensures unwinds { has_failed self.old ≡ false → InEach (λ front disk before s store. (a : SessionTxn) → DoesNotWait s session → IsOfSession s session a → MayRoll a.undo rollback
+            → least ≡ least_kept a.undo rollback → least ≤ length a.undo.images → Unwinds self.new a rollback least result front before s store) self.old }
+        ensures there { HasTxnOf session (txns_of self.old) → HasTxnOf session (txns_of self.new) }
+        ensures waits { waits_of self.new ≡ waits_of self.old }
+        ensures keeps { Keeps self.old self.new }
+        ensures any_moment { MayLeave self.old self.new }
+        ensures forced { NeedsForceIn self.old self.new result }
+        ensures damaged { Earns self.old (Reads Call.Abort) result }
+        ensures cause { HasCause result (faults_of self.old) (faults_of self.new) }
+    {
+        let count = match self.control.txn(session) {
+            Some(own) => own.undo().len(),
+            None => 0,
+        };
+        for _ in least..count {
+            self.put_back_newest(alloc, session, rollback)?;
+        }
+        Ok(())
+    }
+
+    // Puts the newest change of a session's transaction back. Its page is fetched while the image is still in the undo list, so that it comes with the claim.
+    fn put_back_newest(
+        &mut self,
+        alloc: Global,
+        session: SessionId,
+        rollback: Rollback,
+    ) -> Result<(), Fault>
+        ensures put_back { has_failed self.old ≡ false → InEach (λ front disk before s store. (a : SessionTxn) (kept : List (Rid × Image)) (e : Rid × Image) → IsOfSession s session a
+            → a.undo.images ≡ kept ++ e ∷ [] → PutsBack self.new a kept e rollback result front before s store) self.old }
+        ensures rewinds { OnOk result (Rewinds self.old self.new) }
+        ensures longer { last_of self.old ≤ last_of self.new }
+        ensures there { HasTxnOf session (txns_of self.old) → HasTxnOf session (txns_of self.new) }
+        ensures waits { waits_of self.new ≡ waits_of self.old }
+        ensures keeps { Keeps self.old self.new }
+        ensures any_moment { MayLeave self.old self.new }
+        ensures forced { NeedsForceIn self.old self.new result }
+        ensures damaged { Earns self.old (Reads Call.Abort) result }
+        ensures cause { HasCause result (faults_of self.old) (faults_of self.new) }
+    {
+        let Some(place) = self.newest_place(session) else {
+            return Ok(());
+        };
+        let (id, bytes) = place;
+        let Rid { page, slot } = id;
+        let PageId { store, page } = page;
+        let id = PageId { store, page };
+        self.reach(alloc, Rid { page: id, slot })?;
+        // What the slot claims is enough for what it held, so this is never so.
+        let id = PageId { store, page };
+        if !self.heap.fits(Rid { page: id, slot }, bytes) {
+            return Err(Fault::StoreFull);
+        }
+        let Some(undo) = self.undo_of(alloc, session)? else {
+            return Ok(());
+        };
+        let Undo {
+            id,
+            bytes,
+            cost,
+            logged,
+        } = undo;
+        self.log_undo(session, rollback, id, bytes, cost, logged)
+    }
+
+    // Where the newest change of a session's transaction is, and how long its image is.
+    fn newest_place(&self, session: SessionId) -> Option<(Rid, usize)>
+        ensures some { IfSome result (λ p. (t : Txn) × (kept : List UndoEntry) × (e : UndoEntry) × IsAmong t (table.txns_in (txns_of self.now)) × (t.session ≡ session)
+            × (entries_of t ≡ kept ++ e ∷ []) × (p.0 ≡ e.id) × (p.1 ≡ image_len e.before)) }
+        ensures none { IfNone result ((a : SessionTxn) → IsAmong a (undos_in (txns_of self.now)) → a.session ≡ session → a.undo.images ≡ []) }
+    {
+        match self.control.txn(session) {
+            Some(own) => match own.newest() {
+                Some(newest) => Some((newest.id, newest.image_len())),
+                None => None,
+            },
+            None => None,
+        }
+    }
+
+    // Fetches the page of an id, if it is there.
+    fn reach(&mut self, alloc: Global, id: Rid) -> Result<(), Fault>
+        ensures there { OnOk result (HasPage (geometry_of self.old) id.page × IsTrue (is_some (frame_of (heap_of self.new) id.page))) }
+        ensures refused { has_failed self.old ≡ false → InEach (λ front disk before s store. IfErr result (λ f. Interrupts s f ⊎ (HasPage (geometry_of self.old) id.page → ⊥))) self.old }
+        ensures damaged { Earns self.old (λ page. page ≡ id.page) result }
+        ensures stays { InEach (λ front disk before s store. Stays self.new result front before s store) self.old }
+        ensures any_moment { MayLeave self.old self.new }
+        ensures forced { NeedsForceIn self.old self.new result }
+        ensures wrote { OnOk result (WritesBack self.old self.new) }
+        ensures reads { OnlyReads self.old self.new }
+        ensures cause { HasCause result (faults_of self.old) (faults_of self.new) }
+    {
+        let Rid { page, .. } = id;
+        let PageId { store, page } = page;
+        if !self.heap.geometry().has_page(PageId { store, page }) {
+            return Err(Fault::NoPage);
+        }
+        self.fetch(alloc, PageId { store, page })
+    }
+
+    // Logs the Compensation of the newest change of the session's transaction, and makes it on its page, which is in a frame and has room. All memory was
+    // taken before, and behind the record nothing can fail.
+    fn log_undo(
+        &mut self,
+        session: SessionId,
+        rollback: Rollback,
+        id: Rid,
+        bytes: usize,
+        cost: u64,
+        logged: LogRecord,
+    ) -> Result<(), Fault>
+        requires next { IsNext (txns_of self.old) session id bytes cost logged }
+        requires there { HasPage (geometry_of self.old) id.page }
+        requires fits { IsSomeAnd (frame_of (heap_of self.old) id.page) (λ f. Fits f.page.slots id.slot bytes) }
+        ensures put_back { has_failed self.old ≡ false → InEach (λ front disk before s store. (a : SessionTxn) (kept : List (Rid × Image)) (e : Rid × Image) → IsOfSession s session a
+            → a.undo.images ≡ kept ++ e ∷ [] → PutsBack self.new a kept e rollback result front before s store) self.old }
+        ensures rewinds { OnOk result (Rewinds self.old self.new) }
+        ensures longer { last_of self.old ≤ last_of self.new }
+        ensures there { HasTxnOf session (txns_of self.old) → HasTxnOf session (txns_of self.new) }
+        ensures waits { waits_of self.new ≡ waits_of self.old }
+        ensures history { history_of self.new ≡ history_of self.old }
+        ensures keeps { Keeps self.old self.new }
+        ensures faults { faults_of self.new ≡ faults_of self.old }
+        ensures refused { IfErr result (λ f. f ≡ Fault.Memory) }
+    {
+        let lsn = match self.tail.push(logged) {
+            Ok(lsn) => lsn,
+            Err((fault, _)) => return Err(fault),
+        };
+        let undone = self.control.note_compensation(session, lsn, rollback, cost);
+        self.heap.change(undone.id, lsn, bytes_of(&undone.before));
+        self.heap.release_to(undone.id, usize::from(undone.claim));
+        Ok(())
+    }
+
+    // What puts the newest change of a session's transaction back.
+    fn undo_of(&self, alloc: Global, session: SessionId) -> Result<Option<Undo>, Fault>
+        ensures some { IfOk result (λ o. IfSome o (λ u. IsNext (txns_of self.now) session u.id u.bytes u.cost u.logged)) }
+        ensures none { IfOk result (λ o. IfNone o ((a : SessionTxn) → IsAmong a (undos_in (txns_of self.now)) → a.session ≡ session → a.undo.images ≡ [])) }
+        ensures memory { IfErr result (λ f. f ≡ Fault.Memory) }
+    {
+        let Some(own) = self.control.txn(session) else {
+            return Ok(None);
+        };
+        let Some(newest) = own.newest() else {
+            return Ok(None);
+        };
+        let logged = LogRecord {
+            txn: own.id(),
+            previous: own.last(),
+            payload: Payload::Compensation {
+                id: newest.id,
+                after: copy_of(alloc, &newest.before)?,
+                undo_next: own.undo_next(),
+            },
+        };
+        Ok(Some(Undo {
+            id: newest.id,
+            bytes: newest.image_len(),
+            cost: compensation_cost(len_of(&newest.before)),
+            logged,
+        }))
+    }
+
+    // Logs the End of a session's transaction, if it has logged anything, and ends it. Its room was reserved at the begin, and goes with it. All its changes
+    // are put back by then; one that has any left is not ended.
+    fn end(&mut self, session: SessionId) -> Result<(), Fault>
+        requires { IsFree session (control_of self.old) }
+        ensures ended { has_failed self.old ≡ false → InEach (λ front disk before s store. (a : SessionTxn) → IsOfSession s session a → a.undo.images ≡ []
+            → Ends self.new a result front before s store) self.old }
+        ensures refused { IfErr result (λ f. (f ≡ Fault.NoTransaction) ⊎ (f ≡ Fault.MustAbort) ⊎ (f ≡ Fault.Memory)) }
+        ensures heap { heap_of self.new ≡ heap_of self.old }
+        ensures keeps { Keeps self.old self.new }
+    {
+        let Some(own) = self.control.txn(session) else {
+            return Err(Fault::NoTransaction);
+        };
+        if own.newest().is_some() {
+            return Err(Fault::MustAbort);
+        }
+        let (txn, previous) = (own.id(), own.last());
+        if previous == Lsn(0) {
+            self.control.end_abort(session, false);
+            return Ok(());
+        }
+        let payload = Payload::End;
+        match self.tail.push(LogRecord {
+            txn,
+            previous,
+            payload,
+        }) {
+            Ok(_) => {
+                self.control.end_abort(session, true);
+                Ok(())
+            }
+            Err((fault, _)) => Err(fault),
+        }
+    }
+}
+
+// Whether a transaction may go back to a savepoint: a rollback that has begun only goes on.
+fn may_go_back(state: TxnState, index: usize) -> bool
+    ensures { IsTrue result ↔ ((rolling_of state ≡ None) ⊎ (rolling_of state ≡ Some (Rollback.To index))) }
+{
+    match state {
+        TxnState::Active => true,
+        TxnState::RollingBack(Rollback::To(begun)) => begun == index,
+        TxnState::RollingBack(Rollback::Whole) => false,
+    }
+}
