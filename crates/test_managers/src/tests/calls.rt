@@ -3,6 +3,7 @@ mod changes;
 mod events;
 mod left;
 mod restarts;
+mod rollbacks;
 mod runs;
 mod shown;
 mod trouble;

@@ -1,7 +1,7 @@
 //! Every list of up to three events, with a fuse at each call of either device, and with each pick of a crash: of a manager of a formatted pair, of one
 //! that has begun on a committed record, of one with a commit of changes under way, of one that has written an undecided change back, and of one with
-//! undecided changes in all of its frames. A manager that is opened behind the crash then commits a record, and is crashed too. Behind the shorter lists
-//! the restart is also cut off at each call of a device, twice in a row, and then made whole; behind two starts it is cut off three times in a row, at
+//! undecided changes in all of its frames; and some lists of one whose abort has put a part back. A manager that is opened behind the crash then commits a record, and is crashed too. Behind the shorter lists
+//! the restart is also cut off at each call of a device, twice in a row, and then made whole; behind three starts it is cut off three times in a row, at
 //! each call of each restart. Then there are random runs. The counts are those of the first run: another one says that an event or a restart makes
 //! other calls than it did.
 mod chances;
@@ -15,6 +15,7 @@ mod lists;
 mod lives;
 mod log_copies;
 mod random_lives;
+mod rollbacks;
 mod short_histories;
 mod trouble;
 
@@ -27,6 +28,7 @@ use interleaved::{Meetings, NO_MEETINGS, check_meetings};
 use lists::{Counts, check_lists};
 use lives::{Ground, Start, formatted, live, no_ground};
 use random_lives::{NOTHING_YET, Tally, check_pair};
+use rollbacks::Rollbacks;
 use shore_disk::Pick;
 use std::alloc::Global;
 use std::test::Fail;
@@ -78,6 +80,31 @@ const CHANGES_IN_MORE_PAGES: [Doing; 14] = [
     Doing::ForceOpen,
 ];
 
+/// The same, and an abort that has put eight changes back in the frames, and needs a force before the page of the first one can come to a frame: the
+/// records of these eight are forced, and the rest is left to who goes on.
+const AN_ABORT_BEGUN: [Doing; 17] = [
+    Doing::Begin,
+    Doing::InsertInto(1),
+    Doing::InsertInto(2),
+    Doing::InsertInto(3),
+    Doing::InsertInto(4),
+    Doing::InsertInto(5),
+    Doing::InsertInto(6),
+    Doing::InsertInto(7),
+    Doing::InsertInto(8),
+    Doing::ForceStage,
+    Doing::ForceOpen,
+    Doing::Insert,
+    Doing::ForceStage,
+    Doing::ForceOpen,
+    Doing::Abort,
+    Doing::ForceStage,
+    Doing::ForceOpen,
+];
+
+/// Lists of three events are the longest.
+const LONGEST: u32 = 3;
+
 /// A start on this pair.
 fn start_on(
     alloc: Global,
@@ -90,6 +117,7 @@ fn start_on(
         images: Images::of(alloc, devices)?,
         ground,
         before,
+        longest: LONGEST,
         cut_behind,
     })
 }
@@ -133,13 +161,13 @@ fn counts(lists: u64, cases: u64, cuts: u64) -> Counts {
 #[test]
 fn on_an_empty_log(rt: HostRuntime) -> Result<(), Fail> {
     let start = on_none(rt.alloc(), &[], 2)?;
-    check_start(&rt, start, "on an empty log", counts(1111, 3351, 1332))
+    check_start(&rt, start, "on an empty log", counts(1464, 4410, 1596))
 }
 
 #[test]
 fn in_a_transaction(rt: HostRuntime) -> Result<(), Fail> {
     let start = on_a_record(rt.alloc(), &[Doing::Begin], 2)?;
-    check_start(&rt, start, "in a transaction", counts(1111, 11055, 4790))
+    check_start(&rt, start, "in a transaction", counts(1464, 13930, 5442))
 }
 
 #[test]
@@ -156,7 +184,7 @@ fn with_a_commit_under_way(rt: HostRuntime) -> Result<(), Fail> {
         &rt,
         start,
         "with a commit under way",
-        counts(1111, 6444, 2156),
+        counts(1464, 8141, 2500),
     )
 }
 
@@ -167,7 +195,7 @@ fn with_a_change_written_back(rt: HostRuntime) -> Result<(), Fail> {
         &rt,
         start,
         "with a change written back",
-        counts(1111, 6390, 5289),
+        counts(1464, 8083, 6141),
     )
 }
 
@@ -178,8 +206,15 @@ fn with_changes_in_all_frames(rt: HostRuntime) -> Result<(), Fail> {
         &rt,
         start,
         "with changes in all frames",
-        counts(1111, 49477, 6095),
+        counts(1464, 57722, 6125),
     )
+}
+
+#[test]
+fn with_an_abort_begun(rt: HostRuntime) -> Result<(), Fail> {
+    let mut start = on_none(rt.alloc(), &AN_ABORT_BEGUN, 1)?;
+    start.longest = 2;
+    check_start(&rt, start, "with an abort begun", counts(133, 2589, 4124))
 }
 
 /// Rows of three restarts that are cut off, with this pick: whether there are so many of all lengths, and so many of three.
@@ -218,6 +253,16 @@ fn three_deep_with_changes_in_more_pages(rt: HostRuntime) -> Result<(), Fail> {
     )
 }
 
+#[test]
+fn three_deep_with_an_abort_begun(rt: HostRuntime) -> Result<(), Fail> {
+    let start = on_none(rt.alloc(), &AN_ABORT_BEGUN, 0)?;
+    check_deep(
+        &rt,
+        &start,
+        [(4_708, 4_364), (4_110, 3_785), (4_334, 4_001)],
+    )
+}
+
 /// Pairs from a seed, until there were so many events.
 fn check_by_chance(rt: &HostRuntime, seed: u64, most: u64, wanted: Tally) -> Result<(), Fail> {
     let mut chance = Chance::new(seed);
@@ -244,16 +289,27 @@ fn by_chance(rt: HostRuntime) -> Result<(), Fail> {
         1,
         50_000,
         Tally {
-            pairs: 242,
-            events: 50117,
-            dumps: 1044,
-            failures: 206,
-            crashes: 1452,
-            opens_cut_off: 349,
-            commits_acknowledged: 673,
-            commits_kept: 951,
-            losers_undone: 211,
-            pages_flushed: 1012,
+            pairs: 234,
+            events: 50194,
+            dumps: 1040,
+            failures: 129,
+            crashes: 1404,
+            opens_cut_off: 308,
+            commits_acknowledged: 404,
+            commits_kept: 654,
+            losers_undone: 151,
+            losers_begun: 8,
+            pages_flushed: 650,
+            rollbacks: Rollbacks {
+                aborts: 253,
+                aborts_of_nothing: 409,
+                ways_back: 65,
+                ways_back_to_here: 206,
+                savepoints: 941,
+                no_savepoints: 1340,
+                interrupted: 0,
+                must_abort: 0,
+            },
         },
     )
 }
@@ -265,16 +321,27 @@ fn by_another_chance(rt: HostRuntime) -> Result<(), Fail> {
         2,
         60_000,
         Tally {
-            pairs: 280,
-            events: 60094,
-            dumps: 1190,
-            failures: 226,
-            crashes: 1680,
-            opens_cut_off: 390,
-            commits_acknowledged: 777,
-            commits_kept: 1108,
-            losers_undone: 248,
-            pages_flushed: 1148,
+            pairs: 284,
+            events: 60090,
+            dumps: 1130,
+            failures: 162,
+            crashes: 1704,
+            opens_cut_off: 363,
+            commits_acknowledged: 509,
+            commits_kept: 776,
+            losers_undone: 178,
+            losers_begun: 20,
+            pages_flushed: 779,
+            rollbacks: Rollbacks {
+                aborts: 241,
+                aborts_of_nothing: 480,
+                ways_back: 94,
+                ways_back_to_here: 205,
+                savepoints: 1107,
+                no_savepoints: 1653,
+                interrupted: 0,
+                must_abort: 0,
+            },
         },
     )
 }

@@ -1,6 +1,6 @@
 //! Events as words: `begin`, `get STORE PAGE SLOT`, `insert STORE WORD` of the word's letters, `fill STORE LENGTH` of so many letters x,
-//! `update STORE PAGE SLOT WORD`, `refill STORE PAGE SLOT LENGTH`, `delete STORE PAGE SLOT`, `scan STORE`, `commit`, `resume`, `stage`,
-//! `open` and `flush`.
+//! `update STORE PAGE SLOT WORD`, `refill STORE PAGE SLOT LENGTH`, `delete STORE PAGE SLOT`, `scan STORE`, `savepoint`, `back INDEX`, `commit`, `abort`,
+//! `resume`, `stage`, `open` and `flush`. They are of the first session, unless the number of another stands before them.
 ghost use Rattle.std.specs.Prelude.{IfOk};
 ghost use Rattle.shore_calls.specs.Events.{IsServed};
 ghost use Rattle.shore_world.specs.Events.{IsServedEvent};
@@ -14,7 +14,7 @@ use std::str::SplitWhitespace;
 
 pub(super) type Words<'a> = SplitWhitespace<'a>;
 
-// The one session that is served.
+// The session of an event that names none.
 const SESSION: SessionId = SessionId(1);
 
 pub(super) fn word<'a>(words: &mut Words<'a>) -> Result<&'a str, Trouble> {
@@ -42,12 +42,27 @@ pub(super) fn number(words: &mut Words) -> Result<u32, Trouble> {
 pub(super) fn event(alloc: Global, words: &mut Words) -> Result<Event, Trouble>
     ensures { IfOk result IsServedEvent }
 {
-    match word(words)? {
-        "resume" => Ok(Event::Resume(SESSION)),
+    let first = word(words)?;
+    match first.parse::<u32>() {
+        Ok(session) => event_of(alloc, SessionId(session), word(words)?, words),
+        Err(_) => event_of(alloc, SESSION, first, words),
+    }
+}
+
+fn event_of(
+    alloc: Global,
+    session: SessionId,
+    kind: &str,
+    words: &mut Words,
+) -> Result<Event, Trouble>
+    ensures { IfOk result IsServedEvent }
+{
+    match kind {
+        "resume" => Ok(Event::Resume(session)),
         "stage" => Ok(Event::ForceStage),
         "open" => Ok(Event::ForceOpen),
         "flush" => Ok(Event::FlushStep),
-        kind => Ok(Event::Call(SESSION, call(alloc, kind, words)?)),
+        kind => Ok(Event::Call(session, call(alloc, kind, words)?)),
     }
 }
 
@@ -63,7 +78,10 @@ fn call(alloc: Global, kind: &str, words: &mut Words) -> Result<Call, Trouble>
         "refill" => Ok(Call::Update(rid(words)?, letters_x(alloc, words)?)),
         "delete" => Ok(Call::Delete(rid(words)?)),
         "scan" => Ok(Call::Scan(store(words)?)),
+        "savepoint" => Ok(Call::Savepoint),
+        "back" => Ok(Call::BackTo(number(words)? as usize)),
         "commit" => Ok(Call::Commit),
+        "abort" => Ok(Call::Abort),
         _ => Err(Trouble::NoLine),
     }
 }

@@ -10,8 +10,9 @@ use std::alloc::{AllocError, Global};
 use std::test::Fail;
 
 // Each line is an event with what it comes to. `run:` opens a new manager on a formatted log device of the least length, with a
-// store of one page and a store of eight; `fuse:` lets so many more writes and syncs of a device pass; `crash:` loses the power, with what it makes of
-// writes that were not synced, and opens again; `records:`, `log:` and `report:` say what is shown. A page has room for 8,168 bytes: records, and 4 for each slot. The log has room for 38,505 bytes: a Change
+// store of one page and a store of eight, `run over nine stores:` with nine stores of a page; `fuse:` lets so many more writes and syncs of a device pass;
+// `crash:` loses the power, with what it makes of writes that were not synced, and opens again; `saves:` sets so many savepoints, from the first one on;
+// `records:`, `log:` and `report:` say what is shown. A page has room for 8,168 bytes: records, and 4 for each slot. The log has room for 38,505 bytes: a Change
 // costs 48 and its record's bytes, its undo, which is reserved, 53; a Commit costs 34, which a begin reserves.
 const RUNS: &str = "
 run: each call outside of a transaction
@@ -170,6 +171,12 @@ resume -> committed
 begin -> refused 9 LogFull
 ";
 
+// The pages of each store.
+const TWO_STORES: [u32; 2] = [1, 8];
+
+// One page more than there are frames.
+const NINE_STORES: [u32; 9] = [1; 9];
+
 #[test]
 fn runs(rt: HostRuntime) -> Result<(), Fail> {
     play_all(rt.alloc(), RUNS)
@@ -192,6 +199,10 @@ fn play(alloc: Global, world: &mut Option<Manager>, line: &str) -> Result<(), Tr
     }
     if line.starts_with("run:") {
         *world = Some(new_manager(alloc)?);
+        return Ok(());
+    }
+    if line.starts_with("run over nine stores:") {
+        *world = Some(manager_over(alloc, &NINE_STORES)?);
         return Ok(());
     }
     if let Some(("crash", pick)) = line.split_once(": ") {
@@ -234,6 +245,7 @@ pub(super) fn play_on(alloc: Global, world: &mut Manager, line: &str) -> Result<
     }
     match line.split_once(':') {
         Some(("fuse", rest)) => set_fuse(world, &mut rest.split_whitespace()),
+        Some(("saves", count)) => require_saves(alloc, world, &mut count.split_whitespace()),
         Some(("records", wanted)) => require_records(alloc, world, wanted),
         Some(("log", wanted)) => require_log(alloc, world, wanted),
         Some(("report", wanted)) => require_report(alloc, world, wanted),
@@ -253,6 +265,22 @@ fn require_step(
     let mut shown = String::new(alloc);
     write_step(&mut shown, &step)?;
     require(shown.as_str() == wanted)
+}
+
+// The next savepoints have these indexes.
+fn require_saves(alloc: Global, world: &mut Manager, words: &mut Words) -> Result<(), Trouble> {
+    let count = number(words)?;
+    end(words)?;
+    for index in 0..count {
+        let wanted = format!(in alloc; "saved {index}")?;
+        require_step(
+            alloc,
+            world,
+            &mut "savepoint".split_whitespace(),
+            wanted.as_str(),
+        )?;
+    }
+    Ok(())
 }
 
 fn set_fuse(world: &mut Manager, words: &mut Words) -> Result<(), Trouble> {
@@ -285,7 +313,12 @@ fn require_log(alloc: Global, world: &Manager, wanted: &str) -> Result<(), Troub
 }
 
 pub(super) fn new_manager(alloc: Global) -> Result<Manager, Trouble> {
-    let (log, volume) = new_pair(alloc, 1)?;
+    manager_over(alloc, &TWO_STORES)
+}
+
+// A manager of a new pair, with stores of so many pages.
+fn manager_over(alloc: Global, stores: &[u32]) -> Result<Manager, Trouble> {
+    let (log, volume) = pair_over(alloc, 1, stores)?;
     match opened(alloc, log, volume) {
         Ok(world) => Ok(world),
         Err(_) => Err(Trouble::Untrue),
@@ -304,9 +337,15 @@ pub(super) fn opened(alloc: Global, log: MemDisk, volume: MemDisk) -> Result<Man
 
 /// A log device of the least length and a volume, formatted as a pair of this number.
 pub(super) fn new_pair(alloc: Global, pair: u64) -> Result<(MemDisk, MemDisk), Trouble> {
+    pair_over(alloc, pair, &TWO_STORES)
+}
+
+// .. with stores of so many pages, nine together.
+fn pair_over(alloc: Global, pair: u64, stores: &[u32]) -> Result<(MemDisk, MemDisk), Trouble> {
     let mut log = zeroed(alloc, 135_168)?;
     let mut volume = zeroed(alloc, 270_336 + 9 * 8_192)?;
-    require(format(alloc, &mut log, &mut volume, &geometry(alloc, pair)?).is_ok())?;
+    let geometry = geometry(alloc, pair, stores)?;
+    require(format(alloc, &mut log, &mut volume, &geometry).is_ok())?;
     Ok((log, volume))
 }
 
@@ -315,11 +354,10 @@ pub(super) fn zeroed(alloc: Global, bytes: usize) -> Result<MemDisk, AllocError>
     MemDisk::new(alloc, Vec::from_elem(alloc, 0u8, bytes)?)
 }
 
-fn geometry(alloc: Global, pair: u64) -> Result<Geometry, AllocError> {
-    let stores = Vec::from_slice(alloc, &[1u32, 8])?;
+fn geometry(alloc: Global, pair: u64, stores: &[u32]) -> Result<Geometry, AllocError> {
     Ok(Geometry {
         pair,
         max_locks: 1024,
-        stores: Sequence::from_vec(stores),
+        stores: Sequence::from_vec(Vec::from_slice(alloc, stores)?),
     })
 }

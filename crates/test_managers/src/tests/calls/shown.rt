@@ -35,7 +35,10 @@ fn write_answer(out: &mut String, answer: &Answer) -> Result<(), AllocError> {
             write!(out, "scanned")?;
             write_pairs(out, pairs)
         }
+        Answer::Saved(index) => write!(out, "saved {index}"),
+        Answer::WentBack => write!(out, "went back"),
         Answer::Committed => write!(out, "committed"),
+        Answer::Aborted => write!(out, "aborted"),
         Answer::Staged(number) => write!(out, "staged {number}"),
         Answer::Forced(number) => write!(out, "forced {number}"),
         Answer::Flushed(count) => write!(out, "flushed {count}"),

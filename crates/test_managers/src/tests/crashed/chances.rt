@@ -60,23 +60,37 @@ impl Chance {
     }
 
     pub(super) fn doing(&mut self) -> Doing {
-        match self.below(12) {
+        match self.below(15) {
             0 | 1 => Doing::Begin,
             2 | 3 | 4 => self.change(),
             5 => Doing::Commit,
             6 | 7 => Doing::ForceStage,
             8 | 9 => Doing::ForceOpen,
             10 => Doing::Resume,
-            _ => Doing::FlushStep,
+            11 => Doing::FlushStep,
+            _ => self.saving(),
         }
     }
 
-    /// What a session does that waits for nothing: most begin a transaction, if it is in none.
-    pub(super) fn doing_of_session(&mut self, is_in_transaction: bool) -> Doing {
+    // A savepoint, a way back to one, which may not be there, or an abort.
+    fn saving(&mut self) -> Doing {
+        match self.below(10) {
+            0 | 1 | 2 => Doing::Savepoint,
+            3 | 4 | 5 | 6 => Doing::BackTo(self.below(2) as usize),
+            7 => Doing::BackTo(self.below(70) as usize),
+            _ => Doing::Abort,
+        }
+    }
+
+    /// What a session does that waits for nothing: most begin a transaction, if it is in none, and many change records and go back, if it has savepoints.
+    pub(super) fn doing_of_session(&mut self, is_in_transaction: bool, savepoints: u32) -> Doing {
         if !is_in_transaction && self.below(8) > 0 {
             return Doing::Begin;
         }
-        match self.below(24) {
+        if savepoints > 0 && self.below(2) == 0 {
+            return self.doing_behind(savepoints);
+        }
+        match self.below(30) {
             0 | 1 | 2 | 3 => Doing::GetOf(self.near_place()),
             4 | 5 => Doing::GetForUpdateOf(self.near_place()),
             6 | 7 => Doing::InsertOf(self.below(2), self.byte(), self.length()),
@@ -89,7 +103,18 @@ impl Chance {
             17 | 18 => Doing::Commit,
             19 | 20 => Doing::ForceStage,
             21 | 22 => Doing::ForceOpen,
-            _ => Doing::FlushStep,
+            23 => Doing::FlushStep,
+            _ => self.saving(),
+        }
+    }
+
+    // A change behind so many savepoints, or a way back to one of them, or to the next one, which is not there.
+    fn doing_behind(&mut self, savepoints: u32) -> Doing {
+        match self.below(6) {
+            0 | 1 => Doing::BackTo(self.below(savepoints.saturating_add(1)) as usize),
+            2 | 3 => Doing::InsertOf(self.below(2), self.byte(), self.length()),
+            4 => Doing::UpdateOf(self.near_place(), self.byte(), self.length()),
+            _ => Doing::DeleteOf(self.near_place()),
         }
     }
 

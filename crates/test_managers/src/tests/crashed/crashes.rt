@@ -23,6 +23,8 @@ pub(super) struct Restarted {
     pub(super) ground: Ground,
     /// The log at its end.
     pub(super) found: Vec<LogRecord>,
+    /// How many of its records the restart read; those behind are its own.
+    pub(super) read: usize,
     pub(super) devices: Devices,
 }
 
@@ -56,10 +58,12 @@ pub(super) fn check_crash(
     } = life;
     let mut world = devices.open(alloc)?;
     let (ground, found) = check_opened(alloc, ground, &mut world, (&entries, &list, durable))?;
+    let read = world.report().read as usize;
     let (devices, _, _) = cut_off(world, calls_of(None));
     Ok(Restarted {
         ground,
         found,
+        read,
         devices,
     })
 }

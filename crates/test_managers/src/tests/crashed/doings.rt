@@ -48,10 +48,14 @@ pub(super) enum Doing {
     Delete,
     Scan,
     Commit,
+    Abort,
     ForceStage,
     ForceOpen,
     Resume,
     FlushStep,
+    Savepoint,
+    /// Back to the savepoint of this index.
+    BackTo(usize),
     /// An insert into a store, of a byte so many times.
     InsertOf(u32, u8, usize),
     /// An update to a byte so many times.
@@ -65,13 +69,14 @@ pub(super) enum Doing {
 }
 
 /// One of each that lists are made of.
-pub(super) const EACH: [Doing; 10] = [
+pub(super) const EACH: [Doing; 11] = [
     Doing::Begin,
     Doing::Insert,
     Doing::Update,
     Doing::Delete,
     Doing::Scan,
     Doing::Commit,
+    Doing::Abort,
     Doing::ForceStage,
     Doing::ForceOpen,
     Doing::Resume,
@@ -103,6 +108,9 @@ impl Doing {
             Doing::Delete => Some(Call::Delete(FIRST)),
             Doing::Scan => Some(Call::Scan(STORE)),
             Doing::Commit => Some(Call::Commit),
+            Doing::Abort => Some(Call::Abort),
+            Doing::Savepoint => Some(Call::Savepoint),
+            Doing::BackTo(index) => Some(Call::BackTo(index)),
             Doing::InsertOf(store, byte, count) => {
                 Some(Call::Insert(StoreId(store), filled(alloc, byte, count)?))
             }

@@ -6,6 +6,7 @@ use super::doings::Doing;
 use super::judged_locks::{check_asked, check_locks, waits_at, would_wait};
 use super::lives::{Ground, Life, ended, formatted, no_ground};
 use super::random_lives::{NOTHING_YET, Tally, check_dump, check_loss};
+use super::rollbacks::{check_appended, check_put_back, ends_rollback, waiting_records};
 use super::short_histories::ShortHistory;
 use super::trouble::{Trouble, require};
 use shore_model::{Answer, Request};
@@ -34,7 +35,8 @@ impl Meetings {
     /// So many events, and something of each kind.
     pub(super) fn has_each(&self, events: u64) -> bool {
         let of_locks = self.lock_waits > 0 && self.answered_behind > 0 && self.blocked > 0;
-        self.all.events >= events && of_locks && self.all.has_each()
+        let of_rollbacks = self.all.rollbacks.has_each() && self.all.losers_begun > 0;
+        self.all.events >= events && of_locks && of_rollbacks && self.all.has_each()
     }
 }
 
@@ -113,8 +115,12 @@ impl Meeting {
                 1 => self.world.set_volume_fuse(u64::from(chance.below(40))),
                 2 | 3 | 4 => check_dump(alloc, &mut self.world, &mut tally.all)?,
                 _ => {
-                    let turn = self.turn(sessions, chance);
-                    self.go_on(alloc, ground, turn, tally)?;
+                    let session = SessionId(chance.below(sessions).saturating_add(1));
+                    let savepoints = self.savepoints(alloc, session)?;
+                    let turn = self.turn(session, savepoints, chance);
+                    if self.go_on(alloc, ground, turn, tally)? {
+                        check_put_back(alloc, ground, &self.history, sessions, &mut self.world)?;
+                    }
                 }
             }
             if self.world.has_failed() && chance.below(4) == 0 {
@@ -127,13 +133,20 @@ impl Meeting {
         Ok(())
     }
 
-    // Whose turn it is, and what it does.
-    fn turn(&self, sessions: u32, chance: &mut Chance) -> Turn {
-        let session = SessionId(chance.below(sessions).saturating_add(1));
+    // How many savepoints a session may go back to.
+    fn savepoints(&self, alloc: Global, session: SessionId) -> Result<u32, Trouble> {
+        match self.history.waiting(session) {
+            Some(_) => Ok(0),
+            None => Ok(self.history.savepoints(alloc, self.history.txn(session))?),
+        }
+    }
+
+    // What a session does in its turn.
+    fn turn(&self, session: SessionId, savepoints: u32, chance: &mut Chance) -> Turn {
         let txn = self.history.txn(session);
         let doing = match self.history.waiting(session) {
             Some(_) => chance.doing_of_waiter(),
-            None => chance.doing_of_session(txn.0 > 0),
+            None => chance.doing_of_session(txn.0 > 0, savepoints),
         };
         Turn {
             session,
@@ -142,32 +155,37 @@ impl Meeting {
         }
     }
 
-    // One event, judged.
+    // One event, judged. Answers whether it ends a rollback.
     fn go_on(
         &mut self,
         alloc: Global,
         ground: &Ground,
         turn: Turn,
         tally: &mut Meetings,
-    ) -> Result<(), Trouble> {
+    ) -> Result<bool, Trouble> {
         let was_waiting = self.history.waiting(turn.session);
+        let waited = waiting_records(&self.world);
         let step = self
             .world
             .step(alloc, turn.doing.event(alloc, turn.session)?);
         tally.all.events = tally.all.events.saturating_add(1);
         let requests = self.world.nodes(alloc)?;
         check_locks(alloc, &requests)?;
-        let is_over = matches!(step, Step::Done(Answer::Committed));
+        let is_over = matches!(step, Step::Done(Answer::Committed | Answer::Aborted));
         check_asked(&self.requests, &requests, turn.txn, is_over)?;
+        let appended = check_appended(&self.world, turn.txn, waited, &step)?;
+        tally.all.rollbacks.count(turn.doing, &step, appended);
         self.check_step(alloc, turn, was_waiting, &requests, &step)?;
         count(turn, was_waiting, &step, requests.len(), tally);
         self.requests = requests;
+        let ends_rollback = ends_rollback(&step);
         self.history.note(alloc, turn.session, turn.doing, step)?;
-        check_entries(alloc, ground, self.history.entries())
+        check_entries(alloc, ground, self.history.entries())?;
+        Ok(ends_rollback)
     }
 
-    // A wait is for a request that waits, or for a record that is not durable. Only who waits is Busy, and a try names one for whom its transaction
-    // would wait.
+    // A wait is for a request that waits, or for a record that is not durable. Only who waits is Busy, a savepoint is refused only if it is not there, and a
+    // try names one for whom its transaction would wait.
     fn check_step(
         &self,
         alloc: Global,
@@ -186,11 +204,26 @@ impl Meeting {
                 "a wait for a record that is durable",
             ),
             Step::Refused(Fault::Busy) => require(was_waiting.is_some(), "Busy without a call"),
+            Step::Refused(Fault::NoSavepoint) => require(
+                !self.has_savepoint(alloc, turn)?,
+                "a savepoint that is there is refused",
+            ),
             Step::Refused(Fault::WouldBlock { holder }) => require(
                 would_wait(alloc, &self.requests, turn.txn, turn.doing, *holder)?,
                 "a try is refused for one who is not in the way",
             ),
             _ => Ok(()),
+        }
+    }
+
+    // Whether the savepoint is there that the turn goes back to.
+    fn has_savepoint(&self, alloc: Global, turn: Turn) -> Result<bool, Trouble> {
+        match turn.doing {
+            Doing::BackTo(index) => {
+                let savepoints = self.history.savepoints(alloc, turn.txn)?;
+                Ok(index < savepoints as usize)
+            }
+            _ => Ok(false),
         }
     }
 }

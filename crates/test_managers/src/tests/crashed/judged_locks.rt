@@ -16,21 +16,23 @@ pub(super) fn check_locks(alloc: Global, requests: &[Request]) -> Result<(), Tro
     require(well_rooted(held.as_slice()), "a lock lacks its intention")
 }
 
-/// Only this transaction may have asked: of others each request is as it was, or was granted. Its own locks stay, and are not weaker, unless they all go.
+/// Only this transaction may have asked: of others each request is as it was, or was granted. Its own locks stay, and are not weaker, unless it is over:
+/// then they all go.
 pub(super) fn check_asked(
     old: &[Request],
     new: &[Request],
     txn: TxnId,
-    may_go: bool,
+    is_over: bool,
 ) -> Result<(), Trouble> {
     for request in new {
         let is_explained = request.txn == txn || old.iter().any(|was| is_granted(was, request));
         require(is_explained, "a lock that nobody asked for")?;
     }
     let is_gone = new.iter().all(|request| request.txn != txn);
+    require(is_gone || !is_over, "a lock of a transaction that is over")?;
     for request in old {
         let is_kept = new.iter().any(|now| is_kept(request, now));
-        let goes = request.txn == txn && may_go && is_gone;
+        let goes = request.txn == txn && is_over;
         require(is_kept || goes, "a lock went before its turn")?;
     }
     Ok(())

@@ -13,7 +13,7 @@ use std::test::Fail;
 const PICKS: [Pick; 3] = [Pick::Old, Pick::New, Pick::Noise];
 
 // How many lists there are of no event, of one, and so on.
-const LISTS_BY_LENGTH: [(u32, u32); 4] = [(0, 1), (1, 10), (2, 100), (3, 1000)];
+const LISTS_BY_LENGTH: [(u32, u32); 4] = [(0, 1), (1, 11), (2, 121), (3, 1331)];
 
 /// How much was run: lists of events, for each of them a case for each fuse and each pick that may differ, and restarts that are cut off.
 #[derive(Drop)]
@@ -23,7 +23,7 @@ pub(super) struct Counts {
     pub(super) cuts: u64,
 }
 
-/// Every list of up to three events, with each fuse and each pick.
+/// Every list of up to three events, or of as many as the start has, with each fuse and each pick.
 pub(super) fn check_lists(alloc: Global, start: &Start) -> Result<Counts, Fail> {
     let mut counts = Counts {
         lists: 0,
@@ -31,6 +31,9 @@ pub(super) fn check_lists(alloc: Global, start: &Start) -> Result<Counts, Fail> 
         cuts: 0,
     };
     for (length, lists) in LISTS_BY_LENGTH {
+        if length > start.longest {
+            break;
+        }
         for number in 0..lists {
             let list = list_of(alloc, length, number)?;
             check_list(alloc, start, &list, &mut counts)?;
@@ -44,8 +47,8 @@ fn list_of(alloc: Global, length: u32, number: u32) -> Result<Vec<Doing>, AllocE
     let mut list = Vec::new(alloc);
     let mut digits = number;
     for _ in 0..length {
-        list.push(EACH[(digits % 10) as usize])?;
-        digits /= 10;
+        list.push(EACH[(digits % 11) as usize])?;
+        digits /= 11;
     }
     Ok(list)
 }

@@ -23,6 +23,8 @@ pub(super) struct Start {
     pub(super) images: Images,
     pub(super) ground: Ground,
     pub(super) before: &'static [Doing],
+    /// Lists have up to so many events.
+    pub(super) longest: u32,
     /// Restarts are cut off behind lists of up to so many events.
     pub(super) cut_behind: usize,
 }

@@ -1,23 +1,30 @@
 //! Managers to which anything happens, by chance: each crash is judged by what was acknowledged.
 use super::chances::Chance;
-use super::crashes::{check_crash, check_history, check_in_place};
+use super::crashes::{Restarted, check_crash, check_history, check_in_place};
 use super::cuts::check_whole;
 use super::devices::{Devices, Images, Manager};
 use super::doings::SESSION;
 use super::lives::{Ground, Life, ended, formatted, no_ground};
 use super::log_copies::copy_of_log;
+use super::rollbacks::{
+    NO_ROLLBACKS, Rollbacks, check_appended, check_put_back, ends_rollback, waiting_records,
+};
 use super::short_histories::ShortHistory;
 use super::trouble::{Trouble, require};
 use shore_model::rid_map::copy_image;
 use shore_model::{Answer, LogRecord, Payload, RidMap};
-use shore_types::{Bytes, Fault};
+use shore_types::{Bytes, Fault, TxnId};
 use shore_world::Step;
 use slow_histories::decisions::acknowledged;
+use slow_logs::lawful_logs::is_lawful;
 use slow_logs::recovered_records::last_images;
 use std::alloc::Global;
 
 // A pair is made anew behind so many crashes.
 const LIVES_OF_A_PAIR: u32 = 6;
+
+// The session of lists is the first.
+const ONE_SESSION: u32 = 1;
 
 /// What has come up.
 #[derive(Clone, Copy, Debug, PartialEq)]
@@ -33,7 +40,10 @@ pub(super) struct Tally {
     pub(super) commits_acknowledged: u64,
     pub(super) commits_kept: u64,
     pub(super) losers_undone: u64,
+    /// .. and those of them with a change that was put back before.
+    pub(super) losers_begun: u64,
     pub(super) pages_flushed: u64,
+    pub(super) rollbacks: Rollbacks,
 }
 
 impl Tally {
@@ -55,7 +65,9 @@ pub(super) const NOTHING_YET: Tally = Tally {
     commits_acknowledged: 0,
     commits_kept: 0,
     losers_undone: 0,
+    losers_begun: 0,
     pages_flushed: 0,
+    rollbacks: NO_ROLLBACKS,
 };
 
 /// A pair is formatted, and then is opened, worked with and crashed a few times.
@@ -68,7 +80,7 @@ pub(super) fn check_pair(
     let mut ground = no_ground(alloc);
     tally.pairs = tally.pairs.saturating_add(1);
     for _ in 0..LIVES_OF_A_PAIR {
-        let life = live_by_chance(alloc, devices, chance, tally)?;
+        let life = live_by_chance(alloc, devices, &ground, chance, tally)?;
         (ground, devices) = check_loss(alloc, ground, life, chance, tally)?;
     }
     Ok(())
@@ -78,17 +90,19 @@ pub(super) fn check_pair(
 fn live_by_chance(
     alloc: Global,
     devices: Devices,
+    ground: &Ground,
     chance: &mut Chance,
     tally: &mut Tally,
 ) -> Result<Life, Trouble> {
     let mut world = devices.open(alloc)?;
     let mut history = ShortHistory::new(alloc);
-    go_on_by_chance(alloc, &mut world, &mut history, chance, tally)?;
+    go_on_by_chance(alloc, ground, &mut world, &mut history, chance, tally)?;
     ended(alloc, world, history)
 }
 
 fn go_on_by_chance(
     alloc: Global,
+    ground: &Ground,
     world: &mut Manager,
     history: &mut ShortHistory,
     chance: &mut Chance,
@@ -99,7 +113,11 @@ fn go_on_by_chance(
             0 => world.set_log_fuse(u64::from(chance.below(12))),
             1 => world.set_volume_fuse(u64::from(chance.below(40))),
             2 | 3 => check_dump(alloc, world, tally)?,
-            _ => go_on(alloc, world, history, chance, tally)?,
+            _ => {
+                if go_on(alloc, world, history, chance, tally)? {
+                    check_put_back(alloc, ground, history, ONE_SESSION, world)?;
+                }
+            }
         }
         if world.has_failed() && chance.below(4) == 0 {
             break;
@@ -111,21 +129,27 @@ fn go_on_by_chance(
     Ok(())
 }
 
-// One event.
+// One event. Answers whether it ends a rollback.
 fn go_on(
     alloc: Global,
     world: &mut Manager,
     history: &mut ShortHistory,
     chance: &mut Chance,
     tally: &mut Tally,
-) -> Result<(), Trouble> {
+) -> Result<bool, Trouble> {
     let doing = chance.doing();
+    let txn = history.txn(SESSION);
+    let waited = waiting_records(world);
     let step = world.step(alloc, doing.event(alloc, SESSION)?);
     tally.events = tally.events.saturating_add(1);
+    let appended = check_appended(world, txn, waited, &step)?;
+    tally.rollbacks.count(doing, &step, appended);
     if let Step::Done(Answer::Flushed(count)) = &step {
         tally.pages_flushed = tally.pages_flushed.saturating_add(*count as u64);
     }
-    history.note(alloc, SESSION, doing, step)
+    let ends_rollback = ends_rollback(&step);
+    history.note(alloc, SESSION, doing, step)?;
+    Ok(ends_rollback)
 }
 
 /// A dump shows what the records of the log come to, forced or not. One that a failure or a page without a force refuses shows nothing.
@@ -161,6 +185,7 @@ pub(super) fn check_loss(
     tally: &mut Tally,
 ) -> Result<(Ground, Devices), Trouble> {
     check_history(alloc, &ground, &life)?;
+    require(is_lawful(alloc, &life.list)?, "the log is not lawful")?;
     let answered = acknowledged(alloc, &life.entries)?;
     let of_log = chance.pick();
     life.devices.lose_power_by(of_log, chance.pick());
@@ -170,10 +195,7 @@ pub(super) fn check_loss(
     tally.commits_acknowledged = tally
         .commits_acknowledged
         .saturating_add(answered.as_slice().len() as u64);
-    let Some(gained) = wanted.found.get(ground.opened..) else {
-        return Err(Trouble::Wrong("a record of before is gone"));
-    };
-    count_ends(gained, tally);
+    count_ends(&ground, &wanted, tally)?;
     let mut devices = images.devices(alloc)?;
     for _ in 0..chance.below(4) {
         let (left, is_cut_off) = devices.open_cut_off(alloc, chance.fuse(), chance.pick())?;
@@ -186,12 +208,32 @@ pub(super) fn check_loss(
 }
 
 // The commits that were kept, and the losers that were undone.
-fn count_ends(gained: &[LogRecord], tally: &mut Tally) {
+fn count_ends(ground: &Ground, restarted: &Restarted, tally: &mut Tally) -> Result<(), Trouble> {
+    let Restarted { found, read, .. } = restarted;
+    let (Some(gained), Some(kept), Some(undone)) = (
+        found.get(ground.opened..),
+        found.get(..*read),
+        found.get(*read..),
+    ) else {
+        return Err(Trouble::Wrong("a record of before is gone"));
+    };
     for logged in gained {
-        match &logged.payload {
-            Payload::Commit => tally.commits_kept = tally.commits_kept.saturating_add(1),
-            Payload::End => tally.losers_undone = tally.losers_undone.saturating_add(1),
-            _ => {}
+        if logged.payload.is_commit() {
+            tally.commits_kept = tally.commits_kept.saturating_add(1);
         }
     }
+    for logged in undone {
+        if matches!(logged.payload, Payload::End) {
+            let is_begun = has_compensation(kept, logged.txn);
+            tally.losers_undone = tally.losers_undone.saturating_add(1);
+            tally.losers_begun = tally.losers_begun.saturating_add(u64::from(is_begun));
+        }
+    }
+    Ok(())
+}
+
+// A change of the transaction was put back.
+fn has_compensation(records: &[LogRecord], txn: TxnId) -> bool {
+    records.iter().any(|logged| logged.txn == txn
+        && matches!(logged.payload, Payload::Compensation { .. }))
 }

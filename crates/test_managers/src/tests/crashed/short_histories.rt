@@ -4,8 +4,9 @@ use super::trouble::{Trouble, require};
 use shore_model::{Answer, Call, Decision, Entry, Exchange};
 use shore_types::{Fault, SessionId, TxnId};
 use shore_world::{Step, Wait};
+use slow_histories::progress::{enter, start};
 use slow_histories::sessions::session_state_after;
-use std::alloc::Global;
+use std::alloc::{AllocError, Global};
 
 // A session whose call waits, and the call.
 #[derive(Clone, Copy)]
@@ -50,6 +51,15 @@ impl ShortHistory {
     /// The transaction that a session stands in, 0 for none.
     pub(super) fn txn(&self, session: SessionId) -> TxnId {
         session_state_after(session, &self.entries).txn
+    }
+
+    /// How many savepoints a transaction has.
+    pub(super) fn savepoints(&self, alloc: Global, txn: TxnId) -> Result<u32, AllocError> {
+        let mut progress = start(alloc);
+        for entry in &self.entries {
+            enter(alloc, &mut progress, txn, entry)?;
+        }
+        Ok(u32::try_from(progress.saved.as_slice().len()).unwrap_or(u32::MAX))
     }
 
     /// Notes what a session did and what it came to. A force and a flush add nothing.

@@ -1,0 +1,149 @@
+//! What savepoints and rollbacks come to: which records they append, what is in place behind them, and how often each has come up.
+use super::crashes::check_in_place;
+use super::devices::Manager;
+use super::doings::Doing;
+use super::lives::Ground;
+use super::short_histories::ShortHistory;
+use super::trouble::{Trouble, require};
+use shore_model::rid_map::overlaid;
+use shore_model::{Answer, LogRecord, Payload};
+use shore_types::{Fault, SessionId, TxnId};
+use shore_world::Step;
+use slow_histories::decisions::decisions;
+use slow_histories::replays::{serial_records, writes_of_txn};
+use std::alloc::Global;
+
+// What is to come up often has come up so many times.
+const OFTEN: u64 = 20;
+
+/// How often what has come up.
+#[derive(Clone, Copy, Debug, PartialEq)]
+pub(super) struct Rollbacks {
+    /// Aborts that put changes back, and those that had none to put back.
+    pub(super) aborts: u64,
+    pub(super) aborts_of_nothing: u64,
+    /// Ways back to a savepoint that put changes back, and those that had none to put back.
+    pub(super) ways_back: u64,
+    pub(super) ways_back_to_here: u64,
+    pub(super) savepoints: u64,
+    pub(super) no_savepoints: u64,
+    /// Rollbacks that were refused for want of a force, with some changes put back or none.
+    pub(super) interrupted: u64,
+    /// Calls that were refused since a rollback was not complete.
+    pub(super) must_abort: u64,
+}
+
+pub(super) const NO_ROLLBACKS: Rollbacks = Rollbacks {
+    aborts: 0,
+    aborts_of_nothing: 0,
+    ways_back: 0,
+    ways_back_to_here: 0,
+    savepoints: 0,
+    no_savepoints: 0,
+    interrupted: 0,
+    must_abort: 0,
+};
+
+impl Rollbacks {
+    /// Each kind that comes up while all pages are in frames, and often.
+    pub(super) fn has_each(&self) -> bool {
+        let of_aborts = self.aborts >= OFTEN && self.aborts_of_nothing >= OFTEN;
+        let of_ways_back = self.ways_back >= OFTEN && self.ways_back_to_here >= OFTEN;
+        of_aborts && of_ways_back && self.savepoints >= OFTEN && self.no_savepoints >= OFTEN
+    }
+
+    /// Counts what a step came to that has appended so many records.
+    pub(super) fn count(&mut self, doing: Doing, step: &Step, appended: usize) {
+        let is_rollback = matches!(doing, Doing::Abort | Doing::BackTo(_));
+        let counted = match step {
+            Step::Done(Answer::Aborted) if appended > 1 => &mut self.aborts,
+            Step::Done(Answer::Aborted) => &mut self.aborts_of_nothing,
+            Step::Done(Answer::WentBack) if appended > 0 => &mut self.ways_back,
+            Step::Done(Answer::WentBack) => &mut self.ways_back_to_here,
+            Step::Done(Answer::Saved(_)) => &mut self.savepoints,
+            Step::Refused(Fault::NoSavepoint) => &mut self.no_savepoints,
+            Step::Refused(Fault::NeedForce { .. }) if is_rollback => &mut self.interrupted,
+            Step::Refused(Fault::MustAbort) => &mut self.must_abort,
+            _ => return,
+        };
+        *counted = counted.saturating_add(1);
+    }
+}
+
+/// How many records the log of a manager has that wait for a force. A call adds to these, and takes none of them.
+pub(super) fn waiting_records(world: &Manager) -> usize {
+    let (_, waiting) = world.records();
+    waiting.len()
+}
+
+/// A way back appends Compensations alone; an abort too, and an End behind them unless its transaction has logged nothing; a savepoint appends nothing.
+/// Answers how many records one of these has appended, before which so many waited.
+pub(super) fn check_appended(
+    world: &Manager,
+    txn: TxnId,
+    waited: usize,
+    step: &Step,
+) -> Result<usize, Trouble> {
+    let (handed_over, waiting) = world.records();
+    let appended = waiting.get(waited..).unwrap_or(&[]);
+    let is_right = match step {
+        Step::Done(Answer::Aborted) => {
+            is_abort(txn, appended) || is_of_none(txn, handed_over, waiting)
+        }
+        Step::Done(Answer::WentBack) => are_compensations(txn, appended),
+        Step::Done(Answer::Saved(_)) => appended.is_empty(),
+        _ => return Ok(0),
+    };
+    require(is_right, "a savepoint or a rollback appends other records")?;
+    Ok(appended.len())
+}
+
+/// The step ends a rollback.
+pub(super) fn ends_rollback(step: &Step) -> bool {
+    matches!(step, Step::Done(Answer::WentBack | Answer::Aborted))
+}
+
+/// In place is what the commits that are decided come to, overlaid with what each session's transaction has written. A dump that a failure or a page without
+/// a force refuses shows nothing.
+pub(super) fn check_put_back(
+    alloc: Global,
+    ground: &Ground,
+    history: &ShortHistory,
+    sessions: u32,
+    world: &mut Manager,
+) -> Result<(), Trouble> {
+    let entries = history.entries();
+    let decided = decisions(alloc, entries)?;
+    let mut records = serial_records(alloc, &ground.opening, entries, decided.as_slice())?;
+    for number in 1..=sessions {
+        let txn = history.txn(SessionId(number));
+        let writes = writes_of_txn(alloc, &ground.opening, entries, txn)?;
+        records = overlaid(alloc, &records, &writes)?;
+    }
+    match check_in_place(alloc, world, &records)? {
+        Some(fault) => require(
+            matches!(fault, Fault::NeedForce { .. }) || world.has_failed(),
+            "the dump behind a rollback was refused",
+        ),
+        None => Ok(()),
+    }
+}
+
+fn are_compensations(txn: TxnId, records: &[LogRecord]) -> bool {
+    records.iter().all(|logged| logged.txn == txn
+        && matches!(logged.payload, Payload::Compensation { .. }))
+}
+
+// Compensations, and an End.
+fn is_abort(txn: TxnId, records: &[LogRecord]) -> bool {
+    let Some((last, before)) = records.split_last() else {
+        return false;
+    };
+    last.txn == txn && matches!(last.payload, Payload::End) && are_compensations(txn, before)
+}
+
+// No record is the transaction's.
+fn is_of_none(txn: TxnId, handed_over: &[LogRecord], waiting: &[LogRecord]) -> bool {
+    handed_over.iter().all(|logged| logged.txn != txn)
+        && waiting.iter().all(|logged| logged.txn != txn)
+}
