@@ -13,7 +13,7 @@ use std::time::Instant;
 const ROUNDS_OF_A_TRANSACTION: u64 = 100;
 
 // The names of all works.
-const WORKS: [&str; 12] = [
+const WORKS: [&str; 15] = [
     "call_get",
     "call_get_beside",
     "call_insert",
@@ -23,8 +23,11 @@ const WORKS: [&str; 12] = [
     "call_update_beside",
     "call_scan",
     "call_scan_beside",
+    "call_savepoint",
+    "call_back",
     "call_commit",
     "call_let_through",
+    "call_abort",
     "call_open",
 ];
 
@@ -41,6 +44,10 @@ pub enum Kind {
     Update,
     /// Scans a store of a thousand records, with few pages more than they need: a page that has no record is no record's cost.
     Scan,
+    /// Sets a savepoint, and goes back to the one before it, behind which nothing was changed.
+    Savepoint,
+    /// Updates one of a thousand records, and goes back to the savepoint before it.
+    Back,
 }
 
 /// What a round does.
@@ -55,6 +62,8 @@ pub enum Work {
     /// Commits one of 256 transactions, while the others wait for the record that it has updated: so the first of them has its turn. Then the session
     /// waits for the record anew, behind them all.
     LetThrough,
+    /// The abort of a transaction with so many updates as there are rounds: a round is an update that is put back.
+    Abort,
     /// An open of what a crash left of one transaction with so many inserts as there are rounds: a round is a record.
     Open,
 }
@@ -71,8 +80,11 @@ impl Work {
             "call_update_beside" => Some(Work::Beside(Kind::Update)),
             "call_scan" => Some(Work::Alone(Kind::Scan)),
             "call_scan_beside" => Some(Work::Beside(Kind::Scan)),
+            "call_savepoint" => Some(Work::Alone(Kind::Savepoint)),
+            "call_back" => Some(Work::Alone(Kind::Back)),
             "call_commit" => Some(Work::Commit),
             "call_let_through" => Some(Work::LetThrough),
+            "call_abort" => Some(Work::Abort),
             "call_open" => Some(Work::Open),
             _ => None,
         }
@@ -92,6 +104,7 @@ impl Work {
             Work::Alone(kind) | Work::Beside(kind) => kind.records(),
             Work::Commit => 0,
             Work::LetThrough => 1,
+            Work::Abort => 1_000,
             Work::Open => rounds,
         }
     }
@@ -101,7 +114,7 @@ impl Kind {
     fn records(self) -> u64 {
         match self {
             Kind::Insert => 0,
-            Kind::Get | Kind::Update | Kind::Scan => 1_000,
+            Kind::Get | Kind::Update | Kind::Scan | Kind::Savepoint | Kind::Back => 1_000,
             Kind::InsertFar => 78_000,
         }
     }
@@ -110,8 +123,18 @@ impl Kind {
     fn intention_beside(self) -> Mode {
         match self {
             Kind::Scan => Mode::IS,
-            Kind::Get | Kind::Insert | Kind::InsertFar | Kind::Update => Mode::IX,
+            Kind::Get
+            | Kind::Insert
+            | Kind::InsertFar
+            | Kind::Update
+            | Kind::Savepoint
+            | Kind::Back => Mode::IX,
         }
+    }
+
+    // Whether a transaction has a savepoint before its first round.
+    fn has_savepoint(self) -> bool {
+        matches!(self, Kind::Savepoint | Kind::Back)
     }
 }
 
@@ -131,12 +154,26 @@ fn call_of(alloc: Global, manager: &mut Manager, kind: Kind, round: u64) -> Resu
     Ok(match kind {
         Kind::Get => ask(alloc, manager, Call::Get(record_of(round))),
         Kind::Insert | Kind::InsertFar => ask(alloc, manager, Call::Insert(STORE, bytes(alloc)?)),
-        Kind::Update => {
-            let id = record_of(round);
-            ask(alloc, manager, Call::Update(id, bytes(alloc)?))
-        }
+        Kind::Update => update(alloc, manager, round)?,
         Kind::Scan => scanned(alloc, manager) == 1_000,
+        Kind::Savepoint => ask(alloc, manager, Call::Savepoint) && go_back(alloc, manager),
+        Kind::Back => update(alloc, manager, round)? && go_back(alloc, manager),
     })
+}
+
+fn update(alloc: Global, manager: &mut Manager, round: u64) -> Result<bool, Fault> {
+    let id = record_of(round);
+    Ok(ask(alloc, manager, Call::Update(id, bytes(alloc)?)))
+}
+
+// To the first savepoint.
+fn go_back(alloc: Global, manager: &mut Manager) -> bool {
+    ask(alloc, manager, Call::BackTo(0))
+}
+
+fn begin(alloc: Global, manager: &mut Manager, kind: Kind) -> bool {
+    let is_begun = ask(alloc, manager, Call::Begin);
+    is_begun && (!kind.has_savepoint() || ask(alloc, manager, Call::Savepoint))
 }
 
 // One round of a transaction, which begins with its first and commits with its last one.
@@ -148,7 +185,7 @@ fn round_within(
     is_last: bool,
 ) -> Result<bool, Fault> {
     let within = round % ROUNDS_OF_A_TRANSACTION;
-    let is_begun = within > 0 || ask(alloc, manager, Call::Begin);
+    let is_begun = within > 0 || begin(alloc, manager, kind);
     let is_done = call_of(alloc, manager, kind, round)?;
     let ends = is_last || within == ROUNDS_OF_A_TRANSACTION - 1;
     Ok(is_begun && is_done && (!ends || commit(alloc, manager)))
@@ -186,7 +223,7 @@ fn round_of(
         }
         Work::Commit => Ok(ask(alloc, manager, Call::Begin) && commit(alloc, manager)),
         Work::LetThrough => let_through(alloc, manager, round),
-        Work::Open => Ok(false),
+        Work::Abort | Work::Open => Ok(false),
     }
 }
 
@@ -210,6 +247,12 @@ fn prepare(alloc: Global, manager: &mut Manager, work: Work, rounds: u64) -> Res
     fill(alloc, manager, work.records(rounds))?;
     match work {
         Work::Alone(_) | Work::Commit | Work::Open => {}
+        Work::Abort => {
+            ask(alloc, manager, Call::Begin);
+            for round in 0..rounds {
+                update(alloc, manager, round)?;
+            }
+        }
         Work::Beside(kind) => {
             begin_beside(alloc, manager, kind.intention_beside());
         }
@@ -229,6 +272,7 @@ pub fn measured(rt: &HostRuntime, work: Work, rounds: u64) -> io::Result<(u128, 
         return Ok((0, 0));
     };
     match work {
+        Work::Abort => measured_abort(rt, &mut manager, rounds),
         Work::Open => measured_open(rt, manager, rounds),
         _ => measured_rounds(rt, &mut manager, work, rounds),
     }
@@ -244,6 +288,26 @@ fn measured_rounds(
     let done = rounds_of(rt.alloc(), manager, work, rounds).unwrap_or(0);
     let nanos = start.elapsed(rt)?.as_nanos() / u128::from(rounds.max(1));
     Ok((nanos, done))
+}
+
+// With how many updates were put back: the log has a record more for each, and one for the end.
+fn measured_abort(
+    rt: &HostRuntime,
+    manager: &mut Manager,
+    updates: u64,
+) -> io::Result<(u128, u64)> {
+    let before = logged(manager);
+    let start = Instant::now(rt)?;
+    let is_done = ask(rt.alloc(), manager, Call::Abort);
+    let nanos = start.elapsed(rt)?.as_nanos() / u128::from(updates.max(1));
+    let undone = logged(manager).saturating_sub(before).saturating_sub(1);
+    Ok((nanos, if is_done { undone } else { 0 }))
+}
+
+// How many records the log has.
+fn logged(manager: &Manager) -> u64 {
+    let (handed_over, waiting) = manager.records();
+    (handed_over.len() as u64).saturating_add(waiting.len() as u64)
 }
 
 // With how many records are shown.
