@@ -12,14 +12,15 @@ use Rattle.shore_model.specs.declared.histories.Entry.{Entry}
 use Rattle.shore_model.specs.declared.log_records.LogRecord.{LogRecord}
 use Rattle.shore_model.specs.Histories.{acknowledged, acknowledged_by, asked_by}
 use Rattle.shore_model.specs.Logs.{commit_of, committed_in, is_commit}
+use Rattle.shore_model.specs.Records.{Records}
 use Rattle.shore_model.proofs.RecordPaths.{head_contained, rest_contained}
 use Rattle.shore_sessions.proofs.Lists.{recursion-push}
 use Rattle.shore_sessions.proofs.LogPrefixes.{decisions_in-take}
 use Rattle.shore_sessions.proofs.Members.{among_with, among_without}
 use Rattle.shore_sessions.specs.LogPrefixes.{decisions_in}
-use Rattle.shore_sessions.specs.SessionSteps.{AnswerAbort, AnswerCommit, AppendCommit, BeginTxn, GiveReply, IsInnerCall, MoveLocks, PutBack, RefuseCall, SessionEvent, StepsTo, entries_by}
-use Rattle.shore_sessions.specs.Sessions.{IsCurrent, SessionTxn, Sessions}
-use Rattle.shore_sessions.specs.UndoLists.{undo_after, undo_rolled}
+use Rattle.shore_sessions.specs.SessionSteps.{AnswerAbort, AnswerCommit, AppendCommit, BeginTxn, Doom, GiveReply, IsInnerCall, MoveLocks, PutBack, RefuseCall, SessionEvent, StepsTo, entries_by}
+use Rattle.shore_sessions.specs.Sessions.{IsCurrent, SessionTxn, Sessions, with_undo}
+use Rattle.shore_sessions.specs.UndoLists.{UndoList}
 use Rattle.shore_sessions.specs.Views.{IsAmong}
 
 -- ---- elements of lists
@@ -66,6 +67,12 @@ module _ (base floor : ℕ) (old : Sessions) (log : List LogRecord) (k : Numbers
   numbers_in : (new : Sessions) → floor ≤ new.next_txn → ((a : SessionTxn) → IsCurrent new a → floor ≤ a.txn) → NumbersAreNew base floor new log
   numbers_in new next each = record { old = k.old; next = next; each = each }
 
+  -- another undo list of one of them changes no number
+  listed_anew : (R : Records) (t : ℕ) (undo : UndoList) → NumbersAreNew base floor record old { records = R; active = with_undo t undo old.active } log
+  listed_anew R t undo = numbers_in _ k.next (λ b. ⊎_elim
+      (λ active. let x = among_with t undo b old.active active in subst (λ n. floor ≤ n) (sym x.txn) (k.each x.was (inl x.there)))
+      (λ committing. k.each b (inr committing)))
+
   pub numbers_stay_new : (new : Sessions) (e : SessionEvent) → StepsTo old e new → NumbersAreNew base floor new log
   numbers_stay_new new (MoveLocks held) steps = subst (λ s. NumbersAreNew base floor s log) (sym steps.3) (numbers_in _ k.next k.each)
   numbers_stay_new new (BeginTxn session) steps =
@@ -75,21 +82,14 @@ module _ (base floor : ℕ) (old : Sessions) (log : List LogRecord) (k : Numbers
       (numbers_in _ more (λ a. ⊎_elim
       (λ active. ⊎_elim (λ e. subst (λ (x : SessionTxn). floor ≤ x.txn) e k.next) (λ later. k.each a (inl later)) active)
       (λ committing. k.each a (inr committing))))
-  numbers_stay_new new (GiveReply a c reply) steps =
-      subst (λ s. NumbersAreNew base floor s log) (sym steps.4)
-      (numbers_in _ k.next (λ b. ⊎_elim
-      (λ active. let x = among_with a.txn (undo_after old.records a.undo c reply) b old.active active in subst (λ n. floor ≤ n) (sym x.txn) (k.each x.was (inl x.there)))
-      (λ committing. k.each b (inr committing))))
+  numbers_stay_new new (GiveReply a c reply) steps = subst (λ s. NumbersAreNew base floor s log) (sym steps.4) (listed_anew _ a.txn _)
   numbers_stay_new new (AppendCommit a) steps =
       subst (λ s. NumbersAreNew base floor s log) (sym steps.2)
       (numbers_in _ k.next (λ b. ⊎_elim
       (λ active. k.each b (inl (among_without a.txn b old.active active).0))
       (λ committing. ⊎_elim (λ e. subst (λ (x : SessionTxn). floor ≤ x.txn) e (k.each a (inl steps.0))) (λ later. k.each b (inr later)) committing)))
-  numbers_stay_new new (PutBack a kept e r) steps =
-      subst (λ s. NumbersAreNew base floor s log) (sym steps.4)
-      (numbers_in _ k.next (λ b. ⊎_elim
-      (λ active. let x = among_with a.txn (undo_rolled a.undo kept r) b old.active active in subst (λ n. floor ≤ n) (sym x.txn) (k.each x.was (inl x.there)))
-      (λ committing. k.each b (inr committing))))
+  numbers_stay_new new (PutBack a kept e r) steps = subst (λ s. NumbersAreNew base floor s log) (sym steps.4) (listed_anew _ a.txn _)
+  numbers_stay_new new (Doom a) steps = subst (λ s. NumbersAreNew base floor s log) (sym steps.1) (listed_anew _ a.txn _)
   numbers_stay_new new (AnswerAbort a) steps =
       subst (λ s. NumbersAreNew base floor s log) (sym steps.1)
       (numbers_in _ k.next (λ b. ⊎_elim (λ active. k.each b (inl (among_without a.txn b old.active active).0)) (λ committing. k.each b (inr committing))))
@@ -160,6 +160,7 @@ module _ (P : Decision → Type 0) (es : List Entry) (h : AllByRecursion P (ackn
       acknowledges_none _ (ap (λ o. cond (is_ok reply) o None) (inner_asks_none a.txn c steps.1) ∙ none_either_way (is_ok reply))
   event_acknowledges old new (AppendCommit a) steps own = acknowledges_none _ refl
   event_acknowledges old new (PutBack a kept e r) steps own = subst (λ es. AllByRecursion P (acknowledged es)) (sym (append-nil es)) h
+  event_acknowledges old new (Doom a) steps own = subst (λ es. AllByRecursion P (acknowledged es)) (sym (append-nil es)) h
   event_acknowledges old new (AnswerAbort a) steps own = acknowledges_none _ refl
   event_acknowledges old new (AnswerCommit a) steps own = acknowledges_one _ (decision.Commit a.txn) refl (own a refl)
   event_acknowledges old new (RefuseCall session t c fault) steps own = acknowledges_none _ refl

@@ -25,7 +25,7 @@ use Rattle.shore_sessions.proofs.Lists.{recursion-weaker}
 use Rattle.shore_sessions.proofs.LogTells.{committed_one}
 use Rattle.shore_sessions.proofs.Members.{among_without}
 use Rattle.shore_sessions.specs.Logged.{and_compensations, and_record, and_rollback, log_after, log_after_answer, log_after_reply, next_to_undo}
-use Rattle.shore_sessions.specs.SessionSteps.{AnswerAbort, AnswerCommit, AppendCommit, BeginTxn, GiveReply, MoveLocks, PutBack, RefuseCall, SessionEvent, StepsTo, entries_by}
+use Rattle.shore_sessions.specs.SessionSteps.{AnswerAbort, AnswerCommit, AppendCommit, BeginTxn, Doom, GiveReply, MoveLocks, PutBack, RefuseCall, SessionEvent, StepsTo, entries_by}
 use Rattle.shore_sessions.specs.Sessions.{SessionTxn, Sessions}
 use Rattle.shore_sessions.specs.Soundness.{RunsTo}
 use Rattle.shore_sessions.specs.UndoLists.{images_since}
@@ -101,6 +101,7 @@ event_grows log s (BeginTxn session) = grows_by_none log
 event_grows log s (GiveReply a c reply) = reply_grows log s.records a c reply
 event_grows log s (AppendCommit a) = (_, refl)
 event_grows log s (PutBack a kept e r) = (_, refl)
+event_grows log s (Doom a) = grows_by_none log
 event_grows log s (AnswerAbort a) = rollback_grows a.txn log a.undo.images
 event_grows log s (AnswerCommit a) = grows_by_none log
 event_grows log s (RefuseCall session t c fault) = grows_by_none log
@@ -139,6 +140,7 @@ module _ (log : List LogRecord) (old : Sessions) (h : HaveCommits log old) where
       (λ later. still_committed a.txn log (log_after log old (AppendCommit b)) (event_grows log old (AppendCommit b)) (h a later))
       (subst (λ (s : Sessions). IsAmong a s.committing) m.2 at)
   still_have new (PutBack b kept e r) m = as_before new (PutBack b kept e r) (λ a at. subst (λ (s : Sessions). IsAmong a s.committing) m.4 at)
+  still_have new (Doom b) m = as_before new (Doom b) (λ a at. subst (λ (s : Sessions). IsAmong a s.committing) m.1 at)
   still_have new (AnswerAbort b) m = as_before new (AnswerAbort b) (λ a at. subst (λ (s : Sessions). IsAmong a s.committing) m.1 at)
   still_have new (AnswerCommit b) m =
       as_before new (AnswerCommit b) (λ a at. (among_without b.txn a old.committing (subst (λ (s : Sessions). IsAmong a s.committing) m.1 at)).0)

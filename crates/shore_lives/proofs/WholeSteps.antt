@@ -28,11 +28,12 @@ use Rattle.shore_sessions.proofs.Lists.{recursion-push, recursion-unpush, recurs
 use Rattle.shore_sessions.proofs.Members.{among_with, among_without, txn_among, txn_stays, txn_without, txns_with}
 use Rattle.shore_sessions.proofs.UnansweredChanges.{change_matches, compensations_match, unanswered_other}
 use Rattle.shore_sessions.specs.declared.rollbacks.Rollback.{Rollback}
+use Rattle.shore_sessions.specs.declared.rollbacks.Rollback.TheVariants.{Whole}
 use Rattle.shore_sessions.specs.LogTells.{IsLogAfter, MatchesUndo}
 use Rattle.shore_sessions.specs.Logged.{and_compensations, and_record, log_after, log_after_answer, log_after_reply}
 use Rattle.shore_sessions.specs.RepliesInPlace.{MayReplyInPlace, Permit}
-use Rattle.shore_sessions.specs.SessionSteps.{AnswerAbort, AnswerCommit, AppendCommit, BeginTxn, GiveReply, MoveLocks, PutBack, RefuseCall, SessionEvent, StepsTo}
-use Rattle.shore_sessions.specs.Sessions.{SessionTxn, Sessions, image_put_back, reply_given, txn_begun, txns_of, with_undo, without_txn}
+use Rattle.shore_sessions.specs.SessionSteps.{AnswerAbort, AnswerCommit, AppendCommit, BeginTxn, Doom, GiveReply, MoveLocks, PutBack, RefuseCall, SessionEvent, StepsTo}
+use Rattle.shore_sessions.specs.Sessions.{SessionTxn, Sessions, doomed, image_put_back, reply_given, txn_begun, txns_of, with_undo, without_txn}
 use Rattle.shore_sessions.specs.Soundness.{IsSoundAfter}
 use Rattle.shore_sessions.specs.UndoLists.{UndoList, in_place_after, mark_of, undo_after, undo_after_answer, undo_rolled}
 use Rattle.shore_sessions.specs.Views.{IsAmong}
@@ -167,6 +168,11 @@ module _ {o : Records} {es : List Entry} {s : Sessions} {log : List LogRecord} (
           undo = compensations_match a.txn log kept (e ∷ []) newest;
         }
 
+    -- ---- a doom: no record
+
+    pub doom_stays_whole : IsWholeLog log (doomed s a)
+    doom_stays_whole = gone_stays_whole s.records (undo_rolled a.undo a.undo.images Whole) log unmoved
+
     -- ---- an end
 
     module _ (more : List LogRecord) (by : HasMoreOf a.txn log more) (p : Payload) (follows : MayFollow more record { txn = a.txn; previous = previous_of a.txn more; payload = p })
@@ -292,6 +298,7 @@ event_stays_whole o es old new (AppendCommit a) log k l w steps =
     subst (IsWholeLog (log_after log old (AppendCommit a))) (sym steps.2) (commit_stays_whole k l w a steps.0 _ refl refl)
 event_stays_whole o es old new (PutBack a kept e r) log k l w steps =
     subst (IsWholeLog (log_after log old (PutBack a kept e r))) (sym steps.4) (put_back_stays_whole k l w a steps.0 kept e r steps.1)
+event_stays_whole o es old new (Doom a) log k l w steps = subst (IsWholeLog log) (sym steps.1) (doom_stays_whole k l w a steps.0)
 event_stays_whole o es old new (AnswerAbort a) log k l w steps =
     subst (IsWholeLog (log_after log old (AnswerAbort a))) (sym steps.1) (abort_stays_whole k l w a steps.0 _ refl refl)
 event_stays_whole o es old new (AnswerCommit a) log k l w steps = subst (IsWholeLog log) (sym steps.1) (quiet_stays_whole k l w _ refl refl)

@@ -8,7 +8,7 @@ use Rattle.shore_model.specs.declared.histories.Entry.{Entry}
 use Rattle.shore_model.specs.Logs.{committed_in}
 use Rattle.shore_recovery.specs.Recovery.{AppendRecord, FlushPage, ForceLog, LeadsTo, LosePower, RecoveryEvent, RecoveryState, RedoRecord}
 use Rattle.shore_sessions.specs.Logged.{log_after}
-use Rattle.shore_sessions.specs.SessionSteps.{AnswerAbort, AnswerCommit, AppendCommit, BeginTxn, GiveReply, MoveLocks, PutBack, RefuseCall, SessionEvent, StepsTo, entries_by}
+use Rattle.shore_sessions.specs.SessionSteps.{AnswerAbort, AnswerCommit, AppendCommit, BeginTxn, Doom, GiveReply, MoveLocks, PutBack, RefuseCall, SessionEvent, StepsTo, entries_by}
 use Rattle.shore_sessions.specs.Sessions.{Sessions}
 use Rattle.shore_sessions.specs.Views.{IsAmong}
 
@@ -46,6 +46,7 @@ AnswersDurable store (BeginTxn session) = Unit {0}
 AnswersDurable store (GiveReply a c reply) = Unit {0}
 AnswersDurable store (AppendCommit a) = Unit {0}
 AnswersDurable store (PutBack a kept e r) = Unit {0}
+AnswersDurable store (Doom a) = Unit {0}
 AnswersDurable store (AnswerAbort a) = Unit {0}
 AnswersDurable store (RefuseCall session t c fault) = Unit {0}
 

@@ -5,9 +5,10 @@ use Rattle.std.proofs.lemmas.List.{append-nil, append_assoc, take-append-drop}
 use Rattle.shore_types.specs.declared.ids.Rid.{Rid}
 use Rattle.shore_room.specs.LogRooms.{Admits, AnswerAdmits, EventAdmits, HasLogRoom, LogRoom, RoomAfter, Takes, TurnsTake, answered_room, begun_room, change_cost, changed_room, compensation_cost, compensation_costs, ended_room, left_room, owed, owed_by_all, undone_room, undone_rooms}
 use Rattle.shore_sessions.specs.declared.rollbacks.Rollback.{Rollback}
-use Rattle.shore_sessions.specs.SessionSteps.{AnswerAbort, AnswerCommit, AppendCommit, BeginTxn, GiveReply, MoveLocks, PutBack, RefuseCall, SessionEvent, StepsTo}
+use Rattle.shore_sessions.specs.declared.rollbacks.Rollback.TheVariants.{Whole}
+use Rattle.shore_sessions.specs.SessionSteps.{AnswerAbort, AnswerCommit, AppendCommit, BeginTxn, Doom, GiveReply, MoveLocks, PutBack, RefuseCall, SessionEvent, StepsTo}
 use Rattle.shore_sessions.specs.Sessions.{EachOnce, SessionTxn, Sessions, txns_of, with_undo, without_txn}
-use Rattle.shore_sessions.specs.UndoLists.{UndoList, mark_of, marks_kept, nothing_to_undo, undo_after_answer, with_before_image}
+use Rattle.shore_sessions.specs.UndoLists.{UndoList, mark_of, marks_kept, nothing_to_undo, undo_after_answer, undo_rolled, with_before_image}
 use Rattle.shore_sessions.specs.Views.{IsAmong}
 use Rattle.shore_types.specs.declared.layout.TheConstants.{ENDING_COST, GREATEST_CHECKPOINT, LONGEST_FRAME}
 use Rattle.shore_model.specs.declared.calls.Answer.{Answer}
@@ -186,6 +187,8 @@ module _ (spare : ℕ) (within : spare ≤ LONGEST_FRAME + GREATEST_CHECKPOINT) 
         subst (λ (n : Sessions). HasLogRoom spare n.active room') (sym moves.2) (same_room is (ended_takes spare s.active room h once a moves.0).1)
     event_room (PutBack a kept e r) new room' moves admits is = subst (λ (n : Sessions). HasLogRoom spare n.active room') (sym moves.4)
         (same_room is (undone_takes spare s.active room h once a moves.0 kept e (marks_kept r a.undo.marks) (Some r) moves.1).1)
+    event_room (Doom a) new room' moves admits is = subst (λ (n : Sessions). HasLogRoom spare n.active room') (sym moves.1)
+        (same_room is (stays a moves.0 (undo_rolled a.undo a.undo.images Whole) refl))
     event_room (AnswerAbort a) new room' moves admits is = subst (λ (n : Sessions). HasLogRoom spare n.active room') (sym moves.1)
         (⊎_elim (λ ended. same_room ended (aborted a moves.0).0) (λ left. same_room left (aborted a moves.0).1) is)
     event_room (AnswerCommit a) new room' moves admits is = subst (λ (n : Sessions). HasLogRoom spare n.active room') (sym moves.1) (same_room is h)

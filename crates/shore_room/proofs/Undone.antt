@@ -14,8 +14,9 @@ use Rattle.shore_model.specs.Records.{Records, laid_over, put_image}
 use Rattle.shore_room.specs.Claims.{Claimed, NoOthers, SlotCounts, befores_in}
 use Rattle.shore_room.specs.Events.{AnswerFits, ChangeFitsPage, EventFits}
 use Rattle.shore_sessions.specs.declared.rollbacks.Rollback.{Rollback}
+use Rattle.shore_sessions.specs.declared.rollbacks.Rollback.TheVariants.{Whole}
 use Rattle.shore_sessions.specs.RepliesInPlace.{Permit}
-use Rattle.shore_sessions.specs.SessionSteps.{AnswerAbort, AnswerCommit, AppendCommit, BeginTxn, GiveReply, MoveLocks, PutBack, RefuseCall, SessionEvent, StepsTo}
+use Rattle.shore_sessions.specs.SessionSteps.{AnswerAbort, AnswerCommit, AppendCommit, BeginTxn, Doom, GiveReply, MoveLocks, PutBack, RefuseCall, SessionEvent, StepsTo}
 use Rattle.shore_sessions.specs.Sessions.{SessionTxn, Sessions, with_undo, without_txn}
 use Rattle.shore_sessions.specs.Soundness.{IsSoundAfter}
 use Rattle.shore_sessions.specs.UndoLists.{UndoList, in_place_after_answer, mark_of, marks_kept, nothing_to_undo, undo_after_answer, undo_rolled, with_before_image}
@@ -124,6 +125,8 @@ module _ {o : Records} {es : List Entry} {s : Sessions} (after : IsSoundAfter o 
       subst (λ (n : Sessions). Claimed n.records n.active counts') (sym h.4)
       (subst (Claimed (put_image s.records e.0 e.1) (with_undo a.txn (undo_rolled a.undo kept r) s.active)) (sym fits)
       (undo_keeps s.records s.active counts k a h.0 kept e (marks_kept r a.undo.marks) (Some r) h.1))
+  event_claims (Doom a) new counts' h fits =
+      subst (λ (n : Sessions). Claimed n.records n.active counts') (sym h.1) (stays_on a h.0 counts' (undo_rolled a.undo a.undo.images Whole) refl fits)
   event_claims (AnswerAbort a) new counts' h fits =
       let k1 = undone_keeps s.records s.active counts k a h.0 a.undo.images [] [] None refl in
       let m1 = new_among (split s.active a k.once h.0) nothing_to_undo in

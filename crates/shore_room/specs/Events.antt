@@ -9,7 +9,7 @@ use Rattle.shore_model.specs.declared.calls.Call.TheVariants as call
 use Rattle.shore_model.specs.Records.{Records}
 use Rattle.shore_page.specs.Room.{Fits}
 use Rattle.shore_page.specs.Slots.{image_len}
-use Rattle.shore_sessions.specs.SessionSteps.{AnswerAbort, AnswerCommit, AppendCommit, BeginTxn, GiveReply, MoveLocks, PutBack, RefuseCall, SessionEvent}
+use Rattle.shore_sessions.specs.SessionSteps.{AnswerAbort, AnswerCommit, AppendCommit, BeginTxn, Doom, GiveReply, MoveLocks, PutBack, RefuseCall, SessionEvent}
 use Rattle.shore_sessions.specs.Sessions.{SessionTxn, Sessions}
 use Rattle.shore_room.specs.Claims.{Grows, SlotCounts, slots_of}
 
@@ -37,7 +37,7 @@ AnswerFits s counts (call.Prepare global) answer new = new ≡ counts
 AnswerFits s counts (call.Resolve global outcome) answer new = new ≡ counts
 AnswerFits s counts call.InDoubt answer new = new ≡ counts
 
--- No other event asks for room, a whole rollback neither, nor an image that is put back.
+-- No other event asks for room, a whole rollback neither, nor an image that is put back, nor a doom.
 abbrev pub EventFits : Sessions → SlotCounts → SessionEvent → SlotCounts → Type 0
 EventFits s counts (GiveReply a c (Ok answer)) new = AnswerFits s counts c answer new
 EventFits s counts (GiveReply a c (Err fault)) new = new ≡ counts
@@ -45,6 +45,7 @@ EventFits s counts (MoveLocks held) new = new ≡ counts
 EventFits s counts (BeginTxn session) new = new ≡ counts
 EventFits s counts (AppendCommit a) new = new ≡ counts
 EventFits s counts (PutBack a kept e r) new = new ≡ counts
+EventFits s counts (Doom a) new = new ≡ counts
 EventFits s counts (AnswerAbort a) new = new ≡ counts
 EventFits s counts (AnswerCommit a) new = new ≡ counts
 EventFits s counts (RefuseCall session t c fault) new = new ≡ counts

@@ -11,7 +11,7 @@ use Rattle.shore_model.specs.declared.calls.Call.{Call}
 use Rattle.shore_model.specs.declared.calls.Call.TheVariants as call
 use Rattle.shore_model.specs.Records.{Records}
 use Rattle.shore_sessions.specs.declared.rollbacks.Rollback.{Rollback}
-use Rattle.shore_sessions.specs.SessionSteps.{AnswerAbort, AnswerCommit, AppendCommit, BeginTxn, GiveReply, MoveLocks, PutBack, RefuseCall, SessionEvent}
+use Rattle.shore_sessions.specs.SessionSteps.{AnswerAbort, AnswerCommit, AppendCommit, BeginTxn, Doom, GiveReply, MoveLocks, PutBack, RefuseCall, SessionEvent}
 use Rattle.shore_sessions.specs.Sessions.{SessionTxn, Sessions, with_undo}
 use Rattle.shore_sessions.specs.UndoLists.{images_since}
 use Rattle.shore_sessions.specs.Views.{IsAmong}
@@ -125,6 +125,7 @@ RoomAfter s (GiveReply a c (Ok answer)) room new = new ≡ answered_room s.recor
 RoomAfter s (GiveReply a c (Err fault)) room new = new ≡ room
 RoomAfter s (AppendCommit a) room new = new ≡ ended_room (owed a) room
 RoomAfter s (PutBack a kept e r) room new = new ≡ undone_room e.1 room
+RoomAfter s (Doom a) room new = new ≡ room
 RoomAfter s (AnswerAbort a) room new =
     (new ≡ ended_room ENDING_COST (undone_rooms a.undo.images room)) ⊎ (new ≡ left_room ENDING_COST (undone_rooms a.undo.images room))
 RoomAfter s (MoveLocks held) room new = new ≡ room
@@ -162,6 +163,7 @@ EventAdmits s (GiveReply a c (Err fault)) room = Unit {0}
 EventAdmits s (MoveLocks held) room = Unit {0}
 EventAdmits s (AppendCommit a) room = Unit {0}
 EventAdmits s (PutBack a kept e r) room = Unit {0}
+EventAdmits s (Doom a) room = Unit {0}
 EventAdmits s (AnswerAbort a) room = Unit {0}
 EventAdmits s (AnswerCommit a) room = Unit {0}
 EventAdmits s (RefuseCall session t c fault) room = Unit {0}

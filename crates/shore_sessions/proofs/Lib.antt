@@ -1,4 +1,5 @@
 pub mod BeginSteps
+pub mod Doomed
 pub mod EndSteps
 pub mod EndedTxns
 pub mod Entries
@@ -20,6 +21,7 @@ pub mod QuietSteps
 pub mod Replies
 pub mod ReplySteps
 pub mod RollingBack
+pub mod Rollings
 pub mod Runs
 pub mod SessionsAgree
 pub mod Soundness

@@ -33,7 +33,7 @@ use Rattle.shore_sessions.specs.Logged.{and_compensations, and_record, log_after
 use Rattle.shore_sessions.specs.declared.rollbacks.Rollback.{Rollback}
 use Rattle.shore_sessions.specs.LogPrefixes.{DecidesNothing, LogDecides, TellsItsDecisions, decisions_in}
 use Rattle.shore_sessions.specs.LogTells.{IsLogAfter, records_committed}
-use Rattle.shore_sessions.specs.SessionSteps.{AnswerAbort, AnswerCommit, AppendCommit, BeginTxn, GiveReply, MoveLocks, PutBack, RefuseCall, SessionEvent, StepsTo, entries_by, exchange}
+use Rattle.shore_sessions.specs.SessionSteps.{AnswerAbort, AnswerCommit, AppendCommit, BeginTxn, Doom, GiveReply, MoveLocks, PutBack, RefuseCall, SessionEvent, StepsTo, entries_by, exchange}
 use Rattle.shore_sessions.specs.Sessions.{SessionTxn, Sessions}
 use Rattle.shore_sessions.specs.Soundness.{IsSoundAfter, decided_txn, written_by}
 use Rattle.shore_sessions.specs.Views.{IsAmong}
@@ -124,6 +124,7 @@ event_decides base o es old new (GiveReply a c reply) log k l d moves = reply_de
 event_decides base o es old new (AppendCommit a) log k l d moves = commit_decides k l d a moves.0 moves.1
 event_decides base o es old new (PutBack a kept e r) log k l d moves =
     subst (λ es. LogDecides base o es (log_after log old (PutBack a kept e r))) (sym (append-nil es)) (put_back_midst k l d a moves.0 kept e r)
+event_decides base o es old new (Doom a) log k l d moves = subst (λ es. LogDecides base o es log) (sym (append-nil es)) d
 event_decides base o es old new (AnswerAbort a) log k l d moves = abort_decides k l d a moves.0
 event_decides base o es old new (AnswerCommit a) log k l d moves =
     quiet_decides k l d a.session a.txn (exchange call.Commit (Ok Committed)) commit_is_quiet
@@ -138,6 +139,7 @@ event_midst base o es old new (BeginTxn session) log k l d moves none = d
 event_midst base o es old new (GiveReply a c reply) log k l d moves none = reply_midst k l d a moves.0 c reply
 event_midst base o es old new (AppendCommit a) log k l d moves none = absurd none
 event_midst base o es old new (PutBack a kept e r) log k l d moves none = put_back_midst k l d a moves.0 kept e r
+event_midst base o es old new (Doom a) log k l d moves none = d
 event_midst base o es old new (AnswerAbort a) log k l d moves none = abort_midst k l d a moves.0
 event_midst base o es old new (AnswerCommit a) log k l d moves none = d
 event_midst base o es old new (RefuseCall session t c fault) log k l d moves none = d

@@ -43,8 +43,9 @@ use Rattle.shore_sessions.specs.LogTells.{records_committed, AreLogged, HasLogge
 use Rattle.shore_sessions.specs.Logged.{and_compensations, and_record, log_after, log_after_answer, log_after_reply, next_to_undo}
 use Rattle.shore_sessions.specs.RepliesInPlace.{MayReplyInPlace, Permit}
 use Rattle.shore_sessions.specs.declared.rollbacks.Rollback.{Rollback}
-use Rattle.shore_sessions.specs.SessionSteps.{AnswerAbort, AnswerCommit, AppendCommit, BeginTxn, GiveReply, KeepsLocks, MoveLocks, PutBack, RefuseCall, SessionEvent, StepsTo, entries_by, exchange}
-use Rattle.shore_sessions.specs.Sessions.{SessionTxn, Sessions, abort_answered, commit_appended, image_put_back, locks_moved, reply_given, txn_begun, txns_of, without_txn}
+use Rattle.shore_sessions.specs.declared.rollbacks.Rollback.TheVariants.{Whole}
+use Rattle.shore_sessions.specs.SessionSteps.{AnswerAbort, AnswerCommit, AppendCommit, BeginTxn, Doom, GiveReply, KeepsLocks, MoveLocks, PutBack, RefuseCall, SessionEvent, StepsTo, entries_by, exchange}
+use Rattle.shore_sessions.specs.Sessions.{SessionTxn, Sessions, abort_answered, commit_appended, doomed, image_put_back, locks_moved, reply_given, txn_begun, txns_of, without_txn}
 use Rattle.shore_sessions.specs.Soundness.{IsJustOpened, IsSoundAfter, progress_in, serial_after}
 use Rattle.shore_sessions.specs.UndoLists.{CanUndo, UndoList, in_place_after, in_place_after_answer, mark_of, undo_after, undo_rolled, rolled_back}
 use Rattle.shore_sessions.specs.Views.{IsAmong}
@@ -300,6 +301,21 @@ module _ {o : Records} {es : List Entry} {s : Sessions} {log : List LogRecord} (
       below = grown a.txn log (Compensation e.0 e.1 (next_to_undo a.txn log)) less l.below;
     }
 
+    -- a doom appends nothing
+    pub doom_keeps_log : IsLogAfter o es (doomed s a) log
+    doom_keeps_log =
+        let undo = undo_rolled a.undo a.undo.images Whole in
+        record {
+          tells_serial = subst (λ ts. TellsSerial log s.held now s.records ts (progress_in es)) (sym (txns_with a.txn undo s.active)) l.tells_serial;
+          undo_logged = λ b in_with. let one = among_with a.txn undo b s.active in_with in
+              ⊎_elim
+              (λ it. subst (λ u. AreLogged log u b.undo.images) (sym it.0)
+              (subst (λ (undo : UndoList). AreLogged log a.txn undo.images) (sym it.1) (l.undo_logged a mem)))
+              (λ other. l.undo_logged b (subst (λ y. IsAmong y s.active) (sym other.1) one.there))
+              one.one;
+          below = l.below;
+        }
+
     abbrev aborted : Exchange
     aborted = exchange call.Abort (Ok Aborted)
 
@@ -435,6 +451,8 @@ event_keeps_log o es old new (AppendCommit a) log k l moves = at_new o _ _ _ new
 event_keeps_log o es old new (PutBack a kept e r) log k l moves =
     at_new o _ _ _ new moves.4
     (subst (λ es. IsLogAfter o es (image_put_back old a kept e r) (log_after log old (PutBack a kept e r))) (sym (append-nil es)) (put_back_keeps_log k l a moves.0 kept e r moves.1))
+event_keeps_log o es old new (Doom a) log k l moves =
+    at_new o _ _ _ new moves.1 (subst (λ es. IsLogAfter o es (doomed old a) log) (sym (append-nil es)) (doom_keeps_log k l a moves.0))
 event_keeps_log o es old new (AnswerAbort a) log k l moves = at_new o _ _ _ new moves.1 (abort_keeps_log k l a moves.0)
 event_keeps_log o es old new (AnswerCommit a) log k l moves =
     at_new o _ _ _ new moves.1

@@ -14,7 +14,7 @@ use Rattle.shore_model.specs.Records.{Records}
 use Rattle.shore_model.proofs.Overlays.{get-overlay}
 use Rattle.shore_sessions.proofs.InPlace.{has_image}
 use Rattle.shore_sessions.proofs.Members.{txn_of_one}
-use Rattle.shore_sessions.proofs.PutBacks.{some_not_none}
+use Rattle.shore_sessions.proofs.Rollings.{some_not_none}
 use Rattle.shore_sessions.proofs.Views.{not_some, overlay_none, some_or_none, writer_excludes}
 use Rattle.shore_sessions.specs.LogTells.{IsLogAfter}
 use Rattle.shore_sessions.specs.Sessions.{SessionTxn, Sessions, txns_of}

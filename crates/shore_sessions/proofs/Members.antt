@@ -98,3 +98,13 @@ once_without t (x ∷ xs) h =
       | true ↦ once_without t xs h.1
       | false ↦ (λ later. h.0 (txn_without t x.txn xs later).0, once_without t xs h.1)
     ]
+
+-- its number tells which it is
+pub same_member : (a b : SessionTxn) (xs : List SessionTxn) → EachOnce (txns_of xs) → IsAmong a xs → IsAmong b xs → a.txn ≡ b.txn → a ≡ b
+same_member a b [] once m n same = absurd m
+same_member a b (x ∷ xs) once (inl d) (inl e) same = sym d ∙ e
+same_member a b (x ∷ xs) once (inl d) (inr later) same =
+    absurd (once.0 (subst (λ t. IsAmong t (txns_of xs)) (sym same ∙ ap (λ (a : SessionTxn). a.txn) (sym d)) (txn_among b xs later)))
+same_member a b (x ∷ xs) once (inr later) (inl e) same =
+    absurd (once.0 (subst (λ t. IsAmong t (txns_of xs)) (same ∙ ap (λ (a : SessionTxn). a.txn) (sym e)) (txn_among a xs later)))
+same_member a b (x ∷ xs) once (inr m) (inr n) same = same_member a b xs once.1 m n same

@@ -1,37 +1,29 @@
--- One image of a transaction is put back, and the history stays sound.
-use Rattle.std.proofs.Common.{◌≡◌, ◌≢◌, ◌⊎◌, ⊎_elim, ◌++◌, ◌≤◌, ℕ, List, [], ◌∷◌, Some, None, map, refl, sym, ap, subst, ◌∙◌, length}
-use Rattle.std.specs.Prelude.{IsSome}
+-- One image of a transaction is put back, or none yet of one that is doomed, and the history stays sound.
+use Rattle.std.proofs.Common.{◌≡◌, ◌≢◌, ◌⊎◌, inl, ◌++◌, ◌≤◌, ℕ, List, [], ◌∷◌, refl, subst, length}
 use Rattle.std.specs.FinMap.{get}
 use Rattle.std.specs.List.{AllByRecursion}
 use Rattle.shore_types.specs.Images.{Image}
 use Rattle.shore_types.specs.declared.ids.Rid.{Rid}
 use Rattle.shore_model.specs.declared.histories.Entry.{Entry}
 use Rattle.shore_model.specs.Locks.{MayRead, MayWrite}
-use Rattle.shore_model.specs.Records.{Records, WriteSet, put_image}
+use Rattle.shore_model.specs.Records.{Records, put_image}
 use Rattle.shore_sessions.proofs.Lists.{recursion-last}
-use Rattle.shore_sessions.proofs.Members.{HasNewUndo, among_with, txn_among, txns_with}
-use Rattle.shore_sessions.proofs.Standing.{left_stands, sees_left, standing_its, standing_others, with_standing, written_at}
-use Rattle.shore_sessions.proofs.UndoLists.{laid_or_left, step_undoes, undo_kept_by_others}
-use Rattle.shore_sessions.proofs.Views.{one_writes, writer_excludes}
+use Rattle.shore_sessions.proofs.Rollings.{rolling_elsewhere, rolling_stays_sound}
+use Rattle.shore_sessions.proofs.UndoLists.{doom_undoes, laid_or_left, step_undoes}
 use Rattle.shore_sessions.specs.declared.rollbacks.Rollback.{Rollback}
-use Rattle.shore_sessions.specs.Sessions.{SessionTxn, Sessions, image_put_back, txns_of}
-use Rattle.shore_sessions.specs.Soundness.{IsSoundAfter, StandsFor, progress_in, serial_after}
-use Rattle.shore_sessions.specs.UndoLists.{CanUndo, MayRoll, UndoList, least_kept, undo_rolled}
-use Rattle.shore_sessions.specs.Views.{IsAmong, Sees, Stand}
+use Rattle.shore_sessions.specs.declared.rollbacks.Rollback.TheVariants.{Whole}
+use Rattle.shore_sessions.specs.Sessions.{SessionTxn, Sessions, doomed, image_put_back}
+use Rattle.shore_sessions.specs.Soundness.{IsSoundAfter}
+use Rattle.shore_sessions.specs.UndoLists.{MayRoll, least_kept}
+use Rattle.shore_sessions.specs.Views.{IsAmong}
 
-pub some_not_none : {A : Type 0} {P : Type 0} (x : A) → Some x ≡ None → P
-some_not_none x e = cc
+module _ {o : Records} {es : List Entry} {s : Sessions} (k : IsSoundAfter o es s) (a : SessionTxn) (mem : IsAmong a s.active) where
+  pub doom_stays_sound : IsSoundAfter o es (doomed s a)
+  doom_stays_sound = rolling_stays_sound k a mem s.records (λ id. inl refl) a.undo.images Whole (doom_undoes (k.undoes a mem))
 
-module _ {o : Records} {es : List Entry} {s : Sessions} (k : IsSoundAfter o es s) where
-  abbrev now : Records
-  now = serial_after o es
-
-  module _ (a : SessionTxn) (mem : IsAmong a s.active) (kept : List (Rid × Image)) (e : Rid × Image) (is : a.undo.images ≡ kept ++ e ∷ []) where
+  module _ (kept : List (Rid × Image)) (e : Rid × Image) (is : a.undo.images ≡ kept ++ e ∷ []) where
     abbrev pub R' : Records
     R' = put_image s.records e.0 e.1
-
-    t_in : IsAmong a.txn (txns_of s.active)
-    t_in = txn_among a s.active mem
 
     -- it may write the id, so that nobody else may read it
     pub may_put_back : MayWrite s.held a.txn e.0
@@ -42,61 +34,8 @@ module _ {o : Records} {es : List Entry} {s : Sessions} (k : IsSoundAfter o es s
     put_back_changes id = laid_or_left (MayWrite s.held a.txn) s.records (e ∷ []) id (may_put_back, tt)
 
     pub put_back_elsewhere : (u : ℕ) → u ≢ a.txn → (id : Rid) → MayRead s.held u id → get R' id ≡ get s.records id
-    put_back_elsewhere u other id r =
-        ⊎_elim (λ same. same) (λ w. absurd (writer_excludes k.stand a.txn u id (λ same. other (sym same)) w r)) (put_back_changes id)
+    put_back_elsewhere = rolling_elsewhere k a mem R' put_back_changes
 
-    module _ (r : Rollback) (may : MayRoll a.undo r) (least : least_kept a.undo r ≤ length kept) where
-      abbrev undo' : UndoList
-      undo' = undo_rolled a.undo kept r
-
-      left_undoes : CanUndo s.held now R' a.txn undo' (progress_in es a.txn)
-      left_undoes = step_undoes (k.undoes a mem) kept e is r may least
-
-      -- what is in place at the ids of the images that are left stands for it from now on
-      abbrev standing' : ℕ → WriteSet
-      standing' = with_standing k.standing a.txn (written_at R' kept)
-
-      left_for : (b : SessionTxn) → HasNewUndo a.txn undo' s.active b → StandsFor es b (standing' b.txn)
-      left_for b one =
-          ⊎_elim
-          (λ it.
-          let its : standing' b.txn ≡ written_at R' kept =
-          ap standing' it.0 ∙ standing_its k.standing a.txn (written_at R' kept) in
-          record {
-            written = λ none. some_not_none r (sym (ap (λ (undo : UndoList). undo.rolling) it.1) ∙ none);
-            left = λ i id some.
-                subst (λ (undo : UndoList). IsAmong id (map (λ e. e.0) undo.images)) (sym it.1)
-                (left_stands left_undoes id (subst (λ W. IsSome (get W id)) its some));
-          })
-          (λ other.
-          subst (StandsFor es b) (sym (standing_others k.standing a.txn (written_at R' kept) b.txn other.0))
-          (k.stands_for b (subst (λ y. IsAmong y s.active) (sym other.1) one.there)))
-          one.one
-
-      left_can : (b : SessionTxn) → HasNewUndo a.txn undo' s.active b → CanUndo s.held now R' b.txn b.undo (progress_in es b.txn)
-      left_can b one =
-          ⊎_elim
-          (λ it. subst (λ u. CanUndo s.held now R' u b.undo (progress_in es u)) (sym it.0)
-          (subst (λ tr. CanUndo s.held now R' a.txn tr (progress_in es a.txn)) (sym it.1) left_undoes))
-          (λ other.
-          undo_kept_by_others (k.undoes b (subst (λ y. IsAmong y s.active) (sym other.1) one.there)) now R'
-          (λ id r. (put_back_elsewhere b.txn other.0 id r, refl)))
-          one.one
-
-      pub put_back_stays_sound : IsSoundAfter o es (image_put_back s a kept e r)
-      put_back_stays_sound = record {
-        sound = k.sound;
-        standing = standing';
-        stands_for = λ b in_with. left_for b (among_with a.txn undo' b s.active in_with);
-        stand =
-            subst (λ ts. Stand s.held now R' ts standing') (sym (txns_with a.txn undo' s.active))
-            (one_writes k.stand a.txn t_in R' standing' (λ u other. standing_others k.standing a.txn (written_at R' kept) u other) put_back_changes
-            (subst (Sees s.held now R' a.txn) (sym (standing_its k.standing a.txn (written_at R' kept))) (sees_left left_undoes)));
-        replies = λ u b. k.replies u (subst (IsAmong u) (txns_with a.txn undo' s.active) b);
-        undoes = λ b in_with. left_can b (among_with a.txn undo' b s.active in_with);
-        undecided = λ u b. k.undecided u (subst (IsAmong u) (txns_with a.txn undo' s.active) b);
-        below = λ u b. k.below u (subst (IsAmong u) (txns_with a.txn undo' s.active) b);
-        decided = k.decided;
-        uncalled = k.uncalled;
-        unheld = k.unheld;
-      }
+    pub put_back_stays_sound : (r : Rollback) → MayRoll a.undo r → least_kept a.undo r ≤ length kept → IsSoundAfter o es (image_put_back s a kept e r)
+    put_back_stays_sound r may least =
+        rolling_stays_sound k a mem R' put_back_changes kept r (step_undoes (k.undoes a mem) kept e is r may least)

@@ -4,9 +4,7 @@ use Rattle.std.specs.Prelude.{◌==◌, ◌&&◌, All, IfSome, IsSomeAnd, slice_
 use Rattle.std.specs.FinMap.{get}
 use Rattle.std.proofs.lemmas.Bool.{eqb-true, eqb-false, eq-eqb, ne_eqb}
 use Rattle.std.proofs.lemmas.List.Elements.{All-nil, All-push, All-weaker}
-use Rattle.shore_types.specs.Images.{Image}
 use Rattle.shore_types.specs.declared.faults.Fault.{Fault}
-use Rattle.shore_types.specs.declared.ids.Rid.{Rid}
 use Rattle.shore_model.specs.declared.calls.Answer.{Answer}
 use Rattle.shore_model.specs.declared.calls.Answer.TheVariants.{Began, Got, Inserted, Updated, Deleted, Scanned, Locked, Saved, WentBack, Aborted, Committed}
 use Rattle.shore_model.specs.declared.calls.Call.{Call}
@@ -19,15 +17,15 @@ use Rattle.shore_model.specs.declared.holds.Hold.{Hold}
 use Rattle.shore_model.specs.declared.sessions.SessionState.{SessionState}
 use Rattle.shore_model.specs.Alone.{IsRight}
 use Rattle.shore_model.specs.Histories.{IsHistory, IsNewNumber, IsOfTxn, after_entry, after_own_reply, all_prepared, began, begun_by, decisions, free, session_state}
-use Rattle.shore_model.specs.Records.{Records, scan_of}
+use Rattle.shore_model.specs.Records.{Records, put_image, scan_of}
 use Rattle.shore_sessions.proofs.Entries.{history-push, session_state-push}
 use Rattle.shore_sessions.proofs.Members.{among_with, among_without, member_stays, once_without, txn_of_one, txns_with, with_among}
 use Rattle.shore_sessions.specs.RepliesInPlace.{MayReplyInPlace}
-use Rattle.shore_sessions.specs.declared.rollbacks.Rollback.{Rollback}
-use Rattle.shore_sessions.specs.SessionSteps.{AnswerAbort, AnswerCommit, AppendCommit, BeginTxn, GiveReply, IsInnerCall, MoveLocks, PutBack, RefuseCall, SessionEvent, StepsTo, entries_by, exchange}
-use Rattle.shore_sessions.specs.Sessions.{EachOnce, IsCurrent, IsInNoTxn, IsTxnOf, SessionTxn, Sessions, abort_answered, commit_answered, commit_appended, image_put_back, locks_moved, reply_given, txn_begun, txns_of}
+use Rattle.shore_sessions.specs.declared.rollbacks.Rollback.TheVariants.{Whole}
+use Rattle.shore_sessions.specs.SessionSteps.{AnswerAbort, AnswerCommit, AppendCommit, BeginTxn, Doom, GiveReply, IsInnerCall, MoveLocks, PutBack, RefuseCall, SessionEvent, StepsTo, entries_by, exchange}
+use Rattle.shore_sessions.specs.Sessions.{EachOnce, IsCurrent, IsInNoTxn, IsTxnOf, SessionTxn, Sessions, abort_answered, commit_answered, commit_appended, doomed, image_put_back, locks_moved, reply_given, txn_begun, txns_of, with_undo}
 use Rattle.shore_sessions.specs.Soundness.{IsJustOpened, SessionsAgree, history_from, in_txn, opening_with}
-use Rattle.shore_sessions.specs.UndoLists.{nothing_to_undo, undo_after, undo_rolled}
+use Rattle.shore_sessions.specs.UndoLists.{UndoList, nothing_to_undo, undo_after, undo_rolled}
 use Rattle.shore_sessions.specs.Views.{IsAmong}
 
 -- ---- replies that leave their sessions as they are
@@ -159,11 +157,10 @@ module _ {o : Records} {es : List Entry} {s : Sessions} (k : SessionsAgree o es 
       (λ b d x y same. let one = among_with a.txn undo b s.active x in k.apart one.was d one.there y (sym one.txn ∙ same))
       (subst EachOnce (sym (txns_with a.txn undo s.active)) k.once)
 
-  -- an image is put back: each session is where it was
-  pub put_back_agrees : (a : SessionTxn) (kept : List (Rid × Image)) (e : Rid × Image) (r : Rollback) → SessionsAgree o es (image_put_back s a kept e r)
-  put_back_agrees a kept e r =
-      let undo = undo_rolled a.undo kept r in
-      let new : Sessions = image_put_back s a kept e r in
+  -- a rollback begins or goes on: each session is where it was
+  pub rolling_agrees : (a : SessionTxn) (R : Records) (undo : UndoList) → SessionsAgree o es record s { records = R; active = with_undo a.txn undo s.active }
+  rolling_agrees a R undo =
+      let new : Sessions = record s { records = R; active = with_undo a.txn undo s.active } in
       let was : (b : SessionTxn) → IsCurrent new b → (d : SessionTxn) × IsCurrent s d × (b.session ≡ d.session) × (b.txn ≡ d.txn) =
       λ b y. ⊎_elim (λ x. let one = among_with a.txn undo b s.active x in (one.was, inl one.there, one.session, one.txn)) (λ x. (b, inr x, refl, refl)) y in
       let still : (b : SessionTxn) → IsCurrent s b → (d : SessionTxn) × IsCurrent new d × (d.session ≡ b.session) =
@@ -314,7 +311,10 @@ event_agrees o es old new (GiveReply a c reply) k moves = subst (SessionsAgree o
 event_agrees o es old new (AppendCommit a) k moves = subst (SessionsAgree o _) (sym moves.2) (commit_agrees k a moves.0)
 event_agrees o es old new (PutBack a kept e r) k moves =
     subst (SessionsAgree o (es ++ [])) (sym moves.4)
-    (subst (λ es. SessionsAgree o es (image_put_back old a kept e r)) (sym (append-nil es)) (put_back_agrees k a kept e r))
+    (subst (λ es. SessionsAgree o es (image_put_back old a kept e r)) (sym (append-nil es)) (rolling_agrees k a (put_image old.records e.0 e.1) (undo_rolled a.undo kept r)))
+event_agrees o es old new (Doom a) k moves =
+    subst (SessionsAgree o (es ++ [])) (sym moves.1)
+    (subst (λ es. SessionsAgree o es (doomed old a)) (sym (append-nil es)) (rolling_agrees k a old.records (undo_rolled a.undo a.undo.images Whole)))
 event_agrees o es old new (AnswerAbort a) k moves = subst (SessionsAgree o _) (sym moves.1) (abort_agrees k a moves.0)
 event_agrees o es old new (AnswerCommit a) k moves = subst (SessionsAgree o _) (sym moves.1) (answer_agrees k a moves.0)
 event_agrees o es old new (RefuseCall session t c fault) k moves = subst (SessionsAgree o _) (sym moves.2) (refusal_agrees k session t c fault moves.0)

@@ -12,13 +12,13 @@ use Rattle.shore_model.specs.Histories.{decisions}
 use Rattle.shore_model.specs.Records.{Records}
 use Rattle.shore_sessions.proofs.Exchanges.{commit_is_quiet, refusal_is_quiet}
 use Rattle.shore_sessions.proofs.StrongerLocks.{no_locks_in_harmony}
-use Rattle.shore_sessions.specs.SessionSteps.{AnswerAbort, AnswerCommit, AppendCommit, BeginTxn, GiveReply, MoveLocks, PutBack, RefuseCall, SessionEvent, StepsTo, entries_by, exchange}
-use Rattle.shore_sessions.specs.Sessions.{IsTxnOf, Sessions, image_put_back, locks_moved, txns_of, without_txn}
+use Rattle.shore_sessions.specs.SessionSteps.{AnswerAbort, AnswerCommit, AppendCommit, BeginTxn, Doom, GiveReply, MoveLocks, PutBack, RefuseCall, SessionEvent, StepsTo, entries_by, exchange}
+use Rattle.shore_sessions.specs.Sessions.{IsTxnOf, Sessions, doomed, image_put_back, locks_moved, txns_of, without_txn}
 use Rattle.shore_sessions.specs.Soundness.{IsJustOpened, IsSoundAfter, SessionsAgree, written_by}
 use Rattle.shore_sessions.specs.Views.{IsAmong, Stand}
 use Rattle.shore_sessions.proofs.BeginSteps.{begin_stays_sound}
 use Rattle.shore_sessions.proofs.EndSteps.{abort_stays_sound, commit_stays_sound}
-use Rattle.shore_sessions.proofs.PutBacks.{put_back_stays_sound}
+use Rattle.shore_sessions.proofs.PutBacks.{doom_stays_sound, put_back_stays_sound}
 use Rattle.shore_sessions.proofs.QuietSteps.{locks_stay_sound, quiet_stays_sound}
 use Rattle.shore_sessions.proofs.ReplySteps.{reply_stays_sound}
 
@@ -41,6 +41,8 @@ event_stays_sound o es old new (AppendCommit a) k agree moves = subst (IsSoundAf
 event_stays_sound o es old new (PutBack a kept e r) k agree moves =
     subst (IsSoundAfter o (es ++ [])) (sym moves.4)
     (subst (λ es. IsSoundAfter o es (image_put_back old a kept e r)) (sym (append-nil es)) (put_back_stays_sound k a moves.0 kept e moves.1 r moves.2 moves.3))
+event_stays_sound o es old new (Doom a) k agree moves =
+    subst (IsSoundAfter o (es ++ [])) (sym moves.1) (subst (λ es. IsSoundAfter o es (doomed old a)) (sym (append-nil es)) (doom_stays_sound k a moves.0))
 event_stays_sound o es old new (AnswerAbort a) k agree moves = subst (IsSoundAfter o _) (sym moves.1) (abort_stays_sound k a moves.0)
 event_stays_sound o es old new (AnswerCommit a) k agree moves =
     subst (IsSoundAfter o _) (sym moves.1)

@@ -301,6 +301,10 @@ module _ {held : List Hold} {now R : Records} {t : ℕ} {undo : UndoList} {p : P
       complete = λ none. cc;
     }
 
+  -- from now on it is undone only as a whole, and its savepoints go
+  pub doom_undoes : CanUndo held now R t (undo_rolled undo undo.images Whole) p
+  doom_undoes = record { changed = k.changed; whole = k.whole; savepoints = tt; rise = tt; complete = λ none. cc }
+
   -- it is undone as a whole: the records that it may read are serial again
   pub undone_agrees : (id : Rid) → MayRead held t id → get (rolled_back R undo.images) id ≡ get now id
   undone_agrees id r = k.whole.view id r ∙ ap (λ S. get S id) (overlay_empty now)

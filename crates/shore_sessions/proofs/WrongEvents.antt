@@ -21,7 +21,7 @@ use Rattle.shore_sessions.proofs.WorkedRun.{only_one, record_on_path}
 use Rattle.shore_sessions.specs.declared.rollbacks.Rollback.{Rollback}
 use Rattle.shore_sessions.specs.declared.rollbacks.Rollback.TheVariants.{To}
 use Rattle.shore_sessions.specs.RepliesInPlace.{MayReplyInPlace}
-use Rattle.shore_sessions.specs.SessionSteps.{AppendCommit, BeginTxn, GiveReply, MoveLocks, PutBack, StepsTo}
+use Rattle.shore_sessions.specs.SessionSteps.{AppendCommit, BeginTxn, Doom, GiveReply, MoveLocks, PutBack, StepsTo}
 use Rattle.shore_sessions.specs.Sessions.{IsCurrent, SessionTxn, Sessions, txns_of}
 use Rattle.shore_sessions.specs.UndoLists.{mark_of}
 use Rattle.shore_sessions.specs.Views.{IsAmong}
@@ -116,3 +116,6 @@ module _ (s new : Sessions) where
   pub before_savepoint : (a : SessionTxn) (kept : List (Rid × Image)) (e : Rid × Image) (n : ℕ) → length kept < mark_of a.undo n
       → StepsTo s (PutBack a kept e (To n)) new → ⊥
   before_savepoint a kept e n less step = let least = step.3 in omega arith
+
+  pub doom_of_another : (a : SessionTxn) → (IsAmong a s.active → ⊥) → StepsTo s (Doom a) new → ⊥
+  doom_of_another a other step = other step.0

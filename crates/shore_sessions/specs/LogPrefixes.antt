@@ -8,7 +8,7 @@ use Rattle.shore_model.specs.Histories.{decisions, serial}
 use Rattle.shore_model.specs.Logs.{committed_in}
 use Rattle.shore_model.specs.Records.{Records, WriteSet}
 use Rattle.shore_sessions.specs.LogTells.{records_committed}
-use Rattle.shore_sessions.specs.SessionSteps.{SessionEvent, MoveLocks, BeginTxn, GiveReply, AppendCommit, PutBack, AnswerAbort, AnswerCommit, RefuseCall}
+use Rattle.shore_sessions.specs.SessionSteps.{SessionEvent, MoveLocks, BeginTxn, GiveReply, AppendCommit, PutBack, Doom, AnswerAbort, AnswerCommit, RefuseCall}
 use Rattle.shore_sessions.specs.Soundness.{written_by}
 
 -- the decisions that a list has gained since an open that found its first `base` records: a Commit of each that committed
@@ -36,6 +36,7 @@ DecidesNothing (BeginTxn session) = Unit {0}
 DecidesNothing (GiveReply a c reply) = Unit {0}
 DecidesNothing (AppendCommit a) = ⊥
 DecidesNothing (PutBack a kept e r) = Unit {0}
+DecidesNothing (Doom a) = Unit {0}
 DecidesNothing (AnswerAbort a) = Unit {0}
 DecidesNothing (AnswerCommit a) = Unit {0}
 DecidesNothing (RefuseCall session t c fault) = Unit {0}

@@ -13,7 +13,7 @@ use Rattle.shore_model.specs.declared.log_records.Payload.{Payload}
 use Rattle.shore_model.specs.declared.log_records.Payload.TheVariants.{Change, Compensation, Commit, End}
 use Rattle.shore_model.specs.Logs.{previous_of, undo_next_of, unanswered}
 use Rattle.shore_model.specs.Records.{Records}
-use Rattle.shore_sessions.specs.SessionSteps.{SessionEvent, MoveLocks, BeginTxn, GiveReply, AppendCommit, PutBack, AnswerAbort, AnswerCommit, RefuseCall}
+use Rattle.shore_sessions.specs.SessionSteps.{SessionEvent, MoveLocks, BeginTxn, GiveReply, AppendCommit, PutBack, Doom, AnswerAbort, AnswerCommit, RefuseCall}
 use Rattle.shore_sessions.specs.Sessions.{SessionTxn, Sessions}
 use Rattle.shore_sessions.specs.UndoLists.{images_since}
 
@@ -67,6 +67,7 @@ log_after log s (BeginTxn session) = log
 log_after log s (GiveReply a c reply) = log_after_reply log s.records a c reply
 log_after log s (AppendCommit a) = and_record a.txn log Commit
 log_after log s (PutBack a kept e r) = and_record a.txn log (Compensation e.0 e.1 (next_to_undo a.txn log))
+log_after log s (Doom a) = log
 log_after log s (AnswerAbort a) = and_rollback a.txn log a.undo.images
 log_after log s (AnswerCommit a) = log
 log_after log s (RefuseCall session t c fault) = log

@@ -18,7 +18,7 @@ use Rattle.shore_model.specs.declared.holds.Hold.{Hold}
 use Rattle.shore_model.specs.Locks.{Harmony, HoldsAtLeast}
 use Rattle.shore_sessions.specs.RepliesInPlace.{MayReplyInPlace}
 use Rattle.shore_sessions.specs.declared.rollbacks.Rollback.{Rollback}
-use Rattle.shore_sessions.specs.Sessions.{IsInNoTxn, IsTxnOf, SessionTxn, Sessions, abort_answered, commit_answered, commit_appended, image_put_back, locks_moved, reply_given, txn_begun, txns_of}
+use Rattle.shore_sessions.specs.Sessions.{IsInNoTxn, IsTxnOf, SessionTxn, Sessions, abort_answered, commit_answered, commit_appended, doomed, image_put_back, locks_moved, reply_given, txn_begun, txns_of}
 use Rattle.shore_sessions.specs.UndoLists.{MayGiveReply, MayRoll, least_kept}
 use Rattle.shore_sessions.specs.Views.{IsAmong}
 
@@ -33,6 +33,8 @@ pub data SessionEvent : Type 0 where
   AppendCommit : SessionTxn → SessionEvent
   -- one image of a transaction is put back, the newest that is left; the others stay
   PutBack : SessionTxn → List (Rid × Image) → Rid × Image → Rollback → SessionEvent
+  -- from now on a transaction can only be rolled back, whole; nothing of it is put back yet
+  Doom : SessionTxn → SessionEvent
   -- all images of a transaction that are left are put back, and its abort is answered
   AnswerAbort : SessionTxn → SessionEvent
   -- a commit is answered
@@ -84,6 +86,7 @@ StepsTo s (AppendCommit a) new = IsAmong a s.active × (a.undo.rolling ≡ None)
 StepsTo s (PutBack a kept e r) new =
     IsAmong a s.active × (a.undo.images ≡ kept ++ e ∷ []) × MayRoll a.undo r × (least_kept a.undo r ≤ length kept)
     × (new ≡ image_put_back s a kept e r)
+StepsTo s (Doom a) new = IsAmong a s.active × (new ≡ doomed s a)
 StepsTo s (AnswerAbort a) new = IsAmong a s.active × (new ≡ abort_answered s a)
 StepsTo s (AnswerCommit a) new = IsAmong a s.committing × (new ≡ commit_answered s a)
 StepsTo s (RefuseCall session t c fault) new = IsTxnOf s session t × TellsNothing fault × (new ≡ s)
@@ -100,6 +103,7 @@ entries_by s (BeginTxn session) = Exchanged session s.next_txn (exchange call.Be
 entries_by s (GiveReply a c reply) = Exchanged a.session a.txn (exchange c reply) ∷ []
 entries_by s (AppendCommit a) = Decided (decision.Commit a.txn) ∷ []
 entries_by s (PutBack a kept e r) = []
+entries_by s (Doom a) = []
 entries_by s (AnswerAbort a) = Exchanged a.session a.txn (exchange call.Abort (Ok Aborted)) ∷ []
 entries_by s (AnswerCommit a) = Exchanged a.session a.txn (exchange call.Commit (Ok Committed)) ∷ []
 entries_by s (RefuseCall session t c fault) = Exchanged session t (exchange c (Err fault)) ∷ []

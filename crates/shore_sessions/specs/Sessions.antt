@@ -8,6 +8,7 @@ use Rattle.shore_model.specs.Records.{Records, put_image}
 use Rattle.shore_types.specs.Images.{Image}
 use Rattle.shore_types.specs.declared.ids.Rid.{Rid}
 use Rattle.shore_sessions.specs.declared.rollbacks.Rollback.{Rollback}
+use Rattle.shore_sessions.specs.declared.rollbacks.Rollback.TheVariants.{Whole}
 use Rattle.shore_sessions.specs.UndoLists.{UndoList, in_place_after, nothing_to_undo, undo_after, undo_rolled, rolled_back}
 use Rattle.shore_sessions.specs.Views.{IsAmong}
 
@@ -80,6 +81,9 @@ image_put_back s a kept e r = record s {
   records = put_image s.records e.0 e.1;
   active = with_undo a.txn (undo_rolled a.undo kept r) s.active;
 }
+
+abbrev pub doomed : Sessions → SessionTxn → Sessions
+doomed s a = record s { active = with_undo a.txn (undo_rolled a.undo a.undo.images Whole) s.active }
 
 abbrev pub commit_appended : Sessions → SessionTxn → Sessions
 commit_appended s a = record s { active = without_txn a.txn s.active; committing = a ∷ s.committing }

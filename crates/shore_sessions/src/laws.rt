@@ -25,13 +25,13 @@ ghost use Rattle.shore_model.specs.Locks.{Harmony, HoldsAtLeast, MayRead, MayWri
 ghost use Rattle.shore_model.specs.Logs.{Answers, in_doubt_in, logged_writes, records_told, unanswered};
 ghost use Rattle.shore_model.specs.Records.{Records, WriteSet, overlays, put_image};
 ghost use Rattle.shore_sessions.specs.declared.rollbacks.Rollback.{Rollback};
-ghost use Rattle.shore_sessions.specs.declared.rollbacks.Rollback.TheVariants.{To};
+ghost use Rattle.shore_sessions.specs.declared.rollbacks.Rollback.TheVariants.{To, Whole};
 ghost use Rattle.shore_sessions.specs.GranuleLocks.{HasLocksFor};
 ghost use Rattle.shore_sessions.specs.LogPrefixes.{DecidesNothing, LogDecides, decisions_in};
 ghost use Rattle.shore_sessions.specs.LogTells.{HasLogged, IsLogAfter, MatchesUndo, records_committed};
 ghost use Rattle.shore_sessions.specs.Logged.{and_compensations, and_record, log_after, next_to_undo};
 ghost use Rattle.shore_sessions.specs.RepliesInPlace.{MayReplyInPlace, Permit};
-ghost use Rattle.shore_sessions.specs.SessionSteps.{AnswerAbort, AppendCommit, BeginTxn, GiveReply, MoveLocks, PutBack, SessionEvent, StepsTo, entries_by, exchange};
+ghost use Rattle.shore_sessions.specs.SessionSteps.{AnswerAbort, AppendCommit, BeginTxn, Doom, GiveReply, MoveLocks, PutBack, SessionEvent, StepsTo, entries_by, exchange};
 ghost use Rattle.shore_sessions.specs.Sessions.{IsCurrent, SessionTxn, Sessions, txns_of};
 ghost use Rattle.shore_sessions.specs.Soundness.{IsJustOpened, IsSoundAfter, RunsTo, SessionsAgree, history_from, serial_after, written_by};
 ghost use Rattle.shore_sessions.specs.UndoLists.{CanUndo, MayGiveReply, MayRoll, UndoList, images_since, in_place_after, in_place_after_answer, least_kept, mark_of, rolled_back, undo_after, undo_after_answer, undo_rolled};
@@ -189,10 +189,24 @@ pub fn rollbacks_are_interrupted()
         (last : Sessions) × (made : List Entry) × RunsTo (just_opened o) (way_back_interrupted o a b x z) [] last made × (get last.records b ≡ Some y) }
 {}
 
+/// A doomed transaction can only be rolled back, whole. Nothing of it is put back at once. From then on, whatever else comes, it gets no reply and
+/// goes back to no savepoint; nor is it committed, as `wrong_events_do_not_come` says of each one that rolls back.
+pub fn doomed_transactions_can_only_roll_back()
+    ensures left { (s new : Sessions) (a b : SessionTxn) → StepsTo s (Doom a) new → IsAmong b new.active → b.txn ≡ a.txn →
+        (b.undo.images ≡ a.undo.images) × (b.undo.rolling ≡ Some Whole) × (new.records ≡ s.records) }
+    ensures reply { (s new : Sessions) (a : SessionTxn) (c : Call) (reply : Result Answer Fault) →
+        a.undo.rolling ≡ Some Whole → StepsTo s (GiveReply a c reply) new → ⊥ }
+    ensures savepoint { (s new : Sessions) (a : SessionTxn) (kept : List (Rid × Image)) (e : Rid × Image) (n : ℕ) →
+        a.undo.rolling ≡ Some Whole → StepsTo s (PutBack a kept e (To n)) new → ⊥ }
+    ensures stays { (o : Records) (es : List Entry) (s new : Sessions) (e : SessionEvent) (a b : SessionTxn) → SessionsAgree o es s → IsAmong a s.active →
+        a.undo.rolling ≡ Some Whole → StepsTo s e new → IsAmong b new.active → b.txn ≡ a.txn → b.undo.rolling ≡ Some Whole }
+{}
+
 /// What must not come, though each other condition of it may hold: a get and its refusal without a lock, an insert if only a read lock
 /// is held, a scan under a lock of a record; a second transaction of a session; locks that a transaction under way loses, that clash, or
 /// that are of no transaction yet; a commit or a get of one that rolls back; a way back, or an image put back, to another savepoint
-/// than that of the rollback under way; an image put back out of turn, or from before the savepoint.
+/// than that of the rollback under way; an image put back out of turn, or from before the savepoint; a commit of one that is doomed; the doom
+/// of one that is not under way.
 pub fn wrong_events_do_not_come()
     ensures get_unlocked { (t n : ℕ) (R : Records) (id : Rid) (answer : Answer) → MayReplyInPlace [] t R n (Get id) (Ok answer) → ⊥ }
     ensures absent_unlocked { (t n : ℕ) (R : Records) (id : Rid) → id.slot < MAX_SLOTS → MayReplyInPlace [] t R n (Get id) (Err NoRecord) → ⊥ }
@@ -217,4 +231,7 @@ pub fn wrong_events_do_not_come()
         a.undo.images ≡ older ++ newest ∷ [] → newest ≢ e → StepsTo s (PutBack a kept e r) new → ⊥ }
     ensures before_savepoint { (s new : Sessions) (a : SessionTxn) (kept : List (Rid × Image)) (e : Rid × Image) (n : ℕ) →
         length kept < mark_of a.undo n → StepsTo s (PutBack a kept e (To n)) new → ⊥ }
+    ensures commit_of_doomed { (s mid new : Sessions) (a b : SessionTxn) →
+        StepsTo s (Doom a) mid → b.txn ≡ a.txn → StepsTo mid (AppendCommit b) new → ⊥ }
+    ensures doom_of_another { (s new : Sessions) (a : SessionTxn) → (IsAmong a s.active → ⊥) → StepsTo s (Doom a) new → ⊥ }
 {}

@@ -1,4 +1,5 @@
-use Rattle.shore_sessions.proofs.WrongEvents.{absent_unlocked, before_savepoint, commit_in_rollback, get_in_rollback, get_unlocked, insert_under_read_lock, lock_lost, lock_of_nobody, locks_clash, not_the_newest, other_back_to, other_savepoint, scan_under_record_lock, second_txn}
+use Rattle.shore_sessions.proofs.Doomed.{commit_of_doomed}
+use Rattle.shore_sessions.proofs.WrongEvents.{absent_unlocked, before_savepoint, commit_in_rollback, doom_of_another, get_in_rollback, get_unlocked, insert_under_read_lock, lock_lost, lock_of_nobody, locks_clash, not_the_newest, other_back_to, other_savepoint, scan_under_record_lock, second_txn}
 use Rattle.shore_sessions.proofs.laws.wrong_events_do_not_come.Goals as goal
 
 pub returns-clause-get_unlocked : goal.returns-clause-get_unlocked
@@ -42,3 +43,9 @@ returns-clause-not_the_newest c s new a older kept newest e r is differ step = n
 
 pub returns-clause-before_savepoint : goal.returns-clause-before_savepoint
 returns-clause-before_savepoint c s new a kept e n less step = before_savepoint s new a kept e n less step
+
+pub returns-clause-commit_of_doomed : goal.returns-clause-commit_of_doomed
+returns-clause-commit_of_doomed c s mid new a b doom same step = commit_of_doomed s mid a b doom new same step
+
+pub returns-clause-doom_of_another : goal.returns-clause-doom_of_another
+returns-clause-doom_of_another c s new a other step = doom_of_another s new a other step
