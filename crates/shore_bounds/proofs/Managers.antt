@@ -12,7 +12,7 @@ use Rattle.shore_bounds.specs.SlotCounts.{slot_count}
 use Rattle.shore_model.specs.declared.histories.Entry.{Entry}
 use Rattle.shore_model.specs.declared.log_records.LogRecord.{LogRecord}
 use Rattle.shore_calls.proofs.SessionRooms.{session_event_roomy}
-use Rattle.shore_calls.proofs.SessionStates.{session_event_stays}
+use Rattle.shore_calls.proofs.SettledStates.{session_event_stays}
 use Rattle.shore_calls.specs.CallHistories.{IsRoomyState}
 use Rattle.shore_calls.specs.Events.{IsStateAfter, entries_of}
 use Rattle.shore_lives.specs.Stretches.{MayBeFound}

@@ -16,10 +16,11 @@ use Rattle.shore_model.specs.declared.log_records.Payload.TheVariants as payload
 use Rattle.shore_model.specs.Logs.{image_in, id_in, previous_of}
 use Rattle.shore_model.specs.Records.{Records}
 use Rattle.shore_analysis.specs.Meant.{IsInBounds, IsServed}
-use Rattle.shore_calls.proofs.Comings.{goes_keeps, like_keeps, session_event_comes}
-use Rattle.shore_calls.proofs.Links.{Changes, Commits, Compensates, Ends, Goes, GoesBy, IsLike, Writes}
+use Rattle.shore_calls.proofs.Comings.{goes_keeps, like_keeps}
+use Rattle.shore_calls.proofs.SettledComings.{session_event_comes}
+use Rattle.shore_calls.proofs.Links.{Changes, ComesBy, Commits, Compensates, Ends, Goes, GoesBy, IsLike, Writes}
 use Rattle.shore_calls.proofs.SessionRooms.{goes_roomy, like_roomy, session_event_roomy}
-use Rattle.shore_calls.proofs.SessionStates.{session_event_stays}
+use Rattle.shore_calls.proofs.SettledStates.{session_event_stays}
 use Rattle.shore_calls.proofs.Sessions.{AreSessionsAfter}
 use Rattle.shore_calls.proofs.TakenLocks.{sessions_of}
 use Rattle.shore_calls.specs.CallHistories.{IsRoomyState}
@@ -205,15 +206,18 @@ like_leaving g stream_bytes s t like h = record {
 -- ---- events of a manager
 
 module _ (g : Geometry) (stream_bytes : ℕ) (found : List LogRecord) where
-  pub event_leaving : (es : List Entry) (s new : State) (e : ManagerEvent) → IsStateAfter found es s → IsRoomyState s → LeavesRoomyLogs g stream_bytes s → EventMoves g s e new
+  pub comes_leaving : (es : List Entry) (s new : State) (made : List Entry) → IsStateAfter found es s → IsRoomyState s → LeavesRoomyLogs g stream_bytes s → ComesBy g s new made
       → LeavesRoomyLogs g stream_bytes new
-  event_leaving es s new e k roomy h x =
-      let comes = session_event_comes g found es s k new e x in
+  comes_leaving es s new made k roomy h comes =
       let few : txn_count comes.start ≤ MAX_TRANSACTIONS = subst (λ (n : Sessions). length n.active + length n.committing ≤ MAX_TRANSACTIONS) (sym comes.before.sessions) k.few in
       like_leaving g stream_bytes comes.mid new comes.after
-      (by_leaving g stream_bytes (length found) (records_committed found) es comes.start comes.events comes.mid (entries_of s e)
+      (by_leaving g stream_bytes (length found) (records_committed found) es comes.start comes.events comes.mid made
       (like_keeps (length found) (records_committed found) es s comes.start comes.before (sessions_of found es s k.sessions)) (like_roomy s comes.start comes.before roomy) few
       (like_leaving g stream_bytes s comes.start comes.before h) comes.goes)
+
+  pub event_leaving : (es : List Entry) (s new : State) (e : ManagerEvent) → IsStateAfter found es s → IsRoomyState s → LeavesRoomyLogs g stream_bytes s → EventMoves g s e new
+      → LeavesRoomyLogs g stream_bytes new
+  event_leaving es s new e k roomy h x = comes_leaving es s new (entries_of s e) k roomy h (session_event_comes g found es s k new e x)
 
   pub events_leaving : (es : List Entry) (s : State) (events : List ManagerEvent) (last : State) (made : List Entry) → IsStateAfter found es s → IsRoomyState s
       → LeavesRoomyLogs g stream_bytes s → MovesMaking g s events last made → IsRoomyState last × LeavesRoomyLogs g stream_bytes last

@@ -79,7 +79,7 @@ record PlaceLocks (l : State) (a : SessionTxn) (c : Call) (new : State) : Type 0
 abbrev LocksBehind : State → SessionTxn → Call → State → Type 0
 LocksBehind l a c new = (new.locks ≡ l.locks) ⊎ PlaceLocks l a c new
 
-refused_locks : (f : Fault) (s : State) → (after_refusal f s).locks ≡ s.locks
+pub refused_locks : (f : Fault) (s : State) → (after_refusal f s).locks ≡ s.locks
 refused_locks fault.Device s = refl
 refused_locks (fault.Damaged device place) s = refl
 refused_locks _ s = refl
@@ -193,13 +193,13 @@ module _ (g : Geometry) (found : List LogRecord) (es : List Entry) (session : �
 
 -- ---- calls
 
-begin_keeps_locks : (s : State) (session : ℕ) (step : Step) (new : State) → BeginStep s session step new → new.locks ≡ s.locks
+pub begin_keeps_locks : (s : State) (session : ℕ) (step : Step) (new : State) → BeginStep s session step new → new.locks ≡ s.locks
 begin_keeps_locks s session (Done answer) new h = ap (λ (x : State). x.locks) h.4
 begin_keeps_locks s session (Waits wait) new h = absurd h
 begin_keeps_locks s session (Refused f) new h = ap (λ (x : State). x.locks) h.1
 begin_keeps_locks s session Nothing new h = absurd h
 
-commit_keeps_locks : (s : State) (a : SessionTxn) (step : Step) (new : State) → CommitStep s a step new → new.locks ≡ s.locks
+pub commit_keeps_locks : (s : State) (a : SessionTxn) (step : Step) (new : State) → CommitStep s a step new → new.locks ≡ s.locks
 commit_keeps_locks s a (Waits wait) new h = ap (λ (x : State). x.locks) h.1
 commit_keeps_locks s a (Done answer) new h = absurd h
 commit_keeps_locks s a (Refused f) new h = absurd h
@@ -245,7 +245,7 @@ module _ (g : Geometry) (found : List LogRecord) (es : List Entry) (s : State) (
   call_changes session c step new (inr (inr (inr (inr (inl h))))) = inl (no_change s session c new (ap (λ (x : State). x.locks) h.5))
   call_changes session c step new (inr (inr (inr (inr (inr h))))) =
       let mem = h.2.1 in
-      inner_changes session h.2.0 mem (k.sessions.locks.waits h.0 h.2.0 mem.0 (λ w m same. h.1 w m (same ∙ mem.1))) c step new h.2.2
+      inner_changes session h.2.0 mem (k.sessions.locks.waits h.0 h.2.0 mem.0 (λ w m spared same. h.1 w m (same ∙ mem.1))) c step new h.2.2
 
   -- a Commit that goes last takes and gives no lock
   pub commit_keeps : (session : ℕ) (step : Step) (new : State) → CallStep g s session call.Commit step new → new.locks.requests ≡ s.locks.requests

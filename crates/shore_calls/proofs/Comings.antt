@@ -39,7 +39,7 @@ use Rattle.shore_calls.proofs.SessionStates.{answer_is_durable, its_wait, no_wai
 use Rattle.shore_calls.proofs.Sessions.{AreSessionsAfter, event_keeps, its_txn}
 use Rattle.shore_calls.proofs.StepPassages.{CallPasses, Commits, IsAnswered, ResumePasses, call_passes, resume_passes}
 use Rattle.shore_calls.specs.CallHistories.{txn_of}
-use Rattle.shore_calls.specs.Events.{Called, Forced, HasFailed, IsStateAfter, ManagerEvent, Resumed, EventMoves, entries_of, entries_of_resume, entries_of_waiting}
+use Rattle.shore_calls.specs.Events.{IsStateAfter, entries_of_resume, entries_of_waiting}
 use Rattle.shore_calls.specs.StateChanges.{wait_refused}
 use Rattle.shore_calls.specs.CallSteps.{ResumesCall, CallStep, ResumeStep, aborted, commit_ended, with_requests}
 use Rattle.shore_calls.specs.Rollbacks.{put_back}
@@ -84,11 +84,11 @@ is_committed base t log h =
 
 -- ---- any event
 
-like_itself : (s : State) → IsLike s s
+pub like_itself : (s : State) → IsLike s s
 like_itself s = record { sessions = refl; log = refl; counts = refl; stream = refl }
 
 -- nothing happens to the sessions
-nothing_comes : (g : Geometry) (s new : State) → IsLike s new → ComesBy g s new []
+pub nothing_comes : (g : Geometry) (s new : State) → IsLike s new → ComesBy g s new []
 nothing_comes g s new like = record { start = s; before = like_itself s; events = []; durable = tt; mid = s; goes = (refl, refl); after = like }
 
 module _ (g : Geometry) (found : List LogRecord) (es : List Entry) (s : State) (k : IsStateAfter found es s) where
@@ -246,12 +246,6 @@ module _ (g : Geometry) (found : List LogRecord) (es : List Entry) (s : State) (
   session_resume_comes session step new (inr h) =
       subst (λ (o : Option Waiting). ComesBy g s new (entries_of_waiting s o step)) (sym (its_wait session s.waiting h.0 k.waits.once h.1 h.2))
       (session_resumed_comes h.0 h.1 step new h.3)
-
-  pub session_event_comes : (new : State) (e : ManagerEvent) → EventMoves g s e new → ComesBy g s new (entries_of s e)
-  session_event_comes new (Called session c step) h = session_call_comes session c step new h.1
-  session_event_comes new (Resumed session step) h = session_resume_comes session step new h
-  session_event_comes new (Forced n) h = nothing_comes g s new (subst (IsLike s) (sym h.2) (record { sessions = refl; log = refl; counts = refl; stream = refl }))
-  session_event_comes new HasFailed h = nothing_comes g s new (subst (IsLike s) (sym h) (record { sessions = refl; log = refl; counts = refl; stream = refl }))
 
 -- ---- what events of the sessions keep
 

@@ -25,7 +25,7 @@ use Rattle.shore_room.specs.Events.{EventFits}
 use Rattle.shore_room.specs.LogRooms.{EventAdmits, LogRoom, RoomAfter, begun_room, ended_room, owed}
 use Rattle.shore_sessions.proofs.Lists.{length-push}
 use Rattle.shore_sessions.specs.Logged.{and_record, log_after}
-use Rattle.shore_sessions.specs.SessionSteps.{AnswerAbort, AnswerCommit, AppendCommit, BeginTxn, GiveReply, MoveLocks, PutBack, RefuseCall, SessionEvent, StepsTo, entries_by}
+use Rattle.shore_sessions.specs.SessionSteps.{AnswerAbort, AnswerCommit, AppendCommit, BeginTxn, Doom, GiveReply, MoveLocks, PutBack, RefuseCall, SessionEvent, StepsTo, entries_by}
 use Rattle.shore_sessions.specs.Sessions.{SessionTxn, commit_answered, commit_appended, txn_begun, without_txn}
 use Rattle.shore_sessions.specs.Views.{IsAmong}
 use Rattle.shore_calls.proofs.Rooms.{cost_pushed}
@@ -252,6 +252,7 @@ IsDurable s (BeginTxn session) = Unit {0}
 IsDurable s (GiveReply a c reply) = Unit {0}
 IsDurable s (AppendCommit a) = Unit {0}
 IsDurable s (PutBack a kept e r) = Unit {0}
+IsDurable s (Doom a) = Unit {0}
 IsDurable s (AnswerAbort a) = Unit {0}
 IsDurable s (RefuseCall session t c f) = Unit {0}
 
@@ -267,13 +268,14 @@ pub record ComesBy (g : Geometry) (s new : State) (made : List Entry) : Type 0 w
 
 -- ---- events behind which each call that waited waits on
 
--- no transaction is decided or ended, and no image of one is put back of whose session a call waits
+-- no transaction is decided, ended or doomed, and no image of one is put back of whose session a call waits
 abbrev pub IsQuiet : State → SessionEvent → Type 0
 IsQuiet s (MoveLocks held) = Unit {0}
 IsQuiet s (BeginTxn session) = Unit {0}
 IsQuiet s (GiveReply a c reply) = Unit {0}
 IsQuiet s (RefuseCall session t c f) = Unit {0}
 IsQuiet s (PutBack a kept e r) = (b : SessionTxn) (w : Waiting) → IsAmong b s.sessions.active → IsAmong w s.waiting → b.session ≡ w.session → b.txn ≢ a.txn
+IsQuiet s (Doom a) = ⊥
 IsQuiet s (AppendCommit a) = ⊥
 IsQuiet s (AnswerAbort a) = ⊥
 IsQuiet s (AnswerCommit a) = ⊥
@@ -335,6 +337,7 @@ none_to_answer s start (e ∷ events) quiet = (none e quiet.0, none_to_answer s 
     none (GiveReply a c reply) quiet = tt
     none (AppendCommit a) quiet = tt
     none (PutBack a kept e r) quiet = tt
+    none (Doom a) quiet = tt
     none (AnswerAbort a) quiet = tt
     none (RefuseCall session t c f) quiet = tt
 

@@ -1,10 +1,11 @@
 -- A call that waits for a lock was not to be refused before it asked, whatever happens.
-use Rattle.std.proofs.Common.{◌≡◌, inl, inr, ⊎_elim, ℕ, List, [], ◌∷◌, Bool, true, false, refl, sym, ap, subst, ◌∙◌, cond}
+use Rattle.std.proofs.Common.{◌≡◌, inl, inr, ⊎_elim, ℕ, List, [], ◌∷◌, Bool, true, false, Some, refl, sym, ap, subst, ◌∙◌, cond}
 use Rattle.std.specs.Prelude.{◌==◌, not}
 use Rattle.shore_types.specs.declared.layout.Geometry.{Geometry}
 use Rattle.shore_types.specs.declared.locking.Granule.{Granule}
 use Rattle.shore_model.specs.declared.calls.Call.{Call}
 use Rattle.shore_model.specs.declared.log_records.LogRecord.{LogRecord}
+use Rattle.shore_deadlock.specs.declared.victims.Victim.{Victim}
 use Rattle.shore_sessions.specs.declared.rollbacks.Rollback.TheVariants.{Whole}
 use Rattle.shore_sessions.specs.Sessions.{SessionTxn}
 use Rattle.shore_calls.proofs.RollingLeaves.{back_table, interrupted_table, savepoint_table}
@@ -20,8 +21,10 @@ use Rattle.shore_calls.specs.CallHistories.{IsOpened}
 use Rattle.shore_calls.specs.Events.{Called, Forced, HasFailed, ManagerEvent, Resumed, EventMoves, EventsMove}
 use Rattle.shore_calls.specs.StateChanges.{commit_waiting, wait_refused}
 use Rattle.shore_calls.specs.CallSteps.{AbortStep, BeginStep, CommitStep, GoesOn, InnerStep, MayAsk, ResumesWait, CallStep, ResumeStep, behind_lock, lock_waiting}
+use Rattle.shore_calls.specs.Settling.{SettledResume, Settles}
 use Rattle.shore_calls.specs.Shapes.{LockWaitsMayAsk}
 use Rattle.shore_calls.specs.States.{State, Waiting, next_number, without_waiting}
+use Rattle.shore_calls.specs.Victims.{TakesVictim, TakesVictims, TellsVictim, with_cycle}
 
 -- who waits once a session's calls are taken out waited before
 was_waiting : (n : ℕ) (ws : List Waiting) (w : Waiting) → IsAmong w (without_waiting n ws) → IsAmong w ws
@@ -32,6 +35,24 @@ was_waiting n (x ∷ ws) w there = by (x.session == n) (λ later. was_waiting n 
     by true rest later = inr (rest later)
     by false rest (inl same) = inl same
     by false rest (inr later) = inr (rest later)
+
+-- who waits once a victim is to be told its cycle waited before, with the same call
+record WaitedSo (w : Waiting) (ws : List Waiting) : Type 0 where
+  was : Waiting
+  there : IsAmong was ws
+  its : was.call ≡ w.call
+  wait : was.wait ≡ w.wait
+
+waited_so : (n : ℕ) (cycle : List ℕ) (ws : List Waiting) (w : Waiting) → IsAmong w (with_cycle n cycle ws) → WaitedSo w ws
+waited_so n cycle [] w there = absurd there
+waited_so n cycle (x ∷ ws) w there = by (x.session == n) (λ later. let h = waited_so n cycle ws w later in record { was = h.was; there = inr h.there; its = h.its; wait = h.wait }) there
+  where
+    by : (b : Bool) → (IsAmong w (with_cycle n cycle ws) → WaitedSo w (x ∷ ws))
+        → IsAmong w (cond b (record { session = x.session; call = x.call; wait = x.wait; cycle = Some cycle }) x ∷ with_cycle n cycle ws) → WaitedSo w (x ∷ ws)
+    by true rest (inl same) = record { was = x; there = inl refl; its = ap (λ (v : Waiting). v.call) same; wait = ap (λ (v : Waiting). v.wait) same }
+    by true rest (inr later) = rest later
+    by false rest (inl same) = record { was = x; there = inl refl; its = ap (λ (v : Waiting). v.call) same; wait = ap (λ (v : Waiting). v.wait) same }
+    by false rest (inr later) = rest later
 
 module _ (g : Geometry) where
   -- the same calls wait
@@ -112,9 +133,39 @@ module _ (g : Geometry) where
       (λ runs. resumed s new h.0 h.1 h.0.wait refl step runs.1 k)
       h.3
 
+  -- victims, and rounds of them
+  victim : (s new : State) (t : ℕ) (v : Victim) → TakesVictim s t v new → LockWaitsMayAsk g s → LockWaitsMayAsk g new
+  victim s new t v h k w there at e =
+      let was = waited_so h.txn.session v.cycle s.waiting w (subst (IsAmong w) (ap (λ (x : State). x.waiting) h.is) there) in
+      subst (MayAsk g) was.its (k was.was was.there at (was.wait ∙ e))
+
+  victims : (s new : State) (t : ℕ) (vs : List Victim) → TakesVictims s t vs new → LockWaitsMayAsk g s → LockWaitsMayAsk g new
+  victims s new t [] h k = subst (LockWaitsMayAsk g) (sym h) k
+  victims s new t (v ∷ vs) h k = victims h.0 new t vs h.2 (victim s h.0 t v h.1 k)
+
+  told : (s new : State) (session : ℕ) (step : Step) → TellsVictim s session step new → LockWaitsMayAsk g s → LockWaitsMayAsk g new
+  told s new session step h = but_one s new session (ap (λ (x : State). x.waiting) h.is)
+
+  settles : (s new : State) (session : ℕ) (first : Step) (rounds : List (List Victim)) (step : Step) → Settles g s session first rounds step new → LockWaitsMayAsk g s → LockWaitsMayAsk g new
+  settles s new session first [] step h k = subst (LockWaitsMayAsk g) (sym h.2) k
+  settles s new session first (vs ∷ rounds) step h k =
+      let broken = victims s h.2 h.0.txn vs h.5 k in
+      ⊎_elim
+      (λ ends. ⊎_elim
+      (λ still. subst (LockWaitsMayAsk g) (sym still.3) broken)
+      (λ end. ⊎_elim (λ its. told h.2 new session step its broken) (λ back. but_one h.2 new h.0.session (ap (λ (x : State). x.waiting) back.1.1) broken) end)
+      ends.1)
+      (λ goes. settles goes.1 new session goes.0 rounds step goes.4 (resumes h.2 goes.1 session goes.0 goes.3 broken))
+      h.6
+
+  settled : (s new : State) (session : ℕ) (step : Step) → SettledResume g s session step new → LockWaitsMayAsk g s → LockWaitsMayAsk g new
+  settled s new session step (inl h) k = told s new session step h k
+  settled s new session step (inr (inl h)) k = resumes s new session step h.0 k
+  settled s new session step (inr (inr h)) k = settles h.mid new session h.first h.rounds step h.settles (resumes s h.mid session h.first h.resumes k)
+
   event : (s new : State) (e : ManagerEvent) → EventMoves g s e new → LockWaitsMayAsk g s → LockWaitsMayAsk g new
-  event s new (Called session c step) h k = called s new session c step h.1 k
-  event s new (Resumed session step) h k = resumes s new session step h k
+  event s new (Called session c step) h k = settles h.1.mid new session h.1.first h.1.rounds step h.1.settles (called s h.1.mid session c h.1.first h.1.calls k)
+  event s new (Resumed session step) h k = settled s new session step h k
   event s new (Forced n) h k = as_before s new (ap (λ (s : State). s.waiting) h.2) k
   event s new HasFailed h k = as_before s new (ap (λ (s : State). s.waiting) h) k
 

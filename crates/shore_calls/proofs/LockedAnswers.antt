@@ -25,6 +25,7 @@ use Rattle.shore_calls.proofs.Sessions.{AreSessionsAfter, event_keeps, is_txn_of
 use Rattle.shore_calls.proofs.TakenLocks.{sessions_of, state_of}
 use Rattle.shore_calls.specs.CallHistories.{answered_under, txn_of}
 use Rattle.shore_calls.specs.StateChanges.{after_refusal, answered}
+use Rattle.shore_calls.proofs.Waiters.{with_other_undo}
 use Rattle.shore_calls.specs.LockedStates.{HasTrueLocks, IsSessionsState}
 use Rattle.shore_calls.specs.States.{State}
 
@@ -51,9 +52,10 @@ module _ (found : List LogRecord) (es : List Entry) (s : State) (k : IsSessionsS
           orderly = k.locks.orderly;
           rooted = k.locks.rooted;
           below = k.locks.below;
+          waiters = with_other_undo s.locks.requests s.sessions.active a.txn undo k.locks.waiters;
           waits = λ running b there idle.
               let was = among_with a.txn undo b s.sessions.active there in
-              subst (λ (t : ℕ). is_waiting t s.locks.requests ≡ false) (sym was.txn) (k.locks.waits running was.was was.there (λ w m same. idle w m (same ∙ sym was.session)));
+              subst (λ (t : ℕ). is_waiting t s.locks.requests ≡ false) (sym was.txn) (k.locks.waits running was.was was.there (λ w m spared same. idle w m spared (same ∙ sym was.session)));
         })
 
     -- the record that it names is not there, and its transaction may know that
@@ -80,9 +82,9 @@ module _ (found : List LogRecord) (es : List Entry) (s : State) (k : IsSessionsS
   after_refused fault.Device = record { sound = k.sound; agree = k.agree; log = k.log; decides = k.decides; locks = failed_locks }
     where
       failed_locks : HasTrueLocks (after_refusal fault.Device s)
-      failed_locks = record { held = k.locks.held; orderly = k.locks.orderly; rooted = k.locks.rooted; below = k.locks.below; waits = λ running. absurd cc }
+      failed_locks = record { held = k.locks.held; orderly = k.locks.orderly; rooted = k.locks.rooted; below = k.locks.below; waiters = k.locks.waiters; waits = λ running. absurd cc }
   after_refused (fault.Damaged device place) = record { sound = k.sound; agree = k.agree; log = k.log; decides = k.decides; locks = failed_locks }
     where
       failed_locks : HasTrueLocks (after_refusal (fault.Damaged device place) s)
-      failed_locks = record { held = k.locks.held; orderly = k.locks.orderly; rooted = k.locks.rooted; below = k.locks.below; waits = λ running. absurd cc }
+      failed_locks = record { held = k.locks.held; orderly = k.locks.orderly; rooted = k.locks.rooted; below = k.locks.below; waiters = k.locks.waiters; waits = λ running. absurd cc }
   after_refused _ = k

@@ -156,7 +156,7 @@ module _ (g : Geometry) (found : List LogRecord) (es : List Entry) (s new : Stat
 
   pub may_ask_in : (a : SessionTxn) → IsOfSession s session a → s.failed ≡ false → DoesNotWait s session → MayAskIn s a
   may_ask_in a of running idle =
-      record { orderly = k.locks.orderly; rooted = k.locks.rooted; quiet = k.locks.waits running a of.0 (λ w m same. idle w m (same ∙ of.1)) }
+      record { orderly = k.locks.orderly; rooted = k.locks.rooted; quiet = k.locks.waits running a of.0 (λ w m spared same. idle w m (same ∙ of.1)) }
 
   begin_kept : (step : Step) → BeginStep s session step new → NoLockWeaker s new
   begin_kept (Done answer) h = still s new s (same_locks new _ h.4) (λ u at m enough. enough)

@@ -8,6 +8,7 @@ use Rattle.shore_model.specs.declared.calls.Answer.{Answer}
 use Rattle.shore_model.specs.declared.calls.Call.{Call}
 use Rattle.shore_model.specs.declared.calls.Call.TheVariants as call
 use Rattle.shore_model.specs.declared.log_records.LogRecord.{LogRecord}
+use Rattle.shore_deadlock.specs.declared.victims.Victim.{Victim}
 use Rattle.shore_sessions.specs.declared.rollbacks.Rollback.{Rollback}
 use Rattle.shore_sessions.specs.declared.rollbacks.Rollback.TheVariants.{To, Whole}
 use Rattle.shore_sessions.specs.Sessions.{SessionTxn}
@@ -23,7 +24,9 @@ use Rattle.shore_calls.specs.Events.{Called, Forced, HasFailed, ManagerEvent, Re
 use Rattle.shore_calls.specs.StateChanges.{after_refusal, answered, wait_refused}
 use Rattle.shore_calls.specs.Rollbacks.{BackToStep, IsInterrupted, IsUnwound, SavepointStep}
 use Rattle.shore_calls.specs.CallSteps.{AbortStep, AnswersBehind, BeginStep, CommitStep, GoesOn, InnerStep, OpenStep, RefusesBehind, ResumesCall, ResumesWait, CallStep, ResumeStep, behind_place}
+use Rattle.shore_calls.specs.Settling.{SettledCall, SettledResume, Settles}
 use Rattle.shore_calls.specs.States.{State, Waiting}
+use Rattle.shore_calls.specs.Victims.{TakesVictim, TakesVictims, TellsVictim, Withdraws}
 
 -- as much is durable, and the log goes on
 pub record GoesFurther (s new : State) : Type 0 where
@@ -118,7 +121,7 @@ unwound_further : (s : State) (a : SessionTxn) (r : Rollback) (mid : State) → 
 unwound_further s a r mid (inl same) = same_further s mid same
 unwound_further s a r mid (inr h) = subst (GoesFurther s) (sym h.5) (record { durable = refl; on = compensations_on a.txn s.log h.1 })
 
-further_then : (s mid new : State) → GoesFurther s mid → GoesFurther mid new → GoesFurther s new
+pub further_then : (s mid new : State) → GoesFurther s mid → GoesFurther mid new → GoesFurther s new
 further_then s mid new h k = record { durable = k.durable ∙ h.durable; on = prefix_on s.log mid.log new.log h.on k.on }
 
 interrupted_further : (s : State) (a : SessionTxn) (r : Rollback) (f : Fault) (new : State) → IsInterrupted s a r f new → GoesFurther s new
@@ -184,10 +187,48 @@ pub resume_further : (g : Geometry) (s : State) (session : ℕ) (step : Step) (n
 resume_further g s session step new (inl h) = same_further s new h.2
 resume_further g s session step new (inr h) = resumed_further g s h.0 step new h.3
 
+-- ---- victims, and what a call and a resume come to as a whole
+
+victim_further : (s : State) (t : ℕ) (v : Victim) (new : State) → TakesVictim s t v new → GoesFurther s new
+victim_further s t v new h = subst (GoesFurther s) (sym h.is) (record { durable = refl; on = ([], sym (append-nil _)) })
+
+pub victims_further : (s : State) (t : ℕ) (vs : List Victim) (new : State) → TakesVictims s t vs new → GoesFurther s new
+victims_further s t [] new h = same_further s new h
+victims_further s t (v ∷ vs) new h = further_then s h.0 new (victim_further s t v h.0 h.1) (victims_further h.0 t vs new h.2)
+
+pub told_further : (s : State) (session : ℕ) (step : Step) (new : State) → TellsVictim s session step new → GoesFurther s new
+told_further s session step new h = subst (GoesFurther s) (sym h.is) (record { durable = refl; on = ([], sym (append-nil _)) })
+
+pub withdrawn_further : (s : State) (a : SessionTxn) (step : Step) (new : State) → Withdraws s a step new → GoesFurther s new
+withdrawn_further s a step new h = subst (GoesFurther s) (sym h.1) (record { durable = refl; on = ([], sym (append-nil _)) })
+
+pub settles_further : (g : Geometry) (s : State) (session : ℕ) (first : Step) (rounds : List (List Victim)) (step : Step) (new : State)
+    → Settles g s session first rounds step new → GoesFurther s new
+settles_further g s session first [] step new h = same_further s new h.2
+settles_further g s session first (vs ∷ rounds) step new h =
+    further_then s h.2 new (victims_further s h.0.txn vs h.2 h.5)
+    (⊎_elim
+    (λ ends. ⊎_elim
+    (λ on. same_further h.2 new on.3)
+    (λ end. ⊎_elim (told_further h.2 session step new) (λ back. withdrawn_further h.2 h.0 step new back.1) end)
+    ends.1)
+    (λ on. further_then h.2 on.1 new (resume_further g h.2 session on.0 on.1 on.3) (settles_further g on.1 session on.0 rounds step new on.4))
+    h.6)
+
+pub settled_call_further : (g : Geometry) (s : State) (session : ℕ) (c : Call) (step : Step) (new : State) → SettledCall g s session c step new → GoesFurther s new
+settled_call_further g s session c step new h =
+    further_then s h.mid new (call_further g s session c h.first h.mid h.calls) (settles_further g h.mid session h.first h.rounds step new h.settles)
+
+pub settled_resume_further : (g : Geometry) (s : State) (session : ℕ) (step : Step) (new : State) → SettledResume g s session step new → GoesFurther s new
+settled_resume_further g s session step new (inl told) = told_further s session step new told
+settled_resume_further g s session step new (inr (inl still)) = resume_further g s session step new still.0
+settled_resume_further g s session step new (inr (inr on)) =
+    further_then s on.mid new (resume_further g s session on.first on.mid on.resumes) (settles_further g on.mid session on.first on.rounds step new on.settles)
+
 -- ---- any event
 
 pub session_event_goes_on : (g : Geometry) (s new : State) (e : ManagerEvent) → EventMoves g s e new → IsPrefix s.log new.log
-session_event_goes_on g s new (Called session c step) h = further_on s new (call_further g s session c step new h.1)
-session_event_goes_on g s new (Resumed session step) h = further_on s new (resume_further g s session step new h)
+session_event_goes_on g s new (Called session c step) h = further_on s new (settled_call_further g s session c step new h.1)
+session_event_goes_on g s new (Resumed session step) h = further_on s new (settled_resume_further g s session step new h)
 session_event_goes_on g s new (Forced n) h = ([], ap (λ (x : State). x.log) h.2 ∙ sym (append-nil s.log))
 session_event_goes_on g s new HasFailed h = ([], ap (λ (x : State). x.log) h ∙ sym (append-nil s.log))

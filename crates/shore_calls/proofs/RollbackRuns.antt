@@ -32,6 +32,7 @@ use Rattle.shore_sessions.proofs.Ids.{put_here}
 use Rattle.shore_sessions.specs.declared.rollbacks.Rollback.TheVariants.{Whole}
 use Rattle.shore_sessions.specs.Sessions.{SessionTxn, txn_begun}
 use Rattle.shore_sessions.specs.UndoLists.{nothing_to_undo, undo_rolled, with_before_image}
+use Rattle.shore_calls.proofs.SettledAtOnce.{at_once, resumed_at_once}
 use Rattle.shore_calls.specs.declared.step.Step.TheVariants.{Done, Refused, Waits}
 use Rattle.shore_calls.specs.declared.step.Wait.TheVariants.{Durable}
 use Rattle.shore_calls.proofs.Unwinding.{with_list}
@@ -92,7 +93,7 @@ module _ (g : Geometry) (stream_bytes : ℕ) (bytes : List ℕ) (store : HasStor
   }
 
   begins : EventMoves g opened (Called 1 call.Begin (Done (Began 1))) begun
-  begins = (tt, inr (inr (inr (inl (refl, λ w m. absurd m, refl, (λ a y. ⊎_elim (λ m. absurd m) (λ m. absurd m) y, omega arith, ((omega arith, omega arith), omega arith), refl, refl))))))
+  begins = (tt, at_once g opened 1 call.Begin (Done (Began 1)) begun (inr (inr (inr (inl (refl, λ w m. absurd m, refl, (λ a y. ⊎_elim (λ m. absurd m) (λ m. absurd m) y, omega arith, ((omega arith, omega arith), omega arith), refl, refl)))))) tt)
 
   fits : FitsAt inserting first_id (Some bytes)
   fits = record { there = omega arith; most = short; room = omega arith }
@@ -122,7 +123,7 @@ module _ (g : Geometry) (stream_bytes : ℕ) (bytes : List ℕ) (store : HasStor
   inserts : EventMoves g begun (Called 1 insert (Done (Inserted first_id))) inserted
   inserts = (
     tt,
-    inr (inr (inr (inr (inr (
+    at_once g begun 1 insert (Done (Inserted first_id)) inserted (inr (inr (inr (inr (inr (
       refl,
       λ w m. absurd m,
       (
@@ -136,7 +137,7 @@ module _ (g : Geometry) (stream_bytes : ℕ) (bytes : List ℕ) (store : HasStor
           )),
         )),
       ),
-    ))))),
+    )))))) tt,
   )
 
   inserted_there : get inserted.sessions.records first_id ≡ Some bytes
@@ -163,7 +164,7 @@ module _ (g : Geometry) (stream_bytes : ℕ) (bytes : List ℕ) (store : HasStor
   stops : EventMoves g inserted (Called 1 call.Abort (Refused fault.Memory)) stopped
   stops = (
     tt,
-    inr (inr (inr (inr (inr (
+    at_once g inserted 1 call.Abort (Refused fault.Memory) stopped (inr (inr (inr (inr (inr (
       refl,
       λ w m. absurd m,
       (
@@ -171,7 +172,7 @@ module _ (g : Geometry) (stream_bytes : ℕ) (bytes : List ℕ) (store : HasStor
         (inl refl, refl),
         inr (inr (inr (refl, (stopped, inr ([], images, some_images, refl, omega arith, refl), inl refl, refl)))),
       ),
-    ))))),
+    )))))) tt,
   )
     where
       some_images : images ≡ [] → ⊥
@@ -183,10 +184,10 @@ module _ (g : Geometry) (stream_bytes : ℕ) (bytes : List ℕ) (store : HasStor
   not_taken (inr (inr back)) = let clash = back.2 in cc
 
   must : EventMoves g stopped (Called 1 (call.Get first_id) (Refused fault.MustAbort)) stopped
-  must = (tt, inr (inr (inr (inr (inr (refl, λ w m. absurd m, (one_stopped, (inl refl, refl), inl (λ e. cc, not_taken, refl, refl))))))))
+  must = (tt, at_once g stopped 1 (call.Get first_id) (Refused fault.MustAbort) stopped (inr (inr (inr (inr (inr (refl, λ w m. absurd m, (one_stopped, (inl refl, refl), inl (λ e. cc, not_taken, refl, refl)))))))) tt)
 
   aborts : EventMoves g stopped (Called 1 call.Abort (Done Aborted)) over
-  aborts = (tt, inr (inr (inr (inr (inr (refl, λ w m. absurd m, (one_stopped, (inl refl, refl), inr (inr (inr (refl, (refl, refl)))))))))))
+  aborts = (tt, at_once g stopped 1 call.Abort (Done Aborted) over (inr (inr (inr (inr (inr (refl, λ w m. absurd m, (one_stopped, (inl refl, refl), inr (inr (inr (refl, (refl, refl))))))))))) tt)
 
   pub abort_comes_through : (last : State) × (made : List Entry) × IsOpened [] (opened_empty stream_bytes) × MovesMaking g (opened_empty stream_bytes) (abort_twice bytes) last made
       × (get last.sessions.records first_id ≡ None) × (last.sessions.active ≡ []) × (last.locks.requests ≡ []) × (acknowledged made ≡ [])
@@ -241,7 +242,7 @@ module _ (g : Geometry) (stream_bytes : ℕ) (bytes : List ℕ) (store : HasStor
     ended = commit_ended forced one_back
 
     saves : EventMoves g inserted (Called 1 call.Savepoint (Done (Saved 0))) saved
-    saves = (tt, inr (inr (inr (inr (inr (refl, λ w m. absurd m, (one_changed, (inl refl, refl), inr (inl (refl, inr (inr (inr (refl, (omega arith, refl, refl)))))))))))))
+    saves = (tt, at_once g inserted 1 call.Savepoint (Done (Saved 0)) saved (inr (inr (inr (inr (inr (refl, λ w m. absurd m, (one_changed, (inl refl, refl), inr (inl (refl, inr (inr (inr (refl, (omega arith, refl, refl))))))))))))) tt)
 
     -- the one slot of the page has room for either record
     one_fits : (befores : ℕ) → befores ≤ MAX_RECORD_BYTES → Fits (record { image = get inserted.sessions.records first_id; claim = max (image_len (get inserted.sessions.records first_id)) befores } ∷ []) 0 (length more)
@@ -277,7 +278,7 @@ module _ (g : Geometry) (stream_bytes : ℕ) (bytes : List ℕ) (store : HasStor
     updates : EventMoves g saved (Called 1 update (Done Updated)) updated
     updates = (
       tt,
-      inr (inr (inr (inr (inr (
+      at_once g saved 1 update (Done Updated) updated (inr (inr (inr (inr (inr (
         refl,
         λ w m. absurd m,
         (
@@ -291,23 +292,23 @@ module _ (g : Geometry) (stream_bytes : ℕ) (bytes : List ℕ) (store : HasStor
             )),
           )),
         ),
-      ))))),
+      )))))) tt,
     )
       where
         some_there : (o : Image) → o ≡ Some bytes → IsSome o
         some_there o e = cc
 
     goes_back : EventMoves g updated (Called 1 (call.BackTo 0) (Done WentBack)) back
-    goes_back = (tt, inr (inr (inr (inr (inr (refl, λ w m. absurd m, (one_updated, (inl refl, refl), inr (inr (inl (0, refl, inl refl, (omega arith, refl, refl)))))))))))
+    goes_back = (tt, at_once g updated 1 (call.BackTo 0) (Done WentBack) back (inr (inr (inr (inr (inr (refl, λ w m. absurd m, (one_updated, (inl refl, refl), inr (inr (inl (0, refl, inl refl, (omega arith, refl, refl))))))))))) tt)
 
     commits : EventMoves g back (Called 1 call.Commit (Waits (Durable 4))) committing
-    commits = (tt, inr (inr (inr (inr (inr (refl, λ w m. absurd m, (one_back, (inl refl, refl), inr (inl (refl, inr (inr (inl (refl, (refl, refl)))))))))))))
+    commits = (tt, at_once g back 1 call.Commit (Waits (Durable 4)) committing (inr (inr (inr (inr (inr (refl, λ w m. absurd m, (one_back, (inl refl, refl), inr (inl (refl, inr (inr (inl (refl, (refl, refl))))))))))))) tt)
 
     forces : EventMoves g committing (Forced 4) forced
     forces = (omega arith, omega arith, refl)
 
     answers : EventMoves g forced (Resumed 1 (Done Committed)) ended
-    answers = inr (commit_waiting 1 4, inl refl, refl, inr (refl, inr (omega arith, refl, (one_back, inl refl, refl, refl))))
+    answers = resumed_at_once g forced 1 (Done Committed) ended (inr (commit_waiting 1 4, inl refl, refl, inr (refl, inr (omega arith, refl, (one_back, inl refl, refl, refl)), refl))) tt
 
     pub goes_back_and_commits : (last : State) × (made : List Entry) × IsOpened [] (opened_empty stream_bytes)
         × MovesMaking g (opened_empty stream_bytes) (back_and_commit bytes more) last made

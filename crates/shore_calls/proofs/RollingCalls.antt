@@ -40,6 +40,7 @@ use Rattle.shore_calls.proofs.TakenLocks.{sessions_of, state_of}
 use Rattle.shore_calls.proofs.Unwinding.{its_list, with_list}
 use Rattle.shore_calls.specs.CallHistories.{txn_of}
 use Rattle.shore_calls.specs.CallSteps.{AbortStep, aborted}
+use Rattle.shore_calls.proofs.Waiters.{released_under_way, with_other_undo, without_quiet}
 use Rattle.shore_calls.specs.LockedStates.{IsSessionsState, entries_of_call}
 use Rattle.shore_calls.specs.Rollbacks.{BackToStep, Interrupts, IsInterrupted, IsUnwound, SavepointStep, TakesCall, put_back}
 use Rattle.shore_calls.specs.StateChanges.{answered}
@@ -106,9 +107,10 @@ module _ (g : Geometry) (found : List LogRecord) (es : List Entry) (session : �
           orderly = k.locks.orderly;
           rooted = k.locks.rooted;
           below = k.locks.below;
+          waiters = with_other_undo s.locks.requests s.sessions.active a.txn (undo_rolled a.undo kept r) k.locks.waiters;
           waits = λ running b there idle.
               let was = among_with a.txn (undo_rolled a.undo kept r) b s.sessions.active there in
-              subst (λ (t : ℕ). is_waiting t s.locks.requests ≡ false) (sym was.txn) (k.locks.waits running was.was was.there (λ w m same. idle w m (same ∙ sym was.session)));
+              subst (λ (t : ℕ). is_waiting t s.locks.requests ≡ false) (sym was.txn) (k.locks.waits running was.was was.there (λ w m spared same. idle w m spared (same ∙ sym was.session)));
         })
 
     pub same_number : txn_of unwound.sessions session ≡ txn_of s.sessions session
@@ -183,8 +185,8 @@ module _ (g : Geometry) (found : List LogRecord) (es : List Entry) (session : �
   pub ends_under_way : IsAmong a.txn (txns_of (abort_answered s.sessions a).active) → ⊥
   ends_under_way among = (txn_without a.txn a.txn s.sessions.active among).1 refl
 
-  aborted_kept : IsSessionsState found (es ++ Exchanged session (txn_of s.sessions session) (exchange call.Abort (Ok Aborted)) ∷ []) (aborted s a)
-  aborted_kept =
+  aborted_kept : is_waiting a.txn s.locks.requests ≡ false → IsSessionsState found (es ++ Exchanged session (txn_of s.sessions session) (exchange call.Abort (Ok Aborted)) ∷ []) (aborted s a)
+  aborted_kept quiet =
       let own : Entry = Exchanged a.session a.txn (exchange call.Abort (Ok Aborted)) in
       let new = aborted s a in
       let entry = same_entry a.session session a.txn (txn_of s.sessions session) (exchange call.Abort (Ok Aborted)) of (sym (its_txn k.agree a session (inl mem) of)) in
@@ -199,14 +201,17 @@ module _ (g : Geometry) (found : List LogRecord) (es : List Entry) (session : �
         orderly = released_orderly s.locks.requests a.txn k.locks.orderly;
         rooted = released_rooted s.locks.requests a.txn k.locks.orderly k.locks.rooted;
         below = released_below s.locks.requests a.txn s.sessions.next_txn k.locks.orderly k.locks.below;
+        waiters =
+            without_quiet (released a.txn s.locks.requests) s.sessions.active a.txn (released_stay_quiet s.locks.requests a.txn a.txn k.locks.orderly quiet)
+            (released_under_way s.locks.requests s.sessions.active a.txn k.locks.orderly k.locks.waiters);
         waits = λ running b there idle.
             released_stay_quiet s.locks.requests a.txn b.txn k.locks.orderly (k.locks.waits running b (among_without a.txn b s.sessions.active there).0 idle);
       })
 
-  pub abort_kept : (step : Step) (new : State) → AbortStep s a step new → IsSessionsState found (es ++ entries_of_call s session call.Abort step) new
-  abort_kept (Done answer) new h =
+  pub abort_kept : is_waiting a.txn s.locks.requests ≡ false → (step : Step) (new : State) → AbortStep s a step new → IsSessionsState found (es ++ entries_of_call s session call.Abort step) new
+  abort_kept quiet (Done answer) new h =
       subst (IsSessionsState found (es ++ entries_of_call s session call.Abort (Done answer))) (sym h.1)
-      (subst (λ (x : Answer). IsSessionsState found (es ++ entries_of_call s session call.Abort (Done x)) (aborted s a)) (sym h.0) aborted_kept)
-  abort_kept (Refused f) new h = interrupted_kept Whole tt call.Abort f new h
-  abort_kept (Waits wait) new h = absurd h
-  abort_kept Nothing new h = absurd h
+      (subst (λ (x : Answer). IsSessionsState found (es ++ entries_of_call s session call.Abort (Done x)) (aborted s a)) (sym h.0) (aborted_kept quiet))
+  abort_kept quiet (Refused f) new h = interrupted_kept Whole tt call.Abort f new h
+  abort_kept quiet (Waits wait) new h = absurd h
+  abort_kept quiet Nothing new h = absurd h

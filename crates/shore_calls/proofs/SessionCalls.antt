@@ -37,6 +37,7 @@ use Rattle.shore_calls.specs.CallHistories.{txn_of}
 use Rattle.shore_calls.specs.StateChanges.{committed}
 use Rattle.shore_calls.specs.CallSteps.{BeginStep, CommitStep, InnerStep, IsTooLong, OpenStep, RefusesEarly, RefusesGranule, CallStep}
 use Rattle.shore_calls.specs.Rollbacks.{TakesCall}
+use Rattle.shore_calls.proofs.Waiters.{without_quiet}
 use Rattle.shore_calls.specs.LockedStates.{IsSessionsState, entries_of_call}
 use Rattle.shore_calls.specs.States.{DoesNotWait, HasNoTxn, IsOfSession, State}
 
@@ -52,6 +53,7 @@ module _ (g : Geometry) (found : List LogRecord) (es : List Entry) (s : State) (
         orderly = k.locks.orderly;
         rooted = k.locks.rooted;
         below = All-weaker (λ r. r.txn < s.sessions.next_txn) (λ r. r.txn < s.sessions.next_txn + 1) (λ r less. omega (arith, less)) s.locks.requests k.locks.below;
+        waiters = λ t waits. inr (k.locks.waiters t waits);
         waits = λ running b there quiet. ⊎_elim
             (λ own. subst (λ (t : ℕ). is_waiting t s.locks.requests ≡ false) (ap (λ (x : SessionTxn). x.txn) own) (newcomer_quiet s.locks.requests s.sessions.next_txn k.locks.below))
             (λ older. k.locks.waits running b older quiet)
@@ -70,11 +72,11 @@ module _ (g : Geometry) (found : List LogRecord) (es : List Entry) (s : State) (
 
   -- ---- a commit
 
-  commit_kept : (a : SessionTxn) → a.undo.rolling ≡ None → IsOfSession s session a → (step : Step) (new : State) → CommitStep s a step new → IsSessionsState found (es ++ entries_of_call s session call.Commit step) new
-  commit_kept a whole mem (Done answer) new h = absurd h
-  commit_kept a whole mem (Refused f) new h = absurd h
-  commit_kept a whole mem Nothing new h = absurd h
-  commit_kept a whole mem (Waits wait) new h =
+  commit_kept : (a : SessionTxn) → a.undo.rolling ≡ None → IsOfSession s session a → is_waiting a.txn s.locks.requests ≡ false → (step : Step) (new : State) → CommitStep s a step new → IsSessionsState found (es ++ entries_of_call s session call.Commit step) new
+  commit_kept a whole mem quiet (Done answer) new h = absurd h
+  commit_kept a whole mem quiet (Refused f) new h = absurd h
+  commit_kept a whole mem quiet Nothing new h = absurd h
+  commit_kept a whole mem quiet (Waits wait) new h =
       subst (IsSessionsState found (es ++ entries_of_call s session call.Commit (Waits wait))) (sym h.1)
       (subst (λ w. IsSessionsState found (es ++ entries_of_call s session call.Commit (Waits w)) (committed s a)) (sym h.0)
       (state_of found es s k (es ++ Decided (decision.Commit (txn_of s.sessions session)) ∷ []) (committed s a)
@@ -86,7 +88,8 @@ module _ (g : Geometry) (found : List LogRecord) (es : List Entry) (s : State) (
         orderly = k.locks.orderly;
         rooted = k.locks.rooted;
         below = k.locks.below;
-        waits = λ running b there quiet. k.locks.waits running b (among_without a.txn b s.sessions.active there).0 (λ w m. quiet w (inr m));
+        waiters = without_quiet s.locks.requests s.sessions.active a.txn quiet k.locks.waiters;
+        waits = λ running b there idle. k.locks.waits running b (among_without a.txn b s.sessions.active there).0 (λ w m. idle w (inr m));
       })))
 
   -- ---- before the locks
@@ -137,15 +140,19 @@ module _ (g : Geometry) (found : List LogRecord) (es : List Entry) (s : State) (
 
   -- ---- any call
 
+  -- the transaction of a session that does not wait waits for no lock
+  quiet_of : s.failed ≡ false → (a : SessionTxn) → IsOfSession s session a → DoesNotWait s session → is_waiting a.txn s.locks.requests ≡ false
+  quiet_of running a mem idle = k.locks.waits running a mem.0 (λ w m spared same. idle w m (same ∙ mem.1))
+
   open_kept : s.failed ≡ false → (a : SessionTxn) → a.undo.rolling ≡ None → IsOfSession s session a → DoesNotWait s session → (c : Call) (step : Step) (new : State) → OpenStep g s a c step new
       → IsSessionsState found (es ++ entries_of_call s session c step) new
   open_kept running a whole mem idle c step new (inl h) =
       subst (IsSessionsState found (es ++ entries_of_call s session c step)) (sym h.3)
       (subst (λ (x : Step). IsSessionsState found (es ++ entries_of_call s session c x) s) (sym h.2) (early_kept a whole mem c h.0 h.1))
   open_kept running a whole mem idle c step new (inr (inl h)) =
-      goes_on_kept g found es session a mem.1 whole s k mem.0 (k.locks.waits running a mem.0 (λ w m same. idle w m (same ∙ mem.1))) c step new h.1
+      goes_on_kept g found es session a mem.1 whole s k mem.0 (quiet_of running a mem idle) c step new h.1
   open_kept running a whole mem idle c step new (inr (inr (inl h))) =
-      subst (λ (x : Call). IsSessionsState found (es ++ entries_of_call s session x step) new) (sym h.0) (commit_kept a whole mem step new h.1)
+      subst (λ (x : Call). IsSessionsState found (es ++ entries_of_call s session x step) new) (sym h.0) (commit_kept a whole mem (quiet_of running a mem idle) step new h.1)
   open_kept running a whole mem idle c step new (inr (inr (inr h))) =
       subst (λ (x : Call). IsSessionsState found (es ++ entries_of_call s session x step) new) (sym h.0) (savepoint_kept g found es session a mem.1 s k mem.0 whole step new h.1)
 
@@ -162,7 +169,7 @@ module _ (g : Geometry) (found : List LogRecord) (es : List Entry) (s : State) (
       subst (λ (x : Call). IsSessionsState found (es ++ entries_of_call s session x step) new) (sym h.1)
       (back_kept g found es session a mem.1 s k mem.0 h.0 (subst (TakesCall a.undo) h.1 h.2) step new h.3)
   inner_kept running a mem idle c step new (inr (inr (inr h))) =
-      subst (λ (x : Call). IsSessionsState found (es ++ entries_of_call s session x step) new) (sym h.0) (abort_kept g found es session a mem.1 s k mem.0 step new h.1)
+      subst (λ (x : Call). IsSessionsState found (es ++ entries_of_call s session x step) new) (sym h.0) (abort_kept g found es session a mem.1 s k mem.0 (quiet_of running a mem idle) step new h.1)
 
   pub session_call_kept : (c : Call) (step : Step) (new : State) → CallStep g s session c step new → IsSessionsState found (es ++ entries_of_call s session c step) new
   session_call_kept c step new (inl h) = refused_call c step new fault.Memory tt h.0 h.1

@@ -1,5 +1,5 @@
 -- Each call and each resume of a session under locks comes to something.
-use Rattle.std.proofs.Common.{◌≡◌, ◌≢◌, ◌⊎◌, inl, inr, ⊎_elim, ◌+◌, ◌≤◌, ◌<◌, ℕ, List, ◌∷◌, Bool, true, false, Some, None, refl, sym, ap, subst, ◌∙◌, length, Ok, Err}
+use Rattle.std.proofs.Common.{◌≡◌, ◌≢◌, ◌⊎◌, inl, inr, ⊎_elim, ◌+◌, ◌≤◌, ◌<◌, ℕ, List, ◌∷◌, Bool, true, false, Some, None, Option, refl, sym, ap, subst, ◌∙◌, length, Ok, Err}
 use Rattle.std.specs.FinMap.{get}
 use Rattle.std.specs.Prelude.{Option, IsSome, IsSomeAnd, IsTrue, Result, slice_get}
 use Rattle.std.proofs.lemmas.Bool.{cases_Bool}
@@ -53,6 +53,7 @@ use Rattle.shore_calls.specs.CallSteps.{AnswersBehind, BeginStep, GoesOn, HasGra
 use Rattle.shore_calls.specs.Events.{IsServed, IsStateAfter}
 use Rattle.shore_calls.specs.Rollbacks.{TakesCall}
 use Rattle.shore_calls.specs.SessionWaits.{IsCommitWait, IsLockWait}
+use Rattle.shore_calls.specs.Victims.{TellsVictim}
 use Rattle.shore_calls.specs.States.{DoesNotWait, HasNoTxn, IsOfSession, State, Waiting, next_number, page_slots}
 
 abbrev pub GoesSomewhere : Geometry → State → SessionTxn → Call → Type 0
@@ -404,42 +405,54 @@ module _ (g : Geometry) (s : State) (session : ℕ) where
     -- ---- resumes
 
     abbrev pub ResumeComes : Type 0
-    ResumeComes = (step : Step) × (new : State) × ResumeStep g s session step new × ComesOfState step
+    ResumeComes = (step : Step) × (new : State) × (ResumeStep g s session step new ⊎ TellsVictim s session step new) × ComesOfState step
 
     module _ (w : Waiting) (there : IsAmong w s.waiting) (of : w.session ≡ session) (running : s.failed ≡ false) where
-      resumes : (wait : Wait) → w.wait ≡ wait → (step : Step) (new : State) → ResumesWait g s w wait step new → ComesOfState step → ResumeComes
-      resumes wait is step new h from =
-          (step, new, inr (w, there, of, inr (running, subst (λ (x : Wait). ResumesWait g s w x step new) (sym is) h)), from)
+      resumes : w.cycle ≡ None → (wait : Wait) → w.wait ≡ wait → (step : Step) (new : State) → ResumesWait g s w wait step new → ComesOfState step → ResumeComes
+      resumes spared wait is step new h from =
+          (step, new, inl (inr (w, there, of, inr (running, subst (λ (x : Wait). ResumesWait g s w x step new) (sym is) h, spared))), from)
 
       commit_resumes : IsCommitWait (length found) s w → ResumeComes
       commit_resumes h =
           ⊎_elim
-          (λ durable. resumes (Durable h.number) wait_is (Done Committed) (commit_ended s h.txn) (inr (durable, refl, (h.txn, h.committing, session_is, refl))) tt)
-          (λ not_yet. resumes (Durable h.number) wait_is (Waits (Durable h.number)) s (inl (not_yet, refl, refl)) tt)
+          (λ durable. resumes spared (Durable h.number) wait_is (Done Committed) (commit_ended s h.txn) (inr (durable, refl, (h.txn, h.committing, session_is, refl))) tt)
+          (λ not_yet. resumes spared (Durable h.number) wait_is (Waits (Durable h.number)) s (inl (not_yet, refl, refl)) tt)
           (within_or_beyond h.number s.durable)
         where
+          spared : w.cycle ≡ None
+          spared = ap (λ (x : Waiting). x.cycle) h.is
+
           wait_is : w.wait ≡ Durable h.number
           wait_is = ap (λ (x : Waiting). x.wait) h.is
 
           session_is : h.txn.session ≡ w.session
           session_is = sym (ap (λ (x : Waiting). x.session) h.is)
 
-      lock_resumes : IsLockWait s w → ResumeComes
-      lock_resumes h = by (is_waiting h.txn.txn s.locks.requests) refl
+      lock_resumes : w.cycle ≡ None → IsLockWait s w → ResumeComes
+      lock_resumes spared h = by (is_waiting h.txn.txn s.locks.requests) refl
         where
           by : (b : Bool) → is_waiting h.txn.txn s.locks.requests ≡ b → ResumeComes
-          by true still = resumes (Lock h.at) h.is (Waits (Lock h.at)) s (h.txn, (h.active, h.of), inl (still, refl, refl)) tt
+          by true still = resumes spared (Lock h.at) h.is (Waits (Lock h.at)) s (h.txn, (h.active, h.of), inl (still, refl, refl)) tt
           by false done =
               let goes = goes_somewhere g (wait_refused s w.session) (record { pages = roomy.pages; log = roomy.log }) h.txn w.call h.lock h.asked in
-              resumes (Lock h.at) h.is goes.0 goes.1 (h.txn, (h.active, h.of), inr (done, goes.2)) goes.3
+              resumes spared (Lock h.at) h.is goes.0 goes.1 (h.txn, (h.active, h.of), inr (done, goes.2)) goes.3
 
     pub resume_comes_to_something : ResumeComes
     resume_comes_to_something =
         ⊎_elim
         (λ w. by w.0 w.1 w.2 s.failed refl)
-        (λ idle. (Nothing, s, inl (idle, refl, refl), tt))
+        (λ idle. (Nothing, s, inl (inl (idle, refl, refl)), tt))
         (waits_or_not session s.waiting)
       where
+        victim_or_not : (w : Waiting) → IsAmong w s.waiting → w.session ≡ session → s.failed ≡ false → IsLockWait s w → (o : Option (List ℕ)) → w.cycle ≡ o → ResumeComes
+        victim_or_not w there of running asks None spared = lock_resumes w there of running spared asks
+        victim_or_not w there of running asks (Some cycle) is = (
+          Refused (fault.Deadlock cycle),
+          wait_refused s session,
+          inr (record { running = running; waited = w; there = there; of = of; cycle = cycle; victim = is; told = refl; is = refl }),
+          ordinary (fault.Deadlock cycle) tt,
+        )
+
         by : (w : Waiting) → IsAmong w s.waiting → w.session ≡ session → (b : Bool) → s.failed ≡ b → ResumeComes
-        by w there of true failed = (Refused fault.Failed, wait_refused s w.session, inr (w, there, of, inl (failed, refl, refl)), ordinary fault.Failed tt)
-        by w there of false running = ⊎_elim (commit_resumes w there of running) (lock_resumes w there of running) (k.waits.each w there)
+        by w there of true failed = (Refused fault.Failed, wait_refused s w.session, inl (inr (w, there, of, inl (failed, refl, refl))), ordinary fault.Failed tt)
+        by w there of false running = ⊎_elim (commit_resumes w there of running) (λ asks. victim_or_not w there of running asks w.cycle refl) (k.waits.each w there)

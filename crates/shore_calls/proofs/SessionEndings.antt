@@ -53,7 +53,7 @@ module _ (g : Geometry) (s : State) (session : ℕ) (c : Call) where
   its_commit n new (inr (inr (inr (inr (inr h))))) = commit_in n new h.2.0 h.2.1 h.1 h.2.2
 
   abbrev waits_with : Wait → Waiting
-  waits_with wait = record { session = session; call = c; wait = wait }
+  waits_with wait = record { session = session; call = c; wait = wait; cycle = None }
 
   inner_waits : (wait : Wait) (new : State) (a : SessionTxn) → a.session ≡ session → InnerStep g s a c (Waits wait) new → IsAmong (waits_with wait) new.waiting
   inner_waits wait new a of (inl h) = let clash = h.2 in absurd cc
@@ -63,14 +63,14 @@ module _ (g : Geometry) (s : State) (session : ℕ) (c : Call) where
   inner_waits wait new a of (inr (inr (inr h))) = absurd h.1
   inner_waits wait new a of (inr (inl (whole, inr (inl h)))) =
       subst (λ (x : State). IsAmong (waits_with wait) x.waiting) (sym h.1.5)
-      (inl (ap (λ n. record { session = n; call = c; wait = Lock h.1.1 }) of ∙ ap waits_with (sym h.1.4)))
+      (inl (ap (λ n. record { session = n; call = c; wait = Lock h.1.1; cycle = None }) of ∙ ap waits_with (sym h.1.4)))
   inner_waits wait new a of (inr (inl (whole, inr (inr (inl h))))) =
       subst (λ (x : State). IsAmong (waits_with wait) x.waiting) (sym h.1.1)
-      (inl (ap (λ n. record { session = n; call = call.Commit; wait = Durable (next_number s) }) of
-      ∙ ap (λ (x : Call). record { session = session; call = x; wait = Durable (next_number s) }) (sym h.0) ∙ ap waits_with (sym h.1.0)))
+      (inl (ap (λ n. record { session = n; call = call.Commit; wait = Durable (next_number s); cycle = None }) of
+      ∙ ap (λ (x : Call). record { session = session; call = x; wait = Durable (next_number s); cycle = None }) (sym h.0) ∙ ap waits_with (sym h.1.0)))
 
 pub call_waits : (g : Geometry) (s new : State) (session : ℕ) (c : Call) (wait : Wait) → CallStep g s session c (Waits wait) new
-    → IsAmong (record { session = session; call = c; wait = wait }) new.waiting
+    → IsAmong (record { session = session; call = c; wait = wait; cycle = None }) new.waiting
 call_waits g s new session c wait (inl h) = let clash = h.0 in absurd cc
 call_waits g s new session c wait (inr (inl h)) = let clash = h.1 in absurd cc
 call_waits g s new session c wait (inr (inr (inl h))) = let clash = h.2 in absurd cc
@@ -110,7 +110,7 @@ still_waits g s new session wait (inr h) =
 -- ---- a wait ends
 
 -- the calls that wait are those that waited, but for the session's
-abbrev AreOthers : State → ℕ → State → Type 0
+abbrev pub AreOthers : State → ℕ → State → Type 0
 AreOthers s session new = new.waiting ≡ (wait_refused s session).waiting
 
 -- an answer and a refusal leave the calls that wait
@@ -142,10 +142,10 @@ refusals_leave g s a (call.Delete id) f new h = ap (λ (x : State). x.waiting) h
 refusals_leave g s a (call.Scan store) f new h = ap (λ (x : State). x.waiting) h.1 ∙ refused_leaves f s
 refusals_leave g s a _ f new h = absurd h
 
-done_leaves : (g : Geometry) (s : State) (a : SessionTxn) (c : Call) (answer : Answer) (new : State) → GoesOn g s a c (Done answer) new → new.waiting ≡ s.waiting
+pub done_leaves : (g : Geometry) (s : State) (a : SessionTxn) (c : Call) (answer : Answer) (new : State) → GoesOn g s a c (Done answer) new → new.waiting ≡ s.waiting
 done_leaves g s a c answer new h = answers_leave g h.0 a c answer new h.2 ∙ ap (λ (x : State). x.waiting) h.1.3
 
-refusing_leaves : (g : Geometry) (s : State) (a : SessionTxn) (c : Call) (f : Fault) (new : State) → GoesOn g s a c (Refused f) new → new.waiting ≡ s.waiting
+pub refusing_leaves : (g : Geometry) (s : State) (a : SessionTxn) (c : Call) (f : Fault) (new : State) → GoesOn g s a c (Refused f) new → new.waiting ≡ s.waiting
 refusing_leaves g s a c f new (inl h) = ⊎_elim
     (ap (λ (x : State). x.waiting))
     (λ locked. ⊎_elim
@@ -155,7 +155,7 @@ refusing_leaves g s a c f new (inl h) = ⊎_elim
 refusing_leaves g s a c f new (inr (inl h)) = ap (λ (x : State). x.waiting) h.3
 refusing_leaves g s a c f new (inr (inr h)) = refusals_leave g h.0 a c f new h.2 ∙ ap (λ (x : State). x.waiting) h.1.3
 
-others_wait : (s new : State) (session : ℕ) → AreOthers s session new → DoesNotWait new session
+pub others_wait : (s new : State) (session : ℕ) → AreOthers s session new → DoesNotWait new session
 others_wait s new session is w m = (waits_on session w s.waiting (subst (IsAmong w) is m)).1
 
 done_in : (g : Geometry) (s new : State) (w : Waiting) (its : Wait) (answer : Answer) → ResumesWait g s w its (Done answer) new → AreOthers s w.session new

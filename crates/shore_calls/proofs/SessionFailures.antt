@@ -39,7 +39,7 @@ IsHarmless (fault.Damaged device offset) = ⊥
 IsHarmless _ = Unit {0}
 
 -- the refusal is harmless, or the state has failed
-abbrev Fails : Fault → State → Type 0
+abbrev pub Fails : Fault → State → Type 0
 Fails f new = IsHarmless f ⊎ IsTrue new.failed
 
 after_fails : (f : Fault) (s : State) → Fails f (after_refusal f s)
@@ -144,7 +144,7 @@ module _ (g : Geometry) (found : List LogRecord) (es : List Entry) (s : State) (
   call_fails session c f new (inr (inr (inr (inr (inl h))))) = refused_exactly f fault.NoTransaction new h.4 tt
   call_fails session c f new (inr (inr (inr (inr (inr h))))) =
       let mem = h.2.1 in
-      inner_fails h.2.0 (k.sessions.locks.waits h.0 h.2.0 mem.0 (λ w m same. h.1 w m (same ∙ mem.1))) c f new h.2.2
+      inner_fails h.2.0 (k.sessions.locks.waits h.0 h.2.0 mem.0 (λ w m spared same. h.1 w m (same ∙ mem.1))) c f new h.2.2
 
   wait_fails : (w : Waiting) (wait : Wait) (f : Fault) (new : State) → ResumesWait g s w wait (Refused f) new → Fails f new
   wait_fails w (Durable n) f new (inl h) = let clash = h.1 in absurd cc

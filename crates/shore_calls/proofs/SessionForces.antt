@@ -11,7 +11,7 @@ use Rattle.shore_model.specs.declared.histories.Entry.{Entry}
 use Rattle.shore_model.specs.declared.histories.Entry.TheVariants.{Decided, Exchanged}
 use Rattle.shore_model.specs.Histories.{acknowledged}
 use Rattle.shore_sessions.specs.LogPrefixes.{decisions_in}
-use Rattle.shore_sessions.specs.SessionSteps.{AnswerAbort, AnswerCommit, AppendCommit, BeginTxn, GiveReply, MoveLocks, PutBack, RefuseCall, SessionEvent, entries_by, exchange}
+use Rattle.shore_sessions.specs.SessionSteps.{AnswerAbort, AnswerCommit, AppendCommit, BeginTxn, Doom, GiveReply, MoveLocks, PutBack, RefuseCall, SessionEvent, entries_by, exchange}
 use Rattle.shore_sessions.specs.Sessions.{SessionTxn}
 use Rattle.shore_calls.proofs.Acknowledged.{acknowledges_one, inner_asks_none}
 use Rattle.shore_calls.proofs.Growing.{forced_grown, still_there}
@@ -49,6 +49,7 @@ event_forced g base es start s new (GiveReply a c (Err f)) quiet h k =
     forced_grown base es (Exchanged a.session a.txn (exchange c (Err f))) s new h.durable (goes_on_log g s new (GiveReply a c (Err f)) h) refl k
 event_forced g base es start s new (RefuseCall session t c f) quiet h k =
     forced_grown base es (Exchanged session t (exchange c (Err f))) s new h.durable (goes_on_log g s new (RefuseCall session t c f) h) refl k
+event_forced g base es start s new (Doom a) quiet h k = absurd quiet
 event_forced g base es start s new (PutBack a kept e r) quiet h k =
     subst (λ (made : List Entry). IsForced base made new) (sym (append-nil es)) (forced_on base es s new h.durable (goes_on_log g s new (PutBack a kept e r) h) k)
 event_forced g base es start s new (AppendCommit a) quiet h k = absurd quiet

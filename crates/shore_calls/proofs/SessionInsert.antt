@@ -15,6 +15,7 @@ use Rattle.shore_model.specs.declared.calls.Call.TheVariants as call
 use Rattle.shore_model.specs.declared.histories.Decision.TheVariants as decision
 use Rattle.shore_model.specs.declared.histories.Entry.{Entry}
 use Rattle.shore_model.specs.Histories.{acknowledged}
+use Rattle.shore_calls.proofs.SettledAtOnce.{at_once, resumed_at_once}
 use Rattle.shore_calls.specs.declared.step.Step.TheVariants.{Done, Waits}
 use Rattle.shore_calls.specs.declared.step.Wait.TheVariants.{Durable}
 use Rattle.shore_room.proofs.Leaving.{same_page}
@@ -110,7 +111,7 @@ module _ (g : Geometry) (stream_bytes : ℕ) (bytes : List ℕ) (store : HasStor
   may = let before = ap image_cost nothing_there in record { fits = fits; logs = (omega arith, omega arith); grows = grows }
 
   begins : EventMoves g s0 (Called 1 call.Begin (Done (Began 1))) s1
-  begins = (tt, inr (inr (inr (inl (refl, λ w m. absurd m, refl, (λ a y. ⊎_elim (λ m. absurd m) (λ m. absurd m) y, omega arith, ((omega arith, omega arith), omega arith), refl, refl))))))
+  begins = (tt, at_once g s0 1 call.Begin (Done (Began 1)) s1 (inr (inr (inr (inl (refl, λ w m. absurd m, refl, (λ a y. ⊎_elim (λ m. absurd m) (λ m. absurd m) y, omega arith, ((omega arith, omega arith), omega arith), refl, refl)))))) tt)
 
   -- both locks are free
   has_store : HasLocked s1 a1 (call.Insert 0 bytes) with_store
@@ -122,17 +123,17 @@ module _ (g : Geometry) (stream_bytes : ℕ) (bytes : List ℕ) (store : HasStor
   inserts : EventMoves g s1 (Called 1 (call.Insert 0 bytes) (Done (Inserted first_id))) s2
   inserts = (
     tt,
-    inr (inr (inr (inr (inr (refl, λ w m. absurd m, (a1, (inl refl, refl), inr (inl (refl, inr (inl ((short, store), (with_store, has_store, (first_id, has_place, refl, (one_slot, may, refl))))))))))))),
+    at_once g s1 1 (call.Insert 0 bytes) (Done (Inserted first_id)) s2 (inr (inr (inr (inr (inr (refl, λ w m. absurd m, (a1, (inl refl, refl), inr (inl (refl, inr (inl ((short, store), (with_store, has_store, (first_id, has_place, refl, (one_slot, may, refl)))))))))))))) tt,
   )
 
   commits : EventMoves g s2 (Called 1 call.Commit (Waits (Durable 2))) s3
-  commits = (tt, inr (inr (inr (inr (inr (refl, λ w m. absurd m, (a2, (inl refl, refl), inr (inl (refl, inr (inr (inl (refl, (refl, refl)))))))))))))
+  commits = (tt, at_once g s2 1 call.Commit (Waits (Durable 2)) s3 (inr (inr (inr (inr (inr (refl, λ w m. absurd m, (a2, (inl refl, refl), inr (inl (refl, inr (inr (inl (refl, (refl, refl))))))))))))) tt)
 
   forces : EventMoves g s3 (Forced 2) s4
   forces = (omega arith, omega arith, refl)
 
   answers : EventMoves g s4 (Resumed 1 (Done Committed)) s5
-  answers = inr (commit_waiting 1 2, inl refl, refl, inr (refl, inr (omega arith, refl, (a2, inl refl, refl, refl))))
+  answers = resumed_at_once g s4 1 (Done Committed) s5 (inr (commit_waiting 1 2, inl refl, refl, inr (refl, inr (omega arith, refl, (a2, inl refl, refl, refl)), refl))) tt
 
   abbrev made : List Entry
   made =

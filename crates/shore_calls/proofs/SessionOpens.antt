@@ -11,6 +11,7 @@ use Rattle.shore_locks.proofs.Tables.{orderly_none}
 use Rattle.shore_path.specs.Rooted.{AreRooted, IsRootedRequest}
 use Rattle.shore_sessions.specs.Views.{IsAmong}
 use Rattle.shore_calls.specs.CallHistories.{IsOpened}
+use Rattle.shore_calls.proofs.Waiters.{none_wait}
 use Rattle.shore_calls.specs.LockedStates.{HasTrueLocks, IsSessionsState}
 use Rattle.shore_calls.specs.Events.{IsStateAfter}
 use Rattle.shore_calls.specs.States.{State}
@@ -29,6 +30,7 @@ locks_of_none s held none = record {
   orderly = subst IsOrderly (sym none) orderly_none;
   rooted = subst AreRooted (sym none) (All-nil (IsRootedRequest []));
   below = subst (All (λ (r : Request). r.txn < s.sessions.next_txn)) (sym none) (All-nil (λ (r : Request). r.txn < s.sessions.next_txn));
+  waiters = none_wait s.locks.requests s.sessions.active none;
   waits = λ running a there idle. ap (is_waiting a.txn) none;
 }
 

@@ -34,6 +34,7 @@ use Rattle.shore_calls.proofs.TakenLocks.{sessions_of, state_of}
 use Rattle.shore_calls.specs.CallHistories.{txn_of}
 use Rattle.shore_calls.specs.StateChanges.{wait_refused}
 use Rattle.shore_calls.specs.CallSteps.{GoesOn, ResumesCall, ResumesWait, commit_ended}
+use Rattle.shore_calls.proofs.Waiters.{released_under_way}
 use Rattle.shore_calls.specs.LockedStates.{IsSessionsState, entries_of_resumed, entries_of_call, entries_of_wait, resumed_call}
 use Rattle.shore_calls.specs.States.{IsOfSession, State, Waiting, without_waiting}
 
@@ -55,7 +56,7 @@ WaitsWhole s session wait = (at : Granule) (a : SessionTxn) → wait ≡ Lock at
 
 -- a call that goes on behind its lock adds what it would add if it were made now
 pub same_entries : (g : Geometry) (s : State) (a : SessionTxn) (session : ℕ) (c : Call) (at : Granule) (step : Step) (new : State) → GoesOn g s a c step new
-    → entries_of_call s session c step ≡ entries_of_resumed s (record { session = session; call = c; wait = Lock at }) step
+    → entries_of_call s session c step ≡ entries_of_resumed s (record { session = session; call = c; wait = Lock at; cycle = None }) step
 same_entries g s a session c at (Done answer) new h = ap (λ t. Exchanged session t (exchange c (Ok answer)) ∷ []) (inner_under s session c (asking_is_inner c h.1.0 h.1.1))
 same_entries g s a session c at (Waits wait) new h = ap (entries_of_wait s session) h.4
 same_entries g s a session c at (Refused f) new h = refl
@@ -90,9 +91,10 @@ module _ (g : Geometry) (found : List LogRecord) (es : List Entry) (s : State) (
           orderly = released_orderly s.locks.requests a.txn k.locks.orderly;
           rooted = released_rooted s.locks.requests a.txn k.locks.orderly k.locks.rooted;
           below = released_below s.locks.requests a.txn s.sessions.next_txn k.locks.orderly k.locks.below;
+          waiters = released_under_way s.locks.requests s.sessions.active a.txn k.locks.orderly k.locks.waiters;
           waits = λ running b there idle.
               released_stay_quiet s.locks.requests a.txn b.txn k.locks.orderly
-              (k.locks.waits running b there (λ w m same. idle w (waits_stay a.session w s.waiting m (λ own_session. apart a b mem there (sym same ∙ own_session))) same));
+              (k.locks.waits running b there (λ w m spared same. idle w (waits_stay a.session w s.waiting m (λ own_session. apart a b mem there (sym same ∙ own_session))) spared same));
         })
 
   -- ---- a call behind a lock
@@ -104,43 +106,44 @@ module _ (g : Geometry) (found : List LogRecord) (es : List Entry) (s : State) (
     orderly = k.locks.orderly;
     rooted = k.locks.rooted;
     below = k.locks.below;
+    waiters = k.locks.waiters;
     waits = λ running b there idle. ⊎_elim
         (λ own.
         let same : b.txn ≡ a.txn = one_txn k.agree b a (inl there) (inl mem.0) (eqb-true b.session session own ∙ sym mem.1) in
         subst (λ (t : ℕ). is_waiting t s.locks.requests ≡ false) (sym same) quiet)
-        (λ other. k.locks.waits running b there (λ w m same. idle w (waits_stay session w s.waiting m (λ own. eqb-false b.session session other (sym same ∙ own))) same))
+        (λ other. k.locks.waits running b there (λ w m spared same. idle w (waits_stay session w s.waiting m (λ own. eqb-false b.session session other (sym same ∙ own))) spared same))
         (cases_Bool (b.session == session));
   })
 
   -- a failed manager lets a call go
   let_go : (session : ℕ) → IsTrue s.failed → IsSessionsState found es (wait_refused s session)
   let_go session failed = state_of found es s k es (wait_refused s session) (sessions_of found es s k)
-      (record { held = k.locks.held; orderly = k.locks.orderly; rooted = k.locks.rooted; below = k.locks.below; waits = λ running. absurd cc })
+      (record { held = k.locks.held; orderly = k.locks.orderly; rooted = k.locks.rooted; below = k.locks.below; waiters = k.locks.waiters; waits = λ running. absurd cc })
 
   as_it_was : IsSessionsState found (es ++ []) s
   as_it_was = subst (λ (made : List Entry). IsSessionsState found made s) (sym (append-nil es)) k
 
   wait_kept : (w : Waiting) (wait : Wait) → WaitsWhole s w.session wait → (step : Step) (new : State) → ResumesWait g s w wait step new
-      → IsSessionsState found (es ++ entries_of_resumed s (record { session = w.session; call = w.call; wait = wait }) step) new
+      → IsSessionsState found (es ++ entries_of_resumed s (record { session = w.session; call = w.call; wait = wait; cycle = w.cycle }) step) new
   wait_kept w (Durable n) whole step new (inl h) =
-      subst (IsSessionsState found (es ++ entries_of_resumed s (record { session = w.session; call = w.call; wait = Durable n }) step)) (sym h.2)
-      (subst (λ (x : Step). IsSessionsState found (es ++ entries_of_resumed s (record { session = w.session; call = w.call; wait = Durable n }) x) s) (sym h.1) as_it_was)
+      subst (IsSessionsState found (es ++ entries_of_resumed s (record { session = w.session; call = w.call; wait = Durable n; cycle = w.cycle }) step)) (sym h.2)
+      (subst (λ (x : Step). IsSessionsState found (es ++ entries_of_resumed s (record { session = w.session; call = w.call; wait = Durable n; cycle = w.cycle }) x) s) (sym h.1) as_it_was)
   wait_kept w (Durable n) whole step new (inr h) =
-      subst (IsSessionsState found (es ++ entries_of_resumed s (record { session = w.session; call = w.call; wait = Durable n }) step)) (sym h.2.3)
-      (subst (λ (x : Step). IsSessionsState found (es ++ entries_of_resumed s (record { session = w.session; call = w.call; wait = Durable n }) x) (commit_ended s h.2.0)) (sym h.1)
+      subst (IsSessionsState found (es ++ entries_of_resumed s (record { session = w.session; call = w.call; wait = Durable n; cycle = w.cycle }) step)) (sym h.2.3)
+      (subst (λ (x : Step). IsSessionsState found (es ++ entries_of_resumed s (record { session = w.session; call = w.call; wait = Durable n; cycle = w.cycle }) x) (commit_ended s h.2.0)) (sym h.1)
       (ended h.2.0 h.2.1 w.session h.2.2))
   wait_kept w (Lock at) whole step new h = ⊎_elim
       (λ still.
-      subst (IsSessionsState found (es ++ entries_of_resumed s (record { session = w.session; call = w.call; wait = Lock at }) step)) (sym still.2)
-      (subst (λ (x : Step). IsSessionsState found (es ++ entries_of_resumed s (record { session = w.session; call = w.call; wait = Lock at }) x) s) (sym still.1) as_it_was))
+      subst (IsSessionsState found (es ++ entries_of_resumed s (record { session = w.session; call = w.call; wait = Lock at; cycle = w.cycle }) step)) (sym still.2)
+      (subst (λ (x : Step). IsSessionsState found (es ++ entries_of_resumed s (record { session = w.session; call = w.call; wait = Lock at; cycle = w.cycle }) x) s) (sym still.1) as_it_was))
       (λ free.
       subst (λ made. IsSessionsState found (es ++ made) new) (same_entries g (wait_refused s w.session) h.0 w.session w.call at step new free.1)
       (goes_on_kept g found es w.session h.0 h.1.1 (whole at h.0 refl h.1) (wait_refused s w.session) (woken h.0 w.session h.1 free.0) h.1.0 free.0 w.call step new free.1))
       h.2
 
-  pub resumed_call_kept : (w : Waiting) → WaitsWhole s w.session w.wait → (step : Step) (new : State) → ResumesCall g s w step new → IsSessionsState found (es ++ entries_of_resumed s w step) new
+  pub resumed_call_kept : (w : Waiting) → (w.cycle ≡ None → WaitsWhole s w.session w.wait) → (step : Step) (new : State) → ResumesCall g s w step new → IsSessionsState found (es ++ entries_of_resumed s w step) new
   resumed_call_kept w whole step new (inl h) =
       subst (IsSessionsState found (es ++ entries_of_resumed s w step)) (sym h.2)
       (subst (λ (x : Step). IsSessionsState found (es ++ entries_of_resumed s w x) (wait_refused s w.session)) (sym h.1)
       (refusal_told found es (wait_refused s w.session) (let_go w.session h.0) w.session (resumed_call w.call w.wait) fault.Failed tt))
-  resumed_call_kept w whole step new (inr h) = wait_kept w w.wait whole step new h.1
+  resumed_call_kept w whole step new (inr h) = wait_kept w w.wait (whole h.2) step new h.1

@@ -14,15 +14,17 @@ use Rattle.shore_sessions.specs.LogTells.{records_committed}
 use Rattle.shore_sessions.specs.SessionSteps.{SessionEvent, entries_by}
 use Rattle.shore_sessions.specs.Sessions.{Sessions}
 use Rattle.shore_calls.specs.declared.step.Step.{Step}
-use Rattle.shore_calls.proofs.Comings.{goes_keeps, like_keeps, session_call_comes, session_event_comes, session_resume_comes}
+use Rattle.shore_calls.proofs.Comings.{goes_keeps, like_keeps, session_call_comes, session_resume_comes}
 use Rattle.shore_calls.proofs.Links.{ComesBy, Goes, GoesBy, IsLike}
 use Rattle.shore_calls.proofs.Rooms.{as_log_room, within}
 use Rattle.shore_calls.proofs.Sessions.{AreSessionsAfter}
+use Rattle.shore_calls.proofs.SettledComings.{session_event_comes, settled_call_comes, settled_resume_comes}
 use Rattle.shore_calls.proofs.TakenLocks.{sessions_of}
 use Rattle.shore_calls.specs.CallHistories.{IsRoomyState}
 use Rattle.shore_calls.specs.Events.{IsStateAfter, ManagerEvent, EventMoves, entries_of, entries_of_resume}
 use Rattle.shore_calls.specs.CallSteps.{CallStep, ResumeStep}
 use Rattle.shore_calls.specs.LockedStates.{entries_of_call}
+use Rattle.shore_calls.specs.Settling.{SettledCall, SettledResume}
 use Rattle.shore_calls.specs.States.{State, cost_of_log, log_room}
 
 pub goes_roomy : (base : ℕ) (o : Records) (es : List Entry) (g : Geometry) (s new : State) (e : SessionEvent) → AreSessionsAfter base o es s.sessions s.log → IsRoomyState s → Goes g s e new
@@ -51,7 +53,7 @@ like_roomy s t h roomy = record {
 }
 
 module _ (found : List LogRecord) (es : List Entry) (s : State) (k : IsStateAfter found es s) (roomy : IsRoomyState s) where
-  comes_roomy : (g : Geometry) (new : State) (made : List Entry) → ComesBy g s new made → IsRoomyState new
+  pub comes_roomy : (g : Geometry) (new : State) (made : List Entry) → ComesBy g s new made → IsRoomyState new
   comes_roomy g new made h =
       like_roomy h.mid new h.after
       (by_roomy (length found) (records_committed found) es g h.start h.events h.mid made
@@ -62,6 +64,12 @@ module _ (found : List LogRecord) (es : List Entry) (s : State) (k : IsStateAfte
 
   pub session_resume_roomy : (g : Geometry) (session : ℕ) (step : Step) (new : State) → ResumeStep g s session step new → IsRoomyState new
   session_resume_roomy g session step new h = comes_roomy g new (entries_of_resume s session step) (session_resume_comes g found es s k session step new h)
+
+  pub settled_call_roomy : (g : Geometry) (session : ℕ) (c : Call) (step : Step) (new : State) → SettledCall g s session c step new → IsRoomyState new
+  settled_call_roomy g session c step new h = comes_roomy g new (entries_of_call s session c step) (settled_call_comes g found es s k session c step new h)
+
+  pub settled_resume_roomy : (g : Geometry) (session : ℕ) (step : Step) (new : State) → SettledResume g s session step new → IsRoomyState new
+  settled_resume_roomy g session step new h = comes_roomy g new (entries_of_resume s session step) (settled_resume_comes g found es s k session step new h)
 
   pub session_event_roomy : (g : Geometry) (new : State) (e : ManagerEvent) → EventMoves g s e new → IsRoomyState new
   session_event_roomy g new e h = comes_roomy g new (entries_of s e) (session_event_comes g found es s k new e h)

@@ -13,6 +13,7 @@ use Rattle.shore_model.specs.declared.calls.Answer.TheVariants.{Began, Committed
 use Rattle.shore_model.specs.declared.calls.Call.{Call}
 use Rattle.shore_model.specs.declared.calls.Call.TheVariants as call
 use Rattle.shore_model.specs.declared.histories.Entry.{Entry}
+use Rattle.shore_locks.specs.Tables.{is_waiting}
 use Rattle.shore_held.specs.CallLocks.{Asked}
 use Rattle.shore_room.proofs.Costs.{change_bytes}
 use Rattle.shore_room.proofs.Leaving.{same_page}
@@ -21,12 +22,13 @@ use Rattle.shore_room.specs.LogRooms.{image_cost}
 use Rattle.shore_sessions.proofs.Ids.{put_here}
 use Rattle.shore_sessions.specs.Sessions.{SessionTxn, txn_begun}
 use Rattle.shore_sessions.specs.UndoLists.{nothing_to_undo, with_before_image}
+use Rattle.shore_calls.proofs.SettledAtOnce.{at_once, resumed_at_once, lone_waiter_is_on_no_cycle, waits_alone, waits_at_once}
 use Rattle.shore_calls.specs.declared.step.Step.TheVariants.{Done, Waits}
 use Rattle.shore_calls.specs.declared.step.Wait.TheVariants.{Durable, Lock}
 use Rattle.shore_calls.specs.CallHistories.{IsOpened}
 use Rattle.shore_calls.specs.Events.{Called, Forced, Resumed, EventMoves, MovesMaking}
 use Rattle.shore_calls.specs.StateChanges.{FitsAt, MayChange, answered, commit_waiting, committed, wait_refused, with_durable}
-use Rattle.shore_calls.specs.CallSteps.{IsPlaceOf, behind_lock, behind_place, commit_ended, lock_waiting}
+use Rattle.shore_calls.specs.CallSteps.{CallStep, IsPlaceOf, behind_lock, behind_place, commit_ended, lock_waiting}
 use Rattle.shore_calls.specs.WorkedSessions.{told_to_two, two_sessions}
 use Rattle.shore_calls.specs.Shapes.{store_lock, store_locked}
 use Rattle.shore_calls.specs.States.{DoesNotWait, HasNoTxn, MayBegin, State, Waiting}
@@ -105,7 +107,7 @@ module _ (g : Geometry) (stream_bytes : ℕ) (bytes : List ℕ) (store : HasStor
   }
 
   begins_one : EventMoves g opened (Called 1 call.Begin (Done (Began 1))) begun_one
-  begins_one = (tt, inr (inr (inr (inl (refl, λ w m. absurd m, refl, (λ a y. ⊎_elim (λ m. absurd m) (λ m. absurd m) y, omega arith, ((omega arith, omega arith), omega arith), refl, refl))))))
+  begins_one = (tt, at_once g opened 1 call.Begin (Done (Began 1)) begun_one (inr (inr (inr (inl (refl, λ w m. absurd m, refl, (λ a y. ⊎_elim (λ m. absurd m) (λ m. absurd m) y, omega arith, ((omega arith, omega arith), omega arith), refl, refl)))))) tt)
 
   fits : FitsAt inserting first_id (Some bytes)
   fits = record { there = omega arith; most = short; room = omega arith }
@@ -135,7 +137,7 @@ module _ (g : Geometry) (stream_bytes : ℕ) (bytes : List ℕ) (store : HasStor
   inserts : EventMoves g begun_one (Called 1 insert (Done (Inserted first_id))) inserted
   inserts = (
     tt,
-    inr (inr (inr (inr (inr (
+    at_once g begun_one 1 insert (Done (Inserted first_id)) inserted (inr (inr (inr (inr (inr (
       refl,
       λ w m. absurd m,
       (
@@ -149,11 +151,11 @@ module _ (g : Geometry) (stream_bytes : ℕ) (bytes : List ℕ) (store : HasStor
           )),
         )),
       ),
-    ))))),
+    )))))) tt,
   )
 
   begins_two : EventMoves g inserted (Called 2 call.Begin (Done (Began 2))) begun_two
-  begins_two = (tt, inr (inr (inr (inl (refl, λ w m. absurd m, refl, (not_in, omega arith, room, refl, refl))))))
+  begins_two = (tt, at_once g inserted 2 call.Begin (Done (Began 2)) begun_two (inr (inr (inr (inl (refl, λ w m. absurd m, refl, (not_in, omega arith, room, refl, refl)))))) tt)
     where
       not_in : HasNoTxn inserted 2
       not_in a y = ⊎_elim (λ m. ⊎_elim (λ same is. let other = ap (λ (x : SessionTxn). x.session) same in omega arith) (λ later. absurd later) m) (λ m. absurd m) y
@@ -161,28 +163,35 @@ module _ (g : Geometry) (stream_bytes : ℕ) (bytes : List ℕ) (store : HasStor
       room : MayBegin inserted
       room = let before = ap image_cost nothing_there in let cost = change_bytes first_id (get inserting.sessions.records first_id) (Some bytes) in ((omega arith, omega arith), omega arith)
 
+  called_two : CallStep g begun_two 2 (call.Get first_id) (Waits (Lock (Record first_id))) two_waits
+  called_two = inr (inr (inr (inr (inr (
+    refl,
+    λ w m. absurd m,
+    (
+      two,
+      (inl refl, refl),
+      inr (inl (
+        refl,
+        inr (inl (
+          (page, omega arith),
+          (share, Record first_id, refl, refl, refl, refl),
+        )),
+      )),
+    ),
+  )))))
+
+  -- the first waits for nothing, so no victim is needed
+  two_alone : (u : ℕ) → is_waiting u two_waits.locks.requests ≡ true → u ≡ 2
+  two_alone = waits_alone 2 two_waits.locks.requests (inl refl, (inl refl, (inl refl, (inl refl, (inl refl, (inl refl, (inl refl, (inr refl, tt))))))))
+
   waits_two : EventMoves g begun_two (Called 2 (call.Get first_id) (Waits (Lock (Record first_id)))) two_waits
   waits_two = (
     tt,
-    inr (inr (inr (inr (inr (
-      refl,
-      λ w m. absurd m,
-      (
-        two,
-        (inl refl, refl),
-        inr (inl (
-          refl,
-          inr (inl (
-            (page, omega arith),
-            (share, Record first_id, refl, refl, refl, refl),
-          )),
-        )),
-      ),
-    ))))),
+    waits_at_once g begun_two 2 (call.Get first_id) (Record first_id) two_waits called_two two (inl refl, refl) refl (lone_waiter_is_on_no_cycle two_waits.locks.requests 2 two_alone),
   )
 
   commits : EventMoves g two_waits (Called 1 call.Commit (Waits (Durable 2))) one_commits
-  commits = (tt, inr (inr (inr (inr (inr (refl, idle, (one_changed, (inr (inl refl), refl), inr (inl (refl, inr (inr (inl (refl, (refl, refl)))))))))))))
+  commits = (tt, at_once g two_waits 1 call.Commit (Waits (Durable 2)) one_commits (inr (inr (inr (inr (inr (refl, idle, (one_changed, (inr (inl refl), refl), inr (inl (refl, inr (inr (inl (refl, (refl, refl))))))))))))) tt)
     where
       idle : DoesNotWait two_waits 1
       idle w m is = ⊎_elim (λ same. let other = ap (λ (x : Waiting). x.session) same in omega arith) (λ later. absurd later) m
@@ -191,14 +200,14 @@ module _ (g : Geometry) (stream_bytes : ℕ) (bytes : List ℕ) (store : HasStor
   forces = (omega arith, omega arith, refl)
 
   ends : EventMoves g forced (Resumed 1 (Done Committed)) one_ended
-  ends = inr (commit_waiting 1 2, inl refl, refl, inr (refl, inr (omega arith, refl, (one_changed, inl refl, refl, refl))))
+  ends = resumed_at_once g forced 1 (Done Committed) one_ended (inr (commit_waiting 1 2, inl refl, refl, inr (refl, inr (omega arith, refl, (one_changed, inl refl, refl, refl)), refl))) tt
 
   there : get two_goes_on.sessions.records first_id ≡ Some bytes
   there = put_here empty first_id (Some bytes)
 
   goes_on : EventMoves g one_ended (Resumed 2 (Done (Got bytes))) two_has
   goes_on =
-      inr (
+      resumed_at_once g one_ended 2 (Done (Got bytes)) two_has (inr (
         lock_waiting two (call.Get first_id) (Record first_id),
         inl refl,
         refl,
@@ -209,8 +218,9 @@ module _ (g : Geometry) (stream_bytes : ℕ) (bytes : List ℕ) (store : HasStor
             (inl refl, refl),
             inr (refl, (two_goes_on, (share, refl, refl, refl), ((bytes, there, refl), refl))),
           ),
+          refl,
         ),
-      )
+      )) tt
 
   pub two_come_through : (last : State) × (made : List Entry) × IsOpened [] (opened_empty stream_bytes)
       × MovesMaking g (opened_empty stream_bytes) (two_sessions bytes) last made × (made ≡ told_to_two bytes)

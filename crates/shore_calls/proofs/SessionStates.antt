@@ -1,5 +1,5 @@
 -- Each step of a session, each force that is told and each failure leaves a state after its entries; so do any events.
-use Rattle.std.proofs.Common.{◌≡◌, ◌≢◌, ◌⊎◌, inl, inr, ⊎_elim, ◌++◌, ◌∷◌, ◌+◌, ◌≤◌, ℕ, List, [], Bool, true, false, cond, None, Some, refl, sym, ap, subst, ◌∙◌, append-nil, append_assoc, arith, length, take}
+use Rattle.std.proofs.Common.{◌≡◌, ◌≢◌, ◌⊎◌, inl, inr, ⊎_elim, ◌++◌, ◌∷◌, ◌+◌, ◌≤◌, ℕ, List, [], Bool, true, false, cond, None, Some, refl, sym, ap, subst, ◌∙◌, append-nil, arith, length, take}
 use Rattle.std.specs.Prelude.{◌==◌, Contains, IsTrue, Option}
 use Rattle.std.proofs.lemmas.Bool.{eqb-false, eqb-true}
 use Rattle.std.proofs.lemmas.List.Elements.{All-weaker}
@@ -28,7 +28,7 @@ use Rattle.shore_calls.proofs.Unwinding.{rollback_on}
 use Rattle.shore_calls.proofs.SessionsWaiting.{aborted_waits, commit_waits_on, ended_waits, failed_waits, quietly_waits, woken_waits}
 use Rattle.shore_calls.proofs.StepPassages.{CallPasses, ResumePasses, call_passes, resume_passes}
 use Rattle.shore_calls.specs.CallHistories.{IsForced, txn_of}
-use Rattle.shore_calls.specs.Events.{Called, Forced, HasFailed, IsStateAfter, ManagerEvent, Resumed, EventMoves, EventsMove, MovesMaking, call_waiting, entries_of, entries_of_resume, entries_of_waiting}
+use Rattle.shore_calls.specs.Events.{IsStateAfter, call_waiting, entries_of_resume, entries_of_waiting}
 use Rattle.shore_calls.specs.StateChanges.{wait_refused, with_durable, with_failure}
 use Rattle.shore_calls.specs.CallSteps.{ResumesCall, CallStep, ResumeStep, txn_count}
 use Rattle.shore_calls.specs.LockedStates.{IsSessionsState, entries_of_resumed, entries_of_call}
@@ -110,7 +110,7 @@ module _ (found : List LogRecord) (es : List Entry) (s : State) (k : IsStateAfte
 
   -- ---- resumes
 
-  as_it_was : IsStateAfter found (es ++ []) s
+  pub as_it_was : IsStateAfter found (es ++ []) s
   as_it_was = subst (λ (made : List Entry). IsStateAfter found made s) (sym (append-nil es)) k
 
   -- the record of a commit that is answered is durable
@@ -130,16 +130,16 @@ module _ (found : List LogRecord) (es : List Entry) (s : State) (k : IsStateAfte
           (in_longer (length found) c.number s.durable s.log (decision.Commit c.txn.txn) (subst (λ x. x ≤ s.durable) same durable) c.decided)
       by (inr l) = let clash : Durable n ≡ Lock l.at = sym waits ∙ l.is in absurd cc
 
-  -- who waits for a lock does not roll back
-  pub waits_whole : (w : Waiting) → IsAmong w s.waiting → WaitsWhole s w.session w.wait
-  waits_whole w m at a is mem = by (k.waits.each w m)
+  -- who waits for a lock, and is no victim, does not roll back
+  pub waits_whole : (w : Waiting) → IsAmong w s.waiting → w.cycle ≡ None → WaitsWhole s w.session w.wait
+  waits_whole w m spared at a is mem = by (k.waits.each w m)
     where
       by : IsCommitWait (length found) s w ⊎ IsLockWait s w → a.undo.rolling ≡ None
       by (inl c) = let clash : Durable c.number ≡ Lock at = sym (ap (λ (v : Waiting). v.wait) c.is) ∙ is in absurd cc
       by (inr l) =
           let number = one_txn k.sessions.agree l.txn a (inl l.active) (inl mem.0) (l.of ∙ sym mem.1) in
           let same : l.txn ≡ a = same_member l.txn a s.sessions.active k.sessions.agree.once l.active mem.0 number in
-          subst (λ (b : SessionTxn). b.undo.rolling ≡ None) same l.whole
+          subst (λ (b : SessionTxn). b.undo.rolling ≡ None) same (l.whole spared)
 
   pub session_resumed_stays : (g : Geometry) (w : Waiting) → IsAmong w s.waiting → (step : Step) (new : State) → ResumesCall g s w step new
       → IsStateAfter found (es ++ entries_of_resumed s w step) new
@@ -196,7 +196,7 @@ module _ (found : List LogRecord) (es : List Entry) (s : State) (k : IsStateAfte
       agree = k.sessions.agree;
       log = k.sessions.log;
       decides = k.sessions.decides;
-      locks = record { held = k.sessions.locks.held; orderly = k.sessions.locks.orderly; rooted = k.sessions.locks.rooted; below = k.sessions.locks.below; waits = k.sessions.locks.waits };
+      locks = record { held = k.sessions.locks.held; orderly = k.sessions.locks.orderly; rooted = k.sessions.locks.rooted; below = k.sessions.locks.below; waiters = k.sessions.locks.waiters; waits = k.sessions.locks.waits };
     };
     waits = record {
       each = λ w m. ⊎_elim
@@ -223,41 +223,9 @@ module _ (found : List LogRecord) (es : List Entry) (s : State) (k : IsStateAfte
       agree = k.sessions.agree;
       log = k.sessions.log;
       decides = k.sessions.decides;
-      locks = record { held = k.sessions.locks.held; orderly = k.sessions.locks.orderly; rooted = k.sessions.locks.rooted; below = k.sessions.locks.below; waits = λ running. absurd cc };
+      locks = record { held = k.sessions.locks.held; orderly = k.sessions.locks.orderly; rooted = k.sessions.locks.rooted; below = k.sessions.locks.below; waiters = k.sessions.locks.waiters; waits = λ running. absurd cc };
     };
     waits = failed_waits (length found) s k.waits;
     forced = record { least = k.forced.least; most = k.forced.most; acknowledged_kept = k.forced.acknowledged_kept };
     few = k.few;
   }
-
--- ---- any event, and events one after another
-
-pub session_event_stays : (g : Geometry) (found : List LogRecord) (es : List Entry) (s new : State) (e : ManagerEvent) → IsStateAfter found es s
-    → EventMoves g s e new → IsStateAfter found (es ++ entries_of s e) new
-session_event_stays g found es s new (Called session c step) k h = session_call_stays found es s k g session c step new h.1
-session_event_stays g found es s new (Resumed session step) k h = session_resume_stays found es s k g session step new h
-session_event_stays g found es s new (Forced n) k h =
-    subst (IsStateAfter found (es ++ [])) (sym h.2) (as_it_was found es (with_durable n s) (session_force_stays found es s k n h.0 h.1))
-session_event_stays g found es s new HasFailed k h = subst (IsStateAfter found (es ++ [])) (sym h) (as_it_was found es (with_failure s) (session_failure_stays found es s k))
-
-pub session_events_stay : (g : Geometry) (found : List LogRecord) (es : List Entry) (s : State) (events : List ManagerEvent) (last : State) (made : List Entry)
-    → IsStateAfter found es s → MovesMaking g s events last made → IsStateAfter found (es ++ made) last
-session_events_stay g found es s [] last made k h =
-    subst (IsStateAfter found (es ++ made)) (sym h.0) (subst (λ made. IsStateAfter found (es ++ made) s) (sym h.1) (as_it_was found es s k))
-session_events_stay g found es s (e ∷ events) last made k h =
-    subst (λ made. IsStateAfter found made last) (append_assoc es (entries_of s e) h.1 ∙ ap (λ more. es ++ more) (sym h.4))
-    (session_events_stay g found (es ++ entries_of s e) h.0 events last h.1 (session_event_stays g found es s h.0 e k h.2) h.3)
-
--- ---- events make entries
-
-pub session_events_make : (g : Geometry) (s : State) (events : List ManagerEvent) (last : State) → EventsMove g s events last
-    → (made : List Entry) × MovesMaking g s events last made
-session_events_make g s [] last h = ([], (h, refl))
-session_events_make g s (e ∷ events) last h =
-    let later = session_events_make g h.0 events last h.2 in
-    (entries_of s e ++ later.0, (h.0, later.0, h.1, later.1, refl))
-
-pub session_entries_come : (g : Geometry) (s : State) (events : List ManagerEvent) (last : State) (made : List Entry) → MovesMaking g s events last made
-    → EventsMove g s events last
-session_entries_come g s [] last made h = h.0
-session_entries_come g s (e ∷ events) last made h = (h.0, h.2, session_entries_come g h.0 events last h.1 h.3)

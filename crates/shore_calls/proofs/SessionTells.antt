@@ -19,7 +19,7 @@ use Rattle.shore_sessions.proofs.Members.{txn_among}
 use Rattle.shore_sessions.proofs.Views.{read_of_write}
 use Rattle.shore_sessions.specs.LogPrefixes.{DecidesNothing, decisions_in, LogDecides, TellsItsDecisions}
 use Rattle.shore_sessions.specs.LogTells.{records_committed}
-use Rattle.shore_sessions.specs.SessionSteps.{AnswerAbort, AnswerCommit, AppendCommit, BeginTxn, GiveReply, MoveLocks, PutBack, RefuseCall, SessionEvent, entries_by}
+use Rattle.shore_sessions.specs.SessionSteps.{AnswerAbort, AnswerCommit, AppendCommit, BeginTxn, Doom, GiveReply, MoveLocks, PutBack, RefuseCall, SessionEvent, entries_by}
 use Rattle.shore_sessions.specs.Sessions.{SessionTxn, abort_answered, txns_of}
 use Rattle.shore_sessions.specs.Soundness.{history_from, serial_after, written_by}
 use Rattle.shore_sessions.specs.Views.{IsAmong}
@@ -59,6 +59,7 @@ quiet_decides_nothing start (BeginTxn session) quiet = tt
 quiet_decides_nothing start (GiveReply a c reply) quiet = tt
 quiet_decides_nothing start (RefuseCall session t c f) quiet = tt
 quiet_decides_nothing start (PutBack a kept e r) quiet = tt
+quiet_decides_nothing start (Doom a) quiet = absurd quiet
 quiet_decides_nothing start (AppendCommit a) quiet = absurd quiet
 quiet_decides_nothing start (AnswerAbort a) quiet = absurd quiet
 quiet_decides_nothing start (AnswerCommit a) quiet = absurd quiet

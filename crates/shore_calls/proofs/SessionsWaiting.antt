@@ -19,7 +19,7 @@ use Rattle.shore_sessions.proofs.Lists.{length-push, take-beyond}
 use Rattle.shore_sessions.proofs.LogPrefixes.{decisions_more}
 use Rattle.shore_sessions.proofs.Members.{among_without, member_stays}
 use Rattle.shore_sessions.specs.LogPrefixes.{decisions_in}
-use Rattle.shore_sessions.specs.SessionSteps.{AnswerAbort, AnswerCommit, AppendCommit, BeginTxn, GiveReply, MoveLocks, PutBack, RefuseCall, SessionEvent}
+use Rattle.shore_sessions.specs.SessionSteps.{AnswerAbort, AnswerCommit, AppendCommit, BeginTxn, Doom, GiveReply, MoveLocks, PutBack, RefuseCall, SessionEvent}
 use Rattle.shore_sessions.specs.Sessions.{SessionTxn, Sessions, with_undo}
 use Rattle.shore_sessions.specs.UndoLists.{MayGiveReply, UndoList, undo_after, undo_rolled}
 use Rattle.shore_sessions.specs.Views.{IsAmong}
@@ -62,7 +62,7 @@ commit_wait_on base s new w same on h =
 lock_wait_on : (s new : State) (w : Waiting) → IsAmong w s.waiting → ((a : SessionTxn) → IsAmong a s.sessions.active → StaysIn s a new.sessions) → IsLockWait s w → IsLockWait new w
 lock_wait_on s new w there goes h =
     let b = goes h.txn h.active in
-    record { txn = b.0; active = b.1; of = b.2 ∙ h.of; whole = b.4 (w, there, h.of) h.whole; at = h.at; is = h.is; lock = h.lock; asked = h.asked }
+    record { txn = b.0; active = b.1; of = b.2 ∙ h.of; whole = λ spared. b.4 (w, there, h.of) (h.whole spared); at = h.at; is = h.is; lock = h.lock; asked = h.asked }
 
 pub waits_left : (base : ℕ) (s new : State) → LeavesWaits s new → WaitsOfSessions base s → WaitsOfSessions base new
 waits_left base s new h k = record {
@@ -92,6 +92,7 @@ module _ (g : Geometry) (s new : State) where
   same_committing (GiveReply a c reply) start quiet h = ap (λ (n : Sessions). n.committing) h.moves.4
   same_committing (PutBack a kept e r) start quiet h = ap (λ (n : Sessions). n.committing) h.moves.4
   same_committing (RefuseCall session t c f) start quiet h = ap (λ (n : Sessions). n.committing) h.moves.2
+  same_committing (Doom a) start quiet h = absurd quiet
   same_committing (AppendCommit a) start quiet h = absurd quiet
   same_committing (AnswerAbort a) start quiet h = absurd quiet
   same_committing (AnswerCommit a) start quiet h = absurd quiet
@@ -139,6 +140,7 @@ module _ (g : Geometry) (start s new : State) where
       relisted_in start a b.txn (undo_rolled b.undo kept r) s.sessions k (λ its waits. absurd (quiet a waits.0 m waits.1 waits.2 its))
       new.sessions.active (ap (λ (n : Sessions). n.active) h.moves.4)
   still_under_way (RefuseCall session t c f) quiet h a m k = subst (StaysIn start a) (sym h.moves.2) k
+  still_under_way (Doom a) quiet h b m k = absurd quiet
   still_under_way (AppendCommit a) quiet h b m k = absurd quiet
   still_under_way (AnswerAbort a) quiet h b m k = absurd quiet
   still_under_way (AnswerCommit a) quiet h b m k = absurd quiet
@@ -185,7 +187,7 @@ lock_waits base session s new k h =
     let later = record s { waiting = x ∷ s.waiting } in
     subst (WaitsOfSessions base) (sym h.is) (record {
       each = λ w m. ⊎_elim
-          (λ same. inr (subst (IsLockWait later) same (record { txn = h.txn; active = h.active; of = refl; whole = h.whole; at = h.at; is = refl; lock = h.lock; asked = h.asked })))
+          (λ same. inr (subst (IsLockWait later) same (record { txn = h.txn; active = h.active; of = refl; whole = λ spared. h.whole; at = h.at; is = refl; lock = h.lock; asked = h.asked })))
           (λ older. ⊎_elim
           (λ c. inl (record { number = c.number; txn = c.txn; is = c.is; committing = c.committing; some = c.some; there = c.there; decided = c.decided }))
           (λ l. inr (record { txn = l.txn; active = l.active; of = l.of; whole = l.whole; at = l.at; is = l.is; lock = l.lock; asked = l.asked }))

@@ -87,7 +87,7 @@ module _ (g : Geometry) (found : List LogRecord) (es : List Entry) (s : State) (
       inl (subst (λ (n : State). GoesQuietly g session s n (entries_of_call s session c step)) (sym h.3)
       (subst (λ (x : Step). GoesQuietly g session s s (entries_of_call s session c x)) (sym h.2) (early_passes a whole mem c h.0 h.1)))
   open_passes running a whole mem idle c step new (inr (inl h)) =
-      inl (goes_on_passes g found es session a mem.1 whole s k mem.0 (k.locks.waits running a mem.0 (λ w m same. idle w m (same ∙ mem.1))) idle c step new h.1)
+      inl (goes_on_passes g found es session a mem.1 whole s k mem.0 (k.locks.waits running a mem.0 (λ w m spared same. idle w m (same ∙ mem.1))) idle c step new h.1)
   open_passes running a whole mem idle c step new (inr (inr (inl h))) =
       inr (inl (subst (λ (x : Call). Commits s session new (entries_of_call s session x step)) (sym h.0) (commit_passes a whole mem idle step new h.1)))
   open_passes running a whole mem idle c step new (inr (inr (inr h))) =
@@ -149,8 +149,8 @@ ResumePasses g s session wait new made = ((new ≡ s) × (made ≡ [])) ⊎ (Goe
 
 module _ (g : Geometry) (found : List LogRecord) (es : List Entry) (s : State) (k : IsSessionsState found es s) where
   wait_passes : (w : Waiting) (wait : Wait) → WaitsWhole s w.session wait → (step : Step) (new : State) → ResumesWait g s w wait step new
-      → ResumePasses g s w.session wait new (entries_of_resumed s (record { session = w.session; call = w.call; wait = wait }) step)
-  wait_passes w (Durable n) whole step new (inl h) = inl (h.2, ap (entries_of_resumed s (record { session = w.session; call = w.call; wait = Durable n })) h.1)
+      → ResumePasses g s w.session wait new (entries_of_resumed s (record { session = w.session; call = w.call; wait = wait; cycle = w.cycle }) step)
+  wait_passes w (Durable n) whole step new (inl h) = inl (h.2, ap (entries_of_resumed s (record { session = w.session; call = w.call; wait = Durable n; cycle = w.cycle })) h.1)
   wait_passes w (Durable n) whole step new (inr h) = inr (inr (record {
     number = n;
     waits = refl;
@@ -159,10 +159,10 @@ module _ (g : Geometry) (found : List LogRecord) (es : List Entry) (s : State) (
     committing = h.2.1;
     of = h.2.2;
     is = h.2.3;
-    entries = ap (entries_of_resumed s (record { session = w.session; call = w.call; wait = Durable n })) h.1;
+    entries = ap (entries_of_resumed s (record { session = w.session; call = w.call; wait = Durable n; cycle = w.cycle })) h.1;
   }))
   wait_passes w (Lock at) whole step new h = ⊎_elim
-      (λ still. inl (still.2, ap (entries_of_resumed s (record { session = w.session; call = w.call; wait = Lock at })) still.1))
+      (λ still. inl (still.2, ap (entries_of_resumed s (record { session = w.session; call = w.call; wait = Lock at; cycle = w.cycle })) still.1))
       (λ free.
       inr (inl (record {
         why = inr (at, refl, (h.0, h.1));
@@ -173,11 +173,11 @@ module _ (g : Geometry) (found : List LogRecord) (es : List Entry) (s : State) (
       })))
       h.2
 
-  pub resume_passes : (w : Waiting) → WaitsWhole s w.session w.wait → (step : Step) (new : State) → ResumesCall g s w step new → ResumePasses g s w.session w.wait new (entries_of_resumed s w step)
+  pub resume_passes : (w : Waiting) → (w.cycle ≡ None → WaitsWhole s w.session w.wait) → (step : Step) (new : State) → ResumesCall g s w step new → ResumePasses g s w.session w.wait new (entries_of_resumed s w step)
   resume_passes w whole step new (inl h) = inr (inl (record {
     why = inl h.0;
     on =
         subst (λ (x : Step). GoesQuietly g w.session (wait_refused s w.session) new (entries_of_resumed s w x)) (sym h.1)
         (told_passes g found es w.session (wait_refused s w.session) new (resumed_call w.call w.wait) fault.Failed tt (inl h.2));
   }))
-  resume_passes w whole step new (inr h) = wait_passes w w.wait whole step new h.1
+  resume_passes w whole step new (inr h) = wait_passes w w.wait (whole h.2) step new h.1

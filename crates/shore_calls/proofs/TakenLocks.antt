@@ -23,8 +23,9 @@ use Rattle.shore_sessions.specs.Sessions.{SessionTxn, locks_moved}
 use Rattle.shore_sessions.specs.Views.{IsAmong}
 use Rattle.shore_calls.proofs.Sessions.{AreSessionsAfter, event_keeps}
 use Rattle.shore_calls.specs.CallSteps.{lock_waiting, with_requests}
-use Rattle.shore_calls.specs.LockedStates.{HasTrueLocks, IsSessionsState}
-use Rattle.shore_calls.specs.States.{DoesNotWait, State}
+use Rattle.shore_calls.specs.LockedStates.{AreUnderWay, HasTrueLocks, IsSessionsState}
+use Rattle.shore_calls.specs.States.{AsksForNothing, State}
+use Rattle.shore_calls.proofs.Waiters.{one_begins}
 
 module _ (found : List LogRecord) (es : List Entry) (s : State) (k : IsSessionsState found es s) where
   pub sessions_of : AreSessionsAfter (length found) (records_committed found) es s.sessions s.log
@@ -52,8 +53,11 @@ module _ (found : List LogRecord) (es : List Entry) (s : State) (k : IsSessionsS
         (event_keeps (length found) (records_committed found) es s.sessions (with_requests s out.requests).sessions (MoveLocks (held_by_all out.requests)) s.log sessions_of moved)
 
     -- another transaction that did not wait does not wait
-    other_quiet : s.failed ≡ false → (b : SessionTxn) → IsAmong b s.sessions.active → b.txn ≢ a.txn → DoesNotWait s b.session → is_waiting b.txn out.requests ≡ false
+    other_quiet : s.failed ≡ false → (b : SessionTxn) → IsAmong b s.sessions.active → b.txn ≢ a.txn → AsksForNothing s b.session → is_waiting b.txn out.requests ≡ false
     other_quiet running b there other idle = others_stay_quiet s.locks.requests out.requests a.txn b.txn leaves.others other (k.locks.waits running b there idle)
+
+    under_way : AreUnderWay out.requests s.sessions.active
+    under_way = one_begins s.locks.requests out.requests s.sessions.active a.txn leaves.others (txn_among a s.sessions.active mem) k.locks.waiters
 
     pub locked_state : ((g : Granule) → out.answer ≢ Ok (acquire.Waiting g)) → IsSessionsState found es (with_requests s out.requests)
     locked_state never = state_of es (with_requests s out.requests) sessions_behind (record {
@@ -61,6 +65,7 @@ module _ (found : List LogRecord) (es : List Entry) (s : State) (k : IsSessionsS
       orderly = leaves.orderly;
       rooted = leaves.rooted;
       below = lows;
+      waiters = under_way;
       waits = λ running b there idle. ⊎_elim
           (λ own. subst (λ (t : ℕ). is_waiting t out.requests ≡ false) (sym (eqb-true b.txn a.txn own)) (leaves.quiet never))
           (λ other. other_quiet running b there (eqb-false b.txn a.txn other) idle)
@@ -74,7 +79,8 @@ module _ (found : List LogRecord) (es : List Entry) (s : State) (k : IsSessionsS
       orderly = leaves.orderly;
       rooted = leaves.rooted;
       below = lows;
+      waiters = under_way;
       waits = λ running b there idle.
-          let other : b.txn ≢ a.txn = λ same. idle (lock_waiting a c g) (inl refl) (sym (k.agree.one b a (inl there) (inl mem) same)) in
+          let other : b.txn ≢ a.txn = λ same. idle (lock_waiting a c g) (inl refl) refl (sym (k.agree.one b a (inl there) (inl mem) same)) in
           other_quiet running b there other (λ w m. idle w (inr m));
     })

@@ -228,11 +228,8 @@ module _ (g : Geometry) (found : List LogRecord) (es : List Entry) (s : State) (
   goes_on_as_call w there of at is may running quiet step new (inr h) =
       by (subst (λ (v : Waiting). ResumesCall g s v step new) (k.waits.once h.0 w h.1 there (h.2 ∙ sym of)) h.3)
     where
-      whole : WaitsWhole s w.session w.wait
-      whole = waits_whole found es s k w there
-
-      on : ResumesWait g s w (Lock at) step new → CallStep g (wait_refused s session) session w.call step new
-      on x =
+      on : WaitsWhole s w.session w.wait → ResumesWait g s w (Lock at) step new → CallStep g (wait_refused s session) session w.call step new
+      on whole x =
           let mine : IsOfSession s session x.0 = (x.1.0, x.1.1 ∙ of) in
           ⊎_elim
           (λ still. absurd (both_ways (is_waiting x.0.txn s.locks.requests) still.0 (quiet x.0 mine)))
@@ -249,7 +246,7 @@ module _ (g : Geometry) (found : List LogRecord) (es : List Entry) (s : State) (
 
       by : ResumesCall g s w step new → CallStep g (wait_refused s session) session w.call step new
       by (inl failed) = absurd (both_ways s.failed failed.0 running)
-      by (inr runs) = on (subst (λ (x : Wait). ResumesWait g s w x step new) is runs.1)
+      by (inr runs) = on (waits_whole found es s k w there runs.2) (subst (λ (x : Wait). ResumesWait g s w x step new) is runs.1)
 
 -- ---- a commit that is answered
 

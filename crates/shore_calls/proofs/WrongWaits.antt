@@ -1,5 +1,5 @@
 -- Waits of calls that must not come.
-use Rattle.std.proofs.Common.{◌≡◌, ◌≢◌, inl, ⊎_elim, ℕ, Some, sym, ap, subst, ◌∙◌, length, arith, Ok}
+use Rattle.std.proofs.Common.{◌≡◌, ◌≢◌, inl, ⊎_elim, ℕ, None, Some, sym, ap, subst, ◌∙◌, length, arith, Ok}
 use Rattle.std.specs.Prelude.{IsTrue}
 use Rattle.shore_types.specs.declared.layout.Geometry.{Geometry}
 use Rattle.shore_types.specs.declared.locking.Granule.{Granule}
@@ -90,14 +90,14 @@ module _ (g : Geometry) (s new : State) (session : ℕ) where
   waits_twice c wait w m of h = (waits_in g s new session c wait h).idle w m of
 
   -- the call is among those that wait
-  pub waits_there : (c : Call) (wait : Wait) → WaitsFor c wait → IsAmong (record { session = session; call = c; wait = wait }) new.waiting
+  pub waits_there : (c : Call) (wait : Wait) → WaitsFor c wait → IsAmong (record { session = session; call = c; wait = wait; cycle = None }) new.waiting
   waits_there c wait h =
       let t = waits_in g s new session c wait h in
       ⊎_elim
-      (λ asks. subst (λ (s : State). IsAmong (record { session = session; call = c; wait = wait }) s.waiting) (sym asks.1.5)
-      (inl (ap (λ (n : ℕ). record { session = n; call = c; wait = Lock asks.1.1 }) t.of.1 ∙ ap (λ (x : Wait). record { session = session; call = c; wait = x }) (sym asks.1.4))))
-      (λ commits. subst (λ (s : State). IsAmong (record { session = session; call = c; wait = wait }) s.waiting) (sym commits.1.1)
+      (λ asks. subst (λ (s : State). IsAmong (record { session = session; call = c; wait = wait; cycle = None }) s.waiting) (sym asks.1.5)
+      (inl (ap (λ (n : ℕ). record { session = n; call = c; wait = Lock asks.1.1; cycle = None }) t.of.1 ∙ ap (λ (x : Wait). record { session = session; call = c; wait = x; cycle = None }) (sym asks.1.4))))
+      (λ commits. subst (λ (s : State). IsAmong (record { session = session; call = c; wait = wait; cycle = None }) s.waiting) (sym commits.1.1)
       (inl (ap (λ (n : ℕ). commit_waiting n (next_number s)) t.of.1
-      ∙ ap (λ (x : Call). record { session = session; call = x; wait = Durable (next_number s) }) (sym commits.0)
-      ∙ ap (λ (x : Wait). record { session = session; call = c; wait = x }) (sym commits.1.0))))
+      ∙ ap (λ (x : Call). record { session = session; call = x; wait = Durable (next_number s); cycle = None }) (sym commits.0)
+      ∙ ap (λ (x : Wait). record { session = session; call = c; wait = x; cycle = None }) (sym commits.1.0))))
       t.how

@@ -247,7 +247,7 @@ LacksMemory g s a c new =
 -- ---- a call from its locks on, when it is made and when it goes on behind a wait
 
 abbrev pub lock_waiting : SessionTxn → Call → Granule → Waiting
-lock_waiting a c at = record { session = a.session; call = c; wait = Lock at }
+lock_waiting a c at = record { session = a.session; call = c; wait = Lock at; cycle = None }
 
 abbrev pub GoesOn : Geometry → State → SessionTxn → Call → Step → State → Type 0
 GoesOn g s a c (Done answer) new = (locked : State) × HasLocked s a c locked × AnswersBehind g locked a c answer new
@@ -334,10 +334,10 @@ ResumesWait g s w (Lock at) step new =
     × (((is_waiting a.txn s.locks.requests ≡ true) × (step ≡ Waits (Lock at)) × (new ≡ s))
     ⊎ ((is_waiting a.txn s.locks.requests ≡ false) × GoesOn g (wait_refused s w.session) a w.call step new))
 
--- .. or once a device has failed it is refused.
+-- .. or once a device has failed it is refused. Who is a victim does not go on.
 abbrev pub ResumesCall : Geometry → State → Waiting → Step → State → Type 0
 ResumesCall g s w step new =
-    (IsTrue s.failed × (step ≡ Refused fault.Failed) × (new ≡ wait_refused s w.session)) ⊎ ((s.failed ≡ false) × ResumesWait g s w w.wait step new)
+    (IsTrue s.failed × (step ≡ Refused fault.Failed) × (new ≡ wait_refused s w.session)) ⊎ ((s.failed ≡ false) × ResumesWait g s w w.wait step new × (w.cycle ≡ None))
 
 -- a resume of a session
 abbrev pub ResumeStep : Geometry → State → ℕ → Step → State → Type 0

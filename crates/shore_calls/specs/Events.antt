@@ -9,9 +9,10 @@ use Rattle.shore_model.specs.declared.log_records.LogRecord.{LogRecord}
 use Rattle.shore_calls.specs.declared.step.Step.{Step}
 use Rattle.shore_calls.specs.CallHistories.{IsForced}
 use Rattle.shore_calls.specs.StateChanges.{with_durable, with_failure}
-use Rattle.shore_calls.specs.CallSteps.{CallStep, ResumeStep, txn_count}
+use Rattle.shore_calls.specs.CallSteps.{txn_count}
 use Rattle.shore_calls.specs.LockedStates.{IsSessionsState, entries_of_resumed, entries_of_call}
 use Rattle.shore_calls.specs.SessionWaits.{WaitsOfSessions}
+use Rattle.shore_calls.specs.Settling.{SettledCall, SettledResume}
 use Rattle.shore_calls.specs.States.{State, Waiting}
 
 -- the calls that are served to each session
@@ -43,8 +44,8 @@ pub data ManagerEvent : Type 0 where
   HasFailed : ManagerEvent
 
 abbrev pub EventMoves : Geometry → State → ManagerEvent → State → Type 0
-EventMoves g s (Called session c step) new = IsServed c × CallStep g s session c step new
-EventMoves g s (Resumed session step) new = ResumeStep g s session step new
+EventMoves g s (Called session c step) new = IsServed c × SettledCall g s session c step new
+EventMoves g s (Resumed session step) new = SettledResume g s session step new
 EventMoves g s (Forced n) new = (s.durable ≤ n) × (n ≤ length s.log) × (new ≡ with_durable n s)
 EventMoves g s HasFailed new = new ≡ with_failure s
 

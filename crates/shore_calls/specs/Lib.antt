@@ -5,6 +5,9 @@ pub mod Rollbacks
 pub mod CallSteps
 pub mod LockedStates
 pub mod SessionWaits
+pub mod Victims
+pub mod Settling
+pub mod LockRounds
 pub mod Events
 pub mod Shapes
 pub mod LockChanges

@@ -1,5 +1,5 @@
 -- What holds of the sessions of a manager and of its lock table after a history, while calls take locks.
-use Rattle.std.specs.Prelude.{◌≡◌, ◌<◌, ℕ, List, [], ◌∷◌, Ok, Err, All, false, length}
+use Rattle.std.specs.Prelude.{◌≡◌, ◌<◌, ℕ, List, [], ◌∷◌, Ok, Err, All, false, true, length}
 use Rattle.shore_model.specs.declared.calls.Call.{Call}
 use Rattle.shore_model.specs.declared.calls.Call.TheVariants as call
 use Rattle.shore_model.specs.declared.histories.Decision.TheVariants as decision
@@ -7,13 +7,14 @@ use Rattle.shore_model.specs.declared.histories.Entry.{Entry}
 use Rattle.shore_model.specs.declared.histories.Entry.TheVariants.{Decided, Exchanged}
 use Rattle.shore_model.specs.declared.log_records.LogRecord.{LogRecord}
 use Rattle.shore_model.specs.Requests.{held_by_all}
+use Rattle.shore_model.specs.declared.requests.Request.{Request}
 use Rattle.shore_locks.specs.Orderly.{IsOrderly}
 use Rattle.shore_locks.specs.Tables.{is_waiting}
 use Rattle.shore_path.specs.Rooted.{AreRooted}
 use Rattle.shore_sessions.specs.LogPrefixes.{LogDecides}
 use Rattle.shore_sessions.specs.LogTells.{IsLogAfter, records_committed}
 use Rattle.shore_sessions.specs.SessionSteps.{exchange}
-use Rattle.shore_sessions.specs.Sessions.{SessionTxn}
+use Rattle.shore_sessions.specs.Sessions.{SessionTxn, txns_of}
 use Rattle.shore_sessions.specs.Soundness.{IsSoundAfter, SessionsAgree}
 use Rattle.shore_sessions.specs.Views.{IsAmong}
 use Rattle.shore_calls.specs.declared.step.Step.{Step}
@@ -21,7 +22,7 @@ use Rattle.shore_calls.specs.declared.step.Step.TheVariants.{Done, Nothing, Refu
 use Rattle.shore_calls.specs.declared.step.Wait.{Wait}
 use Rattle.shore_calls.specs.declared.step.Wait.TheVariants.{Durable, Lock}
 use Rattle.shore_calls.specs.CallHistories.{answered_under, txn_of}
-use Rattle.shore_calls.specs.States.{DoesNotWait, State, Waiting}
+use Rattle.shore_calls.specs.States.{AsksForNothing, State, Waiting}
 
 -- ---- entries
 
@@ -51,14 +52,19 @@ entries_of_resumed s w Nothing = []
 
 -- ---- states
 
+-- who waits in the table is under way
+abbrev pub AreUnderWay : List Request → List SessionTxn → Type 0
+AreUnderWay rs active = (t : ℕ) → is_waiting t rs ≡ true → IsAmong t (txns_of active)
+
 -- The requests of the lock table are orderly and have their intentions. What they hold are the locks of the sessions, each is of a transaction that
--- began, and as long as no device has failed, who waits in the table has a call that waits.
+-- began, who waits in the table is under way, and as long as no device has failed has a call that waits.
 pub record HasTrueLocks (s : State) : Type 0 where
   pub held : s.sessions.held ≡ held_by_all s.locks.requests
   pub orderly : IsOrderly s.locks.requests
   pub rooted : AreRooted s.locks.requests
   pub below : All (λ r. r.txn < s.sessions.next_txn) s.locks.requests
-  pub waits : s.failed ≡ false → (a : SessionTxn) → IsAmong a s.sessions.active → DoesNotWait s a.session → is_waiting a.txn s.locks.requests ≡ false
+  pub waiters : AreUnderWay s.locks.requests s.sessions.active
+  pub waits : s.failed ≡ false → (a : SessionTxn) → IsAmong a s.sessions.active → AsksForNothing s a.session → is_waiting a.txn s.locks.requests ≡ false
 
 -- The sessions, their log and their locks are what a manager has come to that was opened on this list, after these entries.
 pub record IsSessionsState (found : List LogRecord) (es : List Entry) (s : State) : Type 0 where

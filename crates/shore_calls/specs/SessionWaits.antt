@@ -25,8 +25,8 @@ pub record IsLockWait (s : State) (w : Waiting) : Type 0 where
   pub txn : SessionTxn
   pub active : IsAmong txn s.sessions.active
   pub of : txn.session ≡ w.session
-  -- no rollback of it has begun
-  pub whole : txn.undo.rolling ≡ None
+  -- no rollback of it has begun, unless it is a victim
+  pub whole : w.cycle ≡ None → txn.undo.rolling ≡ None
   pub at : Granule
   pub is : w.wait ≡ Lock at
   pub lock : Asked

@@ -1,5 +1,5 @@
 -- What calls and other events leave of a state, and what happens to a manager.
-use Rattle.std.specs.Prelude.{◌≡◌, ◌≢◌, ◌⊎◌, ◌<◌, ◌≤◌, ℕ, List, ◌∷◌, Ok, true, length}
+use Rattle.std.specs.Prelude.{◌≡◌, ◌≢◌, ◌⊎◌, ◌<◌, ◌≤◌, ℕ, List, ◌∷◌, None, Ok, true, length}
 use Rattle.shore_types.specs.Images.{Image}
 use Rattle.shore_types.specs.declared.faults.Device.{Device}
 use Rattle.shore_types.specs.declared.faults.Fault.{Fault}
@@ -46,7 +46,7 @@ answered s a c answer counts = record s {
 }
 
 abbrev pub commit_waiting : ℕ → ℕ → Waiting
-commit_waiting session n = record { session = session; call = call.Commit; wait = Durable n }
+commit_waiting session n = record { session = session; call = call.Commit; wait = Durable n; cycle = None }
 
 -- the Commit goes last, and the call waits for its force
 abbrev pub committed : State → SessionTxn → State

@@ -1,6 +1,6 @@
 -- A manager without its devices, as plain data: sessions at work, their log, the slots of the pages, and what is durable. What is reserved
 -- and what is claimed are no state: they are functions of the undo lists.
-use Rattle.std.specs.Prelude.{◌≡◌, ◌≢◌, ◌<◌, ◌+◌, ◌==◌, ℕ, List, Bool, not, filter, length}
+use Rattle.std.specs.Prelude.{◌≡◌, ◌≢◌, ◌<◌, ◌+◌, ◌==◌, ℕ, List, Bool, None, Option, not, filter, length}
 use Rattle.std.specs.List.{sum_by}
 use Rattle.shore_types.specs.declared.ids.PageId.{PageId}
 use Rattle.shore_types.specs.declared.layout.TheConstants.{ENDING_COST, LAST_TXN}
@@ -15,11 +15,13 @@ use Rattle.shore_page.specs.Slots.{Slot}
 use Rattle.shore_room.specs.Claims.{SlotCounts, slots_of}
 use Rattle.shore_room.specs.LogRooms.{Admits, LogRoom, owed_by_all}
 
--- a session's call that waits, and what for
+-- a session's call that waits, and what for. Once its transaction is a victim it waits to be told so.
 pub record Waiting : Type 0 where
   pub session : ℕ
   pub call : Call
   pub wait : Wait
+  -- the cycle of waits that its transaction is the victim of, if it is one
+  pub cycle : Option (List ℕ)
 
 pub record State : Type 0 where
   -- the records in place, the transactions with their undo lists, the locks, and the number of the next transaction
@@ -54,6 +56,10 @@ HasNoTxn s session = IsInNoTxn s.sessions session
 -- the session has no call that waits
 abbrev pub DoesNotWait : State → ℕ → Type 0
 DoesNotWait s session = (w : Waiting) → IsAmong w s.waiting → w.session ≢ session
+
+-- .. or only to be told that its transaction is a victim
+abbrev pub AsksForNothing : State → ℕ → Type 0
+AsksForNothing s session = (w : Waiting) → IsAmong w s.waiting → w.cycle ≡ None → w.session ≢ session
 
 -- the calls that wait, but for a session's
 abbrev pub without_waiting : ℕ → List Waiting → List Waiting

@@ -131,7 +131,7 @@ pub fn calls_keep_room()
 /// is damaged, fail the state, and then all is refused.
 pub fn waits_end_and_faults_fail()
     ensures begin { (g : Geometry) (s new : State) (session : ℕ) (c : Call) (wait : Wait) →
-        CallStep g s session c (Waits wait) new → IsAmong (record { session = session; call = c; wait = wait }) new.waiting }
+        CallStep g s session c (Waits wait) new → IsAmong (record { session = session; call = c; wait = wait; cycle = None }) new.waiting }
     ensures number { (g : Geometry) (s new : State) (session n : ℕ) (c : Call) → CallStep g s session c (Waits (Durable n)) new → n ≡ next_number s }
     ensures still { (g : Geometry) (s new : State) (session : ℕ) (wait : Wait) → ResumeStep g s session (Waits wait) new →
         (w : Waiting) × IsAmong w new.waiting × (w.session ≡ session) × (w.wait ≡ wait) }

@@ -2,11 +2,13 @@
 #![tactic(auto)]
 
 pub mod answers;
+pub mod cycles;
 pub mod laws;
 pub mod locks;
 pub mod progress;
 pub mod refusals;
 pub mod rollbacks;
+pub mod settling;
 mod step;
 pub mod waits;
 

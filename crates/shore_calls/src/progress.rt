@@ -21,6 +21,7 @@ ghost use Rattle.shore_types.specs.declared.faults.Fault.TheVariants.{Memory};
 ghost use Rattle.shore_locks.specs.Tables.{is_waiting};
 ghost use Rattle.shore_calls.specs.WorkedSessions.{told_to_two, two_sessions};
 ghost use Rattle.shore_calls.specs.Shapes.{ForItsTxn, LockWaitsMayAsk, rollback_of};
+ghost use Rattle.shore_calls.specs.Victims.{TellsVictim};
 
 /// The refusals and their order leave no gap: each call that is served comes to an answer, a wait, or a refusal that comes of the state alone.
 pub fn calls_come_to_something()
@@ -28,10 +29,10 @@ pub fn calls_come_to_something()
         → IsStateAfter found es s → IsRoomyState s → (step : Step) × (new : State) × CallStep g s session c step new × ComesOfState step }
 {}
 
-/// So does each resume, of a commit or of a call that waits for a lock.
+/// So does each resume, of a commit, of a call that waits for a lock, or of a victim's.
 pub fn resumes_come_to_something()
     ensures { (g : Geometry) (found : List LogRecord) (es : List Entry) (s : State) (session : ℕ) → IsStateAfter found es s → IsRoomyState s
-        → (step : Step) × (new : State) × ResumeStep g s session step new × ComesOfState step }
+        → (step : Step) × (new : State) × (ResumeStep g s session step new ⊎ TellsVictim s session step new) × ComesOfState step }
 {}
 
 /// A call that waited for a lock, and waits no more, goes on as if it were made now.

@@ -48,7 +48,7 @@ pub fn wrong_waits_do_not_come()
     ensures twice { (g : Geometry) (s new : State) (session : ℕ) (c : Call) (wait : Wait) (w : Waiting) →
         IsAmong w s.waiting → w.session ≡ session → CallStep g s session c (Waits wait) new → ⊥ }
     ensures there { (g : Geometry) (s new : State) (session : ℕ) (c : Call) (wait : Wait) →
-        CallStep g s session c (Waits wait) new → IsAmong (record { session = session; call = c; wait = wait }) new.waiting }
+        CallStep g s session c (Waits wait) new → IsAmong (record { session = session; call = c; wait = wait; cycle = None }) new.waiting }
 {}
 
 /// Resumes that must not come: to a session of which nothing waits, or after a failure; of a commit before its record is durable, or for another's, or

@@ -3,7 +3,7 @@ use Rattle.std.proofs.Common.{◌≡◌, ◌++◌, ◌+◌, List, [], ◌∷◌,
 use Rattle.shore_types.specs.declared.layout.Geometry.{Geometry}
 use Rattle.shore_model.specs.declared.log_records.LogRecord.{LogRecord}
 use Rattle.shore_recovery.specs.Recovery.{AppendRecord, ForceLog, RecoveryEvent, RecoveryState, after_append, after_force}
-use Rattle.shore_calls.proofs.LongerLogs.{GoesFurther, call_further, resume_further}
+use Rattle.shore_calls.proofs.LongerLogs.{GoesFurther, settled_call_further, settled_resume_further}
 use Rattle.shore_calls.specs.Events.{Called, Forced, HasFailed, ManagerEvent, Resumed, EventMoves}
 use Rattle.shore_calls.specs.States.{State}
 use Rattle.shore_lives.specs.ManagerSteps.{WorksTo}
@@ -54,8 +54,8 @@ module _ (m : StoredState) (stored : IsStored m.state m.store) (redone : m.store
       }
 
   pub event_can_be_stored : (g : Geometry) (new : State) (e : ManagerEvent) → EventMoves g m.state e new → CanStore m new
-  event_can_be_stored g new (Called session c step) h = appended new (call_further g m.state session c step new h.1)
-  event_can_be_stored g new (Resumed session step) h = appended new (resume_further g m.state session step new h)
+  event_can_be_stored g new (Called session c step) h = appended new (settled_call_further g m.state session c step new h.1)
+  event_can_be_stored g new (Resumed session step) h = appended new (settled_resume_further g m.state session step new h)
   event_can_be_stored g new (Forced n) h =
       let durable = stored.durable in
       let least = h.0 in

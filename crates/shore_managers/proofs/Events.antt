@@ -7,10 +7,10 @@ use Rattle.shore_model.specs.declared.log_records.LogRecord.{LogRecord}
 use Rattle.shore_model.specs.Logs.{committed_in}
 use Rattle.shore_recovery.specs.Recovery.{RecoveryEvent, RecoveryState}
 use Rattle.shore_sessions.specs.Logged.{log_after}
-use Rattle.shore_sessions.specs.SessionSteps.{AnswerAbort, AnswerCommit, AppendCommit, BeginTxn, GiveReply, MoveLocks, PutBack, RefuseCall, SessionEvent, entries_by}
+use Rattle.shore_sessions.specs.SessionSteps.{AnswerAbort, AnswerCommit, AppendCommit, BeginTxn, Doom, GiveReply, MoveLocks, PutBack, RefuseCall, SessionEvent, entries_by}
 use Rattle.shore_sessions.specs.Sessions.{Sessions}
 use Rattle.shore_sessions.specs.Views.{IsAmong}
-use Rattle.shore_calls.proofs.Comings.{session_event_comes}
+use Rattle.shore_calls.proofs.SettledComings.{session_event_comes}
 use Rattle.shore_calls.proofs.Links.{ComesBy, GoesBy, IsDurable}
 use Rattle.shore_calls.proofs.SessionsWaiting.{goes_on_log}
 use Rattle.shore_managers.proofs.SplitWorks.{by_on, split_works, stays_durable, works_on}
@@ -42,6 +42,7 @@ module _ (m : StoredState) (stored : IsStored m.state m.store) where
   answers_durable (GiveReply a c reply) h = tt
   answers_durable (AppendCommit a) h = tt
   answers_durable (PutBack a kept e r) h = tt
+  answers_durable (Doom a) h = tt
   answers_durable (AnswerAbort a) h = tt
   answers_durable (RefuseCall session t c f) h = tt
 

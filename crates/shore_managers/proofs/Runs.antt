@@ -15,7 +15,7 @@ use Rattle.shore_sessions.specs.LogTells.{IsLogAfter, records_committed}
 use Rattle.shore_sessions.specs.Soundness.{IsSoundAfter, SessionsAgree}
 use Rattle.shore_sessions.specs.Views.{IsAmong}
 use Rattle.shore_calls.proofs.SessionOpens.{locks_of_none}
-use Rattle.shore_calls.proofs.SessionStates.{session_event_stays}
+use Rattle.shore_calls.proofs.SettledStates.{session_event_stays}
 use Rattle.shore_calls.specs.Events.{IsStateAfter}
 use Rattle.shore_lives.proofs.AtWork.{IsAtWork, all_stay_at_work, pages_have_records}
 use Rattle.shore_lives.proofs.Lives.{stretches_are_a_life}

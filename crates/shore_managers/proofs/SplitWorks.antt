@@ -7,7 +7,7 @@ use Rattle.shore_model.specs.declared.log_records.LogRecord.{LogRecord}
 use Rattle.shore_model.specs.declared.histories.Entry.{Entry}
 use Rattle.shore_model.specs.Logs.{commit_of, committed_in}
 use Rattle.shore_recovery.specs.Recovery.{AppendRecord, FlushPage, ForceLog, LosePower, RecoveryEvent, RecoveryState, RedoRecord}
-use Rattle.shore_sessions.specs.SessionSteps.{AnswerAbort, AnswerCommit, AppendCommit, BeginTxn, GiveReply, MoveLocks, PutBack, RefuseCall, SessionEvent}
+use Rattle.shore_sessions.specs.SessionSteps.{AnswerAbort, AnswerCommit, AppendCommit, BeginTxn, Doom, GiveReply, MoveLocks, PutBack, RefuseCall, SessionEvent}
 use Rattle.shore_sessions.specs.Views.{IsAmong}
 use Rattle.shore_calls.proofs.Links.{GoesBy}
 use Rattle.shore_calls.proofs.Prefixes.{prefix_on, whole_prefix}
@@ -68,6 +68,7 @@ stays_durable s new h (BeginTxn session) durable = tt
 stays_durable s new h (GiveReply a c reply) durable = tt
 stays_durable s new h (AppendCommit a) durable = tt
 stays_durable s new h (PutBack a kept e r) durable = tt
+stays_durable s new h (Doom a) durable = tt
 stays_durable s new h (AnswerAbort a) durable = tt
 stays_durable s new h (RefuseCall session t c f) durable = tt
 

@@ -1,6 +1,6 @@
 use Rattle.std.proofs.Common.{[]}
 use Rattle.shore_calls.proofs.SessionOpens.{sessions_after_open}
-use Rattle.shore_calls.proofs.SessionStates.{session_entries_come, session_events_make, session_events_stay}
+use Rattle.shore_calls.proofs.SettledStates.{session_entries_come, session_events_make, session_events_stay}
 use Rattle.shore_calls.proofs.laws.events_keep_state.Goals as goal
 
 pub returns-clause-entries : goal.returns-clause-entries
