@@ -1,5 +1,5 @@
 -- What each step that leaves the transactions under way makes of a control.
-use Rattle.std.proofs.Common.{◌≡◌, ◌≢◌, ◌<◌, ◌++◌, ◌∷◌, [], ℕ, List, false, refl, sym, ap, subst, ◌∙◌}
+use Rattle.std.proofs.Common.{◌≡◌, ◌≢◌, ◌<◌, ◌++◌, ◌∷◌, [], ℕ, List, None, false, refl, sym, ap, subst, ◌∙◌}
 use Rattle.std.specs.Prelude.{All, filter}
 use Rattle.std.specs.List.{AllByRecursion}
 use Rattle.shore_types.specs.declared.locking.Granule.{Granule}
@@ -42,7 +42,7 @@ txns_kept old new s t same active next stream log was = subst (λ x. HasTxns x t
 module _ (old new : Control) (s : State) (was : HasControl old s) (same : txns_in new ≡ txns_in old) where
   -- a call waits for a lock
   pub control_asked : (session txn : ℕ) (c : Call) (at : Granule) (a : SessionTxn) → IsOfSession s session a → a.txn ≡ txn → locks_in new ≡ locks_in old
-      → waits_in new ≡ waits_in old ++ record { session = session; txn = txn; call = c; wait = Lock at } ∷ []
+      → waits_in new ≡ waits_in old ++ record { session = session; txn = txn; call = c; wait = Lock at; cycle = None } ∷ []
       → HasControl new (record s { waiting = lock_waiting a c at ∷ s.waiting })
   control_asked session txn c at a its number locks pushed = record {
     txns = txns_kept (txns_in old) (txns_in new) s (record s { waiting = lock_waiting a c at ∷ s.waiting }) same refl refl refl refl was.txns;
@@ -50,10 +50,10 @@ module _ (old new : Control) (s : State) (was : HasControl old s) (same : txns_i
     locks = was.locks ∙ sym locks;
   }
     where
-      calls : waits_in new ≡ waits_in old ++ record { session = a.session; txn = a.txn; call = c; wait = Lock at } ∷ []
+      calls : waits_in new ≡ waits_in old ++ record { session = a.session; txn = a.txn; call = c; wait = Lock at; cycle = None } ∷ []
       calls =
-          pushed ∙ ap (λ n. waits_in old ++ record { session = n; txn = txn; call = c; wait = Lock at } ∷ []) (sym its.1)
-          ∙ ap (λ n. waits_in old ++ record { session = a.session; txn = n; call = c; wait = Lock at } ∷ []) (sym number)
+          pushed ∙ ap (λ n. waits_in old ++ record { session = n; txn = txn; call = c; wait = Lock at; cycle = None } ∷ []) (sym its.1)
+          ∙ ap (λ n. waits_in old ++ record { session = a.session; txn = n; call = c; wait = Lock at; cycle = None } ∷ []) (sym number)
 
   -- a call that waited is refused, or goes on
   pub control_refused : (session : ℕ) (w : WaitingCall) → AreApart (waits_in old) → IsAmong w (waits_in old) → w.session ≡ session → (s.failed ≡ false → is_commit w ≡ false)

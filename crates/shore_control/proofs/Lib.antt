@@ -7,3 +7,11 @@ pub mod Taking
 pub mod TxnSteps
 pub mod RollbackSteps
 pub mod WaitSteps
+pub mod NotedCalls
+pub mod NotedVictims
+pub mod FairWaits
+pub mod StillWaits
+pub mod LockRounds
+pub mod LockStarts
+pub mod LockRefusals
+pub mod TriedLocks

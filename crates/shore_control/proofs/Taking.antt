@@ -38,10 +38,10 @@ is_other_if session w other = ap not (ne_eqb w.session session other)
 pub own_is_not_other : (session : ℕ) (w : WaitingCall) → w.session ≡ session → is_other session w ≡ false
 own_is_not_other session w own = ap not (eq-eqb w.session session own)
 
-apart_rest : (x : WaitingCall) (xs : List WaitingCall) → AreApart (x ∷ xs) → AreApart xs
+pub apart_rest : (x : WaitingCall) (xs : List WaitingCall) → AreApart (x ∷ xs) → AreApart xs
 apart_rest x xs apart i j d less within = apart (suc i) (suc j) d (omega arith) (omega arith)
 
-first_apart : (x : WaitingCall) (xs : List WaitingCall) → AreApart (x ∷ xs) → (w : WaitingCall) → IsAmong w xs → x.session ≢ w.session
+pub first_apart : (x : WaitingCall) (xs : List WaitingCall) → AreApart (x ∷ xs) → (w : WaitingCall) → IsAmong w xs → x.session ≢ w.session
 first_apart x xs apart w m = let at = index_of w xs m in λ same. apart 0 (suc at.0) w (omega arith) (omega (arith, at.1)) (same ∙ ap (λ (y : WaitingCall). y.session) (sym (at.2 w)))
 
 -- the call of a session is one

@@ -1,5 +1,5 @@
 -- What the calls that wait tell of a state, and what each step makes of them.
-use Rattle.std.proofs.Common.{◌≡◌, ◌≢◌, inl, inr, ⊎_elim, ◌++◌, ◌∷◌, [], ℕ, List, Bool, true, false, cond, refl, sym, ap, subst, ◌∙◌, length, map}
+use Rattle.std.proofs.Common.{◌≡◌, ◌≢◌, inl, inr, ⊎_elim, ◌++◌, ◌∷◌, [], ℕ, List, None, Bool, true, false, cond, refl, sym, ap, subst, ◌∙◌, length, map}
 use Rattle.std.specs.Prelude.{◌==◌, All, filter, not, reverse}
 use Rattle.std.proofs.lemmas.Bool.{eq-eqb, eqb-true, eqb-false, ne_eqb}
 use Rattle.std.proofs.lemmas.List.Elements.{filter-append}
@@ -66,7 +66,7 @@ module _ (calls : List WaitingCall) (s : State) (was : HasWaits calls s) where
   pub call_waits : (w : WaitingCall) → IsAmong w calls → IsAmong (as_waiting w) s.waiting
   call_waits w m = subst (IsAmong (as_waiting w)) (sym was.waiting) (among_turned (as_waiting w) (map as_waiting calls) (among_map as_waiting w calls m))
 
-  waiting_call : (v : Waiting) → IsAmong v s.waiting → (w : WaitingCall) × IsAmong w calls × (as_waiting w ≡ v)
+  pub waiting_call : (v : Waiting) → IsAmong v s.waiting → (w : WaitingCall) × IsAmong w calls × (as_waiting w ≡ v)
   waiting_call v m = map_among as_waiting v calls (turned_among v (map as_waiting calls) (subst (IsAmong v) was.waiting m))
 
   pub free_waits_not : (session : ℕ) → All (λ w. w.session ≢ session) calls → DoesNotWait s session
@@ -117,8 +117,8 @@ module _ (calls : List WaitingCall) (s : State) (was : HasWaits calls s) where
 
   -- a call waits for a lock
   pub waits_asked : (a : SessionTxn) (c : Call) (at : Granule) → IsAmong a s.sessions.active
-      → HasWaits (calls ++ record { session = a.session; txn = a.txn; call = c; wait = Lock at } ∷ []) (record s { waiting = lock_waiting a c at ∷ s.waiting })
-  waits_asked a c at m = let it : WaitingCall = record { session = a.session; txn = a.txn; call = c; wait = Lock at } in record {
+      → HasWaits (calls ++ record { session = a.session; txn = a.txn; call = c; wait = Lock at; cycle = None } ∷ []) (record s { waiting = lock_waiting a c at ∷ s.waiting })
+  waits_asked a c at m = let it : WaitingCall = record { session = a.session; txn = a.txn; call = c; wait = Lock at; cycle = None } in record {
     waiting = ap (λ ws. lock_waiting a c at ∷ ws) was.waiting ∙ sym (waitings-push calls it);
     committing = λ f. was.committing f ∙ sym (committers-pushed calls it [] refl);
     asking = λ w n is. ⊎_elim (λ old. was.asking w old is)
@@ -138,8 +138,8 @@ module _ (calls : List WaitingCall) (s : State) (was : HasWaits calls s) where
 
   -- a commit waits
   pub waits_committed : (a : SessionTxn) → IsAmong a s.sessions.active → EachOnce (txns_of s.sessions.active) → All (λ w. w.session ≢ a.session) calls
-      → HasWaits (calls ++ record { session = a.session; txn = a.txn; call = call.Commit; wait = Durable (next_number s) } ∷ []) (committed s a)
-  waits_committed a m once free = let it : WaitingCall = record { session = a.session; txn = a.txn; call = call.Commit; wait = Durable (next_number s) } in record {
+      → HasWaits (calls ++ record { session = a.session; txn = a.txn; call = call.Commit; wait = Durable (next_number s); cycle = None } ∷ []) (committed s a)
+  waits_committed a m once free = let it : WaitingCall = record { session = a.session; txn = a.txn; call = call.Commit; wait = Durable (next_number s); cycle = None } in record {
     waiting = ap (λ ws. commit_waiting a.session (next_number s) ∷ ws) was.waiting ∙ sym (waitings-push calls it);
     committing = λ f. ap (λ ns. name_of a ∷ ns) (was.committing f) ∙ sym (committers-pushed calls it (it ∷ []) refl);
     asking = λ w n is. ⊎_elim (λ old. still_asks a m once free w old is)

@@ -1,5 +1,5 @@
 -- Calls that wait, the oldest first, as the state has them: the newest first, and without their transactions.
-use Rattle.std.specs.Prelude.{ℕ, List, Bool, true, false, filter, map, reverse}
+use Rattle.std.specs.Prelude.{◌==◌, ℕ, List, Bool, Some, true, false, filter, if◌then◌else◌, map, reverse}
 use Rattle.shore_calls.specs.declared.step.Wait.{Wait}
 use Rattle.shore_calls.specs.declared.step.Wait.TheVariants.{Durable, Lock}
 use Rattle.shore_calls.specs.States.{Waiting}
@@ -7,7 +7,7 @@ use Rattle.shore_sessions.specs.Sessions.{SessionTxn}
 use Rattle.shore_control.specs.declared.waits.WaitingCall.{WaitingCall}
 
 abbrev pub as_waiting : WaitingCall → Waiting
-as_waiting w = record { session = w.session; call = w.call; wait = w.wait }
+as_waiting w = record { session = w.session; call = w.call; wait = w.wait; cycle = w.cycle }
 
 abbrev pub as_waitings : List WaitingCall → List Waiting
 as_waitings calls = reverse (map as_waiting calls)
@@ -23,6 +23,11 @@ is_commit w = is_durable w.wait
 
 abbrev pub commits_of : List WaitingCall → List WaitingCall
 commits_of calls = filter is_commit calls
+
+-- the calls that wait, once that of a session is to be told this cycle
+abbrev pub cycle_noted : ℕ → List ℕ → List WaitingCall → List WaitingCall
+cycle_noted session cycle calls =
+    map (λ w. if w.session == session then record { session = w.session; txn = w.txn; call = w.call; wait = w.wait; cycle = Some cycle } else w) calls
 
 -- ---- a transaction is named by its session and its number
 

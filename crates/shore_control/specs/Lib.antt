@@ -2,3 +2,4 @@ pub mod Calls
 pub mod Waits
 pub mod Controls
 pub mod Standing
+pub mod Noting

@@ -1,5 +1,5 @@
 //! Transactions that commit.
-ghost use Rattle.std.specs.Prelude.{◌≡◌, ◌==◌, ◌+◌, ◌++◌, ◌∷◌, [], ℕ, List, false, filter, length, not};
+ghost use Rattle.std.specs.Prelude.{◌≡◌, ◌==◌, ◌+◌, ◌++◌, ◌∷◌, [], ℕ, List, None, false, filter, length, not};
 ghost use Rattle.shore_types.specs.declared.ids.PageId.{PageId};
 ghost use Rattle.shore_model.specs.declared.histories.Entry.{Entry};
 ghost use Rattle.shore_model.specs.Records.{Records};
@@ -36,7 +36,7 @@ impl Control {
         ensures left { OneLeaves session result.items (table.txns_in (txns_in self.old)) (table.txns_in (txns_in self.new)) }
         ensures claims { (p : PageId) → HasMore (claims_on p result.items) (kept_in (txns_in self.new) p) (kept_in (txns_in self.old) p) }
         ensures waits { (a : SessionTxn) → IsAmong a (table.undos_in (txns_in self.old)) → a.session ≡ session
-            → waits_in self.new ≡ waits_in self.old ++ record { session = session; txn = a.txn; call = Call.Commit; wait = Wait.Durable number } ∷ [] }
+            → waits_in self.new ≡ waits_in self.old ++ record { session = session; txn = a.txn; call = Call.Commit; wait = Wait.Durable number; cycle = None } ∷ [] }
         ensures locks { locks_in self.new ≡ locks_in self.old }
         ensures undone { (s : State) (a : SessionTxn) → HasControl self.old s → IsOfSession s session a → images_of result.items ≡ a.undo.images }
         ensures stands { (s : State) (a : SessionTxn) → HasControl self.old s → IsOfSession s session a → number ≡ 1 + length s.log → HasControl self.new (committed s a) }
@@ -47,6 +47,7 @@ impl Control {
             txn,
             call: Call::Commit,
             wait: Wait::Durable(number),
+            cycle: None,
         });
         self.txns.note_commit(session)
     }

@@ -3,6 +3,7 @@
 
 mod changing;
 mod control;
+mod deadlocks;
 mod ending;
 pub mod laws;
 mod rolling_back;

@@ -1,5 +1,5 @@
 //! Locks that are asked for, and calls that wait.
-ghost use Rattle.std.specs.Prelude.{◌≡◌, ◌≢◌, ◌==◌, ◌∷◌, ◌++◌, [], ℕ, IfErr, IfNone, IfSome, IsSome, Ok, OnOk, false, filter, not};
+ghost use Rattle.std.specs.Prelude.{◌≡◌, ◌≢◌, ◌==◌, ◌∷◌, ◌++◌, [], ℕ, IfErr, IfNone, IfSome, IsSome, None, Ok, OnOk, false, filter, not};
 ghost use Rattle.shore_types.specs.declared.locking.Granule.{Granule};
 ghost use Rattle.shore_types.specs.declared.locking.Mode.{Mode};
 ghost use Rattle.shore_model.specs.declared.calls.Call.{Call};
@@ -66,7 +66,7 @@ impl Control {
         requires free { IsFree session self.old }
         ensures txns { txns_in self.new ≡ txns_in self.old }
         ensures locks { locks_in self.new ≡ locks_in self.old }
-        ensures waits { waits_in self.new ≡ waits_in self.old ++ record { session = session; txn = txn; call = call; wait = Wait.Lock granule } ∷ [] }
+        ensures waits { waits_in self.new ≡ waits_in self.old ++ record { session = session; txn = txn; call = call; wait = Wait.Lock granule; cycle = None } ∷ [] }
         ensures stands { (s : State) (a : SessionTxn) → HasControl self.old s → IsOfSession s session a → a.txn ≡ txn
             → HasControl self.new (record s { waiting = lock_waiting a call granule ∷ s.waiting }) }
     {
@@ -75,6 +75,7 @@ impl Control {
             txn,
             call,
             wait: Wait::Lock(granule),
+            cycle: None,
         });
     }
 

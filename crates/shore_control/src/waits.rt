@@ -1,12 +1,12 @@
 //! The calls that wait.
-ghost use Rattle.std.specs.Prelude.{◌≡◌, ◌≢◌, ◌<◌, ◌≤◌, ◌^◌, ◌++◌, ◌∷◌, [], ℕ, All, AllPairs, IfNone, IfSome, IsSome, OnOk, filter, length, not, slice_index_or, ◌==◌};
+ghost use Rattle.std.specs.Prelude.{◌≡◌, ◌≢◌, ◌<◌, ◌≤◌, ◌^◌, ◌++◌, ◌∷◌, [], ℕ, All, AllPairs, IfNone, IfSome, IsSome, OnOk, false, filter, length, not, slice_index_or, true, ◌==◌};
 ghost use Rattle.shore_sessions.specs.Views.{IsAmong};
-ghost use Rattle.shore_control.specs.Calls.{commits_of};
+ghost use Rattle.shore_control.specs.Calls.{commits_of, cycle_noted, is_commit};
 ghost use Rattle.shore_control.specs.declared.waits.WaitingCall.{WaitingCall};
 
 use shore_calls::Wait;
 use shore_model::Call;
-use shore_types::{SessionId, TxnId};
+use shore_types::{Sequence, SessionId, TxnId};
 use std::alloc::{AllocError, Global};
 
 /// A call of a session's transaction that waits, and what for.
@@ -16,6 +16,8 @@ pub struct WaitingCall {
     pub txn: TxnId,
     pub call: Call,
     pub wait: Wait,
+    /// The cycle of waits that its transaction is the victim of, if it is one: then it waits to be told so.
+    pub cycle: Option<Sequence<TxnId>>,
 }
 
 /// The calls that wait, the oldest first. A session waits with one.
@@ -70,6 +72,35 @@ impl Waits {
             }
         }
         count
+    }
+
+    // The call with which a transaction waits for a lock: it has one at most.
+    fn index_of_asker(&self, txn: TxnId) -> Option<usize>
+        ensures some { IfSome result (λ i. (i < length (calls_in self.now)) × ((d : WaitingCall) → (slice_index_or (calls_in self.now) i d).txn ≡ txn)
+            × ((d : WaitingCall) → is_commit (slice_index_or (calls_in self.now) i d) ≡ false)) }
+        ensures none { IfNone result (All (λ w. w.txn ≡ txn → is_commit w ≡ true) (calls_in self.now)) }
+    {
+        for (index, call) in self.calls.iter().enumerate() {
+            if call.txn == txn && matches!(call.wait, Wait::Lock(_)) {
+                return Some(index);
+            }
+        }
+        None
+    }
+
+    /// The call with which a transaction waits for a lock is to be told this cycle. The answer is its session; None if no call of it waits for a lock.
+    pub(crate) fn note_cycle(&mut self, txn: TxnId, cycle: Sequence<TxnId>) -> Option<SessionId>
+        ensures noted { IfSome result (λ session. calls_in self.new ≡ cycle_noted session cycle (calls_in self.old)) }
+        ensures some { IfSome result (λ session. (w : WaitingCall) × IsAmong w (calls_in self.old) × (w.session ≡ session) × (w.txn ≡ txn) × (is_commit w ≡ false)) }
+        ensures none { IfNone result (All (λ w. w.txn ≡ txn → is_commit w ≡ true) (calls_in self.old)) }
+        ensures same { IfNone result (calls_in self.new ≡ calls_in self.old) }
+        ensures free { (session : ℕ) → IsFree session self.old → IsFree session self.new }
+        ensures room { HasCallRoom self.old → HasCallRoom self.new }
+    {
+        let index = self.index_of_asker(txn)?;
+        let session = self.calls[index].session;
+        self.calls[index].cycle = Some(cycle);
+        Some(session)
     }
 
     /// Takes the memory for a call more. If that fails nothing has changed.

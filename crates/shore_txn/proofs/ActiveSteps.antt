@@ -13,10 +13,11 @@ use Rattle.shore_sessions.specs.UndoLists.{UndoList, marks_kept, undo_rolled}
 use Rattle.shore_sessions.specs.Views.{IsAmong}
 use Rattle.shore_txn.specs.ActiveTxns as active
 use Rattle.shore_txn.specs.ActiveTxns.{HasMore, OneBecomes, OneLeaves, all_changes, back_at, session_txns, sessions_of, with_entry, with_mark}
-use Rattle.shore_txn.specs.Txns.{IsAfterChange, IsAfterSavepoint, IsAfterUndo, IsBackAt, SameTxn, as_session_txn, entries_of, marks_of, number_of, rolling_of, state_of}
+use Rattle.shore_txn.specs.Txns.{IsAfterChange, IsAfterSavepoint, IsAfterUndo, IsBackAt, IsDoomed, SameTxn, as_session_txn, entries_of, marks_of, number_of, rolling_of, state_of}
 use Rattle.shore_txn.specs.UndoEntries.{claims_on, image_of, images_of}
 use Rattle.shore_txn.specs.declared.active.ActiveTxn.{ActiveTxn}
 use Rattle.shore_sessions.specs.declared.rollbacks.Rollback.{Rollback}
+use Rattle.shore_sessions.specs.declared.rollbacks.Rollback.TheVariants.{Whole}
 use Rattle.shore_txn.specs.declared.txn.Txn.{Txn}
 use Rattle.shore_txn.specs.declared.undo.UndoEntry.{UndoEntry}
 use Rattle.shore_txn.proofs.ActiveLemmas.{IsAt, txns_join, txns_parts}
@@ -289,6 +290,11 @@ module _ (t u : Txn) where
       session_as (back_at index (as_session_txn t).undo) after.txn after.session
       (undo_as (images_of (entries_of t)) (take (index + 1) (marks_of t)) None (ap images_of after.entries) after.marks (ap rolling_of after.state))
 
+  pub session_doomed : IsDoomed t u → as_session_txn u ≡ with_its (as_session_txn t) (undo_rolled (as_session_txn t).undo (as_session_txn t).undo.images Whole)
+  session_doomed after =
+      session_as (undo_rolled (as_session_txn t).undo (as_session_txn t).undo.images Whole) after.txn after.session
+      (undo_as (images_of (entries_of t)) [] (Some Whole) (ap images_of after.entries) after.marks (ap rolling_of after.state))
+
   pub owed_more : (e : UndoEntry) → entries_of u ≡ entries_of t ++ e ∷ [] → owed (as_session_txn u) ≡ owed (as_session_txn t) + compensation_cost e.before
   owed_more e more =
       let costs = costs_push (entries_of t) e in
@@ -352,6 +358,9 @@ savepoint_keeps t u after = record { txn = after.txn; session = after.session; e
 
 pub back_keeps : (index : ℕ) (t u : Txn) → IsBackAt index t u → KeepsChanges t u
 back_keeps index t u after = record { txn = after.txn; session = after.session; entries = after.entries }
+
+pub doomed_keeps : (t u : Txn) → IsDoomed t u → KeepsChanges t u
+doomed_keeps t u after = record { txn = after.txn; session = after.session; entries = after.entries }
 
 module _ {who : ℕ} {old new : List Txn} (one : OneBecomes who KeepsChanges old new) where
   pub kept_still : (reserved next : ℕ) → AreKept (session_txns old) reserved next → AreKept (session_txns new) reserved next

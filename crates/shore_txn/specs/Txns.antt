@@ -4,6 +4,7 @@ use Rattle.std.specs.Prelude.{vec_capacity, vec_len}
 use Rattle.shore_sessions.specs.Sessions.{SessionTxn}
 use Rattle.shore_sessions.specs.UndoLists.{marks_kept}
 use Rattle.shore_sessions.specs.declared.rollbacks.Rollback.{Rollback}
+use Rattle.shore_sessions.specs.declared.rollbacks.Rollback.TheVariants.{Whole}
 use Rattle.shore_txn.specs.declared.txn.Txn.{Txn}
 use Rattle.shore_txn.specs.declared.txn_state.TxnState.{TxnState}
 use Rattle.shore_txn.specs.declared.txn_state.TxnState.TheVariants.{Active, RollingBack}
@@ -90,3 +91,13 @@ pub record IsBackAt (index : ℕ) (old new : Txn) : Type 0 where
   pub entries : entries_of new ≡ entries_of old
   pub marks : marks_of new ≡ take (index + 1) (marks_of old)
   pub state : state_of new ≡ Active
+
+-- A transaction that can only be rolled back from now on, whole: its savepoints are gone, and nothing is put back yet.
+pub record IsDoomed (old new : Txn) : Type 0 where
+  pub txn : number_of new ≡ number_of old
+  pub session : new.session ≡ old.session
+  pub last : last_of new ≡ last_of old
+  pub entries : entries_of new ≡ entries_of old
+  pub reserved : new.reserved ≡ old.reserved
+  pub marks : marks_of new ≡ []
+  pub state : state_of new ≡ RollingBack Whole

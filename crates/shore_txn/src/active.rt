@@ -5,7 +5,7 @@ ghost use Rattle.shore_page.specs.Slots.{image_len};
 ghost use Rattle.shore_room.specs.LogRooms.{compensation_cost};
 ghost use Rattle.shore_txn.specs.Chains.{bucket_of, newest_in};
 ghost use Rattle.shore_txn.specs.Places.{buckets_if};
-ghost use Rattle.shore_txn.specs.Txns.{IsAfterChange, IsAfterSavepoint, IsAfterUndo, IsBackAt, SameTxn, entries_of, marks_of};
+ghost use Rattle.shore_txn.specs.Txns.{IsAfterChange, IsAfterSavepoint, IsAfterUndo, IsBackAt, IsDoomed, SameTxn, entries_of, marks_of};
 ghost use Rattle.shore_txn.specs.UndoEntries.{claims_on, page_buckets};
 ghost use Rattle.shore_txn.specs.declared.undo.UndoEntry.{UndoEntry};
 
@@ -110,6 +110,13 @@ impl ActiveTxn {
         ensures { IsBackAt index self.old.txn self.new.txn }
     {
         self.txn.go_back(index);
+    }
+
+    /// From now on it can only be rolled back, whole: its savepoints are gone. Nothing of it is put back yet.
+    pub(crate) fn doom(&mut self)
+        ensures { IsDoomed self.old.txn self.new.txn }
+    {
+        self.txn.doom();
     }
 
     /// The newest place of a page's bucket, 0 for none.

@@ -8,9 +8,10 @@ ghost use Rattle.shore_page.specs.Slots.{image_len};
 ghost use Rattle.shore_room.specs.LogRooms.{compensation_cost};
 ghost use Rattle.shore_sessions.specs.Sessions.{SessionTxn, with_undo, without_txn};
 ghost use Rattle.shore_sessions.specs.UndoLists.{undo_rolled};
+ghost use Rattle.shore_sessions.specs.declared.rollbacks.Rollback.TheVariants.{Whole};
 ghost use Rattle.shore_sessions.specs.Views.{IsAmong};
 ghost use Rattle.shore_txn.specs.ActiveTxns.{HasMore, OneBecomes, OneLeaves, back_at, with_mark};
-ghost use Rattle.shore_txn.specs.Txns.{IsAfterSavepoint, IsAfterUndo, IsBackAt, SameTxn};
+ghost use Rattle.shore_txn.specs.Txns.{IsAfterSavepoint, IsAfterUndo, IsBackAt, IsDoomed, SameTxn};
 ghost use Rattle.shore_txn.specs.UndoEntries.{image_of};
 
 use crate::transactions::Transactions;
@@ -84,6 +85,21 @@ impl Transactions {
     {
         let own = self.index_of(session);
         self.active[own].go_back(index);
+    }
+
+    /// From now on a session's transaction can only be rolled back, whole: its savepoints are gone, and it asks for nothing else. Nothing of it is put
+    /// back yet, and what is reserved for that stays. It takes no memory.
+    pub fn doom(&mut self, session: SessionId)
+        requires there { HasTxnOf session self.old }
+        ensures doomed { OneBecomes session IsDoomed (txns_in self.old) (txns_in self.new) }
+        ensures undos { (a : SessionTxn) → IsAmong a (undos_in self.old) → a.session ≡ session
+            → undos_in self.new ≡ with_undo a.txn (undo_rolled a.undo a.undo.images Whole) (undos_in self.old) }
+        ensures claims { (p : PageId) → kept_in self.new p ≡ kept_in self.old p }
+        ensures next { next_in self.new ≡ next_in self.old }
+        ensures room { room_in self.new ≡ room_in self.old }
+    {
+        let own = self.index_of(session);
+        self.active[own].doom();
     }
 
     /// The abort of a session's transaction has ended, which has no change left: what was reserved for its ending is free, and pays for its End if

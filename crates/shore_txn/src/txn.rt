@@ -35,7 +35,7 @@ pub struct Txn {
 }
 
 impl Txn {
-    ghost use Rattle.shore_txn.specs.Txns.{HasEntryRoom, IsAfterChange, IsAfterSavepoint, IsAfterUndo, IsBackAt, SameTxn, entries_of, last_of, marks_of, number_of, state_of};
+    ghost use Rattle.shore_txn.specs.Txns.{HasEntryRoom, IsAfterChange, IsAfterSavepoint, IsAfterUndo, IsBackAt, IsDoomed, SameTxn, entries_of, last_of, marks_of, number_of, state_of};
 
     /// A transaction that has logged nothing.
     pub fn new(alloc: Global, txn: TxnId, session: SessionId) -> Txn
@@ -210,6 +210,14 @@ impl Txn {
     {
         keep_marks(&mut self.marks, Rollback::To(index));
         self.state = TxnState::Active;
+    }
+
+    /// From now on it can only be rolled back, whole: its savepoints are gone. Nothing of it is put back yet.
+    pub fn doom(&mut self)
+        ensures { IsDoomed self.old self.new }
+    {
+        keep_marks(&mut self.marks, Rollback::Whole);
+        self.state = TxnState::RollingBack(Rollback::Whole);
     }
 
     /// Its changes, the oldest first, once it is decided.

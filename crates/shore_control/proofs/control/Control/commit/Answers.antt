@@ -1,4 +1,4 @@
-use Rattle.std.proofs.Common.{◌≡◌, ◌≢◌, ◌++◌, ◌∷◌, [], sym, ap, subst, ◌∙◌}
+use Rattle.std.proofs.Common.{◌≡◌, ◌≢◌, ◌++◌, ◌∷◌, [], None, sym, ap, subst, ◌∙◌}
 use Rattle.std.specs.Prelude.{All}
 use Rattle.shore_model.specs.declared.calls.Call.TheVariants as call
 use Rattle.shore_sessions.specs.Sessions.{EachOnce, txns_of}
@@ -23,10 +23,10 @@ returns-clause-stands c s a was its number =
     let here = subst (IsAmong a) was.txns.active its.0 in
     let calls = waits_in c.args.self.now in
     let number_is : c.number_of-txn.result ≡ a.txn = c.number_of-txn.ensures a here its.1 in
-    let pushed : _ ≡ calls ++ record { session = a.session; txn = a.txn; call = call.Commit; wait = Durable (next_number s) } ∷ [] =
-    c.push.ensures ∙ ap (λ n. calls ++ record { session = n; txn = c.number_of-txn.result; call = call.Commit; wait = Durable c.args.number } ∷ []) (sym its.1)
-    ∙ ap (λ n. calls ++ record { session = a.session; txn = n; call = call.Commit; wait = Durable c.args.number } ∷ []) number_is
-    ∙ ap (λ n. calls ++ record { session = a.session; txn = a.txn; call = call.Commit; wait = Durable n } ∷ []) number in
+    let pushed : _ ≡ calls ++ record { session = a.session; txn = a.txn; call = call.Commit; wait = Durable (next_number s); cycle = None } ∷ [] =
+    c.push.ensures ∙ ap (λ n. calls ++ record { session = n; txn = c.number_of-txn.result; call = call.Commit; wait = Durable c.args.number; cycle = None } ∷ []) (sym its.1)
+    ∙ ap (λ n. calls ++ record { session = a.session; txn = n; call = call.Commit; wait = Durable c.args.number; cycle = None } ∷ []) number_is
+    ∙ ap (λ n. calls ++ record { session = a.session; txn = a.txn; call = call.Commit; wait = Durable n; cycle = None } ∷ []) number in
     record {
       txns = txns_committed (txns_in c.args.self.now) c.note_commit.new.self s was.txns c.args.session c.note_commit.result.items a done.left its.0 its.1
           (done.undos a here its.1) done.next done.kept done.stream;
@@ -38,4 +38,4 @@ returns-clause-stands c s a was its number =
 
 pub returns-clause-waits : goal.returns-clause-waits
 returns-clause-waits c a m own =
-    c.push.ensures ∙ ap (λ n. waits_in c.args.self.now ++ record { session = c.args.session; txn = n; call = call.Commit; wait = Durable c.args.number } ∷ []) (c.number_of-txn.ensures a m own)
+    c.push.ensures ∙ ap (λ n. waits_in c.args.self.now ++ record { session = c.args.session; txn = n; call = call.Commit; wait = Durable c.args.number; cycle = None } ∷ []) (c.number_of-txn.ensures a m own)
