@@ -1,34 +1,39 @@
 -- What a call comes to that asks for its lock.
-use Rattle.std.proofs.Common.{◌≡◌, ◌∷◌, inl, inr, ℕ, List, Result, Option, None, Some, Ok, Err, IfErr, IsErrAnd, refl, sym, ap, subst, ◌∙◌, arith}
+use Rattle.std.proofs.Common.{◌≡◌, ◌<◌, inl, inr, ℕ, List, [], Result, Option, None, Some, Ok, Err, IfErr, IsErrAnd, map, refl, sym, ap, subst, ◌∙◌, arith}
 use Rattle.shore_types.specs.declared.faults.Device.{Device}
 use Rattle.shore_types.specs.declared.faults.Fault.{Fault}
 use Rattle.shore_types.specs.declared.faults.Fault.TheVariants as fault
+use Rattle.shore_types.specs.declared.layout.Geometry.{Geometry}
 use Rattle.shore_types.specs.declared.locking.Granule.{Granule}
-use Rattle.shore_types.specs.declared.locking.Mode.{Mode}
 use Rattle.shore_model.specs.declared.calls.Call.{Call}
 use Rattle.shore_model.specs.declared.log_records.LogRecord.{LogRecord}
 use Rattle.shore_disk.specs.Cause.{HasCause}
 use Rattle.shore_disk.specs.declared.device.Disk as disk
 use Rattle.shore_log.specs.declared.tail.Tail as tail
-use Rattle.shore_locks.specs.Tables.{Table}
-use Rattle.shore_path.specs.Acquires.{MayRefuse}
-use Rattle.shore_path.specs.Walks.{acquired}
 use Rattle.shore_path.specs.declared.answers.Acquired.{Acquired}
 use Rattle.shore_path.specs.declared.answers.Acquired.TheVariants as acquire
-use Rattle.shore_path.specs.declared.answers.OnConflict.{OnConflict}
-use Rattle.shore_held.specs.CallLocks.{Asked, asked_by}
 use Rattle.shore_recovery.specs.Recovery.{RecoveryState}
 use Rattle.shore_sessions.specs.Sessions.{SessionTxn}
 use Rattle.shore_calls.specs.StateChanges.{after_refusal}
-use Rattle.shore_calls.specs.CallSteps.{GoesOn, MayAsk, RefusesEarly, behind_lock, lock_outcome, lock_waiting, on_conflict_of}
-use Rattle.shore_calls.specs.States.{State}
+use Rattle.shore_calls.specs.CallSteps.{MayAsk, RefusesEarly}
+use Rattle.shore_calls.specs.Settling.{GoesSettled, WaitsForNoLock}
+use Rattle.shore_calls.specs.States.{DoesNotWait, State}
+use Rattle.shore_sessions.specs.Views.{IsAmong}
+use Rattle.shore_txn.specs.Txns.{last_of}
+use Rattle.shore_txn.specs.declared.txn.Txn.{Txn}
+use Rattle.shore_txn.proofs.OneOfMany.{among_map, map_among}
+use Rattle.shore_control.proofs.WaitSteps.{free_waits_not}
+use Rattle.shore_control.specs.Controls.{IsFree, waits_in}
+use Rattle.shore_control.specs.Noting.{IsOfNoDevice}
+use Rattle.shore_control.specs.Standing.{HasControl}
+use Rattle.shore_control.specs.declared.control.Control.{Control}
 use Rattle.shore_calls.specs.declared.step.Step.{Step}
-use Rattle.shore_calls.specs.declared.step.Step.TheVariants.{Refused, Waits}
+use Rattle.shore_calls.specs.declared.step.Step.TheVariants.{Done, Nothing, Refused, Waits}
 use Rattle.shore_calls.specs.declared.step.Wait.TheVariants.{Lock}
 use Rattle.shore_core.specs.declared.core_calls.Core.{Core}
 use Rattle.shore_core.specs.Cores.{ComesTo, geometry_of}
-use Rattle.shore_core.specs.Replies.{AskedFor}
-use Rattle.shore_core.proofs.Taking.{plain_refusal}
+use Rattle.shore_core.specs.Replies.{AskedFor, IsServedBehind, as_step}
+use Rattle.shore_core.proofs.Taking.{plain_refusal, stays_after}
 
 -- ---- the lock that is asked for
 
@@ -42,28 +47,22 @@ same_some x y is = ap (λ o. value_or x o) is
 pub done_waits_not : (at : Granule) → ◌≡◌ {A = Result Acquired Fault} (Ok acquire.Done) (Ok (acquire.Waiting at)) → ⊥
 done_waits_not at clash = cc
 
-pub outcome_as : (s : State) (a : SessionTxn) (c : Call) (lock : Asked) (on : OnConflict) (table : Table) (t : ℕ) → on ≡ on_conflict_of c → table ≡ s.locks → t ≡ a.txn
-    → acquired on table t lock.granule lock.mode ≡ lock_outcome s a c lock
-outcome_as s a c lock on table t conflict same number =
-    ap (λ x. acquired x table t lock.granule lock.mode) conflict ∙ ap (λ x. acquired (on_conflict_of c) x t lock.granule lock.mode) same
-    ∙ ap (λ x. acquired (on_conflict_of c) s.locks x lock.granule lock.mode) number
-
 -- ---- a lock that is refused
 
-module _ (on : OnConflict) (table : Table) (t : ℕ) (g : Granule) (mode : Mode) (f : Fault) (may : MayRefuse on table t g mode f) where
+module _ (f : Fault) (may : IsOfNoDevice f) where
   -- it asks for no force
   pub no_force : {A : Type 0} (X : ℕ → Type 0) (r : Result A Fault) → IsErrAnd r (λ e. e ≡ f) → IfErr r (λ e. (n : ℕ) → e ≡ fault.NeedForce n → X n)
-  no_force X r same = plain_refusal r (λ e. (n : ℕ) → e ≡ fault.NeedForce n → X n) f same (λ n is. absurd (subst (MayRefuse on table t g mode) is may))
+  no_force X r same = plain_refusal r (λ e. (n : ℕ) → e ≡ fault.NeedForce n → X n) f same (λ n is. absurd (may.2 n is))
 
   -- .. and says that nothing is damaged
   pub no_damage : {A : Type 0} (X : Device → ℕ → Type 0) (r : Result A Fault) → IsErrAnd r (λ e. e ≡ f) → IfErr r (λ e. (d : Device) (offset : ℕ) → e ≡ fault.Damaged d offset → X d offset)
-  no_damage X r same = plain_refusal r (λ e. (d : Device) (offset : ℕ) → e ≡ fault.Damaged d offset → X d offset) f same (λ d offset is. absurd (subst (MayRefuse on table t g mode) is may))
+  no_damage X r same = plain_refusal r (λ e. (d : Device) (offset : ℕ) → e ≡ fault.Damaged d offset → X d offset) f same (λ d offset is. absurd (may.1 d offset is))
 
   -- .. nor that a device has failed
   pub no_failure : {A : Type 0} (r : Result A Fault) (n : ℕ) → IsErrAnd r (λ e. e ≡ f) → HasCause r n n
   no_failure (Err e) n same = record {
     no_lower = omega arith;
-    reported = λ is. absurd (subst (MayRefuse on table t g mode) (sym same ∙ fault_is is) may);
+    reported = λ is. absurd (may.0 (sym same ∙ fault_is is));
     unreported = λ other. refl;
   }
     where
@@ -85,27 +84,49 @@ module _ {T V : Type 0} {G : tail.Ghosts T} {H : disk.Ghosts V} (old new : Core 
       → AskedFor a c r old new front before s store
   asked_lacks (Err e) same may comes = record {
     later = s;
-    asks = inr (may, subst (λ x. GoesOn (geometry_of old) s a c (Refused x) (after_refusal x s)) (sym same) (inl (refl, inl refl)));
+    asks = inr (
+      may,
+      subst (λ x. GoesSettled (geometry_of old) s a c (Refused x) (after_refusal x s)) (sym same)
+          (record { first = Refused fault.Memory; mid = s; rounds = []; goes = inl (refl, inl refl); settles = (tt, refl, refl) }),
+    );
     comes = inr comes;
   }
   asked_lacks (Ok x) same may comes = absurd same
 
-  module _ (lock : Asked) (may : MayAsk (geometry_of old) c) (asks : asked_by c ≡ Some lock) where
-    -- .. by the lock table
-    pub asked_blocked : (r : Result Step Fault) (f : Fault) → IsErrAnd r (λ e. e ≡ f) → (lock_outcome s a c lock).answer ≡ Err f
-        → after_refusal f (behind_lock s a c lock) ≡ behind_lock s a c lock → ComesTo new front before store (behind_lock s a c lock) → AskedFor a c r old new front before s store
-    asked_blocked (Err e) f same refused plain comes = record {
-      later = behind_lock s a c lock;
-      asks = inr (may, subst (λ x. GoesOn (geometry_of old) s a c (Refused x) (after_refusal x (behind_lock s a c lock))) (sym same) (inr (inl (lock, asks, refused, plain))));
+  module _ (may : MayAsk (geometry_of old) c) where
+    -- .. by the locks
+    pub asked_blocked : (r : Result Step Fault) (f : Fault) → IsErrAnd r (λ e. e ≡ f) → IsOfNoDevice f → (later : State) → GoesSettled (geometry_of old) s a c (Refused f) later
+        → ComesTo new front before store later → AskedFor a c r old new front before s store
+    asked_blocked (Err e) f same plain later settled comes = record {
+      later = later;
+      asks = inr (
+        may,
+        subst (λ x. GoesSettled (geometry_of old) s a c (Refused x) (after_refusal x later)) (sym same)
+            (subst (GoesSettled (geometry_of old) s a c (Refused f)) (sym (stays_after later f plain.0 plain.1)) settled),
+      );
       comes = inr comes;
     }
-    asked_blocked (Ok x) f same refused plain comes = absurd same
+    asked_blocked (Ok x) f same plain later settled comes = absurd same
 
     -- it waits there
-    pub asked_waits : (at : Granule) → (lock_outcome s a c lock).answer ≡ Ok (acquire.Waiting at)
-        → ComesTo new front before store (record (behind_lock s a c lock) { waiting = lock_waiting a c at ∷ s.waiting }) → AskedFor a c (Ok (Waits (Lock at))) old new front before s store
-    asked_waits at waits comes = record {
-      later = record (behind_lock s a c lock) { waiting = lock_waiting a c at ∷ s.waiting };
-      asks = inr (may, (lock, at, asks, waits, refl, refl));
-      comes = comes;
-    }
+    pub asked_waits : (at : Granule) (later : State) → GoesSettled (geometry_of old) s a c (Waits (Lock at)) later → ComesTo new front before store later
+        → AskedFor a c (Ok (Waits (Lock at))) old new front before s store
+    asked_waits at later settled comes = record { later = later; asks = inr (may, settled); comes = comes }
+
+-- what a call comes to behind its locks does not wait for one
+pub served_at_once : (g : Geometry) (s : State) (a : SessionTxn) (c : Call) (r : Result Step Fault) (new : State) → IsServedBehind g s a c r new → WaitsForNoLock (as_step r)
+served_at_once g s a c (Ok (Done answer)) new h = tt
+served_at_once g s a c (Err f) new h = tt
+served_at_once g s a c (Ok (Waits wait)) new h = absurd h
+served_at_once g s a c (Ok (Refused f)) new h = absurd h
+served_at_once g s a c (Ok Nothing) new h = absurd h
+
+-- a session is free whose call does not wait in the control
+pub idle_of : (control : Control) (s : State) (a : SessionTxn) (session : ℕ) → HasControl control s → IsFree session control → a.session ≡ session → DoesNotWait s a.session
+idle_of control s a session stands free of = subst (DoesNotWait s) (sym of) (free_waits_not (waits_in control) s stands.waits session free)
+
+-- each last record is below a number, if each was before
+pub lasts_below : (old new : List Txn) (n : ℕ) → map last_of new ≡ map last_of old → ((t : Txn) → IsAmong t old → last_of t < n) → (t : Txn) → IsAmong t new → last_of t < n
+lasts_below old new n same below t there =
+    let was = map_among last_of (last_of t) old (subst (IsAmong (last_of t)) same (among_map last_of t new there)) in
+    subst (λ m. m < n) was.2 (below was.0 was.1)

@@ -1,5 +1,5 @@
 -- How calls go on that wait, or that have a transaction.
-use Rattle.std.proofs.Common.{◌≡◌, inl, inr, ℕ, List, None, Result, false, refl, sym, subst, ◌∙◌}
+use Rattle.std.proofs.Common.{◌≡◌, inl, inr, ℕ, List, None, Option, Some, Result, false, true, refl, sym, ap, subst, ◌∙◌}
 use Rattle.std.specs.Prelude.{not, ◌==◌}
 use Rattle.shore_types.specs.declared.faults.Fault.{Fault}
 use Rattle.shore_types.specs.declared.layout.Geometry.{Geometry}
@@ -18,8 +18,10 @@ use Rattle.shore_calls.proofs.SessionFailures.{IsHarmless, early_harmless}
 use Rattle.shore_calls.proofs.SessionResumes.{apart, woken}
 use Rattle.shore_calls.proofs.SessionsWaiting.{woken_waits}
 use Rattle.shore_calls.specs.StateChanges.{after_refusal, wait_refused}
-use Rattle.shore_calls.specs.CallSteps.{GoesOn, MayAsk, RefusesEarly, ResumesWait, CallStep, ResumeStep}
+use Rattle.shore_calls.specs.CallSteps.{GoesOn, MayAsk, RefusesEarly, ResumesWait}
+use Rattle.shore_calls.specs.Settling.{GoesSettled, SettledCall, SettledResume, Settles}
 use Rattle.shore_calls.specs.declared.step.Step.{Step}
+use Rattle.shore_calls.specs.declared.step.Step.TheVariants.{Refused}
 use Rattle.shore_calls.specs.SessionWaits.{IsCommitWait, IsLockWait, WaitsOfSessions}
 use Rattle.shore_calls.specs.States.{DoesNotWait, IsOfSession, State, Waiting}
 use Rattle.shore_calls.specs.declared.step.Wait.{Wait}
@@ -28,8 +30,9 @@ use Rattle.shore_control.specs.Calls.{is_commit, is_durable}
 use Rattle.shore_control.specs.declared.waits.WaitingCall.{WaitingCall}
 use Rattle.shore_core.specs.declared.core_calls.Core.{Core}
 use Rattle.shore_core.specs.Cores.{IsSafe, geometry_of}
-use Rattle.shore_core.specs.Replies.{AskedFor, Replied, as_step, once_noted}
-use Rattle.shore_core.proofs.Taking.{stays_after}
+use Rattle.shore_core.specs.Replies.{AskedFor, Called, as_step, once_noted}
+use Rattle.shore_core.proofs.Settling.{called_at_once}
+use Rattle.shore_core.proofs.Taking.{stays_after, true_false}
 
 durable_lock : (n : ℕ) (at : Granule) → ◌≡◌ {A = Wait} (Durable n) (Lock at) → ⊥
 durable_lock n at e = cc
@@ -37,6 +40,10 @@ durable_lock n at e = cc
 -- who waits for a record is a commit, and who waits for a lock another call
 pub commit_waits : (base : ℕ) (s : State) (w : Waiting) (n : ℕ) → WaitsOfSessions base s → IsAmong w s.waiting → w.wait ≡ Durable n → IsCommitWait base s w
 commit_waits base s w n waits m is = elim (waits.each w m) [ inl commit ↦ commit | inr lock ↦ absurd (durable_lock n lock.at (sym is ∙ lock.is)) ]
+
+-- .. so its transaction is no victim
+pub spared_commit : (base : ℕ) (s : State) (w : Waiting) (n : ℕ) → WaitsOfSessions base s → IsAmong w s.waiting → w.wait ≡ Durable n → w.cycle ≡ None
+spared_commit base s w n waits m is = ap (λ (x : Waiting). x.cycle) (commit_waits base s w n waits m is).is
 
 pub lock_waits : (base : ℕ) (s : State) (w : Waiting) (at : Granule) → WaitsOfSessions base s → IsAmong w s.waiting → w.wait ≡ Lock at → IsLockWait s w
 lock_waits base s w at waits m is =
@@ -48,6 +55,27 @@ lock_waits base s w at waits m is =
 -- who waits for a lock is no commit
 pub asks_lock : (w : WaitingCall) (at : Granule) → w.wait ≡ Lock at → is_commit w ≡ false
 asks_lock w at is = subst (λ (x : Wait). is_durable x ≡ false) (sym is) refl
+
+-- what is not there is none
+pub none_of : {A : Type 0} (o : Option A) → ((x : A) → o ≡ Some x → ⊥) → o ≡ None
+none_of None not = refl
+none_of (Some x) not = absurd (not x refl)
+
+-- whose transaction waits in the table is no victim
+pub blocked_spared : (g : Geometry) (s : State) (safe : IsSafe g s) (session : ℕ) (a : SessionTxn) → s.failed ≡ false → IsOfSession s session a → (w : Waiting) → IsAmong w s.waiting → w.session ≡ session
+    → is_waiting a.txn s.locks.requests ≡ true → w.cycle ≡ None
+blocked_spared g s safe session a works its w m same blocked = by w.cycle refl
+  where
+    clash : (cycle : List ℕ) → ◌≡◌ {A = Option (List ℕ)} (Some cycle) None → ⊥
+    clash cycle e = cc
+
+    by : (o : Option (List ℕ)) → w.cycle ≡ o → w.cycle ≡ None
+    by None is = is
+    by (Some cycle) is =
+        let quiet =
+        safe.after.sessions.locks.waits works a its.0
+        (λ v there spared of. clash cycle (sym is ∙ ap (λ (x : Waiting). x.cycle) (safe.after.waits.once w v m there (same ∙ sym its.1 ∙ sym of)) ∙ spared)) in
+        absurd (true_false (sym blocked ∙ quiet))
 
 -- ---- a session's call that waits no more
 
@@ -79,33 +107,47 @@ early_plain g c f s refuses =
 
 module _ {T V : Type 0} {G : tail.Ghosts T} {H : disk.Ghosts V} (old new : Core T V G H) (front : List ℕ) (before : List LogRecord) (s : State) (store : RecoveryState) (a : SessionTxn) (r : Result Step Fault) where
   -- when it is made
-  pub asked_replies : (session : ℕ) (c : Call) → s.failed ≡ false → DoesNotWait s session → IsOfSession s session a → a.undo.rolling ≡ None → AskedFor a c r old new front before s store
-      → Replied session c r old new front before s store
-  asked_replies session c works idle its whole asked = record {
+  pub asked_calls : (session : ℕ) (c : Call) → s.failed ≡ false → DoesNotWait s session → IsOfSession s session a → a.undo.rolling ≡ None → AskedFor a c r old new front before s store
+      → Called session c r old new front before s store
+  asked_calls session c works idle its whole asked = record {
     later = asked.later;
-    replies = elim asked.asks [
+    calls = elim asked.asks [
       | inl early ↦
-          subst (λ x. CallStep (geometry_of old) s session c (as_step x) (once_noted x asked.later)) (sym early.2)
-          (inr (inr (inr (inr (inr (works, idle, (a, its, inr (inl (whole, inl (early.0, early.1, refl, early_plain (geometry_of old) c early.0 asked.later early.1 ∙ early.3))))))))))
-      | inr goes ↦ inr (inr (inr (inr (inr (works, idle, (a, its, inr (inl (whole, inr (inl goes)))))))))
+          subst (λ x. SettledCall (geometry_of old) s session c (as_step x) (once_noted x asked.later)) (sym early.2)
+          (called_at_once (geometry_of old) s _ session c (Refused early.0) tt
+          (inr (inr (inr (inr (inr (works, idle, (a, its, inr (inl (whole, inl (early.0, early.1, refl, early_plain (geometry_of old) c early.0 asked.later early.1 ∙ early.3)))))))))))
+      | inr goes ↦ record {
+        first = goes.1.first;
+        mid = goes.1.mid;
+        rounds = goes.1.rounds;
+        calls = inr (inr (inr (inr (inr (works, idle, (a, its, inr (inl (whole, inr (inl (goes.0, goes.1.goes))))))))));
+        settles = subst (λ n. Settles (geometry_of old) goes.1.mid n goes.1.first goes.1.rounds (as_step r) (once_noted r asked.later)) its.1 goes.1.settles;
+      }
     ];
     comes = asked.comes;
   }
 
   -- .. and when it goes on behind a wait
-  pub asked_resumes : (session : ℕ) (w : Waiting) (at : Granule) → s.failed ≡ false → IsAmong w s.waiting → w.session ≡ session → w.wait ≡ Lock at → MayAsk (geometry_of old) w.call
-      → IsOfSession s session a → is_waiting a.txn s.locks.requests ≡ false → (asked : AskedFor a w.call r old new front before (wait_refused s session) store)
-      → ResumeStep (geometry_of old) s session (as_step r) (once_noted r asked.later)
-  asked_resumes session w at works m same waits may its quiet asked =
-      let goes : GoesOn (geometry_of old) (wait_refused s session) a w.call (as_step r) (once_noted r asked.later) =
+  pub asked_resumes : (session : ℕ) (w : Waiting) (at : Granule) → s.failed ≡ false → IsAmong w s.waiting → w.session ≡ session → w.wait ≡ Lock at → w.cycle ≡ None
+      → MayAsk (geometry_of old) w.call → IsOfSession s session a → is_waiting a.txn s.locks.requests ≡ false
+      → (asked : AskedFor a w.call r old new front before (wait_refused s session) store) → SettledResume (geometry_of old) s session (as_step r) (once_noted r asked.later)
+  asked_resumes session w at works m same waits spared may its quiet asked =
+      let goes : GoesSettled (geometry_of old) (wait_refused s session) a w.call (as_step r) (once_noted r asked.later) =
       elim asked.asks [ inl early ↦ absurd (none_early (geometry_of old) w.call early.0 may early.1) | inr goes ↦ goes.1 ] in
-      inr (
-        w,
-        m,
-        same,
-        inr (
-          works,
-          subst (λ (x : Wait). ResumesWait (geometry_of old) s w x (as_step r) (once_noted r asked.later)) (sym waits)
-              (a, (its.0, its.1 ∙ sym same), inr (quiet, subst (λ n. GoesOn (geometry_of old) (wait_refused s n) a w.call (as_step r) (once_noted r asked.later)) (sym same) goes)),
-        ),
-      )
+      inr (inr (record {
+        first = goes.first;
+        mid = goes.mid;
+        rounds = goes.rounds;
+        resumes = inr (
+          w,
+          m,
+          same,
+          inr (
+            works,
+            subst (λ (x : Wait). ResumesWait (geometry_of old) s w x goes.first goes.mid) (sym waits)
+                (a, (its.0, its.1 ∙ sym same), inr (quiet, subst (λ n. GoesOn (geometry_of old) (wait_refused s n) a w.call goes.first goes.mid) (sym same) goes.goes)),
+            spared,
+          ),
+        );
+        settles = subst (λ n. Settles (geometry_of old) goes.mid n goes.first goes.rounds (as_step r) (once_noted r asked.later)) its.1 goes.settles;
+      }))

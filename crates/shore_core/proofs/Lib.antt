@@ -16,8 +16,10 @@ pub mod Flushed
 pub mod Lookups
 pub mod Safe
 pub mod Begun
+pub mod Settling
 pub mod Moving
 pub mod Going
+pub mod SafeRounds
 pub mod Acquiring
 pub mod Undoing
 pub mod Rewinding

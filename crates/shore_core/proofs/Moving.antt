@@ -1,25 +1,16 @@
 -- What a call comes to that moves locks and waits alone: pages and log are as they were.
-use Rattle.std.proofs.Common.{◌≡◌, ◌++◌, inl, inr, ℕ, List, Result, Ok, Err, IfErr, false, sym, ap, subst, ◌∙◌}
+use Rattle.std.proofs.Common.{◌≡◌, ◌++◌, inl, inr, ℕ, List, Result, Ok, Err, sym, ap, subst, ◌∙◌}
 use Rattle.shore_types.specs.declared.faults.Fault.{Fault}
 use Rattle.shore_types.specs.declared.ids.PageId.{PageId}
 use Rattle.shore_types.specs.declared.layout.Geometry.{Geometry}
-use Rattle.shore_types.specs.declared.locking.Granule.{Granule}
-use Rattle.shore_types.specs.declared.locking.Mode.{Mode}
 use Rattle.shore_model.specs.declared.calls.Call.{Call}
 use Rattle.shore_model.specs.declared.log_records.LogRecord.{LogRecord}
 use Rattle.shore_disk.specs.declared.device.Disk as disk
 use Rattle.shore_log.specs.declared.tail.Tail as tail
 use Rattle.shore_heap.specs.declared.heap.Heap.{Heap}
 use Rattle.shore_heap.specs.Heaps.{Shows}
-use Rattle.shore_locks.specs.Orderly.{IsOrderly}
-use Rattle.shore_locks.specs.Tables.{Table, is_waiting}
-use Rattle.shore_path.specs.declared.answers.OnConflict.{OnConflict}
-use Rattle.shore_path.specs.Acquires.{MayRefuse}
-use Rattle.shore_path.specs.Walks.{acquired}
-use Rattle.shore_held.proofs.Acquired.{acquired_refused}
 use Rattle.shore_recovery.specs.Recovery.{RecoveryState}
 use Rattle.shore_sessions.specs.Sessions.{SessionTxn}
-use Rattle.shore_calls.specs.StateChanges.{after_refusal}
 use Rattle.shore_calls.specs.CallSteps.{GoesOn, HasLocked}
 use Rattle.shore_calls.specs.States.{State, page_slots}
 use Rattle.shore_calls.specs.declared.step.Step.{Step}
@@ -31,7 +22,6 @@ use Rattle.shore_core.specs.declared.core_calls.Core.{Core}
 use Rattle.shore_core.specs.Cores.{ComesTo, IsIn, IsOver, control_of, durable_of, first_of, has_failed, heap_of, txns_of, waiting_of}
 use Rattle.shore_core.specs.Replies.{IsServedBehind, as_step}
 use Rattle.shore_core.proofs.Coming.{comes_same, over_as, pages_told}
-use Rattle.shore_core.proofs.Taking.{stays_after}
 
 module _ {T V : Type 0} {G : tail.Ghosts T} {H : disk.Ghosts V} (old new : Core T V G H) (front : List ℕ) (disk : ℕ → List ℕ) (before : List LogRecord) (s later : State) (store : RecoveryState) where
   -- its control stands for another state with the same pages and the same log
@@ -53,23 +43,6 @@ module _ {T V : Type 0} {G : tail.Ghosts T} {H : disk.Ghosts V} (old new : Core 
       → ((p : PageId) → page_slots later p ≡ page_slots s p) → IsIn front disk before old s → IsOver disk old s store → ComesTo new front before store later
   comes_moved heap first waiting durable failed claims stands log told fails slots is over =
       comes_same new front disk before later store (in_moved heap first waiting durable failed claims stands log told fails slots is) (over_as old new disk s later store heap log told fails over)
-
--- ---- refusals of the lock table
-
--- they are no failures
-pub unnoted : (c : OnConflict) (table : Table) (t : ℕ) (g : Granule) (mode : Mode) (f : Fault) (s : State) → MayRefuse c table t g mode f → after_refusal f s ≡ s
-unnoted c table t g mode f s may =
-    stays_after s f (λ device. subst (MayRefuse c table t g mode) device may) (λ d offset damaged. subst (MayRefuse c table t g mode) damaged may)
-
-err_at : {A : Type 0} (P : Fault → Type 0) (r : Result A Fault) (f : Fault) → r ≡ Err f → IfErr r P → P f
-err_at P r f is holds = subst (λ x. IfErr x P) is holds
-
-pub lock_unnoted : (c : OnConflict) (table : Table) (t : ℕ) (g : Granule) (mode : Mode) (f : Fault) (s : State) → IsOrderly table.requests → is_waiting t table.requests ≡ false
-    → (acquired c table t g mode).answer ≡ Err f → after_refusal f s ≡ s
-lock_unnoted c table t g mode f s orderly quiet refused =
-    unnoted c (record { limit = table.limit; requests = (acquired c table t g mode).requests }) t g mode f s (err_at (MayRefuse c (record { limit = table.limit; requests = (acquired c table t g mode).requests }) t g mode) (acquired c table t g mode).answer f refused (acquired_refused c table t g mode orderly quiet))
-
--- ---- going on behind the locks
 
 -- what is served behind its locks is how a call goes on from them
 pub goes_served : (g : Geometry) (s : State) (a : SessionTxn) (c : Call) (locked : State) → HasLocked s a c locked → (r : Result Step Fault) (new : State) → IsServedBehind g locked a c r new

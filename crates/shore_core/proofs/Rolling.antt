@@ -28,10 +28,10 @@ use Rattle.shore_calls.specs.declared.step.Step.TheVariants.{Done, Refused}
 use Rattle.shore_model.specs.declared.calls.Answer.TheVariants.{Aborted, WentBack}
 use Rattle.shore_calls.specs.CallSteps.{CallStep, aborted}
 use Rattle.shore_calls.specs.StateChanges.{after_refusal, answered}
-use Rattle.shore_calls.specs.Events.{Called, IsServed}
 use Rattle.shore_calls.specs.LockedStates.{entries_of_call}
 use Rattle.shore_calls.specs.Rollbacks.{Interrupts, IsUnwound, TakesCall, put_back, rolled}
 use Rattle.shore_calls.specs.States.{DoesNotWait, IsOfSession, State, page_slots}
+use Rattle.shore_calls.proofs.Comings.{session_call_comes}
 use Rattle.shore_calls.proofs.RollbackLinks.{one_logged}
 use Rattle.shore_calls.proofs.SessionRooms.{session_call_roomy}
 use Rattle.shore_calls.proofs.SessionStates.{session_call_stays}
@@ -41,7 +41,7 @@ use Rattle.shore_analysis.specs.Meant.{IsInBounds}
 use Rattle.shore_bounds.proofs.LoggedIds.{logged_inside}
 use Rattle.shore_bounds.proofs.Opens.{records_inside}
 use Rattle.shore_bounds.proofs.Prefixes.{whole_roomy}
-use Rattle.shore_bounds.proofs.Running.{event_leaving}
+use Rattle.shore_bounds.proofs.Running.{comes_leaving}
 use Rattle.shore_disk.specs.declared.device.Disk as disk
 use Rattle.shore_log.specs.declared.tail.Tail as tail
 use Rattle.shore_model.specs.declared.log_records.LogRecord.{LogRecord}
@@ -137,10 +137,6 @@ abbrev pub call_of : Rollback → Call
 call_of Whole = call.Abort
 call_of (To n) = call.BackTo n
 
-served : (r : Rollback) → IsServed (call_of r)
-served Whole = tt
-served (To n) = tt
-
 more : (e : Rid × Image) (es : List (Rid × Image)) → e ∷ es ≢ []
 more e es clash = cc
 
@@ -167,10 +163,12 @@ module _ (g : Geometry) (s : State) (safe : IsSafe g s) (session : ℕ) (a : Ses
         let mid = put_back s a kept undone r in
         let step = interrupted r may fault.Memory mid (inr (kept, undone, some, images, least, refl)) (inl refl) in
         let after = session_call_stays safe.found safe.entries s safe.after g session (call_of r) (Refused fault.Memory) mid step in
-        let leaves = event_leaving g safe.stream_bytes safe.found safe.entries s mid (Called session (call_of r) (Refused fault.Memory)) safe.after safe.roomy safe.leaves (served r, step) in
+        let made = entries_of_call s session (call_of r) (Refused fault.Memory) in
+        let comes = session_call_comes g safe.found safe.entries s safe.after session (call_of r) (Refused fault.Memory) mid step in
+        let leaves = comes_leaving g safe.stream_bytes safe.found safe.entries s mid made safe.after safe.roomy safe.leaves comes in
         record {
           found = safe.found;
-          entries = safe.entries ++ entries_of_call s session (call_of r) (Refused fault.Memory);
+          entries = safe.entries ++ made;
           after = after;
           asks = safe.asks;
           roomy = session_call_roomy safe.found safe.entries s safe.after safe.roomy g session (call_of r) (Refused fault.Memory) mid step;

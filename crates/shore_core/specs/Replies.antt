@@ -24,7 +24,8 @@ use Rattle.shore_calls.specs.declared.step.Step.{Step}
 use Rattle.shore_calls.specs.declared.step.Step.TheVariants.{Done, Waits, Refused, Nothing}
 use Rattle.shore_sessions.specs.Sessions.{SessionTxn}
 use Rattle.shore_calls.specs.StateChanges.{CanLog, MayChange, after_refusal}
-use Rattle.shore_calls.specs.CallSteps.{AnswersBehind, GoesOn, HasPlace, MayAsk, RefusesBehind, RefusesEarly, CallStep, ResumeStep, behind_place}
+use Rattle.shore_calls.specs.CallSteps.{AnswersBehind, HasPlace, MayAsk, RefusesBehind, RefusesEarly, CallStep, behind_place}
+use Rattle.shore_calls.specs.Settling.{GoesSettled, SettledCall, SettledResume}
 use Rattle.shore_types.specs.Images.{Image}
 use Rattle.shore_types.specs.declared.ids.Rid.{Rid}
 use Rattle.shore_room.specs.Claims.{SlotCounts}
@@ -168,10 +169,16 @@ module _ {T V : Type 0} {G : tail.Ghosts T} {H : disk.Ghosts V} where
     pub replies : CallStep (geometry_of old) s session c (as_step result) (once_noted result later)
     pub comes : Stays new result front before later store
 
+  -- .. as a whole: if it waits for a lock, it does so on no cycle
+  pub record Called (session : ℕ) (c : Call) (result : Result Step Fault) (old new : Core T V G H) (front : List ℕ) (before : List LogRecord) (s : State) (store : RecoveryState) : Type 0 where
+    pub later : State
+    pub calls : SettledCall (geometry_of old) s session c (as_step result) (once_noted result later)
+    pub comes : Stays new result front before later store
+
   -- .. a call of a transaction under way, from what refuses it before its locks on
   pub record AskedFor (a : SessionTxn) (c : Call) (result : Result Step Fault) (old new : Core T V G H) (front : List ℕ) (before : List LogRecord) (s : State) (store : RecoveryState) : Type 0 where
     pub later : State
-    pub asks : ((f : Fault) × RefusesEarly (geometry_of old) c f × (result ≡ Err f) × (later ≡ s)) ⊎ (MayAsk (geometry_of old) c × GoesOn (geometry_of old) s a c (as_step result) (once_noted result later))
+    pub asks : ((f : Fault) × RefusesEarly (geometry_of old) c f × (result ≡ Err f) × (later ≡ s)) ⊎ (MayAsk (geometry_of old) c × GoesSettled (geometry_of old) s a c (as_step result) (once_noted result later))
     pub comes : Stays new result front before later store
 
   -- .. and behind them
@@ -183,7 +190,7 @@ module _ {T V : Type 0} {G : tail.Ghosts T} {H : disk.Ghosts V} where
   -- it has come to another state by a step of the manager over plain data
   pub record Stepped (session : ℕ) (c : Call) (step : Step) (old new : Core T V G H) (front : List ℕ) (before : List LogRecord) (s : State) (store : RecoveryState) : Type 0 where
     pub later : State
-    pub moves : CallStep (geometry_of old) s session c step later
+    pub moves : SettledCall (geometry_of old) s session c step later
     pub comes : ComesTo new front before store later
     -- if a call fails the core, a crash leaves of its volume what the store may lose power with, though its log has grown
     pub fails : has_failed old ≡ false → later.failed ≡ true → FailsOver new front later store
@@ -191,7 +198,7 @@ module _ {T V : Type 0} {G : tail.Ghosts T} {H : disk.Ghosts V} where
   -- so has a resume
   pub record Resumed (session : ℕ) (step : Step) (old new : Core T V G H) (front : List ℕ) (before : List LogRecord) (s : State) (store : RecoveryState) : Type 0 where
     pub later : State
-    pub moves : ResumeStep (geometry_of old) s session step later
+    pub moves : SettledResume (geometry_of old) s session step later
     pub comes : ComesTo new front before store later
 
   -- the pages that going on with the call of a session may read

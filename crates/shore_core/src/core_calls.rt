@@ -45,7 +45,7 @@ pub struct Core<T: Tail, V: Disk> {
 impl<T: Tail, V: Disk> Core<T, V> {
     ghost use Rattle.shore_core.specs.Cores.{ComesTo, IsIn, IsOver, control_of, durable_of, faults_of, first_of, geometry_of, has_failed, heap_of, tail_of, txns_of, waiting_of};
     ghost use Rattle.shore_core.specs.Cores as cores;
-    ghost use Rattle.shore_core.specs.Replies.{Earns, Fails, InEach, Keeps, MayLeave, NeedsForce, NeedsForceIn, Reads, ReadsWaiting, Replied, Resumed, SameVolume, Stays, Stepped, fault_at, forced_at};
+    ghost use Rattle.shore_core.specs.Replies.{Called, Earns, Fails, InEach, Keeps, MayLeave, NeedsForce, NeedsForceIn, Reads, ReadsWaiting, Replied, Resumed, SameVolume, Stays, Stepped, fault_at, forced_at};
 
     /// A call of a session. Refused in this order: `Failed` after a failure of a device or a damaged page, `Busy` while the session's earlier
     /// call waits, `AlreadyActive` or `NoTransaction`, as the call says before its locks, as its locks are refused, and as the call says behind them;
@@ -117,7 +117,7 @@ impl<T: Tail, V: Disk> Core<T, V> {
     fn answer(&mut self, alloc: Global, session: SessionId, call: Call) -> Result<Step, Fault>
         requires served { IsServed call }
         requires free { IsFree session (control_of self.old) }
-        ensures replied { has_failed self.old ≡ false → InEach (λ front disk before s store. DoesNotWait s session → Replied session call result self.old self.new front before s store) self.old }
+        ensures replied { has_failed self.old ≡ false → InEach (λ front disk before s store. DoesNotWait s session → Called session call result self.old self.new front before s store) self.old }
         ensures keeps { Keeps self.old self.new }
         ensures any_moment { MayLeave self.old self.new }
         ensures forced { NeedsForceIn self.old (forced_at call self.old self.new) result }

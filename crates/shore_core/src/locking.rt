@@ -1,5 +1,5 @@
 //! Calls of a transaction under way: their locks, and what is done behind them.
-ghost use Rattle.std.specs.Prelude.{◌≡◌, IfOk, IsSome, Ok, Some, false};
+ghost use Rattle.std.specs.Prelude.{◌≡◌, IfOk, IsSome, None, Ok, Some, false};
 ghost use Rattle.shore_disk.specs.Cause.{HasCause};
 ghost use Rattle.shore_locks.specs.Tables.{is_waiting};
 ghost use Rattle.shore_path.specs.Acquires.{IsReached};
@@ -21,7 +21,7 @@ use std::alloc::Global;
 
 impl<T: Tail, V: Disk> Core<T, V> {
     ghost use Rattle.shore_core.specs.Cores.{control_of, faults_of, geometry_of, has_failed, locks_of, txns_of};
-    ghost use Rattle.shore_core.specs.Replies.{AskedFor, Earns, ForTxn, InEach, Keeps, MayLeave, NeedsForce, Reads, Replied, Served, fault_at};
+    ghost use Rattle.shore_core.specs.Replies.{AskedFor, Called, Earns, ForTxn, InEach, Keeps, MayLeave, NeedsForce, Reads, Served, fault_at};
 
     pub(crate) fn serve(
         &mut self,
@@ -30,7 +30,7 @@ impl<T: Tail, V: Disk> Core<T, V> {
         call: Call,
     ) -> Result<Step, Fault>
         requires free { IsFree session (control_of self.old) }
-        ensures replied { IsSome (held.asked_by call) → has_failed self.old ≡ false → InEach (λ front disk before s store. DoesNotWait s session → Replied session call result self.old self.new front before s store) self.old }
+        ensures replied { IsSome (held.asked_by call) → has_failed self.old ≡ false → InEach (λ front disk before s store. DoesNotWait s session → Called session call result self.old self.new front before s store) self.old }
         ensures keeps { Keeps self.old self.new }
         ensures any_moment { MayLeave self.old self.new }
         ensures forced { NeedsForce self.old result }
@@ -59,7 +59,7 @@ impl<T: Tail, V: Disk> Core<T, V> {
         requires free { IsFree session (control_of self.old) }
         requires quiet { is_waiting txn (locks_of self.old).requests ≡ false }
         ensures asked { IsSome (held.asked_by call) → has_failed self.old ≡ false → InEach (λ front disk before s store.
-            ForTxn session txn s (λ a. AskedFor a call result self.old self.new front before s store)) self.old }
+            ForTxn session txn s (λ a. a.undo.rolling ≡ None → AskedFor a call result self.old self.new front before s store)) self.old }
         ensures keeps { Keeps self.old self.new }
         ensures any_moment { MayLeave self.old self.new }
         ensures forced { NeedsForce self.old result }
@@ -73,9 +73,14 @@ impl<T: Tail, V: Disk> Core<T, V> {
         };
         self.control.reserve_wait()?;
         let on_conflict = on_conflict(&call);
-        let acquired = self
-            .control
-            .acquire(txn, asked.granule, asked.mode, on_conflict)?;
+        let acquired = self.control.lock(
+            alloc,
+            session,
+            txn,
+            asked.granule,
+            asked.mode,
+            on_conflict,
+        )?;
         match &acquired {
             Acquired::Done => self.serve_behind(alloc, session, txn, call),
             Acquired::Waiting(granule) => {

@@ -7,6 +7,7 @@ ghost use Rattle.shore_calls.specs.States.{Waiting};
 
 use crate::core_calls::Core;
 use shore_calls::{Step, Wait};
+use shore_control::WaitingCall;
 use shore_disk::Disk;
 use shore_log::Tail;
 use shore_model::Answer;
@@ -62,7 +63,8 @@ impl<T: Tail, V: Disk> Core<T, V> {
         Step::Done(Answer::Committed)
     }
 
-    // The table is asked first, so that a call that waits on costs one look. While a call waits its transaction is under way.
+    // The table is asked first, so that a call that waits on costs one look. While a call waits its transaction is under way. The session of a victim is told
+    // its cycle here.
     fn resume_call(
         &mut self,
         alloc: Global,
@@ -86,7 +88,11 @@ impl<T: Tail, V: Disk> Core<T, V> {
         let Some(waiting) = self.control.take_wait(session) else {
             return Step::Nothing;
         };
-        match self.ask(alloc, session, txn, waiting.call) {
+        let WaitingCall { call, cycle, .. } = waiting;
+        if let Some(cycle) = cycle {
+            return Step::Refused(Fault::Deadlock { cycle });
+        }
+        match self.ask(alloc, session, txn, call) {
             Ok(step) => step,
             Err(fault) => self.refuse(fault),
         }

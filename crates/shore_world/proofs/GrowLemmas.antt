@@ -1,6 +1,8 @@
 -- What no call and no resume takes away: the list grows, and what was durable stays so. Behind a failure log and durable number are as they were.
-use Rattle.std.proofs.Common.{◌≡◌, inl, inr, ⊎_elim, List, ◌++◌, ℕ, false, true, refl, sym, ap, subst, ◌∙◌}
+use Rattle.std.proofs.Common.{◌≡◌, ◌⊎◌, inl, inr, ⊎_elim, List, [], ◌∷◌, ◌++◌, ℕ, false, true, refl, sym, ap, subst, ◌∙◌}
 use Rattle.shore_types.specs.declared.layout.Geometry.{Geometry}
+use Rattle.shore_types.specs.declared.locking.Granule.{Granule}
+use Rattle.shore_model.specs.declared.calls.Answer.TheVariants.{Committed}
 use Rattle.shore_disk.specs.declared.device.Disk.{Ghosts}
 use Rattle.shore_model.specs.declared.calls.Answer.{Answer}
 use Rattle.shore_model.specs.declared.calls.Call.{Call}
@@ -12,12 +14,16 @@ use Rattle.shore_calls.specs.declared.step.Step.TheVariants.{Done, Waits, Refuse
 use Rattle.shore_calls.specs.declared.step.Wait.{Wait}
 use Rattle.shore_calls.specs.declared.step.Wait.TheVariants.{Durable, Lock}
 use Rattle.shore_calls.proofs.AfterRefusals.{goes_leaves}
-use Rattle.shore_calls.proofs.LongerLogs.{call_further, further_on, resume_further}
-use Rattle.shore_calls.proofs.SessionInversions.{answered_from}
+use Rattle.shore_calls.proofs.LongerLogs.{further_on, settled_call_further, settled_resume_further}
+use Rattle.shore_calls.proofs.LockRounds.{same_failed}
+use Rattle.shore_calls.proofs.SessionInversions.{answered_from, waits_in}
 use Rattle.shore_calls.specs.StateChanges.{wait_refused, with_failure}
 use Rattle.shore_calls.specs.CallSteps.{AnswersBehind, GoesOn, ResumesWait, CallStep, ResumeStep, behind_lock}
+use Rattle.shore_calls.specs.Settling.{SettledCall, SettledResume, Settles, WaitsOn}
 use Rattle.shore_calls.specs.Shapes.{with_locks_of}
 use Rattle.shore_calls.specs.States.{State, Waiting}
+use Rattle.shore_calls.specs.Victims.{TakesVictims, TellsVictim, Withdraws}
+use Rattle.shore_deadlock.specs.declared.victims.Victim.{Victim}
 use Rattle.shore_recovery.specs.Recovery.{RecoveryState}
 use Rattle.shore_core.specs.Cores.{IsKept}
 use Rattle.shore_core.specs.Flushing.{FlushMoves}
@@ -43,6 +49,31 @@ resume_runs : (g : Geometry) (s : State) (session : ℕ) (step : Step) (new : St
 resume_runs g s session step new (inl idle) runs = runs_before s new s idle.2 refl runs
 resume_runs g s session step new (inr resumed) runs =
     ⊎_elim (λ failed. runs_before s new (wait_refused s resumed.0.session) failed.2 refl runs) (λ goes. goes.0) resumed.3
+
+-- .. behind the rounds of its locks too
+ends_run : (broken : State) (session : ℕ) (a : SessionTxn) (vs : List Victim) (first step : Step) (new : State)
+    → WaitsOn broken a first step new ⊎ (TellsVictim broken session step new ⊎ ((vs ≡ []) × Withdraws broken a step new)) → new.failed ≡ false → broken.failed ≡ false
+ends_run broken session a vs first step new (inl waits) runs = runs_before broken new broken waits.3 refl runs
+ends_run broken session a vs first step new (inr (inl told)) runs = told.running
+ends_run broken session a vs first step new (inr (inr short)) runs = runs_before broken new _ short.1.1 refl runs
+
+settles_run : (g : Geometry) (s : State) (session : ℕ) (first : Step) (rounds : List (List Victim)) (step : Step) (new : State) → Settles g s session first rounds step new → new.failed ≡ false
+    → s.failed ≡ false
+settles_run g s session first [] step new h runs = runs_before s new s h.2 refl runs
+settles_run g s session first (vs ∷ rounds) step new h runs =
+    sym (same_failed vs s h.0.txn h.2 h.5)
+    ∙ ⊎_elim
+    (λ over. ends_run h.2 session h.0 vs first step new over.1 runs)
+    (λ on. resume_runs g h.2 session on.0 on.1 on.3 (settles_run g on.1 session on.0 rounds step new on.4 runs))
+    h.6
+
+settled_call_runs : (g : Geometry) (s : State) (session : ℕ) (c : Call) (step : Step) (new : State) → SettledCall g s session c step new → new.failed ≡ false → s.failed ≡ false
+settled_call_runs g s session c step new h runs = call_runs g s session c h.first h.mid h.calls (settles_run g h.mid session h.first h.rounds step new h.settles runs)
+
+settled_resume_runs : (g : Geometry) (s : State) (session : ℕ) (step : Step) (new : State) → SettledResume g s session step new → new.failed ≡ false → s.failed ≡ false
+settled_resume_runs g s session step new (inl told) runs = told.running
+settled_resume_runs g s session step new (inr (inl same)) runs = runs_before s new s same.1 refl runs
+settled_resume_runs g s session step new (inr (inr on)) runs = resume_runs g s session on.first on.mid on.resumes (settles_run g on.mid session on.first on.rounds step new on.settles runs)
 
 -- ---- what a failure leaves
 
@@ -82,13 +113,25 @@ goes_keeps g s new running failed a c (Refused f) moves = only_locks s new (goes
 goes_keeps g s new running failed a c Nothing moves = absurd moves
 
 -- after a failure no call changes anything; one that fails itself may have rolled back until then
-pub failed_call_stays : (g : Geometry) (s : State) (session : ℕ) (c : Call) (step : Step) (new : State) → CallStep g s session c step new → s.failed ≡ true → new ≡ s
-failed_call_stays g s session c step new (inl same) fails = same.1
-failed_call_stays g s session c step new (inr (inl before)) fails = before.2
-failed_call_stays g s session c step new (inr (inr (inl busy))) fails = never_both s.failed fails busy.0
-failed_call_stays g s session c step new (inr (inr (inr (inl begins)))) fails = never_both s.failed fails begins.0
-failed_call_stays g s session c step new (inr (inr (inr (inr (inl none))))) fails = never_both s.failed fails none.0
-failed_call_stays g s session c step new (inr (inr (inr (inr (inr inner))))) fails = never_both s.failed fails inner.0
+once_stays : (g : Geometry) (s : State) (session : ℕ) (c : Call) (step : Step) (new : State) → CallStep g s session c step new → s.failed ≡ true → new ≡ s
+once_stays g s session c step new (inl same) fails = same.1
+once_stays g s session c step new (inr (inl before)) fails = before.2
+once_stays g s session c step new (inr (inr (inl busy))) fails = never_both s.failed fails busy.0
+once_stays g s session c step new (inr (inr (inr (inl begins)))) fails = never_both s.failed fails begins.0
+once_stays g s session c step new (inr (inr (inr (inr (inl none))))) fails = never_both s.failed fails none.0
+once_stays g s session c step new (inr (inr (inr (inr (inr inner))))) fails = never_both s.failed fails inner.0
+
+-- a call that begins to wait for a lock runs
+once_runs : (g : Geometry) (s : State) (session : ℕ) (c : Call) (at : Granule) (new : State) → CallStep g s session c (Waits (Lock at)) new → s.failed ≡ false
+once_runs g s session c at new h = (waits_in g s new session c (Lock at) h).running
+
+pub failed_call_stays : (g : Geometry) (s : State) (session : ℕ) (c : Call) (step : Step) (new : State) → SettledCall g s session c step new → s.failed ≡ true → new ≡ s
+failed_call_stays g s session c step new h fails = by h.rounds h.settles
+  where
+    by : (rounds : List (List Victim)) → Settles g h.mid session h.first rounds step new → new ≡ s
+    by [] settled = settled.2 ∙ once_stays g s session c h.first h.mid h.calls fails
+    by (vs ∷ rounds) settled =
+        never_both s.failed fails (once_runs g s session c settled.1 h.mid (subst (λ (x : Step). CallStep g s session c x h.mid) settled.4 h.calls))
 
 wait_keeps : (g : Geometry) (s : State) (w : Waiting) (wait : Wait) (step : Step) (new : State) → s.failed ≡ false → ResumesWait g s w wait step new → new.failed ≡ true → HasSameLog s new
 wait_keeps g s w (Durable n) step new running (inl still) failed = same_log_of s new s still.2 (refl, refl)
@@ -96,13 +139,59 @@ wait_keeps g s w (Durable n) step new running (inr answered) failed = runs_on s 
 wait_keeps g s w (Lock at) step new running moves failed =
     ⊎_elim (λ still. same_log_of s new s still.2 (refl, refl)) (λ goes. goes_keeps g (wait_refused s w.session) new running failed moves.0 w.call step goes.1) moves.2
 
-pub failed_resume_keeps : (g : Geometry) (s : State) (session : ℕ) (step : Step) (new : State) → ResumeStep g s session step new → new.failed ≡ true → HasSameLog s new
-failed_resume_keeps g s session step new (inl idle) failed = same_log_of s new s idle.2 (refl, refl)
-failed_resume_keeps g s session step new (inr resumed) failed =
+once_keeps : (g : Geometry) (s : State) (session : ℕ) (step : Step) (new : State) → ResumeStep g s session step new → new.failed ≡ true → HasSameLog s new
+once_keeps g s session step new (inl idle) failed = same_log_of s new s idle.2 (refl, refl)
+once_keeps g s session step new (inr resumed) failed =
     ⊎_elim
     (λ before. same_log_of s new (wait_refused s resumed.0.session) before.2 (refl, refl))
     (λ goes. wait_keeps g s resumed.0 resumed.0.wait step new goes.0 goes.1 failed)
     resumed.3
+
+log_then : (s mid new : State) → HasSameLog s mid → HasSameLog mid new → HasSameLog s new
+log_then s mid new h k = (k.0 ∙ h.0, k.1 ∙ h.1)
+
+-- a call that waits for a lock has logged nothing
+wait_logs_nothing : (g : Geometry) (s : State) (session : ℕ) (at : Granule) (new : State) → ResumeStep g s session (Waits (Lock at)) new → HasSameLog s new
+wait_logs_nothing g s session at new (inl idle) = same_log_of s new s idle.2 (refl, refl)
+wait_logs_nothing g s session at new (inr resumed) =
+    ⊎_elim (λ before. same_log_of s new (wait_refused s resumed.0.session) before.2 (refl, refl)) (λ goes. waits_for resumed.0 resumed.0.wait goes.1) resumed.3
+  where
+    durable_or_lock : (n : ℕ) (at : Granule) → ◌≡◌ {A = Step} (Waits (Lock at)) (Done Committed) → ⊥
+    durable_or_lock n at e = cc
+
+    waits_for : (w : Waiting) (wait : Wait) → ResumesWait g s w wait (Waits (Lock at)) new → HasSameLog s new
+    waits_for w (Durable n) (inl still) = same_log_of s new s still.2 (refl, refl)
+    waits_for w (Durable n) (inr answered) = absurd (durable_or_lock n at answered.1)
+    waits_for w (Lock on) h = ⊎_elim (λ still. same_log_of s new s still.2 (refl, refl)) (λ goes. same_log_of s new _ goes.1.5 (refl, refl)) h.2
+
+victims_log_nothing : (vs : List Victim) (s : State) (t : ℕ) (new : State) → TakesVictims s t vs new → HasSameLog s new
+victims_log_nothing [] s t new h = same_log_of s new s h (refl, refl)
+victims_log_nothing (v ∷ vs) s t new h = log_then s h.0 new (same_log_of s h.0 _ h.1.is (refl, refl)) (victims_log_nothing vs h.0 t new h.2)
+
+ends_log_nothing : (broken : State) (session : ℕ) (a : SessionTxn) (vs : List Victim) (first step : Step) (new : State)
+    → WaitsOn broken a first step new ⊎ (TellsVictim broken session step new ⊎ ((vs ≡ []) × Withdraws broken a step new)) → HasSameLog broken new
+ends_log_nothing broken session a vs first step new (inl waits) = same_log_of broken new broken waits.3 (refl, refl)
+ends_log_nothing broken session a vs first step new (inr (inl told)) = same_log_of broken new _ told.is (refl, refl)
+ends_log_nothing broken session a vs first step new (inr (inr short)) = same_log_of broken new _ short.1.1 (refl, refl)
+
+-- a resume that fails, and what its call has come to before
+settles_keep : (g : Geometry) (s : State) (session : ℕ) (first : Step) (rounds : List (List Victim)) (step : Step) (mid new : State) → ResumeStep g s session first mid
+    → Settles g mid session first rounds step new → new.failed ≡ true → HasSameLog s new
+settles_keep g s session first [] step mid new once h failed =
+    same_log_of s new mid h.2 (once_keeps g s session first mid once (ap (λ (x : State). x.failed) (sym h.2) ∙ failed))
+settles_keep g s session first (vs ∷ rounds) step mid new once h failed =
+    let waits = wait_logs_nothing g s session h.1 mid (subst (λ (x : Step). ResumeStep g s session x mid) h.4 once) in
+    let broken = log_then s mid h.2 waits (victims_log_nothing vs mid h.0.txn h.2 h.5) in
+    log_then s h.2 new broken
+    (⊎_elim
+    (λ over. ends_log_nothing h.2 session h.0 vs first step new over.1)
+    (λ on. settles_keep g h.2 session on.0 rounds step on.1 new on.3 on.4 failed)
+    h.6)
+
+pub failed_resume_keeps : (g : Geometry) (s : State) (session : ℕ) (step : Step) (new : State) → SettledResume g s session step new → new.failed ≡ true → HasSameLog s new
+failed_resume_keeps g s session step new (inl told) failed = same_log_of s new _ told.is (refl, refl)
+failed_resume_keeps g s session step new (inr (inl same)) failed = same_log_of s new s same.1 (refl, refl)
+failed_resume_keeps g s session step new (inr (inr on)) failed = settles_keep g s session on.first on.rounds step on.mid new on.resumes on.settles failed
 
 pub flush_same : (s : State) (step : Step) (new : State) → FlushMoves s step new → HasSameLog s new
 flush_same s (Done answer) new moves = same_log_of s new s moves.2 (refl, refl)
@@ -135,12 +224,12 @@ module _ {L V : Type 0} {G : Ghosts L} {H : Ghosts V} where
 
   -- a call
   pub call_grows : (old new : World L V G H) (s later : State) (session : ℕ) (c : Call) (step : Step) → IsBesideOf old s → IsBesideOf new later
-      → CallStep (geometry_in old) s session c step later → durable_in new ≡ durable_in old → ListGrows old new
+      → SettledCall (geometry_in old) s session c step later → durable_in new ≡ durable_in old → ListGrows old new
   call_grows old new s later session c step is now moves durable =
-      state_grows old new s later is now durable (further_on s later (call_further (geometry_in old) s session c step later moves)) (call_runs (geometry_in old) s session c step later moves)
+      state_grows old new s later is now durable (further_on s later (settled_call_further (geometry_in old) s session c step later moves)) (settled_call_runs (geometry_in old) s session c step later moves)
 
   -- a resume
   pub resume_grows : (old new : World L V G H) (s later : State) (session : ℕ) (step : Step) → IsBesideOf old s → IsBesideOf new later
-      → ResumeStep (geometry_in old) s session step later → durable_in new ≡ durable_in old → ListGrows old new
+      → SettledResume (geometry_in old) s session step later → durable_in new ≡ durable_in old → ListGrows old new
   resume_grows old new s later session step is now moves durable =
-      state_grows old new s later is now durable (further_on s later (resume_further (geometry_in old) s session step later moves)) (resume_runs (geometry_in old) s session step later moves)
+      state_grows old new s later is now durable (further_on s later (settled_resume_further (geometry_in old) s session step later moves)) (settled_resume_runs (geometry_in old) s session step later moves)

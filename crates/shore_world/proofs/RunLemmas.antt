@@ -6,6 +6,7 @@ use Rattle.shore_types.specs.declared.layout.Geometry.{Geometry}
 use Rattle.shore_disk.specs.Device.{size}
 use Rattle.shore_disk.specs.Cause.{HasCause}
 use Rattle.shore_disk.specs.declared.device.Disk.{Ghosts}
+use Rattle.shore_calls.proofs.SettledAtOnce.{at_once}
 use Rattle.shore_calls.specs.declared.step.Step.{Step}
 use Rattle.shore_calls.specs.declared.step.Step.TheVariants.{Done, Waits, Refused, Nothing}
 use Rattle.shore_types.specs.declared.faults.Fault.{Fault}
@@ -155,7 +156,7 @@ no_force {G = G} old new e step other device report moves same flushed earned un
 
 -- an event that could not be copied is refused, and nothing has changed
 pub not_copied : (g : Geometry) (s : State) (e : Event) → IsCall e → EventStep g s e (Refused Memory) s
-not_copied g s (event.Call session call) is = inl (refl, refl)
+not_copied g s (event.Call session call) is = at_once g s session call (Refused Memory) s (inl (refl, refl)) tt
 not_copied g s (event.Resume session) is = absurd is
 not_copied g s event.ForceStage is = absurd is
 not_copied g s event.ForceOpen is = absurd is

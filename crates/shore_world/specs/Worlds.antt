@@ -13,7 +13,7 @@ use Rattle.shore_calls.specs.declared.step.Step.TheVariants.{Done, Refused, Noth
 use Rattle.shore_calls.specs.Events.{Called, HasFailed, ManagerEvent, Resumed}
 use Rattle.shore_calls.specs.StateChanges.{with_durable, with_failure}
 use Rattle.shore_calls.specs.Events as calls
-use Rattle.shore_calls.specs.CallSteps.{CallStep, ResumeStep}
+use Rattle.shore_calls.specs.Settling.{SettledCall, SettledResume}
 use Rattle.shore_calls.specs.States.{State, cost_of_log}
 use Rattle.shore_log.specs.Frames.{GivesBehind, IsLongest}
 use Rattle.shore_log.specs.Settled.{records_of_log, IsSettled, IsStaged}
@@ -98,8 +98,8 @@ OpenRefused s fault new =
 
 -- A force is made in two steps, and only the second makes records durable. A step of the flush leaves the state, but for a failure of the volume.
 abbrev pub EventStep : Geometry → State → Event → Step → State → Type 0
-EventStep g s (event.Call session call) step new = CallStep g s session call step new
-EventStep g s (event.Resume session) step new = ResumeStep g s session step new
+EventStep g s (event.Call session call) step new = SettledCall g s session call step new
+EventStep g s (event.Resume session) step new = SettledResume g s session step new
 EventStep g s event.ForceStage (Done (Staged n)) new = (s.failed ≡ false) × (s.durable < n) × (n ≤ length s.log) × (new ≡ s)
 EventStep g s event.ForceStage Nothing new = (s.failed ≡ false) × (new ≡ s)
 EventStep g s event.ForceStage (Refused fault) new = ForceRefused s fault new

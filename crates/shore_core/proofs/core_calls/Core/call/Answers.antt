@@ -1,6 +1,7 @@
 use Rattle.std.proofs.Common.{inl, inr, Err, refl, sym, ap, subst, ◌∙◌}
 use Rattle.shore_calls.specs.StateChanges.{after_refusal}
-use Rattle.shore_calls.specs.CallSteps.{CallStep}
+use Rattle.shore_calls.specs.Settling.{SettledCall}
+use Rattle.shore_core.proofs.Settling.{called_at_once}
 use Rattle.shore_calls.specs.declared.step.Step.{Step}
 use Rattle.shore_heap.specs.Heaps as heaps
 use Rattle.shore_core.specs.Cores.{geometry_of}
@@ -15,7 +16,7 @@ use Rattle.shore_core.proofs.core_calls.Core.call.Goals as goal
 pub returns-then-self-clause-step : goal.returns-then-self-clause-step
 returns-then-self-clause-step g c front disk before s store is safe over = record {
   later = s;
-  moves = inr (inl (is.beside.parts.failed_is ∙ c.if-self.true, refl, refl));
+  moves = called_at_once _ s s c.args.session c.args.call _ tt (inr (inl (is.beside.parts.failed_is ∙ c.if-self.true, refl, refl)));
   comes = comes_same c.args.self.now front disk before s store is over;
   fails = λ running failed. never_both c.args.self.now.failed c.if-self.true running;
 }
@@ -28,7 +29,8 @@ returns-then-is_some-clause-step g c front disk before s store is safe over =
     let its = some_told _ _ (sym c.if-is_some.ensures) (both_told _ _ c.waiting.result c.waiting.ensures.some c.waiting.ensures.waits) in
     record {
       later = s;
-      moves = inr (inr (inl (is.beside.parts.failed_is ∙ c.if-self.false, λ never. never _ (its.1.1 s is.beside.parts.stands) its.1.0.1, refl, refl)));
+      moves = called_at_once _ s s c.args.session c.args.call _ tt
+          (inr (inr (inl (is.beside.parts.failed_is ∙ c.if-self.false, λ never. never _ (its.1.1 s is.beside.parts.stands) its.1.0.1, refl, refl))));
       comes = comes_same c.args.self.now front disk before s store is over;
       fails = λ running failed. never_both s.failed failed (is.beside.parts.failed_is ∙ running);
     }
@@ -42,7 +44,7 @@ returns-in-Ok-clause-step g c front disk before s store is safe over =
     let r = c.in-Ok.ensures.replied c.if-self.false front disk before s store is safe over idle in
     record {
       later = r.later;
-      moves = r.replies;
+      moves = r.calls;
       comes = r.comes;
       fails = λ running failed. never_both r.later.failed failed (r.comes.is_in.beside.parts.failed_is ∙ c.answer.ensures.keeps.failed ∙ running);
     }
@@ -54,7 +56,7 @@ returns-in-Err-clause-step g c front disk before s store is safe over =
     let r = c.in-Err.ensures.replied c.if-self.false front disk before s store is safe over idle in
     record {
       later = after_refusal c.in-Err.fault r.later;
-      moves = subst (λ (x : Step). CallStep (geometry_of old) s c.args.session c.args.call x (after_refusal c.in-Err.fault r.later)) (sym c.refuse.ensures.refused) r.replies;
+      moves = subst (λ (x : Step). SettledCall (geometry_of old) s c.args.session c.args.call x (after_refusal c.in-Err.fault r.later)) (sym c.refuse.ensures.refused) r.calls;
       comes = c.refuse.ensures.left front before r.later store r.comes;
       fails = λ running failed.
           let beside = stays_beside c.answer.new.self front before r.later store c.in-Err.fault r.comes in

@@ -16,6 +16,7 @@ use Rattle.shore_core.proofs.Coming.{comes_same}
 use Rattle.shore_core.proofs.Going.{asks_lock}
 use Rattle.shore_core.proofs.Keeping.{leaves_nothing, nothing_leaves}
 use Rattle.shore_core.proofs.Moving.{comes_moved}
+use Rattle.shore_core.proofs.Settling.{resumed_at_once, resumed_to_nothing}
 use Rattle.shore_core.proofs.Tables.{some_or}
 use Rattle.shore_core.proofs.Taking.{true_false}
 use Rattle.shore_core.proofs.core_calls.Core.resume.Goals as goal
@@ -23,7 +24,7 @@ use Rattle.shore_core.proofs.core_calls.Core.resume.Goals as goal
 pub returns-in_default-clause-step : goal.returns-in_default-clause-step
 returns-in_default-clause-step g c front disk before s store is safe over = record {
   later = s;
-  moves = inl (c.in_default.ensures.does_not s is.beside.parts.stands, refl, refl);
+  moves = resumed_to_nothing _ s s c.args.session _ (inl (c.in_default.ensures.does_not s is.beside.parts.stands, refl, refl)) refl;
   comes = comes_same c.args.self.now front disk before s store is over;
 }
 
@@ -56,7 +57,7 @@ returns-then-self-clause-step g c front disk before s store is safe over =
     (λ v holds. holds s was (λ works. absurd (true_false (sym fails ∙ works)))) (λ holds. absurd ((holds s was).0 (as_waiting w) there same)) in
     record {
       later = later;
-      moves = inr (as_waiting w, there, same, inl (fails, refl, ap (wait_refused s) (sym same)));
+      moves = resumed_at_once _ s later c.args.session _ tt (inr (as_waiting w, there, same, inl (fails, refl, ap (wait_refused s) (sym same))));
       comes = comes_moved old _ front disk before s later store refl refl refl refl refl (λ p. ap (λ (t : Transactions). kept_in t p) c.take_wait.ensures.txns) stands refl refl refl (λ p. refl) is over;
     }
 

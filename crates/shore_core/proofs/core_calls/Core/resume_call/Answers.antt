@@ -1,4 +1,4 @@
-use Rattle.std.proofs.Common.{◌≡◌, ◌<◌, ◌≤◌, ◌+◌, inl, inr, Ok, Err, IfErr, true, false, length, refl, sym, ap, subst, ◌∙◌}
+use Rattle.std.proofs.Common.{◌≡◌, ◌<◌, ◌≤◌, ◌+◌, inl, inr, None, Ok, Err, IfErr, true, false, length, refl, sym, ap, subst, ◌∙◌}
 use Rattle.std.specs.Prelude.{IsSome}
 use Rattle.shore_types.specs.declared.layout.TheConstants.{LAST_OPENED}
 use Rattle.shore_sessions.specs.Views.{IsAmong}
@@ -6,7 +6,9 @@ use Rattle.shore_heap.specs.Heaps as heaps
 use Rattle.shore_locks.specs.Tables.{Table, is_waiting}
 use Rattle.shore_held.specs.CallLocks.{asked_by}
 use Rattle.shore_calls.specs.StateChanges.{after_refusal, wait_refused}
-use Rattle.shore_calls.specs.CallSteps.{ResumesWait, ResumeStep}
+use Rattle.shore_calls.specs.CallSteps.{ResumesWait}
+use Rattle.shore_calls.specs.Settling.{SettledResume}
+use Rattle.shore_calls.proofs.SessionStates.{waits_whole}
 use Rattle.shore_calls.specs.States.{State, Waiting}
 use Rattle.shore_calls.specs.declared.step.Step.{Step}
 use Rattle.shore_calls.specs.declared.step.Step.TheVariants.{Waits}
@@ -22,8 +24,9 @@ use Rattle.shore_txn.specs.declared.txn.Txn.{Txn}
 use Rattle.shore_core.specs.Cores.{first_of, geometry_of, last_of, locks_of, waiting_of, waits_of}
 use Rattle.shore_core.specs.Replies.{IsEarned, NeedsForce, ReadsWaiting, fault_at}
 use Rattle.shore_core.proofs.Coming.{comes_same, over_as}
-use Rattle.shore_core.proofs.Going.{asked_resumes, asks_lock, lock_waits, safe_woken}
-use Rattle.shore_core.proofs.Moving.{in_moved}
+use Rattle.shore_core.proofs.Going.{asked_resumes, asks_lock, blocked_spared, lock_waits, none_of, safe_woken}
+use Rattle.shore_core.proofs.Settling.{resumed_to_nothing}
+use Rattle.shore_core.proofs.Moving.{comes_moved, in_moved}
 use Rattle.shore_core.proofs.Keeping.{leaves_then, nothing_leaves}
 use Rattle.shore_core.proofs.core_calls.Core.resume_call.Goals as goal
 use Rattle.shore_core.proofs.core_calls.Core.resume_call.Goals.{then-is_waiting-via-then-is_waiting, then-is_waiting-via-else-is_waiting+then-not-has_txn}
@@ -42,7 +45,17 @@ returns-then-is_waiting-clause-step g c running front disk before s store is saf
     let at = c.args.granule in
     record {
       later = s;
-      moves = inr (w, m, same, inr (works, subst (λ (x : Wait). ResumesWait (geometry_of old) s w x (Waits (Lock at)) s) (sym waits) (a, (its.0, its.1 ∙ sym same), inl (blocked, refl, refl))));
+      moves = resumed_to_nothing (geometry_of old) s s c.args.session (Waits (Lock at))
+          (inr (
+            w,
+            m,
+            same,
+            inr (
+              works,
+              subst (λ (x : Wait). ResumesWait (geometry_of old) s w x (Waits (Lock at)) s) (sym waits) (a, (its.0, its.1 ∙ sym same), inl (blocked, refl, refl)),
+              blocked_spared (geometry_of old) s safe c.args.session a works its w m same blocked,
+            ),
+          )) refl;
       comes = comes_same old front disk before s store is over;
     }
 
@@ -68,6 +81,34 @@ returns-in_default-clause-step g c running front disk before s store is safe ove
 pub returns-in_default-clause-any_moment : goal.returns-in_default-clause-any_moment
 returns-in_default-clause-any_moment g c = nothing_leaves c.args.self.now
 
+pub returns-in-Some-cycle-clause-step : goal.returns-in-Some-cycle-clause-step
+returns-in-Some-cycle-clause-step g c running front disk before s store is safe over w m same waits a its number =
+    let old = c.args.self.now in
+    let was = is.beside.parts.stands in
+    let v = c.in-Some.waiting in
+    let there : IsAmong (as_waiting v) s.waiting = call_waits (waits_of old) s was.waits v c.in-Some.ensures.some.0 in
+    let one : w ≡ as_waiting v = safe.after.waits.once w (as_waiting v) m there (same ∙ sym c.in-Some.ensures.some.1) in
+    let waited : v.wait ≡ Lock c.args.granule = sym (ap (λ (x : Waiting). x.wait) one) ∙ waits in
+    let woken : State = wait_refused s c.args.session in
+    let stands = c.in-Some.ensures.stands s was (λ works. asks_lock v c.args.granule waited) in
+    record {
+      later = woken;
+      moves = inl (record {
+        running = is.beside.parts.failed_is ∙ running;
+        waited = as_waiting v;
+        there = there;
+        of = c.in-Some.ensures.some.1;
+        cycle = c.in-Some-cycle.cycle;
+        victim = c.in-Some-cycle.is;
+        told = refl;
+        is = refl;
+      });
+      comes = comes_moved old _ front disk before s woken store refl refl refl refl refl (λ p. ap (λ (t : Transactions). kept_in t p) c.in-Some.ensures.txns) stands refl refl refl (λ p. refl) is over;
+    }
+
+pub returns-in-Some-cycle-clause-any_moment : goal.returns-in-Some-cycle-clause-any_moment
+returns-in-Some-cycle-clause-any_moment g c = nothing_leaves c.args.self.now
+
 pub returns-in-Ok-clause-step : goal.returns-in-Ok-clause-step
 returns-in-Ok-clause-step g c running front disk before s store is safe over w m same waits a its number =
     let old = c.args.self.now in
@@ -76,19 +117,21 @@ returns-in-Ok-clause-step g c running front disk before s store is safe over w m
     let v = c.in-Some.waiting in
     let there : IsAmong (as_waiting v) s.waiting = call_waits (waits_of old) s was.waits v c.in-Some.ensures.some.0 in
     let one : w ≡ as_waiting v = safe.after.waits.once w (as_waiting v) m there (same ∙ sym c.in-Some.ensures.some.1) in
+    let spared : v.cycle ≡ None = none_of v.cycle c.in_default-cycle.not-Some in
     let waited : v.wait ≡ Lock c.args.granule = sym (ap (λ (x : Waiting). x.wait) one) ∙ waits in
     let lock = lock_waits _ s (as_waiting v) c.args.granule safe.after.waits there waited in
     let asks : IsSome (asked_by v.call) = subst IsSome (sym lock.asked) refl in
+    let whole = waits_whole safe.found safe.entries s safe.after (as_waiting v) there spared c.args.granule a waited (its.0, its.1 ∙ sym c.in-Some.ensures.some.1) in
     let quiet : is_waiting a.txn s.locks.requests ≡ false =
     ap (λ t. is_waiting t s.locks.requests) number ∙ ap (λ (t : Table). is_waiting c.args.txn t.requests) was.locks ∙ sym c.if-is_waiting.ensures in
     let woken : State = wait_refused s c.args.session in
     let stands = c.in-Some.ensures.stands s was (λ works. asks_lock v c.args.granule waited) in
     let r = c.in-Ok.ensures.asked asks running front disk before woken store
     (in_moved old _ front disk before s woken store refl refl refl refl refl (λ p. ap (λ (t : Transactions). kept_in t p) c.in-Some.ensures.txns) stands refl refl refl (λ p. refl) is)
-    (safe_woken (geometry_of old) s safe c.args.session a its quiet) (over_as old _ disk s woken store refl refl refl refl over) a its number in
+    (safe_woken (geometry_of old) s safe c.args.session a its quiet) (over_as old _ disk s woken store refl refl refl refl over) a its number whole in
     record {
       later = r.later;
-      moves = asked_resumes _ _ front before s store a (Ok c.in-Ok.step) c.args.session (as_waiting v) c.args.granule works there c.in-Some.ensures.some.1 waited
+      moves = asked_resumes _ _ front before s store a (Ok c.in-Ok.step) c.args.session (as_waiting v) c.args.granule works there c.in-Some.ensures.some.1 waited spared
           (safe.asks (as_waiting v) c.args.granule there waited) its quiet r;
       comes = r.comes;
     }
@@ -101,20 +144,22 @@ returns-in-Err-clause-step g c running front disk before s store is safe over w 
     let v = c.in-Some.waiting in
     let there : IsAmong (as_waiting v) s.waiting = call_waits (waits_of old) s was.waits v c.in-Some.ensures.some.0 in
     let one : w ≡ as_waiting v = safe.after.waits.once w (as_waiting v) m there (same ∙ sym c.in-Some.ensures.some.1) in
+    let spared : v.cycle ≡ None = none_of v.cycle c.in_default-cycle.not-Some in
     let waited : v.wait ≡ Lock c.args.granule = sym (ap (λ (x : Waiting). x.wait) one) ∙ waits in
     let lock = lock_waits _ s (as_waiting v) c.args.granule safe.after.waits there waited in
     let asks : IsSome (asked_by v.call) = subst IsSome (sym lock.asked) refl in
+    let whole = waits_whole safe.found safe.entries s safe.after (as_waiting v) there spared c.args.granule a waited (its.0, its.1 ∙ sym c.in-Some.ensures.some.1) in
     let quiet : is_waiting a.txn s.locks.requests ≡ false =
     ap (λ t. is_waiting t s.locks.requests) number ∙ ap (λ (t : Table). is_waiting c.args.txn t.requests) was.locks ∙ sym c.if-is_waiting.ensures in
     let woken : State = wait_refused s c.args.session in
     let stands = c.in-Some.ensures.stands s was (λ works. asks_lock v c.args.granule waited) in
     let r = c.in-Err.ensures.asked asks running front disk before woken store
     (in_moved old _ front disk before s woken store refl refl refl refl refl (λ p. ap (λ (t : Transactions). kept_in t p) c.in-Some.ensures.txns) stands refl refl refl (λ p. refl) is)
-    (safe_woken (geometry_of old) s safe c.args.session a its quiet) (over_as old _ disk s woken store refl refl refl refl over) a its number in
+    (safe_woken (geometry_of old) s safe c.args.session a its quiet) (over_as old _ disk s woken store refl refl refl refl over) a its number whole in
     record {
       later = after_refusal c.in-Err.fault r.later;
-      moves = subst (λ (x : Step). ResumeStep (geometry_of old) s c.args.session x (after_refusal c.in-Err.fault r.later)) (sym c.refuse.ensures.refused)
-          (asked_resumes _ _ front before s store a (Err c.in-Err.fault) c.args.session (as_waiting v) c.args.granule works there c.in-Some.ensures.some.1 waited
+      moves = subst (λ (x : Step). SettledResume (geometry_of old) s c.args.session x (after_refusal c.in-Err.fault r.later)) (sym c.refuse.ensures.refused)
+          (asked_resumes _ _ front before s store a (Err c.in-Err.fault) c.args.session (as_waiting v) c.args.granule works there c.in-Some.ensures.some.1 waited spared
           (safe.asks (as_waiting v) c.args.granule there waited) its quiet r);
       comes = c.refuse.ensures.left front before r.later store r.comes;
     }

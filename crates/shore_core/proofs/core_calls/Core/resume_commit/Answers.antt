@@ -15,7 +15,8 @@ use Rattle.shore_types.specs.declared.layout.TheConstants.{LAST_OPENED}
 use Rattle.shore_txn.specs.declared.transactions.Transactions.{Transactions}
 use Rattle.shore_core.specs.Cores.{first_of, geometry_of, waiting_of}
 use Rattle.shore_core.proofs.Coming.{comes_same}
-use Rattle.shore_core.proofs.Going.{commit_waits}
+use Rattle.shore_core.proofs.Going.{commit_waits, spared_commit}
+use Rattle.shore_core.proofs.Settling.{resumed_at_once, resumed_to_nothing}
 use Rattle.shore_core.proofs.Moving.{comes_moved}
 use Rattle.shore_core.proofs.core_calls.Core.resume_commit.Goals as goal
 
@@ -26,7 +27,18 @@ returns-then-awaits_force-clause-step g c running front disk before s store is s
     let n = c.args.number in
     record {
       later = s;
-      moves = inr (w, m, same, inr (works, subst (λ (x : Wait). ResumesWait (geometry_of old) s w x (Waits (Durable n)) s) (sym waits) (inl (omega (arith, c.if-awaits_force.ensures.awaits refl, is.beside.parts.durable_is), refl, refl))));
+      moves = resumed_to_nothing (geometry_of old) s s c.args.session (Waits (Durable n))
+          (inr (
+            w,
+            m,
+            same,
+            inr (
+              works,
+              subst (λ (x : Wait). ResumesWait (geometry_of old) s w x (Waits (Durable n)) s) (sym waits)
+                  (inl (omega (arith, c.if-awaits_force.ensures.awaits refl, is.beside.parts.durable_is), refl, refl)),
+              spared_commit _ s w n safe.after.waits m waits,
+            ),
+          )) refl;
       comes = comes_same old front disk before s store is over;
     }
 
@@ -55,6 +67,17 @@ returns-clause-step g c running front disk before s store is safe over w m same 
     let told : n ≤ s.durable = omega (arith, c.if-awaits_force.ensures.durable refl, is.beside.parts.durable_is) in
     record {
       later = later;
-      moves = inr (w, m, same, inr (works, subst (λ (x : Wait). ResumesWait (geometry_of old) s w x (Done Committed) later) (sym waits) (inr (told, refl, (a, own.committing, of ∙ sym same, refl)))));
+      moves = resumed_at_once (geometry_of old) s later c.args.session (Done Committed) tt
+          (inr (
+            w,
+            m,
+            same,
+            inr (
+              works,
+              subst (λ (x : Wait). ResumesWait (geometry_of old) s w x (Done Committed) later) (sym waits)
+                  (inr (told, refl, (a, own.committing, of ∙ sym same, refl))),
+              spared_commit _ s w n safe.after.waits m waits,
+            ),
+          ));
       comes = comes_moved old _ front disk before s later store refl refl refl refl refl (λ p. ap (λ (t : Transactions). kept_in t p) c.end_commit.ensures.txns) stands refl refl refl (λ p. refl) is over;
     }

@@ -2,7 +2,8 @@ use Rattle.std.proofs.Common.{◌≡◌, true, false, sym, ap, ◌∙◌}
 use Rattle.shore_locks.specs.Tables.{Table, is_waiting}
 use Rattle.shore_txn.specs.Txns.{as_session_txn}
 use Rattle.shore_core.specs.Cores.{locks_of}
-use Rattle.shore_core.proofs.Going.{asked_replies}
+use Rattle.shore_core.proofs.Going.{asked_calls}
+use Rattle.shore_core.proofs.Settling.{refused_calls}
 use Rattle.shore_core.proofs.Keeping.{nothing_leaves}
 use Rattle.shore_core.proofs.Opening.{inner_asks, replied_not_open}
 use Rattle.shore_core.proofs.Taking.{true_false}
@@ -10,8 +11,9 @@ use Rattle.shore_core.proofs.core_calls.Core.serve.Goals as goal
 
 pub returns-in_err-own-clause-replied : goal.returns-in_err-own-clause-replied
 returns-in_err-own-clause-replied g c asks running front disk before s store is safe over idle =
-    replied_not_open c.args.self.now front disk before s store c.args.session c.args.call c.from_residual.result c.in_err-own.field-0.0 is over (inner_asks c.args.call asks)
-    (is.beside.parts.failed_is ∙ running) idle c.from_residual.ensures.1 c.in_err-own.ensures.refused
+    refused_calls c.args.self.now _ front before s store c.args.session c.args.call c.from_residual.result c.in_err-own.field-0.0 c.from_residual.ensures.1
+    (replied_not_open c.args.self.now front disk before s store c.args.session c.args.call c.from_residual.result c.in_err-own.field-0.0 is over (inner_asks c.args.call asks)
+    (is.beside.parts.failed_is ∙ running) idle c.from_residual.ensures.1 c.in_err-own.ensures.refused)
 
 pub returns-in_err-own-clause-any_moment : goal.returns-in_err-own-clause-any_moment
 returns-in_err-own-clause-any_moment g c = nothing_leaves c.args.self.now
@@ -23,7 +25,7 @@ returns-then-is_waiting-clause-replied g c asks running front disk before s stor
     let stands = is.beside.parts.stands in
     let a = as_session_txn c.in_ok-own.own.now in
     let its = c.in_ok-own.ensures.of_session s stands in
-    let quiet : is_waiting a.txn s.locks.requests ≡ false = safe.after.sessions.locks.waits works a its.0 (λ w m same. idle w m (same ∙ its.1)) in
+    let quiet : is_waiting a.txn s.locks.requests ≡ false = safe.after.sessions.locks.waits works a its.0 (λ w m spared same. idle w m (same ∙ its.1)) in
     let asked : true ≡ is_waiting a.txn s.locks.requests =
     c.if-is_waiting.ensures ∙ ap (λ t. is_waiting t (locks_of old).requests) c.id-txn.ensures.number ∙ ap (λ (table : Table). is_waiting a.txn table.requests) (sym stands.locks) in
     absurd (true_false (asked ∙ quiet))
@@ -40,5 +42,5 @@ returns-clause-replied g c asks running front disk before s store is safe over i
     let works = is.beside.parts.failed_is ∙ running in
     let a = as_session_txn c.in_ok-own.own.now in
     let its = c.in_ok-own.ensures.of_session s is.beside.parts.stands in
-    asked_replies old _ front before s store a _ c.args.session c.args.call works idle its c.in_ok-own.ensures.whole
-    (c.ask.ensures.asked asks running front disk before s store is safe over a its (sym c.id-txn.ensures.number))
+    asked_calls old _ front before s store a _ c.args.session c.args.call works idle its c.in_ok-own.ensures.whole
+    (c.ask.ensures.asked asks running front disk before s store is safe over a its (sym c.id-txn.ensures.number) c.in_ok-own.ensures.whole)
