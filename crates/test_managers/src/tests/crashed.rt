@@ -1,30 +1,32 @@
 //! Every list of up to three events, with a fuse at each call of either device, and with each pick of a crash: of a manager of a formatted pair, of one
 //! that has begun on a committed record, of one with a commit of changes under way, of one that has written an undecided change back, and of one with
-//! undecided changes in all of its frames; and some lists of one whose abort has put a part back. A manager that is opened behind the crash then commits a record, and is crashed too. Behind the shorter lists
-//! the restart is also cut off at each call of a device, twice in a row, and then made whole; behind three starts it is cut off three times in a row, at
-//! each call of each restart. Then there are random runs. The counts are those of the first run: another one says that an event or a restart makes
-//! other calls than it did.
+//! undecided changes in all of its frames; and some lists of one whose abort has put a part back, and of one with a victim that is not told yet. A manager
+//! that is opened behind the crash then commits a record, and is crashed too. Behind the shorter lists the restart is also cut off at each call of a
+//! device, twice in a row, and then made whole; behind three starts it is cut off three times in a row, at each call of each restart. Then there are
+//! random runs. The counts are those of the first run: another one says that an event or a restart makes other calls than it did.
 mod chances;
 mod crashes;
 mod cuts;
+mod deadlocks;
 mod devices;
 mod doings;
 mod interleaved;
 mod judged_locks;
 mod lists;
 mod lives;
+mod lock_lists;
 mod log_copies;
 mod random_lives;
 mod rollbacks;
 mod short_histories;
+mod together;
 mod trouble;
 
 use chances::Chance;
 use crashes::{Restarted, check_crash};
 use cuts::{Rows, check_rows};
 use devices::{Devices, Images};
-use doings::{Doing, ONE_COMMIT};
-use interleaved::{Meetings, NO_MEETINGS, check_meetings};
+use doings::{Doing, ONE_COMMIT, Turn};
 use lists::{Counts, check_lists};
 use lives::{Ground, Start, formatted, live, no_ground};
 use random_lives::{NOTHING_YET, Tally, check_pair};
@@ -34,72 +36,94 @@ use std::alloc::Global;
 use std::test::Fail;
 use trouble::Trouble;
 
-/// Of each seed sessions make so many events.
-const EVENTS_TOGETHER: u64 = 18_000;
+const A_TRANSACTION: [Turn; 1] = [(1, Doing::Begin)];
+
+const A_COMMIT_UNDER_WAY: [Turn; 5] = [
+    (1, Doing::Begin),
+    (1, Doing::Update),
+    (1, Doing::Insert),
+    (1, Doing::Delete),
+    (1, Doing::Commit),
+];
 
 /// A change of the committed record is on the volume, and the next one in the log buffer.
-const A_CHANGE_WRITTEN_BACK: [Doing; 6] = [
-    Doing::Begin,
-    Doing::Update,
-    Doing::ForceStage,
-    Doing::ForceOpen,
-    Doing::FlushStep,
-    Doing::Insert,
+const A_CHANGE_WRITTEN_BACK: [Turn; 6] = [
+    (1, Doing::Begin),
+    (1, Doing::Update),
+    (1, Doing::ForceStage),
+    (1, Doing::ForceOpen),
+    (1, Doing::FlushStep),
+    (1, Doing::Insert),
 ];
 
 /// The first page of the first store is in no frame, and comes to one if a changed page is written back.
-const CHANGES_IN_ALL_FRAMES: [Doing; 11] = [
-    Doing::Begin,
-    Doing::InsertInto(1),
-    Doing::InsertInto(2),
-    Doing::InsertInto(3),
-    Doing::InsertInto(4),
-    Doing::InsertInto(5),
-    Doing::InsertInto(6),
-    Doing::InsertInto(7),
-    Doing::InsertInto(8),
-    Doing::ForceStage,
-    Doing::ForceOpen,
+const CHANGES_IN_ALL_FRAMES: [Turn; 11] = [
+    (1, Doing::Begin),
+    (1, Doing::InsertInto(1)),
+    (1, Doing::InsertInto(2)),
+    (1, Doing::InsertInto(3)),
+    (1, Doing::InsertInto(4)),
+    (1, Doing::InsertInto(5)),
+    (1, Doing::InsertInto(6)),
+    (1, Doing::InsertInto(7)),
+    (1, Doing::InsertInto(8)),
+    (1, Doing::ForceStage),
+    (1, Doing::ForceOpen),
 ];
 
 /// More pages have undecided changes than there are frames: one was written back, and a restart has to write pages back to make room.
-const CHANGES_IN_MORE_PAGES: [Doing; 14] = [
-    Doing::Begin,
-    Doing::InsertInto(1),
-    Doing::InsertInto(2),
-    Doing::InsertInto(3),
-    Doing::InsertInto(4),
-    Doing::InsertInto(5),
-    Doing::InsertInto(6),
-    Doing::InsertInto(7),
-    Doing::InsertInto(8),
-    Doing::ForceStage,
-    Doing::ForceOpen,
-    Doing::Insert,
-    Doing::ForceStage,
-    Doing::ForceOpen,
+const CHANGES_IN_MORE_PAGES: [Turn; 14] = [
+    (1, Doing::Begin),
+    (1, Doing::InsertInto(1)),
+    (1, Doing::InsertInto(2)),
+    (1, Doing::InsertInto(3)),
+    (1, Doing::InsertInto(4)),
+    (1, Doing::InsertInto(5)),
+    (1, Doing::InsertInto(6)),
+    (1, Doing::InsertInto(7)),
+    (1, Doing::InsertInto(8)),
+    (1, Doing::ForceStage),
+    (1, Doing::ForceOpen),
+    (1, Doing::Insert),
+    (1, Doing::ForceStage),
+    (1, Doing::ForceOpen),
 ];
 
 /// The same, and an abort that has put eight changes back in the frames, and needs a force before the page of the first one can come to a frame: the
 /// records of these eight are forced, and the rest is left to who goes on.
-const AN_ABORT_BEGUN: [Doing; 17] = [
-    Doing::Begin,
-    Doing::InsertInto(1),
-    Doing::InsertInto(2),
-    Doing::InsertInto(3),
-    Doing::InsertInto(4),
-    Doing::InsertInto(5),
-    Doing::InsertInto(6),
-    Doing::InsertInto(7),
-    Doing::InsertInto(8),
-    Doing::ForceStage,
-    Doing::ForceOpen,
-    Doing::Insert,
-    Doing::ForceStage,
-    Doing::ForceOpen,
-    Doing::Abort,
-    Doing::ForceStage,
-    Doing::ForceOpen,
+const AN_ABORT_BEGUN: [Turn; 17] = [
+    (1, Doing::Begin),
+    (1, Doing::InsertInto(1)),
+    (1, Doing::InsertInto(2)),
+    (1, Doing::InsertInto(3)),
+    (1, Doing::InsertInto(4)),
+    (1, Doing::InsertInto(5)),
+    (1, Doing::InsertInto(6)),
+    (1, Doing::InsertInto(7)),
+    (1, Doing::InsertInto(8)),
+    (1, Doing::ForceStage),
+    (1, Doing::ForceOpen),
+    (1, Doing::Insert),
+    (1, Doing::ForceStage),
+    (1, Doing::ForceOpen),
+    (1, Doing::Abort),
+    (1, Doing::ForceStage),
+    (1, Doing::ForceOpen),
+];
+
+/// The session of lists has a durable change, and waits for another session, which has closed a cycle with it: its transaction is the victim, and it is told as
+/// it goes on. The other one waits on until it aborts.
+const A_VICTIM_TO_TELL: [Turn; 10] = [
+    (2, Doing::Begin),
+    (2, Doing::GetOf((0, 0, 0))),
+    (1, Doing::Begin),
+    (1, Doing::InsertInto(1)),
+    (1, Doing::GetOf((0, 0, 0))),
+    (1, Doing::ForceStage),
+    (1, Doing::ForceOpen),
+    (1, Doing::Update),
+    (2, Doing::InsertInto(2)),
+    (2, Doing::Update),
 ];
 
 /// Lists of three events are the longest.
@@ -110,7 +134,7 @@ fn start_on(
     alloc: Global,
     devices: &Devices,
     ground: Ground,
-    before: &'static [Doing],
+    before: &'static [Turn],
     cut_behind: usize,
 ) -> Result<Start, Trouble> {
     Ok(Start {
@@ -123,7 +147,7 @@ fn start_on(
 }
 
 /// A formatted pair.
-fn on_none(alloc: Global, before: &'static [Doing], cut_behind: usize) -> Result<Start, Trouble> {
+fn on_none(alloc: Global, before: &'static [Turn], cut_behind: usize) -> Result<Start, Trouble> {
     let devices = formatted(alloc)?;
     start_on(alloc, &devices, no_ground(alloc), before, cut_behind)
 }
@@ -131,7 +155,7 @@ fn on_none(alloc: Global, before: &'static [Doing], cut_behind: usize) -> Result
 /// What a manager leaves that has committed a record and was crashed, and what is done on it first.
 fn on_a_record(
     alloc: Global,
-    before: &'static [Doing],
+    before: &'static [Turn],
     cut_behind: usize,
 ) -> Result<Start, Trouble> {
     let mut life = live(alloc, formatted(alloc)?, &[], &ONE_COMMIT, None)?;
@@ -166,20 +190,13 @@ fn on_an_empty_log(rt: HostRuntime) -> Result<(), Fail> {
 
 #[test]
 fn in_a_transaction(rt: HostRuntime) -> Result<(), Fail> {
-    let start = on_a_record(rt.alloc(), &[Doing::Begin], 2)?;
+    let start = on_a_record(rt.alloc(), &A_TRANSACTION, 2)?;
     check_start(&rt, start, "in a transaction", counts(1464, 13930, 5442))
 }
 
 #[test]
 fn with_a_commit_under_way(rt: HostRuntime) -> Result<(), Fail> {
-    let before = &[
-        Doing::Begin,
-        Doing::Update,
-        Doing::Insert,
-        Doing::Delete,
-        Doing::Commit,
-    ];
-    let start = on_a_record(rt.alloc(), before, 2)?;
+    let start = on_a_record(rt.alloc(), &A_COMMIT_UNDER_WAY, 2)?;
     check_start(
         &rt,
         start,
@@ -208,6 +225,13 @@ fn with_changes_in_all_frames(rt: HostRuntime) -> Result<(), Fail> {
         "with changes in all frames",
         counts(1464, 57722, 6125),
     )
+}
+
+#[test]
+fn with_a_victim_to_tell(rt: HostRuntime) -> Result<(), Fail> {
+    let mut start = on_a_record(rt.alloc(), &A_VICTIM_TO_TELL, 1)?;
+    start.longest = 1;
+    check_start(&rt, start, "with a victim to tell", counts(12, 80, 901))
 }
 
 #[test]
@@ -344,53 +368,4 @@ fn by_another_chance(rt: HostRuntime) -> Result<(), Fail> {
             },
         },
     )
-}
-
-/// Pairs that sessions work on together, from a seed, until there were so many events. Each kind of what is counted has come up.
-fn check_together(rt: &HostRuntime, seed: u64) -> Result<(), Fail> {
-    let mut chance = Chance::new(seed);
-    let mut tally: Meetings = NO_MEETINGS;
-    for _ in 0..EVENTS_TOGETHER {
-        if tally.all.events >= EVENTS_TOGETHER {
-            break;
-        }
-        if let Err(trouble) = check_meetings(rt.alloc(), &mut chance, &mut tally) {
-            return Err(Fail::new(format_args!("{trouble:?}: seed {seed}, {tally:?}")));
-        }
-    }
-    println!(rt; "sessions from seed {seed}: {tally:?}")?;
-    if !tally.has_each(EVENTS_TOGETHER) {
-        return Err(Fail::new(format_args!("seed {seed}: too little has come up")));
-    }
-    Ok(())
-}
-
-#[test]
-fn together_from_seed_3(rt: HostRuntime) -> Result<(), Fail> {
-    check_together(&rt, 3)
-}
-
-#[test]
-fn together_from_seed_4(rt: HostRuntime) -> Result<(), Fail> {
-    check_together(&rt, 4)
-}
-
-#[test]
-fn together_from_seed_5(rt: HostRuntime) -> Result<(), Fail> {
-    check_together(&rt, 5)
-}
-
-#[test]
-fn together_from_seed_6(rt: HostRuntime) -> Result<(), Fail> {
-    check_together(&rt, 6)
-}
-
-#[test]
-fn together_from_seed_7(rt: HostRuntime) -> Result<(), Fail> {
-    check_together(&rt, 7)
-}
-
-#[test]
-fn together_from_seed_8(rt: HostRuntime) -> Result<(), Fail> {
-    check_together(&rt, 8)
 }

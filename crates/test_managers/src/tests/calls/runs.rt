@@ -1,6 +1,6 @@
 //! The runs, and what plays them.
 use super::events::{Words, end, event, number, word};
-use super::shown::{Manager, write_log, write_records, write_report, write_step};
+use super::shown::{Manager, write_locks, write_log, write_records, write_report, write_step};
 use super::trouble::{Trouble, require};
 use shore_disk::{FuseDisk, MemDisk, Pick};
 use shore_types::layout::MIN_POOL_FRAMES;
@@ -12,7 +12,7 @@ use std::test::Fail;
 // Each line is an event with what it comes to. `run:` opens a new manager on a formatted log device of the least length, with a
 // store of one page and a store of eight, `run over nine stores:` with nine stores of a page; `fuse:` lets so many more writes and syncs of a device pass;
 // `crash:` loses the power, with what it makes of writes that were not synced, and opens again; `saves:` sets so many savepoints, from the first one on;
-// `records:`, `log:` and `report:` say what is shown. A page has room for 8,168 bytes: records, and 4 for each slot. The log has room for 38,505 bytes: a Change
+// `records:`, `locks:`, `log:` and `report:` say what is shown. A page has room for 8,168 bytes: records, and 4 for each slot. The log has room for 38,505 bytes: a Change
 // costs 48 and its record's bytes, its undo, which is reserved, 53; a Commit costs 34, which a begin reserves.
 const RUNS: &str = "
 run: each call outside of a transaction
@@ -247,6 +247,7 @@ pub(super) fn play_on(alloc: Global, world: &mut Manager, line: &str) -> Result<
         Some(("fuse", rest)) => set_fuse(world, &mut rest.split_whitespace()),
         Some(("saves", count)) => require_saves(alloc, world, &mut count.split_whitespace()),
         Some(("records", wanted)) => require_records(alloc, world, wanted),
+        Some(("locks", wanted)) => require_locks(alloc, world, wanted),
         Some(("log", wanted)) => require_log(alloc, world, wanted),
         Some(("report", wanted)) => require_report(alloc, world, wanted),
         _ => Err(Trouble::NoLine),
@@ -297,6 +298,12 @@ fn set_fuse(world: &mut Manager, words: &mut Words) -> Result<(), Trouble> {
 fn require_records(alloc: Global, world: &mut Manager, wanted: &str) -> Result<(), Trouble> {
     let mut shown = String::new(alloc);
     write_records(alloc, &mut shown, world)?;
+    require(shown.as_str() == wanted)
+}
+
+fn require_locks(alloc: Global, world: &Manager, wanted: &str) -> Result<(), Trouble> {
+    let mut shown = String::new(alloc);
+    write_locks(alloc, &mut shown, world)?;
     require(shown.as_str() == wanted)
 }
 

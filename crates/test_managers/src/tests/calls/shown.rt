@@ -88,6 +88,26 @@ pub(super) fn write_records(
     Ok(())
 }
 
+/// Each request of the lock table: its granule, its transaction, the mode that is held, `-` for none, and the one that is waited for.
+pub(super) fn write_locks(
+    alloc: Global,
+    out: &mut String,
+    world: &Manager,
+) -> Result<(), AllocError> {
+    for request in world.nodes(alloc)? {
+        write!(out, " {} {} ", request.granule, request.txn)?;
+        match request.held {
+            Some(mode) => write!(out, "{mode}")?,
+            None => write!(out, "-")?,
+        }
+        if let Some(mode) = request.wanted {
+            write!(out, " wants {mode}")?;
+        }
+        write!(out, ";")?;
+    }
+    Ok(())
+}
+
 /// What the restart of an open did, as `read 3, redone 2, undone 1`.
 pub(super) fn write_report(out: &mut String, world: &Manager) -> Result<(), AllocError> {
     let Report {

@@ -1,7 +1,12 @@
 //! Choices that look like chance, from a seed.
 use super::devices::Fuse;
-use super::doings::{Depth, Doing, Place, STORES};
+use super::doings::{Depth, Doing, ModeIndex, Place, STORES};
 use shore_disk::Pick;
+
+// Modes that are often asked for.
+const SH: ModeIndex = 2;
+
+const EX: ModeIndex = 5;
 
 /// Where the choices come from. Each seed has its own.
 #[derive(Drop)]
@@ -87,6 +92,9 @@ impl Chance {
         if !is_in_transaction && self.below(8) > 0 {
             return Doing::Begin;
         }
+        if self.below(3) == 0 {
+            return self.contending();
+        }
         if savepoints > 0 && self.below(2) == 0 {
             return self.doing_behind(savepoints);
         }
@@ -108,6 +116,18 @@ impl Chance {
         }
     }
 
+    // A lock on one of a few records of a page, or on a page, so that sessions come to wait for each other.
+    fn contending(&mut self) -> Doing {
+        let place = (0, 0, u16::try_from(self.below(3)).unwrap_or(0));
+        match self.below(8) {
+            0 | 1 | 2 => Doing::LockOf(place, 3, SH),
+            3 | 4 => Doing::LockOf(place, 3, EX),
+            5 => Doing::UpdateOf(place, self.byte(), self.length()),
+            6 => Doing::LockOf(place, 2, SH),
+            _ => Doing::LockOf((0, 1, 0), 2, SH),
+        }
+    }
+
     // A change behind so many savepoints, or a way back to one of them, or to the next one, which is not there.
     fn doing_behind(&mut self, savepoints: u32) -> Doing {
         match self.below(6) {
@@ -115,6 +135,14 @@ impl Chance {
             2 | 3 => Doing::InsertOf(self.below(2), self.byte(), self.length()),
             4 => Doing::UpdateOf(self.near_place(), self.byte(), self.length()),
             _ => Doing::DeleteOf(self.near_place()),
+        }
+    }
+
+    /// What a session does whose transaction can only abort: most do that, and some try another call first.
+    pub(super) fn doing_of_victim(&mut self, savepoints: u32) -> Doing {
+        match self.below(3) {
+            0 => self.doing_of_session(true, savepoints),
+            _ => Doing::Abort,
         }
     }
 

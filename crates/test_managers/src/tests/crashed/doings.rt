@@ -3,6 +3,7 @@ ghost use Rattle.std.specs.Prelude.{IfOk, IfSome};
 ghost use Rattle.shore_calls.specs.Events.{IsServed};
 ghost use Rattle.shore_world.specs.Events.{IsServedEvent};
 
+use super::lock_lists::Lock;
 use shore_model::Call;
 use shore_types::{Bytes, Granule, Mode, PageId, Rid, Sequence, SessionId, StoreId};
 use shore_world::Event;
@@ -18,6 +19,8 @@ pub(super) const STORES: u32 = 9;
 const STORE: StoreId = StoreId(0);
 
 // The place of the first record.
+const FIRST_PLACE: Place = (0, 0, 0);
+
 const FIRST: Rid = Rid {
     page: PageId {
         store: STORE,
@@ -67,6 +70,9 @@ pub(super) enum Doing {
     LockOf(Place, Depth, ModeIndex),
     TryOf(Place, Depth, ModeIndex),
 }
+
+/// What the session of a number does.
+pub(super) type Turn = (u32, Doing);
 
 /// One of each that lists are made of.
 pub(super) const EACH: [Doing; 11] = [
@@ -128,6 +134,30 @@ impl Doing {
                 Some(Call::TryLock(granule_at(place, depth), mode_at(mode)))
             }
             Doing::ForceStage | Doing::ForceOpen | Doing::Resume | Doing::FlushStep => None,
+        })
+    }
+
+    /// The lock that a call of a session waits for, if it does.
+    pub(super) fn lock(self) -> Option<Lock> {
+        let (place, depth, mode) = match self {
+            Doing::Insert => (FIRST_PLACE, 1, Mode::IX),
+            Doing::InsertInto(store) | Doing::InsertOf(store, _, _) => {
+                ((store, 0, 0), 1, Mode::IX)
+            }
+            Doing::Update | Doing::Delete => (FIRST_PLACE, 3, Mode::EX),
+            Doing::UpdateOf(place, _, _) | Doing::DeleteOf(place) => (place, 3, Mode::EX),
+            Doing::Scan => (FIRST_PLACE, 1, Mode::SH),
+            Doing::ScanOf(store) => ((store, 0, 0), 1, Mode::SH),
+            Doing::GetOf(place) => (place, 3, Mode::SH),
+            Doing::GetForUpdateOf(place) => (place, 3, Mode::UD),
+            Doing::LockOf(place, depth, mode) => (place, depth, mode_at(mode)),
+            _ => return None,
+        };
+        Some(Lock {
+            place,
+            depth,
+            mode,
+            goes_on: matches!(mode, Mode::IX) && !matches!(self, Doing::LockOf(_, _, _)),
         })
     }
 

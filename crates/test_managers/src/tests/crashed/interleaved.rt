@@ -1,10 +1,12 @@
 //! Managers with a few sessions side by side, by chance: behind each event the history and the locks are judged, and each crash as with one session.
 use super::chances::Chance;
 use super::crashes::check_entries;
+use super::deadlocks::{Asking, Deadlocks, NO_DEADLOCKS, Victims};
 use super::devices::{Devices, Manager};
 use super::doings::Doing;
 use super::judged_locks::{check_asked, check_locks, waits_at, would_wait};
 use super::lives::{Ground, Life, ended, formatted, no_ground};
+use super::lock_lists::{has_cycle, in_order, waiting_request};
 use super::random_lives::{NOTHING_YET, Tally, check_dump, check_loss};
 use super::rollbacks::{check_appended, check_put_back, ends_rollback, waiting_records};
 use super::short_histories::ShortHistory;
@@ -29,6 +31,7 @@ pub(super) struct Meetings {
     pub(super) blocked: u64,
     /// The most requests that there were at once.
     pub(super) most_requests: usize,
+    pub(super) deadlocks: Deadlocks,
 }
 
 impl Meetings {
@@ -46,6 +49,7 @@ pub(super) const NO_MEETINGS: Meetings = Meetings {
     answered_behind: 0,
     blocked: 0,
     most_requests: 0,
+    deadlocks: NO_DEADLOCKS,
 };
 
 // A manager with its sessions, as it is seen from outside.
@@ -53,7 +57,9 @@ pub(super) const NO_MEETINGS: Meetings = Meetings {
 struct Meeting {
     world: Manager,
     history: ShortHistory,
+    // In the order in which they came.
     requests: Vec<Request>,
+    victims: Victims,
 }
 
 // A session, the transaction that it stands in, and what it does.
@@ -94,8 +100,10 @@ fn live_together(
         world: devices.open(alloc)?,
         history: ShortHistory::new(alloc),
         requests: Vec::new(alloc),
+        victims: Victims::new(alloc),
     };
     meeting.go_on_by_chance(alloc, ground, sessions, chance, tally)?;
+    meeting.count_lost(alloc, tally)?;
     let Meeting { world, history, .. } = meeting;
     ended(alloc, world, history)
 }
@@ -115,7 +123,7 @@ impl Meeting {
                 1 => self.world.set_volume_fuse(u64::from(chance.below(40))),
                 2 | 3 | 4 => check_dump(alloc, &mut self.world, &mut tally.all)?,
                 _ => {
-                    let session = SessionId(chance.below(sessions).saturating_add(1));
+                    let session = self.session_by_chance(sessions, chance);
                     let savepoints = self.savepoints(alloc, session)?;
                     let turn = self.turn(session, savepoints, chance);
                     if self.go_on(alloc, ground, turn, tally)? {
@@ -133,6 +141,28 @@ impl Meeting {
         Ok(())
     }
 
+    // One of the sessions; seldom one whose call would only wait on.
+    fn session_by_chance(&self, sessions: u32, chance: &mut Chance) -> SessionId {
+        let session = SessionId(chance.below(sessions).saturating_add(1));
+        let waits = waiting_request(&self.requests, self.history.txn(session)).is_some();
+        if waits && chance.below(6) > 0 {
+            return SessionId(chance.below(sessions).saturating_add(1));
+        }
+        session
+    }
+
+    // Victims of which the log device has a record.
+    fn count_lost(&self, alloc: Global, tally: &mut Meetings) -> Result<(), Trouble> {
+        let (handed_over, _) = self.world.records();
+        for txn in self.victims.txns(alloc)? {
+            if handed_over.iter().any(|logged| logged.txn == txn) {
+                let lost = &mut tally.deadlocks.lost;
+                *lost = lost.saturating_add(1);
+            }
+        }
+        Ok(())
+    }
+
     // How many savepoints a session may go back to.
     fn savepoints(&self, alloc: Global, session: SessionId) -> Result<u32, Trouble> {
         match self.history.waiting(session) {
@@ -146,6 +176,7 @@ impl Meeting {
         let txn = self.history.txn(session);
         let doing = match self.history.waiting(session) {
             Some(_) => chance.doing_of_waiter(),
+            None if self.victims.is_told(txn) => chance.doing_of_victim(savepoints),
             None => chance.doing_of_session(txn.0 > 0, savepoints),
         };
         Turn {
@@ -169,10 +200,21 @@ impl Meeting {
             .world
             .step(alloc, turn.doing.event(alloc, turn.session)?);
         tally.all.events = tally.all.events.saturating_add(1);
-        let requests = self.world.nodes(alloc)?;
+        let requests = in_order(alloc, &self.requests, &self.world.nodes(alloc)?)?;
         check_locks(alloc, &requests)?;
+        require(!has_cycle(alloc, &requests)?, "a cycle of waits stands")?;
+        let asking = Asking {
+            txn: turn.txn,
+            doing: turn.doing,
+            waited: was_waiting,
+            old: &self.requests,
+            new: &requests,
+            step: &step,
+            has_failed: self.world.has_failed(),
+        };
+        let victims = self.victims.judge(alloc, asking, &mut tally.deadlocks)?;
         let is_over = matches!(step, Step::Done(Answer::Committed | Answer::Aborted));
-        check_asked(&self.requests, &requests, turn.txn, is_over)?;
+        check_asked(&self.requests, &requests, turn.txn, is_over, &victims)?;
         let appended = check_appended(&self.world, turn.txn, waited, &step)?;
         tally.all.rollbacks.count(turn.doing, &step, appended);
         self.check_step(alloc, turn, was_waiting, &requests, &step)?;

@@ -1,5 +1,6 @@
 //! The locks of a manager, judged by the slow functions.
 use super::doings::{Doing, granule_at, mode_at};
+use super::lock_lists::asked;
 use super::trouble::{Trouble, require};
 use shore_model::Request;
 use shore_modes::{parent_mode, sup};
@@ -16,16 +17,19 @@ pub(super) fn check_locks(alloc: Global, requests: &[Request]) -> Result<(), Tro
     require(well_rooted(held.as_slice()), "a lock lacks its intention")
 }
 
-/// Only this transaction may have asked: of others each request is as it was, or was granted. Its own locks stay, and are not weaker, unless it is over:
-/// then they all go.
+/// Only this transaction may have asked: of others each request is as it was, or was granted, or was taken back if it is a victim's. Its own locks stay, and
+/// are not weaker, unless it is over: then they all go.
 pub(super) fn check_asked(
     old: &[Request],
     new: &[Request],
     txn: TxnId,
     is_over: bool,
+    victims: &[TxnId],
 ) -> Result<(), Trouble> {
     for request in new {
-        let is_explained = request.txn == txn || old.iter().any(|was| is_granted(was, request));
+        let is_explained = request.txn == txn
+            || old.iter().any(|was| is_granted(was, request))
+            || (victims.contains(&request.txn) && old.iter().any(|was| is_withdrawn(was, request)));
         require(is_explained, "a lock that nobody asked for")?;
     }
     let is_gone = new.iter().all(|request| request.txn != txn);
@@ -33,7 +37,11 @@ pub(super) fn check_asked(
     for request in old {
         let is_kept = new.iter().any(|now| is_kept(request, now));
         let goes = request.txn == txn && is_over;
-        require(is_kept || goes, "a lock went before its turn")?;
+        let is_taken_back = request.held.is_none() && victims.contains(&request.txn);
+        require(
+            is_kept || goes || is_taken_back,
+            "a lock went before its turn",
+        )?;
     }
     Ok(())
 }
@@ -42,7 +50,12 @@ pub(super) fn check_asked(
 fn is_granted(was: &Request, now: &Request) -> bool {
     was.txn == now.txn
         && was.granule == now.granule
-        && (*was == *now || (was.wanted.is_some() && now.wanted.is_none()))
+        && (*was == *now || (was.wanted == now.held && now.wanted.is_none()))
+}
+
+// The request waited, and what it held is left of it.
+fn is_withdrawn(was: &Request, now: &Request) -> bool {
+    was.txn == now.txn && was.granule == now.granule && was.held == now.held && now.wanted.is_none()
 }
 
 // The request is still there, and holds what it held.
@@ -82,26 +95,6 @@ pub(super) fn would_wait(
     }
     let wanted = asked(requests, txn, granule_at(place, depth), mode);
     waits_behind(alloc, requests, wanted, holder)
-}
-
-// The request that the transaction makes if it asks for the granule in this mode.
-fn asked(requests: &[Request], txn: TxnId, granule: Granule, mode: Mode) -> Request {
-    let mut held = None;
-    for request in requests {
-        if request.txn == txn && request.granule == granule {
-            held = request.held;
-        }
-    }
-    let wanted = match held {
-        Some(held) => sup(held, mode),
-        None => mode,
-    };
-    Request {
-        txn,
-        granule,
-        held,
-        wanted: Some(wanted),
-    }
 }
 
 // Whether a request that is made last waits for the other transaction.

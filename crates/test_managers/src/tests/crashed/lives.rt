@@ -1,12 +1,12 @@
 //! A manager from its open to the loss of power.
 use super::devices::{Devices, Fuse, Images, Manager, calls_of, cut_off};
-use super::doings::{Doing, SESSION};
+use super::doings::{Doing, SESSION, Turn};
 use super::log_copies::copy_of_log;
 use super::short_histories::ShortHistory;
 use super::trouble::Trouble;
 use shore_disk::MemDisk;
 use shore_model::{Entry, LogRecord, Opening, RidMap};
-use shore_types::{Geometry, Sequence};
+use shore_types::{Geometry, Sequence, SessionId};
 use shore_world::format;
 use std::alloc::Global;
 
@@ -22,7 +22,7 @@ pub(super) struct Ground {
 pub(super) struct Start {
     pub(super) images: Images,
     pub(super) ground: Ground,
-    pub(super) before: &'static [Doing],
+    pub(super) before: &'static [Turn],
     /// Lists have up to so many events.
     pub(super) longest: u32,
     /// Restarts are cut off behind lists of up to so many events.
@@ -72,7 +72,7 @@ pub(super) struct Life {
 pub(super) fn live(
     alloc: Global,
     devices: Devices,
-    before: &[Doing],
+    before: &[Turn],
     doings: &[Doing],
     fuse: Option<Fuse>,
 ) -> Result<Life, Trouble> {
@@ -88,13 +88,19 @@ fn make_behind(
     alloc: Global,
     world: &mut Manager,
     history: &mut ShortHistory,
-    events: (&[Doing], &[Doing]),
+    events: (&[Turn], &[Doing]),
     calls: (u64, u64),
 ) -> Result<(), Trouble> {
-    make(alloc, world, history, events.0)?;
+    for turn in events.0 {
+        let (session, doing) = *turn;
+        make(alloc, world, history, SessionId(session), doing)?;
+    }
     world.set_log_fuse(calls.0);
     world.set_volume_fuse(calls.1);
-    make(alloc, world, history, events.1)
+    for doing in events.1 {
+        make(alloc, world, history, SESSION, *doing)?;
+    }
+    Ok(())
 }
 
 /// What a manager leaves that no fuse is counted for.
@@ -122,16 +128,14 @@ fn cut_short(
     })
 }
 
-// Makes events and notes what each comes to.
+// Makes an event and notes what it comes to.
 fn make(
     alloc: Global,
     world: &mut Manager,
     history: &mut ShortHistory,
-    doings: &[Doing],
+    session: SessionId,
+    doing: Doing,
 ) -> Result<(), Trouble> {
-    for doing in doings {
-        let step = world.step(alloc, doing.event(alloc, SESSION)?);
-        history.note(alloc, SESSION, *doing, step)?;
-    }
-    Ok(())
+    let step = world.step(alloc, doing.event(alloc, session)?);
+    history.note(alloc, session, doing, step)
 }

@@ -76,7 +76,8 @@ pub(super) fn waiting_records(world: &Manager) -> usize {
     waiting.len()
 }
 
-/// A way back appends Compensations alone; an abort too, and an End behind them unless its transaction has logged nothing; a savepoint appends nothing.
+/// A way back appends Compensations alone; an abort too, and an End behind them unless its transaction has logged nothing; a savepoint appends nothing, nor what
+/// is refused to one that must abort.
 /// Answers how many records one of these has appended, before which so many waited.
 pub(super) fn check_appended(
     world: &Manager,
@@ -92,9 +93,10 @@ pub(super) fn check_appended(
         }
         Step::Done(Answer::WentBack) => are_compensations(txn, appended),
         Step::Done(Answer::Saved(_)) => appended.is_empty(),
+        Step::Refused(Fault::Deadlock { .. } | Fault::MustAbort) => appended.is_empty(),
         _ => return Ok(0),
     };
-    require(is_right, "a savepoint or a rollback appends other records")?;
+    require(is_right, "other records are appended")?;
     Ok(appended.len())
 }
 
