@@ -144,7 +144,7 @@ impl Victims {
     pub(super) fn judge(
         &mut self,
         alloc: Global,
-        asking: Asking<'_>,
+        asking: &Asking<'_>,
         tally: &mut Deadlocks,
     ) -> Result<Vec<TxnId>, Trouble> {
         let found = asking.taken_back(alloc)?;
@@ -171,7 +171,7 @@ impl Victims {
     fn check_told(
         &mut self,
         alloc: Global,
-        asking: Asking<'_>,
+        asking: &Asking<'_>,
         tally: &mut Deadlocks,
     ) -> Result<(), Trouble> {
         require(
@@ -197,7 +197,7 @@ impl Victims {
     fn judge_lock(
         &mut self,
         alloc: Global,
-        asking: Asking<'_>,
+        asking: &Asking<'_>,
         found: &[TxnId],
         tally: &mut Deadlocks,
     ) -> Result<(), Trouble> {
@@ -236,7 +236,7 @@ impl Victims {
     fn break_waits(
         &mut self,
         alloc: Global,
-        asking: Asking<'_>,
+        asking: &Asking<'_>,
         table: &mut Vec<Request>,
         found: &[TxnId],
         tally: &mut Deadlocks,
@@ -271,7 +271,7 @@ impl Victims {
 // The tables that one of the victims may have been chosen on, as others of them waited or waited no more: all of them, all but one, and none.
 fn tables_of(
     alloc: Global,
-    asking: Asking<'_>,
+    asking: &Asking<'_>,
     lock: Lock,
     found: &[TxnId],
     victim: TxnId,
@@ -292,7 +292,7 @@ fn tables_of(
 // The requests as the one that asks waits, behind others that wait no more.
 fn waits_without(
     alloc: Global,
-    asking: Asking<'_>,
+    asking: &Asking<'_>,
     lock: Lock,
     gone: &[TxnId],
 ) -> Result<Vec<Request>, AllocError> {
@@ -308,7 +308,7 @@ fn waits_without(
 }
 
 // The cycle that the transaction is told begins with it, its number is the greatest, and nobody is in it twice.
-fn check_cycle(asking: Asking<'_>, tally: &mut Deadlocks) -> Result<(), Trouble> {
+fn check_cycle(asking: &Asking<'_>, tally: &mut Deadlocks) -> Result<(), Trouble> {
     let Step::Refused(Fault::Deadlock { cycle }) = asking.step else {
         return Err(Trouble::Wrong("a victim is not told its cycle"));
     };
@@ -342,7 +342,7 @@ fn has_one_twice(txns: &[TxnId]) -> bool {
 // The cycle that is told is one of one of these tables.
 fn is_told_of_one(
     alloc: Global,
-    asking: Asking<'_>,
+    asking: &Asking<'_>,
     tables: &[Vec<Request>],
 ) -> Result<bool, AllocError> {
     for waits in tables {
@@ -354,7 +354,7 @@ fn is_told_of_one(
 }
 
 // The cycle that is told is one of these waits.
-fn is_told_of(alloc: Global, asking: Asking<'_>, waits: &[Request]) -> Result<bool, AllocError> {
+fn is_told_of(alloc: Global, asking: &Asking<'_>, waits: &[Request]) -> Result<bool, AllocError> {
     match asking.step {
         Step::Refused(Fault::Deadlock { cycle }) => is_cycle(alloc, waits, cycle.as_slice()),
         _ => Ok(false),
@@ -362,7 +362,7 @@ fn is_told_of(alloc: Global, asking: Asking<'_>, waits: &[Request]) -> Result<bo
 }
 
 // The requests are those that the rounds have left; an insert that has its store goes on to a page and a record, for its own transaction alone.
-fn check_left(asking: Asking<'_>, table: &[Request]) -> Result<(), Trouble> {
+fn check_left(asking: &Asking<'_>, table: &[Request]) -> Result<(), Trouble> {
     let goes_on = matches!(asking.lock(), Some(lock) if lock.goes_on);
     let is_left = if goes_on {
         let others_are_left = asking
@@ -380,7 +380,7 @@ fn check_left(asking: Asking<'_>, table: &[Request]) -> Result<(), Trouble> {
 }
 
 // A victim that knows can only abort: all else is refused, and changes nothing.
-fn check_doomed(asking: Asking<'_>, tally: &mut Deadlocks) -> Result<(), Trouble> {
+fn check_doomed(asking: &Asking<'_>, tally: &mut Deadlocks) -> Result<(), Trouble> {
     let is_right = match (asking.doing, asking.step) {
         (Doing::ForceStage | Doing::ForceOpen | Doing::FlushStep | Doing::Resume, _) => true,
         (_, Step::Refused(Fault::Failed)) => asking.has_failed,
@@ -401,7 +401,7 @@ fn check_doomed(asking: Asking<'_>, tally: &mut Deadlocks) -> Result<(), Trouble
 }
 
 // What became of the call that closed a cycle.
-fn count_ways_on(asking: Asking<'_>, found: usize, is_own: bool, tally: &mut Deadlocks) {
+fn count_ways_on(asking: &Asking<'_>, found: usize, is_own: bool, tally: &mut Deadlocks) {
     if is_own {
         match asking.doing {
             Doing::Resume => add(&mut tally.told_going_on),

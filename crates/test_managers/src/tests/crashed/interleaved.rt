@@ -212,7 +212,7 @@ impl Meeting {
             step: &step,
             has_failed: self.world.has_failed(),
         };
-        let victims = self.victims.judge(alloc, asking, &mut tally.deadlocks)?;
+        let victims = self.victims.judge(alloc, &asking, &mut tally.deadlocks)?;
         let is_over = matches!(step, Step::Done(Answer::Committed | Answer::Aborted));
         check_asked(&self.requests, &requests, turn.txn, is_over, &victims)?;
         let appended = check_appended(&self.world, turn.txn, waited, &step)?;
