@@ -1,5 +1,5 @@
 -- What a lock that may wait can be refused with.
-use Rattle.std.proofs.Common.{inl, inr, ℕ, List, [], ◌∷◌, Bool, true, false, cond, Option, None, ap, sym, subst, ◌∙◌}
+use Rattle.std.proofs.Common.{◌≡◌, inl, inr, ℕ, List, [], ◌∷◌, Bool, true, false, cond, Option, None, Some, refl, ap, sym, subst, ◌∙◌}
 use Rattle.std.specs.Prelude.{Result, Ok, Err, IfErr, reverse}
 use Rattle.shore_types.specs.Locking.{level_of}
 use Rattle.shore_types.specs.declared.faults.Fault.{Fault}
@@ -14,6 +14,7 @@ use Rattle.shore_locks.specs.Tables.{Table}
 use Rattle.shore_locks.specs.declared.answers.Requested.{Requested}
 use Rattle.shore_locks.specs.declared.answers.Requested.TheVariants as requested
 use Rattle.shore_path.specs.Walks.{Outcome, acquired, after_at, is_spared, of_request, or_stop, asked_of, walk}
+use Rattle.shore_path.specs.declared.answers.Acquired.{Acquired}
 use Rattle.shore_path.specs.declared.answers.Acquired.TheVariants as acquire
 use Rattle.shore_path.specs.declared.answers.OnConflict.TheVariants as conflict
 use Rattle.shore_deadlock.specs.declared.locking.Locked.{Locked}
@@ -60,3 +61,17 @@ pub refuses_so : (old new : Table) (t : ℕ) (target : Granule) (mode : Mode) (a
 refuses_so old new t target mode answer victims settles =
     subst (λ o. IfErr (answer_of answer o) RefusesToLock) (sym (ap (told_cycle t None) settles.told ∙ told_more t None settles.before settles.last))
     (of_end (record { limit = old.limit; requests = settles.mid }) t target mode answer (told_cycle t None settles.before) settles.last new.requests settles.ends)
+
+no_refusal : (f : Fault) → Err f ≡ Ok acquire.Done → ⊥
+no_refusal f is = cc
+
+no_wait : (g : Granule) → ◌≡◌ {A = Result Acquired Fault} (Ok (acquire.Waiting g)) (Ok acquire.Done) → ⊥
+no_wait g is = cc
+
+-- what is told as done is done
+pub done_so : (answer : Result Locked Fault) (told : Option (List ℕ)) → answer_of answer told ≡ Ok acquire.Done → answer ≡ Ok locked.Done
+done_so (Ok locked.Done) told is = refl
+done_so (Ok (locked.Waiting g)) told is = absurd (no_wait g is)
+done_so (Ok locked.Deadlock) (Some cycle) is = absurd (no_refusal (fault.Deadlock cycle) is)
+done_so (Ok locked.Deadlock) None is = absurd (no_refusal fault.MustAbort is)
+done_so (Err f) told is = absurd (no_refusal f is)

@@ -1,6 +1,5 @@
 -- Victims as they are noted one after another: what each makes of the transactions, and whose call is told.
-use Rattle.std.proofs.Common.{◌≡◌, ◌≢◌, ⊎_elim, ◌∷◌, [], ℕ, List, true, false, get_or, map, refl, sym, ap, subst, ◌∙◌}
-use Rattle.std.specs.Prelude.{remove}
+use Rattle.std.proofs.Common.{◌≡◌, ◌≢◌, ⊎_elim, ℕ, List, true, false, map, refl, sym, ap, subst, ◌∙◌}
 use Rattle.std.proofs.lemmas.Bool.{cases_Bool}
 use Rattle.shore_sessions.specs.Sessions.{EachOnce, SessionTxn, txns_of, with_undo}
 use Rattle.shore_sessions.specs.UndoLists.{undo_rolled}
@@ -88,11 +87,6 @@ stands_locked control s rs stands = record {
   works = stands.works;
   apart = stands.apart;
 }
-
--- the first victim, and the others
-pub first_victim : (vs : List Victim) (v : Victim) (rest : List Victim) → (vs ≡ [] → ⊥) → v ≡ get_or vs 0 v → rest ≡ remove vs 0 → vs ≡ v ∷ rest
-first_victim [] v rest some first left = absurd (some refl)
-first_victim (x ∷ vs) v rest some first left = ap (λ y. y ∷ vs) (sym first) ∙ ap (λ l. v ∷ l) (sym left)
 
 -- ---- whose call is told
 

@@ -23,6 +23,7 @@ ghost use Rattle.shore_control.specs.Noting as noting;
 
 use crate::control::Control;
 use shore_deadlock::{Locked, Reply, Victim};
+use shore_locks::laws::tables_are_orderly;
 use shore_path::{Acquired, OnConflict};
 use shore_types::{Fault, Granule, Mode, Sequence, SessionId, TxnId};
 use std::alloc::Global;
@@ -96,15 +97,22 @@ impl Control {
         ensures free { IsFree session self.new }
         ensures memory { HasWaitRoom self.old → HasWaitRoom self.new }
     {
-        let Reply { answer, victims } = shore_deadlock::lock(
-            alloc,
-            &mut self.locks,
-            txn,
-            granule,
-            mode,
-        );
-        let told = self.note_victims(session, txn, victims);
-        answer_of(answer, told)
+        tables_are_orderly(&self.locks);
+        let granule = &granule;
+        match self.acquire(txn, *granule, mode, OnConflict::Wait)? {
+            Acquired::Done => Ok(Acquired::Done),
+            Acquired::Waiting(_) => {
+                let Reply { answer, victims } = shore_deadlock::settle(
+                    alloc,
+                    &mut self.locks,
+                    txn,
+                    *granule,
+                    mode,
+                );
+                let told = self.note_victims(session, txn, victims);
+                answer_of(answer, told)
+            }
+        }
     }
 
     // Notes victims in their turn. The answer is the cycle of the caller, if it is one of them.
@@ -112,15 +120,14 @@ impl Control {
         &mut self,
         session: SessionId,
         txn: TxnId,
-        mut victims: Vec<Victim>,
+        victims: Vec<Victim>,
     ) -> Option<Sequence<TxnId>>
         ensures told { result ≡ told_cycle txn None victims.items }
         ensures keeps { KeepsOwners self.old self.new }
         ensures stands { (s new : State) → StandsFor self.old s → IsFree session self.old → AreNoted session txn s victims.items new → StandsFor self.new new }
     {
         let mut told = None;
-        while !victims.is_empty() {
-            let victim = victims.remove(0);
+        for victim in victims {
             told = self.note_victim(session, txn, victim, told);
         }
         told

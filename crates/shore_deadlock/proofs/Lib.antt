@@ -17,4 +17,5 @@ pub mod Lockings
 pub mod Rounds
 pub mod Sparing
 pub mod SparedRounds
+pub mod LetWaits
 pub mod Wakings

@@ -76,11 +76,11 @@ settled old t target mode all now answer vs new told gone limit ends is = record
 
 -- ---- a round
 
--- what an acquire that waits came to
-pub acquires_waiting : (table : Table) (t : ℕ) (target : Granule) (mode : Mode) (result : Result Acquired Fault) (new : Table) (g : Granule) → result ≡ Ok (acquire.Waiting g)
-    → ComesTo table (acquired Wait table t target mode) result new → Acquires table t target mode (Ok (acquire.Waiting g)) new.requests
-acquires_waiting table t target mode result new g waits comes =
-    λ i. record { answer = (sym comes.0 ∙ waits) i; requests = (ap (λ (x : Table). x.requests) (sym comes.1)) i }
+-- what an acquire came to
+pub acquires_so : (table : Table) (t : ℕ) (target : Granule) (mode : Mode) (result answer : Result Acquired Fault) (new : Table) → result ≡ answer
+    → ComesTo table (acquired Wait table t target mode) result new → Acquires table t target mode answer new.requests
+acquires_so table t target mode result answer new is comes =
+    λ i. record { answer = (sym comes.0 ∙ is) i; requests = (ap (λ (x : Table). x.requests) (sym comes.1)) i }
 
 -- what the end of a wait says, and what goes on after it
 abbrev pub Ended : Option (Result Locked Fault) → ℕ → List Request → List Request → List Victim → List Victim → Type 0

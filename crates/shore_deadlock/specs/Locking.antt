@@ -7,6 +7,7 @@ use Rattle.shore_types.specs.declared.locking.Mode.{Mode}
 use Rattle.shore_model.specs.declared.requests.Request.{Request}
 use Rattle.shore_model.specs.Requests.{HasNoCycle}
 use Rattle.shore_locks.specs.Grants.{cancelled, granted, withdrawn}
+use Rattle.shore_locks.specs.Orderly.{IsOrderly}
 use Rattle.shore_locks.specs.Tables.{Table, is_waiting, waiting_request}
 use Rattle.shore_path.specs.Acquires.{NoneWeaker}
 use Rattle.shore_path.specs.Rooted.{AreRooted}
@@ -23,6 +24,14 @@ use Rattle.shore_deadlock.specs.Cycles.{AreVictims, IsOnNoCycle, after_victims}
 -- the acquire comes to this answer and these requests
 abbrev pub Acquires : Table → ℕ → Granule → Mode → Result Acquired Fault → List Request → Type 0
 Acquires table t target mode answer new = acquired Wait table t target mode ≡ record { answer = answer; requests = new }
+
+-- an acquire of a transaction that did not wait has let it wait, and left the table so
+pub record IsLetWait (before : Table) (t : ℕ) (target : Granule) (mode : Mode) (now : Table) : Type 0 where
+  pub orderly : IsOrderly before.requests
+  pub quiet : is_waiting t before.requests ≡ false
+  pub limit : now.limit ≡ before.limit
+  pub granule : Granule
+  pub acquires : Acquires before t target mode (Ok (acquire.Waiting granule)) now.requests
 
 -- the cycles that pass a transaction are broken by these victims
 pub record IsBroken (rs : List Request) (t : ℕ) (vs : List Victim) (new : List Request) : Type 0 where

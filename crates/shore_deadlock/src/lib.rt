@@ -9,6 +9,6 @@ mod reached;
 pub mod search;
 pub mod victims;
 
-pub use locking::{Locked, Reply, lock};
+pub use locking::{Locked, Reply, lock, settle};
 pub use search::find_cycle;
 pub use victims::{Victim, break_cycles};

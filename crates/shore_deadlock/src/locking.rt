@@ -4,11 +4,11 @@ ghost use Rattle.shore_types.specs.declared.faults.Fault.TheVariants.{Memory};
 ghost use Rattle.shore_model.specs.declared.requests.Request.{Request};
 ghost use Rattle.shore_model.specs.Requests.{HasNoCycle};
 ghost use Rattle.shore_locks.specs.Grants.{cancelled};
-ghost use Rattle.shore_locks.specs.Tables.{is_waiting, waiting_request};
+ghost use Rattle.shore_locks.specs.Tables.{Table, is_waiting, waiting_request};
 ghost use Rattle.shore_path.specs.Acquires.{IsReached};
 ghost use Rattle.shore_deadlock.specs.Blockers as blockers;
 ghost use Rattle.shore_deadlock.specs.Cycles.{IsOnEachCycle};
-ghost use Rattle.shore_deadlock.specs.Locking.{AnswersBroken, Ends, IsBroken, IsLetThrough, Keeps, OnlyGrantsOthers, Settles, others_waiting};
+ghost use Rattle.shore_deadlock.specs.Locking.{AnswersBroken, Ends, IsBroken, IsLetThrough, IsLetWait, Keeps, OnlyGrantsOthers, Settles, others_waiting};
 ghost use Rattle.shore_deadlock.specs.declared.victims.Victim.{Victim as VictimData};
 
 use crate::victims::{Victim, choose, is_victim, take_back};
@@ -50,7 +50,43 @@ pub fn lock(alloc: Global, table: &mut LockTable, txn: TxnId, target: Granule, m
 {
     tables_are_orderly(table);
     let target = &target;
+    match acquire(table, txn, *target, mode, OnConflict::Wait) {
+        Ok(Acquired::Done) => Reply {
+            answer: Ok(Locked::Done),
+            victims: Vec::new(alloc),
+        },
+        Ok(Acquired::Waiting(_)) => settle(alloc, table, txn, *target, mode),
+        Err(fault) => Reply {
+            answer: Err(fault),
+            victims: Vec::new(alloc),
+        },
+    }
+}
+
+/// Goes on with a lock whose transaction an acquire has just let wait, as `lock` does: the cycles that pass it are broken, and if a
+/// victim's request was all that stood in its way, it acquires again. What holds then is told from the table before that acquire.
+///
+/// Refused as `acquire` is, and with Memory if an allocation failed; then the transaction does not wait. What was taken stays.
+pub fn settle(
+    alloc: Global,
+    table: &mut LockTable,
+    txn: TxnId,
+    target: Granule,
+    mode: Mode,
+) -> Reply
+    requires waiting { is_waiting txn table.old.requests ≡ true }
+    ensures settles { (before : Table) → IsLetWait before txn target mode table.old → Settles before table.new txn target mode result.answer result.victims.items }
+    ensures done { result.answer ≡ Ok Locked.Done → IsReached table.new.requests txn target mode }
+    ensures quiet { ((g : Granule) → result.answer ≡ Ok (Locked.Waiting g) → ⊥) → is_waiting txn table.new.requests ≡ false }
+    ensures keeps { (before : Table) → IsLetWait before txn target mode table.old → Keeps txn before.requests table.new.requests }
+    ensures others { (before : Table) → IsLetWait before txn target mode table.old → OnlyGrantsOthers txn result.victims.items before.requests table.new.requests }
+{
+    tables_are_orderly(table);
+    let target = &target;
     let mut victims = Vec::new(alloc);
+    if let Some(answer) = break_wait(alloc, table, txn, &mut victims) {
+        return Reply { answer, victims };
+    }
     loop {
         if let Some(answer) = go_round(alloc, table, txn, target, mode, &mut victims) {
             return Reply { answer, victims };

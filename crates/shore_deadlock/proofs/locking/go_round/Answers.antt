@@ -2,7 +2,7 @@ use Rattle.std.proofs.Common.{◌≡◌, ◌∙◌, ap, sym}
 use Rattle.std.specs.Prelude.{Ok, is_some}
 use Rattle.shore_path.specs.declared.answers.Acquired.TheVariants as acquire
 use Rattle.shore_deadlock.proofs.Lockings.{acquire_count, acquire_each, acquire_free, gentle_acquire, keeps_of}
-use Rattle.shore_deadlock.proofs.Rounds.{acquires_waiting, ends_of, fewer_round, keeps_round, through_of}
+use Rattle.shore_deadlock.proofs.Rounds.{acquires_so, ends_of, fewer_round, keeps_round, through_of}
 use Rattle.shore_deadlock.proofs.locking.go_round.Goals as goal
 
 pub break_wait-requires : goal.break_wait-requires
@@ -14,7 +14,7 @@ pub returns-in-Ok-Waiting-clause-ends : goal.returns-in-Ok-Waiting-clause-ends
 returns-in-Ok-Waiting-clause-ends c =
     let waits : c.acquire.result ≡ Ok (acquire.Waiting c.in-Ok-Waiting.field-0-0) = c.in-Ok-Waiting.is ∙ ap Ok c.in-Ok-Waiting.field-0-is in
     ends_of c.args.table.now c.args.txn c.args.target.now c.args.mode c.in-Ok-Waiting.field-0-0 c.acquire.new.table.requests c.break_wait.new.table.requests c.args.victims.now.items c.break_wait.new.victims.items
-    (acquires_waiting c.args.table.now c.args.txn c.args.target.now c.args.mode c.acquire.result c.acquire.new.table c.in-Ok-Waiting.field-0-0 waits
+    (acquires_so c.args.table.now c.args.txn c.args.target.now c.args.mode c.acquire.result (Ok (acquire.Waiting c.in-Ok-Waiting.field-0-0)) c.acquire.new.table waits
     c.acquire.ensures.as_asked)
     c.break_wait.result c.break_wait.ensures.ends c.break_wait.ensures.refused
 
@@ -22,7 +22,7 @@ pub returns-in-Ok-Waiting-clause-let_through : goal.returns-in-Ok-Waiting-clause
 returns-in-Ok-Waiting-clause-let_through c =
     let waits : c.acquire.result ≡ Ok (acquire.Waiting c.in-Ok-Waiting.field-0-0) = c.in-Ok-Waiting.is ∙ ap Ok c.in-Ok-Waiting.field-0-is in
     through_of c.args.table.now c.args.txn c.args.target.now c.args.mode c.in-Ok-Waiting.field-0-0 c.acquire.new.table.requests c.break_wait.new.table.requests c.args.victims.now.items c.break_wait.new.victims.items
-    (acquires_waiting c.args.table.now c.args.txn c.args.target.now c.args.mode c.acquire.result c.acquire.new.table c.in-Ok-Waiting.field-0-0 waits
+    (acquires_so c.args.table.now c.args.txn c.args.target.now c.args.mode c.acquire.result (Ok (acquire.Waiting c.in-Ok-Waiting.field-0-0)) c.acquire.new.table waits
     c.acquire.ensures.as_asked)
     c.break_wait.result c.break_wait.ensures.let_through
 

@@ -3,7 +3,6 @@ use Rattle.shore_path.specs.Walks.{Outcome, acquired}
 use Rattle.shore_path.specs.declared.answers.OnConflict.TheVariants as conflict
 use Rattle.shore_held.specs.CallLocks.{Asked}
 use Rattle.shore_calls.specs.CallSteps.{behind_lock, lock_outcome, on_conflict_of, with_requests}
-use Rattle.shore_calls.specs.LockRounds.{LocksTo}
 use Rattle.shore_control.specs.Controls.{locks_in}
 use Rattle.shore_control.specs.Standing.{HasControl}
 use Rattle.shore_control.proofs.TriedLocks.{tried_to}
