@@ -1,10 +1,10 @@
 //! How long the calls of a manager take, over devices in memory: of one session, alone and beside others.
 use crate::manager::{
-    LAST_SESSION, Manager, SESSION, STORE, ask, ask_as, begin_beside, bytes, commit, commit_as,
-    crashed, fill, new_manager, opened, record_of, resume, scanned, shown,
+    Manager, STORE, ask, begin_beside, bytes, commit, crashed, fill, new_manager, opened,
+    record_of, scanned, shown,
 };
 use shore_model::Call;
-use shore_types::{Fault, Mode, SessionId};
+use shore_types::{Fault, Mode};
 use std::alloc::Global;
 use std::io;
 use std::time::Instant;
@@ -13,7 +13,7 @@ use std::time::Instant;
 const ROUNDS_OF_A_TRANSACTION: u64 = 100;
 
 // The names of all works.
-const WORKS: [&str; 15] = [
+const WORKS: [&str; 14] = [
     "call_get",
     "call_get_beside",
     "call_insert",
@@ -26,7 +26,6 @@ const WORKS: [&str; 15] = [
     "call_savepoint",
     "call_back",
     "call_commit",
-    "call_let_through",
     "call_abort",
     "call_open",
 ];
@@ -59,9 +58,6 @@ pub enum Work {
     Beside(Kind),
     /// Begins and commits a transaction that does nothing, with the force of its record.
     Commit,
-    /// Commits one of 256 transactions, while the others wait for the record that it has updated: so the first of them has its turn. Then the session
-    /// waits for the record anew, behind them all.
-    LetThrough,
     /// The abort of a transaction with so many updates as there are rounds: a round is an update that is put back.
     Abort,
     /// An open of what a crash left of one transaction with so many inserts as there are rounds: a round is a record.
@@ -83,7 +79,6 @@ impl Work {
             "call_savepoint" => Some(Work::Alone(Kind::Savepoint)),
             "call_back" => Some(Work::Alone(Kind::Back)),
             "call_commit" => Some(Work::Commit),
-            "call_let_through" => Some(Work::LetThrough),
             "call_abort" => Some(Work::Abort),
             "call_open" => Some(Work::Open),
             _ => None,
@@ -103,7 +98,6 @@ impl Work {
         match self {
             Work::Alone(kind) | Work::Beside(kind) => kind.records(),
             Work::Commit => 0,
-            Work::LetThrough => 1,
             Work::Abort => 1_000,
             Work::Open => rounds,
         }
@@ -191,25 +185,6 @@ fn round_within(
     Ok(is_begun && is_done && (!ends || commit(alloc, manager)))
 }
 
-// The session whose turn it is, and the next one.
-fn turn_of(round: u64) -> (SessionId, SessionId) {
-    let sessions = u64::from(LAST_SESSION);
-    let (turn, next) = (round % sessions, round.wrapping_add(1) % sessions);
-    (SessionId(turn as u32 + 1), SessionId(next as u32 + 1))
-}
-
-fn let_through(alloc: Global, manager: &mut Manager, round: u64) -> Result<bool, Fault> {
-    let (session, next) = turn_of(round);
-    let is_let_through = commit_as(alloc, manager, session) && resume(alloc, manager, next);
-    Ok(is_let_through && update_anew(alloc, manager, session)?)
-}
-
-// A session begins and asks for the record, which it has or waits for.
-fn update_anew(alloc: Global, manager: &mut Manager, session: SessionId) -> Result<bool, Fault> {
-    let call = Call::Update(record_of(0), bytes(alloc)?);
-    Ok(ask_as(alloc, manager, session, Call::Begin) && ask_as(alloc, manager, session, call))
-}
-
 fn round_of(
     alloc: Global,
     manager: &mut Manager,
@@ -222,7 +197,6 @@ fn round_of(
             round_within(alloc, manager, kind, round, is_last)
         }
         Work::Commit => Ok(ask(alloc, manager, Call::Begin) && commit(alloc, manager)),
-        Work::LetThrough => let_through(alloc, manager, round),
         Work::Abort | Work::Open => Ok(false),
     }
 }
@@ -255,12 +229,6 @@ fn prepare(alloc: Global, manager: &mut Manager, work: Work, rounds: u64) -> Res
         }
         Work::Beside(kind) => {
             begin_beside(alloc, manager, kind.intention_beside());
-        }
-        Work::LetThrough => {
-            update_anew(alloc, manager, SESSION)?;
-            for number in 2..=LAST_SESSION {
-                update_anew(alloc, manager, SessionId(number))?;
-            }
         }
     }
     Ok(())

@@ -11,6 +11,7 @@ mod manager;
 mod pages;
 mod pools;
 mod volumes;
+mod waiting;
 
 use std::{env, io};
 
@@ -18,6 +19,9 @@ use std::{env, io};
 fn measured(rt: &HostRuntime, name: &str, rounds: u64) -> io::Result<Option<(u128, u64)>> {
     if let Some(work) = calls::Work::of(name) {
         return Ok(Some(calls::measured(rt, work, rounds)?));
+    }
+    if let Some(work) = waiting::Work::of(name) {
+        return Ok(Some(waiting::measured(rt, work, rounds)?));
     }
     if let Some(work) = pages::Work::of(name) {
         return Ok(Some(pages::measured(rt, work, rounds)?));
@@ -61,6 +65,7 @@ fn count(rt: &HostRuntime) -> io::Result<()> {
     println!(rt; "{count} records")?;
     locks::count(rt)?;
     calls::count(rt)?;
+    waiting::count(rt)?;
     print_usage(rt)
 }
 
