@@ -1,5 +1,5 @@
 //! Locks that are asked for, and calls that wait.
-ghost use Rattle.std.specs.Prelude.{◌≡◌, ◌≢◌, ◌==◌, ◌∷◌, ◌++◌, [], ℕ, IfErr, IfNone, IfSome, IsSome, None, Ok, OnOk, false, filter, not};
+ghost use Rattle.std.specs.Prelude.{◌≡◌, ◌≢◌, ◌==◌, ◌∷◌, ◌++◌, [], ℕ, IfErr, IfNone, IfSome, IsSome, IsTrue, None, Ok, OnOk, false, filter, not};
 ghost use Rattle.shore_types.specs.declared.locking.Granule.{Granule};
 ghost use Rattle.shore_types.specs.declared.locking.Mode.{Mode};
 ghost use Rattle.shore_model.specs.declared.calls.Call.{Call};
@@ -7,8 +7,10 @@ ghost use Rattle.shore_sessions.specs.Sessions.{SessionTxn};
 ghost use Rattle.shore_sessions.specs.Views.{IsAmong};
 ghost use Rattle.shore_locks.specs.Tables.{is_waiting};
 ghost use Rattle.shore_path.specs.Acquires.{IsReached, MayRefuse};
+ghost use Rattle.shore_path.specs.Intending.{IntendsToWrite};
 ghost use Rattle.shore_path.specs.Walks.{acquired};
 ghost use Rattle.shore_path.specs.declared.answers.Acquired.TheVariants as Acquired;
+ghost use Rattle.shore_path.specs.declared.answers.OnConflict.TheVariants.{Refuse};
 ghost use Rattle.shore_calls.specs.StateChanges.{wait_refused};
 ghost use Rattle.shore_calls.specs.CallSteps.{lock_waiting, with_requests};
 ghost use Rattle.shore_calls.specs.States.{DoesNotWait, IsOfSession, State};
@@ -20,7 +22,7 @@ use crate::waits::WaitingCall;
 use shore_calls::Wait;
 use shore_model::Call;
 use shore_path::{Acquired, OnConflict};
-use shore_types::{Fault, Granule, Mode, SessionId, TxnId};
+use shore_types::{Fault, Granule, Mode, Rid, SessionId, TxnId};
 use std::alloc::AllocError;
 
 impl Control {
@@ -47,6 +49,27 @@ impl Control {
         ensures stands { (s : State) → HasControl self.old s → HasControl self.new (with_requests s (acquired on_conflict s.locks txn granule mode).requests) }
     {
         shore_path::acquire(&mut self.locks, txn, granule, mode, on_conflict)
+    }
+
+    /// As `acquire`, for a record in EX, if the transaction may not wait. If it is known to intend to write records of the store, only the page and the record
+    /// are asked for.
+    pub fn acquire_record(&mut self, txn: TxnId, id: &Rid, intends: bool) -> Result<Acquired, Fault>
+        requires quiet { is_waiting txn (locks_in self.old).requests ≡ false }
+        requires intends { IsTrue intends → IntendsToWrite (locks_in self.old).requests txn id.now.page.store }
+        ensures answer { result ≡ (acquired Refuse (locks_in self.old) txn (Granule.Record id.now) Mode.EX).answer }
+        ensures locks { locks_in self.new ≡ record { limit = (locks_in self.old).limit; requests = (acquired Refuse (locks_in self.old) txn (Granule.Record id.now) Mode.EX).requests } }
+        ensures txns { txns_in self.new ≡ txns_in self.old }
+        ensures waits { waits_in self.new ≡ waits_in self.old }
+        ensures memory { HasWaitRoom self.old → HasWaitRoom self.new }
+        ensures reached { result ≡ Ok Acquired.Done → IsReached (locks_in self.new).requests txn (Granule.Record id.now) Mode.EX }
+        ensures quiet { ((at : Granule) → result ≢ Ok (Acquired.Waiting at)) → is_waiting txn (locks_in self.new).requests ≡ false }
+        ensures refused { IfErr result (MayRefuse Refuse (locks_in self.new) txn (Granule.Record id.now) Mode.EX) }
+        ensures stands { (s : State) → HasControl self.old s → HasControl self.new (with_requests s (acquired Refuse s.locks txn (Granule.Record id.now) Mode.EX).requests) }
+    {
+        if intends {
+            return shore_path::acquire_in_store(&mut self.locks, txn, id);
+        }
+        self.acquire(txn, Granule::Record(*id), Mode::EX, OnConflict::Refuse)
     }
 
     /// Takes the memory for a call more that waits. If that fails nothing has changed.

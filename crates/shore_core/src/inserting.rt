@@ -1,5 +1,5 @@
 //! New records: where they go, and what the insert of one comes to.
-ghost use Rattle.std.specs.Prelude.{◌≡◌, ◌⊎◌, ◌≤◌, IfErr, IfOk, IsSomeAnd, MatchResult, Ok, false, length};
+ghost use Rattle.std.specs.Prelude.{◌≡◌, ◌⊎◌, ◌≤◌, IfErr, IfOk, IsSomeAnd, IsTrue, MatchResult, Ok, false, length};
 ghost use Rattle.shore_types.specs.Layout.{HasSlot, HasStore};
 ghost use Rattle.shore_types.specs.declared.faults.Fault.TheVariants as Fault;
 ghost use Rattle.shore_model.specs.declared.calls.Call.TheVariants as Call;
@@ -11,6 +11,7 @@ ghost use Rattle.shore_calls.specs.CallSteps.{with_requests};
 ghost use Rattle.shore_calls.specs.States.{State, page_slots};
 ghost use Rattle.shore_control.specs.Standing.{HasControl};
 ghost use Rattle.shore_locks.specs.Tables.{is_waiting};
+ghost use Rattle.shore_path.specs.Intending.{IntendsToWrite};
 ghost use Rattle.shore_path.specs.Walks.{acquired};
 ghost use Rattle.shore_path.specs.declared.answers.OnConflict.TheVariants.{Refuse};
 ghost use Rattle.shore_core.specs.Replies.{acquire_as, can_lock};
@@ -25,10 +26,8 @@ use shore_calls::Step;
 use shore_disk::Disk;
 use shore_log::Tail;
 use shore_model::Answer;
-use shore_path::OnConflict;
-use shore_types::{
-    Bytes, Fault, Granule, Lsn, Mode, PageId, Rid, Sequence, SessionId, StoreId, TxnId,
-};
+use shore_path::intends_to_write;
+use shore_types::{Bytes, Fault, Lsn, PageId, Rid, Sequence, SessionId, StoreId, TxnId};
 use std::alloc::Global;
 
 impl<T: Tail, V: Disk> Core<T, V> {
@@ -56,11 +55,13 @@ impl<T: Tail, V: Disk> Core<T, V> {
         ensures plain { IfOk result (λ step. fault_at step ≡ Ok tt) }
         ensures cause { HasCause result (faults_of self.old) (faults_of self.new) }
     {
-        let place = self.find_place(alloc, txn, store, bytes.as_slice().len())?;
+        // Mostly the volume and the store are held with the intention to write, and are not looked at again.
+        let intends = intends_to_write(self.control.locks(), txn, store);
+        let place = self.find_place(alloc, txn, store, bytes.as_slice().len(), intends)?;
         let Rid { page, slot } = place;
         let PageId { store, page } = page;
         let id = PageId { store, page };
-        self.lock_place(txn, Rid { page: id, slot })?;
+        self.lock_place(txn, Rid { page: id, slot }, intends)?;
         let id = PageId { store, page };
         self.change(alloc, session, Rid { page: id, slot }, None, Some(bytes))?;
         let page = PageId { store, page };
@@ -68,17 +69,16 @@ impl<T: Tail, V: Disk> Core<T, V> {
     }
 
     // A place that can be locked now is locked, unless the table is full.
-    fn lock_place(&mut self, txn: TxnId, place: Rid) -> Result<(), Fault>
+    fn lock_place(&mut self, txn: TxnId, place: Rid, intends: bool) -> Result<(), Fault>
         requires quiet { is_waiting txn (locks_of self.old).requests ≡ false }
+        requires intends { IsTrue intends → IntendsToWrite (locks_of self.old).requests txn place.page.store }
         requires lockable { can_lock (locks_of self.old).requests txn place }
         ensures answer { (acquired Refuse (locks_of self.old) txn (Granule.Record place) Mode.EX).answer ≡ acquire_as result }
         ensures refused { IfErr result (λ f. f ≡ Fault.LockTableFull) }
         ensures stands { (s : State) → HasControl (control_of self.old) s → HasControl (control_of self.new) (with_requests s (acquired Refuse s.locks txn (Granule.Record place) Mode.EX).requests) }
         ensures only { OnlyLocks self.old self.new }
     {
-        let granule = Granule::Record(place);
-        self.control
-            .acquire(txn, granule, Mode::EX, OnConflict::Refuse)?;
+        self.control.acquire_record(txn, &place, intends)?;
         Ok(())
     }
 
@@ -89,9 +89,12 @@ impl<T: Tail, V: Disk> Core<T, V> {
         txn: TxnId,
         store: StoreId,
         len: usize,
+        intends: bool,
     ) -> Result<Rid, Fault>
-        requires { HasStore (geometry_of self.old) store }
+        requires there { HasStore (geometry_of self.old) store }
+        requires intends { IsTrue intends → IntendsToWrite (locks_of self.old).requests txn store }
         ensures there { IfOk result (HasSlot (geometry_of self.old)) }
+        ensures of_store { IfOk result (λ id. id.page.store ≡ store) }
         ensures framed { IfOk result (λ id. IsSomeAnd (frame_of (heap_of self.new) id.page) (λ f. IsFree f.page.slots len id.slot)) }
         ensures found { has_failed self.old ≡ false → InEach (λ front disk before s plain. MatchResult result (IsPlace (geometry_of self.old) (page_slots s) store len (can_lock (locks_of self.old).requests txn))
             (λ f. ((f ≡ Fault.StoreFull) × HasNoPlace (geometry_of self.old) (page_slots s) store len (can_lock (locks_of self.old).requests txn)) ⊎ (f ≡ Fault.Memory) ⊎ IsPageFault s f)) self.old }
@@ -107,6 +110,8 @@ impl<T: Tail, V: Disk> Core<T, V> {
         let places = Lockable {
             locks: self.control.locks(),
             txn,
+            store,
+            intends,
         };
         let place = self.heap.place_for(
             alloc,

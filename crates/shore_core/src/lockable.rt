@@ -1,20 +1,26 @@
 //! Places that a transaction could lock.
+ghost use Rattle.std.specs.Prelude.{IsTrue};
 ghost use Rattle.shore_types.specs.declared.locking.Granule.TheVariants.{Page};
 ghost use Rattle.shore_types.specs.declared.locking.Mode.TheVariants.{IX};
+ghost use Rattle.shore_path.specs.Intending.{IntendsToWrite};
 ghost use Rattle.shore_path.specs.Judging.{CanLockNow};
 ghost use Rattle.shore_core.specs.Replies.{can_lock};
 
 use shore_heap::Places;
 use shore_locks::LockTable;
 use shore_path::laws::records_need_their_page;
-use shore_path::{may_lock, may_lock_in_page};
-use shore_types::{Granule, Mode, PageId, Rid, TxnId};
+use shore_path::{may_lock, may_lock_in_page, may_lock_in_store};
+use shore_types::{Granule, Mode, PageId, Rid, StoreId, TxnId};
 
 /// The places that a transaction could lock now.
 #[derive(Drop)]
 pub(crate) struct Lockable<'a> {
     pub(crate) locks: &'a LockTable,
     pub(crate) txn: TxnId,
+    // The store that is searched, and whether the transaction is known to intend to write its records.
+    pub(crate) store: StoreId,
+    pub(crate) intends: bool,
+    ghost intended: { IsTrue intends → IntendsToWrite locks.now.requests txn store },
 }
 
 impl<'a> Places for Lockable<'a> {
@@ -24,6 +30,9 @@ impl<'a> Places for Lockable<'a> {
 
     fn may_use(&self, page: &PageId) -> bool {
         records_need_their_page();
+        if self.intends && page.store == self.store {
+            return may_lock_in_store(self.locks, self.txn, page);
+        }
         may_lock(self.locks, self.txn, Granule::Page(*page), Mode::IX)
     }
 

@@ -43,6 +43,7 @@ impl<D: Disk> Heap<D> {
         ensures none { (front : List ℕ) (disk : ℕ → List ℕ) (S : PageId → List Slot) → Shows (claims_in C.Claims claims.now) self.old front disk S
             → MayFetch (claims_in C.Claims claims.now) self.old S → IfOk result (λ found. IfNone found (HasNoPlace (geometry_of self.old) S store bytes (allowed_by P.Places places.now))) }
         ensures there { IfOk result (λ found. IfSome found (HasSlot (geometry_of self.old))) }
+        ensures of_store { IfOk result (λ found. IfSome found (λ id. id.page.store ≡ store)) }
         ensures held { IfOk result (λ found. IfSome found (λ id. IsTrue (is_some (frame_of self.new id.page)))) }
         ensures framed { IfOk result (λ found. IfSome found (λ id. IsSomeAnd (frame_of self.new id.page) (λ f. IsFree f.page.slots bytes id.slot))) }
         ensures allowed { IfOk result (λ found. IfSome found (allowed_by P.Places places.now)) }

@@ -5,6 +5,7 @@ pub mod Freeing
 pub mod Growing
 pub mod Harmonies
 pub mod Holding
+pub mod Intended
 pub mod Intentions
 pub mod JudgedGranules
 pub mod JudgedWays
@@ -12,6 +13,7 @@ pub mod Kept
 pub mod Lockable
 pub mod ModeFacts
 pub mod Moving
+pub mod Passing
 pub mod Reached
 pub mod WalkLoops
 pub mod Walking

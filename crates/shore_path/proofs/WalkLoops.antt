@@ -1,5 +1,5 @@
 -- The loop over a path: how far the walk has come, and what it gives when it ends.
-use Rattle.std.proofs.Common.{◌≡◌, ◌++◌, ◌<◌, ◌≤◌, ◌+◌, ℕ, suc, List, [], ◌∷◌, inl, inr, true, false, refl, ap, sym, subst, ◌∙◌, length, take, drop, get_or, min, arith, drop-cons}
+use Rattle.std.proofs.Common.{◌≡◌, ◌++◌, ◌<◌, ◌≤◌, ◌+◌, ℕ, suc, List, [], ◌∷◌, true, false, refl, ap, sym, subst, ◌∙◌, length, take, drop, get_or, min, arith, drop-cons}
 use Rattle.std.specs.Prelude.{Result, Ok}
 use Rattle.std.proofs.lemmas.List.{append-nil, take_min, take-append-drop}
 use Rattle.std.proofs.Math.Seq.{take-length}
@@ -7,15 +7,12 @@ use Rattle.shore_types.specs.declared.faults.Fault.{Fault}
 use Rattle.shore_types.specs.declared.locking.Granule.{Granule}
 use Rattle.shore_types.specs.declared.locking.Mode.{Mode}
 use Rattle.shore_model.proofs.LogSteps.{take-one_more}
-use Rattle.shore_locks.specs.Orderly.{IsOrderly}
-use Rattle.shore_locks.specs.Tables.{Table, is_waiting}
-use Rattle.shore_locks.proofs.Tables.{fit_of}
+use Rattle.shore_locks.specs.Tables.{Table}
 use Rattle.shore_path.specs.declared.answers.Acquired.{Acquired}
 use Rattle.shore_path.specs.declared.answers.Acquired.TheVariants as acquire
 use Rattle.shore_path.specs.declared.answers.OnConflict.{OnConflict}
-use Rattle.shore_path.specs.Needs.{EndsAt, Passes}
+use Rattle.shore_path.specs.Needs.{Passes}
 use Rattle.shore_path.specs.Walks.{ComesTo, after_at, answer_at, asked_of, is_spared}
-use Rattle.shore_path.proofs.Kept.{quiet_after}
 use Rattle.shore_path.proofs.Walking.{Through, done, stop, stops_at, table_of, through_more, through_walk, walk_on}
 
 parted : {A : Type 0} (xs : List A) (i : ℕ) (x : A) → i < length xs → x ≡ get_or xs i x → xs ≡ take i xs ++ (x ∷ drop (suc i) xs)
@@ -41,12 +38,6 @@ module _ (c : OnConflict) (t : ℕ) (target : Granule) (mode : Mode) (old table 
       ap (λ way. walk_on c t target mode old.limit way old.requests) (parted path i g within is)
       ∙ through_walk c t target mode old.limit (take i path) (g ∷ drop (suc i) path) old.requests table.requests through
 
-  pub still_quiet : IsOrderly old.requests → is_waiting t old.requests ≡ false → is_waiting t table.requests ≡ false
-  still_quiet orderly quiet =
-      subst (λ out. is_waiting t out.requests ≡ false) come
-      (quiet_after c t target mode old.limit (take i path) old.requests (fit_of old.requests orderly) quiet
-      (λ g e. let now : Ok acquire.Done ≡ (walk_on c t target mode old.limit (take i path) old.requests).answer = sym (ap (λ out. out.answer) come) in let both : Ok acquire.Done ≡ Ok (acquire.Waiting g) = now ∙ e in cc))
-
   pub ends_spared : (g : Granule) → i < length path → g ≡ get_or path i g → is_spared t target mode g table.requests ≡ true
       → ComesTo old (walk_on c t target mode old.limit path old.requests) (Ok acquire.Done) table
   ends_spared g within is spared =
@@ -64,13 +55,6 @@ module _ (c : OnConflict) (t : ℕ) (target : Granule) (mode : Mode) (old table 
         sym (ap (λ o. o.answer) out),
         left ∙ (λ k. record { limit = limit k; requests = after_at c (same_table k) t g (step g) }) ∙ ap (λ xs. table_of c t target mode old.limit xs) (sym (ap (λ o. o.requests) out)),
       )
-
-  -- .. whichever way it ends at a granule
-  pub ends_here : (g : Granule) (answer : Result Acquired Fault) (new : Table) → i < length path → g ≡ get_or path i g → EndsAt c t target mode g table new answer
-      → ComesTo old (walk_on c t target mode old.limit path old.requests) answer new
-  ends_here g answer new within is (inl spared) =
-      let ends = ends_spared g within is spared.0 in (spared.1 ∙ ends.0, spared.2 ∙ ends.1)
-  ends_here g answer new within is (inr told) = ends_told g answer new within is told.0 told.1 told.2 told.3
 
   pub goes_on : (g : Granule) (new : Table) → i < length path → g ≡ get_or path i g → Passes c t target mode g table new
       → Through c t target mode old.limit (take (i + 1) path) old.requests new.requests × (new.limit ≡ old.limit)

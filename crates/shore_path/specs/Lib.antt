@@ -1,4 +1,5 @@
 pub mod Acquires
+pub mod Intending
 pub mod Judging
 pub mod Needs
 pub mod Rooted

@@ -1,8 +1,9 @@
 -- What an acquire needs at a granule of its path.
-use Rattle.std.specs.Prelude.{◌≡◌, ◌⊎◌, ℕ, List, Ok, Result, false, true}
+use Rattle.std.specs.Prelude.{◌≡◌, ◌⊎◌, ◌∷◌, [], ℕ, List, Ok, Result, false, true}
 use Rattle.shore_types.specs.declared.faults.Fault.{Fault}
 use Rattle.shore_types.specs.declared.locking.Granule.{Granule}
 use Rattle.shore_types.specs.declared.locking.Mode.{Mode}
+use Rattle.shore_types.specs.Locking.{same_granule}
 use Rattle.shore_model.specs.declared.requests.Request.{Request}
 use Rattle.shore_locks.specs.Grants.{is_enough}
 use Rattle.shore_locks.specs.Tables.{Table, mode_held}
@@ -34,3 +35,19 @@ abbrev pub EndsAt : OnConflict → ℕ → Granule → Mode → Granule → Tabl
 EndsAt c t target mode g old new answer =
     ((is_spared t target mode g old.requests ≡ true) × (answer ≡ Ok Done) × (new ≡ old))
     ⊎ ((is_spared t target mode g old.requests ≡ false) × (answer ≡ answer_at c old t g (asked_of target mode g)) × (answer ≡ Ok Done → ⊥) × (new ≡ asked_at c t target mode g old))
+
+-- the target is none of these granules
+abbrev pub AreApart : Granule → List Granule → Type 0
+AreApart target [] = Unit {0}
+AreApart target (g ∷ below) = (same_granule g target ≡ false) × AreApart target below
+
+-- a walk goes on behind each of these granules, in their order
+abbrev pub PassesAll : OnConflict → ℕ → Granule → Mode → List Granule → Table → Table → Type 0
+PassesAll c t target mode [] old new = new ≡ old
+PassesAll c t target mode (g ∷ below) old new = (mid : Table) × Passes c t target mode g old mid × PassesAll c t target mode below mid new
+
+-- .. or it ends at one of them
+abbrev pub EndsAmong : OnConflict → ℕ → Granule → Mode → List Granule → Table → Table → Result Acquired Fault → Type 0
+EndsAmong c t target mode [] old new answer = ⊥
+EndsAmong c t target mode (g ∷ below) old new answer =
+    EndsAt c t target mode g old new answer ⊎ ((mid : Table) × Passes c t target mode g old mid × EndsAmong c t target mode below mid new answer)

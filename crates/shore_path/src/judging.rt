@@ -15,11 +15,11 @@ ghost use Rattle.shore_path.specs.Walks as walks;
 
 use crate::answers::Acquired;
 use crate::paths::{LONGEST_PATH, path_to};
-use crate::walk::{asked_of, is_covered, is_done};
+use crate::walk::is_done;
 use shore_locks::laws::tables_are_orderly;
 use shore_locks::{LockTable, Tried};
 use shore_model::Request;
-use shore_modes::allowed;
+use shore_modes::{allowed, covers, parent_mode};
 use shore_types::{Fault, Granule, Mode, Rid, TxnId};
 
 /// What `acquire` would be answered if it may not wait. Nothing changes. If the answer is Done, an acquire that follows is Done
@@ -156,4 +156,25 @@ fn held_by(own: &Option<Request>) -> Option<Mode>
     ensures { result ≡ option_and_then (λ r. r.held) own.now }
 {
     own.as_ref()?.held
+}
+
+// The mode that is asked of a granule on the way to the target.
+fn asked_of(target: &Granule, mode: Mode, granule: &Granule) -> Mode
+    ensures { result ≡ walks.asked_of target.now mode granule.now }
+{
+    if *granule == *target {
+        mode
+    } else {
+        parent_mode(mode)
+    }
+}
+
+// Whether what is held of an ancestor, if anything, covers a mode below it.
+fn is_covered(mode: Mode, held: Option<Mode>) -> bool
+    ensures { result ≡ walks.is_covered mode held }
+{
+    match held {
+        Some(held) => covers(held, mode),
+        None => false,
+    }
 }

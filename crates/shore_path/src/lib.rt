@@ -2,12 +2,14 @@
 #![tactic(auto)]
 
 pub mod answers;
+pub mod intending;
 pub mod judging;
 pub mod laws;
 pub mod paths;
 pub mod walk;
 
 pub use answers::{Acquired, OnConflict};
+pub use intending::{acquire_in_store, intends_to_write, may_lock_in_store};
 pub use judging::{judge, may_lock, may_lock_in_page};
 pub use paths::{LONGEST_PATH, Path, path_to};
 pub use walk::acquire;

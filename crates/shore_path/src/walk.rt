@@ -1,22 +1,20 @@
 //! Locks taken along a path.
-ghost use Rattle.std.specs.Prelude.{◌≡◌, ◌≢◌, ◌↔◌, false, Contains, IfErr, IsFalse, IsTrue, MatchOption};
+ghost use Rattle.std.specs.Prelude.{◌≡◌, ◌≢◌, ◌↔◌, false, Contains, IfErr, IfNone, IsFalse, IsTrue, MatchOption, reverse};
 ghost use Rattle.shore_types.specs.declared.locking.Granule.{Granule};
-ghost use Rattle.shore_types.specs.Locking.{level_of};
+ghost use Rattle.shore_types.specs.Locking.{level_of, same_granule};
 ghost use Rattle.shore_model.specs.Locks.{path};
 ghost use Rattle.shore_model.specs.Modes.{is_allowed};
-ghost use Rattle.shore_locks.specs.Orderly.{IsOrderly};
 ghost use Rattle.shore_locks.specs.Tables.{is_waiting};
 ghost use Rattle.shore_path.specs.Acquires.{GrowsAsAsked, IsReached, MayRefuse, NoneWeaker, OthersOnlyGranted, WaitsAt};
 ghost use Rattle.shore_path.specs.Rooted.{AreRooted};
-ghost use Rattle.shore_path.specs.Needs.{EndsAt, IsNeeded, Passes};
+ghost use Rattle.shore_path.specs.Needs.{AreApart, EndsAmong, EndsAt, IsNeeded, Passes, PassesAll};
 ghost use Rattle.shore_path.specs.Walks as walks;
 
 use crate::answers::{Acquired, OnConflict};
-use crate::paths::path_to;
 use shore_locks::laws::tables_are_orderly;
 use shore_locks::{LockTable, Requested, Tried};
 use shore_modes::{allowed, covers, is_at_most, parent_mode};
-use shore_types::{Fault, Granule, Mode, TxnId};
+use shore_types::{Fault, Granule, Mode, PageId, StoreId, TxnId};
 
 /// Takes a granule in a mode, after the intentions above it. From the root down each ancestor is asked for in the parent mode, and
 /// then the granule in the mode itself; each request is joined to what the transaction holds there. Where the mode held on an
@@ -51,55 +49,87 @@ pub fn acquire(
         return Err(Fault::BadMode);
     }
     tables_are_orderly(table);
-    let path = path_to(*target);
-    walk(table, txn, target, mode, on_conflict, path.as_slice())
+    walk(table, txn, target, mode, on_conflict)
 }
 
-/// What an acquire needs at a granule of its path.
-#[derive(Drop)]
-enum Need {
-    /// Nothing here or further down: what is held of this ancestor covers it all.
-    Nothing,
-    /// Nothing here: as much is held of this ancestor.
-    Held,
-    /// This mode.
-    Asking(Mode),
-}
-
-// Asks for the granules of a path in their order.
+// Asks for the granules of the target's path in their order. A match on the target takes a third of what a loop over its path does.
 fn walk(
     table: &mut LockTable,
     txn: TxnId,
     target: &Granule,
     mode: Mode,
     on_conflict: OnConflict,
-    path: &[Granule],
 ) -> Result<Acquired, Fault>
-    requires quiet { is_waiting txn table.old.requests ≡ false }
-    requires orderly { IsOrderly table.old.requests }
-    ensures { walks.ComesTo table.old (walks.walk on_conflict txn target.now mode table.old.limit path.now table.old.requests) result table.new }
+    requires { is_waiting txn table.old.requests ≡ false }
+    ensures { walks.ComesTo table.old (walks.walk on_conflict txn target.now mode table.old.limit (reverse (path target.now)) table.old.requests) result table.new }
 {
-    for granule in path {
-        if let Some(answer) = pass(table, txn, target, mode, granule, on_conflict) {
-            return answer;
-        }
+    let ended = match target {
+        Granule::Volume => None,
+        Granule::Store(_) => pass(table, txn, mode, &Granule::Volume, on_conflict),
+        Granule::Page(page) => pass_store(table, txn, mode, page.store, on_conflict),
+        Granule::Record(id) => pass_page(table, txn, mode, id.page, on_conflict),
+    };
+    match ended {
+        Some(answer) => answer,
+        None => ask(table, txn, target, mode, on_conflict),
     }
-    Ok(Acquired::Done)
 }
 
-// Passes one granule of a path, or ends the walk there with an answer.
-fn pass(
+// Passes a page and those above it, from the root down, or ends the walk at one of them with an answer.
+fn pass_page(
     table: &mut LockTable,
     txn: TxnId,
-    target: &Granule,
+    mode: Mode,
+    page: PageId,
+    on_conflict: OnConflict,
+) -> Option<Result<Acquired, Fault>>
+    requires { is_waiting txn table.old.requests ≡ false }
+    ensures walk { (target : Granule) → AreApart target (reverse (path (Granule.Page page))) → MatchOption result
+        (PassesAll on_conflict txn target mode (reverse (path (Granule.Page page))) table.old table.new)
+        (EndsAmong on_conflict txn target mode (reverse (path (Granule.Page page))) table.old table.new) }
+    ensures quiet { IfNone result (is_waiting txn table.new.requests ≡ false) }
+{
+    match pass_store(table, txn, mode, page.store, on_conflict) {
+        None => pass(table, txn, mode, &Granule::Page(page), on_conflict),
+        ended => ended,
+    }
+}
+
+// .. a store and the volume.
+fn pass_store(
+    table: &mut LockTable,
+    txn: TxnId,
+    mode: Mode,
+    store: StoreId,
+    on_conflict: OnConflict,
+) -> Option<Result<Acquired, Fault>>
+    requires { is_waiting txn table.old.requests ≡ false }
+    ensures walk { (target : Granule) → AreApart target (reverse (path (Granule.Store store))) → MatchOption result
+        (PassesAll on_conflict txn target mode (reverse (path (Granule.Store store))) table.old table.new)
+        (EndsAmong on_conflict txn target mode (reverse (path (Granule.Store store))) table.old table.new) }
+    ensures quiet { IfNone result (is_waiting txn table.new.requests ≡ false) }
+{
+    match pass(table, txn, mode, &Granule::Volume, on_conflict) {
+        None => pass(table, txn, mode, &Granule::Store(store), on_conflict),
+        ended => ended,
+    }
+}
+
+// .. one granule above the target.
+pub(crate) fn pass(
+    table: &mut LockTable,
+    txn: TxnId,
     mode: Mode,
     granule: &Granule,
     on_conflict: OnConflict,
 ) -> Option<Result<Acquired, Fault>>
     requires { is_waiting txn table.old.requests ≡ false }
-    ensures { MatchOption result (Passes on_conflict txn target.now mode granule.now table.old table.new) (EndsAt on_conflict txn target.now mode granule.now table.old table.new) }
+    ensures walk { (target : Granule) → same_granule granule.now target ≡ false → MatchOption result
+        (Passes on_conflict txn target mode granule.now table.old table.new)
+        (EndsAt on_conflict txn target mode granule.now table.old table.new) }
+    ensures quiet { IfNone result (is_waiting txn table.new.requests ≡ false) }
 {
-    let asked = match need_of(table, txn, target, mode, granule) {
+    let asked = match need_of(table, txn, mode, granule) {
         Need::Nothing => return Some(Ok(Acquired::Done)),
         Need::Held => return None,
         Need::Asking(asked) => asked,
@@ -112,8 +142,31 @@ fn pass(
     }
 }
 
+/// What an acquire needs at an ancestor of its target.
+#[derive(Drop)]
+enum Need {
+    /// Nothing here or further down: what is held of this ancestor covers it all.
+    Nothing,
+    /// Nothing here: as much is held of this ancestor.
+    Held,
+    /// This mode.
+    Asking(Mode),
+}
+
+// What is needed at an ancestor of a granule that is asked for in a mode. The target itself is asked for without a look, as mostly nothing is held of it.
+fn need_of(table: &LockTable, txn: TxnId, mode: Mode, granule: &Granule) -> Need
+    ensures { (target : Granule) → same_granule granule.now target ≡ false → IsNeeded txn target mode granule.now table.now.requests result }
+{
+    let asked = parent_mode(mode);
+    match table.held(txn, *granule) {
+        Some(held) if covers(held, mode) => Need::Nothing,
+        Some(held) if is_at_most(asked, held) => Need::Held,
+        _ => Need::Asking(asked),
+    }
+}
+
 // Asks for one granule. Done: it is held.
-fn ask(
+pub(crate) fn ask(
     table: &mut LockTable,
     txn: TxnId,
     granule: &Granule,
@@ -123,7 +176,9 @@ fn ask(
     requires { is_waiting txn table.old.requests ≡ false }
     ensures answer { result ≡ walks.answer_at on_conflict table.old txn granule.now mode }
     ensures table { table.new ≡ record { limit = table.old.limit; requests = walks.after_at on_conflict table.old txn granule.now mode } }
+    ensures quiet { result ≡ Ok Acquired.Done → is_waiting txn table.new.requests ≡ false }
 {
+    tables_are_orderly(table);
     match on_conflict {
         OnConflict::Wait => {
             let requested = table.request(txn, *granule, mode);
@@ -160,40 +215,4 @@ pub(crate) fn is_done(acquired: &Result<Acquired, Fault>) -> bool
     ensures { IsTrue result ↔ (acquired.now ≡ Ok Acquired.Done) }
 {
     matches!(acquired, Ok(Acquired::Done))
-}
-
-// The mode that is asked of a granule on the way to the target.
-pub(crate) fn asked_of(target: &Granule, mode: Mode, granule: &Granule) -> Mode
-    ensures { result ≡ walks.asked_of target.now mode granule.now }
-{
-    if *granule == *target {
-        mode
-    } else {
-        parent_mode(mode)
-    }
-}
-
-// What is needed at a granule on the way to the target. The target is asked for without a look, as mostly nothing is held of it.
-fn need_of(table: &LockTable, txn: TxnId, target: &Granule, mode: Mode, granule: &Granule) -> Need
-    ensures { IsNeeded txn target.now mode granule.now table.now.requests result }
-{
-    let asked = asked_of(target, mode, granule);
-    if *target == *granule {
-        return Need::Asking(asked);
-    }
-    match table.held(txn, *granule) {
-        Some(held) if covers(held, mode) => Need::Nothing,
-        Some(held) if is_at_most(asked, held) => Need::Held,
-        _ => Need::Asking(asked),
-    }
-}
-
-// Whether what is held of an ancestor, if anything, covers a mode below it.
-pub(crate) fn is_covered(mode: Mode, held: Option<Mode>) -> bool
-    ensures { result ≡ walks.is_covered mode held }
-{
-    match held {
-        Some(held) => covers(held, mode),
-        None => false,
-    }
 }

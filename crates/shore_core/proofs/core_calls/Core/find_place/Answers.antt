@@ -50,6 +50,9 @@ returns-in_err-place-clause-found g c running front disk before s plain is safe 
     (inr (store_fault (heap_of old) s plain disk over.kept (over.pages works) (durable_of old) _ c.args.store _ (sym is.beside.parts.durable_is)
     (c.in_err-place.ensures.refused front disk (is.pages works).holds (omega (arith, old.forced, c.last.view_is, c.next.ensures)))))
 
+pub returns-in-Some-clause-of_store : goal.returns-in-Some-clause-of_store
+returns-in-Some-clause-of_store g c = if_some_at (λ it. it.page.store ≡ c.args.store) c.in_ok-place.place c.in-Some.id c.in-Some.is c.in_ok-place.ensures.of_store
+
 pub returns-in-Some-clause-lockable : goal.returns-in-Some-clause-lockable
 returns-in-Some-clause-lockable g c =
     subst (λ (l : Table). can_lock l.requests c.args.txn c.in-Some.id) c.locks.ensures

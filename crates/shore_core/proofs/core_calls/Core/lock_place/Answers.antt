@@ -17,19 +17,19 @@ invariant_of-self g c =
     record {
       some_number = old.some_number;
       forced = old.forced;
-      numbers = subst (λ t. first_of old + length (waiting_of old) + (room_in t).reserved ≤ LAST_OPENED) (sym c.acquire.ensures.txns) old.numbers;
-      earlier = subst (λ l. (t : Txn) → IsAmong t (table.txns_in l) → last_of t < first_of old + length (waiting_of old)) (sym c.acquire.ensures.txns) old.earlier;
+      numbers = subst (λ t. first_of old + length (waiting_of old) + (room_in t).reserved ≤ LAST_OPENED) (sym c.acquire_record.ensures.txns) old.numbers;
+      earlier = subst (λ l. (t : Txn) → IsAmong t (table.txns_in l) → last_of t < first_of old + length (waiting_of old)) (sym c.acquire_record.ensures.txns) old.earlier;
     }
 
-pub returns-in_err-acquire-clause-refused : goal.returns-in_err-acquire-clause-refused
-returns-in_err-acquire-clause-refused g c =
-    plain_refusal c.from_residual.result (λ f. f ≡ fault.LockTableFull) _ c.from_residual.ensures.1 (try_refused (locks_of c.args.self.now) c.args.txn c.args.place c.requires.lockable _ c.in_err-acquire.ensures.answer)
+pub returns-in_err-acquire_record-clause-refused : goal.returns-in_err-acquire_record-clause-refused
+returns-in_err-acquire_record-clause-refused g c =
+    plain_refusal c.from_residual.result (λ f. f ≡ fault.LockTableFull) _ c.from_residual.ensures.1 (try_refused (locks_of c.args.self.now) c.args.txn c.args.place c.requires.lockable _ c.in_err-acquire_record.ensures.answer)
 
 pub returns-clause-answer : goal.returns-clause-answer
-returns-clause-answer g c = try_done (locks_of c.args.self.now) c.args.txn c.args.place c.requires.lockable _ c.in_ok-acquire.ensures.answer
+returns-clause-answer g c = try_done (locks_of c.args.self.now) c.args.txn c.args.place c.requires.lockable _ c.in_ok-acquire_record.ensures.answer
 
-pub returns-in_err-acquire-clause-only : goal.returns-in_err-acquire-clause-only
-returns-in_err-acquire-clause-only g c = record { heap = refl; tail = refl; durable = refl; failed = refl; txns = c.acquire.ensures.txns }
+pub returns-in_err-acquire_record-clause-only : goal.returns-in_err-acquire_record-clause-only
+returns-in_err-acquire_record-clause-only g c = record { heap = refl; tail = refl; durable = refl; failed = refl; txns = c.acquire_record.ensures.txns }
 
 pub returns-clause-only : goal.returns-clause-only
-returns-clause-only g c = record { heap = refl; tail = refl; durable = refl; failed = refl; txns = c.acquire.ensures.txns }
+returns-clause-only g c = record { heap = refl; tail = refl; durable = refl; failed = refl; txns = c.acquire_record.ensures.txns }

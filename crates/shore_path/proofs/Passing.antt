@@ -1,0 +1,59 @@
+-- One granule above a target that is passed, and the target behind it: how far the walk comes.
+use Rattle.std.proofs.Common.{◌≡◌, ◌∷◌, ℕ, List, [], inl, inr, true, false, refl, ap, sym, subst, ◌∙◌}
+use Rattle.std.specs.Prelude.{Result, Ok, Err}
+use Rattle.shore_types.specs.declared.faults.Fault.{Fault}
+use Rattle.shore_types.specs.declared.locking.Granule.{Granule}
+use Rattle.shore_types.specs.declared.locking.Mode.{Mode}
+use Rattle.shore_types.specs.Locking.{same_granule}
+use Rattle.shore_locks.specs.Orderly.{IsOrderly}
+use Rattle.shore_locks.specs.Tables.{Table, is_waiting}
+use Rattle.shore_locks.proofs.Keys.{same_granule-Decides}
+use Rattle.shore_locks.proofs.Tables.{fit_of}
+use Rattle.shore_path.specs.declared.answers.Acquired.{Acquired}
+use Rattle.shore_path.specs.declared.answers.Acquired.TheVariants as acquire
+use Rattle.shore_path.specs.declared.answers.OnConflict.{OnConflict}
+use Rattle.shore_path.specs.Needs.{EndsAt, Passes}
+use Rattle.shore_path.specs.Walks.{ComesTo, Outcome, after_at, answer_at, asked_of}
+use Rattle.shore_path.proofs.Kept.{quiet_after}
+use Rattle.shore_path.proofs.Walking.{done, stop, stops_at, table_of, walk_on}
+
+same_self : (g : Granule) → same_granule g g ≡ true
+same_self g = (same_granule-Decides g g).1 refl
+
+-- ---- one granule
+
+module _ (c : OnConflict) (t : ℕ) (target : Granule) (mode : Mode) (g : Granule) (old new : Table) where
+  pub passes_walk : Passes c t target mode g old new → (below : List Granule) → walk_on c t target mode old.limit (g ∷ below) old.requests ≡ walk_on c t target mode new.limit below new.requests
+  passes_walk p below =
+      rw (p.needed, p.done) refl ∙ ap (λ (x : Table). walk_on c t target mode x.limit below x.requests) (sym p.left)
+
+  pub ends_walk : (answer : Result Acquired Fault) → EndsAt c t target mode g old new answer → (below : List Granule) → ComesTo old (walk_on c t target mode old.limit (g ∷ below) old.requests) answer new
+  ends_walk answer (inl spared) below = rw spared.0 (spared.1, spared.2)
+  ends_walk answer (inr told) below =
+      let out : walk_on c t target mode old.limit (g ∷ below) old.requests ≡ stop answer (after_at c old t g (asked_of target mode g)) =
+      stops_at c t target mode old.limit g below old.requests answer told.0 (sym told.1) told.2 in
+      (sym (ap (λ (o : Outcome). o.answer) out), told.3 ∙ ap (λ (o : Outcome). table_of c t target mode old.limit o.requests) (sym out))
+
+-- ---- the target behind it
+
+module _ (c : OnConflict) (t : ℕ) (target : Granule) (mode : Mode) (g : Granule) (old mid new : Table) (answer : Result Acquired Fault) where
+  asked_last : (told : Result Acquired Fault) → answer_at c mid t target mode ≡ told → walk_on c t target mode mid.limit (target ∷ []) mid.requests ≡ stop told (after_at c mid t target mode)
+  asked_last (Ok acquire.Done) is = rw (same_self target, is) refl
+  asked_last (Ok (acquire.Waiting h)) is = rw (same_self target, is) refl
+  asked_last (Err f) is = rw (same_self target, is) refl
+
+  pub comes_last : Passes c t target mode g old mid → answer ≡ answer_at c mid t target mode
+      → new ≡ record { limit = mid.limit; requests = after_at c mid t target mode } → ComesTo old (walk_on c t target mode old.limit (g ∷ target ∷ []) old.requests) answer new
+  comes_last p told left =
+      let out = passes_walk c t target mode g old mid p (target ∷ []) ∙ asked_last answer (sym told) in
+      (sym (ap (λ (o : Outcome). o.answer) out), left ∙ (λ k. record { limit = (p.left k).limit; requests = (sym out k).requests }))
+
+-- ---- who asks does not wait once it has the granule
+
+pub quiet_at : (c : OnConflict) (t : ℕ) (g : Granule) (mode : Mode) (old : Table) → IsOrderly old.requests → is_waiting t old.requests ≡ false → answer_at c old t g mode ≡ Ok acquire.Done
+    → is_waiting t (after_at c old t g mode) ≡ false
+quiet_at c t g mode old orderly quiet is =
+    let out : walk_on c t g mode old.limit (g ∷ []) old.requests ≡ done (after_at c old t g mode) = rw (same_self g, is) refl in
+    subst (λ (o : Outcome). is_waiting t o.requests ≡ false) out
+    (quiet_after c t g mode old.limit (g ∷ []) old.requests (fit_of old.requests orderly) quiet
+    (λ h e. let both : Ok acquire.Done ≡ Ok (acquire.Waiting h) = sym (ap (λ (o : Outcome). o.answer) out) ∙ e in cc))

@@ -1,0 +1,48 @@
+use Rattle.std.proofs.Common.{refl}
+use Rattle.shore_types.specs.declared.locking.Granule.TheVariants.{Record}
+use Rattle.shore_types.specs.declared.locking.Mode.TheVariants.{EX}
+use Rattle.shore_path.specs.declared.answers.OnConflict.TheVariants.{Refuse}
+use Rattle.shore_path.specs.Walks.{ComesTo, acquired}
+use Rattle.shore_path.proofs.Acquiring.{told_done, told_quiet, told_refused}
+use Rattle.shore_path.proofs.Intended.{comes_in_store, ends_in_store}
+use Rattle.shore_path.proofs.intending.acquire_in_store.Goals as goal
+use Rattle.shore_path.proofs.intending.acquire_in_store.Goals.{After-ask}
+
+came : (c : After-ask) → ComesTo c.args.table.now (acquired Refuse c.args.table.now c.args.txn (Record c.args.id.now) EX) c.ask.result c.ask.new.table
+came c =
+    comes_in_store c.args.txn c.args.id.now c.args.table.now c.requires.intends c.pass.new.table c.ask.new.table c.ask.result (c.in-None.ensures.walk (Record c.args.id.now) refl)
+    c.ask.ensures.answer c.ask.ensures.table
+
+pub returns-in-Some-clause-as_asked : goal.returns-in-Some-clause-as_asked
+returns-in-Some-clause-as_asked c =
+    ends_in_store c.args.txn c.args.id.now c.args.table.now c.requires.intends c.pass.new.table c.in-Some.answer (c.in-Some.ensures.walk (Record c.args.id.now) refl)
+
+pub returns-in-Some-clause-done : goal.returns-in-Some-clause-done
+returns-in-Some-clause-done c =
+    told_done Refuse c.args.txn (Record c.args.id.now) EX c.args.table.now c.pass.new.table c.in-Some.answer c.tables_are_orderly.ensures c.requires.quiet
+    (ends_in_store c.args.txn c.args.id.now c.args.table.now c.requires.intends c.pass.new.table c.in-Some.answer (c.in-Some.ensures.walk (Record c.args.id.now) refl))
+
+pub returns-in-Some-clause-quiet : goal.returns-in-Some-clause-quiet
+returns-in-Some-clause-quiet c =
+    told_quiet Refuse c.args.txn (Record c.args.id.now) EX c.args.table.now c.pass.new.table c.in-Some.answer c.tables_are_orderly.ensures c.requires.quiet
+    (ends_in_store c.args.txn c.args.id.now c.args.table.now c.requires.intends c.pass.new.table c.in-Some.answer (c.in-Some.ensures.walk (Record c.args.id.now) refl))
+
+pub returns-in-Some-clause-refused : goal.returns-in-Some-clause-refused
+returns-in-Some-clause-refused c =
+    told_refused Refuse c.args.txn (Record c.args.id.now) EX c.args.table.now c.pass.new.table c.in-Some.answer c.tables_are_orderly.ensures c.requires.quiet
+    (ends_in_store c.args.txn c.args.id.now c.args.table.now c.requires.intends c.pass.new.table c.in-Some.answer (c.in-Some.ensures.walk (Record c.args.id.now) refl))
+
+pub returns-in-None-clause-as_asked : goal.returns-in-None-clause-as_asked
+returns-in-None-clause-as_asked c = came c
+
+pub returns-in-None-clause-done : goal.returns-in-None-clause-done
+returns-in-None-clause-done c =
+    told_done Refuse c.args.txn (Record c.args.id.now) EX c.args.table.now c.ask.new.table c.ask.result c.tables_are_orderly.ensures c.requires.quiet (came c)
+
+pub returns-in-None-clause-quiet : goal.returns-in-None-clause-quiet
+returns-in-None-clause-quiet c =
+    told_quiet Refuse c.args.txn (Record c.args.id.now) EX c.args.table.now c.ask.new.table c.ask.result c.tables_are_orderly.ensures c.requires.quiet (came c)
+
+pub returns-in-None-clause-refused : goal.returns-in-None-clause-refused
+returns-in-None-clause-refused c =
+    told_refused Refuse c.args.txn (Record c.args.id.now) EX c.args.table.now c.ask.new.table c.ask.result c.tables_are_orderly.ensures c.requires.quiet (came c)

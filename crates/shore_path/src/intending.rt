@@ -1,0 +1,68 @@
+//! Locks of a transaction that intends to write records of a store: it asks for no more of the volume and of the store.
+ghost use Rattle.std.specs.Prelude.{◌≡◌, ◌≢◌, ◌↔◌, IfErr, IsTrue, Ok, false};
+ghost use Rattle.shore_locks.specs.Tables.{is_waiting};
+ghost use Rattle.shore_path.specs.Acquires.{IsReached, MayRefuse};
+ghost use Rattle.shore_path.specs.Intending as specs;
+ghost use Rattle.shore_path.specs.Intending.{IntendsToWrite};
+ghost use Rattle.shore_path.specs.Judging.{CanLockNow};
+ghost use Rattle.shore_path.specs.Walks as walks;
+ghost use Rattle.shore_path.specs.declared.answers.OnConflict.TheVariants.{Refuse};
+
+use crate::answers::{Acquired, OnConflict};
+use crate::walk::{ask, pass};
+use shore_locks::LockTable;
+use shore_locks::laws::tables_are_orderly;
+use shore_modes::{covers, is_at_most};
+use shore_types::{Fault, Granule, Mode, PageId, Rid, StoreId, TxnId};
+
+/// Whether a transaction holds the volume and a store with the intention to write, or in a stronger mode, and neither covers the records.
+pub fn intends_to_write(table: &LockTable, txn: TxnId, store: StoreId) -> bool
+    ensures { IsTrue result ↔ IntendsToWrite table.now.requests txn store }
+{
+    is_intention(table.held(txn, Granule::Volume))
+        && is_intention(table.held(txn, Granule::Store(store)))
+}
+
+fn is_intention(held: Option<Mode>) -> bool
+    ensures { result ≡ specs.is_intention held }
+{
+    match held {
+        Some(held) => is_at_most(Mode::IX, held) && !covers(held, Mode::EX),
+        None => false,
+    }
+}
+
+/// As `may_lock`, for a page in IX of a store whose records the transaction intends to write. Only of the page a request is looked for.
+pub fn may_lock_in_store(table: &LockTable, txn: TxnId, page: &PageId) -> bool
+    requires { IntendsToWrite table.now.requests txn page.now.store }
+    ensures { IsTrue result ↔ CanLockNow table.now.requests txn (Granule.Page page.now) Mode.IX }
+{
+    tables_are_orderly(table);
+    let page = &Granule::Page(*page);
+    let held = table.held(txn, *page);
+    table.in_the_way(txn, *page, held, Mode::IX).is_none()
+}
+
+/// As `acquire`, for a record in EX of a store whose records the transaction intends to write, if it may not wait. Of the page and of the record alone it
+/// asks.
+pub fn acquire_in_store(table: &mut LockTable, txn: TxnId, id: &Rid) -> Result<Acquired, Fault>
+    requires quiet { is_waiting txn table.old.requests ≡ false }
+    requires intends { IntendsToWrite table.old.requests txn id.now.page.store }
+    ensures as_asked { walks.ComesTo table.old (walks.acquired Refuse table.old txn (Granule.Record id.now) Mode.EX) result table.new }
+    ensures done { result ≡ Ok Acquired.Done → IsReached table.new.requests txn (Granule.Record id.now) Mode.EX }
+    ensures quiet { ((g : Granule) → result ≢ Ok (Acquired.Waiting g)) → is_waiting txn table.new.requests ≡ false }
+    ensures refused { IfErr result (MayRefuse Refuse table.new txn (Granule.Record id.now) Mode.EX) }
+{
+    tables_are_orderly(table);
+    let page = &Granule::Page(id.page);
+    match pass(table, txn, Mode::EX, page, OnConflict::Refuse) {
+        Some(answer) => answer,
+        None => ask(
+            table,
+            txn,
+            &Granule::Record(*id),
+            Mode::EX,
+            OnConflict::Refuse,
+        ),
+    }
+}
