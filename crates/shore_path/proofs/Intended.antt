@@ -1,6 +1,6 @@
 -- What a transaction that intends to write records of a store meets on the volume and on the store: nothing.
-use Rattle.std.proofs.Common.{◌≡◌, ◌∷◌, [], ◌+◌, ℕ, List, length, inl, inr, Bool, true, false, Option, None, Some, refl, ap, sym, subst, ◌∙◌, arith, reverse}
-use Rattle.std.specs.Prelude.{◌&&◌, IsTrue, cond, not, Result, Ok}
+use Rattle.std.proofs.Common.{◌≡◌, ◌∷◌, [], ◌+◌, ℕ, List, length, inl, inr, true, false, Option, None, Some, refl, sym, subst, ◌∙◌, arith, reverse}
+use Rattle.std.specs.Prelude.{◌&&◌, cond, not, Result}
 use Rattle.shore_types.specs.declared.faults.Fault.{Fault}
 use Rattle.shore_types.specs.declared.ids.PageId.{PageId}
 use Rattle.shore_types.specs.declared.ids.Rid.{Rid}
@@ -33,7 +33,7 @@ record Intends (held : Option Mode) : Type 0 where
   covers_no_page : is_covered IX held ≡ false
   covers_no_record : is_covered EX held ≡ false
 
-intends : (held : Option Mode) → is_intention held ≡ true → Intends held
+intends : (held : Option Mode) → is_intention EX held ≡ true → Intends held
 intends None e = absurd cc
 intends (Some IS) e = absurd cc
 intends (Some IX) e = record { enough = refl; covers_no_page = refl; covers_no_record = refl }

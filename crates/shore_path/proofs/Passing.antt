@@ -1,10 +1,12 @@
 -- One granule above a target that is passed, and the target behind it: how far the walk comes.
-use Rattle.std.proofs.Common.{◌≡◌, ◌∷◌, ℕ, List, [], inl, inr, true, false, refl, ap, sym, subst, ◌∙◌}
+use Rattle.std.proofs.Common.{◌≡◌, ◌++◌, ◌∷◌, ℕ, List, [], inl, inr, true, false, refl, ap, sym, subst, ◌∙◌, reverse}
 use Rattle.std.specs.Prelude.{Result, Ok, Err}
 use Rattle.shore_types.specs.declared.faults.Fault.{Fault}
 use Rattle.shore_types.specs.declared.locking.Granule.{Granule}
+use Rattle.shore_types.specs.declared.locking.Granule.TheVariants.{Volume, Store, Page, Record}
 use Rattle.shore_types.specs.declared.locking.Mode.{Mode}
 use Rattle.shore_types.specs.Locking.{same_granule}
+use Rattle.shore_model.specs.Locks.{ancestors, path}
 use Rattle.shore_locks.specs.Orderly.{IsOrderly}
 use Rattle.shore_locks.specs.Tables.{Table, is_waiting}
 use Rattle.shore_locks.proofs.Keys.{same_granule-Decides}
@@ -12,7 +14,7 @@ use Rattle.shore_locks.proofs.Tables.{fit_of}
 use Rattle.shore_path.specs.declared.answers.Acquired.{Acquired}
 use Rattle.shore_path.specs.declared.answers.Acquired.TheVariants as acquire
 use Rattle.shore_path.specs.declared.answers.OnConflict.{OnConflict}
-use Rattle.shore_path.specs.Needs.{EndsAt, Passes}
+use Rattle.shore_path.specs.Needs.{EndsAt, HasPassed, Passes}
 use Rattle.shore_path.specs.Walks.{ComesTo, Outcome, after_at, answer_at, asked_of}
 use Rattle.shore_path.proofs.Kept.{quiet_after}
 use Rattle.shore_path.proofs.Walking.{done, stop, stops_at, table_of, walk_on}
@@ -47,6 +49,31 @@ module _ (c : OnConflict) (t : ℕ) (target : Granule) (mode : Mode) (g : Granul
   comes_last p told left =
       let out = passes_walk c t target mode g old mid p (target ∷ []) ∙ asked_last answer (sym told) in
       (sym (ap (λ (o : Outcome). o.answer) out), left ∙ (λ k. record { limit = (p.left k).limit; requests = (sym out k).requests }))
+
+-- ---- the target behind granules that are held
+
+path_split : (target : Granule) → reverse (path target) ≡ reverse (ancestors target) ++ target ∷ []
+path_split Volume = refl
+path_split (Store s) = refl
+path_split (Page p) = refl
+path_split (Record r) = refl
+
+module _ (c : OnConflict) (t : ℕ) (target : Granule) (mode : Mode) (old : Table) where
+  passed_walk : (above below : List Granule) → HasPassed c t target mode above old → walk_on c t target mode old.limit (above ++ below) old.requests ≡ walk_on c t target mode old.limit below old.requests
+  passed_walk [] below has = refl
+  passed_walk (g ∷ above) below has = passes_walk c t target mode g old old has.0 (above ++ below) ∙ passed_walk above below has.1
+
+  asked_alone : (told : Result Acquired Fault) → answer_at c old t target mode ≡ told → walk_on c t target mode old.limit (target ∷ []) old.requests ≡ stop told (after_at c old t target mode)
+  asked_alone (Ok acquire.Done) is = rw (same_self target, is) refl
+  asked_alone (Ok (acquire.Waiting h)) is = rw (same_self target, is) refl
+  asked_alone (Err f) is = rw (same_self target, is) refl
+
+  pub comes_to_target : (new : Table) (answer : Result Acquired Fault) → HasPassed c t target mode (reverse (ancestors target)) old → answer ≡ answer_at c old t target mode
+      → new ≡ record { limit = old.limit; requests = after_at c old t target mode } → ComesTo old (walk_on c t target mode old.limit (reverse (path target)) old.requests) answer new
+  comes_to_target new answer has told left =
+      let out : walk_on c t target mode old.limit (reverse (path target)) old.requests ≡ stop answer (after_at c old t target mode) =
+      ap (λ way. walk_on c t target mode old.limit way old.requests) (path_split target) ∙ passed_walk (reverse (ancestors target)) (target ∷ []) has ∙ asked_alone answer (sym told) in
+      (sym (ap (λ (o : Outcome). o.answer) out), left ∙ ap (λ (o : Outcome). table_of c t target mode old.limit o.requests) (sym out))
 
 -- ---- who asks does not wait once it has the granule
 

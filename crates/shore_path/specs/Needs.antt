@@ -41,6 +41,11 @@ abbrev pub AreApart : Granule → List Granule → Type 0
 AreApart target [] = Unit {0}
 AreApart target (g ∷ below) = (same_granule g target ≡ false) × AreApart target below
 
+-- a walk goes on behind each of these granules, and none of them has to be asked for
+abbrev pub HasPassed : OnConflict → ℕ → Granule → Mode → List Granule → Table → Type 0
+HasPassed c t target mode [] table = Unit {0}
+HasPassed c t target mode (g ∷ below) table = Passes c t target mode g table table × HasPassed c t target mode below table
+
 -- a walk goes on behind each of these granules, in their order
 abbrev pub PassesAll : OnConflict → ℕ → Granule → Mode → List Granule → Table → Table → Type 0
 PassesAll c t target mode [] old new = new ≡ old

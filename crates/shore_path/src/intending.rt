@@ -2,34 +2,23 @@
 ghost use Rattle.std.specs.Prelude.{◌≡◌, ◌≢◌, ◌↔◌, IfErr, IsTrue, Ok, false};
 ghost use Rattle.shore_locks.specs.Tables.{is_waiting};
 ghost use Rattle.shore_path.specs.Acquires.{IsReached, MayRefuse};
-ghost use Rattle.shore_path.specs.Intending as specs;
 ghost use Rattle.shore_path.specs.Intending.{IntendsToWrite};
 ghost use Rattle.shore_path.specs.Judging.{CanLockNow};
 ghost use Rattle.shore_path.specs.Walks as walks;
 ghost use Rattle.shore_path.specs.declared.answers.OnConflict.TheVariants.{Refuse};
 
 use crate::answers::{Acquired, OnConflict};
-use crate::walk::{ask, pass};
+use crate::walk::{ask, has_intention, is_intention, pass};
 use shore_locks::LockTable;
 use shore_locks::laws::tables_are_orderly;
-use shore_modes::{covers, is_at_most};
 use shore_types::{Fault, Granule, Mode, PageId, Rid, StoreId, TxnId};
 
 /// Whether a transaction holds the volume and a store with the intention to write, or in a stronger mode, and neither covers the records.
 pub fn intends_to_write(table: &LockTable, txn: TxnId, store: StoreId) -> bool
     ensures { IsTrue result ↔ IntendsToWrite table.now.requests txn store }
 {
-    is_intention(table.held(txn, Granule::Volume))
-        && is_intention(table.held(txn, Granule::Store(store)))
-}
-
-fn is_intention(held: Option<Mode>) -> bool
-    ensures { result ≡ specs.is_intention held }
-{
-    match held {
-        Some(held) => is_at_most(Mode::IX, held) && !covers(held, Mode::EX),
-        None => false,
-    }
+    is_intention(Mode::EX, table.held(txn, Granule::Volume))
+        && is_intention(Mode::EX, table.held(txn, Granule::Store(store)))
 }
 
 /// As `may_lock`, for a page in IX of a store whose records the transaction intends to write. Only of the page a request is looked for.
@@ -55,14 +44,21 @@ pub fn acquire_in_store(table: &mut LockTable, txn: TxnId, id: &Rid) -> Result<A
 {
     tables_are_orderly(table);
     let page = &Granule::Page(id.page);
+    if has_intention(table, txn, Mode::EX, page) {
+        return lock_alone(table, txn, id);
+    }
     match pass(table, txn, Mode::EX, page, OnConflict::Refuse) {
         Some(answer) => answer,
-        None => ask(
-            table,
-            txn,
-            &Granule::Record(*id),
-            Mode::EX,
-            OnConflict::Refuse,
-        ),
+        None => lock_alone(table, txn, id),
     }
+}
+
+// Asks for the record in EX, and may not wait.
+fn lock_alone(table: &mut LockTable, txn: TxnId, id: &Rid) -> Result<Acquired, Fault>
+    requires { is_waiting txn table.old.requests ≡ false }
+    ensures answer { result ≡ walks.answer_at Refuse table.old txn (Granule.Record id.now) Mode.EX }
+    ensures table { table.new ≡ record { limit = table.old.limit; requests = walks.after_at Refuse table.old txn (Granule.Record id.now) Mode.EX } }
+{
+    let record = &Granule::Record(*id);
+    ask(table, txn, record, Mode::EX, OnConflict::Refuse)
 }

@@ -2,12 +2,13 @@
 ghost use Rattle.std.specs.Prelude.{◌≡◌, ◌≢◌, ◌↔◌, false, Contains, IfErr, IfNone, IsFalse, IsTrue, MatchOption, reverse};
 ghost use Rattle.shore_types.specs.declared.locking.Granule.{Granule};
 ghost use Rattle.shore_types.specs.Locking.{level_of, same_granule};
-ghost use Rattle.shore_model.specs.Locks.{path};
+ghost use Rattle.shore_model.specs.Locks.{ancestors, path};
 ghost use Rattle.shore_model.specs.Modes.{is_allowed};
 ghost use Rattle.shore_locks.specs.Tables.{is_waiting};
 ghost use Rattle.shore_path.specs.Acquires.{GrowsAsAsked, IsReached, MayRefuse, NoneWeaker, OthersOnlyGranted, WaitsAt};
+ghost use Rattle.shore_path.specs.Intending as intending;
 ghost use Rattle.shore_path.specs.Rooted.{AreRooted};
-ghost use Rattle.shore_path.specs.Needs.{AreApart, EndsAmong, EndsAt, IsNeeded, Passes, PassesAll};
+ghost use Rattle.shore_path.specs.Needs.{AreApart, EndsAmong, EndsAt, HasPassed, IsNeeded, Passes, PassesAll};
 ghost use Rattle.shore_path.specs.Walks as walks;
 
 use crate::answers::{Acquired, OnConflict};
@@ -52,8 +53,65 @@ pub fn acquire(
     walk(table, txn, target, mode, on_conflict)
 }
 
-// Asks for the granules of the target's path in their order. A match on the target takes a third of what a loop over its path does.
+// Asks for the granules of the target's path in their order. Mostly all above the target is held, which is seen without a step.
 fn walk(
+    table: &mut LockTable,
+    txn: TxnId,
+    target: &Granule,
+    mode: Mode,
+    on_conflict: OnConflict,
+) -> Result<Acquired, Fault>
+    requires { is_waiting txn table.old.requests ≡ false }
+    ensures { walks.ComesTo table.old (walks.walk on_conflict txn target.now mode table.old.limit (reverse (path target.now)) table.old.requests) result table.new }
+{
+    if has_intentions(table, txn, target, mode) {
+        return ask(table, txn, target, mode, on_conflict);
+    }
+    go_down(table, txn, target, mode, on_conflict)
+}
+
+// Whether each granule above the target is held in as much as is asked of it, and spares nothing.
+fn has_intentions(table: &LockTable, txn: TxnId, target: &Granule, mode: Mode) -> bool
+    ensures { IsTrue result → (c : OnConflict) → HasPassed c txn target.now mode (reverse (ancestors target.now)) table.now }
+{
+    match target {
+        Granule::Volume => true,
+        Granule::Store(_) => has_intention(table, txn, mode, &Granule::Volume),
+        Granule::Page(page) => has_store(table, txn, mode, page.store),
+        Granule::Record(id) => {
+            has_store(table, txn, mode, id.page.store)
+                && has_intention(table, txn, mode, &Granule::Page(id.page))
+        }
+    }
+}
+
+// .. a store and the volume.
+fn has_store(table: &LockTable, txn: TxnId, mode: Mode, store: StoreId) -> bool
+    ensures { IsTrue result → (c : OnConflict) (target : Granule) → AreApart target (reverse (path (Granule.Store store))) → HasPassed c txn target mode (reverse (path (Granule.Store store))) table.now }
+{
+    has_intention(table, txn, mode, &Granule::Volume)
+        && has_intention(table, txn, mode, &Granule::Store(store))
+}
+
+// .. one granule.
+pub(crate) fn has_intention(table: &LockTable, txn: TxnId, mode: Mode, granule: &Granule) -> bool
+    ensures { IsTrue result → (c : OnConflict) (target : Granule) → same_granule granule.now target ≡ false → Passes c txn target mode granule.now table.now table.now }
+{
+    is_intention(mode, table.held(txn, *granule))
+}
+
+// Whether what is held, if anything, is as much as a mode below it asks for, and does not cover that.
+pub(crate) fn is_intention(mode: Mode, held: Option<Mode>) -> bool
+    ensures { result ≡ intending.is_intention mode held }
+{
+    match held {
+        Some(held) => is_at_most(parent_mode(mode), held) && !covers(held, mode),
+        None => false,
+    }
+}
+
+// Passes the granules above the target one by one, and asks for it behind them.
+fn go_down(
     table: &mut LockTable,
     txn: TxnId,
     target: &Granule,
