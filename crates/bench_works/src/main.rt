@@ -1,11 +1,12 @@
-//! How long a manager's calls take, and its parts: pages, batches of them, a device in memory, the lock table and the search for cycles.
-//! `bench_works WORK ROUNDS` does one kind of work so often and prints the nanoseconds of a round; with no words it prints what one round, or
-//! a hundred, of some counts, and how it is called.
+//! How long a manager takes, and its parts: its calls, pages, batches of them, a device in memory, the lock table and the search for cycles; and a manager over
+//! files. `bench_works WORK ROUNDS` does one kind of work in memory so often and prints the nanoseconds of a round; `bench_works WORK SIZE DIR [N]` works over
+//! files of a folder. With no words it prints what one round, or a hundred, of some counts, and how it is called.
 #![tactic(auto)]
 
 mod calls;
 mod cycles;
 mod devices;
+mod files;
 mod locks;
 mod manager;
 mod pages;
@@ -13,6 +14,7 @@ mod pools;
 mod volumes;
 mod waiting;
 
+use std::process::ExitCode;
 use std::{env, io};
 
 /// The nanoseconds of a round of the work of a name, and how much was done or a sum of it all; nothing if none has the name.
@@ -55,7 +57,8 @@ fn measure(rt: &HostRuntime, name: &str, rounds: u64) -> io::Result<()> {
 fn print_usage(rt: &HostRuntime) -> io::Result<()> {
     println!(rt;
         "bench_works WORK ROUNDS: bench/calls, bench/pages, bench/locks and bench/cycles name the works"
-    )
+    )?;
+    files::print_usage(rt)
 }
 
 /// Prints how many records a page takes, what rounds with the lock table count, how many of a hundred rounds of each work of a manager are done,
@@ -69,7 +72,7 @@ fn count(rt: &HostRuntime) -> io::Result<()> {
     print_usage(rt)
 }
 
-/// Does what the words ask for.
+/// Does what the words ask for, in memory.
 fn perform(rt: &HostRuntime, words: &[String]) -> io::Result<()> {
     let [_, name, rounds] = words else {
         return count(rt);
@@ -80,7 +83,14 @@ fn perform(rt: &HostRuntime, words: &[String]) -> io::Result<()> {
     }
 }
 
-fn main(rt: HostRuntime) -> io::Result<()> {
+fn main(rt: HostRuntime) -> io::Result<ExitCode> {
     let words: Vec<String> = env::args(&rt)?.collect(rt.alloc())?;
-    perform(&rt, words.as_slice())
+    match words.as_slice() {
+        [_, work, size, folder] => files::run(&rt, work, size, folder, None),
+        [_, work, size, folder, n] => files::run(&rt, work, size, folder, Some(n.as_str())),
+        words => {
+            perform(&rt, words)?;
+            Ok(ExitCode::SUCCESS)
+        }
+    }
 }

@@ -1,4 +1,4 @@
-//! Runs worked by hand.
+//! Runs of the crates of locks together, worked by hand.
 mod cycles;
 mod granules;
 mod paths;

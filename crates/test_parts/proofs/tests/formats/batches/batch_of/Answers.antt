@@ -1,8 +1,8 @@
 use Rattle.std.proofs.Common.{◌<◌, ◌≤◌, ◌+◌, List, subst, sym, ap, All, ℕ, length, slice_index_or, arith}
 use Rattle.std.proofs.lemmas.List.Elements.{All-push}
 use Rattle.shore_dwrite.specs.Images.{numbers_of}
-use Rattle.test_formats.proofs.Images.{image_is, within_is}
-use Rattle.test_formats.proofs.tests.batches.batch_of.Goals as goal
+use Rattle.test_parts.proofs.Images.{image_is, within_is}
+use Rattle.test_parts.proofs.tests.formats.batches.batch_of.Goals as goal
 
 pub loop-page-preserved : goal.loop-page-preserved
 loop-page-preserved c =

@@ -1,7 +1,7 @@
 //! Files as devices, which count what is written to them.
 ghost use Rattle.std.specs.Prelude.{◌≡◌, IfOk};
 ghost use Rattle.shore_disk.specs.Device.{size};
-ghost use Rattle.bench_store.specs.Devices.{counted_history};
+ghost use Rattle.bench_works.specs.Devices.{counted_history};
 
 use shore_disk::{Disk, DiskFault, FileDisk};
 use std::fs::{File, Files};
@@ -49,7 +49,7 @@ impl CountDisk {
 
 impl Disk for CountDisk {
     ghost use Rattle.std.specs.Prelude.{false, refl};
-    ghost use Rattle.bench_store.specs.Devices.{counted_faults, counted_history};
+    ghost use Rattle.bench_works.specs.Devices.{counted_faults, counted_history};
 
     ghost is_honest = { λ _. false };
 

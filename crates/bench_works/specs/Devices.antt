@@ -2,7 +2,7 @@
 use Rattle.std.specs.Prelude.{ℕ}
 use Rattle.shore_disk.specs.Device.{History}
 use Rattle.shore_disk.specs.FileDisk.{failures_of, file_history}
-use Rattle.bench_store.specs.declared.devices.CountDisk.{CountDisk}
+use Rattle.bench_works.specs.declared.files.devices.CountDisk.{CountDisk}
 
 -- how many of its calls have failed, up to 2^64 - 1
 abbrev pub counted_faults : CountDisk → ℕ

@@ -3,8 +3,8 @@ ghost use Rattle.std.specs.Prelude.{IfOk};
 ghost use Rattle.shore_calls.specs.Events.{IsServed};
 ghost use Rattle.shore_types.specs.Layout.{IsInLimits};
 
-use crate::devices::CountDisk;
-use crate::plan::Plan;
+use super::devices::CountDisk;
+use super::plan::Plan;
 use shore_model::{Answer, Call};
 use shore_types::layout::MAX_POOL_FRAMES;
 use shore_types::{

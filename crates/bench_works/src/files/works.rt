@@ -1,8 +1,8 @@
 //! The works, each over a pair of files of a folder.
-use crate::devices::CountDisk;
-use crate::figures::Figure;
-use crate::plan::Plan;
-use crate::store::{
+use super::devices::CountDisk;
+use super::figures::Figure;
+use super::plan::Plan;
+use super::store::{
     Manager, STORE, begin, begin_alone, bytes, commit, force, insert, nanos_since, new_manager,
     now, open_manager, scan, update, write_back,
 };

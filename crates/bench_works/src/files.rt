@@ -1,8 +1,5 @@
-//! How long a manager takes over two files: `bench_store WORK SIZE DIR [N]` does one kind of work on records of SIZE bytes and prints a line
-//! `NAME.rSIZE VALUE UNIT` for each figure. bench/store names the works. Exit status 0: done. 1: refused, or a record was not as acknowledged.
-//! 2: it has no such work, or takes no such SIZE or N.
-#![tactic(auto)]
-
+//! How long a manager takes over two files: one kind of work on records of so many bytes, with a line `NAME.rSIZE VALUE UNIT` for each figure.
+//! Exit status 0: done. 1: refused, or a record was not as acknowledged. 2: there is no such work, or it takes no such size or count.
 mod devices;
 mod figures;
 mod plan;
@@ -10,19 +7,14 @@ mod store;
 mod works;
 
 use plan::Plan;
+use std::io;
 use std::process::ExitCode;
-use std::{env, io};
 use works::{Work, perform};
 
 // A run that was refused.
 const REFUSED: u8 = 1;
 // Words that name no work.
 const NO_WORK: u8 = 2;
-
-fn usage(rt: &HostRuntime) -> io::Result<ExitCode> {
-    println!(rt; "bench_store WORK SIZE DIR [N]: bench/store names the works")?;
-    Ok(ExitCode::from(NO_WORK))
-}
 
 fn number(word: &str) -> Option<u64> {
     word.parse::<u64>().ok()
@@ -44,7 +36,18 @@ fn measure(rt: &HostRuntime, work: Work, plan: &Plan) -> io::Result<ExitCode> {
     }
 }
 
-fn run(
+/// Prints how the works over files are called.
+pub fn print_usage(rt: &HostRuntime) -> io::Result<()> {
+    println!(rt; "bench_works WORK SIZE DIR [N]: bench/store names the works")
+}
+
+fn refuse(rt: &HostRuntime) -> io::Result<ExitCode> {
+    print_usage(rt)?;
+    Ok(ExitCode::from(NO_WORK))
+}
+
+/// Does the work of a name, on records of a size, over files of a folder, so many times or as often as it is done if nothing is said.
+pub fn run(
     rt: &HostRuntime,
     name: &str,
     size: &str,
@@ -52,22 +55,13 @@ fn run(
     count: Option<&str>,
 ) -> io::Result<ExitCode> {
     let (Some(work), Some(size)) = (Work::of(name), number(size)) else {
-        return usage(rt);
+        return refuse(rt);
     };
     let Some(count) = count.map_or(Some(work.default_count()), number) else {
-        return usage(rt);
+        return refuse(rt);
     };
     match Plan::new(rt.alloc(), size, count, folder)? {
         Some(plan) => measure(rt, work, &plan),
-        None => usage(rt),
-    }
-}
-
-fn main(rt: HostRuntime) -> io::Result<ExitCode> {
-    let words: Vec<String> = env::args(&rt)?.collect(rt.alloc())?;
-    match words.as_slice() {
-        [_, work, size, folder] => run(&rt, work, size, folder, None),
-        [_, work, size, folder, count] => run(&rt, work, size, folder, Some(count.as_str())),
-        _ => usage(&rt),
+        None => refuse(rt),
     }
 }

@@ -1,5 +1,0 @@
-//! Runs of the crates of locks together, worked by hand. Tests alone, in a crate beside the chain, so that nothing waits for them.
-#![tactic(auto)]
-
-#[cfg(test)]
-mod tests;

@@ -1,0 +1,15 @@
+//! The bytes of each format, worked by hand: gates, labels and anchors, log records, pages, and batches of pages on a volume, crashed at each
+//! device call.
+mod anchors;
+mod areas;
+mod batches;
+mod calls;
+mod crashes;
+mod files;
+mod gates;
+mod labels;
+mod noting;
+mod pages;
+mod records;
+mod trouble;
+mod volumes;
