@@ -20,7 +20,7 @@ impl<T: Tail, V: Disk> Core<T, V> {
 
     /// Goes on with the session's call that waits. A commit is answered once its record is durable; a call that waits for a lock goes on once its
     /// transaction waits no more, and may then be refused as any call, or wait for another granule of its path. Once a device has failed it is
-    /// refused by `Failed`, once. With no call that waits there is nothing to do.
+    /// refused by `Failed`, once; and if its transaction has become the victim of a cycle, by `Deadlock`, once. With no call that waits there is nothing to do.
     pub fn resume(&mut self, alloc: Global, session: SessionId) -> Step
         // A commit is answered only if the force of its record was told.
         ensures step { InEach (λ front disk before s store. Resumed session result self.old self.new front before s store) self.old }
