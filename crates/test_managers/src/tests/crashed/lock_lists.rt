@@ -24,9 +24,9 @@ pub(super) fn in_order(
 ) -> Result<Vec<Request>, AllocError> {
     let mut order = Vec::new(alloc);
     for was in old {
-        for now in new {
-            if are_alike(was, now) && !begins_to_wait(was, now) {
-                order.push(*now)?;
+        for request in new {
+            if are_alike(was, request) && !begins_to_wait(was, request) {
+                order.push(*request)?;
             }
         }
     }
@@ -37,9 +37,9 @@ pub(super) fn in_order(
 
 // Those that are not in the list, and wait or do not.
 fn push_others(order: &mut Vec<Request>, new: &[Request], waits: bool) -> Result<(), AllocError> {
-    for now in new {
-        if now.wanted.is_some() == waits && !order.contains(now) {
-            order.push(*now)?;
+    for request in new {
+        if request.wanted.is_some() == waits && !order.contains(request) {
+            order.push(*request)?;
         }
     }
     Ok(())
