@@ -281,12 +281,17 @@ fn logged(manager: &Manager) -> u64 {
 // With how many records are shown.
 fn measured_open(rt: &HostRuntime, manager: Manager, records: u64) -> io::Result<(u128, u64)> {
     let (log, volume) = crashed(manager);
-    let start = Instant::now(rt)?;
+    let start = Instant::now(rt);
     let opened = opened(rt.alloc(), log, volume);
-    let time = start.elapsed(rt);
-    let shown = match opened {
-        Ok(mut manager) => shown(rt.alloc(), &mut manager),
+    let end = Instant::now(rt);
+    let shown = shown_by(rt.alloc(), opened);
+    let nanos = end?.duration_since(start?).as_nanos();
+    Ok((nanos / u128::from(records.max(1)), shown))
+}
+
+fn shown_by(alloc: Global, opened: Result<Manager, Fault>) -> u64 {
+    match opened {
+        Ok(mut manager) => shown(alloc, &mut manager),
         Err(_) => 0,
-    };
-    Ok((time?.as_nanos() / u128::from(records.max(1)), shown))
+    }
 }

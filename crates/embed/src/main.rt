@@ -17,7 +17,8 @@ const VOLUME: &str = "embed.volume";
 
 const SESSION: SessionId = SessionId(1);
 
-type Manager = World<FileDisk, FileDisk>;
+// In a box, so that handing it on moves a pointer, and not its many fields.
+type Manager = Box<World<FileDisk, FileDisk>>;
 
 #[derive(Debug, Drop, Error)]
 enum Failure {
@@ -43,7 +44,10 @@ fn make(rt: &HostRuntime) -> Result<(), Failure> {
 // Opens the manager, with 64 frames for pages. Its files are locked until it is dropped.
 fn open(rt: &HostRuntime) -> Result<Manager, Failure> {
     let (log, volume) = (FileDisk::open(rt, LOG)?, FileDisk::open(rt, VOLUME)?);
-    World::open(rt.alloc(), log, volume, 64).map_err(|(fault, _, _)| Failure::Manager(fault))
+    match World::open(rt.alloc(), log, volume, 64) {
+        Ok(world) => Ok(Box::new(rt.alloc(), world).map_err(|_| Fault::Memory)?),
+        Err((fault, _, _)) => Err(Failure::Manager(fault)),
+    }
 }
 
 // What a step answers, unless there is nothing to answer yet.

@@ -58,10 +58,10 @@ pub enum Progress {
     Again,
 }
 
-/// A world that is open, and the lines whose calls wait.
+/// A world that is open, and the lines whose calls wait. The world is in a box, since each function that moves what is not would be dear to prove.
 #[derive(Drop)]
 struct Opened {
-    world: ScriptWorld,
+    world: Box<ScriptWorld>,
     waiting: WaitingLines,
 }
 
@@ -157,7 +157,7 @@ impl Manager {
         out: &mut W,
     ) -> Result<(), Stop> {
         let left = match mem::replace(&mut self.access, Access::Lost) {
-            Access::Open(opened) => Some(opened.world.lose_power(pick)),
+            Access::Open(opened) => Some(Box::into_inner(opened.world).lose_power(pick)),
             Access::Closed(log, volume) => Some((crashed(log, pick), crashed(volume, pick))),
             Access::Lost => None,
         };
@@ -199,6 +199,13 @@ fn open(
     requires few { frames ≤ MAX_PAGES }
 {
     match World::open(alloc, log, volume, frames) {
+        Ok(world) => boxed(alloc, world),
+        Err((fault, log, volume)) => (Access::Closed(log, volume), Some(fault)),
+    }
+}
+
+fn boxed(alloc: Global, world: ScriptWorld) -> (Access, Option<Fault>) {
+    match Box::new(alloc, world) {
         Ok(world) => {
             let opened = Opened {
                 world,
@@ -206,7 +213,10 @@ fn open(
             };
             (Access::Open(opened), None)
         }
-        Err((fault, log, volume)) => (Access::Closed(log, volume), Some(fault)),
+        Err(refused) => {
+            let (log, volume) = refused.value.into_devices();
+            (Access::Closed(log, volume), Some(Fault::Memory))
+        }
     }
 }
 

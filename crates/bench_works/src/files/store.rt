@@ -19,7 +19,8 @@ const SESSION: SessionId = SessionId(1);
 /// The one store.
 pub const STORE: StoreId = StoreId(0);
 
-pub type Manager = World<CountDisk, CountDisk>;
+/// In a box, since each function that moves what is not would be dear to prove: a world has many fields.
+pub type Manager = Box<World<CountDisk, CountDisk>>;
 
 /// The clock's answer.
 pub fn now(rt: &HostRuntime) -> Result<Instant, Fault> {
@@ -66,7 +67,13 @@ pub fn open_manager(rt: &HostRuntime, plan: &Plan) -> Result<Manager, Fault> {
 }
 
 fn opened(alloc: Global, log: CountDisk, volume: CountDisk) -> Result<Manager, Fault> {
-    World::open(alloc, log, volume, MAX_POOL_FRAMES).map_err(|(fault, _, _)| fault)
+    match World::open(alloc, log, volume, MAX_POOL_FRAMES) {
+        Ok(world) => match Box::new(alloc, world) {
+            Ok(world) => Ok(world),
+            Err(_) => Err(Fault::Memory),
+        },
+        Err((fault, _, _)) => Err(fault),
+    }
 }
 
 /// So many bytes, of which the first eight tell a number.

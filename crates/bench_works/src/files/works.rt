@@ -232,7 +232,7 @@ fn write_raw(raw: &mut FileDisk, number: u64, text: &[u8]) -> Result<(), Fault> 
 fn inserts(rt: &HostRuntime, plan: &Plan) -> Result<Vec<Figure>, Fault> {
     let mut manager = new_manager(rt, plan)?;
     let (inserted, committed) = timed_inserts(rt, plan, &mut manager)?;
-    let (log, volume) = manager.into_devices();
+    let (log, volume) = Box::into_inner(manager).into_devices();
     let records = plan.count.saturating_mul(plan.size as u64);
     let figures = [
         Figure::ratio("insert", inserted, plan.count, 1, "microseconds_per_record"),

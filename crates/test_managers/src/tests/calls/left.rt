@@ -1,6 +1,6 @@
 //! What a force leaves on a pair of devices: the log's bytes, and what an open is refused with if one byte has another value or the devices
 //! are of two pairs.
-use super::runs::{new_manager, new_pair, opened, play_on, zeroed};
+use super::runs::{devices_of, new_manager, new_pair, opened, play_lines, zeroed};
 use super::trouble::{Trouble, require};
 use shore_disk::MemDisk;
 use shore_types::Device;
@@ -74,11 +74,8 @@ const BESIDE_DAMAGE: [&str; 5] = [
 // The pair that the setup leaves.
 fn left_by_setup(alloc: Global) -> Result<(MemDisk, MemDisk), Trouble> {
     let mut world = new_manager(alloc)?;
-    for line in SETUP {
-        play_on(alloc, &mut world, line)?;
-    }
-    let (log, volume) = world.into_devices();
-    Ok((log.into_inner(), volume.into_inner()))
+    play_lines(alloc, &mut world, &SETUP)?;
+    Ok(devices_of(world))
 }
 
 fn require_told(alloc: Global, log: MemDisk, volume: MemDisk, wanted: &str) -> Result<(), Trouble> {
@@ -184,10 +181,7 @@ fn check_damaged_page(alloc: Global) -> Result<(), Trouble> {
     let Ok(mut world) = opened(alloc, log, volume) else {
         return Err(Trouble::Untrue);
     };
-    for line in BESIDE_DAMAGE {
-        play_on(alloc, &mut world, line)?;
-    }
-    Ok(())
+    play_lines(alloc, &mut world, &BESIDE_DAMAGE)
 }
 
 #[test]

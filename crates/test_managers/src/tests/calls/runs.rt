@@ -198,24 +198,33 @@ fn play(alloc: Global, world: &mut Option<Manager>, line: &str) -> Result<(), Tr
         return Ok(());
     }
     if line.starts_with("run:") {
-        *world = Some(new_manager(alloc)?);
-        return Ok(());
+        return begin(alloc, world, &TWO_STORES);
     }
     if line.starts_with("run over nine stores:") {
-        *world = Some(manager_over(alloc, &NINE_STORES)?);
-        return Ok(());
+        return begin(alloc, world, &NINE_STORES);
     }
     if let Some(("crash", pick)) = line.split_once(": ") {
-        *world = match world.take() {
-            Some(world) => Some(crashed(alloc, world, pick_of(pick)?)?),
-            None => return Err(Trouble::NoLine),
-        };
-        return Ok(());
+        return lose_power(alloc, world, pick_of(pick)?);
     }
     match world {
         Some(world) => play_on(alloc, world, line),
         None => Err(Trouble::NoLine),
     }
+}
+
+// A new manager, with stores of so many pages, in place of the last one.
+fn begin(alloc: Global, world: &mut Option<Manager>, stores: &[u32]) -> Result<(), Trouble> {
+    let _last = world.replace(manager_over(alloc, stores)?);
+    Ok(())
+}
+
+// The manager that opens what a loss of power leaves of the last one, in its place.
+fn lose_power(alloc: Global, world: &mut Option<Manager>, pick: Pick) -> Result<(), Trouble> {
+    let Some(last) = world.take() else {
+        return Err(Trouble::NoLine);
+    };
+    let _none = world.replace(crashed(alloc, last, pick)?);
+    Ok(())
 }
 
 fn pick_of(word: &str) -> Result<Pick, Trouble> {
@@ -229,8 +238,7 @@ fn pick_of(word: &str) -> Result<Pick, Trouble> {
 
 // The manager that opens what a loss of power leaves of this one.
 fn crashed(alloc: Global, world: Manager, pick: Pick) -> Result<Manager, Trouble> {
-    let (log, volume) = world.into_devices();
-    let (mut log, mut volume) = (log.into_inner(), volume.into_inner());
+    let (mut log, mut volume) = devices_of(world);
     log.crash(pick);
     volume.crash(pick);
     match opened(alloc, log, volume) {
@@ -239,7 +247,25 @@ fn crashed(alloc: Global, world: Manager, pick: Pick) -> Result<Manager, Trouble
     }
 }
 
-pub(super) fn play_on(alloc: Global, world: &mut Manager, line: &str) -> Result<(), Trouble> {
+/// The devices of a manager that is cut off, with no fuse.
+pub(super) fn devices_of(world: Manager) -> (MemDisk, MemDisk) {
+    let (log, volume) = Box::into_inner(world).into_devices();
+    (log.into_inner(), volume.into_inner())
+}
+
+/// Plays lines on a manager, up to the first that does not hold.
+pub(super) fn play_lines(
+    alloc: Global,
+    world: &mut Manager,
+    lines: &[&str],
+) -> Result<(), Trouble> {
+    for line in lines {
+        play_on(alloc, world, line)?;
+    }
+    Ok(())
+}
+
+fn play_on(alloc: Global, world: &mut Manager, line: &str) -> Result<(), Trouble> {
     if let Some((asked, wanted)) = line.split_once(" -> ") {
         return require_step(alloc, world, &mut asked.split_whitespace(), wanted);
     }
@@ -337,7 +363,10 @@ pub(super) fn opened(alloc: Global, log: MemDisk, volume: MemDisk) -> Result<Man
     let log = FuseDisk::new(log, u64::MAX);
     let volume = FuseDisk::new(volume, u64::MAX);
     match World::open(alloc, log, volume, MIN_POOL_FRAMES) {
-        Ok(world) => Ok(world),
+        Ok(world) => match Box::new(alloc, world) {
+            Ok(world) => Ok(world),
+            Err(_) => Err(Fault::Memory),
+        },
         Err((fault, _, _)) => Err(fault),
     }
 }

@@ -8,7 +8,8 @@ use std::alloc::{AllocError, Global};
 
 const MOST_LETTERS: usize = 8;
 
-pub(super) type Manager = World<FuseDisk<MemDisk>, FuseDisk<MemDisk>>;
+/// In a box, since each function that moves what is not would be dear to prove: a world has many fields.
+pub(super) type Manager = Box<World<FuseDisk<MemDisk>, FuseDisk<MemDisk>>>;
 
 /// As `began 1`, `waits 2`, `refused 6 NoRecord` or `nothing`.
 pub(super) fn write_step(out: &mut String, step: &Step) -> Result<(), AllocError> {

@@ -52,18 +52,29 @@ fn check_cuts_of(
 ) -> Result<u64, Trouble> {
     let mut cuts = 0u64;
     for calls in 1..MOST_CALLS {
-        let fuse = fuse_of(device, calls);
-        let (once, is_cut_off) = images.devices(alloc)?.open_cut_off(alloc, fuse, pick)?;
-        if !is_cut_off {
-            return Ok(cuts);
+        match cut_twice(alloc, images, wanted, fuse_of(device, calls), pick)? {
+            0 => return Ok(cuts),
+            cut_off => cuts = cuts.saturating_add(cut_off),
         }
-        let (twice, is_cut_off_again) = once.open_cut_off(alloc, fuse, pick)?;
-        let _left = check_whole(alloc, twice, wanted)?;
-        cuts = cuts
-            .saturating_add(1)
-            .saturating_add(u64::from(is_cut_off_again));
     }
     Err(Trouble::Wrong("a restart makes too many calls"))
+}
+
+// How many of two restarts in a row are cut off by this fuse, with a whole one behind them; none if it lets the first one through.
+fn cut_twice(
+    alloc: Global,
+    images: &Images,
+    wanted: &Restarted,
+    fuse: Fuse,
+    pick: Pick,
+) -> Result<u64, Trouble> {
+    let (once, is_cut_off) = images.devices(alloc)?.open_cut_off(alloc, fuse, pick)?;
+    if !is_cut_off {
+        return Ok(0);
+    }
+    let (twice, is_cut_off_again) = once.open_cut_off(alloc, fuse, pick)?;
+    let _left = check_whole(alloc, twice, wanted)?;
+    Ok(1 + u64::from(is_cut_off_again))
 }
 
 /// A whole restart shows what one that was not cut off does, and leaves the same log.

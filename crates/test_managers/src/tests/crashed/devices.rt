@@ -6,8 +6,8 @@ use shore_types::layout::MIN_POOL_FRAMES;
 use shore_world::World;
 use std::alloc::{AllocError, Global};
 
-/// A manager of a pair whose devices can be made to fail.
-pub(super) type Manager = World<FuseDisk<MemDisk>, FuseDisk<MemDisk>>;
+/// A manager of a pair whose devices can be made to fail. It is in a box, since each function that moves what is not would be dear to prove.
+pub(super) type Manager = Box<World<FuseDisk<MemDisk>, FuseDisk<MemDisk>>>;
 
 /// A fuse that no run blows.
 pub(super) const NO_FUSE: u64 = u64::MAX;
@@ -51,7 +51,7 @@ impl Devices {
         let log = FuseDisk::new(self.log, NO_FUSE);
         let volume = FuseDisk::new(self.volume, NO_FUSE);
         match World::open(alloc, log, volume, MIN_POOL_FRAMES) {
-            Ok(world) => Ok(world),
+            Ok(world) => Ok(Box::new(alloc, world)?),
             Err(_) => Err(Trouble::Wrong("the open was refused")),
         }
     }
@@ -91,7 +91,7 @@ impl Devices {
 /// The devices of a manager that is cut off, and how many writes and syncs each of them has passed of the calls that it was to pass.
 pub(super) fn cut_off(world: Manager, calls: (u64, u64)) -> (Devices, u64, u64) {
     let (of_log, of_volume) = calls;
-    let (log, volume) = world.into_devices();
+    let (log, volume) = Box::into_inner(world).into_devices();
     let log_calls = of_log.saturating_sub(log.calls_left());
     let volume_calls = of_volume.saturating_sub(volume.calls_left());
     let devices = Devices {

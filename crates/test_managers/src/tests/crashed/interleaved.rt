@@ -199,31 +199,57 @@ impl Meeting {
         let step = self
             .world
             .step(alloc, turn.doing.event(alloc, turn.session)?);
+        let ends_rollback = ends_rollback(&step);
+        let appended = check_appended(&self.world, turn.txn, waited, &step)?;
         tally.all.events = tally.all.events.saturating_add(1);
+        tally.all.rollbacks.count(turn.doing, &step, appended);
+        self.judge(alloc, turn, was_waiting, &step, tally)?;
+        self.history.note(alloc, turn.session, turn.doing, step)?;
+        check_entries(alloc, ground, self.history.entries())?;
+        Ok(ends_rollback)
+    }
+
+    // What an event came to, and the requests behind it.
+    fn judge(
+        &mut self,
+        alloc: Global,
+        turn: Turn,
+        was_waiting: Option<Doing>,
+        step: &Step,
+        tally: &mut Meetings,
+    ) -> Result<(), Trouble> {
         let requests = in_order(alloc, &self.requests, &self.world.nodes(alloc)?)?;
-        check_locks(alloc, &requests)?;
-        require(!has_cycle(alloc, &requests)?, "a cycle of waits stands")?;
+        self.judge_locks(alloc, turn, was_waiting, &requests, step, tally)?;
+        self.check_step(alloc, turn, was_waiting, &requests, step)?;
+        count(turn, was_waiting, step, requests.len(), tally);
+        self.requests = requests;
+        Ok(())
+    }
+
+    // The requests behind an event.
+    fn judge_locks(
+        &mut self,
+        alloc: Global,
+        turn: Turn,
+        was_waiting: Option<Doing>,
+        requests: &[Request],
+        step: &Step,
+        tally: &mut Meetings,
+    ) -> Result<(), Trouble> {
+        check_locks(alloc, requests)?;
+        require(!has_cycle(alloc, requests)?, "a cycle of waits stands")?;
         let asking = Asking {
             txn: turn.txn,
             doing: turn.doing,
             waited: was_waiting,
             old: &self.requests,
-            new: &requests,
-            step: &step,
+            new: requests,
+            step,
             has_failed: self.world.has_failed(),
         };
         let victims = self.victims.judge(alloc, &asking, &mut tally.deadlocks)?;
         let is_over = matches!(step, Step::Done(Answer::Committed | Answer::Aborted));
-        check_asked(&self.requests, &requests, turn.txn, is_over, &victims)?;
-        let appended = check_appended(&self.world, turn.txn, waited, &step)?;
-        tally.all.rollbacks.count(turn.doing, &step, appended);
-        self.check_step(alloc, turn, was_waiting, &requests, &step)?;
-        count(turn, was_waiting, &step, requests.len(), tally);
-        self.requests = requests;
-        let ends_rollback = ends_rollback(&step);
-        self.history.note(alloc, turn.session, turn.doing, step)?;
-        check_entries(alloc, ground, self.history.entries())?;
-        Ok(ends_rollback)
+        check_asked(&self.requests, requests, turn.txn, is_over, &victims)
     }
 
     // A wait is for a request that waits, or for a record that is not durable. Only who waits is Busy, a savepoint is refused only if it is not there, and a

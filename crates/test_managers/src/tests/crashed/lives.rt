@@ -80,7 +80,8 @@ pub(super) fn live(
     let mut history = ShortHistory::new(alloc);
     let calls = calls_of(fuse);
     make_behind(alloc, &mut world, &mut history, (before, doings), calls)?;
-    cut_short(alloc, world, history, calls)
+    let list = copy_of_log(alloc, &world)?;
+    Ok(cut_short(world, history, list, calls))
 }
 
 // Makes the first events, sets the fuses, and makes the others.
@@ -105,27 +106,27 @@ fn make_behind(
 
 /// What a manager leaves that no fuse is counted for.
 pub(super) fn ended(alloc: Global, world: Manager, history: ShortHistory) -> Result<Life, Trouble> {
-    cut_short(alloc, world, history, calls_of(None))
+    let list = copy_of_log(alloc, &world)?;
+    Ok(cut_short(world, history, list, calls_of(None)))
 }
 
-// What a manager leaves behind fuses that let so many calls pass.
+// What a manager with this log leaves behind fuses that let so many calls pass.
 fn cut_short(
-    alloc: Global,
     world: Manager,
     history: ShortHistory,
+    list: Vec<LogRecord>,
     calls: (u64, u64),
-) -> Result<Life, Trouble> {
-    let list = copy_of_log(alloc, &world)?;
+) -> Life {
     let durable = world.durable().0 as usize;
     let (devices, log_calls, volume_calls) = cut_off(world, calls);
-    Ok(Life {
+    Life {
         entries: history.into_entries(),
         list,
         durable,
         devices,
         log_calls,
         volume_calls,
-    })
+    }
 }
 
 // Makes an event and notes what it comes to.

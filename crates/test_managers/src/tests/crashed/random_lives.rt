@@ -184,27 +184,48 @@ pub(super) fn check_loss(
     chance: &mut Chance,
     tally: &mut Tally,
 ) -> Result<(Ground, Devices), Trouble> {
-    check_history(alloc, &ground, &life)?;
-    require(is_lawful(alloc, &life.list)?, "the log is not lawful")?;
-    let answered = acknowledged(alloc, &life.entries)?;
+    judge_life(alloc, &ground, &life, tally)?;
     let of_log = chance.pick();
     life.devices.lose_power_by(of_log, chance.pick());
     let images = Images::of(alloc, &life.devices)?;
     let wanted = check_crash(alloc, &ground, life)?;
-    tally.crashes = tally.crashes.saturating_add(1);
-    tally.commits_acknowledged = tally
-        .commits_acknowledged
-        .saturating_add(answered.as_slice().len() as u64);
     count_ends(&ground, &wanted, tally)?;
+    let devices = restart_by_chance(alloc, &images, &wanted, chance, tally)?;
+    Ok((wanted.ground, devices))
+}
+
+// What a manager did before the power is lost, and its log.
+fn judge_life(
+    alloc: Global,
+    ground: &Ground,
+    life: &Life,
+    tally: &mut Tally,
+) -> Result<(), Trouble> {
+    check_history(alloc, ground, life)?;
+    require(is_lawful(alloc, &life.list)?, "the log is not lawful")?;
+    let answered = acknowledged(alloc, &life.entries)?.as_slice().len() as u64;
+    tally.crashes = tally.crashes.saturating_add(1);
+    tally.commits_acknowledged = tally.commits_acknowledged.saturating_add(answered);
+    Ok(())
+}
+
+// Some restarts are cut off in a row; a whole one behind them shows what is wanted. Answers what the next loss of power leaves of it.
+fn restart_by_chance(
+    alloc: Global,
+    images: &Images,
+    wanted: &Restarted,
+    chance: &mut Chance,
+    tally: &mut Tally,
+) -> Result<Devices, Trouble> {
     let mut devices = images.devices(alloc)?;
     for _ in 0..chance.below(4) {
         let (left, is_cut_off) = devices.open_cut_off(alloc, chance.fuse(), chance.pick())?;
         devices = left;
         tally.opens_cut_off = tally.opens_cut_off.saturating_add(u64::from(is_cut_off));
     }
-    let mut devices = check_whole(alloc, devices, &wanted)?;
+    let mut devices = check_whole(alloc, devices, wanted)?;
     devices.lose_power(chance.pick());
-    Ok((wanted.ground, devices))
+    Ok(devices)
 }
 
 // The commits that were kept, and the losers that were undone.

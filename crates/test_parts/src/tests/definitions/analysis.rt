@@ -2,7 +2,7 @@
 use super::log_lines::{add, entries};
 use super::trouble::{Trouble, require};
 use super::words::{Words, end, granule_of, is_remark, lsn, txn, word};
-use shore_analysis::{NotAnalysed, analyse};
+use shore_analysis::{NotAnalysed, Tables, analyse};
 use shore_model::{LogRecord, Payload};
 use shore_types::{Geometry, Granule, Lsn, PageId, Rid, Sequence, StoreId, TxnId};
 use std::alloc::{AllocError, Global};
@@ -165,9 +165,13 @@ fn require_unmeant(alloc: Global, list: &mut Vec<LogRecord>, rest: &str) -> Resu
 
 fn require_tables(alloc: Global, list: &[LogRecord], words: &mut Words) -> Result<(), Trouble> {
     let geometry = geometry(alloc)?;
-    let Ok(tables) = analyse(alloc, &geometry, list) else {
-        return Err(Trouble::Untrue);
-    };
+    match analyse(alloc, &geometry, list) {
+        Ok(tables) => require_in_tables(alloc, &tables, words),
+        Err(_) => Err(Trouble::Untrue),
+    }
+}
+
+fn require_in_tables(alloc: Global, tables: &Tables, words: &mut Words) -> Result<(), Trouble> {
     require(tables.next == txn(words)?)?;
     require(tables.txns == entries(alloc, words)?)?;
     for dirty in tables.dirty.as_slice() {
