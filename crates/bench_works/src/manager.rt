@@ -24,8 +24,7 @@ const LOG_BYTES: usize = 1 << 26;
 
 const RECORD: [u8; 100] = [0x5A; 100];
 
-/// In a box, since each function that moves what is not would be dear to prove: a world has many fields.
-pub type Manager = Box<World<MemDisk, MemDisk>>;
+pub type Manager = World<MemDisk, MemDisk>;
 
 /// As many as the greatest store has pages, so that each call is measured with its pages in memory.
 const FRAMES: usize = 4_096;
@@ -54,17 +53,14 @@ pub fn new_manager(alloc: Global, pages: u16) -> Result<Manager, Fault> {
 /// The manager of a pair of devices.
 pub fn opened(alloc: Global, log: MemDisk, volume: MemDisk) -> Result<Manager, Fault> {
     match World::open(alloc, log, volume, FRAMES) {
-        Ok(world) => match Box::new(alloc, world) {
-            Ok(world) => Ok(world),
-            Err(_) => Err(Fault::Memory),
-        },
+        Ok(world) => Ok(world),
         Err((fault, _, _)) => Err(fault),
     }
 }
 
 /// What a loss of power leaves of the devices.
 pub fn crashed(manager: Manager) -> (MemDisk, MemDisk) {
-    let (mut log, mut volume) = Box::into_inner(manager).into_devices();
+    let (mut log, mut volume) = manager.into_devices();
     log.crash(Pick::Old);
     volume.crash(Pick::Old);
     (log, volume)
