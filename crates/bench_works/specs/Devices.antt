@@ -1,13 +1,13 @@
--- What a file that counts its writes shows of itself.
+-- What a device that counts its writes shows of itself.
 use Rattle.std.specs.Prelude.{ℕ}
 use Rattle.shore_disk.specs.Device.{History}
-use Rattle.shore_disk.specs.FileDisk.{failures_of, file_history}
-use Rattle.bench_works.specs.declared.files.devices.CountDisk.{CountDisk}
+use Rattle.shore_disk.specs.AnyDisk.{any_failures, any_history}
+use Rattle.bench_works.specs.declared.counted.CountDisk.{CountDisk}
 
 -- how many of its calls have failed, up to 2^64 - 1
 abbrev pub counted_faults : CountDisk → ℕ
-counted_faults d = failures_of d.file
+counted_faults d = any_failures d.disk
 
--- its length; of its bytes nothing is told
+-- the history of the device in it; that this is what a device does is told of none
 abbrev pub counted_history : CountDisk → History
-counted_history d = file_history d.file
+counted_history d = any_history d.disk

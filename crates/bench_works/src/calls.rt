@@ -1,6 +1,6 @@
 //! How long the calls of a manager take, over devices in memory: of one session, alone and beside others.
 use crate::manager::{
-    Manager, STORE, ask, begin_beside, bytes, commit, crashed, fill, new_manager, opened,
+    FRAMES, Manager, STORE, ask, begin_beside, bytes, commit, crashed, fill, new_manager, opened,
     record_of, scanned, shown,
 };
 use shore_model::Call;
@@ -282,14 +282,14 @@ fn logged(manager: &Manager) -> u64 {
 fn measured_open(rt: &HostRuntime, manager: Manager, records: u64) -> io::Result<(u128, u64)> {
     let (log, volume) = crashed(manager);
     let start = Instant::now(rt);
-    let opened = opened(rt.alloc(), log, volume);
+    let opened = opened(rt.alloc(), log, volume, FRAMES);
     let end = Instant::now(rt);
-    let shown = shown_by(rt.alloc(), opened);
+    let shown = shown_if_opened(rt.alloc(), opened);
     let nanos = end?.duration_since(start?).as_nanos();
     Ok((nanos / u128::from(records.max(1)), shown))
 }
 
-fn shown_by(alloc: Global, opened: Result<Manager, Fault>) -> u64 {
+fn shown_if_opened(alloc: Global, opened: Result<Manager, Fault>) -> u64 {
     match opened {
         Ok(mut manager) => shown(alloc, &mut manager),
         Err(_) => 0,

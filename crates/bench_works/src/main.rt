@@ -4,6 +4,7 @@
 #![tactic(auto)]
 
 mod calls;
+mod counted;
 mod cycles;
 mod devices;
 mod files;

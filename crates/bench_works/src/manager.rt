@@ -1,7 +1,10 @@
 //! A manager over devices in memory, its sessions, and records of a hundred bytes on it.
+ghost use Rattle.std.specs.Prelude.{◌≤◌};
 ghost use Rattle.shore_calls.specs.Events.{IsServed};
+ghost use Rattle.shore_types.specs.declared.layout.TheConstants.{MAX_PAGES, MIN_POOL_FRAMES};
 
-use shore_disk::{MemDisk, Pick};
+use crate::counted::CountDisk;
+use shore_disk::Pick;
 use shore_model::{Answer, Call};
 use shore_types::{
     Bytes, Fault, Geometry, Granule, Mode, PageId, Rid, Sequence, SessionId, StoreId,
@@ -24,10 +27,11 @@ const LOG_BYTES: usize = 1 << 26;
 
 const RECORD: [u8; 100] = [0x5A; 100];
 
-pub type Manager = World<MemDisk, MemDisk>;
+/// In a box, since each function that moves what is not would be dear to prove: a world has many fields.
+pub type Manager = Box<World<CountDisk, CountDisk>>;
 
 /// As many as the greatest store has pages, so that each call is measured with its pages in memory.
-const FRAMES: usize = 4_096;
+pub const FRAMES: usize = 4_096;
 
 fn geometry(alloc: Global, pages: u16) -> Result<Geometry, AllocError> {
     Ok(Geometry {
@@ -37,30 +41,34 @@ fn geometry(alloc: Global, pages: u16) -> Result<Geometry, AllocError> {
     })
 }
 
-fn zeroed(alloc: Global, bytes: usize) -> Result<MemDisk, AllocError> {
-    MemDisk::new(alloc, Vec::from_elem(alloc, 0u8, bytes)?)
-}
-
 /// A manager of a formatted pair, whose one store has so many pages.
 pub fn new_manager(alloc: Global, pages: u16) -> Result<Manager, Fault> {
     let geometry = geometry(alloc, pages)?;
-    let mut log = zeroed(alloc, LOG_BYTES)?;
-    let mut volume = zeroed(alloc, 270_336 + 8_192 * usize::from(pages))?;
+    let mut log = CountDisk::in_memory(alloc, LOG_BYTES)?;
+    let mut volume = CountDisk::in_memory(alloc, 270_336 + 8_192 * usize::from(pages))?;
     format(alloc, &mut log, &mut volume, &geometry)?;
-    opened(alloc, log, volume)
+    opened(alloc, log, volume, FRAMES)
 }
 
-/// The manager of a pair of devices.
-pub fn opened(alloc: Global, log: MemDisk, volume: MemDisk) -> Result<Manager, Fault> {
-    match World::open(alloc, log, volume, FRAMES) {
-        Ok(world) => Ok(world),
+/// The manager of a pair of devices, with so many frames for pages.
+pub fn opened(
+    alloc: Global,
+    log: CountDisk,
+    volume: CountDisk,
+    frames: usize,
+) -> Result<Manager, Fault>
+    requires some { MIN_POOL_FRAMES ≤ frames }
+    requires most { frames ≤ MAX_PAGES }
+{
+    match World::open(alloc, log, volume, frames) {
+        Ok(world) => Ok(Box::new(alloc, world)?),
         Err((fault, _, _)) => Err(fault),
     }
 }
 
 /// What a loss of power leaves of the devices.
-pub fn crashed(manager: Manager) -> (MemDisk, MemDisk) {
-    let (mut log, mut volume) = manager.into_devices();
+pub fn crashed(manager: Manager) -> (CountDisk, CountDisk) {
+    let (mut log, mut volume) = Box::into_inner(manager).into_devices();
     log.crash(Pick::Old);
     volume.crash(Pick::Old);
     (log, volume)

@@ -45,7 +45,7 @@ fn make(rt: &HostRuntime) -> Result<(), Failure> {
 fn open(rt: &HostRuntime) -> Result<Manager, Failure> {
     let (log, volume) = (FileDisk::open(rt, LOG)?, FileDisk::open(rt, VOLUME)?);
     match World::open(rt.alloc(), log, volume, 64) {
-        Ok(world) => Ok(Box::new(rt.alloc(), world).map_err(|_| Fault::Memory)?),
+        Ok(world) => Ok(Box::new(rt.alloc(), world).map_err(Fault::from)?),
         Err((fault, _, _)) => Err(Failure::Manager(fault)),
     }
 }

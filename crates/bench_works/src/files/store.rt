@@ -3,14 +3,15 @@ ghost use Rattle.std.specs.Prelude.{IfOk};
 ghost use Rattle.shore_calls.specs.Events.{IsServed};
 ghost use Rattle.shore_types.specs.Layout.{IsInLimits};
 
-use super::devices::CountDisk;
 use super::plan::Plan;
+use crate::counted::CountDisk;
+use crate::manager::{Manager, opened};
 use shore_model::{Answer, Call};
 use shore_types::layout::MAX_POOL_FRAMES;
 use shore_types::{
     Bytes, Fault, Geometry, Granule, Mode, Pairs, Rid, Sequence, SessionId, StoreId,
 };
-use shore_world::{Event, Step, World, format, volume_bytes};
+use shore_world::{Event, Step, format, volume_bytes};
 use std::alloc::{AllocError, Global};
 use std::time::Instant;
 
@@ -18,9 +19,6 @@ const SESSION: SessionId = SessionId(1);
 
 /// The one store.
 pub const STORE: StoreId = StoreId(0);
-
-/// In a box, since each function that moves what is not would be dear to prove: a world has many fields.
-pub type Manager = Box<World<CountDisk, CountDisk>>;
 
 /// The clock's answer.
 pub fn now(rt: &HostRuntime) -> Result<Instant, Fault> {
@@ -52,7 +50,12 @@ pub fn new_manager(rt: &HostRuntime, plan: &Plan) -> Result<Manager, Fault> {
     let mut log = made(rt, &plan.log, plan.log_bytes())?;
     let mut volume = made(rt, &plan.volume, volume_bytes(&geometry))?;
     format(rt.alloc(), &mut log, &mut volume, &geometry)?;
-    opened(rt.alloc(), log.counted_anew(), volume.counted_anew())
+    opened(
+        rt.alloc(),
+        log.counted_anew(),
+        volume.counted_anew(),
+        MAX_POOL_FRAMES,
+    )
 }
 
 fn made(rt: &HostRuntime, path: &str, len: u64) -> Result<CountDisk, Fault> {
@@ -63,17 +66,7 @@ fn made(rt: &HostRuntime, path: &str, len: u64) -> Result<CountDisk, Fault> {
 pub fn open_manager(rt: &HostRuntime, plan: &Plan) -> Result<Manager, Fault> {
     let log = CountDisk::open(rt, &plan.log).map_err(|_| Fault::Device)?;
     let volume = CountDisk::open(rt, &plan.volume).map_err(|_| Fault::Device)?;
-    opened(rt.alloc(), log, volume)
-}
-
-fn opened(alloc: Global, log: CountDisk, volume: CountDisk) -> Result<Manager, Fault> {
-    match World::open(alloc, log, volume, MAX_POOL_FRAMES) {
-        Ok(world) => match Box::new(alloc, world) {
-            Ok(world) => Ok(world),
-            Err(_) => Err(Fault::Memory),
-        },
-        Err((fault, _, _)) => Err(fault),
-    }
+    opened(rt.alloc(), log, volume, MAX_POOL_FRAMES)
 }
 
 /// So many bytes, of which the first eight tell a number.

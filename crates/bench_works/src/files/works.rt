@@ -1,11 +1,12 @@
 //! The works, each over a pair of files of a folder.
-use super::devices::CountDisk;
 use super::figures::Figure;
 use super::plan::Plan;
 use super::store::{
-    Manager, STORE, begin, begin_alone, bytes, commit, force, insert, nanos_since, new_manager,
-    now, open_manager, scan, update, write_back,
+    STORE, begin, begin_alone, bytes, commit, force, insert, nanos_since, new_manager, now,
+    open_manager, scan, update, write_back,
 };
+use crate::counted::CountDisk;
+use crate::manager::Manager;
 use shore_disk::{Disk, FileDisk};
 use shore_types::{Fault, Pairs, Rid};
 use std::alloc::Global;
