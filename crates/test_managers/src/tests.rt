@@ -1,2 +1,1 @@
-mod calls;
 mod crashed;

@@ -1,3 +1,2 @@
 mod definitions;
 mod formats;
-mod locks;

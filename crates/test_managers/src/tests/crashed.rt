@@ -2,7 +2,7 @@
 //! that has begun on a committed record, of one with a commit of changes under way, of one that has written an undecided change back, and of one with
 //! undecided changes in all of its frames; and some lists of one whose abort has put a part back, and of one with a victim that is not told yet. A manager
 //! that is opened behind the crash then commits a record, and is crashed too. Behind the shorter lists the restart is also cut off at each call of a
-//! device, twice in a row, and then made whole; behind three starts it is cut off three times in a row, at each call of each restart. Then there are
+//! device, twice in a row, and then made whole. Then there are
 //! random runs. The counts are those of the first run: another one says that an event or a restart makes other calls than it did.
 mod chances;
 mod crashes;
@@ -16,21 +16,17 @@ mod lists;
 mod lives;
 mod lock_lists;
 mod log_copies;
-mod random_lives;
+mod losses;
 mod rollbacks;
 mod short_histories;
 mod together;
 mod trouble;
 
-use chances::Chance;
 use crashes::{Restarted, check_crash};
-use cuts::{Rows, check_rows};
 use devices::{Devices, Images};
 use doings::{Doing, ONE_COMMIT, Turn};
 use lists::{Counts, check_lists};
-use lives::{Ground, Start, formatted, live, no_ground};
-use random_lives::{NOTHING_YET, Tally, check_pair};
-use rollbacks::Rollbacks;
+use lives::{Ground, Life, Start, formatted, live, no_ground};
 use shore_disk::Pick;
 use std::alloc::Global;
 use std::test::Fail;
@@ -71,26 +67,8 @@ const CHANGES_IN_ALL_FRAMES: [Turn; 11] = [
     (1, Doing::ForceOpen),
 ];
 
-/// More pages have undecided changes than there are frames: one was written back, and a restart has to write pages back to make room.
-const CHANGES_IN_MORE_PAGES: [Turn; 14] = [
-    (1, Doing::Begin),
-    (1, Doing::InsertInto(1)),
-    (1, Doing::InsertInto(2)),
-    (1, Doing::InsertInto(3)),
-    (1, Doing::InsertInto(4)),
-    (1, Doing::InsertInto(5)),
-    (1, Doing::InsertInto(6)),
-    (1, Doing::InsertInto(7)),
-    (1, Doing::InsertInto(8)),
-    (1, Doing::ForceStage),
-    (1, Doing::ForceOpen),
-    (1, Doing::Insert),
-    (1, Doing::ForceStage),
-    (1, Doing::ForceOpen),
-];
-
-/// The same, and an abort that has put eight changes back in the frames, and needs a force before the page of the first one can come to a frame: the
-/// records of these eight are forced, and the rest is left to who goes on.
+/// Undecided changes on more pages than there are frames, so that one was written back, and an abort that has put eight back in the frames, and needs a force before the page of the
+/// first one can come to a frame: the records of these eight are forced, and the rest is left to who goes on.
 const AN_ABORT_BEGUN: [Turn; 17] = [
     (1, Doing::Begin),
     (1, Doing::InsertInto(1)),
@@ -158,13 +136,17 @@ fn on_a_record(
     before: &'static [Turn],
     cut_behind: usize,
 ) -> Result<Start, Trouble> {
-    let mut life = live(alloc, formatted(alloc)?, &[], &ONE_COMMIT, None)?;
-    life.devices.lose_power(Pick::Old);
+    let Life {
+        past,
+        mut devices,
+        ..
+    } = live(alloc, formatted(alloc)?, &[], &ONE_COMMIT, None)?;
+    devices.lose_power(Pick::Old);
     let Restarted {
         ground,
         devices,
         ..
-    } = check_crash(alloc, &no_ground(alloc), life)?;
+    } = check_crash(alloc, &no_ground(alloc), &past, devices)?;
     start_on(alloc, &devices, ground, before, cut_behind)
 }
 
@@ -239,133 +221,4 @@ fn with_an_abort_begun(rt: HostRuntime) -> Result<(), Fail> {
     let mut start = on_none(rt.alloc(), &AN_ABORT_BEGUN, 1)?;
     start.longest = 2;
     check_start(&rt, start, "with an abort begun", counts(133, 2589, 4124))
-}
-
-/// Rows of three restarts that are cut off, with this pick: whether there are so many of all lengths, and so many of three.
-fn has_deep(rt: &HostRuntime, start: &Start, pick: Pick, wanted: (u64, u64)) -> Result<bool, Fail> {
-    let Rows { rows, deepest } = check_rows(rt.alloc(), start, 3, pick)?;
-    println!(rt;
-        "{pick:?}: {rows} rows of up to three restarts, {deepest} of three that are cut off"
-    )?;
-    Ok((rows, deepest) == wanted)
-}
-
-/// .. with each pick: so many with each.
-fn check_deep(rt: &HostRuntime, start: &Start, wanted: [(u64, u64); 3]) -> Result<(), Fail> {
-    let old = has_deep(rt, start, Pick::Old, wanted[0])?;
-    let new = has_deep(rt, start, Pick::New, wanted[1])?;
-    let noise = has_deep(rt, start, Pick::Noise, wanted[2])?;
-    if !(old && new && noise) {
-        return Err(Fail::new(format_args!("other counts are wanted")));
-    }
-    Ok(())
-}
-
-#[test]
-fn three_deep_with_a_change_written_back(rt: HostRuntime) -> Result<(), Fail> {
-    let start = on_a_record(rt.alloc(), &A_CHANGE_WRITTEN_BACK, 0)?;
-    check_deep(&rt, &start, [(156, 125), (120, 92), (156, 125)])
-}
-
-#[test]
-fn three_deep_with_changes_in_more_pages(rt: HostRuntime) -> Result<(), Fail> {
-    let start = on_none(rt.alloc(), &CHANGES_IN_MORE_PAGES, 0)?;
-    check_deep(
-        &rt,
-        &start,
-        [(6_231, 5_795), (5_465, 5_052), (5_824, 5_399)],
-    )
-}
-
-#[test]
-fn three_deep_with_an_abort_begun(rt: HostRuntime) -> Result<(), Fail> {
-    let start = on_none(rt.alloc(), &AN_ABORT_BEGUN, 0)?;
-    check_deep(
-        &rt,
-        &start,
-        [(4_708, 4_364), (4_110, 3_785), (4_334, 4_001)],
-    )
-}
-
-/// Pairs from a seed, until there were so many events.
-fn check_by_chance(rt: &HostRuntime, seed: u64, most: u64, wanted: Tally) -> Result<(), Fail> {
-    let mut chance = Chance::new(seed);
-    let mut tally = NOTHING_YET;
-    for _ in 0..most {
-        if tally.events >= most {
-            break;
-        }
-        if let Err(trouble) = check_pair(rt.alloc(), &mut chance, &mut tally) {
-            return Err(Fail::new(format_args!("{trouble:?}: seed {seed}, {tally:?}")));
-        }
-    }
-    println!(rt; "seed {seed}: {tally:?}")?;
-    if tally != wanted {
-        return Err(Fail::new(format_args!("seed {seed}: {wanted:?} is wanted")));
-    }
-    Ok(())
-}
-
-#[test]
-fn by_chance(rt: HostRuntime) -> Result<(), Fail> {
-    check_by_chance(
-        &rt,
-        1,
-        50_000,
-        Tally {
-            pairs: 234,
-            events: 50194,
-            dumps: 1040,
-            failures: 129,
-            crashes: 1404,
-            opens_cut_off: 308,
-            commits_acknowledged: 404,
-            commits_kept: 654,
-            losers_undone: 151,
-            losers_begun: 8,
-            pages_flushed: 650,
-            rollbacks: Rollbacks {
-                aborts: 253,
-                aborts_of_nothing: 409,
-                ways_back: 65,
-                ways_back_to_here: 206,
-                savepoints: 941,
-                no_savepoints: 1340,
-                interrupted: 0,
-                must_abort: 0,
-            },
-        },
-    )
-}
-
-#[test]
-fn by_another_chance(rt: HostRuntime) -> Result<(), Fail> {
-    check_by_chance(
-        &rt,
-        2,
-        60_000,
-        Tally {
-            pairs: 284,
-            events: 60090,
-            dumps: 1130,
-            failures: 162,
-            crashes: 1704,
-            opens_cut_off: 363,
-            commits_acknowledged: 509,
-            commits_kept: 776,
-            losers_undone: 178,
-            losers_begun: 20,
-            pages_flushed: 779,
-            rollbacks: Rollbacks {
-                aborts: 241,
-                aborts_of_nothing: 480,
-                ways_back: 94,
-                ways_back_to_here: 205,
-                savepoints: 1107,
-                no_savepoints: 1653,
-                interrupted: 0,
-                must_abort: 0,
-            },
-        },
-    )
 }

@@ -1,10 +1,8 @@
-//! The bytes of each format, worked by hand: gates, labels and anchors, log records, pages, and batches of pages on a volume, crashed at each
-//! device call.
+//! The bytes of each format, worked by hand: gates, labels and anchors, log records, pages, and batches of pages on a volume.
 mod anchors;
 mod areas;
 mod batches;
 mod calls;
-mod crashes;
 mod files;
 mod gates;
 mod labels;

@@ -64,7 +64,8 @@ impl Chance {
         self.below(most) as usize
     }
 
-    pub(super) fn doing(&mut self) -> Doing {
+    /// What goes on in all stores, of which not all have their pages in frames.
+    fn doing(&mut self) -> Doing {
         match self.below(15) {
             0 | 1 => Doing::Begin,
             2 | 3 | 4 => self.change(),
@@ -92,8 +93,10 @@ impl Chance {
         if !is_in_transaction && self.below(8) > 0 {
             return Doing::Begin;
         }
-        if self.below(3) == 0 {
-            return self.contending();
+        match self.below(12) {
+            0 | 1 | 2 | 3 => return self.contending(),
+            4 => return self.doing(),
+            _ => {}
         }
         if savepoints > 0 && self.below(2) == 0 {
             return self.doing_behind(savepoints);

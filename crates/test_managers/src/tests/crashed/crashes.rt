@@ -1,7 +1,7 @@
 //! What a crash leaves of a manager, judged by the slow functions alone.
 use super::devices::{Devices, Manager, calls_of, cut_off};
 use super::doings::{ONE_COMMIT, STORES};
-use super::lives::{Ground, Life, live};
+use super::lives::{Ground, Life, Past, live};
 use super::log_copies::copy_of_log;
 use super::trouble::{Trouble, require};
 use shore_disk::Pick;
@@ -28,11 +28,6 @@ pub(super) struct Restarted {
     pub(super) devices: Devices,
 }
 
-/// The history is one, and is sound.
-pub(super) fn check_history(alloc: Global, ground: &Ground, life: &Life) -> Result<(), Trouble> {
-    check_entries(alloc, ground, &life.entries)
-}
-
 /// The entries are a history, and a sound one.
 pub(super) fn check_entries(
     alloc: Global,
@@ -43,23 +38,18 @@ pub(super) fn check_entries(
     require(is_sound(alloc, &ground.opening, entries)?, "not sound")
 }
 
-/// Opens what a loss of power has left of a life, and checks what is there.
+/// Opens what a loss of power has left of the devices, and checks what is there.
 pub(super) fn check_crash(
     alloc: Global,
     ground: &Ground,
-    life: Life,
+    past: &Past,
+    devices: Devices,
 ) -> Result<Restarted, Trouble> {
-    let Life {
-        entries,
-        list,
-        durable,
-        devices,
-        ..
-    } = life;
     let mut world = devices.open(alloc)?;
-    let (ground, found) = check_opened(alloc, ground, &mut world, (&entries, &list, durable))?;
+    let judged = check_opened(alloc, ground, past, &mut world);
     let read = world.report().read as usize;
     let (devices, _, _) = cut_off(world, calls_of(None));
+    let (ground, found) = judged?;
     Ok(Restarted {
         ground,
         found,
@@ -68,33 +58,27 @@ pub(super) fn check_crash(
     })
 }
 
-// What an open shows behind these entries and this list, of which so much was durable; and its log.
+// What an open shows behind this past, and its log.
 fn check_opened(
     alloc: Global,
     ground: &Ground,
+    past: &Past,
     world: &mut Manager,
-    life: (&[Entry], &[LogRecord], usize),
 ) -> Result<(Ground, Vec<LogRecord>), Trouble> {
-    let (entries, list, durable) = life;
-    check_found(alloc, world, list, durable)?;
-    let records = check_shown(alloc, ground, entries, world)?;
+    check_found(alloc, world, past)?;
+    let records = check_shown(alloc, ground, &past.entries, world)?;
     let found = copy_of_log(alloc, world)?;
+    let opened = found.len();
     let opening = Opening {
         records,
         in_doubt: Sequence::new(alloc),
     };
-    let opened = found.len();
     Ok((Ground { opening, opened }, found))
 }
 
 // What the restart read is a prefix of the list with all that was durable. Behind it are records of undo alone, all durable, and with them each
 // transaction is over.
-fn check_found(
-    alloc: Global,
-    world: &Manager,
-    list: &[LogRecord],
-    durable: usize,
-) -> Result<(), Trouble> {
+fn check_found(alloc: Global, world: &Manager, past: &Past) -> Result<(), Trouble> {
     let (found, waiting) = world.records();
     require(waiting.is_empty(), "something waits after an open")?;
     require(
@@ -106,8 +90,8 @@ fn check_found(
     let (Some(kept), Some(undone)) = (found.get(..read), found.get(read..)) else {
         return Err(Trouble::Wrong("more is read than there is"));
     };
-    require(list.starts_with(kept), "no prefix of the list")?;
-    require(durable <= read, "a durable record is gone")?;
+    require(past.list.starts_with(kept), "no prefix of the list")?;
+    require(past.durable <= read, "a durable record is gone")?;
     require(undone.iter().all(is_of_undo), "undo logs another record")?;
     let mut ended = 0u64;
     for logged in undone {
@@ -211,17 +195,21 @@ pub(super) fn check_next_life(alloc: Global, left: Restarted, pick: Pick) -> Res
         ..
     } = left;
     devices.lose_power(pick);
-    let mut life = live(alloc, devices, &[], &ONE_COMMIT, None)?;
-    check_history(alloc, &ground, &life)?;
-    check_answered(alloc, &life.entries)?;
-    life.devices.lose_power(pick);
-    let _left = check_crash(alloc, &ground, life)?;
+    let Life {
+        past,
+        mut devices,
+        ..
+    } = live(alloc, devices, &[], &ONE_COMMIT, None)?;
+    devices.lose_power(pick);
+    check_one_commit(alloc, &ground, &past)?;
+    let _left = check_crash(alloc, &ground, &past, devices)?;
     Ok(())
 }
 
 // One commit was acknowledged.
-fn check_answered(alloc: Global, entries: &[Entry]) -> Result<(), Trouble> {
-    let answered = acknowledged(alloc, entries)?;
+fn check_one_commit(alloc: Global, ground: &Ground, past: &Past) -> Result<(), Trouble> {
+    check_entries(alloc, ground, &past.entries)?;
+    let answered = acknowledged(alloc, &past.entries)?;
     require(answered.as_slice().len() == 1, "no commit is answered")
 }
 

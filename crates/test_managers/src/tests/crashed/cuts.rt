@@ -1,16 +1,12 @@
 //! Restarts that are cut off.
-use super::crashes::{Restarted, check_crash, require_in_place};
+use super::crashes::{Restarted, require_in_place};
 use super::devices::{Devices, Fuse, Images, Manager, calls_of, cut_off};
-use super::lives::{Start, live};
 use super::trouble::{Trouble, require};
 use shore_disk::Pick;
 use std::alloc::Global;
 
 // No restart here makes so many writes and syncs of a device.
 const MOST_CALLS: u64 = 1000;
-
-// No start here has so many rows of restarts.
-const MOST_ROWS: u64 = 10_000_000;
 
 #[derive(Clone, Copy)]
 enum Device {
@@ -84,8 +80,9 @@ pub(super) fn check_whole(
     wanted: &Restarted,
 ) -> Result<Devices, Trouble> {
     let mut world = devices.open(alloc)?;
-    require_restarted(alloc, &mut world, wanted)?;
+    let judged = require_restarted(alloc, &mut world, wanted);
     let (devices, _, _) = cut_off(world, calls_of(None));
+    judged?;
     Ok(devices)
 }
 
@@ -100,61 +97,4 @@ fn require_restarted(
         "another log behind a restart that was cut off",
     )?;
     require_in_place(alloc, world, &wanted.ground.opening.records)
-}
-
-/// How many rows of restarts were made, and how many of them were cut off as often as a row has restarts.
-#[derive(Drop)]
-pub(super) struct Rows {
-    pub(super) rows: u64,
-    pub(super) deepest: u64,
-}
-
-/// Power is lost on a start. Then so many restarts in a row are cut off, each at each of its calls of each device, and behind each row, the
-/// shorter ones too, a whole one is made.
-pub(super) fn check_rows(
-    alloc: Global,
-    start: &Start,
-    deep: u32,
-    pick: Pick,
-) -> Result<Rows, Trouble> {
-    let devices = start.images.devices(alloc)?;
-    let mut life = live(alloc, devices, start.before, &[], None)?;
-    life.devices.lose_power(pick);
-    let mut left = Vec::new(alloc);
-    left.push((Images::of(alloc, &life.devices)?, 0u32))?;
-    let wanted = check_crash(alloc, &start.ground, life)?;
-    let mut deepest = 0u64;
-    for rows in 0..MOST_ROWS {
-        let Some((images, depth)) = left.pop() else {
-            return Ok(Rows { rows, deepest });
-        };
-        let _left = check_whole(alloc, images.devices(alloc)?, &wanted)?;
-        if depth < deep {
-            push_cut_off(alloc, &images, depth.saturating_add(1), pick, &mut left)?;
-        } else {
-            deepest = deepest.saturating_add(1);
-        }
-    }
-    Err(Trouble::Wrong("too many rows of restarts"))
-}
-
-// What each restart leaves that is cut off at a call of a device.
-fn push_cut_off(
-    alloc: Global,
-    images: &Images,
-    depth: u32,
-    pick: Pick,
-    left: &mut Vec<(Images, u32)>,
-) -> Result<(), Trouble> {
-    for device in BOTH {
-        for calls in 1..MOST_CALLS {
-            let fuse = fuse_of(device, calls);
-            let (devices, is_cut_off) = images.devices(alloc)?.open_cut_off(alloc, fuse, pick)?;
-            if !is_cut_off {
-                break;
-            }
-            left.push((Images::of(alloc, &devices)?, depth))?;
-        }
-    }
-    Ok(())
 }

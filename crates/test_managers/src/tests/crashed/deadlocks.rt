@@ -215,13 +215,7 @@ impl Victims {
             self.push(*txn, false, tables)?;
         }
         let mut table = asking.old.to_vec(alloc)?;
-        let mut is_over = false;
-        for _ in 0..=found.len() {
-            if !is_over {
-                let waits = ask(alloc, &mut table, asking.txn, lock)?;
-                is_over = !waits || self.break_waits(alloc, asking, &mut table, found, tally)?;
-            }
-        }
+        let is_over = self.go_round(alloc, asking, lock, &mut table, found, tally)?;
         let is_own = self.is_told(asking.txn);
         require(
             is_own || !asking.is_deadlock(),
@@ -230,6 +224,25 @@ impl Victims {
         require(is_over, "more victims than waits")?;
         count_ways_on(asking, found.len(), is_own, tally);
         check_left(asking, &table)
+    }
+
+    // Asks and takes back, as often as there are victims at most. Answers whether that is the end of it.
+    fn go_round(
+        &mut self,
+        alloc: Global,
+        asking: &Asking<'_>,
+        lock: Lock,
+        table: &mut Vec<Request>,
+        found: &[TxnId],
+        tally: &mut Deadlocks,
+    ) -> Result<bool, Trouble> {
+        for _ in 0..=found.len() {
+            let waits = ask(alloc, table, asking.txn, lock)?;
+            if !waits || self.break_waits(alloc, asking, table, found, tally)? {
+                return Ok(true);
+            }
+        }
+        Ok(false)
     }
 
     // The victims of a wait, the one that asks among them if it was told so. Answers whether that is the end of it.

@@ -2,12 +2,12 @@
 use super::chances::Chance;
 use super::crashes::check_entries;
 use super::deadlocks::{Asking, Deadlocks, NO_DEADLOCKS, Victims};
-use super::devices::{Devices, Manager};
+use super::devices::{Devices, Manager, calls_of};
 use super::doings::Doing;
 use super::judged_locks::{check_asked, check_locks, waits_at, would_wait};
-use super::lives::{Ground, Life, ended, formatted, no_ground};
+use super::lives::{Ground, Life, ended_behind, formatted, no_ground};
 use super::lock_lists::{has_cycle, in_order, waiting_request};
-use super::random_lives::{NOTHING_YET, Tally, check_dump, check_loss};
+use super::losses::{NOTHING_YET, Tally, check_dump, check_loss};
 use super::rollbacks::{check_appended, check_put_back, ends_rollback, waiting_records};
 use super::short_histories::ShortHistory;
 use super::trouble::{Trouble, require};
@@ -20,7 +20,7 @@ use std::alloc::Global;
 const LIVES_OF_A_PAIR: u32 = 6;
 
 /// What has come up.
-#[derive(Clone, Copy, Debug)]
+#[derive(Clone, Copy)]
 pub(super) struct Meetings {
     pub(super) all: Tally,
     /// Calls that came to wait for a lock.
@@ -29,8 +29,6 @@ pub(super) struct Meetings {
     pub(super) answered_behind: u64,
     /// Tries that somebody was in the way of.
     pub(super) blocked: u64,
-    /// The most requests that there were at once.
-    pub(super) most_requests: usize,
     pub(super) deadlocks: Deadlocks,
 }
 
@@ -48,7 +46,6 @@ pub(super) const NO_MEETINGS: Meetings = Meetings {
     lock_waits: 0,
     answered_behind: 0,
     blocked: 0,
-    most_requests: 0,
     deadlocks: NO_DEADLOCKS,
 };
 
@@ -70,7 +67,7 @@ struct Turn {
     doing: Doing,
 }
 
-/// A pair is formatted, and then is opened, worked with by two to eight sessions and crashed a few times.
+/// A pair is formatted, and then is opened, worked with by one to eight sessions and crashed a few times.
 pub(super) fn check_meetings(
     alloc: Global,
     chance: &mut Chance,
@@ -78,11 +75,10 @@ pub(super) fn check_meetings(
 ) -> Result<(), Trouble> {
     let mut devices = formatted(alloc)?;
     let mut ground = no_ground(alloc);
-    let sessions = chance.below(7).saturating_add(2);
-    tally.all.pairs = tally.all.pairs.saturating_add(1);
+    let sessions = chance.below(8).saturating_add(1);
     for _ in 0..LIVES_OF_A_PAIR {
         let life = live_together(alloc, devices, &ground, sessions, chance, tally)?;
-        (ground, devices) = check_loss(alloc, ground, life, chance, &mut tally.all)?;
+        (ground, devices) = check_loss(alloc, &ground, life, chance, &mut tally.all)?;
     }
     Ok(())
 }
@@ -102,10 +98,11 @@ fn live_together(
         requests: Vec::new(alloc),
         victims: Victims::new(alloc),
     };
-    meeting.go_on_by_chance(alloc, ground, sessions, chance, tally)?;
-    meeting.count_lost(alloc, tally)?;
+    let judged = meeting.go_on_by_chance(alloc, ground, sessions, chance, tally);
     let Meeting { world, history, .. } = meeting;
-    ended(alloc, world, history)
+    let life = ended_behind(alloc, world, history, calls_of(None));
+    judged?;
+    life
 }
 
 impl Meeting {
@@ -138,7 +135,7 @@ impl Meeting {
         if self.world.has_failed() {
             tally.all.failures = tally.all.failures.saturating_add(1);
         }
-        Ok(())
+        self.count_lost(alloc, tally)
     }
 
     // One of the sessions; seldom one whose call would only wait on.
@@ -200,13 +197,26 @@ impl Meeting {
             .world
             .step(alloc, turn.doing.event(alloc, turn.session)?);
         let ends_rollback = ends_rollback(&step);
-        let appended = check_appended(&self.world, turn.txn, waited, &step)?;
-        tally.all.events = tally.all.events.saturating_add(1);
-        tally.all.rollbacks.count(turn.doing, &step, appended);
-        self.judge(alloc, turn, was_waiting, &step, tally)?;
+        self.judge_step(alloc, turn, was_waiting, waited, &step, tally)?;
         self.history.note(alloc, turn.session, turn.doing, step)?;
         check_entries(alloc, ground, self.history.entries())?;
         Ok(ends_rollback)
+    }
+
+    // What an event has appended, before which so many records waited, and what it came to.
+    fn judge_step(
+        &mut self,
+        alloc: Global,
+        turn: Turn,
+        was_waiting: Option<Doing>,
+        waited: usize,
+        step: &Step,
+        tally: &mut Meetings,
+    ) -> Result<(), Trouble> {
+        let appended = check_appended(&self.world, turn.txn, waited, step)?;
+        tally.all.events = tally.all.events.saturating_add(1);
+        tally.all.rollbacks.count(step, appended);
+        self.judge(alloc, turn, was_waiting, step, tally)
     }
 
     // What an event came to, and the requests behind it.
@@ -221,7 +231,7 @@ impl Meeting {
         let requests = in_order(alloc, &self.requests, &self.world.nodes(alloc)?)?;
         self.judge_locks(alloc, turn, was_waiting, &requests, step, tally)?;
         self.check_step(alloc, turn, was_waiting, &requests, step)?;
-        count(turn, was_waiting, step, requests.len(), tally);
+        count(turn, was_waiting, step, tally);
         self.requests = requests;
         Ok(())
     }
@@ -296,14 +306,7 @@ impl Meeting {
     }
 }
 
-fn count(
-    turn: Turn,
-    was_waiting: Option<Doing>,
-    step: &Step,
-    requests: usize,
-    tally: &mut Meetings,
-) {
-    tally.most_requests = tally.most_requests.max(requests);
+fn count(turn: Turn, was_waiting: Option<Doing>, step: &Step, tally: &mut Meetings) {
     let counted = match step {
         Step::Waits(Wait::Lock(_)) if was_waiting.is_none() => &mut tally.lock_waits,
         Step::Done(Answer::Flushed(pages)) => {

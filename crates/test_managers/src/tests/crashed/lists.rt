@@ -1,9 +1,9 @@
 //! The lists of events, one after another, and the cases of each.
-use super::crashes::{check_crash, check_history, check_next_life};
+use super::crashes::{check_crash, check_entries, check_next_life};
 use super::cuts::check_cuts;
 use super::devices::{Fuse, Images};
 use super::doings::{Doing, EACH};
-use super::lives::{Life, Start, live};
+use super::lives::{Ground, Life, Start, live};
 use super::trouble::Trouble;
 use shore_disk::Pick;
 use std::alloc::{AllocError, Global};
@@ -113,20 +113,40 @@ fn check_case(
     counts: &mut Counts,
 ) -> Result<bool, Trouble> {
     let devices = start.images.devices(alloc)?;
-    let mut life = live(alloc, devices, start.before, list, fuse)?;
-    check_history(alloc, &start.ground, &life)?;
+    let life = live(alloc, devices, start.before, list, fuse)?;
+    check_entries(alloc, &start.ground, &life.past.entries)?;
     let is_written = life.log_calls > 0 || life.volume_calls > 0;
-    life.devices.lose_power(pick);
+    let are_cut = list.len() <= start.cut_behind;
+    let cuts = check_behind(alloc, &start.ground, life, pick, are_cut)?;
     counts.cases = counts.cases.saturating_add(1);
-    if list.len() <= start.cut_behind {
-        let images = Images::of(alloc, &life.devices)?;
-        let left = check_crash(alloc, &start.ground, life)?;
-        let cuts = check_cuts(alloc, &images, &left, pick)?;
-        counts.cuts = counts.cuts.saturating_add(cuts);
-        check_next_life(alloc, left, pick)?;
-    } else {
-        let left = check_crash(alloc, &start.ground, life)?;
-        check_next_life(alloc, left, pick)?;
-    }
+    counts.cuts = counts.cuts.saturating_add(cuts);
     Ok(is_written)
+}
+
+// Power is lost behind a life. A restart is judged, and the next life; so are restarts that are cut off, if any are to be. Answers how many were.
+fn check_behind(
+    alloc: Global,
+    ground: &Ground,
+    life: Life,
+    pick: Pick,
+    are_cut: bool,
+) -> Result<u64, Trouble> {
+    let Life {
+        past,
+        mut devices,
+        ..
+    } = life;
+    devices.lose_power(pick);
+    let images = if are_cut {
+        Some(Images::of(alloc, &devices)?)
+    } else {
+        None
+    };
+    let left = check_crash(alloc, ground, &past, devices)?;
+    let cuts = match &images {
+        Some(images) => check_cuts(alloc, images, &left, pick)?,
+        None => 0,
+    };
+    check_next_life(alloc, left, pick)?;
+    Ok(cuts)
 }

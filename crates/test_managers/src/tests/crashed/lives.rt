@@ -55,13 +55,19 @@ pub(super) fn no_ground(alloc: Global) -> Ground {
     }
 }
 
-/// What a manager leaves when it is cut off.
+/// What a manager has answered and logged.
 #[derive(Drop)]
-pub(super) struct Life {
+pub(super) struct Past {
     pub(super) entries: Vec<Entry>,
     /// The records of the log, forced or not.
     pub(super) list: Vec<LogRecord>,
     pub(super) durable: usize,
+}
+
+/// What a manager leaves when it is cut off.
+#[derive(Drop)]
+pub(super) struct Life {
+    pub(super) past: Past,
     pub(super) devices: Devices,
     /// How many writes and syncs of each device passed in the events behind the fuse.
     pub(super) log_calls: u64,
@@ -79,9 +85,10 @@ pub(super) fn live(
     let mut world = devices.open(alloc)?;
     let mut history = ShortHistory::new(alloc);
     let calls = calls_of(fuse);
-    make_behind(alloc, &mut world, &mut history, (before, doings), calls)?;
-    let list = copy_of_log(alloc, &world)?;
-    Ok(cut_short(world, history, list, calls))
+    let made = make_behind(alloc, &mut world, &mut history, (before, doings), calls);
+    let life = ended_behind(alloc, world, history, calls);
+    made?;
+    life
 }
 
 // Makes the first events, sets the fuses, and makes the others.
@@ -104,29 +111,27 @@ fn make_behind(
     Ok(())
 }
 
-/// What a manager leaves that no fuse is counted for.
-pub(super) fn ended(alloc: Global, world: Manager, history: ShortHistory) -> Result<Life, Trouble> {
-    let list = copy_of_log(alloc, &world)?;
-    Ok(cut_short(world, history, list, calls_of(None)))
-}
-
-// What a manager with this log leaves behind fuses that let so many calls pass.
-fn cut_short(
+/// What a manager leaves behind fuses that let so many calls pass.
+pub(super) fn ended_behind(
+    alloc: Global,
     world: Manager,
     history: ShortHistory,
-    list: Vec<LogRecord>,
     calls: (u64, u64),
-) -> Life {
+) -> Result<Life, Trouble> {
+    let list = copy_of_log(alloc, &world);
     let durable = world.durable().0 as usize;
     let (devices, log_calls, volume_calls) = cut_off(world, calls);
-    Life {
+    let past = Past {
         entries: history.into_entries(),
-        list,
+        list: list?,
         durable,
+    };
+    Ok(Life {
+        past,
         devices,
         log_calls,
         volume_calls,
-    }
+    })
 }
 
 // Makes an event and notes what it comes to.

@@ -3,6 +3,7 @@ use super::devices::Manager;
 use super::trouble::Trouble;
 use shore_model::rid_map::copy_image;
 use shore_model::{LogRecord, Payload};
+use shore_types::{Bytes, Rid};
 use std::alloc::Global;
 
 /// The records of the log, forced or not.
@@ -26,28 +27,38 @@ fn push_copies(
 }
 
 fn copy_of(alloc: Global, logged: &LogRecord) -> Result<LogRecord, Trouble> {
-    let payload = match &logged.payload {
-        Payload::Change { id, before, after } => Payload::Change {
-            id: *id,
-            before: copy_image(alloc, before)?,
-            after: copy_image(alloc, after)?,
-        },
+    Ok(LogRecord {
+        txn: logged.txn,
+        previous: logged.previous,
+        payload: copy_of_payload(alloc, &logged.payload)?,
+    })
+}
+
+fn copy_of_payload(alloc: Global, payload: &Payload) -> Result<Payload, Trouble> {
+    match payload {
+        Payload::Change { id, before, after } => copy_of_change(alloc, *id, before, after),
         Payload::Compensation {
             id,
             after,
             undo_next,
-        } => Payload::Compensation {
+        } => Ok(Payload::Compensation {
             id: *id,
             after: copy_image(alloc, after)?,
             undo_next: *undo_next,
-        },
-        Payload::Commit => Payload::Commit,
-        Payload::End => Payload::End,
-        _ => return Err(Trouble::Wrong("a record that is not written as yet")),
-    };
-    Ok(LogRecord {
-        txn: logged.txn,
-        previous: logged.previous,
-        payload,
-    })
+        }),
+        Payload::Commit => Ok(Payload::Commit),
+        Payload::End => Ok(Payload::End),
+        _ => Err(Trouble::Wrong("a record that is not written as yet")),
+    }
+}
+
+fn copy_of_change(
+    alloc: Global,
+    id: Rid,
+    before: &Option<Bytes>,
+    after: &Option<Bytes>,
+) -> Result<Payload, Trouble> {
+    let before = copy_image(alloc, before)?;
+    let after = copy_image(alloc, after)?;
+    Ok(Payload::Change { id, before, after })
 }

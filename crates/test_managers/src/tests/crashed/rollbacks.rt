@@ -1,7 +1,6 @@
 //! What savepoints and rollbacks come to: which records they append, what is in place behind them, and how often each has come up.
 use super::crashes::check_in_place;
 use super::devices::Manager;
-use super::doings::Doing;
 use super::lives::Ground;
 use super::short_histories::ShortHistory;
 use super::trouble::{Trouble, require};
@@ -17,7 +16,7 @@ use std::alloc::Global;
 const OFTEN: u64 = 20;
 
 /// How often what has come up.
-#[derive(Clone, Copy, Debug, PartialEq)]
+#[derive(Clone, Copy)]
 pub(super) struct Rollbacks {
     /// Aborts that put changes back, and those that had none to put back.
     pub(super) aborts: u64,
@@ -27,10 +26,6 @@ pub(super) struct Rollbacks {
     pub(super) ways_back_to_here: u64,
     pub(super) savepoints: u64,
     pub(super) no_savepoints: u64,
-    /// Rollbacks that were refused for want of a force, with some changes put back or none.
-    pub(super) interrupted: u64,
-    /// Calls that were refused since a rollback was not complete.
-    pub(super) must_abort: u64,
 }
 
 pub(super) const NO_ROLLBACKS: Rollbacks = Rollbacks {
@@ -40,8 +35,6 @@ pub(super) const NO_ROLLBACKS: Rollbacks = Rollbacks {
     ways_back_to_here: 0,
     savepoints: 0,
     no_savepoints: 0,
-    interrupted: 0,
-    must_abort: 0,
 };
 
 impl Rollbacks {
@@ -53,8 +46,7 @@ impl Rollbacks {
     }
 
     /// Counts what a step came to that has appended so many records.
-    pub(super) fn count(&mut self, doing: Doing, step: &Step, appended: usize) {
-        let is_rollback = matches!(doing, Doing::Abort | Doing::BackTo(_));
+    pub(super) fn count(&mut self, step: &Step, appended: usize) {
         let counted = match step {
             Step::Done(Answer::Aborted) if appended > 1 => &mut self.aborts,
             Step::Done(Answer::Aborted) => &mut self.aborts_of_nothing,
@@ -62,8 +54,6 @@ impl Rollbacks {
             Step::Done(Answer::WentBack) => &mut self.ways_back_to_here,
             Step::Done(Answer::Saved(_)) => &mut self.savepoints,
             Step::Refused(Fault::NoSavepoint) => &mut self.no_savepoints,
-            Step::Refused(Fault::NeedForce { .. }) if is_rollback => &mut self.interrupted,
-            Step::Refused(Fault::MustAbort) => &mut self.must_abort,
             _ => return,
         };
         *counted = counted.saturating_add(1);

@@ -1,7 +1,10 @@
-//! Sessions side by side, from six seeds. The counts of deadlocks are those of the first run.
+//! One to eight sessions side by side, from six seeds. The counts of deadlocks are those of the first run.
 use super::chances::Chance;
 use super::deadlocks::Deadlocks;
 use super::interleaved::{Meetings, NO_MEETINGS, check_meetings};
+use super::losses::Tally;
+use super::rollbacks::Rollbacks;
+use std::io;
 use std::test::Fail;
 
 /// Of each seed sessions make so many events.
@@ -16,10 +19,11 @@ fn check_together(rt: &HostRuntime, seed: u64, wanted: Deadlocks) -> Result<(), 
             break;
         }
         if let Err(trouble) = check_meetings(rt.alloc(), &mut chance, &mut tally) {
-            return Err(Fail::new(format_args!("{trouble:?}: seed {seed}, {tally:?}")));
+            let events = tally.all.events;
+            return Err(Fail::new(format_args!("{trouble:?}: seed {seed}, behind {events} events")));
         }
     }
-    println!(rt; "sessions from seed {seed}: {tally:?}")?;
+    tell(rt, seed, &tally)?;
     if !tally.has_each(EVENTS_TOGETHER) {
         return Err(Fail::new(format_args!("seed {seed}: too little has come up")));
     }
@@ -29,21 +33,58 @@ fn check_together(rt: &HostRuntime, seed: u64, wanted: Deadlocks) -> Result<(), 
     Ok(())
 }
 
+/// Prints what has come up.
+fn tell(rt: &HostRuntime, seed: u64, tally: &Meetings) -> io::Result<()> {
+    let Tally {
+        events,
+        crashes,
+        opens_cut_off,
+        commits_acknowledged,
+        losers_undone,
+        losers_begun,
+        rollbacks,
+        ..
+    } = tally.all;
+    println!(rt;
+        "seed {seed}: {events} events, {crashes} losses of power, {opens_cut_off} opens cut off, {commits_acknowledged} commits acknowledged"
+    )?;
+    println!(rt; "{losers_undone} losers undone, {losers_begun} of them begun")?;
+    let Rollbacks {
+        aborts,
+        ways_back,
+        savepoints,
+        ..
+    } = rollbacks;
+    println!(rt;
+        "{savepoints} savepoints, {aborts} aborts and {ways_back} ways back that put something back"
+    )?;
+    let Meetings {
+        lock_waits,
+        answered_behind,
+        blocked,
+        deadlocks,
+        ..
+    } = *tally;
+    println!(rt;
+        "{lock_waits} waits for a lock, {answered_behind} answered behind one, {blocked} tries blocked, {deadlocks:?}"
+    )
+}
+
 #[test]
 fn from_seed_3(rt: HostRuntime) -> Result<(), Fail> {
     check_together(
         &rt,
         3,
         Deadlocks {
-            told_at_once: 107,
-            told_going_on: 2,
-            told_behind: 148,
-            let_through: 12,
-            waiting_on: 140,
-            of_several: 14,
-            longer: 47,
-            refused: 87,
-            lost: 6,
+            told_at_once: 97,
+            told_going_on: 4,
+            told_behind: 169,
+            let_through: 18,
+            waiting_on: 138,
+            of_several: 20,
+            longer: 53,
+            refused: 103,
+            lost: 2,
         },
     )
 }
@@ -54,15 +95,15 @@ fn from_seed_4(rt: HostRuntime) -> Result<(), Fail> {
         &rt,
         4,
         Deadlocks {
-            told_at_once: 116,
-            told_going_on: 3,
-            told_behind: 160,
-            let_through: 7,
-            waiting_on: 153,
-            of_several: 14,
-            longer: 44,
-            refused: 105,
-            lost: 3,
+            told_at_once: 102,
+            told_going_on: 7,
+            told_behind: 139,
+            let_through: 10,
+            waiting_on: 132,
+            of_several: 15,
+            longer: 49,
+            refused: 85,
+            lost: 5,
         },
     )
 }
@@ -73,15 +114,15 @@ fn from_seed_5(rt: HostRuntime) -> Result<(), Fail> {
         &rt,
         5,
         Deadlocks {
-            told_at_once: 102,
-            told_going_on: 6,
-            told_behind: 175,
-            let_through: 9,
-            waiting_on: 154,
+            told_at_once: 70,
+            told_going_on: 2,
+            told_behind: 157,
+            let_through: 11,
+            waiting_on: 133,
             of_several: 24,
-            longer: 58,
-            refused: 97,
-            lost: 5,
+            longer: 38,
+            refused: 67,
+            lost: 2,
         },
     )
 }
@@ -92,15 +133,15 @@ fn from_seed_6(rt: HostRuntime) -> Result<(), Fail> {
         &rt,
         6,
         Deadlocks {
-            told_at_once: 105,
-            told_going_on: 4,
-            told_behind: 180,
-            let_through: 16,
-            waiting_on: 158,
-            of_several: 23,
-            longer: 56,
-            refused: 105,
-            lost: 9,
+            told_at_once: 80,
+            told_going_on: 3,
+            told_behind: 133,
+            let_through: 5,
+            waiting_on: 120,
+            of_several: 13,
+            longer: 32,
+            refused: 87,
+            lost: 2,
         },
     )
 }
@@ -111,15 +152,15 @@ fn from_seed_7(rt: HostRuntime) -> Result<(), Fail> {
         &rt,
         7,
         Deadlocks {
-            told_at_once: 85,
-            told_going_on: 4,
-            told_behind: 169,
-            let_through: 13,
-            waiting_on: 146,
-            of_several: 18,
-            longer: 41,
-            refused: 114,
-            lost: 9,
+            told_at_once: 65,
+            told_going_on: 2,
+            told_behind: 104,
+            let_through: 5,
+            waiting_on: 99,
+            of_several: 9,
+            longer: 25,
+            refused: 63,
+            lost: 4,
         },
     )
 }
@@ -130,14 +171,14 @@ fn from_seed_8(rt: HostRuntime) -> Result<(), Fail> {
         &rt,
         8,
         Deadlocks {
-            told_at_once: 112,
+            told_at_once: 96,
             told_going_on: 4,
-            told_behind: 172,
-            let_through: 11,
-            waiting_on: 146,
+            told_behind: 142,
+            let_through: 6,
+            waiting_on: 125,
             of_several: 21,
-            longer: 57,
-            refused: 102,
+            longer: 33,
+            refused: 78,
             lost: 6,
         },
     )

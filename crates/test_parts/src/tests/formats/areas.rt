@@ -1,12 +1,14 @@
 //! What the replay of an open area, and the read of a page, are refused with if one byte has another value.
-use super::batches::Change;
-use super::crashes::cut_off;
-use super::trouble::Trouble;
+use super::batches::{Change, write};
+use super::trouble::{Trouble, require};
 use super::volumes::{disk_of, first_image, pages_on, read};
-use shore_disk::Pick;
+use shore_disk::{FuseDisk, Pick};
 use shore_types::{Device, Fault};
 use std::alloc::{AllocError, Global};
 use std::process::Abort;
+
+/// The calls of a batch up to the sync of its gate.
+const OPEN_GATE: u64 = 5;
 
 /// The bytes of a volume whose pages 3 and 7 have images behind an open gate, and are old in place.
 fn open_area(alloc: Global) -> Result<Vec<u8>, Trouble> {
@@ -15,7 +17,11 @@ fn open_area(alloc: Global) -> Result<Vec<u8>, Trouble> {
         number: 2,
         bytes: &[0x22; 90],
     };
-    let (mut left, _) = cut_off(alloc, &first_image(alloc)?, &change, 5)?;
+    let device = FuseDisk::new(disk_of(alloc, &first_image(alloc)?)?, OPEN_GATE);
+    let mut dev = pages_on(alloc, device)?;
+    let is_written = write(alloc, &mut dev, &change)?;
+    require(!is_written, "a batch behind a fuse is written")?;
+    let mut left = dev.into_device().into_inner();
     left.crash(Pick::Old);
     Ok(left.bytes().to_vec(alloc)?)
 }

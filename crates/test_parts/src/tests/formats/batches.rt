@@ -1,4 +1,4 @@
-//! Batches of pages, and the volume that they leave by a slow twin.
+//! Batches of pages.
 ghost use Rattle.std.specs.Prelude.{◌≡◌, [], ◌∷◌, IfOk};
 ghost use Rattle.shore_dwrite.specs.Images.{numbers_of, texts_of};
 ghost use Rattle.shore_dwrite.specs.Settled.{geometry_of};
@@ -6,11 +6,11 @@ ghost use Rattle.shore_dwrite.specs.Shown.{IsBatch};
 ghost use Rattle.shore_types.specs.declared.layout.Geometry.{Geometry};
 
 use super::trouble::Trouble;
-use super::volumes::{PAGES, page_with, place_of};
+use super::volumes::{PAGES, page_with};
 use shore_disk::Disk;
 use shore_dwrite::{PageDev, PageImages};
-use shore_types::layout::{MAX_BATCH_PAGES, PAGE_BYTES};
-use std::alloc::{AllocError, Global};
+use shore_types::layout::MAX_BATCH_PAGES;
+use std::alloc::Global;
 
 /// The same change of some pages: its number, and the record that it puts into slot 0.
 #[derive(Clone, Copy)]
@@ -48,25 +48,7 @@ pub(super) fn write<D: Disk>(
     change: &Change<'_>,
 ) -> Result<bool, Trouble>
     requires { (geometry_of dev.old).stores ≡ 40 ∷ [] }
-    ensures { geometry_of dev.new ≡ geometry_of dev.old }
 {
     let images = batch_of(alloc, change)?;
     Ok(dev.write_batch(&images).is_ok())
-}
-
-/// The bytes of a volume with a change made on its pages.
-pub(super) fn with_change(
-    alloc: Global,
-    image: &[u8],
-    change: &Change<'_>,
-) -> Result<Vec<u8>, AllocError> {
-    let mut image = image.to_vec(alloc)?;
-    for page in change.pages {
-        let text = page_with(alloc, *page, change.number, change.bytes)?;
-        let at = place_of(*page);
-        if at + PAGE_BYTES <= image.len() {
-            image[at..at + PAGE_BYTES].copy_from_slice(text.text());
-        }
-    }
-    Ok(image)
 }

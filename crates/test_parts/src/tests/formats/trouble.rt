@@ -2,7 +2,6 @@
 use shore_disk::DiskFault;
 use shore_types::Fault;
 use std::alloc::AllocError;
-use std::io;
 
 /// Memory was refused, or something is not as it has to be.
 #[derive(Clone, Copy, Debug)]
@@ -22,12 +21,6 @@ impl From<AllocError> for Trouble {
 impl From<Fault> for Trouble {
     fn from(_: Fault) -> Trouble {
         Trouble::Refused
-    }
-}
-
-impl From<io::Error> for Trouble {
-    fn from(_: io::Error) -> Trouble {
-        Trouble::Wrong("nothing can be printed")
     }
 }
 

@@ -89,29 +89,9 @@ pub(super) fn read<D: Disk>(
     last: u64,
 ) -> Result<Page, Fault>
     requires { (geometry_of dev.old).stores ≡ 40 ∷ [] }
-    ensures { geometry_of dev.new ≡ geometry_of dev.old }
 {
     if page >= PAGES {
         return Err(Fault::Memory);
     }
     dev.read_page(alloc, page_id(page), Lsn(last))
-}
-
-/// Whether each page is read as it is in the bytes of a volume.
-pub(super) fn shows<D: Disk>(
-    alloc: Global,
-    dev: &mut PageDev<D>,
-    volume: &[u8],
-) -> Result<bool, Fault>
-    requires { (geometry_of dev.old).stores ≡ 40 ∷ [] }
-    ensures { geometry_of dev.new ≡ geometry_of dev.old }
-{
-    for page in 0..PAGES {
-        let read = read(alloc, dev, page, u64::MAX)?;
-        let at = place_of(page);
-        if volume.get(at..at + PAGE_BYTES) != Some(read.text()) {
-            return Ok(false);
-        }
-    }
-    Ok(true)
 }
