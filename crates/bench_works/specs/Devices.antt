@@ -8,6 +8,6 @@ use Rattle.bench_works.specs.declared.counted.CountDisk.{CountDisk}
 abbrev pub counted_faults : CountDisk → ℕ
 counted_faults d = any_failures d.disk
 
--- the history of the device in it; that this is what a device does is told of none
+-- the history of the device in it; a `CountDisk` is never claimed honest, so of this the length alone is told
 abbrev pub counted_history : CountDisk → History
 counted_history d = any_history d.disk

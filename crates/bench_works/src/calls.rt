@@ -1,19 +1,23 @@
 //! How long the calls of a manager take, over devices in memory: of one session, alone and beside others.
+ghost use Rattle.std.specs.Prelude.{◌≤◌};
+
+use crate::clock::nanos_of_a_round;
+use crate::counted::CountDisk;
+use crate::layout::STORE;
 use crate::manager::{
-    FRAMES, Manager, STORE, ask, begin_beside, bytes, commit, crashed, fill, new_manager, opened,
-    record_of, scanned, shown,
+    FRAMES, LAST_SESSION, Manager, SESSION, ask, bytes, commit, fill, logged, new_manager, opened,
+    record_of, records, scan, taken_apart, update,
 };
+use crate::waiting;
+use shore_disk::Pick;
 use shore_model::Call;
-use shore_types::{Fault, Mode};
+use shore_types::{Fault, Granule, Mode, SessionId};
 use std::alloc::Global;
 use std::io;
 use std::time::Instant;
 
-// So many rounds are one transaction.
-const ROUNDS_OF_A_TRANSACTION: u64 = 100;
-
 // The names of all works.
-const WORKS: [&str; 14] = [
+const WORKS: [&str; 17] = [
     "call_get",
     "call_get_beside",
     "call_insert",
@@ -28,6 +32,9 @@ const WORKS: [&str; 14] = [
     "call_commit",
     "call_abort",
     "call_open",
+    "call_let_through",
+    "call_wait",
+    "call_victims",
 ];
 
 /// A call on records of a hundred bytes, under its locks.
@@ -47,21 +54,23 @@ pub enum Kind {
     Savepoint,
     /// Updates one of a thousand records, and goes back to the savepoint before it.
     Back,
+    /// None: each round begins and commits a transaction that does nothing, with the force of its record.
+    Nothing,
 }
 
 /// What a round does.
 #[derive(Clone, Copy)]
 pub enum Work {
-    /// Makes a call. A hundred rounds are a transaction, with its begin, its commit and its force.
+    /// Makes a call. A hundred rounds with one are a transaction, with its begin, its commit and its force.
     Alone(Kind),
     /// The same, beside 255 transactions that have an intention on the store.
     Beside(Kind),
-    /// Begins and commits a transaction that does nothing, with the force of its record.
-    Commit,
     /// The abort of a transaction with so many updates as there are rounds: a round is an update that is put back.
     Abort,
     /// An open of what a crash left of one transaction with so many inserts as there are rounds: a round is a record.
     Open,
+    /// What is measured of a round of sessions that wait for one another.
+    Waiting(waiting::Work),
 }
 
 impl Work {
@@ -78,17 +87,20 @@ impl Work {
             "call_scan_beside" => Some(Work::Beside(Kind::Scan)),
             "call_savepoint" => Some(Work::Alone(Kind::Savepoint)),
             "call_back" => Some(Work::Alone(Kind::Back)),
-            "call_commit" => Some(Work::Commit),
+            "call_commit" => Some(Work::Alone(Kind::Nothing)),
             "call_abort" => Some(Work::Abort),
             "call_open" => Some(Work::Open),
+            "call_let_through" => Some(Work::Waiting(waiting::Work::LetThrough)),
+            "call_wait" => Some(Work::Waiting(waiting::Work::Wait)),
+            "call_victims" => Some(Work::Waiting(waiting::Work::Victims)),
             _ => None,
         }
     }
 
     // The pages of the store.
-    fn pages(self) -> u16 {
+    fn pages(self) -> u32 {
         match self {
-            Work::Alone(Kind::Scan) | Work::Beside(Kind::Scan) => 16,
+            Work::Alone(Kind::Scan) | Work::Beside(Kind::Scan) | Work::Waiting(_) => 16,
             _ => 4_096,
         }
     }
@@ -97,7 +109,7 @@ impl Work {
     fn records(self, rounds: u64) -> u64 {
         match self {
             Work::Alone(kind) | Work::Beside(kind) => kind.records(),
-            Work::Commit => 0,
+            Work::Waiting(_) => 2,
             Work::Abort => 1_000,
             Work::Open => rounds,
         }
@@ -107,7 +119,7 @@ impl Work {
 impl Kind {
     fn records(self) -> u64 {
         match self {
-            Kind::Insert => 0,
+            Kind::Insert | Kind::Nothing => 0,
             Kind::Get | Kind::Update | Kind::Scan | Kind::Savepoint | Kind::Back => 1_000,
             Kind::InsertFar => 78_000,
         }
@@ -122,13 +134,19 @@ impl Kind {
             | Kind::InsertFar
             | Kind::Update
             | Kind::Savepoint
-            | Kind::Back => Mode::IX,
+            | Kind::Back
+            | Kind::Nothing => Mode::IX,
         }
     }
 
-    // Whether a transaction has a savepoint before its first round.
-    fn has_savepoint(self) -> bool {
-        matches!(self, Kind::Savepoint | Kind::Back)
+    // How many rounds are one transaction.
+    fn rounds_of_a_transaction(self) -> u64
+        ensures { 1 ≤ result }
+    {
+        match self {
+            Kind::Nothing => 1,
+            _ => 100,
+        }
     }
 }
 
@@ -145,117 +163,121 @@ pub fn count(rt: &HostRuntime) -> io::Result<()> {
 
 // One call. Whether it was answered, and a scan with all records.
 fn call_of(alloc: Global, manager: &mut Manager, kind: Kind, round: u64) -> Result<bool, Fault> {
-    Ok(match kind {
-        Kind::Get => ask(alloc, manager, Call::Get(record_of(round))),
-        Kind::Insert | Kind::InsertFar => ask(alloc, manager, Call::Insert(STORE, bytes(alloc)?)),
-        Kind::Update => update(alloc, manager, round)?,
-        Kind::Scan => scanned(alloc, manager) == 1_000,
-        Kind::Savepoint => ask(alloc, manager, Call::Savepoint) && go_back(alloc, manager),
-        Kind::Back => update(alloc, manager, round)? && go_back(alloc, manager),
-    })
+    match kind {
+        Kind::Get => ask(alloc, manager, SESSION, Call::Get(record_of(round))),
+        Kind::Insert | Kind::InsertFar => {
+            ask(alloc, manager, SESSION, Call::Insert(STORE, bytes(alloc)?))
+        }
+        Kind::Update => update(alloc, manager, SESSION, round),
+        Kind::Scan => Ok(scan(alloc, manager)?.len() == 1_000),
+        Kind::Savepoint => {
+            ask(alloc, manager, SESSION, Call::Savepoint)?;
+            ask(alloc, manager, SESSION, Call::BackTo(0))
+        }
+        Kind::Back => {
+            update(alloc, manager, SESSION, round)?;
+            ask(alloc, manager, SESSION, Call::BackTo(0))
+        }
+        Kind::Nothing => Ok(true),
+    }
 }
 
-fn update(alloc: Global, manager: &mut Manager, round: u64) -> Result<bool, Fault> {
-    let id = record_of(round);
-    Ok(ask(alloc, manager, Call::Update(id, bytes(alloc)?)))
-}
-
-// To the first savepoint.
-fn go_back(alloc: Global, manager: &mut Manager) -> bool {
-    ask(alloc, manager, Call::BackTo(0))
-}
-
-fn begin(alloc: Global, manager: &mut Manager, kind: Kind) -> bool {
-    let is_begun = ask(alloc, manager, Call::Begin);
-    is_begun && (!kind.has_savepoint() || ask(alloc, manager, Call::Savepoint))
-}
-
-// One round of a transaction, which begins with its first and commits with its last one.
-fn round_within(
+// One round of a transaction, which begins with its first and commits with its last one. One that goes back sets its savepoint first.
+fn round_of(
     alloc: Global,
     manager: &mut Manager,
     kind: Kind,
     round: u64,
     is_last: bool,
 ) -> Result<bool, Fault> {
-    let within = round % ROUNDS_OF_A_TRANSACTION;
-    let is_begun = within > 0 || begin(alloc, manager, kind);
-    let is_done = call_of(alloc, manager, kind, round)?;
-    let ends = is_last || within == ROUNDS_OF_A_TRANSACTION - 1;
-    Ok(is_begun && is_done && (!ends || commit(alloc, manager)))
-}
-
-fn round_of(
-    alloc: Global,
-    manager: &mut Manager,
-    work: Work,
-    round: u64,
-    is_last: bool,
-) -> Result<bool, Fault> {
-    match work {
-        Work::Alone(kind) | Work::Beside(kind) => {
-            round_within(alloc, manager, kind, round, is_last)
+    let rounds = kind.rounds_of_a_transaction();
+    let within = round % rounds;
+    if within == 0 {
+        ask(alloc, manager, SESSION, Call::Begin)?;
+        if matches!(kind, Kind::Savepoint | Kind::Back) {
+            ask(alloc, manager, SESSION, Call::Savepoint)?;
         }
-        Work::Commit => Ok(ask(alloc, manager, Call::Begin) && commit(alloc, manager)),
-        Work::Abort | Work::Open => Ok(false),
     }
-}
-
-fn rounds_of(alloc: Global, manager: &mut Manager, work: Work, rounds: u64) -> Result<u64, Fault> {
-    let mut done = 0u64;
-    for round in 0..rounds {
-        let is_done = round_of(alloc, manager, work, round, round + 1 == rounds)?;
-        done = done.saturating_add(u64::from(is_done));
+    let is_done = call_of(alloc, manager, kind, round)?;
+    if is_last || within == rounds - 1 {
+        commit(alloc, manager, SESSION)?;
     }
-    Ok(done)
+    Ok(is_done)
 }
 
-// A manager on which the rounds may begin.
-fn prepared(alloc: Global, work: Work, rounds: u64) -> Result<Manager, Fault> {
-    let mut manager = new_manager(alloc, work.pages())?;
-    prepare(alloc, &mut manager, work, rounds)?;
-    Ok(manager)
-}
-
+// Makes a manager ready for the first round.
 fn prepare(alloc: Global, manager: &mut Manager, work: Work, rounds: u64) -> Result<(), Fault> {
     fill(alloc, manager, work.records(rounds))?;
     match work {
-        Work::Alone(_) | Work::Commit | Work::Open => {}
+        Work::Alone(_) | Work::Open => Ok(()),
         Work::Abort => {
-            ask(alloc, manager, Call::Begin);
+            ask(alloc, manager, SESSION, Call::Begin)?;
             for round in 0..rounds {
-                update(alloc, manager, round)?;
+                update(alloc, manager, SESSION, round)?;
             }
+            Ok(())
         }
         Work::Beside(kind) => {
-            begin_beside(alloc, manager, kind.intention_beside());
+            for number in 2..=LAST_SESSION {
+                ask(alloc, manager, SessionId(number), Call::Begin)?;
+                let lock = Call::Lock(Granule::Store(STORE), kind.intention_beside());
+                ask(alloc, manager, SessionId(number), lock)?;
+            }
+            Ok(())
         }
+        Work::Waiting(work) => waiting::prepare(alloc, manager, work),
     }
-    Ok(())
 }
 
 /// The nanoseconds of a round, and how many were done; nothing is done if there is no memory.
 pub fn measured(rt: &HostRuntime, work: Work, rounds: u64) -> io::Result<(u128, u64)> {
-    let Ok(mut manager) = prepared(rt.alloc(), work, rounds) else {
-        return Ok((0, 0));
+    let mut manager = match new_manager(rt.alloc(), work.pages()) {
+        Ok(manager) => manager,
+        Err(_) => return Ok((0, 0)),
     };
+    let measured = measured_on(rt, &mut manager, work, rounds);
+    let (log, volume) = taken_apart(manager);
     match work {
-        Work::Abort => measured_abort(rt, &mut manager, rounds),
-        Work::Open => measured_open(rt, manager, rounds),
-        _ => measured_rounds(rt, &mut manager, work, rounds),
+        Work::Open => measured_open(rt, log, volume, rounds),
+        _ => measured,
+    }
+}
+
+fn measured_on(
+    rt: &HostRuntime,
+    manager: &mut Manager,
+    work: Work,
+    rounds: u64,
+) -> io::Result<(u128, u64)> {
+    if prepare(rt.alloc(), manager, work, rounds).is_err() {
+        return Ok((0, 0));
+    }
+    match work {
+        Work::Alone(kind) | Work::Beside(kind) => measured_rounds(rt, manager, kind, rounds),
+        Work::Abort => measured_abort(rt, manager, rounds),
+        Work::Waiting(work) => waiting::measured(rt, manager, work, rounds),
+        Work::Open => Ok((0, 0)),
     }
 }
 
 fn measured_rounds(
     rt: &HostRuntime,
     manager: &mut Manager,
-    work: Work,
+    kind: Kind,
     rounds: u64,
 ) -> io::Result<(u128, u64)> {
     let start = Instant::now(rt)?;
-    let done = rounds_of(rt.alloc(), manager, work, rounds).unwrap_or(0);
-    let nanos = start.elapsed(rt)?.as_nanos() / u128::from(rounds.max(1));
-    Ok((nanos, done))
+    let mut done = 0u64;
+    for round in 0..rounds {
+        let is_last = round + 1 == rounds;
+        if matches!(
+            round_of(rt.alloc(), manager, kind, round, is_last),
+            Ok(true)
+        ) {
+            done = done.saturating_add(1);
+        }
+    }
+    Ok((nanos_of_a_round(rt, &start, rounds)?, done))
 }
 
 // With how many updates were put back: the log has a record more for each, and one for the end.
@@ -266,32 +288,36 @@ fn measured_abort(
 ) -> io::Result<(u128, u64)> {
     let before = logged(manager);
     let start = Instant::now(rt)?;
-    let is_done = ask(rt.alloc(), manager, Call::Abort);
-    let nanos = start.elapsed(rt)?.as_nanos() / u128::from(updates.max(1));
+    let is_done = ask(rt.alloc(), manager, SESSION, Call::Abort).is_ok();
+    let nanos = nanos_of_a_round(rt, &start, updates)?;
     let undone = logged(manager).saturating_sub(before).saturating_sub(1);
     Ok((nanos, if is_done { undone } else { 0 }))
 }
 
-// How many records the log has.
-fn logged(manager: &Manager) -> u64 {
-    let (handed_over, waiting) = manager.records();
-    (handed_over.len() as u64).saturating_add(waiting.len() as u64)
-}
-
-// With how many records are shown.
-fn measured_open(rt: &HostRuntime, manager: Manager, records: u64) -> io::Result<(u128, u64)> {
-    let (log, volume) = crashed(manager);
-    let start = Instant::now(rt);
+// Of what a loss of power leaves of the devices. With how many records are shown.
+fn measured_open(
+    rt: &HostRuntime,
+    mut log: CountDisk,
+    mut volume: CountDisk,
+    rounds: u64,
+) -> io::Result<(u128, u64)> {
+    log.crash(Pick::Old);
+    volume.crash(Pick::Old);
+    let start = Instant::now(rt)?;
     let opened = opened(rt.alloc(), log, volume, FRAMES);
-    let end = Instant::now(rt);
+    let nanos = nanos_of_a_round(rt, &start, rounds);
     let shown = shown_if_opened(rt.alloc(), opened);
-    let nanos = end?.duration_since(start?).as_nanos();
-    Ok((nanos / u128::from(records.max(1)), shown))
+    Ok((nanos?, shown))
 }
 
 fn shown_if_opened(alloc: Global, opened: Result<Manager, Fault>) -> u64 {
-    match opened {
-        Ok(mut manager) => shown(alloc, &mut manager),
+    let Ok(mut manager) = opened else {
+        return 0;
+    };
+    let records = records(alloc, &mut manager);
+    taken_apart(manager);
+    match records {
+        Ok(records) => records.len() as u64,
         Err(_) => 0,
     }
 }

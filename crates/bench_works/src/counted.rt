@@ -1,9 +1,4 @@
 //! Devices, in memory or over files, which count what is written to them.
-ghost use Rattle.std.specs.Prelude.{◌≡◌, IfOk};
-ghost use Rattle.shore_disk.specs.Device.{size};
-ghost use Rattle.shore_disk.specs.AnyDisk.{any_history};
-ghost use Rattle.bench_works.specs.Devices.{counted_history};
-
 use shore_disk::{AnyDisk, Disk, DiskFault, FileDisk, MemDisk, Pick};
 use std::alloc::{AllocError, Global};
 use std::fs::{File, Files};
@@ -18,15 +13,13 @@ pub struct CountDisk {
 }
 
 impl CountDisk {
-    fn new(disk: AnyDisk) -> CountDisk
-        ensures { counted_history result ≡ any_history disk }
-    {
+    fn new(disk: AnyDisk) -> CountDisk {
         CountDisk { disk, written: 0 }
     }
 
     /// A device in memory of so many zeros.
-    pub fn in_memory(alloc: Global, len: usize) -> Result<CountDisk, AllocError> {
-        let disk = MemDisk::new(alloc, Vec::from_elem(alloc, 0u8, len)?)?;
+    pub fn in_memory(alloc: Global, len: u64) -> Result<CountDisk, AllocError> {
+        let disk = MemDisk::new(alloc, Vec::from_elem(alloc, 0u8, len as usize)?)?;
         Ok(CountDisk::new(AnyDisk::Memory(disk)))
     }
 
@@ -37,9 +30,7 @@ impl CountDisk {
     }
 
     /// The device of a file that is made anew, with so many zeros.
-    pub fn made(files: &impl Files<File = File>, path: &str, len: u64) -> io::Result<CountDisk>
-        ensures { IfOk result (λ disk. size (counted_history disk) ≡ len) }
-    {
+    pub fn made(files: &impl Files<File = File>, path: &str, len: u64) -> io::Result<CountDisk> {
         let disk = FileDisk::open_or_create(files, path)?.cleared(len)?;
         Ok(CountDisk::new(AnyDisk::File(disk)))
     }

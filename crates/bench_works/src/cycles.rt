@@ -1,7 +1,8 @@
 //! How long the search for cycles takes if many transactions wait. The call alone is measured.
+use crate::locks::{ask, record};
 use shore_deadlock::{break_cycles, find_cycle};
-use shore_locks::{LockTable, Requested};
-use shore_types::{Fault, Granule, Mode, PageId, Rid, StoreId, TxnId};
+use shore_locks::LockTable;
+use shore_types::{Fault, Mode, TxnId};
 use std::alloc::Global;
 use std::io;
 use std::time::Instant;
@@ -34,37 +35,18 @@ impl Work {
     }
 }
 
-fn record(slot: u16) -> Granule {
-    let page = PageId {
-        store: StoreId(0),
-        page: 0,
-    };
-    Granule::Record(Rid { page, slot })
-}
-
-/// Whether a transaction could ask, and there was a node for it.
-fn ask(table: &mut LockTable, txn: u64, slot: u16, mode: Mode) -> bool {
-    if table.is_waiting(TxnId(txn)) {
-        return false;
-    }
-    match table.request(TxnId(txn), record(slot), mode) {
-        Requested::Granted | Requested::Waiting => true,
-        Requested::Full => false,
-    }
-}
-
 /// Whether all could ask: without that there is nothing to measure.
 fn fill(table: &mut LockTable, work: Work) -> bool {
     let holder = match work {
         Work::Victims => ASKER,
         Work::Queue | Work::Waiters => LAST + 1,
     };
-    let mut all = ask(table, holder, 0, Mode::EX);
+    let mut all = ask(table, holder, record(0), Mode::EX);
     for txn in ASKER + 1..LAST + 1 {
-        all &= ask(table, txn, 1, Mode::SH);
-        all &= ask(table, txn, 0, Mode::SH);
+        all &= ask(table, txn, record(1), Mode::SH);
+        all &= ask(table, txn, record(0), Mode::SH);
     }
-    ask(table, ASKER, 1, Mode::EX) && all
+    ask(table, ASKER, record(1), Mode::EX) && all
 }
 
 /// What the call answers: how many victims, or how long the cycle is.
@@ -83,57 +65,35 @@ fn searched(alloc: Global, table: &LockTable, txn: u64) -> Result<usize, Fault> 
     }
 }
 
-/// What all rounds come to.
-#[derive(Drop)]
-struct Total {
-    answers: usize,
-    nanos: u128,
-}
-
-/// One round, of which the call alone is timed. The answer is whether it could be made.
-fn round(rt: &HostRuntime, work: Work, total: &mut Total) -> io::Result<bool> {
-    let mut table = LockTable::new(rt.alloc(), NODES)?;
-    if !fill(&mut table, work) {
-        return Ok(false);
-    }
-    timed(rt, &mut table, work, total)
-}
-
-fn timed(
-    rt: &HostRuntime,
-    table: &mut LockTable,
-    work: Work,
-    total: &mut Total,
-) -> io::Result<bool> {
-    let start = Instant::now(rt)?;
-    let Ok(answer) = call(rt.alloc(), table, work) else {
-        return Ok(false);
-    };
-    total.nanos = total.nanos.wrapping_add(start.elapsed(rt)?.as_nanos());
-    total.answers = total.answers.wrapping_add(answer);
-    Ok(true)
-}
-
-/// So many rounds, unless one could not be made.
-fn measured(rt: &HostRuntime, work: Work, rounds: u64) -> io::Result<Option<Total>> {
-    let mut total = Total {
-        answers: 0,
-        nanos: 0,
-    };
+/// The nanoseconds of the call of a round, and the sum of all answers; nothing is told if a round could not be made.
+pub fn measured(rt: &HostRuntime, work: Work, rounds: u64) -> io::Result<(u128, u64)> {
+    let mut nanos = 0u128;
+    let mut sum = 0u64;
     for _ in 0..rounds {
-        if !round(rt, work, &mut total)? {
-            return Ok(None);
-        }
+        let Some((took, answer)) = round(rt, work)? else {
+            return Ok((0, 0));
+        };
+        nanos = nanos.wrapping_add(took);
+        sum = sum.wrapping_add(answer);
     }
-    Ok(Some(total))
+    Ok((nanos / u128::from(rounds.max(1)), sum))
 }
 
-/// Measures a work and prints it under a name.
-pub fn measure(rt: &HostRuntime, name: &str, work: Work, rounds: u64) -> io::Result<()> {
-    let Some(total) = measured(rt, work, rounds)? else {
-        return println!(rt; "{name}: no figure, since a round could not be made");
-    };
-    let each = total.nanos / u128::from(rounds.max(1));
-    let answers = total.answers;
-    println!(rt; "{name} {each} ns ({answers})")
+/// One round, of which the call alone is timed, and what it answers; nothing if it could not be made.
+fn round(rt: &HostRuntime, work: Work) -> io::Result<Option<(u128, u64)>> {
+    let mut table = LockTable::new(rt.alloc(), NODES)?;
+    timed(rt, &mut table, work)
+}
+
+fn timed(rt: &HostRuntime, table: &mut LockTable, work: Work) -> io::Result<Option<(u128, u64)>> {
+    if !fill(table, work) {
+        return Ok(None);
+    }
+    let start = Instant::now(rt)?;
+    let answer = call(rt.alloc(), table, work);
+    let nanos = start.elapsed(rt)?.as_nanos();
+    match answer {
+        Ok(answer) => Ok(Some((nanos, answer as u64))),
+        Err(_) => Ok(None),
+    }
 }

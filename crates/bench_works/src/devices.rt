@@ -1,4 +1,5 @@
 //! What a device in memory costs.
+use crate::clock::nanos_of_a_round;
 use shore_disk::{Disk, DiskFault, MemDisk, Pick};
 use std::alloc::{AllocError, Global};
 use std::io;
@@ -68,6 +69,6 @@ pub fn measured(rt: &HostRuntime, work: Work, rounds: u64) -> io::Result<(u128, 
     let mut disk = device(rt.alloc())?;
     let start = Instant::now(rt)?;
     let done = rounds_of(&mut disk, work, rounds);
-    let nanos = start.elapsed(rt)?.as_nanos() / u128::from(rounds.max(1));
+    let nanos = nanos_of_a_round(rt, &start, rounds)?;
     Ok((nanos, done))
 }

@@ -56,7 +56,11 @@ pub fn run(
     let (Some(work), Some(size)) = (Work::of(name), number(size)) else {
         return refuse(rt);
     };
-    let Some(count) = count.map_or(Some(work.default_count()), number) else {
+    let count = match count {
+        Some(word) => number(word),
+        None => Some(work.default_count()),
+    };
+    let Some(count) = count else {
         return refuse(rt);
     };
     match Plan::new(rt.alloc(), size, count, folder)? {

@@ -2,9 +2,11 @@
 ghost use Rattle.std.specs.Prelude.{◌≡◌, false};
 ghost use Rattle.shore_locks.specs.Tables.{is_waiting};
 
-use shore_locks::LockTable;
+use crate::clock::nanos_of_a_round;
+use crate::layout::{STORE, page_id, record_id};
 use shore_locks::laws::waits_only_if_told_to;
-use shore_types::{Granule, Mode, PageId, Rid, StoreId, TxnId};
+use shore_locks::{LockTable, Requested};
+use shore_types::{Granule, Mode, TxnId};
 use std::io;
 use std::time::Instant;
 
@@ -91,14 +93,11 @@ impl Work {
 }
 
 fn record_in(page: u32, slot: u16) -> Granule {
-    let page = PageId {
-        store: StoreId(0),
-        page,
-    };
-    Granule::Record(Rid { page, slot })
+    Granule::Record(record_id(page, slot))
 }
 
-fn record(slot: u16) -> Granule {
+/// A record of the first page.
+pub fn record(slot: u16) -> Granule {
     record_in(0, slot)
 }
 
@@ -165,58 +164,49 @@ fn take_bucket(table: &mut LockTable)
 fn take_path(table: &mut LockTable)
     requires { is_waiting 1 table.old.requests ≡ false }
 {
-    let page = PageId {
-        store: StoreId(0),
-        page: 0,
-    };
     take(table, Granule::Volume, Mode::IX);
-    take(table, Granule::Store(StoreId(0)), Mode::IX);
-    take(table, Granule::Page(page), Mode::IX);
+    take(table, Granule::Store(STORE), Mode::IX);
+    take(table, Granule::Page(page_id(0)), Mode::IX);
     take(table, record(1), Mode::EX);
 }
 
 /// Others take their intentions.
 fn place_others(table: &mut LockTable, others: u64) {
     for txn in 2..others.saturating_add(2) {
-        for granule in [Granule::Volume, Granule::Store(StoreId(0))] {
-            if !table.is_waiting(TxnId(txn)) {
-                table.request(TxnId(txn), granule, Mode::IX);
-            }
-        }
+        ask(table, txn, Granule::Volume, Mode::IX);
+        ask(table, txn, Granule::Store(STORE), Mode::IX);
     }
 }
 
 /// The number of nodes that stand once all wait. Whoever waits already asks for nothing.
 fn wait_all(table: &mut LockTable) -> usize {
-    for txn in 1..WAITERS + 2 {
-        let mode = if txn == 1 { Mode::EX } else { Mode::SH };
-        if !table.is_waiting(TxnId(txn)) {
-            table.request(TxnId(txn), record(0), mode);
-        }
+    ask(table, 1, record(0), Mode::EX);
+    for txn in 2..WAITERS + 2 {
+        ask(table, txn, record(0), Mode::SH);
     }
     table.nodes()
 }
 
 /// The number of nodes that stand once all but the first have asked for a conversion.
 fn convert_all(table: &mut LockTable, last: u64) -> usize {
-    for txn in 1..last.saturating_add(1) {
-        let mode = if txn == 1 { Mode::SH } else { Mode::IS };
-        ask(table, txn, mode);
+    ask(table, 1, Granule::Page(page_id(0)), Mode::SH);
+    for txn in 2..last.saturating_add(1) {
+        ask(table, txn, Granule::Page(page_id(0)), Mode::IS);
     }
     for txn in 2..last.saturating_add(1) {
-        ask(table, txn, Mode::IX);
+        ask(table, txn, Granule::Page(page_id(0)), Mode::IX);
     }
     table.nodes()
 }
 
-/// A transaction that does not wait asks for the page.
-fn ask(table: &mut LockTable, txn: u64, mode: Mode) {
-    let page = PageId {
-        store: StoreId(0),
-        page: 0,
-    };
-    if !table.is_waiting(TxnId(txn)) {
-        table.request(TxnId(txn), Granule::Page(page), mode);
+/// Whether a transaction could ask, since it does not wait, and there was a node for it.
+pub fn ask(table: &mut LockTable, txn: u64, granule: Granule, mode: Mode) -> bool {
+    if table.is_waiting(TxnId(txn)) {
+        return false;
+    }
+    match table.request(TxnId(txn), granule, mode) {
+        Requested::Granted | Requested::Waiting => true,
+        Requested::Full => false,
     }
 }
 
@@ -278,30 +268,23 @@ fn rounds_of(table: &mut LockTable, work: Work, rounds: u64) -> usize {
     sum
 }
 
-/// The nanoseconds of a round, and the sum of them all.
+/// The nanoseconds of a round beside so many others, and the sum of them all.
+pub fn measured(rt: &HostRuntime, work: Work, others: u64, rounds: u64) -> io::Result<(u128, u64)> {
+    let mut table = LockTable::new(rt.alloc(), work.limit())?;
+    timed(rt, &mut table, work, others, rounds)
+}
+
 fn timed(
     rt: &HostRuntime,
     table: &mut LockTable,
     work: Work,
+    others: u64,
     rounds: u64,
-) -> io::Result<(u128, usize)> {
+) -> io::Result<(u128, u64)> {
+    place_others(table, others);
     let start = Instant::now(rt)?;
     let sum = rounds_of(table, work, rounds);
-    let nanos = start.elapsed(rt)?.as_nanos() / u128::from(rounds.max(1));
-    Ok((nanos, sum))
-}
-
-/// The same in a table of its own, beside so many others.
-fn measured(rt: &HostRuntime, work: Work, others: u64, rounds: u64) -> io::Result<(u128, usize)> {
-    let mut table = LockTable::new(rt.alloc(), work.limit())?;
-    place_others(&mut table, others);
-    timed(rt, &mut table, work, rounds)
-}
-
-/// Measures a work beside so many others and prints it under a name.
-pub fn measure(rt: &HostRuntime, name: &str, work: (Work, u64), rounds: u64) -> io::Result<()> {
-    let (nanos, sum) = measured(rt, work.0, work.1, rounds)?;
-    println!(rt; "{name} {nanos} ns a round ({sum})")
+    Ok((nanos_of_a_round(rt, &start, rounds)?, sum as u64))
 }
 
 /// What one round of each kind of work counts.

@@ -4,10 +4,12 @@
 #![tactic(auto)]
 
 mod calls;
+mod clock;
 mod counted;
 mod cycles;
 mod devices;
 mod files;
+mod layout;
 mod locks;
 mod manager;
 mod pages;
@@ -18,41 +20,66 @@ mod waiting;
 use std::process::ExitCode;
 use std::{env, io};
 
-/// The nanoseconds of a round of the work of a name, and how much was done or a sum of it all; nothing if none has the name.
-fn measured(rt: &HostRuntime, name: &str, rounds: u64) -> io::Result<Option<(u128, u64)>> {
-    if let Some(work) = calls::Work::of(name) {
-        return Ok(Some(calls::measured(rt, work, rounds)?));
+/// What is measured in memory.
+#[derive(Clone, Copy)]
+enum Work {
+    Calls(calls::Work),
+    Page(pages::Work),
+    Volume(volumes::Work),
+    Pool(pools::Work),
+    Device(devices::Work),
+    /// Beside so many others.
+    Locks(locks::Work, u64),
+    Cycles(cycles::Work),
+}
+
+impl Work {
+    fn of(name: &str) -> Option<Work> {
+        if let Some(work) = calls::Work::of(name) {
+            return Some(Work::Calls(work));
+        }
+        if let Some(work) = pages::Work::of(name) {
+            return Some(Work::Page(work));
+        }
+        if let Some(work) = volumes::Work::of(name) {
+            return Some(Work::Volume(work));
+        }
+        if let Some(work) = pools::Work::of(name) {
+            return Some(Work::Pool(work));
+        }
+        if let Some(work) = devices::Work::of(name) {
+            return Some(Work::Device(work));
+        }
+        if let Some((work, others)) = locks::work_of(name) {
+            return Some(Work::Locks(work, others));
+        }
+        if let Some(work) = cycles::Work::of(name) {
+            return Some(Work::Cycles(work));
+        }
+        None
     }
-    if let Some(work) = waiting::Work::of(name) {
-        return Ok(Some(waiting::measured(rt, work, rounds)?));
+
+    /// The nanoseconds of a round, and how much was done or a sum of it all.
+    fn measured(self, rt: &HostRuntime, rounds: u64) -> io::Result<(u128, u64)> {
+        match self {
+            Work::Calls(work) => calls::measured(rt, work, rounds),
+            Work::Page(work) => pages::measured(rt, work, rounds),
+            Work::Volume(work) => volumes::measured(rt, work, rounds),
+            Work::Pool(work) => pools::measured(rt, work, rounds),
+            Work::Device(work) => devices::measured(rt, work, rounds),
+            Work::Locks(work, others) => locks::measured(rt, work, others, rounds),
+            Work::Cycles(work) => cycles::measured(rt, work, rounds),
+        }
     }
-    if let Some(work) = pages::Work::of(name) {
-        return Ok(Some(pages::measured(rt, work, rounds)?));
-    }
-    if let Some(work) = volumes::Work::of(name) {
-        return Ok(Some(volumes::measured(rt, work, rounds)?));
-    }
-    if let Some(work) = pools::Work::of(name) {
-        return Ok(Some(pools::measured(rt, work, rounds)?));
-    }
-    if let Some(work) = devices::Work::of(name) {
-        return Ok(Some(devices::measured(rt, work, rounds)?));
-    }
-    Ok(None)
 }
 
 /// Measures the work of a name and prints it; a name of no work prints how the program is called.
 fn measure(rt: &HostRuntime, name: &str, rounds: u64) -> io::Result<()> {
-    if let Some(work) = locks::work_of(name) {
-        return locks::measure(rt, name, work, rounds);
-    }
-    if let Some(work) = cycles::Work::of(name) {
-        return cycles::measure(rt, name, work, rounds);
-    }
-    match measured(rt, name, rounds)? {
-        Some((nanos, sum)) => println!(rt; "{name} {nanos} ns a round ({sum})"),
-        None => print_usage(rt),
-    }
+    let Some(work) = Work::of(name) else {
+        return print_usage(rt);
+    };
+    let (nanos, sum) = work.measured(rt, rounds)?;
+    println!(rt; "{name} {nanos} ns a round ({sum})")
 }
 
 fn print_usage(rt: &HostRuntime) -> io::Result<()> {
@@ -69,7 +96,6 @@ fn count(rt: &HostRuntime) -> io::Result<()> {
     println!(rt; "{count} records")?;
     locks::count(rt)?;
     calls::count(rt)?;
-    waiting::count(rt)?;
     print_usage(rt)
 }
 
@@ -84,14 +110,18 @@ fn perform(rt: &HostRuntime, words: &[String]) -> io::Result<()> {
     }
 }
 
-fn main(rt: HostRuntime) -> io::Result<ExitCode> {
-    let words: Vec<String> = env::args(&rt)?.collect(rt.alloc())?;
-    match words.as_slice() {
-        [_, work, size, folder] => files::run(&rt, work, size, folder, None),
-        [_, work, size, folder, n] => files::run(&rt, work, size, folder, Some(n.as_str())),
+fn run(rt: &HostRuntime, words: &[String]) -> io::Result<ExitCode> {
+    match words {
+        [_, work, size, folder] => files::run(rt, work, size, folder, None),
+        [_, work, size, folder, n] => files::run(rt, work, size, folder, Some(n.as_str())),
         words => {
-            perform(&rt, words)?;
+            perform(rt, words)?;
             Ok(ExitCode::SUCCESS)
         }
     }
+}
+
+fn main(rt: HostRuntime) -> io::Result<ExitCode> {
+    let words: Vec<String> = env::args(&rt)?.collect(rt.alloc())?;
+    run(&rt, &words)
 }

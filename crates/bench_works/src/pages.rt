@@ -2,6 +2,7 @@
 ghost use Rattle.std.specs.Prelude.{◌≡◌, length};
 ghost use Rattle.shore_types.specs.declared.layout.TheConstants.{PAGE_BYTES};
 
+use crate::clock::nanos_of_a_round;
 use shore_page::Page;
 use shore_types::layout::{MAX_SLOTS, PAGE_BYTES};
 use shore_types::{PageId, StoreId};
@@ -50,12 +51,20 @@ impl Work {
 pub fn filled(alloc: Global) -> Result<Page, AllocError> {
     let mut page = Page::new(alloc, ID)?;
     for slot in 0..MAX_SLOTS {
-        if !page.fits(slot, RECORD.len()) {
+        if !put(&mut page, slot, &RECORD) {
             break;
         }
-        page.put(slot, &RECORD);
     }
     Ok(page)
+}
+
+/// Whether a record fits. If so it is put into a slot.
+fn put(page: &mut Page, slot: u16, bytes: &[u8]) -> bool {
+    let fits = page.fits(slot, bytes.len());
+    if fits {
+        page.put(slot, bytes);
+    }
+    fits
 }
 
 /// The bytes of all records of a page.
@@ -82,16 +91,13 @@ fn round(alloc: Global, work: Work, page: &mut Page, text: &mut [u8]) -> Result<
             page.to_bytes(text);
             Ok(u64::from(text[24]))
         }
-        Work::Read => Ok(Page::from_bytes(alloc, ID, text)?.map_or(
-            0,
-            |page| page.free_bytes() as u64,
-        )),
+        Work::Read => match Page::from_bytes(alloc, ID, text)? {
+            Some(page) => Ok(page.free_bytes() as u64),
+            None => Ok(0),
+        },
         Work::Compact => {
-            for bytes in [&RECORD[..99], &RECORD[..]] {
-                if page.fits(0, bytes.len()) {
-                    page.put(0, bytes);
-                }
-            }
+            put(page, 0, &RECORD[..99]);
+            put(page, 0, &RECORD);
             Ok(page.free_bytes() as u64)
         }
     }
@@ -120,7 +126,7 @@ fn timed(rt: &HostRuntime, work: Work, page: &mut Page, rounds: u64) -> io::Resu
     page.to_bytes(&mut text);
     let start = Instant::now(rt)?;
     let sum = rounds_of(rt.alloc(), work, page, &mut text, rounds)?;
-    let nanos = start.elapsed(rt)?.as_nanos() / u128::from(rounds.max(1));
+    let nanos = nanos_of_a_round(rt, &start, rounds)?;
     Ok((nanos, sum))
 }
 

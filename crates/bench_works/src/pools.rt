@@ -3,14 +3,15 @@
 ghost use Rattle.std.specs.Prelude.{◌≡◌, ◌<◌, [], ◌∷◌, length, IfOk};
 ghost use Rattle.shore_dwrite.specs.Settled as device;
 ghost use Rattle.shore_pool.specs.Pools.{geometry_of};
-ghost use Rattle.bench_works.specs.declared.pools.TheConstants.{VOLUME_BYTES};
 
+use crate::clock::nanos_of_a_round;
+use crate::layout::{geometry, page_id};
 use shore_disk::MemDisk;
 use shore_dwrite::{PAGES_AT, PageDev};
 use shore_page::Page;
 use shore_pool::Pool;
+use shore_types::Lsn;
 use shore_types::layout::PAGE_BYTES;
-use shore_types::{Geometry, Lsn, PageId, Sequence, StoreId};
 use std::alloc::{AllocError, Global};
 use std::io;
 use std::time::Instant;
@@ -44,15 +45,6 @@ impl Work {
     }
 }
 
-fn page_id(page: u32) -> PageId
-    ensures { result ≡ record { store = 0; page = page } }
-{
-    PageId {
-        store: StoreId(0),
-        page,
-    }
-}
-
 /// Puts the text of an empty page into its place on the volume.
 fn put_page(alloc: Global, bytes: &mut [u8], page: u32) -> Result<(), AllocError>
     ensures { length bytes.new ≡ length bytes.old }
@@ -65,32 +57,23 @@ fn put_page(alloc: Global, bytes: &mut [u8], page: u32) -> Result<(), AllocError
     Ok(())
 }
 
-/// The bytes of a volume of empty pages.
-fn volume_bytes(alloc: Global) -> Result<Vec<u8>, AllocError>
-    ensures { IfOk result (λ bytes. length bytes.items ≡ VOLUME_BYTES) }
+/// Puts all pages into their places, with no record.
+fn put_pages(alloc: Global, bytes: &mut [u8]) -> Result<(), AllocError>
+    ensures { length bytes.new ≡ length bytes.old }
 {
-    let mut bytes = Vec::from_elem(alloc, 0u8, VOLUME_BYTES)?;
     for page in 0..PAGES {
-        put_page(alloc, &mut bytes, page)?;
+        put_page(alloc, bytes, page)?;
     }
-    Ok(bytes)
-}
-
-fn geometry(alloc: Global) -> Result<Geometry, AllocError>
-    ensures { IfOk result (λ g. g.stores ≡ 2048 ∷ []) }
-{
-    Ok(Geometry {
-        pair: 1,
-        max_locks: 1024,
-        stores: Sequence::from_vec(vec![in alloc; PAGES]?),
-    })
+    Ok(())
 }
 
 fn volume(alloc: Global) -> io::Result<PageDev<MemDisk>>
     ensures { IfOk result (λ dev. (device.geometry_of dev).stores ≡ 2048 ∷ []) }
 {
-    let disk = MemDisk::new(alloc, volume_bytes(alloc)?)?;
-    Ok(PageDev::new(disk, geometry(alloc)?))
+    let mut bytes = Vec::from_elem(alloc, 0u8, VOLUME_BYTES)?;
+    put_pages(alloc, &mut bytes)?;
+    let disk = MemDisk::new(alloc, bytes)?;
+    Ok(PageDev::new(disk, geometry(alloc, 1_024, PAGES)?))
 }
 
 /// Whether a page is in a frame now.
@@ -169,6 +152,6 @@ fn timed(
     rounds_of(rt.alloc(), pool, work, u64::from(PAGES));
     let start = Instant::now(rt)?;
     let done = rounds_of(rt.alloc(), pool, work, rounds);
-    let nanos = start.elapsed(rt)?.as_nanos() / u128::from(rounds.max(1));
+    let nanos = nanos_of_a_round(rt, &start, rounds)?;
     Ok((nanos, done))
 }

@@ -5,11 +5,13 @@ ghost use Rattle.shore_dwrite.specs.Settled.{geometry_of};
 ghost use Rattle.shore_dwrite.specs.Shown.{IsBatch};
 ghost use Rattle.shore_types.specs.declared.layout.Geometry.{Geometry};
 
+use crate::clock::nanos_of_a_round;
+use crate::layout::{geometry, page_id};
 use shore_disk::{Disk, MemDisk};
 use shore_dwrite::{PAGES_AT, PageDev, PageImages};
 use shore_page::Page;
 use shore_types::layout::PAGE_BYTES;
-use shore_types::{Fault, Geometry, Lsn, PageId, Sequence, StoreId};
+use shore_types::{Fault, Lsn};
 use std::alloc::{AllocError, Global};
 use std::io;
 use std::time::Instant;
@@ -41,31 +43,12 @@ impl Work {
     }
 }
 
-fn page_id(page: u32) -> PageId
-    ensures { result ≡ record { store = 0; page = page } }
-{
-    PageId {
-        store: StoreId(0),
-        page,
-    }
-}
-
-fn geometry(alloc: Global) -> Result<Geometry, AllocError>
-    ensures { IfOk result (λ g. g.stores ≡ 32 ∷ []) }
-{
-    Ok(Geometry {
-        pair: 1,
-        max_locks: 1024,
-        stores: Sequence::from_vec(vec![in alloc; PAGES]?),
-    })
-}
-
 /// An empty volume.
 fn volume(alloc: Global) -> io::Result<PageDev<MemDisk>>
     ensures { IfOk result (λ dev. (geometry_of dev).stores ≡ 32 ∷ []) }
 {
     let device = MemDisk::new(alloc, Vec::from_elem(alloc, 0u8, VOLUME_BYTES)?)?;
-    Ok(PageDev::new(device, geometry(alloc)?))
+    Ok(PageDev::new(device, geometry(alloc, 1_024, PAGES)?))
 }
 
 fn empty_page(alloc: Global, page: u32) -> Result<Page, AllocError>
@@ -169,6 +152,6 @@ fn timed(
     batches(dev, images, 1);
     let start = Instant::now(rt)?;
     let done = rounds_of(rt.alloc(), dev, images, work, rounds)?;
-    let nanos = start.elapsed(rt)?.as_nanos() / u128::from(rounds.max(1));
+    let nanos = nanos_of_a_round(rt, &start, rounds)?;
     Ok((nanos, done))
 }

@@ -41,13 +41,21 @@ fn make(rt: &HostRuntime) -> Result<(), Failure> {
     Ok(format(rt.alloc(), &mut log, &mut volume, &geometry)?)
 }
 
-// Opens the manager, with 64 frames for pages. Its files are locked until it is dropped.
+// Opens the manager, with 64 frames for pages. Its files are locked until it is closed.
 fn open(rt: &HostRuntime) -> Result<Manager, Failure> {
     let (log, volume) = (FileDisk::open(rt, LOG)?, FileDisk::open(rt, VOLUME)?);
     match World::open(rt.alloc(), log, volume, 64) {
-        Ok(world) => Ok(Box::new(rt.alloc(), world).map_err(Fault::from)?),
+        Ok(world) => Box::new(rt.alloc(), world).map_err(|refused| {
+            let _files = refused.value.into_devices();
+            Failure::Manager(Fault::Memory)
+        }),
         Err((fault, _, _)) => Err(Failure::Manager(fault)),
     }
+}
+
+// Closes the manager, and with it the files, which another open may take then.
+fn close(manager: Manager) {
+    let _files = Box::into_inner(manager).into_devices();
 }
 
 // What a step answers, unless there is nothing to answer yet.
@@ -106,8 +114,11 @@ fn show(rt: &HostRuntime, records: &Pairs) -> Result<(), Failure> {
 fn main(rt: HostRuntime) -> Result<(), Failure> {
     make(&rt)?;
     let mut manager = open(&rt)?;
-    work(&rt, &mut manager)?;
-    drop(manager);
-    let records = open(&rt)?.dump(rt.alloc(), StoreId(0))?;
-    show(&rt, &records)
+    let worked = work(&rt, &mut manager);
+    close(manager);
+    worked?;
+    let mut manager = open(&rt)?;
+    let records = manager.dump(rt.alloc(), StoreId(0));
+    close(manager);
+    show(&rt, &records?)
 }

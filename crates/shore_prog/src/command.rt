@@ -130,21 +130,45 @@ fn plain_call_of(words: &[&str]) -> Option<Call>
     ensures { IfSome result IsServed }
 {
     match words {
-        [word] if *word == "begin" => Some(Call::Begin),
-        [word] if *word == "commit" => Some(Call::Commit),
-        [word] if *word == "abort" => Some(Call::Abort),
-        [word] if *word == "savepoint" => Some(Call::Savepoint),
-        [word, index] if *word == "back" => Some(Call::BackTo(words::index(index)?)),
-        [word, record] if *word == "get" => Some(Call::Get(words::record(record)?)),
-        [word, record] if *word == "getu" => Some(Call::GetForUpdate(words::record(record)?)),
-        [word, record] if *word == "delete" => Some(Call::Delete(words::record(record)?)),
-        [word, store] if *word == "scan" => Some(Call::Scan(words::store(store)?)),
-        [word, granule, mode] if *word == "lock" => {
-            Some(Call::Lock(words::granule(granule)?, words::mode(mode)?))
-        }
-        [word, granule, mode] if *word == "try" => {
-            Some(Call::TryLock(words::granule(granule)?, words::mode(mode)?))
-        }
+        [word] => call_of_a_word(word),
+        [word, object] => call_with(word, object),
+        [word, granule, mode] => lock_of(word, granule, mode),
+        _ => None,
+    }
+}
+
+fn call_of_a_word(word: &str) -> Option<Call>
+    ensures { IfSome result IsServed }
+{
+    match word {
+        "begin" => Some(Call::Begin),
+        "commit" => Some(Call::Commit),
+        "abort" => Some(Call::Abort),
+        "savepoint" => Some(Call::Savepoint),
+        _ => None,
+    }
+}
+
+fn call_with(word: &str, object: &str) -> Option<Call>
+    ensures { IfSome result IsServed }
+{
+    match word {
+        "back" => Some(Call::BackTo(words::index(object)?)),
+        "get" => Some(Call::Get(words::record(object)?)),
+        "getu" => Some(Call::GetForUpdate(words::record(object)?)),
+        "delete" => Some(Call::Delete(words::record(object)?)),
+        "scan" => Some(Call::Scan(words::store(object)?)),
+        _ => None,
+    }
+}
+
+fn lock_of(word: &str, granule: &str, mode: &str) -> Option<Call>
+    ensures { IfSome result IsServed }
+{
+    let (granule, mode) = (words::granule(granule)?, words::mode(mode)?);
+    match word {
+        "lock" => Some(Call::Lock(granule, mode)),
+        "try" => Some(Call::TryLock(granule, mode)),
         _ => None,
     }
 }

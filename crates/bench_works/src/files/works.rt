@@ -2,13 +2,15 @@
 use super::figures::Figure;
 use super::plan::Plan;
 use super::store::{
-    STORE, begin, begin_alone, bytes, commit, force, insert, nanos_since, new_manager, now,
-    open_manager, scan, update, write_back,
+    Change, bytes, change_record, nanos_since, new_manager, of_device, open_manager,
 };
-use crate::counted::CountDisk;
-use crate::manager::Manager;
+use crate::manager::{
+    Manager, SESSION, ask, begin_alone, commit, force, logged, records, scan, taken_apart,
+    write_back,
+};
 use shore_disk::{Disk, FileDisk};
-use shore_types::{Fault, Pairs, Rid};
+use shore_model::Call;
+use shore_types::{Fault, Pairs};
 use std::alloc::Global;
 use std::time::Instant;
 
@@ -80,10 +82,11 @@ pub fn perform(rt: &HostRuntime, work: Work, plan: &Plan) -> Result<Vec<Figure>,
     }
 }
 
-// A work on a new manager, which is lent: each way out of a function that owns one is dear to prove.
 fn on_new(rt: &HostRuntime, plan: &Plan, work: WorkOnNew) -> Result<Vec<Figure>, Fault> {
     let mut manager = new_manager(rt, plan)?;
-    work_on(rt, plan, work, &mut manager)
+    let figures = work_on(rt, plan, work, &mut manager);
+    taken_apart(manager);
+    figures
 }
 
 fn work_on(
@@ -96,7 +99,7 @@ fn work_on(
         WorkOnNew::Scan => plan.count,
         WorkOnNew::Durable | WorkOnNew::Crash | WorkOnNew::Lose => plan.updated_records(),
     };
-    fill(rt.alloc(), plan, manager, records)?;
+    timed_fill(rt, plan, manager, records)?;
     match work {
         WorkOnNew::Durable => durable(rt, plan, manager),
         WorkOnNew::Scan => scanned(rt, manager),
@@ -105,11 +108,29 @@ fn work_on(
     }
 }
 
+fn inserts(rt: &HostRuntime, plan: &Plan) -> Result<Vec<Figure>, Fault> {
+    let mut manager = new_manager(rt, plan)?;
+    let timed = timed_fill(rt, plan, &mut manager, plan.count);
+    let (log, volume) = taken_apart(manager);
+    let (inserted, committed) = timed?;
+    let bytes = plan.count.saturating_mul(plan.size as u64);
+    let (time, share) = ("microseconds_per_record", "bytes_per_byte");
+    let figures = [
+        Figure::ratio("insert", inserted, plan.count, 1, time),
+        Figure::ratio("insert_and_commit", committed, plan.count, 1, time),
+        Figure::ratio("insert_log", log.written(), bytes, 1_000, share),
+        Figure::ratio("insert_volume", volume.written(), bytes, 1_000, share),
+    ];
+    Ok(Vec::from_slice(rt.alloc(), &figures)?)
+}
+
 // A work on the manager that an open makes of what a crash left.
 fn on_opened(rt: &HostRuntime, plan: &Plan, work: WorkOnOpened) -> Result<Vec<Figure>, Fault> {
-    let start = now(rt)?;
+    let start = of_device(Instant::now(rt))?;
     let mut manager = open_manager(rt, plan)?;
-    tell_opened(rt, plan, work, &start, &mut manager)
+    let figures = tell_opened(rt, plan, work, &start, &mut manager);
+    taken_apart(manager);
+    figures
 }
 
 fn tell_opened(
@@ -122,43 +143,47 @@ fn tell_opened(
     let nanos = nanos_since(rt, start)?;
     match work {
         WorkOnOpened::Recover => recover(rt.alloc(), manager, nanos),
-        WorkOnOpened::Verify => verify(rt.alloc(), plan, manager),
+        WorkOnOpened::Verify => {
+            let shown = shown(rt.alloc(), plan, manager, true)?;
+            let figures = [Figure::whole("verify", shown, "records_as_acknowledged")];
+            Ok(Vec::from_slice(rt.alloc(), &figures)?)
+        }
         WorkOnOpened::Undo => undo(rt.alloc(), plan, manager, nanos),
     }
 }
 
-// So many records, in one transaction that is committed. Record I tells the number I.
-fn fill(alloc: Global, plan: &Plan, manager: &mut Manager, records: u64) -> Result<(), Fault> {
+// So many records, in one transaction that is committed. Record I tells the number I. The nanoseconds of the inserts, and with their commit.
+fn timed_fill(
+    rt: &HostRuntime,
+    plan: &Plan,
+    manager: &mut Manager,
+    records: u64,
+) -> Result<(u64, u64), Fault> {
+    let alloc = rt.alloc();
+    let start = of_device(Instant::now(rt))?;
     begin_alone(alloc, manager)?;
     for number in 0..records {
-        insert(alloc, manager, number, plan.size)?;
+        change_record(alloc, manager, &Change::Insert, number, plan.size)?;
     }
-    commit(alloc, manager)
+    let inserted = nanos_since(rt, &start)?;
+    commit(alloc, manager, SESSION)?;
+    Ok((inserted, nanos_since(rt, &start)?))
 }
 
-// The ids of all records, in place order.
-fn ids_of(alloc: Global, manager: &mut Manager) -> Result<Vec<Rid>, Fault> {
-    let pairs = manager.dump(alloc, STORE)?;
-    let mut ids = Vec::new(alloc);
-    for index in 0..pairs.len() {
-        if let Some((id, _)) = pairs.get(index) {
-            ids.push(id)?;
-        }
-    }
-    Ok(ids)
-}
-
-// Update N is of record N, counted round and round.
+// Update N is of record N of those in place, counted round and round.
 fn update_one(
     alloc: Global,
     manager: &mut Manager,
     plan: &Plan,
-    ids: &[Rid],
+    pairs: &Pairs,
     number: u64,
-) -> Result<(), Fault> {
-    let place = number % (ids.len() as u64).max(1);
-    match ids.get(place as usize) {
-        Some(id) => update(alloc, manager, *id, told(plan, number), plan.size),
+) -> Result<bool, Fault> {
+    let place = number % (pairs.len() as u64).max(1);
+    match pairs.get(place as usize) {
+        Some((id, _)) => {
+            let update = Change::Update(id);
+            change_record(alloc, manager, &update, told(plan, number), plan.size)
+        }
         None => Err(Fault::NoRecord),
     }
 }
@@ -172,12 +197,12 @@ fn update_and_commit(
     alloc: Global,
     manager: &mut Manager,
     plan: &Plan,
-    ids: &[Rid],
+    pairs: &Pairs,
     number: u64,
 ) -> Result<(), Fault> {
-    begin(alloc, manager)?;
-    update_one(alloc, manager, plan, ids, number)?;
-    commit(alloc, manager)
+    ask(alloc, manager, SESSION, Call::Begin)?;
+    update_one(alloc, manager, plan, pairs, number)?;
+    commit(alloc, manager, SESSION)
 }
 
 fn durable(rt: &HostRuntime, plan: &Plan, manager: &mut Manager) -> Result<Vec<Figure>, Fault> {
@@ -198,15 +223,15 @@ fn timed_commits(
     manager: &mut Manager,
 ) -> Result<(u64, u64), Fault> {
     let alloc = rt.alloc();
-    let ids = ids_of(alloc, manager)?;
+    let pairs = records(alloc, manager)?;
     let mut raw = raw_file(rt, plan)?;
     let text = bytes(alloc, 0, plan.size)?;
     let (mut commits, mut syncs) = (0u64, 0u64);
     for number in 0..plan.count {
-        let start = now(rt)?;
-        update_and_commit(alloc, manager, plan, &ids, number)?;
+        let start = of_device(Instant::now(rt))?;
+        update_and_commit(alloc, manager, plan, &pairs, number)?;
         commits = commits.saturating_add(nanos_since(rt, &start)?);
-        let start = now(rt)?;
+        let start = of_device(Instant::now(rt))?;
         write_raw(&mut raw, number, text.as_slice())?;
         syncs = syncs.saturating_add(nanos_since(rt, &start)?);
     }
@@ -216,8 +241,8 @@ fn timed_commits(
 // A file with room for every plain write, one behind another, as a log has it.
 fn raw_file(rt: &HostRuntime, plan: &Plan) -> Result<FileDisk, Fault> {
     let len = plan.count.saturating_mul(plan.size as u64);
-    let file = FileDisk::open_or_create(rt, &plan.raw).map_err(|_| Fault::Device)?;
-    file.cleared(len).map_err(|_| Fault::Device)
+    let file = of_device(FileDisk::open_or_create(rt, &plan.raw))?;
+    of_device(file.cleared(len))
 }
 
 fn write_raw(raw: &mut FileDisk, number: u64, text: &[u8]) -> Result<(), Fault> {
@@ -230,50 +255,12 @@ fn write_raw(raw: &mut FileDisk, number: u64, text: &[u8]) -> Result<(), Fault> 
     Ok(())
 }
 
-fn inserts(rt: &HostRuntime, plan: &Plan) -> Result<Vec<Figure>, Fault> {
-    let mut manager = new_manager(rt, plan)?;
-    let (inserted, committed) = timed_inserts(rt, plan, &mut manager)?;
-    let (log, volume) = Box::into_inner(manager).into_devices();
-    let records = plan.count.saturating_mul(plan.size as u64);
-    let figures = [
-        Figure::ratio("insert", inserted, plan.count, 1, "microseconds_per_record"),
-        Figure::ratio(
-            "insert_and_commit",
-            committed,
-            plan.count,
-            1,
-            "microseconds_per_record",
-        ),
-        written("insert_log", &log, records),
-        written("insert_volume", &volume, records),
-    ];
-    Ok(Vec::from_slice(rt.alloc(), &figures)?)
-}
-
-// The nanoseconds of the inserts, and with their commit.
-fn timed_inserts(
-    rt: &HostRuntime,
-    plan: &Plan,
-    manager: &mut Manager,
-) -> Result<(u64, u64), Fault> {
-    let alloc = rt.alloc();
-    let start = now(rt)?;
-    begin_alone(alloc, manager)?;
-    for number in 0..plan.count {
-        insert(alloc, manager, number, plan.size)?;
-    }
-    let inserted = nanos_since(rt, &start)?;
-    commit(alloc, manager)?;
-    Ok((inserted, nanos_since(rt, &start)?))
-}
-
-// How many bytes were written for each byte of a record.
-fn written(name: &'static str, device: &CountDisk, records: u64) -> Figure {
-    Figure::ratio(name, device.written(), records, 1_000, "bytes_per_byte")
-}
-
+// A scan, and how many records it shows.
 fn scanned(rt: &HostRuntime, manager: &mut Manager) -> Result<Vec<Figure>, Fault> {
-    let (nanos, count) = timed_scan(rt, manager)?;
+    ask(rt.alloc(), manager, SESSION, Call::Begin)?;
+    let start = of_device(Instant::now(rt))?;
+    let count = scan(rt.alloc(), manager)?.len() as u64;
+    let nanos = nanos_since(rt, &start)?;
     let figures = [
         Figure::ratio("scan", nanos, count, 1, "microseconds_per_record"),
         Figure::whole("scan_shown", count, "records"),
@@ -281,28 +268,16 @@ fn scanned(rt: &HostRuntime, manager: &mut Manager) -> Result<Vec<Figure>, Fault
     Ok(Vec::from_slice(rt.alloc(), &figures)?)
 }
 
-// The nanoseconds of a scan, and how many records it shows.
-fn timed_scan(rt: &HostRuntime, manager: &mut Manager) -> Result<(u64, u64), Fault> {
-    begin(rt.alloc(), manager)?;
-    let start = now(rt)?;
-    let pairs = scan(rt.alloc(), manager)?;
-    Ok((nanos_since(rt, &start)?, pairs.len() as u64))
-}
-
+// So many updates that are acknowledged, and one more that is not committed.
 fn crash(alloc: Global, plan: &Plan, manager: &mut Manager) -> Result<Vec<Figure>, Fault> {
-    update_all(alloc, plan, manager)?;
+    let pairs = records(alloc, manager)?;
+    for number in 0..plan.count {
+        update_and_commit(alloc, manager, plan, &pairs, number)?;
+    }
+    ask(alloc, manager, SESSION, Call::Begin)?;
+    update_one(alloc, manager, plan, &pairs, plan.count)?;
     let figures = [Figure::whole("crash", plan.count, "acknowledged_updates")];
     Ok(Vec::from_slice(alloc, &figures)?)
-}
-
-// So many updates that are acknowledged, and one more that is not committed.
-fn update_all(alloc: Global, plan: &Plan, manager: &mut Manager) -> Result<(), Fault> {
-    let ids = ids_of(alloc, manager)?;
-    for number in 0..plan.count {
-        update_and_commit(alloc, manager, plan, &ids, number)?;
-    }
-    begin(alloc, manager)?;
-    update_one(alloc, manager, plan, &ids, plan.count)
 }
 
 fn recover(alloc: Global, manager: &Manager, nanos: u64) -> Result<Vec<Figure>, Fault> {
@@ -322,33 +297,17 @@ fn recover(alloc: Global, manager: &Manager, nanos: u64) -> Result<Vec<Figure>, 
     Ok(Vec::from_slice(alloc, &figures)?)
 }
 
-fn verify(alloc: Global, plan: &Plan, manager: &mut Manager) -> Result<Vec<Figure>, Fault> {
-    let count = verified(alloc, plan, manager)?;
-    let figures = [Figure::whole("verify", count, "records_as_acknowledged")];
-    Ok(Vec::from_slice(alloc, &figures)?)
-}
-
-fn verified(alloc: Global, plan: &Plan, manager: &mut Manager) -> Result<u64, Fault> {
-    let pairs = manager.dump(alloc, STORE)?;
-    check(alloc, plan, &pairs)?;
-    Ok(pairs.len() as u64)
-}
-
-fn lose(alloc: Global, plan: &Plan, manager: &mut Manager) -> Result<Vec<Figure>, Fault> {
-    leave_undecided(alloc, plan, manager)?;
-    let figures = [Figure::whole("lose", plan.count, "undecided_updates")];
-    Ok(Vec::from_slice(alloc, &figures)?)
-}
-
 // So many updates in one transaction, forced and written back.
-fn leave_undecided(alloc: Global, plan: &Plan, manager: &mut Manager) -> Result<(), Fault> {
-    let ids = ids_of(alloc, manager)?;
+fn lose(alloc: Global, plan: &Plan, manager: &mut Manager) -> Result<Vec<Figure>, Fault> {
+    let pairs = records(alloc, manager)?;
     begin_alone(alloc, manager)?;
     for number in 0..plan.count {
-        update_one(alloc, manager, plan, &ids, number)?;
+        update_one(alloc, manager, plan, &pairs, number)?;
     }
     force(alloc, manager)?;
-    write_back(alloc, manager)
+    write_back(alloc, manager)?;
+    let figures = [Figure::whole("lose", plan.count, "undecided_updates")];
+    Ok(Vec::from_slice(alloc, &figures)?)
 }
 
 fn undo(
@@ -358,9 +317,8 @@ fn undo(
     nanos: u64,
 ) -> Result<Vec<Figure>, Fault> {
     let report = manager.report();
-    let (forced, _) = manager.records();
-    let logged = (forced.len() as u64).saturating_sub(report.read);
-    let shown = shown_undone(alloc, plan, manager)?;
+    let logged = logged(manager).saturating_sub(report.read);
+    let shown = shown(alloc, plan, manager, false)?;
     let figures = [
         Figure::ratio("undo", nanos, plan.count, 1, "microseconds_per_update"),
         Figure::whole("undo_log", report.read, "records"),
@@ -372,45 +330,32 @@ fn undo(
     Ok(Vec::from_slice(alloc, &figures)?)
 }
 
-fn shown_undone(alloc: Global, plan: &Plan, manager: &mut Manager) -> Result<u64, Fault> {
-    let pairs = manager.dump(alloc, STORE)?;
-    check_undone(alloc, plan, &pairs)?;
-    Ok(pairs.len() as u64)
-}
-
-// Each record tells what its insert did, and none is missing.
-fn check_undone(alloc: Global, plan: &Plan, pairs: &Pairs) -> Result<(), Fault> {
-    if pairs.len() as u64 != plan.updated_records() {
+// How many records there are. Each tells the last update of it that was acknowledged, or else what its insert did; and none is missing.
+fn shown(
+    alloc: Global,
+    plan: &Plan,
+    manager: &mut Manager,
+    is_updated: bool,
+) -> Result<u64, Fault> {
+    let pairs = records(alloc, manager)?;
+    let count = plan.updated_records();
+    if pairs.len() as u64 != count {
         return Err(Fault::NoRecord);
     }
     for index in 0..pairs.len() {
-        let wanted = bytes(alloc, index as u64, plan.size)?;
+        let record = index as u64;
+        let number = if is_updated {
+            told(plan, last_update(plan, record))
+        } else {
+            record
+        };
+        let wanted = bytes(alloc, number, plan.size)?;
         match pairs.get(index) {
             Some((_, found)) if found == wanted.as_slice() => {}
             _ => return Err(Fault::NoRecord),
         }
     }
-    Ok(())
-}
-
-// Each record tells the last update of it that was acknowledged, and none is missing.
-fn check(alloc: Global, plan: &Plan, pairs: &Pairs) -> Result<(), Fault> {
-    let records = plan.updated_records();
-    if pairs.len() as u64 != records {
-        return Err(Fault::NoRecord);
-    }
-    for index in 0..pairs.len() {
-        let wanted = bytes(
-            alloc,
-            told(plan, last_update(plan, index as u64)),
-            plan.size,
-        )?;
-        match pairs.get(index) {
-            Some((_, found)) if found == wanted.as_slice() => {}
-            _ => return Err(Fault::NoRecord),
-        }
-    }
-    Ok(())
+    Ok(count)
 }
 
 // The last of the updates that is of a record.

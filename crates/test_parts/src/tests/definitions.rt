@@ -7,5 +7,5 @@ mod locks;
 mod log_lines;
 mod logs;
 mod modes;
-mod trouble;
+mod steps;
 mod words;

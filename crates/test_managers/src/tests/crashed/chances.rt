@@ -1,12 +1,8 @@
 //! Choices that look like chance, from a seed.
-use super::devices::Fuse;
-use super::doings::{Depth, Doing, ModeIndex, Place, STORES};
+use super::devices::{Calls, NO_FUSES};
+use super::doings::{Depth, Doing, Place, STORES};
 use shore_disk::Pick;
-
-// Modes that are often asked for.
-const SH: ModeIndex = 2;
-
-const EX: ModeIndex = 5;
+use shore_types::Mode;
 
 /// Where the choices come from. Each seed has its own.
 #[derive(Drop)]
@@ -38,11 +34,17 @@ impl Chance {
     }
 
     /// A fuse that most opens with losers blow.
-    pub(super) fn fuse(&mut self) -> Fuse {
+    pub(super) fn fuse(&mut self) -> Calls {
         if self.below(2) == 0 {
-            Fuse::Log(u64::from(self.below(10)))
+            Calls {
+                log: u64::from(self.below(10)),
+                ..NO_FUSES
+            }
         } else {
-            Fuse::Volume(u64::from(self.below(24)))
+            Calls {
+                volume: u64::from(self.below(24)),
+                ..NO_FUSES
+            }
         }
     }
 
@@ -108,8 +110,8 @@ impl Chance {
             8 | 9 | 10 => Doing::UpdateOf(self.near_place(), self.byte(), self.length()),
             11 => Doing::DeleteOf(self.near_place()),
             12 => Doing::ScanOf(self.below(2)),
-            13 => Doing::LockOf(self.near_place(), self.depth(), self.below(6) as usize),
-            14 | 15 => Doing::TryOf(self.near_place(), self.depth(), self.below(6) as usize),
+            13 => Doing::LockOf(self.near_place(), self.depth(), self.mode()),
+            14 | 15 => Doing::TryOf(self.near_place(), self.depth(), self.mode()),
             16 => Doing::Begin,
             17 | 18 => Doing::Commit,
             19 | 20 => Doing::ForceStage,
@@ -123,11 +125,11 @@ impl Chance {
     fn contending(&mut self) -> Doing {
         let place = (0, 0, u16::try_from(self.below(3)).unwrap_or(0));
         match self.below(8) {
-            0 | 1 | 2 => Doing::LockOf(place, 3, SH),
-            3 | 4 => Doing::LockOf(place, 3, EX),
+            0 | 1 | 2 => Doing::LockOf(place, 3, Mode::SH),
+            3 | 4 => Doing::LockOf(place, 3, Mode::EX),
             5 => Doing::UpdateOf(place, self.byte(), self.length()),
-            6 => Doing::LockOf(place, 2, SH),
-            _ => Doing::LockOf((0, 1, 0), 2, SH),
+            6 => Doing::LockOf(place, 2, Mode::SH),
+            _ => Doing::LockOf((0, 1, 0), 2, Mode::SH),
         }
     }
 
@@ -177,6 +179,17 @@ impl Chance {
             1 => 1,
             2 | 3 => 2,
             _ => 3,
+        }
+    }
+
+    fn mode(&mut self) -> Mode {
+        match self.below(6) {
+            0 => Mode::IS,
+            1 => Mode::IX,
+            2 => Mode::SH,
+            3 => Mode::SIX,
+            4 => Mode::UD,
+            _ => Mode::EX,
         }
     }
 

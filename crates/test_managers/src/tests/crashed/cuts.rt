@@ -1,6 +1,7 @@
 //! Restarts that are cut off.
-use super::crashes::{Restarted, require_in_place};
-use super::devices::{Devices, Fuse, Images, Manager, calls_of, cut_off};
+use super::crashes::{are_in_place, check_crash};
+use super::devices::{Calls, Devices, Manager, NO_FUSES, cut_off};
+use super::lives::{Ground, Pair, Past};
 use super::trouble::{Trouble, require};
 use shore_disk::Pick;
 use std::alloc::Global;
@@ -8,67 +9,49 @@ use std::alloc::Global;
 // No restart here makes so many writes and syncs of a device.
 const MOST_CALLS: u64 = 1000;
 
-#[derive(Clone, Copy)]
-enum Device {
-    Log,
-    Volume,
-}
-
-const BOTH: [Device; 2] = [Device::Log, Device::Volume];
-
-fn fuse_of(device: Device, calls: u64) -> Fuse {
-    match device {
-        Device::Log => Fuse::Log(calls),
-        Device::Volume => Fuse::Volume(calls),
-    }
-}
-
 /// The restart of what a crash left is cut off at each call of a device, twice in a row, and then made whole. Answers how many were cut off. The first
-/// call of each device is left out: it is a sync, before which nothing is written.
+/// call of each device is left out: it is a sync, before which nothing is written. The last fuses let the restart through.
 pub(super) fn check_cuts(
     alloc: Global,
-    images: &Images,
-    wanted: &Restarted,
+    ground: &Ground,
+    past: &Past,
+    devices: &Devices,
     pick: Pick,
 ) -> Result<u64, Trouble> {
-    let mut cuts = 0u64;
-    for device in BOTH {
-        cuts = cuts.saturating_add(check_cuts_of(alloc, images, wanted, device, pick)?);
-    }
-    Ok(cuts)
-}
-
-// Up to the fuse that lets the restart through.
-fn check_cuts_of(
-    alloc: Global,
-    images: &Images,
-    wanted: &Restarted,
-    device: Device,
-    pick: Pick,
-) -> Result<u64, Trouble> {
+    let Pair { ground: wanted, .. } = check_crash(alloc, ground, past, devices.copy(alloc)?)?;
     let mut cuts = 0u64;
     for calls in 1..MOST_CALLS {
-        match cut_twice(alloc, images, wanted, fuse_of(device, calls), pick)? {
-            0 => return Ok(cuts),
-            cut_off => cuts = cuts.saturating_add(cut_off),
+        let log = Calls {
+            log: calls,
+            ..NO_FUSES
+        };
+        let volume = Calls {
+            volume: calls,
+            ..NO_FUSES
+        };
+        let of_log = cut_twice(alloc, devices, &wanted, log, pick)?;
+        let of_volume = cut_twice(alloc, devices, &wanted, volume, pick)?;
+        if of_log == 0 && of_volume == 0 {
+            return Ok(cuts);
         }
+        cuts = cuts.saturating_add(of_log).saturating_add(of_volume);
     }
-    Err(Trouble::Wrong("a restart makes too many calls"))
+    Err(Trouble("a restart makes too many calls"))
 }
 
 // How many of two restarts in a row are cut off by this fuse, with a whole one behind them; none if it lets the first one through.
 fn cut_twice(
     alloc: Global,
-    images: &Images,
-    wanted: &Restarted,
-    fuse: Fuse,
+    devices: &Devices,
+    wanted: &Ground,
+    fuses: Calls,
     pick: Pick,
 ) -> Result<u64, Trouble> {
-    let (once, is_cut_off) = images.devices(alloc)?.open_cut_off(alloc, fuse, pick)?;
+    let (once, is_cut_off) = devices.copy(alloc)?.open_cut_off(alloc, fuses, pick)?;
     if !is_cut_off {
         return Ok(0);
     }
-    let (twice, is_cut_off_again) = once.open_cut_off(alloc, fuse, pick)?;
+    let (twice, is_cut_off_again) = once.open_cut_off(alloc, fuses, pick)?;
     let _left = check_whole(alloc, twice, wanted)?;
     Ok(1 + u64::from(is_cut_off_again))
 }
@@ -77,24 +60,21 @@ fn cut_twice(
 pub(super) fn check_whole(
     alloc: Global,
     devices: Devices,
-    wanted: &Restarted,
+    wanted: &Ground,
 ) -> Result<Devices, Trouble> {
     let mut world = devices.open(alloc)?;
     let judged = require_restarted(alloc, &mut world, wanted);
-    let (devices, _, _) = cut_off(world, calls_of(None));
+    let (devices, _) = cut_off(world, NO_FUSES);
     judged?;
     Ok(devices)
 }
 
-fn require_restarted(
-    alloc: Global,
-    world: &mut Manager,
-    wanted: &Restarted,
-) -> Result<(), Trouble> {
+fn require_restarted(alloc: Global, world: &mut Manager, wanted: &Ground) -> Result<(), Trouble> {
     let (found, waiting) = world.records();
     require(
         waiting.is_empty() && found.len() == wanted.found.len() && found.starts_with(&wanted.found),
         "another log behind a restart that was cut off",
     )?;
-    require_in_place(alloc, world, &wanted.ground.opening.records)
+    let is_shown = are_in_place(alloc, world, &wanted.opening.records)?;
+    require(is_shown, "the dump was refused")
 }

@@ -1,8 +1,11 @@
 //! Deadlocks, judged by lists of requests: whose waits are taken back, that each victim is told a true cycle once, and that it can then only abort.
 use super::doings::Doing;
-use super::lock_lists::{Lock, ask, have_the_same, take_back, waiting_request};
-use super::trouble::{Trouble, require};
-use shore_model::{Answer, Request};
+use super::lock_lists::{
+    Lock, are_among, ask, have_the_same, request_of, take_back, waiting_request,
+};
+use super::rollbacks::has_record;
+use super::trouble::{Trouble, require, require_all};
+use shore_model::{Answer, LogRecord, Request};
 use shore_types::{Fault, TxnId};
 use shore_world::{Step, Wait};
 use slow_locks::requests::is_cycle;
@@ -46,12 +49,15 @@ fn add(count: &mut u64) {
     *count = count.saturating_add(1);
 }
 
-// A victim of this manager. Its cycle was one of a table of these, until its request was taken back.
+// A victim of this manager, and the event that it was chosen in: who asked for what lock, the requests before, and all who were chosen then.
 #[derive(Drop)]
 struct Victim {
     txn: TxnId,
     is_told: bool,
-    tables: Vec<Vec<Request>>,
+    asker: TxnId,
+    lock: Lock,
+    requests: Vec<Request>,
+    chosen: Vec<TxnId>,
 }
 
 /// An event that may have asked for a lock, and the requests before and behind it, each in the order in which they came.
@@ -70,13 +76,14 @@ pub(super) struct Asking<'a> {
 impl<'a> Asking<'a> {
     // The lock that is asked for, if a call goes as far.
     fn lock(&self) -> Option<Lock> {
-        match (self.waited, self.doing) {
-            (None, doing) => doing.lock(),
-            (Some(call), Doing::Resume) if waiting_request(self.old, self.txn).is_none() => {
-                call.lock()
-            }
-            _ => None,
+        let Some(call) = self.waited else {
+            return self.doing.lock();
+        };
+        let waits = waiting_request(self.old, self.txn).is_some();
+        if waits || !matches!(self.doing, Doing::Resume) {
+            return None;
         }
+        call.lock()
     }
 
     fn is_deadlock(&self) -> bool {
@@ -86,24 +93,28 @@ impl<'a> Asking<'a> {
     // The call came to its locks for sure.
     fn has_asked(&self) -> bool {
         match self.step {
-            Step::Done(_) => true,
-            Step::Waits(wait) => matches!(wait, Wait::Lock(_)),
+            Step::Done(_) | Step::Waits(Wait::Lock(_)) => true,
             _ => self.is_deadlock(),
         }
     }
 
-    // Those whose wait is gone without what they waited for.
-    fn taken_back(&self, alloc: Global) -> Result<Vec<TxnId>, AllocError> {
+    /// Those whose wait is gone without what they waited for.
+    pub(super) fn taken_back(&self, alloc: Global) -> Result<Vec<TxnId>, AllocError> {
         let mut found = Vec::new(alloc);
         for was in self.old {
-            let is_there = self.new.iter().any(|now| now.txn == was.txn
-                && now.granule == was.granule
-                && (now.wanted == was.wanted || now.held == was.wanted));
-            if was.wanted.is_some() && was.txn != self.txn && !is_there {
+            if was.wanted.is_some() && was.txn != self.txn && !self.stays(was) {
                 found.push(was.txn)?;
             }
         }
         Ok(found)
+    }
+
+    // A request that waited waits still, or was granted.
+    fn stays(&self, was: &Request) -> bool {
+        match request_of(self.new, was.txn, &was.granule) {
+            Some(now) => now.wanted == was.wanted || now.held == was.wanted,
+            None => false,
+        }
     }
 }
 
@@ -120,51 +131,74 @@ impl Victims {
         }
     }
 
-    fn is_victim(&self, txn: TxnId, is_told: bool) -> bool {
-        self.victims
-            .iter()
-            .any(|victim| victim.txn == txn && victim.is_told == is_told)
+    // Whether its session knows, if the transaction is a victim.
+    fn told(&self, txn: TxnId) -> Option<bool> {
+        for victim in &self.victims {
+            if victim.txn == txn {
+                return Some(victim.is_told);
+            }
+        }
+        None
     }
 
     /// The transaction can only abort, and its session knows.
     pub(super) fn is_told(&self, txn: TxnId) -> bool {
-        self.is_victim(txn, true)
+        matches!(self.told(txn), Some(true))
     }
 
-    /// The transactions of victims.
-    pub(super) fn txns(&self, alloc: Global) -> Result<Vec<TxnId>, AllocError> {
-        let mut found = Vec::new(alloc);
+    /// How many of them have one of these records.
+    pub(super) fn count_with_records(&self, records: &[LogRecord]) -> u64 {
+        let mut count = 0u64;
         for victim in &self.victims {
-            found.push(victim.txn)?;
+            if has_record(records, victim.txn) {
+                add(&mut count);
+            }
         }
-        Ok(found)
+        count
     }
 
-    /// Judges an event by the requests before and behind it. Answers whose requests it has taken back.
+    /// Judges an event by the requests before and behind it, of which those of these transactions were taken back.
     pub(super) fn judge(
         &mut self,
         alloc: Global,
         asking: &Asking<'_>,
+        found: &[TxnId],
         tally: &mut Deadlocks,
-    ) -> Result<Vec<TxnId>, Trouble> {
-        let found = asking.taken_back(alloc)?;
-        if self.is_victim(asking.txn, false) && matches!(asking.doing, Doing::Resume) {
-            require(found.is_empty(), "a victim of one that is told")?;
-            self.check_told(alloc, asking, tally)?;
-        } else if self.is_told(asking.txn) {
-            require(found.is_empty(), "a victim of one that can only abort")?;
-            check_doomed(asking, tally)?;
-        } else {
-            require(
-                !matches!(asking.step, Step::Refused(Fault::MustAbort)),
-                "MustAbort comes to one that may do more",
-            )?;
-            self.judge_lock(alloc, asking, &found, tally)?;
+    ) -> Result<(), Trouble> {
+        let resumes = matches!(asking.doing, Doing::Resume);
+        match self.told(asking.txn) {
+            Some(true) => self.check_doomed(asking, found, tally),
+            Some(false) if resumes => self.check_told(alloc, asking, found, tally),
+            _ => self.judge_lock(alloc, asking, found, tally),
         }
+    }
+
+    // A victim that knows can only abort, and is then no victim: all else is refused, and changes nothing.
+    fn check_doomed(
+        &mut self,
+        asking: &Asking<'_>,
+        found: &[TxnId],
+        tally: &mut Deadlocks,
+    ) -> Result<(), Trouble> {
+        require(found.is_empty(), "a victim of one that can only abort")?;
         if matches!(asking.step, Step::Done(Answer::Aborted)) {
             self.victims.retain(|victim| victim.txn != asking.txn);
+            return require(
+                matches!(asking.doing, Doing::Abort),
+                "an abort of another call",
+            );
         }
-        Ok(found)
+        let is_refused = match asking.doing {
+            Doing::ForceStage | Doing::ForceOpen | Doing::FlushStep | Doing::Resume => true,
+            _ => is_refused(asking, tally),
+        };
+        require_all(&[
+            (is_refused, "a victim does more than abort"),
+            (
+                have_the_same(asking.old, asking.new),
+                "a victim's locks change",
+            ),
+        ])
     }
 
     // The session of a victim that waited is told its cycle, and no lock has changed.
@@ -172,18 +206,22 @@ impl Victims {
         &mut self,
         alloc: Global,
         asking: &Asking<'_>,
+        found: &[TxnId],
         tally: &mut Deadlocks,
     ) -> Result<(), Trouble> {
-        require(
-            have_the_same(asking.old, asking.new),
-            "a victim's locks change",
-        )?;
+        require_all(&[
+            (found.is_empty(), "a victim of one that is told"),
+            (
+                have_the_same(asking.old, asking.new),
+                "a victim's locks change",
+            ),
+        ])?;
         if asking.has_failed {
             return Ok(());
         }
         for victim in &mut self.victims {
             if victim.txn == asking.txn {
-                let is_true = is_told_of_one(alloc, asking, &victim.tables)?;
+                let is_true = was_in_cycle(alloc, asking, victim)?;
                 require(is_true, "a cycle that is none is told behind")?;
                 victim.is_told = true;
             }
@@ -201,6 +239,8 @@ impl Victims {
         found: &[TxnId],
         tally: &mut Deadlocks,
     ) -> Result<(), Trouble> {
+        let must_abort = matches!(asking.step, Step::Refused(Fault::MustAbort));
+        require(!must_abort, "MustAbort comes to one that may do more")?;
         let Some(lock) = asking.lock() else {
             return require(
                 found.is_empty() && !asking.is_deadlock(),
@@ -210,160 +250,160 @@ impl Victims {
         if found.is_empty() && !asking.has_asked() {
             return Ok(());
         }
-        for txn in found {
-            let tables = tables_of(alloc, asking, lock, found, *txn)?;
-            self.push(*txn, false, tables)?;
+        let is_own = check_rounds(alloc, asking, lock, found)?;
+        if is_own {
+            check_cycle(asking, tally)?;
+            self.push(alloc, asking, lock, found, asking.txn)?;
         }
-        let mut table = asking.old.to_vec(alloc)?;
-        let is_over = self.go_round(alloc, asking, lock, &mut table, found, tally)?;
-        let is_own = self.is_told(asking.txn);
-        require(
-            is_own || !asking.is_deadlock(),
-            "a cycle that is none is told",
-        )?;
-        require(is_over, "more victims than waits")?;
+        for txn in found {
+            self.push(alloc, asking, lock, found, *txn)?;
+        }
         count_ways_on(asking, found.len(), is_own, tally);
-        check_left(asking, &table)
+        Ok(())
     }
 
-    // Asks and takes back, as often as there are victims at most. Answers whether that is the end of it.
-    fn go_round(
+    // The one that asks is told at once.
+    fn push(
         &mut self,
         alloc: Global,
         asking: &Asking<'_>,
         lock: Lock,
-        table: &mut Vec<Request>,
         found: &[TxnId],
-        tally: &mut Deadlocks,
-    ) -> Result<bool, Trouble> {
-        for _ in 0..=found.len() {
-            let waits = ask(alloc, table, asking.txn, lock)?;
-            if !waits || self.break_waits(alloc, asking, table, found, tally)? {
-                return Ok(true);
-            }
-        }
-        Ok(false)
-    }
-
-    // The victims of a wait, the one that asks among them if it was told so. Answers whether that is the end of it.
-    fn break_waits(
-        &mut self,
-        alloc: Global,
-        asking: &Asking<'_>,
-        table: &mut Vec<Request>,
-        found: &[TxnId],
-        tally: &mut Deadlocks,
-    ) -> Result<bool, Trouble> {
-        let is_own = is_told_of(alloc, asking, table)?;
-        if is_own {
-            check_cycle(asking, tally)?;
-            self.push(asking.txn, true, Vec::new(alloc))?;
-            take_back(alloc, table, asking.txn)?;
-        }
-        for txn in found {
-            take_back(alloc, table, *txn)?;
-        }
-        Ok(is_own || waiting_request(table, asking.txn).is_some())
-    }
-
-    fn push(
-        &mut self,
         txn: TxnId,
-        is_told: bool,
-        tables: Vec<Vec<Request>>,
     ) -> Result<(), AllocError> {
+        let requests = asking.old.to_vec(alloc)?;
+        let chosen = found.to_vec(alloc)?;
         self.victims.push(Victim {
             txn,
-            is_told,
-            tables,
+            is_told: txn == asking.txn,
+            asker: asking.txn,
+            lock,
+            requests,
+            chosen,
         })?;
         Ok(())
     }
 }
 
-// The tables that one of the victims may have been chosen on, as others of them waited or waited no more: all of them, all but one, and none.
-fn tables_of(
+// The requests are those that the rounds have left. Answers whether the one that asks is a victim.
+fn check_rounds(
     alloc: Global,
     asking: &Asking<'_>,
     lock: Lock,
     found: &[TxnId],
-    victim: TxnId,
-) -> Result<Vec<Vec<Request>>, AllocError> {
-    let mut others = Vec::new(alloc);
-    let mut tables = Vec::new(alloc);
-    tables.push(waits_without(alloc, asking, lock, &[])?)?;
-    for other in found {
-        if *other != victim {
-            tables.push(waits_without(alloc, asking, lock, &[*other])?)?;
-            others.push(*other)?;
-        }
-    }
-    tables.push(waits_without(alloc, asking, lock, &others)?)?;
-    Ok(tables)
+) -> Result<bool, Trouble> {
+    let mut table = asking.old.to_vec(alloc)?;
+    let is_own = go_round(alloc, asking, lock, found, &mut table)?;
+    check_left(asking, lock, &table)?;
+    require(
+        is_own || !asking.is_deadlock(),
+        "a cycle that is none is told",
+    )?;
+    Ok(is_own)
 }
 
-// The requests as the one that asks waits, behind others that wait no more.
-fn waits_without(
+// Asks and takes back, as often as there are victims at most: the one that asks among them, if it was told so, which is answered.
+fn go_round(
     alloc: Global,
     asking: &Asking<'_>,
     lock: Lock,
+    found: &[TxnId],
+    table: &mut Vec<Request>,
+) -> Result<bool, Trouble> {
+    for _ in 0..=found.len() {
+        if !ask(alloc, table, asking.txn, lock)? {
+            return Ok(false);
+        }
+        let is_own = is_told_of(alloc, asking, table)?;
+        if is_own {
+            take_back(alloc, table, asking.txn)?;
+        }
+        take_back_each(alloc, table, found, asking.txn)?;
+        if is_own || waiting_request(table, asking.txn).is_some() {
+            return Ok(is_own);
+        }
+    }
+    Err(Trouble("more victims than waits"))
+}
+
+// All but one of them wait no more.
+fn take_back_each(
+    alloc: Global,
+    table: &mut Vec<Request>,
+    txns: &[TxnId],
+    but: TxnId,
+) -> Result<(), AllocError> {
+    for txn in txns {
+        if *txn != but {
+            take_back(alloc, table, *txn)?;
+        }
+    }
+    Ok(())
+}
+
+// The cycle that a victim is told was one as it was chosen, whichever of the others waited no more then: none, one of them, or all.
+fn was_in_cycle(alloc: Global, asking: &Asking<'_>, victim: &Victim) -> Result<bool, AllocError> {
+    for other in &victim.chosen {
+        if is_told_without(alloc, asking, victim, &[*other])? {
+            return Ok(true);
+        }
+    }
+    is_told_without(alloc, asking, victim, &victim.chosen)
+}
+
+// The cycle that a victim is told is one of the waits behind others that wait no more.
+fn is_told_without(
+    alloc: Global,
+    asking: &Asking<'_>,
+    victim: &Victim,
     gone: &[TxnId],
-) -> Result<Vec<Request>, AllocError> {
-    let mut table = asking.old.to_vec(alloc)?;
-    let _waits = ask(alloc, &mut table, asking.txn, lock)?;
-    for txn in gone {
-        take_back(alloc, &mut table, *txn)?;
+) -> Result<bool, AllocError> {
+    let mut table = victim.requests.to_vec(alloc)?;
+    wait_without(alloc, victim, gone, &mut table)?;
+    is_told_of(alloc, asking, &table)
+}
+
+// The one that asked waits, behind others that wait no more.
+fn wait_without(
+    alloc: Global,
+    victim: &Victim,
+    gone: &[TxnId],
+    table: &mut Vec<Request>,
+) -> Result<(), AllocError> {
+    let _waits = ask(alloc, table, victim.asker, victim.lock)?;
+    take_back_each(alloc, table, gone, victim.txn)?;
+    if waiting_request(table, victim.asker).is_none() {
+        let _waits_on = ask(alloc, table, victim.asker, victim.lock)?;
     }
-    if waiting_request(&table, asking.txn).is_none() {
-        let _waits_on = ask(alloc, &mut table, asking.txn, lock)?;
-    }
-    Ok(table)
+    Ok(())
 }
 
 // The cycle that the transaction is told begins with it, its number is the greatest, and nobody is in it twice.
 fn check_cycle(asking: &Asking<'_>, tally: &mut Deadlocks) -> Result<(), Trouble> {
     let Step::Refused(Fault::Deadlock { cycle }) = asking.step else {
-        return Err(Trouble::Wrong("a victim is not told its cycle"));
+        return Err(Trouble("a victim is not told its cycle"));
     };
     let txns = cycle.as_slice();
     require(
         txns.first() == Some(&asking.txn),
         "a cycle begins with another",
     )?;
-    require(
-        txns.iter().all(|txn| *txn <= asking.txn),
-        "a victim has not the greatest number",
-    )?;
-    require(!has_one_twice(txns), "one is in a cycle twice")?;
+    check_members(txns, asking.txn)?;
     if txns.len() > 2 {
         add(&mut tally.longer);
     }
     Ok(())
 }
 
-fn has_one_twice(txns: &[TxnId]) -> bool {
+fn check_members(txns: &[TxnId], victim: TxnId) -> Result<(), Trouble> {
     for (index, txn) in txns.iter().enumerate() {
-        if let Some(later) = txns.get(index.saturating_add(1)..) {
-            if later.contains(txn) {
-                return true;
-            }
-        }
+        let later = txns.get(index.saturating_add(1)..).unwrap_or(&[]);
+        require_all(&[
+            (*txn <= victim, "a victim has not the greatest number"),
+            (!later.contains(txn), "one is in a cycle twice"),
+        ])?;
     }
-    false
-}
-
-// The cycle that is told is one of one of these tables.
-fn is_told_of_one(
-    alloc: Global,
-    asking: &Asking<'_>,
-    tables: &[Vec<Request>],
-) -> Result<bool, AllocError> {
-    for waits in tables {
-        if is_told_of(alloc, asking, waits)? {
-            return Ok(true);
-        }
-    }
-    Ok(false)
+    Ok(())
 }
 
 // The cycle that is told is one of these waits.
@@ -375,42 +415,29 @@ fn is_told_of(alloc: Global, asking: &Asking<'_>, waits: &[Request]) -> Result<b
 }
 
 // The requests are those that the rounds have left; an insert that has its store goes on to a page and a record, for its own transaction alone.
-fn check_left(asking: &Asking<'_>, table: &[Request]) -> Result<(), Trouble> {
-    let goes_on = matches!(asking.lock(), Some(lock) if lock.goes_on);
-    let is_left = if goes_on {
-        let others_are_left = asking
-            .new
-            .iter()
-            .all(|now| now.txn == asking.txn || table.contains(now));
-        others_are_left
-            && table
-                .iter()
-                .all(|left| left.txn == asking.txn || asking.new.contains(left))
+fn check_left(asking: &Asking<'_>, lock: Lock, table: &[Request]) -> Result<(), Trouble> {
+    let is_left = if lock.goes_on {
+        are_among(asking.new, table, asking.txn) && are_among(table, asking.new, asking.txn)
     } else {
         have_the_same(asking.new, table)
     };
     require(is_left, "other requests are left than the rounds leave")
 }
 
-// A victim that knows can only abort: all else is refused, and changes nothing.
-fn check_doomed(asking: &Asking<'_>, tally: &mut Deadlocks) -> Result<(), Trouble> {
-    let is_right = match (asking.doing, asking.step) {
-        (Doing::ForceStage | Doing::ForceOpen | Doing::FlushStep | Doing::Resume, _) => true,
-        (_, Step::Refused(Fault::Failed)) => asking.has_failed,
-        (Doing::Abort, Step::Done(Answer::Aborted)) => return Ok(()),
-        (Doing::Abort, Step::Refused(_)) => asking.has_failed,
-        (Doing::Begin, Step::Refused(Fault::AlreadyActive)) => true,
-        (_, Step::Refused(Fault::MustAbort)) => {
-            add(&mut tally.refused);
-            true
-        }
-        _ => false,
+// A call of a victim that knows is refused, and an abort only by a failure.
+fn is_refused(asking: &Asking<'_>, tally: &mut Deadlocks) -> bool {
+    let Step::Refused(fault) = asking.step else {
+        return false;
     };
-    require(is_right, "a victim does more than abort")?;
-    require(
-        have_the_same(asking.old, asking.new),
-        "a victim's locks change",
-    )
+    match fault {
+        Fault::AlreadyActive => matches!(asking.doing, Doing::Begin),
+        Fault::MustAbort => {
+            add(&mut tally.refused);
+            !matches!(asking.doing, Doing::Abort)
+        }
+        Fault::Failed => asking.has_failed,
+        _ => asking.has_failed && matches!(asking.doing, Doing::Abort),
+    }
 }
 
 // What became of the call that closed a cycle.

@@ -9,25 +9,11 @@ use shore_types::{Bytes, Granule, Mode, PageId, Rid, Sequence, SessionId, StoreI
 use shore_world::Event;
 use std::alloc::{AllocError, Global};
 
-/// The session of lists.
-pub(super) const SESSION: SessionId = SessionId(1);
-
 /// How many stores there are.
 pub(super) const STORES: u32 = 9;
 
-// The store that lists work with.
-const STORE: StoreId = StoreId(0);
-
 // The place of the first record.
 const FIRST_PLACE: Place = (0, 0, 0);
-
-const FIRST: Rid = Rid {
-    page: PageId {
-        store: STORE,
-        page: 0,
-    },
-    slot: 0,
-};
 
 /// A record id: the numbers of its store, page and slot.
 pub(super) type Place = (u32, u32, u16);
@@ -35,41 +21,38 @@ pub(super) type Place = (u32, u32, u16);
 /// A granule at a place, by how far it is from the root: 0 for the volume, 1 for the store, 2 for the page, and 3 for the record.
 pub(super) type Depth = u32;
 
-/// A mode, by its index among all of them.
-pub(super) type ModeIndex = usize;
-
-const MODES: [Mode; 6] = [Mode::IS, Mode::IX, Mode::SH, Mode::SIX, Mode::UD, Mode::EX];
-
-/// What happens to a manager next. In lists each insert is of one byte; an update puts two into the first record's place, and a delete is of that.
-#[derive(Clone, Copy, Debug)]
+/// What happens to a manager next.
+#[derive(Clone, Copy)]
 pub(super) enum Doing {
     Begin,
-    Insert,
-    /// An insert into another store.
-    InsertInto(u32),
-    Update,
-    Delete,
-    Scan,
-    Commit,
-    Abort,
-    ForceStage,
-    ForceOpen,
-    Resume,
-    FlushStep,
-    Savepoint,
-    /// Back to the savepoint of this index.
-    BackTo(usize),
     /// An insert into a store, of a byte so many times.
     InsertOf(u32, u8, usize),
+    /// An update of the first record's place to two bytes.
+    Update,
     /// An update to a byte so many times.
     UpdateOf(Place, u8, usize),
     DeleteOf(Place),
     GetOf(Place),
     GetForUpdateOf(Place),
     ScanOf(u32),
-    LockOf(Place, Depth, ModeIndex),
-    TryOf(Place, Depth, ModeIndex),
+    LockOf(Place, Depth, Mode),
+    TryOf(Place, Depth, Mode),
+    Savepoint,
+    /// Back to the savepoint of this index.
+    BackTo(usize),
+    Commit,
+    Abort,
+    ForceStage,
+    ForceOpen,
+    Resume,
+    FlushStep,
 }
+
+/// An insert of a byte into the store that lists work with.
+pub(super) const INSERT: Doing = Doing::InsertOf(0, 0xaa, 1);
+
+/// A delete of the first record.
+pub(super) const DELETE: Doing = Doing::DeleteOf(FIRST_PLACE);
 
 /// What the session of a number does.
 pub(super) type Turn = (u32, Doing);
@@ -77,10 +60,10 @@ pub(super) type Turn = (u32, Doing);
 /// One of each that lists are made of.
 pub(super) const EACH: [Doing; 11] = [
     Doing::Begin,
-    Doing::Insert,
+    INSERT,
     Doing::Update,
-    Doing::Delete,
-    Doing::Scan,
+    DELETE,
+    Doing::ScanOf(0),
     Doing::Commit,
     Doing::Abort,
     Doing::ForceStage,
@@ -90,13 +73,13 @@ pub(super) const EACH: [Doing; 11] = [
 ];
 
 /// A record that is committed and acknowledged.
-pub(super) const ONE_COMMIT: [Doing; 6] = [
-    Doing::Begin,
-    Doing::Insert,
-    Doing::Commit,
-    Doing::ForceStage,
-    Doing::ForceOpen,
-    Doing::Resume,
+pub(super) const ONE_COMMIT: [Turn; 6] = [
+    (1, Doing::Begin),
+    (1, INSERT),
+    (1, Doing::Commit),
+    (1, Doing::ForceStage),
+    (1, Doing::ForceOpen),
+    (1, Doing::Resume),
 ];
 
 impl Doing {
@@ -106,19 +89,16 @@ impl Doing {
     {
         Ok(match self {
             Doing::Begin => Some(Call::Begin),
-            Doing::Insert => Some(Call::Insert(STORE, bytes(alloc, &[0xaa])?)),
-            Doing::InsertInto(store) => {
-                Some(Call::Insert(StoreId(store), bytes(alloc, &[0xdd])?))
-            }
-            Doing::Update => Some(Call::Update(FIRST, bytes(alloc, &[0xbb, 0xcc])?)),
-            Doing::Delete => Some(Call::Delete(FIRST)),
-            Doing::Scan => Some(Call::Scan(STORE)),
             Doing::Commit => Some(Call::Commit),
             Doing::Abort => Some(Call::Abort),
             Doing::Savepoint => Some(Call::Savepoint),
             Doing::BackTo(index) => Some(Call::BackTo(index)),
             Doing::InsertOf(store, byte, count) => {
                 Some(Call::Insert(StoreId(store), filled(alloc, byte, count)?))
+            }
+            Doing::Update => {
+                let bytes = Vec::from_slice(alloc, &[0xbb, 0xcc])?;
+                Some(Call::Update(rid(FIRST_PLACE), Sequence::from_vec(bytes)))
             }
             Doing::UpdateOf(place, byte, count) => {
                 Some(Call::Update(rid(place), filled(alloc, byte, count)?))
@@ -128,10 +108,10 @@ impl Doing {
             Doing::GetForUpdateOf(place) => Some(Call::GetForUpdate(rid(place))),
             Doing::ScanOf(store) => Some(Call::Scan(StoreId(store))),
             Doing::LockOf(place, depth, mode) => {
-                Some(Call::Lock(granule_at(place, depth), mode_at(mode)))
+                Some(Call::Lock(granule_at(place, depth), mode))
             }
             Doing::TryOf(place, depth, mode) => {
-                Some(Call::TryLock(granule_at(place, depth), mode_at(mode)))
+                Some(Call::TryLock(granule_at(place, depth), mode))
             }
             Doing::ForceStage | Doing::ForceOpen | Doing::Resume | Doing::FlushStep => None,
         })
@@ -140,24 +120,20 @@ impl Doing {
     /// The lock that a call of a session waits for, if it does.
     pub(super) fn lock(self) -> Option<Lock> {
         let (place, depth, mode) = match self {
-            Doing::Insert => (FIRST_PLACE, 1, Mode::IX),
-            Doing::InsertInto(store) | Doing::InsertOf(store, _, _) => {
-                ((store, 0, 0), 1, Mode::IX)
-            }
-            Doing::Update | Doing::Delete => (FIRST_PLACE, 3, Mode::EX),
+            Doing::InsertOf(store, _, _) => ((store, 0, 0), 1, Mode::IX),
+            Doing::Update => (FIRST_PLACE, 3, Mode::EX),
             Doing::UpdateOf(place, _, _) | Doing::DeleteOf(place) => (place, 3, Mode::EX),
-            Doing::Scan => (FIRST_PLACE, 1, Mode::SH),
             Doing::ScanOf(store) => ((store, 0, 0), 1, Mode::SH),
             Doing::GetOf(place) => (place, 3, Mode::SH),
             Doing::GetForUpdateOf(place) => (place, 3, Mode::UD),
-            Doing::LockOf(place, depth, mode) => (place, depth, mode_at(mode)),
+            Doing::LockOf(place, depth, mode) => (place, depth, mode),
             _ => return None,
         };
         Some(Lock {
             place,
             depth,
             mode,
-            goes_on: matches!(mode, Mode::IX) && !matches!(self, Doing::LockOf(_, _, _)),
+            goes_on: matches!(self, Doing::InsertOf(_, _, _)),
         })
     }
 
@@ -177,10 +153,6 @@ impl Doing {
     }
 }
 
-fn bytes(alloc: Global, found: &[u8]) -> Result<Bytes, AllocError> {
-    Ok(Sequence::from_vec(Vec::from_slice(alloc, found)?))
-}
-
 fn filled(alloc: Global, byte: u8, count: usize) -> Result<Bytes, AllocError> {
     Ok(Sequence::from_vec(Vec::from_elem(alloc, byte, count)?))
 }
@@ -193,14 +165,6 @@ pub(super) fn granule_at(place: Place, depth: Depth) -> Granule {
         1 => Granule::Store(id.page.store),
         2 => Granule::Page(id.page),
         _ => Granule::Record(id),
-    }
-}
-
-/// The mode of an index, the strongest beyond the last.
-pub(super) fn mode_at(index: ModeIndex) -> Mode {
-    match MODES.get(index) {
-        Some(mode) => *mode,
-        None => Mode::EX,
     }
 }
 

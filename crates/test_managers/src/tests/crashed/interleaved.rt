@@ -1,20 +1,20 @@
 //! Managers with a few sessions side by side, by chance: behind each event the history and the locks are judged, and each crash as with one session.
 use super::chances::Chance;
-use super::crashes::check_entries;
+use super::crashes::are_in_place;
 use super::deadlocks::{Asking, Deadlocks, NO_DEADLOCKS, Victims};
-use super::devices::{Devices, Manager, calls_of};
+use super::devices::{Manager, NO_FUSES, cut_off};
 use super::doings::Doing;
 use super::judged_locks::{check_asked, check_locks, waits_at, would_wait};
-use super::lives::{Ground, Life, ended_behind, formatted, no_ground};
+use super::lives::{Ground, Life, Pair, Past, formatted, past_of};
 use super::lock_lists::{has_cycle, in_order, waiting_request};
 use super::losses::{NOTHING_YET, Tally, check_dump, check_loss};
-use super::rollbacks::{check_appended, check_put_back, ends_rollback, waiting_records};
+use super::rollbacks::{check_appended, records_put_back};
 use super::short_histories::ShortHistory;
 use super::trouble::{Trouble, require};
 use shore_model::{Answer, Request};
-use shore_types::{Fault, SessionId, TxnId};
+use shore_types::{Fault, Lsn, SessionId, TxnId};
 use shore_world::{Step, Wait};
-use std::alloc::Global;
+use std::alloc::{AllocError, Global};
 
 // A pair is made anew behind so many crashes.
 const LIVES_OF_A_PAIR: u32 = 6;
@@ -49,22 +49,30 @@ pub(super) const NO_MEETINGS: Meetings = Meetings {
     deadlocks: NO_DEADLOCKS,
 };
 
-// A manager with its sessions, as it is seen from outside.
+// The sessions of a manager, as they are seen from outside.
 #[derive(Drop)]
 struct Meeting {
-    world: Manager,
     history: ShortHistory,
     // In the order in which they came.
     requests: Vec<Request>,
     victims: Victims,
 }
 
-// A session, the transaction that it stands in, and what it does.
+// A session, the transaction that it stands in, its call that waited, and what it does.
 #[derive(Clone, Copy)]
 struct Turn {
     session: SessionId,
     txn: TxnId,
+    waited: Option<Doing>,
     doing: Doing,
+}
+
+// What a manager tells behind an event.
+#[derive(Clone, Copy)]
+struct Told<'a> {
+    step: &'a Step,
+    durable: Lsn,
+    has_failed: bool,
 }
 
 /// A pair is formatted, and then is opened, worked with by one to eight sessions and crashed a few times.
@@ -73,36 +81,68 @@ pub(super) fn check_meetings(
     chance: &mut Chance,
     tally: &mut Meetings,
 ) -> Result<(), Trouble> {
-    let mut devices = formatted(alloc)?;
-    let mut ground = no_ground(alloc);
+    let mut pair = formatted(alloc)?;
     let sessions = chance.below(8).saturating_add(1);
     for _ in 0..LIVES_OF_A_PAIR {
-        let life = live_together(alloc, devices, &ground, sessions, chance, tally)?;
-        (ground, devices) = check_loss(alloc, &ground, life, chance, &mut tally.all)?;
+        pair = check_life(alloc, &pair, sessions, chance, tally)?;
     }
     Ok(())
+}
+
+// A life on a pair, and the loss of power behind it. Answers what is left of the pair.
+fn check_life(
+    alloc: Global,
+    pair: &Pair,
+    sessions: u32,
+    chance: &mut Chance,
+    tally: &mut Meetings,
+) -> Result<Pair, Trouble> {
+    let mut life = live_together(alloc, pair, sessions, chance, tally)?;
+    check_loss(alloc, &pair.ground, &mut life, chance, &mut tally.all)
 }
 
 // A manager from its open to the loss of power, which soon comes behind a failure.
 fn live_together(
     alloc: Global,
-    devices: Devices,
-    ground: &Ground,
+    pair: &Pair,
     sessions: u32,
     chance: &mut Chance,
     tally: &mut Meetings,
 ) -> Result<Life, Trouble> {
+    let mut world = pair.devices.copy(alloc)?.open(alloc)?;
+    let past = meet(alloc, &pair.ground, &mut world, sessions, chance, tally);
+    let (devices, passed) = cut_off(world, NO_FUSES);
+    Ok(Life {
+        past: past?,
+        devices,
+        passed,
+    })
+}
+
+fn meet(
+    alloc: Global,
+    ground: &Ground,
+    world: &mut Manager,
+    sessions: u32,
+    chance: &mut Chance,
+    tally: &mut Meetings,
+) -> Result<Past, Trouble> {
     let mut meeting = Meeting {
-        world: devices.open(alloc)?,
         history: ShortHistory::new(alloc),
         requests: Vec::new(alloc),
         victims: Victims::new(alloc),
     };
-    let judged = meeting.go_on_by_chance(alloc, ground, sessions, chance, tally);
-    let Meeting { world, history, .. } = meeting;
-    let life = ended_behind(alloc, world, history, calls_of(None));
-    judged?;
-    life
+    meeting.go_on_by_chance(alloc, ground, world, sessions, chance, tally)?;
+    let (handed_over, waiting) = world.records();
+    let history = meeting.history;
+    past_of(
+        alloc,
+        ground,
+        history,
+        handed_over,
+        waiting,
+        world.durable(),
+    )
 }
 
 impl Meeting {
@@ -110,32 +150,76 @@ impl Meeting {
         &mut self,
         alloc: Global,
         ground: &Ground,
+        world: &mut Manager,
         sessions: u32,
         chance: &mut Chance,
         tally: &mut Meetings,
     ) -> Result<(), Trouble> {
         for _ in 0..chance.below(140) {
-            match chance.below(400) {
-                0 => self.world.set_log_fuse(u64::from(chance.below(12))),
-                1 => self.world.set_volume_fuse(u64::from(chance.below(40))),
-                2 | 3 | 4 => check_dump(alloc, &mut self.world, &mut tally.all)?,
-                _ => {
-                    let session = self.session_by_chance(sessions, chance);
-                    let savepoints = self.savepoints(alloc, session)?;
-                    let turn = self.turn(session, savepoints, chance);
-                    if self.go_on(alloc, ground, turn, tally)? {
-                        check_put_back(alloc, ground, &self.history, sessions, &mut self.world)?;
-                    }
-                }
-            }
-            if self.world.has_failed() && chance.below(4) == 0 {
+            self.make_one(alloc, ground, world, sessions, chance, tally)?;
+            if world.has_failed() && chance.below(4) == 0 {
                 break;
             }
         }
-        if self.world.has_failed() {
+        if world.has_failed() {
             tally.all.failures = tally.all.failures.saturating_add(1);
         }
-        self.count_lost(alloc, tally)
+        let (handed_over, _) = world.records();
+        let lost = self.victims.count_with_records(handed_over);
+        tally.deadlocks.lost = tally.deadlocks.lost.saturating_add(lost);
+        Ok(())
+    }
+
+    // Sets a fuse, or dumps, or most often lets a session have its turn.
+    fn make_one(
+        &mut self,
+        alloc: Global,
+        ground: &Ground,
+        world: &mut Manager,
+        sessions: u32,
+        chance: &mut Chance,
+        tally: &mut Meetings,
+    ) -> Result<(), Trouble> {
+        match chance.below(400) {
+            0 => world.set_log_fuse(u64::from(chance.below(12))),
+            1 => world.set_volume_fuse(u64::from(chance.below(40))),
+            2 | 3 | 4 => check_dump(alloc, world, &mut tally.all)?,
+            _ => {
+                let session = self.session_by_chance(sessions, chance);
+                let savepoints = self.savepoints(alloc, session)?;
+                let turn = self.turn(session, savepoints, chance);
+                if self.go_on(alloc, ground, world, &turn, tally)? {
+                    let records = records_put_back(alloc, ground, &self.history, sessions)?;
+                    are_in_place(alloc, world, &records)?;
+                }
+            }
+        }
+        Ok(())
+    }
+
+    // How many savepoints a session may go back to.
+    fn savepoints(&self, alloc: Global, session: SessionId) -> Result<u32, AllocError> {
+        match self.history.waiting(session) {
+            Some(_) => Ok(0),
+            None => self.history.savepoints(alloc, self.history.txn(session)),
+        }
+    }
+
+    // What a session does in its turn.
+    fn turn(&self, session: SessionId, savepoints: u32, chance: &mut Chance) -> Turn {
+        let txn = self.history.txn(session);
+        let waited = self.history.waiting(session);
+        let doing = match waited {
+            Some(_) => chance.doing_of_waiter(),
+            None if self.victims.is_told(txn) => chance.doing_of_victim(savepoints),
+            None => chance.doing_of_session(txn.0 > 0, savepoints),
+        };
+        Turn {
+            session,
+            txn,
+            waited,
+            doing,
+        }
     }
 
     // One of the sessions; seldom one whose call would only wait on.
@@ -148,117 +232,82 @@ impl Meeting {
         session
     }
 
-    // Victims of which the log device has a record.
-    fn count_lost(&self, alloc: Global, tally: &mut Meetings) -> Result<(), Trouble> {
-        let (handed_over, _) = self.world.records();
-        for txn in self.victims.txns(alloc)? {
-            if handed_over.iter().any(|logged| logged.txn == txn) {
-                let lost = &mut tally.deadlocks.lost;
-                *lost = lost.saturating_add(1);
-            }
-        }
-        Ok(())
-    }
-
-    // How many savepoints a session may go back to.
-    fn savepoints(&self, alloc: Global, session: SessionId) -> Result<u32, Trouble> {
-        match self.history.waiting(session) {
-            Some(_) => Ok(0),
-            None => Ok(self.history.savepoints(alloc, self.history.txn(session))?),
-        }
-    }
-
-    // What a session does in its turn.
-    fn turn(&self, session: SessionId, savepoints: u32, chance: &mut Chance) -> Turn {
-        let txn = self.history.txn(session);
-        let doing = match self.history.waiting(session) {
-            Some(_) => chance.doing_of_waiter(),
-            None if self.victims.is_told(txn) => chance.doing_of_victim(savepoints),
-            None => chance.doing_of_session(txn.0 > 0, savepoints),
-        };
-        Turn {
-            session,
-            txn,
-            doing,
-        }
-    }
-
     // One event, judged. Answers whether it ends a rollback.
     fn go_on(
         &mut self,
         alloc: Global,
         ground: &Ground,
-        turn: Turn,
+        world: &mut Manager,
+        turn: &Turn,
         tally: &mut Meetings,
     ) -> Result<bool, Trouble> {
-        let was_waiting = self.history.waiting(turn.session);
-        let waited = waiting_records(&self.world);
-        let step = self
-            .world
-            .step(alloc, turn.doing.event(alloc, turn.session)?);
-        let ends_rollback = ends_rollback(&step);
-        self.judge_step(alloc, turn, was_waiting, waited, &step, tally)?;
+        let (_, waiting) = world.records();
+        let waited = waiting.len();
+        let step = world.step(alloc, turn.doing.event(alloc, turn.session)?);
+        let judged = self.judge(alloc, world, turn, waited, &step, tally);
+        let ends_rollback = matches!(step, Step::Done(Answer::WentBack | Answer::Aborted));
         self.history.note(alloc, turn.session, turn.doing, step)?;
-        check_entries(alloc, ground, self.history.entries())?;
+        judged?;
+        self.history.check(alloc, &ground.opening)?;
         Ok(ends_rollback)
     }
 
-    // What an event has appended, before which so many records waited, and what it came to.
-    fn judge_step(
+    // What an event has appended, before which so many records waited, what it came to, and the requests behind it.
+    fn judge(
         &mut self,
         alloc: Global,
-        turn: Turn,
-        was_waiting: Option<Doing>,
+        world: &Manager,
+        turn: &Turn,
         waited: usize,
         step: &Step,
         tally: &mut Meetings,
     ) -> Result<(), Trouble> {
-        let appended = check_appended(&self.world, turn.txn, waited, step)?;
+        let (handed_over, waiting) = world.records();
+        let appended = check_appended(handed_over, waiting, turn.txn, waited, step)?;
         tally.all.events = tally.all.events.saturating_add(1);
         tally.all.rollbacks.count(step, appended);
-        self.judge(alloc, turn, was_waiting, step, tally)
+        let requests = self.in_order(alloc, &world.nodes(alloc)?)?;
+        let told = Told {
+            step,
+            durable: world.durable(),
+            has_failed: world.has_failed(),
+        };
+        let judged = self.judge_locks(alloc, turn, &requests, &told, tally);
+        self.requests = requests;
+        count(turn, step, tally);
+        judged
+    }
+
+    // The requests of the table, in the order in which they came.
+    fn in_order(&self, alloc: Global, nodes: &[Request]) -> Result<Vec<Request>, Trouble> {
+        check_locks(alloc, nodes)?;
+        Ok(in_order(alloc, &self.requests, nodes)?)
     }
 
     // What an event came to, and the requests behind it.
-    fn judge(
-        &mut self,
-        alloc: Global,
-        turn: Turn,
-        was_waiting: Option<Doing>,
-        step: &Step,
-        tally: &mut Meetings,
-    ) -> Result<(), Trouble> {
-        let requests = in_order(alloc, &self.requests, &self.world.nodes(alloc)?)?;
-        self.judge_locks(alloc, turn, was_waiting, &requests, step, tally)?;
-        self.check_step(alloc, turn, was_waiting, &requests, step)?;
-        count(turn, was_waiting, step, tally);
-        self.requests = requests;
-        Ok(())
-    }
-
-    // The requests behind an event.
     fn judge_locks(
         &mut self,
         alloc: Global,
-        turn: Turn,
-        was_waiting: Option<Doing>,
+        turn: &Turn,
         requests: &[Request],
-        step: &Step,
+        told: &Told<'_>,
         tally: &mut Meetings,
     ) -> Result<(), Trouble> {
-        check_locks(alloc, requests)?;
+        self.check_step(alloc, turn, requests, told)?;
         require(!has_cycle(alloc, requests)?, "a cycle of waits stands")?;
         let asking = Asking {
             txn: turn.txn,
             doing: turn.doing,
-            waited: was_waiting,
+            waited: turn.waited,
             old: &self.requests,
             new: requests,
-            step,
-            has_failed: self.world.has_failed(),
+            step: told.step,
+            has_failed: told.has_failed,
         };
-        let victims = self.victims.judge(alloc, &asking, &mut tally.deadlocks)?;
-        let is_over = matches!(step, Step::Done(Answer::Committed | Answer::Aborted));
+        let victims = asking.taken_back(alloc)?;
+        self.victims
+            .judge(alloc, &asking, &victims, &mut tally.deadlocks)?;
+        let is_over = matches!(told.step, Step::Done(Answer::Committed | Answer::Aborted));
         check_asked(&self.requests, requests, turn.txn, is_over, &victims)
     }
 
@@ -267,21 +316,20 @@ impl Meeting {
     fn check_step(
         &self,
         alloc: Global,
-        turn: Turn,
-        was_waiting: Option<Doing>,
+        turn: &Turn,
         requests: &[Request],
-        step: &Step,
+        told: &Told<'_>,
     ) -> Result<(), Trouble> {
-        match step {
+        match told.step {
             Step::Waits(Wait::Lock(granule)) => require(
-                waits_at(requests, turn.txn, *granule),
+                waits_at(requests, turn.txn, granule),
                 "a wait for a lock without a request that waits",
             ),
             Step::Waits(Wait::Durable(number)) => require(
-                *number > self.world.durable(),
+                *number > told.durable,
                 "a wait for a record that is durable",
             ),
-            Step::Refused(Fault::Busy) => require(was_waiting.is_some(), "Busy without a call"),
+            Step::Refused(Fault::Busy) => require(turn.waited.is_some(), "Busy without a call"),
             Step::Refused(Fault::NoSavepoint) => require(
                 !self.has_savepoint(alloc, turn)?,
                 "a savepoint that is there is refused",
@@ -295,7 +343,7 @@ impl Meeting {
     }
 
     // Whether the savepoint is there that the turn goes back to.
-    fn has_savepoint(&self, alloc: Global, turn: Turn) -> Result<bool, Trouble> {
+    fn has_savepoint(&self, alloc: Global, turn: &Turn) -> Result<bool, Trouble> {
         match turn.doing {
             Doing::BackTo(index) => {
                 let savepoints = self.history.savepoints(alloc, turn.txn)?;
@@ -306,15 +354,15 @@ impl Meeting {
     }
 }
 
-fn count(turn: Turn, was_waiting: Option<Doing>, step: &Step, tally: &mut Meetings) {
+fn count(turn: &Turn, step: &Step, tally: &mut Meetings) {
     let counted = match step {
-        Step::Waits(Wait::Lock(_)) if was_waiting.is_none() => &mut tally.lock_waits,
+        Step::Waits(Wait::Lock(_)) if turn.waited.is_none() => &mut tally.lock_waits,
         Step::Done(Answer::Flushed(pages)) => {
             let flushed = &mut tally.all.pages_flushed;
             *flushed = flushed.saturating_add(*pages as u64);
             return;
         }
-        Step::Done(_) if goes_on(turn, was_waiting) => &mut tally.answered_behind,
+        Step::Done(_) if goes_on(turn) => &mut tally.answered_behind,
         Step::Refused(Fault::WouldBlock { .. }) => &mut tally.blocked,
         _ => return,
     };
@@ -322,8 +370,8 @@ fn count(turn: Turn, was_waiting: Option<Doing>, step: &Step, tally: &mut Meetin
 }
 
 // The turn goes on with a call that waited for a lock.
-fn goes_on(turn: Turn, was_waiting: Option<Doing>) -> bool {
-    match was_waiting {
+fn goes_on(turn: &Turn) -> bool {
+    match turn.waited {
         Some(Doing::Commit) | None => false,
         Some(_) => matches!(turn.doing, Doing::Resume),
     }

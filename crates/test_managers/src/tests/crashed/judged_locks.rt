@@ -1,6 +1,6 @@
 //! The locks of a manager, judged by the slow functions.
-use super::doings::{Doing, granule_at, mode_at};
-use super::lock_lists::asked;
+use super::doings::{Doing, granule_at};
+use super::lock_lists::{asked, request_of};
 use super::trouble::{Trouble, require};
 use shore_model::Request;
 use shore_modes::{parent_mode, sup};
@@ -27,52 +27,53 @@ pub(super) fn check_asked(
     victims: &[TxnId],
 ) -> Result<(), Trouble> {
     for request in new {
-        let is_explained = request.txn == txn
-            || old.iter().any(|was| is_granted(was, request))
-            || (victims.contains(&request.txn) && old.iter().any(|was| is_withdrawn(was, request)));
+        let is_own = request.txn == txn;
+        let was = request_of(old, request.txn, &request.granule);
+        let is_explained = is_own || may_become(was, request, victims.contains(&request.txn));
         require(is_explained, "a lock that nobody asked for")?;
+        require(!is_own || !is_over, "a lock of a transaction that is over")?;
     }
-    let is_gone = new.iter().all(|request| request.txn != txn);
-    require(is_gone || !is_over, "a lock of a transaction that is over")?;
     for request in old {
-        let is_kept = new.iter().any(|now| is_kept(request, now));
+        let now = request_of(new, request.txn, &request.granule);
         let goes = request.txn == txn && is_over;
         let is_taken_back = request.held.is_none() && victims.contains(&request.txn);
         require(
-            is_kept || goes || is_taken_back,
+            goes || is_taken_back || is_kept(request, now),
             "a lock went before its turn",
         )?;
     }
     Ok(())
 }
 
-// The request is as it was, or waited and was granted.
-fn is_granted(was: &Request, now: &Request) -> bool {
-    was.txn == now.txn
-        && was.granule == now.granule
-        && (*was == *now || (was.wanted == now.held && now.wanted.is_none()))
-}
-
-// The request waited, and what it held is left of it.
-fn is_withdrawn(was: &Request, now: &Request) -> bool {
-    was.txn == now.txn && was.granule == now.granule && was.held == now.held && now.wanted.is_none()
+// The request is as it was, or waited and was granted; or it is a victim's that waited, and what it held is left of it.
+fn may_become(was: Option<Request>, now: &Request, is_victims: bool) -> bool {
+    let Some(was) = was else {
+        return false;
+    };
+    let waits_no_more = now.wanted.is_none();
+    was == *now
+        || (waits_no_more && was.wanted == now.held)
+        || (waits_no_more && is_victims && was.held == now.held)
 }
 
 // The request is still there, and holds what it held.
-fn is_kept(was: &Request, now: &Request) -> bool {
-    let is_held = match (was.held, now.held) {
+fn is_kept(was: &Request, now: Option<Request>) -> bool {
+    let Some(now) = now else {
+        return false;
+    };
+    match (was.held, now.held) {
         (Some(held), Some(still)) => sup(held, still) == still,
         (Some(_), None) => false,
         (None, _) => true,
-    };
-    was.txn == now.txn && was.granule == now.granule && is_held
+    }
 }
 
 /// The transaction waits at the granule.
-pub(super) fn waits_at(requests: &[Request], txn: TxnId, granule: Granule) -> bool {
-    requests.iter().any(|request| request.txn == txn
-        && request.granule == granule
-        && request.wanted.is_some())
+pub(super) fn waits_at(requests: &[Request], txn: TxnId, granule: &Granule) -> bool {
+    match request_of(requests, txn, granule) {
+        Some(request) => request.wanted.is_some(),
+        None => false,
+    }
 }
 
 /// Whether the transaction would wait for the other on the way to what it tried.
@@ -83,10 +84,9 @@ pub(super) fn would_wait(
     doing: Doing,
     holder: TxnId,
 ) -> Result<bool, Trouble> {
-    let Doing::TryOf(place, depth, index) = doing else {
+    let Doing::TryOf(place, depth, mode) = doing else {
         return Ok(false);
     };
-    let mode = mode_at(index);
     for above in 0..depth {
         let wanted = asked(requests, txn, granule_at(place, above), parent_mode(mode));
         if waits_behind(alloc, requests, wanted, holder)? {

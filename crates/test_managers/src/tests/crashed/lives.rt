@@ -1,67 +1,94 @@
 //! A manager from its open to the loss of power.
-use super::devices::{Devices, Fuse, Images, Manager, calls_of, cut_off};
-use super::doings::{Doing, SESSION, Turn};
+use super::devices::{Calls, Devices, Manager, cut_off};
+use super::doings::Turn;
 use super::log_copies::copy_of_log;
 use super::short_histories::ShortHistory;
 use super::trouble::Trouble;
 use shore_disk::MemDisk;
-use shore_model::{Entry, LogRecord, Opening, RidMap};
-use shore_types::{Geometry, Sequence, SessionId};
+use shore_model::{LogRecord, Opening, RidMap};
+use shore_types::{Geometry, Lsn, Sequence, SessionId};
 use shore_world::format;
+use slow_histories::decisions::acknowledged;
 use std::alloc::Global;
 
-/// What the log of a pair told as a manager was opened on it, and how many records it had then.
+/// What a pair told as a manager was opened on it.
 #[derive(Drop)]
 pub(super) struct Ground {
     pub(super) opening: Opening,
-    pub(super) opened: usize,
+    /// The log at the end of the open.
+    pub(super) found: Vec<LogRecord>,
+    /// How many of its records the restart read; those behind are its own.
+    pub(super) read: usize,
 }
 
-/// Where lists of events begin: a pair, what its log told at its last open, and what is done on it first.
+/// A pair that no manager has open, and what it told at its last open.
 #[derive(Drop)]
-pub(super) struct Start {
-    pub(super) images: Images,
+pub(super) struct Pair {
     pub(super) ground: Ground,
-    pub(super) before: &'static [Turn],
-    /// Lists have up to so many events.
-    pub(super) longest: u32,
-    /// Restarts are cut off behind lists of up to so many events.
-    pub(super) cut_behind: usize,
+    pub(super) devices: Devices,
 }
 
 /// A log device of the least length and a volume of a store of two pages and eight of one, formatted: more pages than a manager has frames.
-pub(super) fn formatted(alloc: Global) -> Result<Devices, Trouble> {
-    let mut log = MemDisk::new(alloc, Vec::from_elem(alloc, 0u8, 135168)?)?;
-    let mut volume = MemDisk::new(alloc, Vec::from_elem(alloc, 0u8, 352256)?)?;
+pub(super) fn formatted(alloc: Global) -> Result<Pair, Trouble> {
+    let stores = Vec::from_slice(alloc, &[2u32, 1, 1, 1, 1, 1, 1, 1, 1])?;
     let geometry = Geometry {
         pair: 1,
         max_locks: 1024,
-        stores: Sequence::from_vec(Vec::from_slice(alloc, &[2u32, 1, 1, 1, 1, 1, 1, 1, 1])?),
+        stores: Sequence::from_vec(stores),
     };
-    if format(alloc, &mut log, &mut volume, &geometry).is_err() {
-        return Err(Trouble::Wrong("the format was refused"));
+    let mut devices = empty(alloc)?;
+    if format(alloc, &mut devices.log, &mut devices.volume, &geometry).is_err() {
+        return Err(Trouble("the format was refused"));
     }
-    Ok(Devices { log, volume })
+    let opening = Opening {
+        records: RidMap::new(alloc),
+        in_doubt: Sequence::new(alloc),
+    };
+    let ground = Ground {
+        opening,
+        found: Vec::new(alloc),
+        read: 0,
+    };
+    Ok(Pair { ground, devices })
 }
 
-/// The ground of a pair that was formatted.
-pub(super) fn no_ground(alloc: Global) -> Ground {
-    Ground {
-        opening: Opening {
-            records: RidMap::new(alloc),
-            in_doubt: Sequence::new(alloc),
-        },
-        opened: 0,
-    }
+// Devices of zeros.
+fn empty(alloc: Global) -> Result<Devices, Trouble> {
+    Ok(Devices {
+        log: MemDisk::new(alloc, Vec::from_elem(alloc, 0u8, 135168)?)?,
+        volume: MemDisk::new(alloc, Vec::from_elem(alloc, 0u8, 352256)?)?,
+    })
 }
 
 /// What a manager has answered and logged.
 #[derive(Drop)]
 pub(super) struct Past {
-    pub(super) entries: Vec<Entry>,
+    pub(super) history: ShortHistory,
+    /// How many commits were acknowledged.
+    pub(super) acknowledged: usize,
     /// The records of the log, forced or not.
     pub(super) list: Vec<LogRecord>,
     pub(super) durable: usize,
+}
+
+/// The past of a manager, of which so many records are durable. What it has answered is a history, and a sound one.
+pub(super) fn past_of(
+    alloc: Global,
+    ground: &Ground,
+    history: ShortHistory,
+    handed_over: &[LogRecord],
+    waiting: &[LogRecord],
+    durable: Lsn,
+) -> Result<Past, Trouble> {
+    history.check(alloc, &ground.opening)?;
+    let acknowledged = acknowledged(alloc, history.entries())?.as_slice().len();
+    let list = copy_of_log(alloc, handed_over, waiting)?;
+    Ok(Past {
+        history,
+        acknowledged,
+        list,
+        durable: durable.0 as usize,
+    })
 }
 
 /// What a manager leaves when it is cut off.
@@ -69,79 +96,66 @@ pub(super) struct Past {
 pub(super) struct Life {
     pub(super) past: Past,
     pub(super) devices: Devices,
-    /// How many writes and syncs of each device passed in the events behind the fuse.
-    pub(super) log_calls: u64,
-    pub(super) volume_calls: u64,
+    /// How many writes and syncs passed in the events behind the fuses.
+    pub(super) passed: Calls,
 }
 
-/// Opens a manager on these devices, makes the first events, and then the others behind a fuse.
+/// Opens a manager on these devices, makes the first events, and then the others behind fuses.
 pub(super) fn live(
     alloc: Global,
+    ground: &Ground,
     devices: Devices,
     before: &[Turn],
-    doings: &[Doing],
-    fuse: Option<Fuse>,
+    turns: &[Turn],
+    fuses: Calls,
 ) -> Result<Life, Trouble> {
     let mut world = devices.open(alloc)?;
-    let mut history = ShortHistory::new(alloc);
-    let calls = calls_of(fuse);
-    let made = make_behind(alloc, &mut world, &mut history, (before, doings), calls);
-    let life = ended_behind(alloc, world, history, calls);
-    made?;
-    life
+    let past = make_behind(alloc, ground, &mut world, before, turns, fuses);
+    let (devices, passed) = cut_off(world, fuses);
+    Ok(Life {
+        past: past?,
+        devices,
+        passed,
+    })
 }
 
 // Makes the first events, sets the fuses, and makes the others.
 fn make_behind(
     alloc: Global,
+    ground: &Ground,
+    world: &mut Manager,
+    before: &[Turn],
+    turns: &[Turn],
+    fuses: Calls,
+) -> Result<Past, Trouble> {
+    let mut history = ShortHistory::new(alloc);
+    make_each(alloc, world, &mut history, before)?;
+    world.set_log_fuse(fuses.log);
+    world.set_volume_fuse(fuses.volume);
+    make_each(alloc, world, &mut history, turns)?;
+    let (handed_over, waiting) = world.records();
+    past_of(
+        alloc,
+        ground,
+        history,
+        handed_over,
+        waiting,
+        world.durable(),
+    )
+}
+
+// Makes the events, and notes what each comes to.
+fn make_each(
+    alloc: Global,
     world: &mut Manager,
     history: &mut ShortHistory,
-    events: (&[Turn], &[Doing]),
-    calls: (u64, u64),
+    turns: &[Turn],
 ) -> Result<(), Trouble> {
-    for turn in events.0 {
-        let (session, doing) = *turn;
-        make(alloc, world, history, SessionId(session), doing)?;
-    }
-    world.set_log_fuse(calls.0);
-    world.set_volume_fuse(calls.1);
-    for doing in events.1 {
-        make(alloc, world, history, SESSION, *doing)?;
+    for turn in turns {
+        let (number, doing) = *turn;
+        let session = SessionId(number);
+        let step = world.step(alloc, doing.event(alloc, session)?);
+        history.note(alloc, session, doing, step)?;
     }
     Ok(())
-}
-
-/// What a manager leaves behind fuses that let so many calls pass.
-pub(super) fn ended_behind(
-    alloc: Global,
-    world: Manager,
-    history: ShortHistory,
-    calls: (u64, u64),
-) -> Result<Life, Trouble> {
-    let list = copy_of_log(alloc, &world);
-    let durable = world.durable().0 as usize;
-    let (devices, log_calls, volume_calls) = cut_off(world, calls);
-    let past = Past {
-        entries: history.into_entries(),
-        list: list?,
-        durable,
-    };
-    Ok(Life {
-        past,
-        devices,
-        log_calls,
-        volume_calls,
-    })
-}
-
-// Makes an event and notes what it comes to.
-fn make(
-    alloc: Global,
-    world: &mut Manager,
-    history: &mut ShortHistory,
-    session: SessionId,
-    doing: Doing,
-) -> Result<(), Trouble> {
-    let step = world.step(alloc, doing.event(alloc, session)?);
-    history.note(alloc, session, doing, step)
 }

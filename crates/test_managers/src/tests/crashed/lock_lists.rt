@@ -24,9 +24,9 @@ pub(super) fn in_order(
 ) -> Result<Vec<Request>, AllocError> {
     let mut order = Vec::new(alloc);
     for was in old {
-        for request in new {
-            if are_alike(was, request) && !begins_to_wait(was, request) {
-                order.push(*request)?;
+        if let Some(request) = request_of(new, was.txn, &was.granule) {
+            if was.wanted.is_some() || request.wanted.is_none() {
+                order.push(request)?;
             }
         }
     }
@@ -45,21 +45,21 @@ fn push_others(order: &mut Vec<Request>, new: &[Request], waits: bool) -> Result
     Ok(())
 }
 
-fn are_alike(was: &Request, now: &Request) -> bool {
-    was.txn == now.txn && was.granule == now.granule
-}
-
-fn begins_to_wait(was: &Request, now: &Request) -> bool {
-    was.wanted.is_none() && now.wanted.is_some()
+/// The request of a transaction for a granule.
+pub(super) fn request_of(requests: &[Request], txn: TxnId, granule: &Granule) -> Option<Request> {
+    for request in requests {
+        if request.txn == txn && request.granule == *granule {
+            return Some(*request);
+        }
+    }
+    None
 }
 
 /// The request that the transaction makes if it asks for the granule in this mode.
 pub(super) fn asked(requests: &[Request], txn: TxnId, granule: Granule, mode: Mode) -> Request {
     let mut held = None;
-    for request in requests {
-        if request.txn == txn && request.granule == granule {
-            held = request.held;
-        }
+    if let Some(request) = request_of(requests, txn, &granule) {
+        held = request.held;
     }
     let wanted = match held {
         Some(held) => sup(held, mode),
@@ -127,7 +127,7 @@ fn grant_in_turn(
     let queue = queue_at(alloc, table, granule)?;
     for waiter in queue.as_slice() {
         if waiter.wanted.is_some() {
-            if table.iter().any(|other| is_in_the_way(waiter, other)) {
+            if is_blocked(waiter, table) {
                 break;
             }
             grant(table, waiter);
@@ -136,12 +136,16 @@ fn grant_in_turn(
     Ok(())
 }
 
-fn is_in_the_way(waiter: &Request, other: &Request) -> bool {
-    let is_refused = match (other.held, waiter.wanted) {
-        (Some(held), Some(wanted)) => !grants(held, wanted),
-        _ => false,
-    };
-    other.txn != waiter.txn && other.granule == waiter.granule && is_refused
+// Another one holds the granule in a mode that is in the way.
+fn is_blocked(waiter: &Request, table: &[Request]) -> bool {
+    for other in table {
+        if let (Some(held), Some(wanted)) = (other.held, waiter.wanted) {
+            if other.txn != waiter.txn && other.granule == waiter.granule && !grants(held, wanted) {
+                return true;
+            }
+        }
+    }
+    false
 }
 
 fn grant(table: &mut Vec<Request>, waiter: &Request) {
@@ -172,12 +176,18 @@ pub(super) fn take_back(
     let Some(waiting) = waiting_request(table, txn) else {
         return Ok(());
     };
-    table.retain(|request| *request != waiting || request.held.is_some());
-    for request in &mut *table {
-        if *request == waiting {
-            request.wanted = None;
+    let mut left = Vec::new(alloc);
+    for request in &*table {
+        if *request != waiting {
+            left.push(*request)?;
+        } else if request.held.is_some() {
+            left.push(Request {
+                wanted: None,
+                ..*request
+            })?;
         }
     }
+    *table = left;
     grant_in_turn(alloc, table, waiting.granule)
 }
 
@@ -215,5 +225,15 @@ fn waiters_for_each_other(
 
 /// Whether two lists have the same requests, in whatever order.
 pub(super) fn have_the_same(some: &[Request], others: &[Request]) -> bool {
-    some.len() == others.len() && some.iter().all(|request| others.contains(request))
+    some.len() == others.len() && are_among(some, others, TxnId(0))
+}
+
+/// Whether each of some requests, but for those of one transaction, is among others.
+pub(super) fn are_among(some: &[Request], others: &[Request], but: TxnId) -> bool {
+    for request in some {
+        if request.txn != but && !others.contains(request) {
+            return false;
+        }
+    }
+    true
 }

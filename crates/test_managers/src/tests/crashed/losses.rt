@@ -1,19 +1,17 @@
 //! Losses of power at any moment, and the restarts behind them: each is judged by what was acknowledged.
 use super::chances::Chance;
-use super::crashes::{Restarted, check_crash, check_entries, check_in_place};
+use super::crashes::{are_in_place, check_crash};
 use super::cuts::check_whole;
-use super::devices::{Devices, Images, Manager};
-use super::lives::{Ground, Life, Past};
-use super::log_copies::copy_of_log;
+use super::devices::{Devices, Manager};
+use super::lives::{Ground, Life, Pair, Past};
 use super::rollbacks::{NO_ROLLBACKS, Rollbacks};
 use super::trouble::{Trouble, require};
-use shore_model::rid_map::copy_image;
+use shore_model::rid_map::overlaid;
 use shore_model::{LogRecord, Payload, RidMap};
-use shore_types::{Bytes, Fault, TxnId};
-use slow_histories::decisions::acknowledged;
+use shore_types::{Bytes, TxnId};
 use slow_logs::lawful_logs::is_lawful;
 use slow_logs::recovered_records::last_images;
-use std::alloc::Global;
+use std::alloc::{AllocError, Global};
 
 /// What has come up.
 #[derive(Clone, Copy)]
@@ -67,32 +65,31 @@ pub(super) fn check_dump(
     world: &mut Manager,
     tally: &mut Tally,
 ) -> Result<(), Trouble> {
-    let records = logged_records(alloc, world)?;
-    if let Some(fault) = check_in_place(alloc, world, &records)? {
-        return require(
-            matches!(fault, Fault::NeedForce { .. }) || world.has_failed(),
-            "the dump was refused",
-        );
+    let (handed_over, waiting) = world.records();
+    let records = logged_records(alloc, handed_over, waiting)?;
+    if are_in_place(alloc, world, &records)? {
+        tally.dumps = tally.dumps.saturating_add(1);
     }
-    tally.dumps = tally.dumps.saturating_add(1);
     Ok(())
 }
 
 // What the records of the log come to, forced or not.
-fn logged_records(alloc: Global, world: &Manager) -> Result<RidMap<Bytes>, Trouble> {
-    let list = copy_of_log(alloc, world)?;
-    present(alloc, &last_images(alloc, &list)?)
+fn logged_records(
+    alloc: Global,
+    handed_over: &[LogRecord],
+    waiting: &[LogRecord],
+) -> Result<RidMap<Bytes>, AllocError> {
+    let forced = behind(alloc, &RidMap::new(alloc), handed_over)?;
+    behind(alloc, &forced, waiting)
 }
 
-// The images that are there.
-fn present(alloc: Global, images: &RidMap<Option<Bytes>>) -> Result<RidMap<Bytes>, Trouble> {
-    let mut records = RidMap::new(alloc);
-    for (id, image) in images.iter() {
-        if let Some(bytes) = copy_image(alloc, image)? {
-            records.insert(*id, bytes)?;
-        }
-    }
-    Ok(records)
+// The records as they are behind some changes.
+fn behind(
+    alloc: Global,
+    records: &RidMap<Bytes>,
+    changes: &[LogRecord],
+) -> Result<RidMap<Bytes>, AllocError> {
+    overlaid(alloc, records, &last_images(alloc, changes)?)
 }
 
 /// Power is lost, on each device as it comes. A whole restart is judged; then some are cut off in a row, and another whole one shows the same. Answers
@@ -100,76 +97,71 @@ fn present(alloc: Global, images: &RidMap<Option<Bytes>>) -> Result<RidMap<Bytes
 pub(super) fn check_loss(
     alloc: Global,
     ground: &Ground,
-    life: Life,
+    life: &mut Life,
     chance: &mut Chance,
     tally: &mut Tally,
-) -> Result<(Ground, Devices), Trouble> {
-    let Life {
-        past,
-        mut devices,
-        ..
-    } = life;
-    judge_past(alloc, ground, &past, tally)?;
+) -> Result<Pair, Trouble> {
+    judge_past(alloc, &life.past, tally)?;
     let of_log = chance.pick();
-    devices.lose_power_by(of_log, chance.pick());
-    let images = Images::of(alloc, &devices)?;
-    let wanted = check_crash(alloc, ground, &past, devices)?;
-    count_ends(ground, &wanted, tally)?;
-    let devices = restart_by_chance(alloc, &images, &wanted, chance, tally)?;
-    Ok((wanted.ground, devices))
+    life.devices.lose_power(of_log, chance.pick());
+    let Pair { ground: shown, .. } = check_crash(
+        alloc,
+        ground,
+        &life.past,
+        life.devices.copy(alloc)?,
+    )?;
+    count_ends(ground.found.len(), &shown, tally)?;
+    let devices = restart_by_chance(alloc, &life.devices, &shown, chance, tally)?;
+    Ok(Pair {
+        ground: shown,
+        devices,
+    })
 }
 
 // What a manager did before the power is lost, and its log.
-fn judge_past(
-    alloc: Global,
-    ground: &Ground,
-    past: &Past,
-    tally: &mut Tally,
-) -> Result<(), Trouble> {
-    check_entries(alloc, ground, &past.entries)?;
-    require(is_lawful(alloc, &past.list)?, "the log is not lawful")?;
-    let answered = acknowledged(alloc, &past.entries)?.as_slice().len() as u64;
+fn judge_past(alloc: Global, past: &Past, tally: &mut Tally) -> Result<(), Trouble> {
+    let answered = past.acknowledged as u64;
     tally.crashes = tally.crashes.saturating_add(1);
     tally.commits_acknowledged = tally.commits_acknowledged.saturating_add(answered);
-    Ok(())
+    require(is_lawful(alloc, &past.list)?, "the log is not lawful")
 }
 
 // Some restarts are cut off in a row; a whole one behind them shows what is wanted. Answers what the next loss of power leaves of it.
 fn restart_by_chance(
     alloc: Global,
-    images: &Images,
-    wanted: &Restarted,
+    left: &Devices,
+    wanted: &Ground,
     chance: &mut Chance,
     tally: &mut Tally,
 ) -> Result<Devices, Trouble> {
-    let mut devices = images.devices(alloc)?;
+    let mut devices = left.copy(alloc)?;
     for _ in 0..chance.below(4) {
         let (left, is_cut_off) = devices.open_cut_off(alloc, chance.fuse(), chance.pick())?;
         devices = left;
         tally.opens_cut_off = tally.opens_cut_off.saturating_add(u64::from(is_cut_off));
     }
     let mut devices = check_whole(alloc, devices, wanted)?;
-    devices.lose_power(chance.pick());
+    let pick = chance.pick();
+    devices.lose_power(pick, pick);
     Ok(devices)
 }
 
-// The commits that were kept, and the losers that were undone.
-fn count_ends(ground: &Ground, restarted: &Restarted, tally: &mut Tally) -> Result<(), Trouble> {
-    let Restarted { found, read, .. } = restarted;
-    let (Some(gained), Some(kept), Some(undone)) = (
-        found.get(ground.opened..),
-        found.get(..*read),
-        found.get(*read..),
-    ) else {
-        return Err(Trouble::Wrong("a record of before is gone"));
+// The commits that were kept behind the records of before, and the losers that were undone.
+fn count_ends(before: usize, ground: &Ground, tally: &mut Tally) -> Result<(), Trouble> {
+    let found = &ground.found;
+    let Some(gained) = found.get(before..) else {
+        return Err(Trouble("a record of before is gone"));
     };
     for logged in gained {
         if logged.payload.is_commit() {
             tally.commits_kept = tally.commits_kept.saturating_add(1);
         }
     }
+    let (Some(kept), Some(undone)) = (found.get(..ground.read), found.get(ground.read..)) else {
+        return Err(Trouble("more is read than there is"));
+    };
     for logged in undone {
-        if matches!(logged.payload, Payload::End) {
+        if logged.payload.is_end() {
             let is_begun = has_compensation(kept, logged.txn);
             tally.losers_undone = tally.losers_undone.saturating_add(1);
             tally.losers_begun = tally.losers_begun.saturating_add(u64::from(is_begun));
@@ -180,6 +172,10 @@ fn count_ends(ground: &Ground, restarted: &Restarted, tally: &mut Tally) -> Resu
 
 // A change of the transaction was put back.
 fn has_compensation(records: &[LogRecord], txn: TxnId) -> bool {
-    records.iter().any(|logged| logged.txn == txn
-        && matches!(logged.payload, Payload::Compensation { .. }))
+    for logged in records {
+        if logged.txn == txn && matches!(logged.payload, Payload::Compensation { .. }) {
+            return true;
+        }
+    }
+    false
 }

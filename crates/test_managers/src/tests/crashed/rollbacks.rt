@@ -1,16 +1,14 @@
 //! What savepoints and rollbacks come to: which records they append, what is in place behind them, and how often each has come up.
-use super::crashes::check_in_place;
-use super::devices::Manager;
 use super::lives::Ground;
 use super::short_histories::ShortHistory;
 use super::trouble::{Trouble, require};
 use shore_model::rid_map::overlaid;
-use shore_model::{Answer, LogRecord, Payload};
-use shore_types::{Fault, SessionId, TxnId};
+use shore_model::{Answer, LogRecord, Payload, RidMap};
+use shore_types::{Bytes, Fault, SessionId, TxnId};
 use shore_world::Step;
 use slow_histories::decisions::decisions;
 use slow_histories::replays::{serial_records, writes_of_txn};
-use std::alloc::Global;
+use std::alloc::{AllocError, Global};
 
 // What is to come up often has come up so many times.
 const OFTEN: u64 = 20;
@@ -60,26 +58,20 @@ impl Rollbacks {
     }
 }
 
-/// How many records the log of a manager has that wait for a force. A call adds to these, and takes none of them.
-pub(super) fn waiting_records(world: &Manager) -> usize {
-    let (_, waiting) = world.records();
-    waiting.len()
-}
-
 /// A way back appends Compensations alone; an abort too, and an End behind them unless its transaction has logged nothing; a savepoint appends nothing, nor what
 /// is refused to one that must abort.
 /// Answers how many records one of these has appended, before which so many waited.
 pub(super) fn check_appended(
-    world: &Manager,
+    handed_over: &[LogRecord],
+    waiting: &[LogRecord],
     txn: TxnId,
     waited: usize,
     step: &Step,
 ) -> Result<usize, Trouble> {
-    let (handed_over, waiting) = world.records();
     let appended = waiting.get(waited..).unwrap_or(&[]);
     let is_right = match step {
         Step::Done(Answer::Aborted) => {
-            is_abort(txn, appended) || is_of_none(txn, handed_over, waiting)
+            is_abort(txn, appended) || !(has_record(handed_over, txn) || has_record(waiting, txn))
         }
         Step::Done(Answer::WentBack) => are_compensations(txn, appended),
         Step::Done(Answer::Saved(_)) => appended.is_empty(),
@@ -90,20 +82,13 @@ pub(super) fn check_appended(
     Ok(appended.len())
 }
 
-/// The step ends a rollback.
-pub(super) fn ends_rollback(step: &Step) -> bool {
-    matches!(step, Step::Done(Answer::WentBack | Answer::Aborted))
-}
-
-/// In place is what the commits that are decided come to, overlaid with what each session's transaction has written. A dump that a failure or a page without
-/// a force refuses shows nothing.
-pub(super) fn check_put_back(
+/// What the commits that are decided come to, overlaid with what each session's transaction has written: behind a rollback this is in place.
+pub(super) fn records_put_back(
     alloc: Global,
     ground: &Ground,
     history: &ShortHistory,
     sessions: u32,
-    world: &mut Manager,
-) -> Result<(), Trouble> {
+) -> Result<RidMap<Bytes>, AllocError> {
     let entries = history.entries();
     let decided = decisions(alloc, entries)?;
     let mut records = serial_records(alloc, &ground.opening, entries, decided.as_slice())?;
@@ -112,18 +97,16 @@ pub(super) fn check_put_back(
         let writes = writes_of_txn(alloc, &ground.opening, entries, txn)?;
         records = overlaid(alloc, &records, &writes)?;
     }
-    match check_in_place(alloc, world, &records)? {
-        Some(fault) => require(
-            matches!(fault, Fault::NeedForce { .. }) || world.has_failed(),
-            "the dump behind a rollback was refused",
-        ),
-        None => Ok(()),
-    }
+    Ok(records)
 }
 
 fn are_compensations(txn: TxnId, records: &[LogRecord]) -> bool {
-    records.iter().all(|logged| logged.txn == txn
-        && matches!(logged.payload, Payload::Compensation { .. }))
+    for logged in records {
+        if logged.txn != txn || !matches!(logged.payload, Payload::Compensation { .. }) {
+            return false;
+        }
+    }
+    true
 }
 
 // Compensations, and an End.
@@ -134,8 +117,12 @@ fn is_abort(txn: TxnId, records: &[LogRecord]) -> bool {
     last.txn == txn && matches!(last.payload, Payload::End) && are_compensations(txn, before)
 }
 
-// No record is the transaction's.
-fn is_of_none(txn: TxnId, handed_over: &[LogRecord], waiting: &[LogRecord]) -> bool {
-    handed_over.iter().all(|logged| logged.txn != txn)
-        && waiting.iter().all(|logged| logged.txn != txn)
+/// A record is the transaction's.
+pub(super) fn has_record(records: &[LogRecord], txn: TxnId) -> bool {
+    for logged in records {
+        if logged.txn == txn {
+            return true;
+        }
+    }
+    false
 }

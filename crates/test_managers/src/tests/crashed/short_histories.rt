@@ -1,32 +1,30 @@
 //! The history of a manager, noted as plain data from what its sessions asked and were answered.
 use super::doings::Doing;
 use super::trouble::{Trouble, require};
-use shore_model::{Answer, Call, Decision, Entry, Exchange};
+use shore_model::{Answer, Decision, Entry, Exchange, Opening};
 use shore_types::{Fault, SessionId, TxnId};
 use shore_world::{Step, Wait};
 use slow_histories::progress::{enter, start};
-use slow_histories::sessions::session_state_after;
+use slow_histories::sessions::{is_history, session_state_after};
+use slow_histories::turns::is_sound;
 use std::alloc::{AllocError, Global};
 
-// A session whose call waits, and the call.
-#[derive(Clone, Copy)]
-struct Pending {
-    session: SessionId,
-    doing: Doing,
-}
+// Sessions have numbers below this one.
+const SESSIONS: usize = 9;
 
 /// The entries so far, and the calls that wait.
 #[derive(Drop)]
 pub(super) struct ShortHistory {
     entries: Vec<Entry>,
-    pending: Vec<Pending>,
+    // The call of each session that waits, by the session's number.
+    waiting: [Option<Doing>; SESSIONS],
 }
 
 impl ShortHistory {
     pub(super) fn new(alloc: Global) -> ShortHistory {
         ShortHistory {
             entries: Vec::new(alloc),
-            pending: Vec::new(alloc),
+            waiting: [None; SESSIONS],
         }
     }
 
@@ -34,18 +32,18 @@ impl ShortHistory {
         &self.entries
     }
 
-    pub(super) fn into_entries(self) -> Vec<Entry> {
-        self.entries
+    /// The entries are a history, and a sound one.
+    pub(super) fn check(&self, alloc: Global, opening: &Opening) -> Result<(), Trouble> {
+        require(is_history(alloc, opening, &self.entries)?, "no history")?;
+        require(is_sound(alloc, opening, &self.entries)?, "not sound")
     }
 
     /// The call of a session that waits.
     pub(super) fn waiting(&self, session: SessionId) -> Option<Doing> {
-        for pending in &self.pending {
-            if pending.session == session {
-                return Some(pending.doing);
-            }
+        match self.waiting.get(session.0 as usize) {
+            Some(waiting) => *waiting,
+            None => None,
         }
-        None
     }
 
     /// The transaction that a session stands in, 0 for none.
@@ -70,87 +68,71 @@ impl ShortHistory {
         doing: Doing,
         step: Step,
     ) -> Result<(), Trouble> {
-        match doing.call(alloc)? {
-            Some(call) => self.note_call(session, doing, call, step),
-            None if matches!(doing, Doing::Resume) => self.note_resume(alloc, session, step),
-            None => Ok(()),
-        }
-    }
-
-    // A call's reply, or the decision of a commit that waits. A call that waits for a lock adds nothing.
-    fn note_call(
-        &mut self,
-        session: SessionId,
-        doing: Doing,
-        call: Call,
-        step: Step,
-    ) -> Result<(), Trouble> {
-        let stands = self.txn(session);
         match step {
-            Step::Done(answer) => {
-                let txn = match &answer {
-                    Answer::Began(txn) => *txn,
-                    _ => stands,
-                };
-                self.reply(session, txn, call, Ok(answer))
-            }
-            Step::Refused(fault) => self.reply(session, stands, call, Err(fault)),
-            Step::Waits(wait) => {
-                if matches!(wait, Wait::Durable(_)) {
-                    self.entries.push(Entry::Decided(Decision::Commit(stands)))?;
-                }
-                self.pending.push(Pending { session, doing })?;
-                Ok(())
-            }
-            Step::Nothing => Err(Trouble::Wrong("a call came to nothing")),
+            Step::Done(answer) => self.note_reply(alloc, session, doing, Ok(answer)),
+            Step::Refused(fault) => self.note_reply(alloc, session, doing, Err(fault)),
+            Step::Waits(wait) => self.note_wait(session, doing, wait),
+            Step::Nothing => require(self.may_be_idle(session, doing), "a call came to nothing"),
         }
     }
 
-    // The reply to the call that waited. With none there is nothing to do.
-    fn note_resume(
+    // The reply to a call, or to the one that waited.
+    fn note_reply(
         &mut self,
         alloc: Global,
         session: SessionId,
-        step: Step,
+        doing: Doing,
+        reply: Result<Answer, Fault>,
     ) -> Result<(), Trouble> {
-        let call = match self.waiting(session) {
-            Some(doing) => doing.call(alloc)?,
-            None => None,
+        let resumes = matches!(doing, Doing::Resume);
+        let asked = if resumes {
+            self.waiting(session).unwrap_or(doing)
+        } else {
+            doing
         };
-        let Some(call) = call else {
-            return require(matches!(step, Step::Nothing), "a resume with no call");
+        let Some(call) = asked.call(alloc)? else {
+            return require(!resumes, "a resume with no call");
         };
-        match step {
-            Step::Done(answer) => self.reply_behind(session, call, Ok(answer)),
-            Step::Refused(fault) => self.reply_behind(session, call, Err(fault)),
-            Step::Waits(_) => Ok(()),
-            Step::Nothing => Err(Trouble::Wrong("a call that waits is forgotten")),
+        let txn = match &reply {
+            Ok(Answer::Began(txn)) => *txn,
+            _ => self.txn(session),
+        };
+        if resumes {
+            self.set_waiting(session, None);
         }
-    }
-
-    fn reply_behind(
-        &mut self,
-        session: SessionId,
-        call: Call,
-        reply: Result<Answer, Fault>,
-    ) -> Result<(), Trouble> {
-        let txn = self.txn(session);
-        self.pending.retain(|pending| pending.session != session);
-        self.reply(session, txn, call, reply)
-    }
-
-    fn reply(
-        &mut self,
-        session: SessionId,
-        txn: TxnId,
-        call: Call,
-        reply: Result<Answer, Fault>,
-    ) -> Result<(), Trouble> {
         self.entries.push(Entry::Exchanged {
             session,
             txn,
             exchange: Exchange { call, reply },
         })?;
         Ok(())
+    }
+
+    // The decision of a commit that waits. A call that waits for a lock adds nothing, nor does one that waits on.
+    fn note_wait(&mut self, session: SessionId, doing: Doing, wait: Wait) -> Result<(), Trouble> {
+        if matches!(doing, Doing::Resume) {
+            return require(self.waiting(session).is_some(), "a resume with no call");
+        }
+        if matches!(wait, Wait::Durable(_)) {
+            let txn = self.txn(session);
+            self.entries.push(Entry::Decided(Decision::Commit(txn)))?;
+        }
+        self.set_waiting(session, Some(doing));
+        Ok(())
+    }
+
+    // There may be nothing to do: no call is made, and none waits.
+    fn may_be_idle(&self, session: SessionId, doing: Doing) -> bool {
+        match doing {
+            Doing::ForceStage | Doing::ForceOpen | Doing::FlushStep => true,
+            Doing::Resume => self.waiting(session).is_none(),
+            _ => false,
+        }
+    }
+
+    fn set_waiting(&mut self, session: SessionId, call: Option<Doing>) {
+        if let Some(waiting) = self.waiting.get_mut(session.0 as usize) {
+            *waiting = call;
+        }
     }
 }

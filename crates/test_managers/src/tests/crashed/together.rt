@@ -4,6 +4,7 @@ use super::deadlocks::Deadlocks;
 use super::interleaved::{Meetings, NO_MEETINGS, check_meetings};
 use super::losses::Tally;
 use super::rollbacks::Rollbacks;
+use std::alloc::Global;
 use std::io;
 use std::test::Fail;
 
@@ -12,18 +13,27 @@ const EVENTS_TOGETHER: u64 = 18_000;
 
 /// Pairs that sessions work on together, from a seed, until there were so many events. Each kind of what is counted has come up, and deadlocks so often.
 fn check_together(rt: &HostRuntime, seed: u64, wanted: Deadlocks) -> Result<(), Fail> {
-    let mut chance = Chance::new(seed);
     let mut tally: Meetings = NO_MEETINGS;
+    meet_often(rt.alloc(), seed, &mut tally)?;
+    tell(rt, seed, &tally)?;
+    judge(&tally, seed, wanted)
+}
+
+fn meet_often(alloc: Global, seed: u64, tally: &mut Meetings) -> Result<(), Fail> {
+    let mut chance = Chance::new(seed);
     for _ in 0..EVENTS_TOGETHER {
         if tally.all.events >= EVENTS_TOGETHER {
             break;
         }
-        if let Err(trouble) = check_meetings(rt.alloc(), &mut chance, &mut tally) {
+        if let Err(trouble) = check_meetings(alloc, &mut chance, tally) {
             let events = tally.all.events;
             return Err(Fail::new(format_args!("{trouble:?}: seed {seed}, behind {events} events")));
         }
     }
-    tell(rt, seed, &tally)?;
+    Ok(())
+}
+
+fn judge(tally: &Meetings, seed: u64, wanted: Deadlocks) -> Result<(), Fail> {
     if !tally.has_each(EVENTS_TOGETHER) {
         return Err(Fail::new(format_args!("seed {seed}: too little has come up")));
     }
@@ -42,22 +52,14 @@ fn tell(rt: &HostRuntime, seed: u64, tally: &Meetings) -> io::Result<()> {
         commits_acknowledged,
         losers_undone,
         losers_begun,
-        rollbacks,
         ..
     } = tally.all;
-    println!(rt;
-        "seed {seed}: {events} events, {crashes} losses of power, {opens_cut_off} opens cut off, {commits_acknowledged} commits acknowledged"
-    )?;
-    println!(rt; "{losers_undone} losers undone, {losers_begun} of them begun")?;
     let Rollbacks {
         aborts,
         ways_back,
         savepoints,
         ..
-    } = rollbacks;
-    println!(rt;
-        "{savepoints} savepoints, {aborts} aborts and {ways_back} ways back that put something back"
-    )?;
+    } = tally.all.rollbacks;
     let Meetings {
         lock_waits,
         answered_behind,
@@ -66,7 +68,10 @@ fn tell(rt: &HostRuntime, seed: u64, tally: &Meetings) -> io::Result<()> {
         ..
     } = *tally;
     println!(rt;
-        "{lock_waits} waits for a lock, {answered_behind} answered behind one, {blocked} tries blocked, {deadlocks:?}"
+        "seed {seed}: {events} events, {crashes} losses of power, {opens_cut_off} opens cut off, {commits_acknowledged} commits acknowledged\n\
+         {losers_undone} losers undone, {losers_begun} of them begun\n\
+         {savepoints} savepoints, {aborts} aborts and {ways_back} ways back that put something back\n\
+         {lock_waits} waits for a lock, {answered_behind} answered behind one, {blocked} tries blocked, {deadlocks:?}"
     )
 }
 

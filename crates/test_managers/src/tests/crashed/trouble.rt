@@ -1,22 +1,21 @@
 //! Why a case is given up.
 use std::alloc::{AllocError, AllocFailed};
 
-/// Memory was refused, or something is not as it has to be.
-#[derive(Debug, Drop)]
-pub(super) enum Trouble {
-    Memory,
-    Wrong(&'static str),
-}
+/// What is not as it has to be.
+#[derive(Clone, Copy, Debug)]
+pub(super) struct Trouble(pub(super) &'static str);
+
+const NO_MEMORY: Trouble = Trouble("memory was refused");
 
 impl From<AllocError> for Trouble {
     fn from(_: AllocError) -> Trouble {
-        Trouble::Memory
+        NO_MEMORY
     }
 }
 
 impl<T: Drop> From<AllocFailed<T>> for Trouble {
     fn from(_: AllocFailed<T>) -> Trouble {
-        Trouble::Memory
+        NO_MEMORY
     }
 }
 
@@ -25,6 +24,15 @@ pub(super) fn require(holds: bool, otherwise: &'static str) -> Result<(), Troubl
     if holds {
         Ok(())
     } else {
-        Err(Trouble::Wrong(otherwise))
+        Err(Trouble(otherwise))
     }
+}
+
+/// Each of these has to hold; the first that does not is said.
+pub(super) fn require_all(rows: &[(bool, &'static str)]) -> Result<(), Trouble> {
+    for row in rows {
+        let (holds, otherwise) = *row;
+        require(holds, otherwise)?;
+    }
+    Ok(())
 }

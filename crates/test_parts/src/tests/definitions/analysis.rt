@@ -1,17 +1,16 @@
 //! Logs as analysis sees them, written out by hand: the tables that they give, and records that do not mean what they have to.
-use super::log_lines::{add, entries};
-use super::trouble::{Trouble, require};
-use super::words::{Words, end, granule_of, is_remark, lsn, txn, word};
+use super::log_lines::entries;
+use super::logs::play;
+use super::words::Words;
 use shore_analysis::{NotAnalysed, Tables, analyse};
 use shore_model::{LogRecord, Payload};
 use shore_types::{Geometry, Granule, Lsn, PageId, Rid, Sequence, StoreId, TxnId};
 use std::alloc::{AllocError, Global};
-use std::test::Fail;
 
-// Store 0 has two pages, store 1 has one. A line without a colon adds records, parted by `;`. `run:` begins anew. `gives:` has the
+// The volume has the `geometry` below. A line without a colon adds records, parted by `;`. `run:` begins anew. `gives:` has the
 // tables of the list so far: the next transaction's number, how many have not ended and each as `1 active 1 3 3 0`, and the
 // pages, each with the first record that changes it. `meant:` says that with these records too each means what it has to; `unmeant:`
-// that the last of these is the first that does not.
+// that the last of these is the first that does not. `crowd:` adds so many transactions, each with one Change.
 const LOGS: &str = "
 run: an_empty_log
 gives: 1 0
@@ -91,38 +90,42 @@ unmeant: 0 0 anchor 1 1
 run: images_and_other_transactions_are_not_asked_for
 1 0 change 0.0.0 aa bb
 meant: 2 0 change 0.0.0 cc dd
+
+run: a_crowd
+# 256 transactions that have not ended are taken, and no more.
+crowd: 256
+meant:
+unmeant: 257 0 change 0.0.0 - -
+9 9 commit; 257 0 change 0.0.0 - -
+meant:
+unmeant: 258 0 change 0.0.0 - -
 ";
 
 #[test]
-fn analysis(rt: HostRuntime) -> Result<(), Fail> {
-    let alloc = rt.alloc();
-    let mut list = Vec::new(alloc);
+fn analysis(rt: HostRuntime) -> Result<(), AllocError> {
+    let mut list = Vec::new(rt.alloc());
     for line in LOGS.lines() {
-        if let Err(trouble) = play(alloc, &mut list, line) {
-            return Err(Fail::new(format_args!("{trouble:?}: {line}")));
-        }
+        assert!(rt; play(rt.alloc(), &mut list, line)?, "{line}");
     }
     Ok(())
 }
 
-fn play(alloc: Global, list: &mut Vec<LogRecord>, line: &str) -> Result<(), Trouble> {
-    if is_remark(line) {
-        return Ok(());
-    }
-    match line.split_once(':') {
-        Some(("run", _)) => {
-            list.clear();
-            Ok(())
-        }
-        Some(("gives", tables)) => require_tables(alloc, list, &mut tables.split_whitespace()),
-        Some(("meant", rest)) => require_meant(alloc, list, rest),
-        Some(("unmeant", rest)) => require_unmeant(alloc, list, rest),
-        Some(_) => Err(Trouble::NoLine),
-        None => add(alloc, list, line),
+/// Whether no record is refused, or the last is the first that is.
+pub(super) fn is_refused_as(
+    verb: &str,
+    alloc: Global,
+    list: &[LogRecord],
+) -> Result<bool, AllocError> {
+    let refused = refused_at(alloc, list)?;
+    match verb {
+        "meant" => Ok(refused == 0),
+        "unmeant" => Ok(refused == list.len() as u64),
+        _ => Ok(false),
     }
 }
 
-fn geometry(alloc: Global) -> Result<Geometry, AllocError> {
+/// Store 0 has two pages, store 1 has one.
+pub(super) fn geometry(alloc: Global) -> Result<Geometry, AllocError> {
     Ok(Geometry {
         pair: 1,
         max_locks: 16,
@@ -131,75 +134,55 @@ fn geometry(alloc: Global) -> Result<Geometry, AllocError> {
 }
 
 // The number of the record that is refused, 0 if none is.
-fn refused_at(alloc: Global, list: &[LogRecord]) -> Result<u64, Trouble> {
-    let geometry = geometry(alloc)?;
-    match analyse(alloc, &geometry, list) {
+fn refused_at(alloc: Global, list: &[LogRecord]) -> Result<u64, AllocError> {
+    match analyse(alloc, &geometry(alloc)?, list) {
         Ok(_) => Ok(0),
         Err(refusal) => number_in(refusal),
     }
 }
 
-fn number_in(refusal: NotAnalysed) -> Result<u64, Trouble> {
+fn number_in(refusal: NotAnalysed) -> Result<u64, AllocError> {
     match refusal {
         NotAnalysed::Unlawful(number) => Ok(number.0),
-        NotAnalysed::Memory => Err(Trouble::Memory),
+        NotAnalysed::Memory => Err(AllocError),
     }
 }
 
-fn require_meant(alloc: Global, list: &mut Vec<LogRecord>, rest: &str) -> Result<(), Trouble> {
-    let length = list.len();
-    add(alloc, list, rest)?;
-    let refused = refused_at(alloc, list)?;
-    list.truncate(length);
-    require(refused == 0)
-}
-
-fn require_unmeant(alloc: Global, list: &mut Vec<LogRecord>, rest: &str) -> Result<(), Trouble> {
-    let length = list.len();
-    add(alloc, list, rest)?;
-    let refused = refused_at(alloc, list)?;
-    let last = list.len() as u64;
-    list.truncate(length);
-    require(refused == last)
-}
-
-fn require_tables(alloc: Global, list: &[LogRecord], words: &mut Words) -> Result<(), Trouble> {
-    let geometry = geometry(alloc)?;
-    match analyse(alloc, &geometry, list) {
-        Ok(tables) => require_in_tables(alloc, &tables, words),
-        Err(_) => Err(Trouble::Untrue),
+/// Whether the tables of a list are as told.
+pub(super) fn gives(
+    alloc: Global,
+    list: &[LogRecord],
+    words: &mut Words,
+) -> Result<bool, AllocError> {
+    match analyse(alloc, &geometry(alloc)?, list) {
+        Ok(tables) => Ok(are_tables(alloc, &tables, words)),
+        Err(_) => Ok(false),
     }
 }
 
-fn require_in_tables(alloc: Global, tables: &Tables, words: &mut Words) -> Result<(), Trouble> {
-    require(tables.next == txn(words)?)?;
-    require(tables.txns == entries(alloc, words)?)?;
+fn are_tables(alloc: Global, tables: &Tables, words: &mut Words) -> bool {
+    if tables.next != words.txn() || tables.txns != entries(alloc, words) {
+        return false;
+    }
     for dirty in tables.dirty.as_slice() {
-        require(dirty.page == page(words)?)?;
-        require(dirty.recovery == lsn(words)?)?;
+        if words.granule() != Granule::Page(dirty.page) || words.lsn() != dirty.recovery {
+            return false;
+        }
     }
-    end(words)
+    words.end()
 }
 
-fn page(words: &mut Words) -> Result<PageId, Trouble> {
-    match granule_of(word(words)?)? {
-        Granule::Page(page) => Ok(page),
-        _ => Err(Trouble::NoLine),
+/// Adds so many transactions that have not ended.
+pub(super) fn add_crowd(list: &mut Vec<LogRecord>, words: &mut Words) -> Result<bool, AllocError> {
+    let count = words.number();
+    for number in 0..count {
+        list.push(LogRecord {
+            txn: TxnId(number + 1),
+            previous: Lsn(0),
+            payload: change(),
+        })?;
     }
-}
-
-fn push(
-    list: &mut Vec<LogRecord>,
-    txn: u64,
-    previous: u64,
-    payload: Payload,
-) -> Result<(), Trouble> {
-    list.push(LogRecord {
-        txn: TxnId(txn),
-        previous: Lsn(previous),
-        payload,
-    })?;
-    Ok(())
+    Ok(words.end())
 }
 
 fn change() -> Payload {
@@ -211,30 +194,5 @@ fn change() -> Payload {
         id: Rid { page, slot: 0 },
         before: None,
         after: None,
-    }
-}
-
-fn play_crowd(alloc: Global) -> Result<(), Trouble> {
-    let mut list = Vec::new(alloc);
-    for txn in 1..257 {
-        push(&mut list, txn, 0, change())?;
-    }
-    require(refused_at(alloc, &list)? == 0)?;
-    push(&mut list, 257, 0, change())?;
-    require(refused_at(alloc, &list)? == 257)?;
-    list.truncate(256);
-    push(&mut list, 9, 9, Payload::Commit)?;
-    push(&mut list, 257, 0, change())?;
-    require(refused_at(alloc, &list)? == 0)?;
-    push(&mut list, 258, 0, change())?;
-    require(refused_at(alloc, &list)? == 259)
-}
-
-// 256 transactions that have not ended are taken, and no more.
-#[test]
-fn a_crowd(rt: HostRuntime) -> Result<(), Fail> {
-    match play_crowd(rt.alloc()) {
-        Ok(()) => Ok(()),
-        Err(trouble) => Err(Fail::new(format_args!("{trouble:?}"))),
     }
 }

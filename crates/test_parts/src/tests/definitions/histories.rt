@@ -1,15 +1,13 @@
 //! Histories: which are sound, what they show, and what of them is kept.
-use super::history_lines::{decision, doubt, entry};
-use super::trouble::{Trouble, require};
-use super::words::{Words, bytes, end, is_blank, is_remark, require_records, rid, txn, word};
-use shore_model::{Decision, Entry, Opening, RidMap};
+use super::steps::{Step, add, is_remark};
+use super::words::Words;
+use shore_model::{Decision, Entry, InDoubt, Opening, RidMap};
 use shore_types::{GlobalId, Sequence, TxnId};
 use slow_histories::decisions::{in_doubt, is_kept};
 use slow_histories::replays::shown_records;
 use slow_histories::sessions::is_history;
 use slow_histories::turns::is_sound;
 use std::alloc::{AllocError, Global};
-use std::test::Fail;
 
 // A line without a colon adds entries, parted by `;`. `run:` begins anew, `record:` and `doubt:` say what the open found.
 // `sound:` and `unsound:` say that all so far is a history, with these entries too, and whether its answers are right; `no
@@ -230,84 +228,65 @@ fn new_run(alloc: Global) -> Run {
 }
 
 #[test]
-fn histories(rt: HostRuntime) -> Result<(), Fail> {
-    let alloc = rt.alloc();
-    let mut run = new_run(alloc);
+fn histories(rt: HostRuntime) -> Result<(), AllocError> {
+    let mut run = new_run(rt.alloc());
     for line in HISTORIES.lines() {
-        if let Err(trouble) = play(alloc, &mut run, line) {
-            return Err(Fail::new(format_args!("{trouble:?}: {line}")));
-        }
+        assert!(rt; play(rt.alloc(), &mut run, line)?, "{line}");
     }
     Ok(())
 }
 
-fn play(alloc: Global, run: &mut Run, line: &str) -> Result<(), Trouble> {
+fn play(alloc: Global, run: &mut Run, line: &str) -> Result<bool, AllocError> {
     if is_remark(line) {
-        return Ok(());
+        return Ok(true);
     }
     match line.split_once(':') {
         Some(("run", _)) => {
             *run = new_run(alloc);
-            Ok(())
+            Ok(true)
         }
         Some((verb, rest)) => judge(alloc, run, verb, rest),
         None => add(alloc, &mut run.entries, line),
     }
 }
 
-fn judge(alloc: Global, run: &mut Run, verb: &str, rest: &str) -> Result<(), Trouble> {
+fn judge(alloc: Global, run: &mut Run, verb: &str, rest: &str) -> Result<bool, AllocError> {
+    let mut words = Words::of(rest);
     match verb {
-        "record" => find_record(alloc, run, &mut rest.split_whitespace()),
-        "doubt" => find_doubt(alloc, run, &mut rest.split_whitespace()),
-        "sound" | "unsound" => require_soundness(alloc, run, rest, verb == "sound"),
-        "no history" => require_no_history(alloc, run, rest),
+        "record" => Ok(find_record(alloc, &mut run.opening, &mut words)),
+        "doubt" => Ok(find_doubt(alloc, &mut run.opening, &mut words)),
+        "sound" | "unsound" | "no history" => judge_with(alloc, run, verb, rest),
         _ => judge_decisions(alloc, run, verb, rest),
     }
 }
 
-fn add(alloc: Global, entries: &mut Vec<Entry>, line: &str) -> Result<(), Trouble> {
-    if is_blank(line) {
-        return Ok(());
-    }
-    for step in line.split(';') {
-        let mut words = step.split_whitespace();
-        entries.push(entry(alloc, &mut words)?)?;
-        end(&mut words)?;
-    }
-    Ok(())
+fn find_record(alloc: Global, opening: &mut Opening, words: &mut Words) -> bool {
+    let id = words.rid();
+    let bytes = words.bytes(alloc);
+    opening.records.insert(id, bytes).is_ok() && words.end()
 }
 
-fn find_record(alloc: Global, run: &mut Run, words: &mut Words) -> Result<(), Trouble> {
-    let id = rid(words)?;
-    run.opening.records.insert(id, bytes(alloc, words)?)?;
-    end(words)
+fn find_doubt(alloc: Global, opening: &mut Opening, words: &mut Words) -> bool {
+    let doubt = InDoubt::read(alloc, words);
+    opening.in_doubt.push(doubt).is_ok() && words.end()
 }
 
-fn find_doubt(alloc: Global, run: &mut Run, words: &mut Words) -> Result<(), Trouble> {
-    run.opening.in_doubt.push(doubt(alloc, words)?)?;
-    end(words)
-}
-
-fn require_soundness(
-    alloc: Global,
-    run: &mut Run,
-    rest: &str,
-    wanted: bool,
-) -> Result<(), Trouble> {
+// Judges all so far with these entries too, which are then taken back.
+fn judge_with(alloc: Global, run: &mut Run, verb: &str, rest: &str) -> Result<bool, AllocError> {
     let length = run.entries.len();
-    add(alloc, &mut run.entries, rest)?;
-    let judged = is_history(alloc, &run.opening, &run.entries)?
-        && is_sound(alloc, &run.opening, &run.entries)? == wanted;
+    let is_right = add(alloc, &mut run.entries, rest)? && is_as(verb, alloc, run)?;
     run.entries.truncate(length);
-    require(judged)
+    Ok(is_right)
 }
 
-fn require_no_history(alloc: Global, run: &mut Run, rest: &str) -> Result<(), Trouble> {
-    let length = run.entries.len();
-    add(alloc, &mut run.entries, rest)?;
-    let spoiled = is_spoiled_by_last(alloc, &run.opening, &run.entries)?;
-    run.entries.truncate(length);
-    require(spoiled)
+fn is_as(verb: &str, alloc: Global, run: &Run) -> Result<bool, AllocError> {
+    match verb {
+        "no history" => is_spoiled_by_last(alloc, &run.opening, &run.entries),
+        _ => Ok(
+            is_history(alloc, &run.opening, &run.entries)?
+                && is_sound(alloc, &run.opening, &run.entries)? == (verb == "sound"),
+        ),
+    }
 }
 
 fn is_spoiled_by_last(
@@ -323,31 +302,16 @@ fn is_spoiled_by_last(
     }
 }
 
-fn judge_decisions(alloc: Global, run: &Run, verb: &str, rest: &str) -> Result<(), Trouble> {
+fn judge_decisions(alloc: Global, run: &Run, verb: &str, rest: &str) -> Result<bool, AllocError> {
     let (made, left) = match rest.split_once('=') {
         Some(parts) => parts,
         None => (rest, ""),
     };
-    let made = decisions(alloc, made)?;
-    judge_made(alloc, run, verb, &made, &mut left.split_whitespace())
-}
-
-fn decisions(alloc: Global, text: &str) -> Result<Vec<Decision>, Trouble> {
-    let mut made = Vec::new(alloc);
-    add_decisions(alloc, &mut made, text)?;
-    Ok(made)
-}
-
-fn add_decisions(alloc: Global, made: &mut Vec<Decision>, text: &str) -> Result<(), Trouble> {
-    if is_blank(text) {
-        return Ok(());
+    let mut decisions = Vec::new(alloc);
+    if !add(alloc, &mut decisions, made)? {
+        return Ok(false);
     }
-    for step in text.split(';') {
-        let mut words = step.split_whitespace();
-        made.push(decision(alloc, &mut words)?)?;
-        end(&mut words)?;
-    }
-    Ok(())
+    judge_made(alloc, run, verb, &decisions, &mut Words::of(left))
 }
 
 fn judge_made(
@@ -356,40 +320,41 @@ fn judge_made(
     verb: &str,
     made: &[Decision],
     words: &mut Words,
-) -> Result<(), Trouble> {
+) -> Result<bool, AllocError> {
     match verb {
-        "kept" => require(is_kept(alloc, &run.entries, made)?),
-        "lost" => require(!is_kept(alloc, &run.entries, made)?),
-        "shown" => require_shown(alloc, run, made, words),
-        "in doubt" => require_doubts(alloc, run, made, words),
-        _ => Err(Trouble::NoLine),
+        "kept" => is_kept(alloc, &run.entries, made),
+        "lost" => Ok(!is_kept(alloc, &run.entries, made)?),
+        "shown" => are_shown(alloc, run, made, words),
+        "in doubt" => are_in_doubt(alloc, run, made, words),
+        _ => Ok(false),
     }
 }
 
-fn require_shown(
+fn are_shown(
     alloc: Global,
     run: &Run,
     made: &[Decision],
     words: &mut Words,
-) -> Result<(), Trouble> {
+) -> Result<bool, AllocError> {
     let shown = shown_records(alloc, &run.opening, &run.entries, made)?;
-    require_records(&shown, words)
+    Ok(words.are_records(&shown))
 }
 
-fn require_doubts(
+fn are_in_doubt(
     alloc: Global,
     run: &Run,
     made: &[Decision],
     words: &mut Words,
-) -> Result<(), Trouble> {
+) -> Result<bool, AllocError> {
     let found = in_doubt(alloc, &run.opening, made)?;
-    require_pairs(found.as_slice(), words)
+    Ok(are_pairs(found.as_slice(), words))
 }
 
-fn require_pairs(found: &[(TxnId, GlobalId)], words: &mut Words) -> Result<(), Trouble> {
+fn are_pairs(found: &[(TxnId, GlobalId)], words: &mut Words) -> bool {
     for (of, global) in found {
-        require(txn(words)? == *of)?;
-        require(word(words)?.as_bytes() == global.as_slice())?;
+        if words.txn() != *of || words.word().as_bytes() != global.as_slice() {
+            return false;
+        }
     }
-    end(words)
+    words.end()
 }

@@ -1,13 +1,12 @@
 //! Locks: the tables of modes, harmony along paths, and who waits for whom.
 use super::modes::mode_of;
-use super::trouble::{Trouble, require};
-use super::words::{Words, end, granule_of, is_blank, is_remark, number_of, txn, word};
+use super::steps::{Step, add, is_remark};
+use super::words::Words;
 use shore_model::{Hold, Request};
-use shore_types::{Mode, Sequence, TxnId};
+use shore_types::Mode;
 use slow_locks::holds::{harmony, stand_together, well_rooted};
 use slow_locks::requests::{are_requests, held_by_all, is_cycle, placed_last, queue_at, waits_for};
-use std::alloc::Global;
-use std::test::Fail;
+use std::alloc::{AllocError, Global};
 
 // A request reads `1 IX - 0`: a transaction, what it holds, what it wants, and the granule. A line without a colon adds some,
 // parted by `;`. `run:` begins anew, and `placed:` adds a request as one that has begun to wait. `harmony:` and `discord:`,
@@ -73,163 +72,134 @@ waits: 3 1
 free: 1 3
 ";
 
-#[test]
-fn locks(rt: HostRuntime) -> Result<(), Fail> {
-    let alloc = rt.alloc();
-    let mut requests = Sequence::new(alloc);
-    for line in LOCKS.lines() {
-        if let Err(trouble) = play(alloc, &mut requests, line) {
-            return Err(Fail::new(format_args!("{trouble:?}: {line}")));
+impl Step for Request {
+    fn read(_: Global, words: &mut Words) -> Request {
+        Request {
+            txn: words.txn(),
+            held: mode_or_none(words),
+            wanted: mode_or_none(words),
+            granule: words.granule(),
         }
+    }
+}
+
+fn mode_or_none(words: &mut Words) -> Option<Mode> {
+    let word = words.word();
+    let mode = mode_of(word);
+    words.require(mode.is_some() || word == "-");
+    mode
+}
+
+#[test]
+fn locks(rt: HostRuntime) -> Result<(), AllocError> {
+    let mut requests = Vec::new(rt.alloc());
+    for line in LOCKS.lines() {
+        assert!(rt; play(rt.alloc(), &mut requests, line)?, "{line}");
     }
     Ok(())
 }
 
-fn play(alloc: Global, requests: &mut Sequence<Request>, line: &str) -> Result<(), Trouble> {
+fn play(alloc: Global, requests: &mut Vec<Request>, line: &str) -> Result<bool, AllocError> {
     if is_remark(line) {
-        return Ok(());
+        return Ok(true);
     }
     match line.split_once(':') {
-        Some(("run", _)) => {
-            requests.truncate(0);
-            Ok(())
-        }
-        Some(("placed", rest)) => place(alloc, requests, &mut rest.split_whitespace()),
         Some((verb, rest)) => judge(alloc, requests, verb, rest),
-        None => add(requests, line),
+        None => add(alloc, requests, line),
     }
-}
-
-fn add(requests: &mut Sequence<Request>, line: &str) -> Result<(), Trouble> {
-    if is_blank(line) {
-        return Ok(());
-    }
-    for step in line.split(';') {
-        add_one(requests, &mut step.split_whitespace())?;
-    }
-    Ok(())
-}
-
-fn add_one(requests: &mut Sequence<Request>, words: &mut Words) -> Result<(), Trouble> {
-    let txn = txn(words)?;
-    let held = mode_or_none(words)?;
-    let wanted = mode_or_none(words)?;
-    let granule = granule_of(word(words)?)?;
-    end(words)?;
-    requests.push(Request {
-        txn,
-        granule,
-        held,
-        wanted,
-    })?;
-    Ok(())
-}
-
-fn mode_or_none(words: &mut Words) -> Result<Option<Mode>, Trouble> {
-    match word(words)? {
-        "-" => Ok(None),
-        name => Ok(Some(mode_of(name)?)),
-    }
-}
-
-fn place(
-    alloc: Global,
-    requests: &mut Sequence<Request>,
-    words: &mut Words,
-) -> Result<(), Trouble> {
-    add_one(requests, words)?;
-    let Some((placed, before)) = requests.as_slice().split_last() else {
-        return Err(Trouble::NoLine);
-    };
-    *requests = placed_last(alloc, before, *placed)?;
-    Ok(())
 }
 
 fn judge(
     alloc: Global,
-    requests: &mut Sequence<Request>,
+    requests: &mut Vec<Request>,
     verb: &str,
     rest: &str,
-) -> Result<(), Trouble> {
-    let mut words = rest.split_whitespace();
+) -> Result<bool, AllocError> {
+    let mut words = Words::of(rest);
     match verb {
-        "waits" => require_wait(alloc, requests.as_slice(), &mut words, true),
-        "free" => require_wait(alloc, requests.as_slice(), &mut words, false),
-        "cycle" => require_cycle(alloc, requests.as_slice(), &mut words, true),
-        "no cycle" => require_cycle(alloc, requests.as_slice(), &mut words, false),
-        "order" => require_order(requests.as_slice(), &mut words),
-        "queue" => require_queue(alloc, requests.as_slice(), &mut words),
-        _ => judge_held(alloc, requests, verb, rest),
+        "run" => {
+            requests.clear();
+            Ok(true)
+        }
+        "placed" => place(alloc, requests, rest),
+        "order" => Ok(are_in_order(requests, &mut words)),
+        "queue" => is_queue(alloc, requests, &mut words),
+        "waits" | "free" => waits(alloc, requests, &mut words, verb == "waits"),
+        "cycle" | "no cycle" => closes(alloc, requests, &mut words, verb == "cycle"),
+        _ => judge_with(alloc, requests, verb, rest),
     }
 }
 
-fn require_wait(
-    alloc: Global,
-    requests: &[Request],
-    words: &mut Words,
-    wanted: bool,
-) -> Result<(), Trouble> {
-    let waiter = txn(words)?;
-    let other = txn(words)?;
-    end(words)?;
-    require(waits_for(alloc, requests, waiter, other)? == wanted)
+fn place(alloc: Global, requests: &mut Vec<Request>, rest: &str) -> Result<bool, AllocError> {
+    let is_right = add(alloc, requests, rest)?;
+    let Some((placed, before)) = requests.split_last() else {
+        return Ok(false);
+    };
+    let after = placed_last(alloc, before, *placed)?;
+    *requests = after.into_vec();
+    Ok(is_right)
 }
 
-fn require_cycle(
-    alloc: Global,
-    requests: &[Request],
-    words: &mut Words,
-    wanted: bool,
-) -> Result<(), Trouble> {
-    let members = members(alloc, words)?;
-    require(is_cycle(alloc, requests, members.as_slice())? == wanted)
-}
-
-fn members(alloc: Global, words: &mut Words) -> Result<Sequence<TxnId>, Trouble> {
-    let mut members = Sequence::new(alloc);
-    for word in words {
-        members.push(TxnId(number_of(word)?))?;
-    }
-    Ok(members)
-}
-
-fn require_order(requests: &[Request], words: &mut Words) -> Result<(), Trouble> {
+fn are_in_order(requests: &[Request], words: &mut Words) -> bool {
     for request in requests {
-        require(txn(words)? == request.txn)?;
+        if words.txn() != request.txn {
+            return false;
+        }
     }
-    end(words)
+    words.end()
 }
 
-fn require_queue(alloc: Global, requests: &[Request], words: &mut Words) -> Result<(), Trouble> {
-    let granule = granule_of(word(words)?)?;
-    let queue = queue_at(alloc, requests, granule)?;
-    require_order(queue.as_slice(), words)
+fn is_queue(alloc: Global, requests: &[Request], words: &mut Words) -> Result<bool, AllocError> {
+    let queue = queue_at(alloc, requests, words.granule())?;
+    Ok(are_in_order(queue.as_slice(), words))
 }
 
-fn judge_held(
+fn waits(
     alloc: Global,
-    requests: &mut Sequence<Request>,
+    requests: &[Request],
+    words: &mut Words,
+    wanted: bool,
+) -> Result<bool, AllocError> {
+    let waiter = words.txn();
+    let other = words.txn();
+    Ok(words.end() && waits_for(alloc, requests, waiter, other)? == wanted)
+}
+
+fn closes(
+    alloc: Global,
+    requests: &[Request],
+    words: &mut Words,
+    wanted: bool,
+) -> Result<bool, AllocError> {
+    let members = words.txns(alloc);
+    Ok(words.end() && is_cycle(alloc, requests, members.as_slice())? == wanted)
+}
+
+// Judges the list with these requests too, which are then taken back.
+fn judge_with(
+    alloc: Global,
+    requests: &mut Vec<Request>,
     verb: &str,
     rest: &str,
-) -> Result<(), Trouble> {
-    let length = requests.as_slice().len();
-    add(requests, rest)?;
-    let held = held_by_all(alloc, requests.as_slice())?;
-    let judged = require_held(requests.as_slice(), held.as_slice(), verb);
+) -> Result<bool, AllocError> {
+    let length = requests.len();
+    let is_right = add(alloc, requests, rest)?;
+    let held = held_by_all(alloc, requests)?;
+    let is_right = is_right && is_as(verb, requests, held.as_slice());
     requests.truncate(length);
-    judged
+    Ok(is_right)
 }
 
-fn require_held(requests: &[Request], held: &[Hold], verb: &str) -> Result<(), Trouble> {
+fn is_as(verb: &str, requests: &[Request], held: &[Hold]) -> bool {
     match verb {
-        "harmony" => require(harmony(held)),
-        "discord" => require(!harmony(held)),
-        "together" => require(stand_together(held)),
-        "apart" => require(!stand_together(held)),
-        "rooted" => require(well_rooted(held)),
-        "unrooted" => require(!well_rooted(held)),
-        "requests" => require(are_requests(requests)),
-        "doubled" => require(!are_requests(requests)),
-        _ => Err(Trouble::NoLine),
+        "harmony" => harmony(held),
+        "discord" => !harmony(held),
+        "together" => stand_together(held),
+        "apart" => !stand_together(held),
+        "rooted" => well_rooted(held),
+        "unrooted" => !well_rooted(held),
+        "requests" => are_requests(requests),
+        "doubled" => !are_requests(requests),
+        _ => false,
     }
 }

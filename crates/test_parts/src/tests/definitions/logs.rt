@@ -1,12 +1,11 @@
 //! Logs of worked runs, written out by hand, with what they tell, and lists that no run leaves.
-use super::log_lines::add;
-use super::trouble::{Trouble, require};
-use super::words::{is_remark, require_records};
+use super::analysis::{add_crowd, gives, is_refused_as};
+use super::steps::{add, is_remark};
+use super::words::Words;
 use shore_model::LogRecord;
 use slow_logs::lawful_logs::is_lawful;
 use slow_logs::recovered_records::records_told;
 use std::alloc::{AllocError, Global};
-use std::test::Fail;
 
 // A line without a colon adds records, parted by `;`. `run:` begins anew. `tells:` says that the list so far is lawful and tells
 // just these records. `lawful:` says that it is lawful with these records too; `unlawful:` that it is lawful with all of these
@@ -177,54 +176,75 @@ tells: 0.0.0 bb
 ";
 
 #[test]
-fn logs(rt: HostRuntime) -> Result<(), Fail> {
-    let alloc = rt.alloc();
-    let mut list = Vec::new(alloc);
+fn logs(rt: HostRuntime) -> Result<(), AllocError> {
+    let mut list = Vec::new(rt.alloc());
     for line in LOGS.lines() {
-        if let Err(trouble) = play(alloc, &mut list, line) {
-            return Err(Fail::new(format_args!("{trouble:?}: {line}")));
-        }
+        assert!(rt; play(rt.alloc(), &mut list, line)?, "{line}");
     }
     Ok(())
 }
 
-fn play(alloc: Global, list: &mut Vec<LogRecord>, line: &str) -> Result<(), Trouble> {
+/// Plays a line of these runs, or of those that analysis judges.
+pub(super) fn play(
+    alloc: Global,
+    list: &mut Vec<LogRecord>,
+    line: &str,
+) -> Result<bool, AllocError> {
     if is_remark(line) {
-        return Ok(());
+        return Ok(true);
     }
     match line.split_once(':') {
-        Some(("run", _)) => {
-            list.clear();
-            Ok(())
-        }
-        Some(("tells", records)) => require_told(alloc, list, records),
-        Some(("lawful", rest)) => require_lawful(alloc, list, rest),
-        Some(("unlawful", rest)) => require_spoiled(alloc, list, rest),
-        Some(_) => Err(Trouble::NoLine),
+        Some((verb, rest)) => judge(alloc, list, verb, rest),
         None => add(alloc, list, line),
     }
 }
 
-fn require_told(alloc: Global, list: &[LogRecord], records: &str) -> Result<(), Trouble> {
-    require(is_lawful(alloc, list)?)?;
-    let found = records_told(alloc, list)?;
-    require_records(&found, &mut records.split_whitespace())
+fn judge(
+    alloc: Global,
+    list: &mut Vec<LogRecord>,
+    verb: &str,
+    rest: &str,
+) -> Result<bool, AllocError> {
+    let mut words = Words::of(rest);
+    match verb {
+        "run" => {
+            list.clear();
+            Ok(true)
+        }
+        "crowd" => add_crowd(list, &mut words),
+        "gives" => gives(alloc, list, &mut words),
+        "tells" => tells(alloc, list, &mut words),
+        _ => judge_with(alloc, list, verb, rest),
+    }
 }
 
-fn require_lawful(alloc: Global, list: &mut Vec<LogRecord>, rest: &str) -> Result<(), Trouble> {
+// Judges the list with these records too, which are then taken back.
+fn judge_with(
+    alloc: Global,
+    list: &mut Vec<LogRecord>,
+    verb: &str,
+    rest: &str,
+) -> Result<bool, AllocError> {
     let length = list.len();
-    add(alloc, list, rest)?;
-    let lawful = is_lawful(alloc, list)?;
+    let is_right = add(alloc, list, rest)? && is_as(verb, alloc, list)?;
     list.truncate(length);
-    require(lawful)
+    Ok(is_right)
 }
 
-fn require_spoiled(alloc: Global, list: &mut Vec<LogRecord>, rest: &str) -> Result<(), Trouble> {
-    let length = list.len();
-    add(alloc, list, rest)?;
-    let spoiled = is_spoiled_by_last(alloc, list)?;
-    list.truncate(length);
-    require(spoiled)
+fn is_as(verb: &str, alloc: Global, list: &[LogRecord]) -> Result<bool, AllocError> {
+    match verb {
+        "lawful" => is_lawful(alloc, list),
+        "unlawful" => is_spoiled_by_last(alloc, list),
+        _ => is_refused_as(verb, alloc, list),
+    }
+}
+
+fn tells(alloc: Global, list: &[LogRecord], words: &mut Words) -> Result<bool, AllocError> {
+    if !is_lawful(alloc, list)? {
+        return Ok(false);
+    }
+    let told = records_told(alloc, list)?;
+    Ok(words.are_records(&told))
 }
 
 fn is_spoiled_by_last(alloc: Global, list: &[LogRecord]) -> Result<bool, AllocError> {

@@ -1,11 +1,10 @@
 //! The tables of modes.
-use super::trouble::{Trouble, require};
-use super::words::{Words, end, is_blank, word};
+use super::steps::is_blank;
+use super::words::Words;
 use shore_modes::{allowed, coexist, covers, grants, parent_mode, sup};
 use shore_types::{Level, Mode};
-use std::test::Fail;
 
-const MODES: &str = "IS IX SH SIX EX UD";
+const MODES: [Mode; 6] = [Mode::IS, Mode::IX, Mode::SH, Mode::SIX, Mode::EX, Mode::UD];
 
 // Of each mode what it comes to with each of the six, in the order above: whether both may be held together, whether the first
 // grants the second when another asks, whether it covers the second below it, and the least mode above both. Then what the parents
@@ -43,49 +42,39 @@ allowed record no no yes no yes yes
 ";
 
 #[test]
-fn mode_tables(_rt: HostRuntime) -> Result<(), Fail> {
+fn mode_tables(rt: HostRuntime) {
     for line in TABLES.lines() {
-        if let Err(trouble) = check_line(line) {
-            return Err(Fail::new(format_args!("{trouble:?}: {line}")));
+        assert!(rt; is_blank(line) || is_line(&mut Words::of(line)), "{line}");
+    }
+}
+
+fn is_line(words: &mut Words) -> bool {
+    let table = words.word();
+    let first = words.word();
+    for second in &MODES {
+        if entry(table, first, *second) != Some(words.word()) {
+            return false;
         }
     }
-    Ok(())
-}
-
-fn check_line(line: &str) -> Result<(), Trouble> {
-    if is_blank(line) {
-        return Ok(());
-    }
-    let mut words = line.split_whitespace();
-    let table = word(&mut words)?;
-    let first = word(&mut words)?;
-    for second in MODES.split_whitespace() {
-        check_word(table, first, second, &mut words)?;
-    }
-    end(&mut words)
-}
-
-fn check_word(table: &str, first: &str, second: &str, words: &mut Words) -> Result<(), Trouble> {
-    let as_log_entry = as_log_entry(table, first, mode_of(second)?)?;
-    require(word(words)? == as_log_entry)
+    words.end()
 }
 
 // What the table says of the two.
-fn as_log_entry(table: &str, first: &str, second: Mode) -> Result<&'static str, Trouble> {
+fn entry(table: &str, first: &str, second: Mode) -> Option<&'static str> {
     match table {
-        "parent" => Ok(name_of(parent_mode(second))),
-        "allowed" => Ok(answer(allowed(level_of(first)?, second))),
-        _ => of_modes(table, mode_of(first)?, second),
+        "parent" => Some(name_of(parent_mode(second))),
+        "allowed" => Some(answer(allowed(level_of(first)?, second))),
+        _ => entry_of_modes(table, mode_of(first)?, second),
     }
 }
 
-fn of_modes(table: &str, first: Mode, second: Mode) -> Result<&'static str, Trouble> {
+fn entry_of_modes(table: &str, first: Mode, second: Mode) -> Option<&'static str> {
     match table {
-        "coexist" => Ok(answer(coexist(first, second))),
-        "grants" => Ok(answer(grants(first, second))),
-        "covers" => Ok(answer(covers(first, second))),
-        "sup" => Ok(name_of(sup(first, second))),
-        _ => Err(Trouble::NoLine),
+        "coexist" => Some(answer(coexist(first, second))),
+        "grants" => Some(answer(grants(first, second))),
+        "covers" => Some(answer(covers(first, second))),
+        "sup" => Some(name_of(sup(first, second))),
+        _ => None,
     }
 }
 
@@ -93,25 +82,25 @@ fn answer(holds: bool) -> &'static str {
     if holds { "yes" } else { "no" }
 }
 
-fn level_of(word: &str) -> Result<Level, Trouble> {
+fn level_of(word: &str) -> Option<Level> {
     match word {
-        "volume" => Ok(Level::Volume),
-        "store" => Ok(Level::Store),
-        "page" => Ok(Level::Page),
-        "record" => Ok(Level::Record),
-        _ => Err(Trouble::NoLine),
+        "volume" => Some(Level::Volume),
+        "store" => Some(Level::Store),
+        "page" => Some(Level::Page),
+        "record" => Some(Level::Record),
+        _ => None,
     }
 }
 
-pub(super) fn mode_of(word: &str) -> Result<Mode, Trouble> {
+pub(super) fn mode_of(word: &str) -> Option<Mode> {
     match word {
-        "IS" => Ok(Mode::IS),
-        "IX" => Ok(Mode::IX),
-        "SH" => Ok(Mode::SH),
-        "SIX" => Ok(Mode::SIX),
-        "EX" => Ok(Mode::EX),
-        "UD" => Ok(Mode::UD),
-        _ => Err(Trouble::NoLine),
+        "IS" => Some(Mode::IS),
+        "IX" => Some(Mode::IX),
+        "SH" => Some(Mode::SH),
+        "SIX" => Some(Mode::SIX),
+        "EX" => Some(Mode::EX),
+        "UD" => Some(Mode::UD),
+        _ => None,
     }
 }
 

@@ -1,33 +1,39 @@
 //! What the replay of an open area, and the read of a page, are refused with if one byte has another value.
 use super::batches::{Change, write};
-use super::trouble::{Trouble, require};
-use super::volumes::{disk_of, first_image, pages_on, read};
-use shore_disk::{FuseDisk, Pick};
-use shore_types::{Device, Fault};
+use super::trouble::Trouble;
+use super::volumes::{first_image, page_id, pages_on};
+use shore_disk::{FuseDisk, MemDisk, Pick};
+use shore_types::{Device, Fault, Lsn};
 use std::alloc::{AllocError, Global};
-use std::process::Abort;
 
 /// The calls of a batch up to the sync of its gate.
 const OPEN_GATE: u64 = 5;
 
-/// The bytes of a volume whose pages 3 and 7 have images behind an open gate, and are old in place.
-fn open_area(alloc: Global) -> Result<Vec<u8>, Trouble> {
+/// A volume whose pages 3 and 7 have images behind an open gate, and are old in place.
+fn open_area(alloc: Global) -> Result<MemDisk, Trouble> {
     let change = Change {
         pages: &[3, 7],
         number: 2,
         bytes: &[0x22; 90],
     };
-    let device = FuseDisk::new(disk_of(alloc, &first_image(alloc)?)?, OPEN_GATE);
-    let mut dev = pages_on(alloc, device)?;
-    let is_written = write(alloc, &mut dev, &change)?;
-    require(!is_written, "a batch behind a fuse is written")?;
+    let disk = MemDisk::new(alloc, first_image(alloc)?)?;
+    let mut dev = pages_on(alloc, FuseDisk::new(disk, OPEN_GATE))?;
+    let is_written = write(alloc, &mut dev, &change);
     let mut left = dev.into_device().into_inner();
     left.crash(Pick::Old);
-    Ok(left.bytes().to_vec(alloc)?)
+    match is_written? {
+        false => Ok(left),
+        true => Err(Trouble::Wrong("a batch behind a fuse is written")),
+    }
 }
 
 /// These bytes, one of them with another value.
-fn changed(alloc: Global, bytes: &[u8], offset: usize, value: u8) -> Result<Vec<u8>, AllocError> {
+pub(super) fn changed(
+    alloc: Global,
+    bytes: &[u8],
+    offset: usize,
+    value: u8,
+) -> Result<Vec<u8>, AllocError> {
     let mut bytes = bytes.to_vec(alloc)?;
     if let Some(byte) = bytes.get_mut(offset) {
         *byte = value;
@@ -35,28 +41,22 @@ fn changed(alloc: Global, bytes: &[u8], offset: usize, value: u8) -> Result<Vec<
     Ok(bytes)
 }
 
-/// Where the volume is damaged, if that is what it was refused with.
-fn damage_of(answer: Result<(), Fault>) -> Result<Option<u64>, Trouble> {
-    match answer {
-        Ok(()) => Ok(None),
-        Err(
+/// Whether the volume is refused as damaged at this place, or not refused if there is none.
+fn is_refused_at(refusal: &Option<Fault>, place: Option<u64>) -> bool {
+    match refusal {
+        None => place.is_none(),
+        Some(
             Fault::Damaged {
-                device: Device::Volume,
-                place,
+                device,
+                place: found,
             },
-        ) => Ok(Some(place)),
-        Err(_) => Err(Trouble::Refused),
+        ) => { *device == Device::Volume && place == Some(*found) }
+        Some(_) => false,
     }
 }
 
-/// What the replay of a volume comes to: where it is damaged, and whether its bytes are as they were.
-fn replayed(alloc: Global, image: &[u8]) -> Result<(Option<u64>, bool), Trouble> {
-    let mut dev = pages_on(alloc, disk_of(alloc, image)?)?;
-    let damage = damage_of(dev.replay(alloc))?;
-    Ok((damage, dev.into_device().bytes() == image))
-}
-
-/// A byte of the open area, another value of it, and what the replay then comes to.
+/// A byte of the open area, another value of it, where the replay then finds the volume damaged, and whether it leaves all bytes
+/// as they were.
 type Area = (usize, u8, (Option<u64>, bool));
 
 const AREAS: [Area; 15] = [
@@ -81,27 +81,22 @@ const AREAS: [Area; 15] = [
     (4_096, 0xa4, (None, true)),
 ];
 
-fn check_area(rt: &(impl Abort + AllocGlobal), image: &[u8], area: &Area) -> Result<(), Trouble> {
-    let (offset, value, wanted) = *area;
-    let image = changed(rt.alloc(), image, offset, value)?;
-    let found = replayed(rt.alloc(), &image)?;
-    assert!(rt; found == wanted, "{offset} {value}: {found:?}");
-    Ok(())
+fn is_replayed_right(alloc: Global, image: &[u8], area: &Area) -> Result<bool, Trouble> {
+    let (offset, value, (damage, is_kept)) = *area;
+    let image = changed(alloc, image, offset, value)?;
+    let mut dev = pages_on(alloc, MemDisk::new(alloc, image.to_vec(alloc)?)?)?;
+    let is_refused_right = is_refused_at(&dev.replay(alloc).err(), damage);
+    Ok(is_refused_right && (dev.into_device().bytes() == image.as_slice()) == is_kept)
 }
 
 #[test]
 fn areas_are_refused_at_their_place(rt: HostRuntime) -> Result<(), Trouble> {
-    let image = open_area(rt.alloc())?;
+    let left = open_area(rt.alloc())?;
     for area in &AREAS {
-        check_area(&rt, &image, area)?;
+        let is_right = is_replayed_right(rt.alloc(), left.bytes(), area)?;
+        assert!(rt; is_right, "{} at {}", area.1, area.0);
     }
     Ok(())
-}
-
-/// Where page 3 of a volume is damaged, if it is, with a number up to this one.
-fn damage_of_three(alloc: Global, image: &[u8], last: u64) -> Result<Option<u64>, Trouble> {
-    let mut dev = pages_on(alloc, disk_of(alloc, image)?)?;
-    damage_of(read(alloc, &mut dev, 3, last).map(|_| ()))
 }
 
 /// A byte of the volume, another value of it, the last number of the log, and where page 3 then is damaged.
@@ -119,19 +114,20 @@ const READS: [Read; 6] = [
     (294_912, 1, 1, Some(294_912)),
 ];
 
-fn check_read(rt: &(impl Abort + AllocGlobal), image: &[u8], read: &Read) -> Result<(), Trouble> {
-    let (offset, value, last, wanted) = *read;
-    let image = changed(rt.alloc(), image, offset, value)?;
-    let found = damage_of_three(rt.alloc(), &image, last)?;
-    assert!(rt; found == wanted, "{offset} {value}: {found:?}");
-    Ok(())
+fn is_read_right(alloc: Global, image: &[u8], read: &Read) -> Result<bool, Trouble> {
+    let (offset, value, last, damage) = *read;
+    let disk = MemDisk::new(alloc, changed(alloc, image, offset, value)?)?;
+    let mut dev = pages_on(alloc, disk)?;
+    let refusal = dev.read_page(alloc, page_id(3), Lsn(last)).err();
+    Ok(is_refused_at(&refusal, damage))
 }
 
 #[test]
 fn pages_are_refused_at_their_first_byte(rt: HostRuntime) -> Result<(), Trouble> {
     let image = first_image(rt.alloc())?;
     for read in &READS {
-        check_read(&rt, &image, read)?;
+        let is_right = is_read_right(rt.alloc(), &image, read)?;
+        assert!(rt; is_right, "{} at {}", read.1, read.0);
     }
     Ok(())
 }

@@ -1,18 +1,22 @@
 //! The device calls of batches, in their order, and the bytes that they leave.
 use super::batches::{Change, write};
 use super::noting::{Call, NotingDisk};
-use super::trouble::{Trouble, require};
-use super::volumes::{disk_of, first_image, pages_on, place_of};
+use super::trouble::Trouble;
+use super::volumes::{first_image, pages_on, place_of};
+use shore_disk::MemDisk;
 use shore_types::layout::PAGE_BYTES;
 use std::alloc::Global;
-use std::process::Abort;
 
 /// A change on the first volume, by a device that has noted its calls.
 fn noted(alloc: Global, change: &Change<'_>) -> Result<NotingDisk, Trouble> {
-    let device = NotingDisk::new(alloc, disk_of(alloc, &first_image(alloc)?)?);
-    let mut dev = pages_on(alloc, device)?;
-    require(write(alloc, &mut dev, change)?, "no batch")?;
-    Ok(dev.into_device())
+    let disk = MemDisk::new(alloc, first_image(alloc)?)?;
+    let mut dev = pages_on(alloc, NotingDisk::new(alloc, disk))?;
+    let is_written = write(alloc, &mut dev, change);
+    let device = dev.into_device();
+    match is_written? {
+        true => Ok(device),
+        false => Err(Trouble::Wrong("a batch is not written")),
+    }
 }
 
 const OF_ONE: [Call; 9] = [
@@ -41,25 +45,22 @@ const OF_TWO: [Call; 10] = [
     Call::Sync,
 ];
 
-fn check_calls(
-    rt: &(impl Abort + AllocGlobal),
-    pages: &[u32],
-    wanted: &[Call],
-) -> Result<(), Trouble> {
+/// Whether a batch of these pages makes these calls.
+fn has_calls(alloc: Global, pages: &[u32], wanted: &[Call]) -> Result<bool, Trouble> {
     let change = Change {
         pages,
         number: 2,
         bytes: &[0x22; 90],
     };
-    let device = noted(rt.alloc(), &change)?;
-    assert!(rt; device.calls() == wanted);
-    Ok(())
+    let device = noted(alloc, &change)?;
+    Ok(device.calls() == wanted)
 }
 
 #[test]
 fn the_calls_of_a_batch(rt: HostRuntime) -> Result<(), Trouble> {
-    check_calls(&rt, &[3], &OF_ONE)?;
-    check_calls(&rt, &[3, 4], &OF_TWO)
+    assert!(rt; has_calls(rt.alloc(), &[3], &OF_ONE)?);
+    assert!(rt; has_calls(rt.alloc(), &[3, 4], &OF_TWO)?);
+    Ok(())
 }
 
 // Page 0.0 with the record aa in slot 0, which a change of number 1 put there.
@@ -91,6 +92,6 @@ fn the_bytes_of_a_batch(rt: HostRuntime) -> Result<(), Trouble> {
         bytes: &[0xaa],
     };
     let device = noted(rt.alloc(), &change)?;
-    assert!(&rt; has_flushed_page(device.bytes()));
+    assert!(rt; has_flushed_page(device.bytes()));
     Ok(())
 }

@@ -15,6 +15,13 @@ pub(super) fn put(disk: &mut MemDisk, at: u64, bytes: &[u8]) -> bool {
         && disk.write_at(at, bytes).is_ok()
 }
 
+/// Puts bytes, each at its place.
+pub(super) fn put_each(disk: &mut MemDisk, changes: &[(u64, u8)]) {
+    for (at, byte) in changes {
+        put(disk, *at, &[*byte]);
+    }
+}
+
 /// The test of what opening a gate asks, and the call.
 pub(super) fn open(disk: &mut MemDisk, at: u64) -> bool {
     at < disk.len() && open_gate(disk, at).is_ok()

@@ -1,5 +1,5 @@
 //! Labels by their bytes.
-use super::gates::{open, put, zeros};
+use super::gates::{open, put, put_each, zeros};
 use shore_disk::{Disk, MemDisk, OnceDisk};
 use shore_gate::{Label, read_label, write_label};
 use shore_types::{Device, Fault, Sequence};
@@ -39,26 +39,21 @@ fn a_label(alloc: Global, length: u64) -> Result<Label, AllocError> {
     })
 }
 
-/// Whether what the read of a label comes to is as a row says.
-fn is_as(row: &Row, read: &Result<Label, Fault>) -> bool {
-    match (row.3, read) {
-        (Judged::Read, Ok(label)) => is_the_label(label, row.1),
-        (Judged::NotFormatted, Err(Fault::NotFormatted)) => true,
-        (Judged::WrongVersion, Err(Fault::WrongVersion)) => true,
-        (Judged::Damaged(offset), Err(fault)) => is_damaged(fault, row.0, offset),
-        _ => false,
+/// What the read of a row's label is refused with, if it is.
+fn refusal(row: &Row) -> Option<Fault> {
+    match row.3 {
+        Judged::Read => None,
+        Judged::NotFormatted => Some(Fault::NotFormatted),
+        Judged::WrongVersion => Some(Fault::WrongVersion),
+        Judged::Damaged(place) => Some(Fault::Damaged {
+            device: row.0,
+            place,
+        }),
     }
 }
 
 fn is_the_label(label: &Label, length: usize) -> bool {
     label.pair == 7 && label.length == length as u64 && label.stores.as_slice() == [2, 3].as_slice()
-}
-
-fn is_damaged(fault: &Fault, wanted: Device, offset: u64) -> bool {
-    match fault {
-        Fault::Damaged { device, place } => *device == wanted && *place == offset,
-        _ => false,
-    }
 }
 
 /// A device of zeros with its label, of which some bytes have another value.
@@ -74,9 +69,7 @@ fn changed(
         Device::Volume => &VOLUME_LABEL,
     };
     put(&mut disk, 0, label);
-    for (at, byte) in changes {
-        put(&mut disk, *at, &[*byte]);
-    }
+    put_each(&mut disk, changes);
     Ok(disk)
 }
 
@@ -128,23 +121,23 @@ static ROWS: [Row; 21] = [
 
 fn is_judged_right(alloc: Global, row: &Row) -> Result<bool, AllocError> {
     let mut disk = changed(alloc, row.0, row.1, row.2)?;
-    Ok(is_as(row, &read_label(alloc, &mut disk, row.0)))
-}
-
-/// The first row that is not judged right, if there is one.
-fn wrong_row(alloc: Global, rows: &[Row]) -> Result<Option<usize>, AllocError> {
-    for number in 0..rows.len() {
-        if !is_judged_right(alloc, &rows[number])? {
-            return Ok(Some(number));
-        }
+    match read_label(alloc, &mut disk, row.0) {
+        Ok(label) => Ok(refusal(row).is_none() && is_the_label(&label, row.1)),
+        Err(fault) => Ok(refusal(row) == Some(fault)),
     }
-    Ok(None)
 }
 
 #[test]
 fn labels_are_judged(rt: HostRuntime) -> Result<(), AllocError> {
-    let wrong = wrong_row(rt.alloc(), &ROWS)?;
-    Ok(assert!(rt; wrong.is_none(), "row {wrong:?}"))
+    for row in &ROWS {
+        assert!(rt;
+            is_judged_right(rt.alloc(), row)?,
+            "{} bytes with {:?}",
+            row.1,
+            row.2
+        );
+    }
+    Ok(())
 }
 
 /// The test of what writing a label asks, and the call.
@@ -156,14 +149,18 @@ fn write(alloc: Global, disk: &mut MemDisk, label: &Label) -> bool {
 
 /// Whether a label is written as told, over bytes of another value.
 fn is_written(alloc: Global) -> Result<bool, AllocError> {
-    let mut disk = zeros(alloc, LOG_BYTES)?;
     let label = a_label(alloc, LOG_BYTES as u64)?;
-    if !put(&mut disk, 0, &[9; 512]) || !write(alloc, &mut disk, &label) || !open(&mut disk, 0) {
-        return Ok(false);
-    }
-    let bytes = disk.bytes();
-    let behind = bytes.get(40..512);
-    Ok(bytes.starts_with(&LOG_LABEL) && behind == Some([0; 472].as_slice()))
+    let mut disk = zeros(alloc, LOG_BYTES)?;
+    Ok(
+        put(&mut disk, 0, &[9; 512])
+            && write(alloc, &mut disk, &label)
+            && open(&mut disk, 0)
+            && are_of_label(disk.bytes()),
+    )
+}
+
+fn are_of_label(bytes: &[u8]) -> bool {
+    bytes.starts_with(&LOG_LABEL) && bytes.get(40..512) == Some([0; 472].as_slice())
 }
 
 #[test]

@@ -3,7 +3,6 @@ use shore_page::Page;
 use shore_types::layout::PAGE_BYTES;
 use shore_types::{Lsn, PageId, StoreId};
 use std::alloc::{AllocError, Global};
-use std::process::Abort;
 
 const ID: PageId = PageId {
     store: StoreId(0),
@@ -42,23 +41,33 @@ fn are_alike(a: &Page, b: &Page) -> bool {
     a.id() == b.id()
         && a.number() == b.number()
         && a.slot_count() == b.slot_count()
-        && (0..a.slot_count()).all(|slot| a.get(slot) == b.get(slot))
+        && have_same_records(a, b)
+}
+
+fn have_same_records(a: &Page, b: &Page) -> bool {
+    for slot in 0..a.slot_count() {
+        if a.get(slot) != b.get(slot) {
+            return false;
+        }
+    }
+    true
 }
 
 const HEAD: [u8; 24] = [
     0, 0, 0, 0, 0, 0, 0, 0, 1, 0, 0, 0, 0, 0, 0, 0, 1, 0, 0xfc, 0x1f, 0, 0, 0, 0,
 ];
 
-// The insert of one byte as the first change.
+/// Whether the text is that of the insert of one byte as the first change.
+fn is_worked(page: &Page) -> bool {
+    let mut text = [0xffu8; PAGE_BYTES];
+    page.to_bytes(&mut text);
+    text.starts_with(&HEAD) && text[24] == 0xaa && text.ends_with(&[0x18, 0, 1, 0])
+}
+
 #[test]
 fn worked_bytes(rt: HostRuntime) -> Result<(), AllocError> {
     let mut page = Page::new(rt.alloc(), ID)?;
-    assert!(&rt; apply(&mut page, 1, 0, &[0xaa]));
-    let mut text = [0xffu8; PAGE_BYTES];
-    page.to_bytes(&mut text);
-    assert!(&rt; text.starts_with(&HEAD));
-    assert!(&rt; text[24] == 0xaa);
-    assert!(&rt; text.ends_with(&[0x18, 0, 1, 0]));
+    assert!(rt; apply(&mut page, 1, 0, &[0xaa]) && is_worked(&page));
     Ok(())
 }
 
@@ -86,24 +95,32 @@ fn page_of(store: u32, page: u32) -> PageId {
 
 /// Whether bytes are read as this page.
 fn is_read_as(alloc: Global, page: &Page, bytes: &[u8]) -> Result<bool, AllocError> {
-    let read = Page::from_bytes(alloc, page.id(), bytes)?;
-    Ok(read.is_some_and(|read| are_alike(page, &read)))
+    match Page::from_bytes(alloc, page.id(), bytes)? {
+        Some(read) => Ok(are_alike(page, &read)),
+        None => Ok(false),
+    }
 }
 
-fn check_other_page(rt: &(impl Abort + AllocGlobal), page: &mut Page) -> Result<(), AllocError> {
-    assert!(rt; put(page, 0, &[0xaa]) && apply(page, 7, 1, &[0xbb, 0xcc]));
-    assert!(rt; page.id() == page_of(3, 2) && is_read_as(rt.alloc(), page, &other_text())?);
+/// Whether the other page, once it has its records, is read off its text, and its text begins as told.
+fn is_other(alloc: Global, page: &mut Page) -> Result<bool, AllocError> {
+    if !put(page, 0, &[0xaa]) || !apply(page, 7, 1, &[0xbb, 0xcc]) {
+        return Ok(false);
+    }
     let mut text = [0u8; PAGE_BYTES];
     page.to_bytes(&mut text);
-    assert!(rt; text.starts_with(&OTHER_HEAD[..24]));
-    Ok(())
+    Ok(
+        page.id() == page_of(3, 2)
+            && text.starts_with(&OTHER_HEAD[..24])
+            && is_read_as(alloc, page, &other_text())?,
+    )
 }
 
 #[test]
 fn worked_bytes_of_another_page(rt: HostRuntime) -> Result<(), AllocError> {
-    assert!(&rt; is_refused(rt.alloc(), page_of(2, 3), &other_text())?);
+    assert!(rt; is_refused(rt.alloc(), page_of(2, 3), &other_text())?);
     let mut page = Page::new(rt.alloc(), page_of(3, 2))?;
-    check_other_page(&rt, &mut page)
+    assert!(rt; is_other(rt.alloc(), &mut page)?);
+    Ok(())
 }
 
 /// A step of a run on one page. Each is a call that has to be allowed, or says what then stands.
@@ -178,24 +195,6 @@ fn play(page: &mut Page, step: &Step) -> bool {
     }
 }
 
-/// Plays all steps on a page, and reads it back.
-fn check_steps(
-    rt: &(impl Abort + AllocGlobal),
-    page: &mut Page,
-    steps: &[Step],
-) -> Result<(), AllocError> {
-    for (place, step) in (0u16..u16::MAX).zip(steps.iter()) {
-        assert!(rt; play(page, step), "at step {place}");
-    }
-    assert!(rt; is_read_back(rt.alloc(), page)?);
-    Ok(())
-}
-
-fn check_run(rt: &(impl Abort + AllocGlobal), steps: &[Step]) -> Result<(), AllocError> {
-    let mut page = Page::new(rt.alloc(), ID)?;
-    check_steps(rt, &mut page, steps)
-}
-
 // The room of an undecided delete is kept until it is decided.
 const UNDECIDED: [Step; 13] = [
     Step::Put(0, 0xaa, 4000),
@@ -212,11 +211,6 @@ const UNDECIDED: [Step; 13] = [
     Step::Put(0, 0xdd, 100),
     Step::Free(3900),
 ];
-
-#[test]
-fn room_of_an_undecided_delete(rt: HostRuntime) -> Result<(), AllocError> {
-    check_run(&rt, &UNDECIDED)
-}
 
 // Three records fill a page but for 156 bytes. When the delete of one of 3,000 is decided, 3,100 bytes fit its slot, once the others
 // are moved together; then 56 bytes are free, and 52 with a new entry fill the page.
@@ -242,11 +236,6 @@ const DECIDED: [Step; 19] = [
     Step::Holds(3, 0xee, 52),
 ];
 
-#[test]
-fn room_of_a_decided_delete(rt: HostRuntime) -> Result<(), AllocError> {
-    check_run(&rt, &DECIDED)
-}
-
 // A slot beyond the last one: those between are empty. A change of an older number sets that number.
 const BEYOND: [Step; 11] = [
     Step::Apply(9, 0, 0xaa, 8),
@@ -262,17 +251,35 @@ const BEYOND: [Step; 11] = [
     Step::Fits(2037, 0),
 ];
 
+/// Plays steps on a page; false if one is not as told.
+fn are_played(page: &mut Page, steps: &[Step]) -> bool {
+    for step in steps {
+        if !play(page, step) {
+            return false;
+        }
+    }
+    true
+}
+
+/// Whether a run's steps are as told, and the page that they come to is read back.
+fn is_run(alloc: Global, steps: &[Step]) -> Result<bool, AllocError> {
+    let mut page = Page::new(alloc, ID)?;
+    Ok(are_played(&mut page, steps) && is_read_back(alloc, &page)?)
+}
+
 #[test]
-fn slot_beyond_the_last(rt: HostRuntime) -> Result<(), AllocError> {
-    check_run(&rt, &BEYOND)
+fn room_and_slots(rt: HostRuntime) -> Result<(), AllocError> {
+    assert!(rt; is_run(rt.alloc(), &UNDECIDED)?);
+    assert!(rt; is_run(rt.alloc(), &DECIDED)?);
+    assert!(rt; is_run(rt.alloc(), &BEYOND)?);
+    Ok(())
 }
 
 /// Whether a page is the one that its text gives.
 fn is_read_back(alloc: Global, page: &Page) -> Result<bool, AllocError> {
     let mut text = [0u8; PAGE_BYTES];
     page.to_bytes(&mut text);
-    let read = Page::from_bytes(alloc, ID, &text)?;
-    Ok(read.is_some_and(|read| are_alike(page, &read)))
+    is_read_as(alloc, page, &text)
 }
 
 /// Whether bytes are refused as a page of an id.
@@ -280,48 +287,39 @@ fn is_refused(alloc: Global, id: PageId, bytes: &[u8]) -> Result<bool, AllocErro
     Ok(Page::from_bytes(alloc, id, bytes)?.is_none())
 }
 
-/// Whether bytes are refused; if not, they are those of a page that can be written and read again.
-fn check_bytes(
-    rt: &(impl Abort + AllocGlobal),
-    text: &[u8],
-    offset: usize,
-) -> Result<bool, AllocError> {
-    match Page::from_bytes(rt.alloc(), ID, text)? {
-        None => Ok(true),
-        Some(read) => {
-            let is_same = is_read_back(rt.alloc(), &read)?;
-            assert!(rt; is_same, "at {offset}");
-            Ok(false)
-        }
+/// Whether the page that bytes give can be written and read again; None if they are refused.
+fn is_again(alloc: Global, text: &[u8]) -> Result<Option<bool>, AllocError> {
+    match Page::from_bytes(alloc, ID, text)? {
+        Some(read) => Ok(Some(is_read_back(alloc, &read)?)),
+        None => Ok(None),
     }
 }
 
-/// The text of the page that steps come to.
-fn text_after(alloc: Global, steps: &[Step]) -> Result<[u8; PAGE_BYTES], AllocError> {
+/// Fills bytes with the text of the page that a run comes to.
+fn fill_text(alloc: Global, steps: &[Step], text: &mut [u8; PAGE_BYTES]) -> Result<(), AllocError> {
     let mut page = Page::new(alloc, ID)?;
-    for step in steps {
-        play(&mut page, step);
-    }
-    let mut text = [0u8; PAGE_BYTES];
-    page.to_bytes(&mut text);
-    Ok(text)
+    are_played(&mut page, steps);
+    page.to_bytes(text);
+    Ok(())
 }
 
 // Whatever stands in a byte, the bytes are refused, or are those of a page that can be written and read again.
 #[test]
 fn any_byte_gives_a_page_or_a_refusal(rt: HostRuntime) -> Result<(), AllocError> {
-    let mut text = text_after(rt.alloc(), &DECIDED)?;
+    let mut text = [0u8; PAGE_BYTES];
+    fill_text(rt.alloc(), &DECIDED, &mut text)?;
     let mut has_refused = false;
     for offset in 0..PAGE_BYTES {
         let before = text[offset];
         for value in [0x00, 0xa5, 0xff] {
             text[offset] = value;
-            if check_bytes(&rt, &text, offset)? {
-                has_refused = true;
+            match is_again(rt.alloc(), &text)? {
+                Some(is_same) => assert!(rt; is_same, "{value} at {offset}"),
+                None => has_refused = true,
             }
         }
         text[offset] = before;
     }
-    assert!(&rt; has_refused);
+    assert!(rt; has_refused);
     Ok(())
 }

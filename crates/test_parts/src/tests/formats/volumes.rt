@@ -3,11 +3,11 @@ ghost use Rattle.std.specs.Prelude.{◌≡◌, ◌+◌, ◌*◌, [], ◌∷◌, 
 ghost use Rattle.shore_dwrite.specs.Settled.{geometry_of};
 
 use super::trouble::Trouble;
-use shore_disk::{Disk, MemDisk};
+use shore_disk::Disk;
 use shore_dwrite::{PAGES_AT, PageDev};
 use shore_page::Page;
 use shore_types::layout::PAGE_BYTES;
-use shore_types::{Fault, Geometry, Lsn, PageId, Sequence, StoreId};
+use shore_types::{Geometry, Lsn, PageId, Sequence, StoreId};
 use std::alloc::{AllocError, Global};
 
 /// The pages of the volume.
@@ -59,11 +59,6 @@ pub(super) fn first_image(alloc: Global) -> Result<Vec<u8>, AllocError> {
     Ok(image)
 }
 
-/// A device with these bytes.
-pub(super) fn disk_of(alloc: Global, image: &[u8]) -> Result<MemDisk, AllocError> {
-    MemDisk::new(alloc, image.to_vec(alloc)?)
-}
-
 /// The pages on a device.
 pub(super) fn pages_on<D: Disk + Drop>(alloc: Global, device: D) -> Result<PageDev<D>, Trouble>
     ensures { IfOk result (λ dev. (geometry_of dev).stores ≡ 40 ∷ []) }
@@ -79,19 +74,4 @@ pub(super) fn place_of(page: u32) -> usize
     ensures { result ≡ 270336 + 8192 * page }
 {
     PAGES_AT as usize + PAGE_BYTES * page as usize
-}
-
-/// A page as it is read, with a number up to this one.
-pub(super) fn read<D: Disk>(
-    alloc: Global,
-    dev: &mut PageDev<D>,
-    page: u32,
-    last: u64,
-) -> Result<Page, Fault>
-    requires { (geometry_of dev.old).stores ≡ 40 ∷ [] }
-{
-    if page >= PAGES {
-        return Err(Fault::Memory);
-    }
-    dev.read_page(alloc, page_id(page), Lsn(last))
 }
