@@ -20,7 +20,7 @@ use Rattle.shore_path.specs.declared.answers.OnConflict.TheVariants.{Refuse}
 use Rattle.shore_held.specs.CallLocks.{Asked}
 use Rattle.shore_deadlock.proofs.AcquireLemmas.{ClosesOwn, acquire_closes}
 use Rattle.shore_deadlock.proofs.LawLemmas.{release_keeps_free}
-use Rattle.shore_deadlock.specs.Cycles.{IsOnEachCycle}
+use Rattle.shore_cycles.specs.Cycles.{IsOnEachCycle}
 use Rattle.shore_sessions.specs.declared.rollbacks.Rollback.TheVariants.{Whole}
 use Rattle.shore_sessions.specs.Sessions.{SessionTxn}
 use Rattle.shore_sessions.specs.Views.{IsAmong}

@@ -11,8 +11,8 @@ use Rattle.shore_model.specs.declared.histories.Entry.{Entry}
 use Rattle.shore_model.specs.declared.log_records.LogRecord.{LogRecord}
 use Rattle.shore_locks.specs.Tables.{is_waiting}
 use Rattle.shore_path.specs.declared.answers.Acquired.TheVariants as acquire
-use Rattle.shore_deadlock.specs.Blockers.{is_victim}
-use Rattle.shore_deadlock.specs.declared.victims.Victim.{Victim}
+use Rattle.shore_cycles.specs.Blockers.{is_victim}
+use Rattle.shore_cycles.specs.declared.victims.Victim.{Victim}
 use Rattle.shore_held.specs.CallLocks.{Asked, asked_by}
 use Rattle.shore_sessions.specs.Sessions.{SessionTxn}
 use Rattle.shore_sessions.specs.UndoLists.{undo_rolled}

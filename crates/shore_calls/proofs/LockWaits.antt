@@ -5,7 +5,7 @@ use Rattle.shore_types.specs.declared.layout.Geometry.{Geometry}
 use Rattle.shore_types.specs.declared.locking.Granule.{Granule}
 use Rattle.shore_model.specs.declared.calls.Call.{Call}
 use Rattle.shore_model.specs.declared.log_records.LogRecord.{LogRecord}
-use Rattle.shore_deadlock.specs.declared.victims.Victim.{Victim}
+use Rattle.shore_cycles.specs.declared.victims.Victim.{Victim}
 use Rattle.shore_sessions.specs.declared.rollbacks.Rollback.TheVariants.{Whole}
 use Rattle.shore_sessions.specs.Sessions.{SessionTxn}
 use Rattle.shore_calls.proofs.RollingLeaves.{back_table, interrupted_table, savepoint_table}

@@ -10,8 +10,8 @@ use Rattle.shore_model.specs.declared.requests.Request.{Request}
 use Rattle.shore_model.specs.Requests.{WaitsFor}
 use Rattle.shore_locks.proofs.Members.{In}
 use Rattle.shore_locks.specs.Tables.{is_waiting, waiting_request}
-use Rattle.shore_deadlock.proofs.Steps.{quiet_waits_not, waits_as}
-use Rattle.shore_deadlock.specs.Cycles.{IsOnNoCycle}
+use Rattle.shore_cycles.proofs.Steps.{quiet_waits_not, waits_as}
+use Rattle.shore_cycles.specs.Cycles.{IsOnNoCycle}
 use Rattle.shore_sessions.specs.Sessions.{SessionTxn}
 use Rattle.shore_calls.specs.declared.step.Step.{Step}
 use Rattle.shore_calls.specs.declared.step.Step.TheVariants.{Waits}

@@ -11,10 +11,10 @@ use Rattle.shore_locks.proofs.Outcomes.{quiet_after_cancel}
 use Rattle.shore_locks.specs.Grants.{cancelled}
 use Rattle.shore_locks.specs.Orderly.{IsOrderly}
 use Rattle.shore_locks.specs.Tables.{is_waiting}
-use Rattle.shore_deadlock.proofs.Steps.{cancelled_adds_none, quiet_waits_not}
-use Rattle.shore_deadlock.proofs.Walks.{cycle_as, member_waits}
-use Rattle.shore_deadlock.specs.Cycles.{IsOnEachCycle}
-use Rattle.shore_deadlock.specs.declared.victims.Victim.{Victim}
+use Rattle.shore_cycles.proofs.Steps.{cancelled_adds_none, quiet_waits_not}
+use Rattle.shore_cycles.proofs.Walks.{cycle_as, member_waits}
+use Rattle.shore_cycles.specs.Cycles.{IsOnEachCycle}
+use Rattle.shore_cycles.specs.declared.victims.Victim.{Victim}
 use Rattle.shore_sessions.specs.Sessions.{SessionTxn}
 use Rattle.shore_sessions.specs.Views.{IsAmong}
 use Rattle.shore_calls.specs.declared.step.Step.{Step}

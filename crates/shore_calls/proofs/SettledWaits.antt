@@ -8,7 +8,7 @@ use Rattle.shore_model.specs.declared.histories.Entry.{Entry}
 use Rattle.shore_model.specs.declared.log_records.LogRecord.{LogRecord}
 use Rattle.shore_locks.specs.Tables.{is_waiting}
 use Rattle.shore_held.specs.CallLocks.{Asked, asked_by}
-use Rattle.shore_deadlock.specs.declared.victims.Victim.{Victim}
+use Rattle.shore_cycles.specs.declared.victims.Victim.{Victim}
 use Rattle.shore_sessions.proofs.Members.{with_among}
 use Rattle.shore_sessions.specs.Sessions.{SessionTxn, with_undo}
 use Rattle.shore_sessions.specs.UndoLists.{UndoList}

@@ -11,7 +11,7 @@ use Rattle.shore_locks.specs.Grants.{cancelled}
 use Rattle.shore_locks.specs.Tables.{is_waiting}
 use Rattle.shore_locks.proofs.Outcomes.{quiet_after_cancel}
 use Rattle.shore_locks.proofs.Tables.{orderly_cancelled}
-use Rattle.shore_deadlock.proofs.Steps.{cancelled_keeps_quiet}
+use Rattle.shore_cycles.proofs.Steps.{cancelled_keeps_quiet}
 use Rattle.shore_sessions.proofs.Members.{among_with, txn_among}
 use Rattle.shore_sessions.specs.declared.rollbacks.Rollback.TheVariants.{Whole}
 use Rattle.shore_sessions.specs.LogTells.{records_committed}

@@ -16,10 +16,10 @@ use Rattle.shore_locks.specs.Tables.{is_waiting}
 use Rattle.shore_locks.proofs.Outcomes.{quiet_after_cancel}
 use Rattle.shore_path.proofs.Freeing.{weaker_cancelled}
 use Rattle.shore_path.proofs.Holding.{enough_of, holder_from_lock, holder_of, lock_from_holder}
-use Rattle.shore_deadlock.specs.declared.victims.Victim.{Victim}
-use Rattle.shore_deadlock.proofs.Steps.{quiet_waits_not}
-use Rattle.shore_deadlock.proofs.VictimLemmas.{first_In}
-use Rattle.shore_deadlock.proofs.Walks.{member_waits}
+use Rattle.shore_cycles.specs.declared.victims.Victim.{Victim}
+use Rattle.shore_cycles.proofs.Steps.{quiet_waits_not}
+use Rattle.shore_cycles.proofs.VictimLemmas.{first_In}
+use Rattle.shore_cycles.proofs.Walks.{member_waits}
 use Rattle.shore_sessions.proofs.Doomed.{doomed_left}
 use Rattle.shore_sessions.proofs.Members.{among_with, same_member}
 use Rattle.shore_sessions.specs.declared.rollbacks.Rollback.TheVariants.{To, Whole}

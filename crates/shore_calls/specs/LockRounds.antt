@@ -8,9 +8,9 @@ use Rattle.shore_locks.specs.Grants.{cancelled}
 use Rattle.shore_locks.specs.Tables.{is_waiting}
 use Rattle.shore_path.specs.declared.answers.Acquired.{Acquired}
 use Rattle.shore_path.specs.declared.answers.Acquired.TheVariants as acquire
-use Rattle.shore_deadlock.specs.Blockers.{is_victim}
-use Rattle.shore_deadlock.specs.Cycles.{IsOnNoCycle}
-use Rattle.shore_deadlock.specs.declared.victims.Victim.{Victim}
+use Rattle.shore_cycles.specs.Blockers.{is_victim}
+use Rattle.shore_cycles.specs.Cycles.{IsOnNoCycle}
+use Rattle.shore_cycles.specs.declared.victims.Victim.{Victim}
 use Rattle.shore_held.specs.CallLocks.{Asked}
 use Rattle.shore_sessions.specs.Sessions.{SessionTxn}
 use Rattle.shore_sessions.specs.Views.{IsAmong}

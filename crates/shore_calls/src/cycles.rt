@@ -8,7 +8,7 @@ ghost use Rattle.shore_model.specs.declared.histories.Entry.{Entry};
 ghost use Rattle.shore_model.specs.declared.log_records.LogRecord.{LogRecord};
 ghost use Rattle.shore_model.specs.Requests.{IsCycle};
 ghost use Rattle.shore_locks.specs.Tables.{is_waiting};
-ghost use Rattle.shore_deadlock.specs.declared.victims.Victim.{Victim};
+ghost use Rattle.shore_cycles.specs.declared.victims.Victim.{Victim};
 ghost use Rattle.shore_sessions.specs.declared.rollbacks.Rollback.TheVariants.{Whole};
 ghost use Rattle.shore_sessions.specs.SessionSteps.{KeepsLocks};
 ghost use Rattle.shore_sessions.specs.Sessions.{SessionTxn};

@@ -14,7 +14,7 @@ use Rattle.shore_path.specs.Rooted.{AreRooted}
 use Rattle.shore_path.specs.Walks.{acquired}
 use Rattle.shore_path.specs.declared.answers.OnConflict.{OnConflict}
 use Rattle.shore_deadlock.proofs.Lockings.{gentle_cancel}
-use Rattle.shore_deadlock.proofs.Steps.{cancelled_keeps_quiet}
+use Rattle.shore_cycles.proofs.Steps.{cancelled_keeps_quiet}
 use Rattle.shore_held.proofs.Acquired.{acquired_leaves}
 use Rattle.shore_held.proofs.Waiting.{others_stay_quiet}
 use Rattle.shore_sessions.specs.Views.{IsAmong}

@@ -19,7 +19,7 @@ use Rattle.shore_path.specs.declared.answers.Acquired.TheVariants as acquire
 use Rattle.shore_path.specs.declared.answers.OnConflict.TheVariants as conflict
 use Rattle.shore_deadlock.specs.declared.locking.Locked.{Locked}
 use Rattle.shore_deadlock.specs.declared.locking.Locked.TheVariants as locked
-use Rattle.shore_deadlock.specs.declared.victims.Victim.{Victim}
+use Rattle.shore_cycles.specs.declared.victims.Victim.{Victim}
 use Rattle.shore_deadlock.specs.Locking.{Ends, Settles}
 use Rattle.shore_control.specs.Noting.{RefusesToLock, answer_of, told_cycle}
 use Rattle.shore_control.proofs.LockRounds.{told_more, told_victim}

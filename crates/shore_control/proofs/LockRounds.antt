@@ -18,14 +18,14 @@ use Rattle.shore_path.specs.declared.answers.Acquired.TheVariants as acquire
 use Rattle.shore_path.specs.declared.answers.OnConflict.TheVariants as conflict
 use Rattle.shore_deadlock.specs.declared.locking.Locked.{Locked}
 use Rattle.shore_deadlock.specs.declared.locking.Locked.TheVariants as locked
-use Rattle.shore_deadlock.specs.declared.victims.Victim.{Victim}
-use Rattle.shore_deadlock.specs.Blockers.{is_victim}
-use Rattle.shore_deadlock.specs.Cycles.{AreVictims, IsOnNoCycle, after_victims}
+use Rattle.shore_cycles.specs.declared.victims.Victim.{Victim}
+use Rattle.shore_cycles.specs.Blockers.{is_victim}
+use Rattle.shore_cycles.specs.Cycles.{AreVictims, IsOnNoCycle, after_victims}
 use Rattle.shore_deadlock.specs.Locking as locking
 use Rattle.shore_deadlock.specs.Locking.{Acquires, AreRounds, Ends, Settles}
-use Rattle.shore_deadlock.proofs.Steps.{quiet_waits_not}
-use Rattle.shore_deadlock.proofs.VictimLemmas.{first_In, first_victim, later_spared}
-use Rattle.shore_deadlock.proofs.Walks.{member_waits}
+use Rattle.shore_cycles.proofs.Steps.{quiet_waits_not}
+use Rattle.shore_cycles.proofs.VictimLemmas.{first_In, first_victim, later_spared}
+use Rattle.shore_cycles.proofs.Walks.{member_waits}
 use Rattle.shore_held.specs.CallLocks.{Asked}
 use Rattle.shore_sessions.specs.Sessions.{SessionTxn}
 use Rattle.shore_sessions.specs.UndoLists.{undo_rolled}

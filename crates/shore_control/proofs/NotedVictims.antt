@@ -9,13 +9,13 @@ use Rattle.shore_sessions.proofs.Members.{among_with}
 use Rattle.shore_model.specs.declared.requests.Request.{Request}
 use Rattle.shore_calls.specs.CallSteps.{with_requests}
 use Rattle.shore_calls.specs.States.{State, Waiting}
-use Rattle.shore_deadlock.specs.declared.victims.Victim.{Victim}
+use Rattle.shore_cycles.specs.declared.victims.Victim.{Victim}
 use Rattle.shore_txn.specs.ActiveTxns.{OneBecomes, sessions_of}
 use Rattle.shore_txn.specs.Transactions.{HasTxnOf, kept_in, next_in, room_in, undos_in}
 use Rattle.shore_txn.specs.Transactions as table
-use Rattle.shore_txn.specs.Txns.{IsDoomed, last_of}
+use Rattle.shore_undo.specs.Txns.{IsDoomed, last_of}
 use Rattle.shore_txn.specs.declared.transactions.Transactions.{Transactions}
-use Rattle.shore_txn.specs.declared.txn.Txn.{Txn}
+use Rattle.shore_undo.specs.declared.txn.Txn.{Txn}
 use Rattle.shore_txn.proofs.ActiveSteps.{becomes_so}
 use Rattle.shore_txn.proofs.OneOfMany.{among_map, map_among, map_with, once_same}
 use Rattle.shore_control.specs.Calls.{cycle_noted, is_commit, name_of, names_of}

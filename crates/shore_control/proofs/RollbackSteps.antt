@@ -26,15 +26,15 @@ use Rattle.shore_calls.specs.States.{State}
 use Rattle.shore_txn.specs.ActiveTxns.{OneBecomes, OneLeaves}
 use Rattle.shore_txn.specs.Transactions.{next_in, room_in, undos_in}
 use Rattle.shore_txn.specs.Transactions as table
-use Rattle.shore_txn.specs.Txns.{IsAfterSavepoint, IsAfterUndo, IsBackAt, as_session_txn, entries_of, number_of}
-use Rattle.shore_txn.specs.UndoEntries.{first_number, image_of, images_of, number_behind}
+use Rattle.shore_undo.specs.Txns.{IsAfterSavepoint, IsAfterUndo, IsBackAt, as_session_txn, entries_of, number_of}
+use Rattle.shore_undo.specs.UndoEntries.{first_number, image_of, images_of, number_behind}
 use Rattle.shore_txn.specs.declared.transactions.Transactions.{Transactions}
-use Rattle.shore_txn.specs.declared.txn.Txn.{Txn}
-use Rattle.shore_txn.specs.declared.undo.UndoEntry.{UndoEntry}
+use Rattle.shore_undo.specs.declared.txn.Txn.{Txn}
+use Rattle.shore_undo.specs.declared.undo.UndoEntry.{UndoEntry}
 use Rattle.shore_txn.proofs.ActiveOthers.{each_becomes, each_left}
 use Rattle.shore_txn.proofs.ActiveSteps.{one_of}
 use Rattle.shore_txn.proofs.OneOfMany.{among_middle}
-use Rattle.shore_txn.proofs.UndoLemmas.{last_same}
+use Rattle.shore_undo.proofs.UndoLemmas.{last_same}
 use Rattle.shore_control.specs.Standing.{HasTxns, IsLogged, abort_ended, as_change, put_back}
 use Rattle.shore_control.proofs.Lists.{all_by_members, reverse-cons}
 use Rattle.shore_control.proofs.LogSteps.{cost_push, previous_own}

@@ -21,10 +21,10 @@ use Rattle.shore_path.specs.Walks.{Outcome, acquired, walk}
 use Rattle.shore_path.specs.declared.answers.Acquired.TheVariants as acquire
 use Rattle.shore_path.specs.declared.answers.OnConflict.TheVariants as conflict
 use Rattle.shore_path.proofs.Acquiring.{told_waiting}
-use Rattle.shore_deadlock.specs.declared.victims.Victim.{Victim}
-use Rattle.shore_deadlock.specs.Cycles.{after_victims}
+use Rattle.shore_cycles.specs.declared.victims.Victim.{Victim}
+use Rattle.shore_cycles.specs.Cycles.{after_victims}
 use Rattle.shore_deadlock.specs.Locking.{Acquires}
-use Rattle.shore_deadlock.proofs.Steps.{waits_as}
+use Rattle.shore_cycles.proofs.Steps.{waits_as}
 
 -- who waits once another's request is taken back waited before, with the same
 stopped_back : (r : Request) (rs : List Request) (b : Bool) (q : Request) → is_some q.wanted ≡ true → In q (cond b (replaced (withdrawn r) rs) (removed r rs)) → In q rs

@@ -27,12 +27,12 @@ use Rattle.shore_calls.specs.States.{State, cost_of_log, page_slots}
 use Rattle.shore_txn.specs.ActiveTxns.{IsBegun, OneBecomes, OneLeaves, session_txns, with_entry}
 use Rattle.shore_txn.specs.Transactions.{IsUnchanged, next_in, room_in, undos_in}
 use Rattle.shore_txn.specs.Transactions as table
-use Rattle.shore_txn.specs.Txns.{IsAfterChange, SameTxn, as_session_txn, entries_of, last_of, number_of}
-use Rattle.shore_txn.specs.UndoEntries.{HaveClaims, image_of, images_of}
+use Rattle.shore_undo.specs.Txns.{IsAfterChange, SameTxn, as_session_txn, entries_of, last_of, number_of}
+use Rattle.shore_undo.specs.UndoEntries.{HaveClaims, image_of, images_of}
 use Rattle.shore_txn.specs.declared.log_room.LogRoom.{LogRoom}
 use Rattle.shore_txn.specs.declared.transactions.Transactions.{Transactions}
-use Rattle.shore_txn.specs.declared.txn.Txn.{Txn}
-use Rattle.shore_txn.specs.declared.undo.UndoEntry.{UndoEntry}
+use Rattle.shore_undo.specs.declared.txn.Txn.{Txn}
+use Rattle.shore_undo.specs.declared.undo.UndoEntry.{UndoEntry}
 use Rattle.shore_txn.proofs.ActiveSteps.{becomes_so, one_of}
 use Rattle.shore_txn.proofs.ActiveOthers.{AreApart, each_becomes, each_left}
 use Rattle.shore_txn.proofs.OneOfMany.{all_among, among_map, among_middle, once_same}

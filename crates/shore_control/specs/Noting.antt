@@ -9,7 +9,7 @@ use Rattle.shore_path.specs.declared.answers.Acquired.{Acquired}
 use Rattle.shore_path.specs.declared.answers.Acquired.TheVariants as acquire
 use Rattle.shore_deadlock.specs.declared.locking.Locked.{Locked}
 use Rattle.shore_deadlock.specs.declared.locking.Locked.TheVariants as locked
-use Rattle.shore_deadlock.specs.declared.victims.Victim.{Victim}
+use Rattle.shore_cycles.specs.declared.victims.Victim.{Victim}
 use Rattle.shore_sessions.specs.Sessions.{SessionTxn, doomed}
 use Rattle.shore_sessions.specs.Views.{IsAmong}
 use Rattle.shore_calls.specs.CallSteps.{with_requests}
@@ -17,7 +17,7 @@ use Rattle.shore_calls.specs.States.{DoesNotWait, State}
 use Rattle.shore_calls.specs.Victims.{with_cycle}
 use Rattle.shore_txn.specs.Transactions.{kept_in, next_in, room_in, undos_in}
 use Rattle.shore_txn.specs.Transactions as table
-use Rattle.shore_txn.specs.Txns.{last_of}
+use Rattle.shore_undo.specs.Txns.{last_of}
 use Rattle.shore_control.specs.declared.control.Control.{Control}
 use Rattle.shore_control.specs.Calls.{names_of}
 use Rattle.shore_control.specs.Controls.{HasWaitRoom, IsFree, locks_in, txns_in, waits_in}

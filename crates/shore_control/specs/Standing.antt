@@ -20,11 +20,11 @@ use Rattle.shore_calls.specs.CallSteps.{with_requests}
 use Rattle.shore_calls.specs.States.{State, cost_of_log}
 use Rattle.shore_txn.specs.Transactions.{next_in, room_in, undos_in}
 use Rattle.shore_txn.specs.Transactions as table
-use Rattle.shore_txn.specs.Txns.{entries_of, last_of, number_of}
-use Rattle.shore_txn.specs.UndoEntries.{HaveClaims}
+use Rattle.shore_undo.specs.Txns.{entries_of, last_of, number_of}
+use Rattle.shore_undo.specs.UndoEntries.{HaveClaims}
 use Rattle.shore_txn.specs.declared.transactions.Transactions.{Transactions}
-use Rattle.shore_txn.specs.declared.txn.Txn.{Txn}
-use Rattle.shore_txn.specs.declared.undo.UndoEntry.{UndoEntry}
+use Rattle.shore_undo.specs.declared.txn.Txn.{Txn}
+use Rattle.shore_undo.specs.declared.undo.UndoEntry.{UndoEntry}
 use Rattle.shore_control.specs.declared.control.Control.{Control}
 use Rattle.shore_control.specs.declared.waits.WaitingCall.{WaitingCall}
 use Rattle.shore_control.specs.Calls.{as_waitings, caller_of, committers_of, is_commit, names_of}

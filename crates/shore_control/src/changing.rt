@@ -15,8 +15,8 @@ ghost use Rattle.shore_sessions.specs.UndoLists.{nothing_to_undo};
 ghost use Rattle.shore_calls.specs.States.{IsOfSession, State, page_slots};
 ghost use Rattle.shore_txn.specs.ActiveTxns.{HasMore, IsBegun, OneBecomes};
 ghost use Rattle.shore_txn.specs.Transactions as table;
-ghost use Rattle.shore_txn.specs.Txns.{IsAfterChange, SameTxn};
-ghost use Rattle.shore_txn.specs.declared.txn.Txn.{Txn};
+ghost use Rattle.shore_undo.specs.Txns.{IsAfterChange, SameTxn};
+ghost use Rattle.shore_undo.specs.declared.txn.Txn.{Txn};
 ghost use Rattle.shore_txn.specs.Transactions.{HasNoTxnOf, HasRoomToNote, HasTxnOf, IsUnchanged, kept_in, next_in, room_in, undos_in};
 
 use crate::control::Control;

@@ -10,7 +10,7 @@ ghost use Rattle.shore_calls.specs.CallSteps.{txn_count};
 ghost use Rattle.shore_calls.specs.States.{DoesNotWait, HasNoTxn, IsInTxn, IsOfSession, State};
 ghost use Rattle.shore_txn.specs.Transactions.{HasNoTxnOf, HasTxnOf, next_in, room_in, undos_in};
 ghost use Rattle.shore_txn.specs.Transactions as table;
-ghost use Rattle.shore_txn.specs.Txns.{as_session_txn};
+ghost use Rattle.shore_undo.specs.Txns.{as_session_txn};
 ghost use Rattle.shore_control.specs.Calls.{as_waiting, commits_of, is_commit};
 
 use crate::waits::{WaitingCall, Waits};

@@ -17,7 +17,7 @@ ghost use Rattle.shore_calls.specs.LockRounds.{LocksTo};
 ghost use Rattle.shore_calls.specs.States.{IsOfSession, State};
 ghost use Rattle.shore_txn.specs.Transactions.{HasTxnOf, kept_in, next_in, room_in, undos_in};
 ghost use Rattle.shore_txn.specs.Transactions as table;
-ghost use Rattle.shore_txn.specs.Txns.{last_of};
+ghost use Rattle.shore_undo.specs.Txns.{last_of};
 ghost use Rattle.shore_control.specs.Calls.{names_of};
 ghost use Rattle.shore_control.specs.Noting as noting;
 

@@ -13,7 +13,7 @@ ghost use Rattle.shore_calls.specs.States.{IsOfSession, State};
 ghost use Rattle.shore_txn.specs.ActiveTxns.{HasMore, OneLeaves};
 ghost use Rattle.shore_txn.specs.Transactions.{HasTxnOf, kept_in};
 ghost use Rattle.shore_txn.specs.Transactions as table;
-ghost use Rattle.shore_txn.specs.UndoEntries.{claims_on, images_of};
+ghost use Rattle.shore_undo.specs.UndoEntries.{claims_on, images_of};
 ghost use Rattle.shore_control.specs.declared.waits.WaitingCall.{WaitingCall};
 
 use crate::control::Control;

@@ -16,9 +16,9 @@ ghost use Rattle.shore_sessions.specs.Sessions.{SessionTxn};
 ghost use Rattle.shore_sessions.specs.Views.{IsAmong};
 ghost use Rattle.shore_calls.specs.LockedStates.{IsSessionsState};
 ghost use Rattle.shore_calls.specs.States.{State};
-ghost use Rattle.shore_txn.specs.Txns.{entries_of, number_of};
-ghost use Rattle.shore_txn.specs.UndoEntries.{images_of, number_behind};
-ghost use Rattle.shore_txn.specs.declared.txn.Txn.{Txn};
+ghost use Rattle.shore_undo.specs.Txns.{entries_of, number_of};
+ghost use Rattle.shore_undo.specs.UndoEntries.{images_of, number_behind};
+ghost use Rattle.shore_undo.specs.declared.txn.Txn.{Txn};
 ghost use Rattle.shore_control.specs.Standing.{IsLogged};
 
 /// A transaction that has locked a record for writing is the only one with an image of it to put back.

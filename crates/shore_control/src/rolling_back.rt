@@ -18,8 +18,8 @@ ghost use Rattle.shore_calls.specs.States.{IsOfSession, State};
 ghost use Rattle.shore_txn.specs.ActiveTxns.{HasMore, OneBecomes, OneLeaves};
 ghost use Rattle.shore_txn.specs.Transactions as table;
 ghost use Rattle.shore_txn.specs.Transactions.{HasTxnOf, kept_in, room_in, undos_in};
-ghost use Rattle.shore_txn.specs.Txns.{IsAfterSavepoint, IsAfterUndo, IsBackAt, SameTxn};
-ghost use Rattle.shore_txn.specs.UndoEntries.{image_of};
+ghost use Rattle.shore_undo.specs.Txns.{IsAfterSavepoint, IsAfterUndo, IsBackAt, SameTxn};
+ghost use Rattle.shore_undo.specs.UndoEntries.{image_of};
 
 use crate::control::Control;
 use shore_sessions::Rollback;

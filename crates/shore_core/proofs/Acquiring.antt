@@ -19,8 +19,8 @@ use Rattle.shore_calls.specs.CallSteps.{MayAsk, RefusesEarly}
 use Rattle.shore_calls.specs.Settling.{GoesSettled, WaitsForNoLock}
 use Rattle.shore_calls.specs.States.{DoesNotWait, State}
 use Rattle.shore_sessions.specs.Views.{IsAmong}
-use Rattle.shore_txn.specs.Txns.{last_of}
-use Rattle.shore_txn.specs.declared.txn.Txn.{Txn}
+use Rattle.shore_undo.specs.Txns.{last_of}
+use Rattle.shore_undo.specs.declared.txn.Txn.{Txn}
 use Rattle.shore_txn.proofs.OneOfMany.{among_map, map_among}
 use Rattle.shore_control.proofs.WaitSteps.{free_waits_not}
 use Rattle.shore_control.specs.Controls.{IsFree, waits_in}

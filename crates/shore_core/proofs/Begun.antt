@@ -7,10 +7,10 @@ use Rattle.shore_sessions.specs.Views.{IsAmong}
 use Rattle.shore_txn.specs.ActiveTxns.{IsBegun}
 use Rattle.shore_txn.specs.Transactions.{IsUnchanged, next_in, room_in, undos_in}
 use Rattle.shore_txn.specs.Transactions as table
-use Rattle.shore_txn.specs.Txns.{last_of}
+use Rattle.shore_undo.specs.Txns.{last_of}
 use Rattle.shore_txn.specs.declared.log_room.LogRoom.{LogRoom}
 use Rattle.shore_txn.specs.declared.transactions.Transactions.{Transactions}
-use Rattle.shore_txn.specs.declared.txn.Txn.{Txn}
+use Rattle.shore_undo.specs.declared.txn.Txn.{Txn}
 
 module _ {A E : Type 0} (old new : Transactions) (session : ℕ) where
   -- it reserves what an ending costs at most

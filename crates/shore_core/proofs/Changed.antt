@@ -34,11 +34,11 @@ use Rattle.shore_calls.specs.States.{State, page_slots}
 use Rattle.shore_core.specs.declared.core_calls.Core.{Core}
 use Rattle.shore_recovery.specs.Recovery.{RecoveryState}
 use Rattle.shore_txn.specs.declared.transactions.Transactions.{Transactions}
-use Rattle.shore_txn.specs.declared.txn.Txn.{Txn}
-use Rattle.shore_txn.specs.declared.undo.UndoEntry.{UndoEntry}
+use Rattle.shore_undo.specs.declared.txn.Txn.{Txn}
+use Rattle.shore_undo.specs.declared.undo.UndoEntry.{UndoEntry}
 use Rattle.shore_txn.specs.ActiveTxns.{OneBecomes}
 use Rattle.shore_txn.specs.Transactions.{kept_in, txns_in}
-use Rattle.shore_txn.specs.Txns.{IsAfterChange, IsAfterSavepoint, SameTxn, last_of}
+use Rattle.shore_undo.specs.Txns.{IsAfterChange, IsAfterSavepoint, SameTxn, last_of}
 use Rattle.shore_txn.proofs.ActiveOthers.{AreApart, each_becomes}
 use Rattle.shore_pool.specs.declared.frame.Frame.{Frame}
 use Rattle.shore_page.specs.Slots.{Slot}

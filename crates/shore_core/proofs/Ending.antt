@@ -28,11 +28,11 @@ use Rattle.shore_logged.specs.LoggedHeaps.{IsStoreOf}
 use Rattle.shore_logged.proofs.Made.{appended_without}
 use Rattle.shore_txn.specs.ActiveTxns.{OneLeaves}
 use Rattle.shore_txn.specs.Transactions.{kept_in, txns_in, undos_in}
-use Rattle.shore_txn.specs.Txns.{as_session_txn, entries_of, last_of}
-use Rattle.shore_txn.specs.UndoEntries.{images_of}
+use Rattle.shore_undo.specs.Txns.{as_session_txn, entries_of, last_of}
+use Rattle.shore_undo.specs.UndoEntries.{images_of}
 use Rattle.shore_txn.specs.declared.transactions.Transactions.{Transactions}
-use Rattle.shore_txn.specs.declared.txn.Txn.{Txn}
-use Rattle.shore_txn.specs.declared.undo.UndoEntry.{UndoEntry}
+use Rattle.shore_undo.specs.declared.txn.Txn.{Txn}
+use Rattle.shore_undo.specs.declared.undo.UndoEntry.{UndoEntry}
 use Rattle.shore_txn.proofs.OneOfMany.{among_more}
 use Rattle.shore_control.specs.Standing.{HasControl, abort_ended}
 use Rattle.shore_core.specs.declared.core_calls.Core.{Core}

@@ -12,10 +12,10 @@ use Rattle.shore_sessions.specs.Views.{IsAmong}
 use Rattle.shore_calls.specs.States.{State, page_slots}
 use Rattle.shore_txn.specs.ActiveTxns.{OneLeaves, session_txns}
 use Rattle.shore_txn.specs.Transactions.{kept_in, room_in, txns_in}
-use Rattle.shore_txn.specs.Txns.{as_session_txn, last_of}
+use Rattle.shore_undo.specs.Txns.{as_session_txn, last_of}
 use Rattle.shore_txn.specs.declared.transactions.Transactions.{Transactions}
-use Rattle.shore_txn.specs.declared.txn.Txn.{Txn}
-use Rattle.shore_txn.specs.declared.undo.UndoEntry.{UndoEntry}
+use Rattle.shore_undo.specs.declared.txn.Txn.{Txn}
+use Rattle.shore_undo.specs.declared.undo.UndoEntry.{UndoEntry}
 use Rattle.shore_txn.proofs.OneOfMany.{among_more, map_join, map_parts, owed_parts}
 use Rattle.shore_control.specs.Standing.{HasControl}
 use Rattle.shore_core.specs.declared.core_calls.Core.{Core}

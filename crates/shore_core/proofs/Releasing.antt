@@ -28,9 +28,9 @@ use Rattle.shore_room.specs.Settling.{let_go}
 use Rattle.shore_room.proofs.Leaving.{left_slots, same_page}
 use Rattle.shore_calls.specs.StateChanges.{committed}
 use Rattle.shore_calls.specs.States.{State, page_slots}
-use Rattle.shore_txn.specs.declared.txn.Txn.{Txn}
-use Rattle.shore_txn.specs.declared.undo.UndoEntry.{UndoEntry}
-use Rattle.shore_txn.specs.UndoEntries.{claims_on, image_of, images_of}
+use Rattle.shore_undo.specs.declared.txn.Txn.{Txn}
+use Rattle.shore_undo.specs.declared.undo.UndoEntry.{UndoEntry}
+use Rattle.shore_undo.specs.UndoEntries.{claims_on, image_of, images_of}
 
 -- the last entry goes last
 pub let_go_more : (p : PageId) (es : List (Rid × Image)) (e : Rid × Image) (slots : List Slot) → let_go p (es ++ e ∷ []) slots ≡ let_go p (e ∷ []) (let_go p es slots)

@@ -28,9 +28,9 @@ use Rattle.shore_calls.specs.StateChanges.{after_refusal, answered}
 use Rattle.shore_calls.specs.States.{DoesNotWait, IsOfSession, State, page_slots}
 use Rattle.shore_txn.specs.ActiveTxns.{OneBecomes}
 use Rattle.shore_txn.specs.Transactions.{txns_in}
-use Rattle.shore_txn.specs.Txns.{IsBackAt, last_of}
+use Rattle.shore_undo.specs.Txns.{IsBackAt, last_of}
 use Rattle.shore_txn.specs.declared.transactions.Transactions.{Transactions}
-use Rattle.shore_txn.specs.declared.txn.Txn.{Txn}
+use Rattle.shore_undo.specs.declared.txn.Txn.{Txn}
 use Rattle.shore_txn.proofs.ActiveOthers.{each_becomes}
 use Rattle.shore_sessions.specs.Views.{IsAmong}
 use Rattle.shore_core.specs.declared.core_calls.Core.{Core}

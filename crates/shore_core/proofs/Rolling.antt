@@ -47,11 +47,11 @@ use Rattle.shore_log.specs.declared.tail.Tail as tail
 use Rattle.shore_model.specs.declared.log_records.LogRecord.{LogRecord}
 use Rattle.shore_recovery.specs.Recovery.{RecoveryState}
 use Rattle.shore_txn.specs.Transactions.{txns_in, undos_in}
-use Rattle.shore_txn.specs.Txns.{as_session_txn, entries_of}
-use Rattle.shore_txn.specs.UndoEntries.{image_of, images_of}
+use Rattle.shore_undo.specs.Txns.{as_session_txn, entries_of}
+use Rattle.shore_undo.specs.UndoEntries.{image_of, images_of}
 use Rattle.shore_txn.specs.declared.transactions.Transactions.{Transactions}
-use Rattle.shore_txn.specs.declared.txn.Txn.{Txn}
-use Rattle.shore_txn.specs.declared.undo.UndoEntry.{UndoEntry}
+use Rattle.shore_undo.specs.declared.txn.Txn.{Txn}
+use Rattle.shore_undo.specs.declared.undo.UndoEntry.{UndoEntry}
 use Rattle.shore_txn.proofs.OneOfMany.{among_map, map_join}
 use Rattle.shore_core.specs.declared.core_calls.Core.{Core}
 use Rattle.shore_core.specs.declared.rolling_back.Undo.{Undo}

@@ -12,8 +12,8 @@ use Rattle.shore_model.specs.declared.calls.Call.{Call}
 use Rattle.shore_locks.specs.Tables.{is_waiting}
 use Rattle.shore_path.specs.declared.answers.Acquired.{Acquired}
 use Rattle.shore_path.specs.declared.answers.Acquired.TheVariants as acquire
-use Rattle.shore_deadlock.specs.Blockers.{is_victim}
-use Rattle.shore_deadlock.specs.declared.victims.Victim.{Victim}
+use Rattle.shore_cycles.specs.Blockers.{is_victim}
+use Rattle.shore_cycles.specs.declared.victims.Victim.{Victim}
 use Rattle.shore_held.specs.CallLocks.{Asked, asked_by}
 use Rattle.shore_room.proofs.Leaving.{marked_slots}
 use Rattle.shore_sessions.specs.Sessions.{SessionTxn}

@@ -29,7 +29,7 @@ use Rattle.shore_calls.specs.States.{State, page_slots}
 use Rattle.shore_control.proofs.RollbackSteps.{undo_next_logged}
 use Rattle.shore_control.specs.Standing.{IsLogged}
 use Rattle.shore_txn.specs.ActiveTxns.{OneBecomes}
-use Rattle.shore_txn.specs.Txns.{IsAfterUndo, last_of, number_of}
+use Rattle.shore_undo.specs.Txns.{IsAfterUndo, last_of, number_of}
 use Rattle.shore_txn.proofs.ActiveOthers.{each_becomes}
 use Rattle.shore_txn.proofs.OneOfMany.{among_map, among_middle}
 use Rattle.shore_logged.proofs.SlotImages.{count-with_image}
@@ -44,11 +44,11 @@ use Rattle.shore_page.specs.Slots.{image_len}
 use Rattle.shore_sessions.specs.Sessions.{SessionTxn}
 use Rattle.shore_sessions.specs.Views.{IsAmong}
 use Rattle.shore_txn.specs.Transactions.{HasTxnOf, txns_in, undos_in}
-use Rattle.shore_txn.specs.Txns.{as_session_txn, entries_of}
-use Rattle.shore_txn.specs.UndoEntries.{AreShort, image_of, images_of, number_behind}
+use Rattle.shore_undo.specs.Txns.{as_session_txn, entries_of}
+use Rattle.shore_undo.specs.UndoEntries.{AreShort, image_of, images_of, number_behind}
 use Rattle.shore_txn.specs.declared.transactions.Transactions.{Transactions}
-use Rattle.shore_txn.specs.declared.txn.Txn.{Txn}
-use Rattle.shore_txn.specs.declared.undo.UndoEntry.{UndoEntry}
+use Rattle.shore_undo.specs.declared.txn.Txn.{Txn}
+use Rattle.shore_undo.specs.declared.undo.UndoEntry.{UndoEntry}
 use Rattle.shore_txn.proofs.OneOfMany.{map_join, once_same}
 
 false_true : ◌≡◌ {A = Bool} false true → ⊥

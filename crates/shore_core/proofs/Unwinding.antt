@@ -16,10 +16,10 @@ use Rattle.shore_calls.specs.Rollbacks.{put_back}
 use Rattle.shore_calls.specs.States.{DoesNotWait, IsOfSession, State}
 use Rattle.shore_control.specs.Standing.{HasControl}
 use Rattle.shore_txn.specs.Transactions.{HasTxnOf, undos_in}
-use Rattle.shore_txn.specs.Txns.{as_session_txn, entries_of}
-use Rattle.shore_txn.specs.UndoEntries.{image_of}
+use Rattle.shore_undo.specs.Txns.{as_session_txn, entries_of}
+use Rattle.shore_undo.specs.UndoEntries.{image_of}
 use Rattle.shore_txn.specs.declared.transactions.Transactions.{Transactions}
-use Rattle.shore_txn.specs.declared.txn.Txn.{Txn}
+use Rattle.shore_undo.specs.declared.txn.Txn.{Txn}
 use Rattle.shore_core.specs.declared.core_calls.Core.{Core}
 use Rattle.shore_core.specs.Cores.{ComesTo, IsSafe, control_of, durable_of, faults_of, geometry_of, has_failed, last_of, txns_of, waits_of}
 use Rattle.shore_core.specs.Replies.{InEach, Keeps, MayLeave}

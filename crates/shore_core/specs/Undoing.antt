@@ -19,11 +19,11 @@ use Rattle.shore_calls.specs.CallSteps.{aborted}
 use Rattle.shore_calls.specs.Rollbacks.{Interrupts, put_back}
 use Rattle.shore_calls.specs.States.{State}
 use Rattle.shore_txn.specs.Transactions.{txns_in, undos_in}
-use Rattle.shore_txn.specs.Txns.{as_session_txn, entries_of, last_of, number_of}
-use Rattle.shore_txn.specs.UndoEntries.{number_behind}
+use Rattle.shore_undo.specs.Txns.{as_session_txn, entries_of, last_of, number_of}
+use Rattle.shore_undo.specs.UndoEntries.{number_behind}
 use Rattle.shore_txn.specs.declared.transactions.Transactions.{Transactions}
-use Rattle.shore_txn.specs.declared.txn.Txn.{Txn}
-use Rattle.shore_txn.specs.declared.undo.UndoEntry.{UndoEntry}
+use Rattle.shore_undo.specs.declared.txn.Txn.{Txn}
+use Rattle.shore_undo.specs.declared.undo.UndoEntry.{UndoEntry}
 use Rattle.shore_core.specs.declared.core_calls.Core.{Core}
 use Rattle.shore_types.specs.declared.ids.PageId.{PageId}
 use Rattle.shore_heap.specs.Heaps.{MayBeLeft, WroteBack, pool_of}

@@ -13,8 +13,8 @@ ghost use Rattle.shore_calls.specs.States.{DoesNotWait, State};
 ghost use Rattle.shore_control.specs.Controls.{IsFree, txns_in};
 ghost use Rattle.shore_txn.specs.Transactions.{room_in};
 ghost use Rattle.shore_txn.specs.Transactions as table;
-ghost use Rattle.shore_txn.specs.Txns.{last_of};
-ghost use Rattle.shore_txn.specs.declared.txn.Txn.{Txn};
+ghost use Rattle.shore_undo.specs.Txns.{last_of};
+ghost use Rattle.shore_undo.specs.declared.txn.Txn.{Txn};
 ghost use Rattle.shore_sessions.specs.Views.{IsAmong};
 
 use shore_calls::{Step, Wait};

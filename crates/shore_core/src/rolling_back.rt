@@ -20,9 +20,9 @@ ghost use Rattle.shore_control.specs.Standing.{HasControl};
 ghost use Rattle.shore_sessions.specs.Views.{IsAmong};
 ghost use Rattle.shore_txn.specs.Transactions.{HasTxnOf, undos_in};
 ghost use Rattle.shore_txn.specs.Transactions as table;
-ghost use Rattle.shore_txn.specs.Txns.{as_session_txn, entries_of, rolling_of};
-ghost use Rattle.shore_txn.specs.declared.txn.Txn.{Txn};
-ghost use Rattle.shore_txn.specs.declared.undo.UndoEntry.{UndoEntry};
+ghost use Rattle.shore_undo.specs.Txns.{as_session_txn, entries_of, rolling_of};
+ghost use Rattle.shore_undo.specs.declared.txn.Txn.{Txn};
+ghost use Rattle.shore_undo.specs.declared.undo.UndoEntry.{UndoEntry};
 ghost use Rattle.shore_core.specs.Undoing.{IsNext};
 
 use crate::core_calls::Core;

@@ -16,7 +16,7 @@ use Rattle.shore_path.specs.declared.answers.OnConflict.{OnConflict}
 use Rattle.shore_path.specs.Walks.{Outcome, acquired, asked_of}
 use Rattle.shore_path.proofs.Growing.{Fit-grant, quiet_grant}
 use Rattle.shore_path.proofs.Walking.{EachCase, of_walk, walk_on}
-use Rattle.shore_deadlock.specs.Cycles.{IsOnEachCycle}
+use Rattle.shore_cycles.specs.Cycles.{IsOnEachCycle}
 use Rattle.shore_deadlock.proofs.LawLemmas.{free_granted, on_each_placed}
 
 -- what an outcome says of cycles

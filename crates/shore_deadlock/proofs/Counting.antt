@@ -27,17 +27,17 @@ use Rattle.shore_path.specs.declared.answers.OnConflict.{OnConflict}
 use Rattle.shore_path.specs.Walks.{acquired, asked_of}
 use Rattle.shore_path.proofs.Growing.{Fit-grant, quiet_grant}
 use Rattle.shore_path.proofs.Walking.{EachCase, of_walk, walk_on}
-use Rattle.shore_deadlock.specs.declared.victims.Victim.{Victim}
-use Rattle.shore_deadlock.specs.Blockers.{is_victim}
-use Rattle.shore_deadlock.specs.Cycles.{AreVictims, IsVictim, after_victims}
+use Rattle.shore_cycles.specs.declared.victims.Victim.{Victim}
+use Rattle.shore_cycles.specs.Blockers.{is_victim}
+use Rattle.shore_cycles.specs.Cycles.{AreVictims, IsVictim, after_victims}
 use Rattle.shore_deadlock.specs.Locking.{others_waiting}
 use Rattle.shore_deadlock.proofs.AcquireLemmas.{allowed_case}
-use Rattle.shore_deadlock.proofs.Changes.{pass_goes, waiter_wants}
-use Rattle.shore_deadlock.proofs.Edges.{clash, edge_of}
-use Rattle.shore_deadlock.proofs.Fewer.{as_many, fewer}
-use Rattle.shore_deadlock.proofs.Steps.{waits_as}
-use Rattle.shore_deadlock.proofs.VictimLemmas.{first_In, first_victim, later_spared}
-use Rattle.shore_deadlock.proofs.Walks.{member_waits}
+use Rattle.shore_cycles.proofs.Changes.{pass_goes, waiter_wants}
+use Rattle.shore_cycles.proofs.Edges.{clash, edge_of}
+use Rattle.shore_cycles.proofs.Fewer.{as_many, fewer}
+use Rattle.shore_cycles.proofs.Steps.{waits_as}
+use Rattle.shore_cycles.proofs.VictimLemmas.{first_In, first_victim, later_spared}
+use Rattle.shore_cycles.proofs.Walks.{member_waits}
 
 -- ---- one request less
 

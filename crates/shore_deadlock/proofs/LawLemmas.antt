@@ -13,11 +13,11 @@ use Rattle.shore_locks.specs.Grants.{after_grant, after_request, after_try, answ
 use Rattle.shore_locks.proofs.Members.{In-Contains}
 use Rattle.shore_locks.proofs.Entering.{Fit-put, In-put, none_waits}
 use Rattle.shore_locks.proofs.Tables.{fit_of}
-use Rattle.shore_deadlock.specs.Cycles.{IsOnEachCycle}
-use Rattle.shore_deadlock.proofs.Edges.{edge_of}
-use Rattle.shore_deadlock.proofs.Changes.{others-placed, others-put, pass_adds_none, waiter_wants}
-use Rattle.shore_deadlock.proofs.Walks.{cycle_apart, free_of_fewer, member_or_not, member_waits}
-use Rattle.shore_deadlock.proofs.Steps.{cancelled_adds_none, released_adds_none}
+use Rattle.shore_cycles.specs.Cycles.{IsOnEachCycle}
+use Rattle.shore_cycles.proofs.Edges.{edge_of}
+use Rattle.shore_cycles.proofs.Changes.{others-placed, others-put, pass_adds_none, waiter_wants}
+use Rattle.shore_cycles.proofs.Walks.{cycle_apart, free_of_fewer, member_or_not, member_waits}
+use Rattle.shore_cycles.proofs.Steps.{cancelled_adds_none, released_adds_none}
 use Rattle.shore_locks.proofs.Fits.{Fit, wants_nothing}
 
 pub cancel_keeps_free : (rs : List Request) (t : ℕ) → IsOrderly rs → HasNoCycle rs → HasNoCycle (cancelled t rs)

@@ -19,8 +19,8 @@ use Rattle.shore_path.specs.declared.answers.Acquired.TheVariants as acquire
 use Rattle.shore_path.specs.declared.answers.OnConflict.TheVariants.{Wait}
 use Rattle.shore_path.proofs.Acquiring.{told_none_weaker, told_others, told_rooted, told_waiting}
 use Rattle.shore_deadlock.specs.declared.locking.Locked.{Locked}
-use Rattle.shore_deadlock.specs.declared.victims.Victim.{Victim}
-use Rattle.shore_deadlock.specs.Cycles.{IsOnEachCycle}
+use Rattle.shore_cycles.specs.declared.victims.Victim.{Victim}
+use Rattle.shore_cycles.specs.Cycles.{IsOnEachCycle}
 use Rattle.shore_deadlock.specs.Locking.{Ends, IsLetWait, Keeps, OnlyGrantsOthers, Settles}
 use Rattle.shore_deadlock.proofs.AcquireLemmas.{allowed_case}
 use Rattle.shore_deadlock.proofs.Lockings.{IsGentle, acquire_each, acquire_free, gentle_acquire, keeps_of}

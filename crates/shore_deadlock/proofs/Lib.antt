@@ -1,16 +1,4 @@
-pub mod MarkLemmas
-pub mod ReachedSteps
-pub mod Edges
-pub mod Changes
-pub mod Walks
-pub mod Steps
 pub mod LawLemmas
-pub mod Fewer
-mod Idle
-pub mod ReachedLemmas
-pub mod Ahead
-pub mod Searches
-pub mod VictimLemmas
 pub mod AcquireLemmas
 pub mod Counting
 pub mod Lockings

@@ -24,17 +24,17 @@ use Rattle.shore_path.specs.declared.answers.Acquired.TheVariants as acquire
 use Rattle.shore_path.specs.declared.answers.OnConflict.TheVariants.{Wait}
 use Rattle.shore_path.proofs.Freeing.{rooted_cancelled, weaker_cancelled}
 use Rattle.shore_path.proofs.Intentions.{are_rooted, rooted_of}
-use Rattle.shore_deadlock.specs.declared.victims.Victim.{Victim}
-use Rattle.shore_deadlock.specs.Blockers.{is_victim}
-use Rattle.shore_deadlock.specs.Cycles.{AreVictims, IsOnEachCycle, IsOnNoCycleWithout, after_victims}
+use Rattle.shore_cycles.specs.declared.victims.Victim.{Victim}
+use Rattle.shore_cycles.specs.Blockers.{is_victim}
+use Rattle.shore_cycles.specs.Cycles.{AreVictims, IsOnEachCycle, IsOnNoCycleWithout, after_victims}
 use Rattle.shore_deadlock.specs.Locking.{IsBroken, Keeps, others_waiting}
 use Rattle.shore_deadlock.proofs.AcquireLemmas.{acquire_closes}
 use Rattle.shore_deadlock.proofs.Counting.{count_acquired, count_victims}
-use Rattle.shore_deadlock.proofs.Edges.{clash}
-use Rattle.shore_deadlock.proofs.Steps.{cancelled_adds_none, cancelled_keeps_quiet}
-use Rattle.shore_deadlock.proofs.VictimLemmas.{after_adds_none, none_left, victim_quiet}
-use Rattle.shore_deadlock.proofs.Walks.{cycle_as, member_waits}
-use Rattle.shore_deadlock.proofs.Steps.{quiet_waits_not}
+use Rattle.shore_cycles.proofs.Edges.{clash}
+use Rattle.shore_cycles.proofs.Steps.{cancelled_adds_none, cancelled_keeps_quiet}
+use Rattle.shore_cycles.proofs.VictimLemmas.{after_adds_none, none_left, victim_quiet}
+use Rattle.shore_cycles.proofs.Walks.{cycle_as, member_waits}
+use Rattle.shore_cycles.proofs.Steps.{quiet_waits_not}
 
 -- ---- victims that are told behind others
 

@@ -17,9 +17,9 @@ use Rattle.shore_path.specs.declared.answers.Acquired.TheVariants as acquire
 use Rattle.shore_path.specs.declared.answers.OnConflict.TheVariants.{Wait}
 use Rattle.shore_deadlock.specs.declared.locking.Locked.{Locked}
 use Rattle.shore_deadlock.specs.declared.locking.Locked.TheVariants as locked
-use Rattle.shore_deadlock.specs.declared.victims.Victim.{Victim}
-use Rattle.shore_deadlock.specs.Blockers.{is_victim}
-use Rattle.shore_deadlock.specs.Cycles.{IsOnEachCycle}
+use Rattle.shore_cycles.specs.declared.victims.Victim.{Victim}
+use Rattle.shore_cycles.specs.Blockers.{is_victim}
+use Rattle.shore_cycles.specs.Cycles.{IsOnEachCycle}
 use Rattle.shore_deadlock.specs.Locking.{Acquires, AnswersBroken, AreRounds, Ends, IsBroken, IsLetThrough, IsRound, Keeps, Settles, others_waiting}
 use Rattle.shore_deadlock.proofs.Lockings.{IsGentle, fewer_broken, keeps_broken, keeps_cancelled}
 

@@ -23,12 +23,12 @@ use Rattle.shore_path.proofs.Kept.{fit_after}
 use Rattle.shore_path.proofs.Walking.{walk_on}
 use Rattle.shore_deadlock.specs.declared.locking.Locked.{Locked}
 use Rattle.shore_deadlock.specs.declared.locking.Locked.TheVariants as locked
-use Rattle.shore_deadlock.specs.declared.victims.Victim.{Victim}
-use Rattle.shore_deadlock.specs.Blockers.{is_victim}
-use Rattle.shore_deadlock.specs.Cycles.{after_victims}
+use Rattle.shore_cycles.specs.declared.victims.Victim.{Victim}
+use Rattle.shore_cycles.specs.Blockers.{is_victim}
+use Rattle.shore_cycles.specs.Cycles.{after_victims}
 use Rattle.shore_deadlock.specs.Locking.{Acquires, AreRounds, Ends, IsRound, OnlyGrantsOthers, Settles}
 use Rattle.shore_deadlock.proofs.AcquireLemmas.{allowed_case}
-use Rattle.shore_deadlock.proofs.Edges.{clash}
+use Rattle.shore_cycles.proofs.Edges.{clash}
 use Rattle.shore_deadlock.proofs.Sparing.{AreAmong, Spares, spares_acquired, spares_cancelled, spares_more, spares_on, spares_self, spares_victims}
 
 fit_acquired : (table : Table) (t : ℕ) (target : Granule) (mode : Mode) → Fit table.requests → is_waiting t table.requests ≡ false → Fit (acquired Wait table t target mode).requests

@@ -20,13 +20,13 @@ use Rattle.shore_path.specs.Walks.{acquired, asked_of}
 use Rattle.shore_path.proofs.Growing.{Fit-grant, quiet_grant}
 use Rattle.shore_path.proofs.Moving.{Onto, onto_placed, onto_put, onto_replaced}
 use Rattle.shore_path.proofs.Walking.{EachCase, of_walk, walk_on}
-use Rattle.shore_deadlock.specs.declared.victims.Victim.{Victim}
-use Rattle.shore_deadlock.specs.Blockers.{is_victim}
-use Rattle.shore_deadlock.specs.Cycles.{after_victims}
+use Rattle.shore_cycles.specs.declared.victims.Victim.{Victim}
+use Rattle.shore_cycles.specs.Blockers.{is_victim}
+use Rattle.shore_cycles.specs.Cycles.{after_victims}
 use Rattle.shore_deadlock.proofs.AcquireLemmas.{allowed_case}
-use Rattle.shore_deadlock.proofs.Edges.{clash}
-use Rattle.shore_deadlock.proofs.Steps.{waits_as}
-use Rattle.shore_deadlock.proofs.VictimLemmas.{first_victim, later_spared}
+use Rattle.shore_cycles.proofs.Edges.{clash}
+use Rattle.shore_cycles.proofs.Steps.{waits_as}
+use Rattle.shore_cycles.proofs.VictimLemmas.{first_victim, later_spared}
 
 -- a request is there as it was or, if it waited, with what it wanted held
 abbrev Stays : Request → List Request → Type 0

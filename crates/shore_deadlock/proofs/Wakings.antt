@@ -15,8 +15,8 @@ use Rattle.shore_locks.proofs.Entering.{none_waits}
 use Rattle.shore_locks.proofs.Tables.{fit_of, orderly_cancelled, orderly_given_up}
 use Rattle.shore_path.proofs.Holding.{held_as}
 use Rattle.shore_path.proofs.Moving.{onto_replaced}
-use Rattle.shore_deadlock.proofs.Changes.{IsNext, next_in, pass_goes}
-use Rattle.shore_deadlock.proofs.Steps.{waits_as}
+use Rattle.shore_cycles.proofs.Changes.{IsNext, next_in, pass_goes}
+use Rattle.shore_cycles.proofs.Steps.{waits_as}
 
 -- a request is there as it was, or with what it wanted held
 abbrev Fate : Request → List Request → Type 0

@@ -1,6 +1,1 @@
-pub mod Marks
-pub mod Blockers
-pub mod Reached
-pub mod Cycles
-pub mod Searching
 pub mod Locking

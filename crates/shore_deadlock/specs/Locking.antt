@@ -17,9 +17,9 @@ use Rattle.shore_path.specs.declared.answers.Acquired.TheVariants as acquire
 use Rattle.shore_path.specs.declared.answers.OnConflict.TheVariants.{Wait}
 use Rattle.shore_deadlock.specs.declared.locking.Locked.{Locked}
 use Rattle.shore_deadlock.specs.declared.locking.Locked.TheVariants as locked
-use Rattle.shore_deadlock.specs.declared.victims.Victim.{Victim}
-use Rattle.shore_deadlock.specs.Blockers.{is_victim}
-use Rattle.shore_deadlock.specs.Cycles.{AreVictims, IsOnNoCycle, after_victims}
+use Rattle.shore_cycles.specs.declared.victims.Victim.{Victim}
+use Rattle.shore_cycles.specs.Blockers.{is_victim}
+use Rattle.shore_cycles.specs.Cycles.{AreVictims, IsOnNoCycle, after_victims}
 
 -- the acquire comes to this answer and these requests
 abbrev pub Acquires : Table → ℕ → Granule → Mode → Result Acquired Fault → List Request → Type 0

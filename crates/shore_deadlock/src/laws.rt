@@ -13,8 +13,8 @@ ghost use Rattle.shore_path.specs.declared.answers.OnConflict.{OnConflict};
 ghost use Rattle.shore_path.specs.Acquires.{NoneWeaker};
 ghost use Rattle.shore_path.specs.Rooted.{AreRooted};
 ghost use Rattle.shore_path.specs.Walks.{acquired};
-ghost use Rattle.shore_deadlock.specs.declared.victims.Victim.{Victim};
-ghost use Rattle.shore_deadlock.specs.Cycles.{IsOnEachCycle, after_victims};
+ghost use Rattle.shore_cycles.specs.declared.victims.Victim.{Victim};
+ghost use Rattle.shore_cycles.specs.Cycles.{IsOnEachCycle, after_victims};
 
 /// If a transaction waits no more, nobody waits for somebody for whom he did not wait before.
 pub fn cancel_adds_no_wait()

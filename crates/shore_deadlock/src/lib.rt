@@ -1,14 +1,8 @@
-//! Deadlocks: cycles of transactions that wait for one another, and the victims that break them.
+//! Deadlocks: the call that takes a lock and breaks the cycles of waits that it closes, and laws of waits and of cycles.
 #![tactic(auto)]
 
-mod blockers;
 pub mod laws;
 pub mod locking;
-mod marks;
-mod reached;
-pub mod search;
-pub mod victims;
 
 pub use locking::{Locked, Reply, lock, settle};
-pub use search::find_cycle;
-pub use victims::{Victim, break_cycles};
+pub use shore_cycles::{Victim, break_cycles, find_cycle};

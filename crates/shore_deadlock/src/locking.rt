@@ -6,12 +6,12 @@ ghost use Rattle.shore_model.specs.Requests.{HasNoCycle};
 ghost use Rattle.shore_locks.specs.Grants.{cancelled};
 ghost use Rattle.shore_locks.specs.Tables.{Table, is_waiting, waiting_request};
 ghost use Rattle.shore_path.specs.Acquires.{IsReached};
-ghost use Rattle.shore_deadlock.specs.Blockers as blockers;
-ghost use Rattle.shore_deadlock.specs.Cycles.{IsOnEachCycle};
+ghost use Rattle.shore_cycles.specs.Blockers as blockers;
+ghost use Rattle.shore_cycles.specs.Cycles.{IsOnEachCycle};
 ghost use Rattle.shore_deadlock.specs.Locking.{AnswersBroken, Ends, IsBroken, IsLetThrough, IsLetWait, Keeps, OnlyGrantsOthers, Settles, others_waiting};
-ghost use Rattle.shore_deadlock.specs.declared.victims.Victim.{Victim as VictimData};
+ghost use Rattle.shore_cycles.specs.declared.victims.Victim.{Victim as VictimData};
 
-use crate::victims::{Victim, choose, is_victim, take_back};
+use shore_cycles::{Victim, choose, is_victim, take_back};
 use shore_locks::LockTable;
 use shore_locks::laws::tables_are_orderly;
 use shore_path::{Acquired, OnConflict, acquire};

@@ -1,6 +1,6 @@
 -- The front of a log device, in parts.
-use Rattle.std.proofs.Common.{◌≡◌, inl, inr, true, ◌&&◌, ◌==◌, ℕ, zero, suc, ◌+◌, ◌-◌, ◌^◌, ◌<◌, ◌≤◌, List, [], ◌∷◌, ◌++◌, length, take, drop, replicate, slice_index, Result, refl, sym, ◌∙◌, ap, subst, arith, append_assoc, length-append}
-use Rattle.std.proofs.lemmas.Bool.{cases_eq, and_parts, eqb-true}
+use Rattle.std.proofs.Common.{◌≡◌, inl, inr, ℕ, zero, suc, ◌+◌, ◌-◌, ◌^◌, ◌<◌, ◌≤◌, List, [], ◌∷◌, ◌++◌, length, take, drop, replicate, slice_index, Result, refl, sym, ◌∙◌, ap, subst, arith, append_assoc, length-append}
+use Rattle.std.proofs.lemmas.Bool.{cases_eq}
 use Rattle.std.proofs.lemmas.List.{take_at, take_all, take-take, drop_at, drop-drop, drop-take, length-replicate}
 use Rattle.shore_types.specs.declared.faults.Device.TheVariants.{Log}
 use Rattle.shore_types.specs.declared.layout.Geometry.{Geometry}
@@ -9,15 +9,14 @@ use Rattle.shore_disk.specs.Device.{History, overwritten, Torn, TornFrom, Writes
 use Rattle.shore_disk.proofs.Images.{overwritten-append}
 use Rattle.shore_disk.proofs.Moments.{at_end, started, joined, widened, write_leaves}
 use Rattle.shore_gate.specs.declared.gates.TheConstants.{OPEN, CLOSED}
-use Rattle.shore_gate.specs.declared.anchors.Anchor.{Anchor}
-use Rattle.shore_gate.specs.declared.anchors.Anchors.{Anchors}
 use Rattle.shore_gate.specs.declared.anchors.Slot.{Slot}
 use Rattle.shore_gate.specs.declared.anchors.Slot.TheVariants.{A, B}
 use Rattle.shore_gate.specs.declared.labels.Label.{Label}
 use Rattle.shore_gate.specs.Label.{HoldsLabel, label_bytes}
-use Rattle.shore_gate.specs.Anchor.{Counts, HoldsAnchor, IsOlder, MayCount, anchor_bytes, other_of, slot_bytes}
+use Rattle.shore_gate.specs.Anchor.{HoldsAnchor, IsOlder, anchor_bytes, other_of, slot_bytes}
 use Rattle.shore_gate.proofs.WidthLemmas.{length-label_bytes, length-anchor_bytes}
-use Rattle.shore_format.specs.Fronts.{IsLogLength, log_label, first_anchor, is_first, HasFront, LogStandsFor, behind_label, IsShut, LeftByFormat}
+use Rattle.shore_fronts.specs.Fronts.{HasFront, IsLogLength, first_anchor, log_label}
+use Rattle.shore_format.specs.Fronts.{LogStandsFor, behind_label, IsShut, LeftByFormat}
 
 -- zeros up to a length
 pub filled : (bytes : List ℕ) (n m len : ℕ) → length bytes ≡ m → len ≡ m → m ≤ n → take n bytes ++ replicate (n - len) 0 ≡ bytes ++ replicate (n - m) 0
@@ -179,25 +178,6 @@ module _ (Made : List ℕ → Type 0) where
   pub opening : (a b c : History) (rest : List ℕ) → LeavesOnly a b (LeftByFormat Made a) → Stands b (CLOSED ∷ rest) → Made (OPEN ∷ rest) → LeavesOnly b c (TornFrom 0 1 b) → LeavesOnly a c (LeftByFormat Made a)
   opening a b c rest one stands made two =
       joined a b c (LeftByFormat Made a) one (widened b c (TornFrom 0 1 b) (LeftByFormat Made a) two (λ i torn. gate_torn a rest i made (subst (λ d. Torn 0 1 d i) (stands.only torn.0 torn.1) torn.2)))
-
--- ---- what is read of a front
-
-the_first : (anchor : Anchor) → MayCount anchor → is_first anchor ≡ true → anchor ≡ first_anchor
-the_first anchor limits is =
-    let p = and_parts (anchor.checkpoint == 0 && anchor.tail == 1) (anchor.tail_place == 0) is in
-    let q = and_parts (anchor.checkpoint == 0) (anchor.tail == 1) p.0 in
-    let checkpoint : anchor.checkpoint ≡ 0 = eqb-true anchor.checkpoint 0 q.0 in
-    let tail : anchor.tail ≡ 1 = eqb-true anchor.tail 1 q.1 in
-    let offset : anchor.tail_place ≡ 0 = eqb-true anchor.tail_place 0 p.1 in
-    let sequence : anchor.sequence ≡ 1 = omega (arith, limits.some_sequence, limits.most_sequence, checkpoint) in
-    let made : (a b c d : ℕ) → Anchor = λ a b c d. record { sequence = a; checkpoint = b; tail = c; tail_place = d } in
-    ap (λ n. made n anchor.checkpoint anchor.tail anchor.tail_place) sequence ∙ ap (λ n. made 1 n anchor.tail anchor.tail_place) checkpoint ∙ ap (λ n. made 1 0 n anchor.tail_place) tail ∙ ap (λ n. made 1 0 1 n) offset
-
-pub counts_first : (image : List ℕ) (slot : Slot) (anchor : Anchor) → Counts image slot anchor → is_first anchor ≡ true → Counts image slot first_anchor
-counts_first image slot anchor counts is = subst (Counts image slot) (the_first anchor counts.limits is) counts
-
-pub first_found : (a : Anchors) (slot : Slot) → a ≡ record { slot = slot; anchor = first_anchor } → is_first a.anchor ≡ true
-first_found a slot is = ap (λ (x : Anchors). is_first x.anchor) is
 
 -- ---- the front of another image
 

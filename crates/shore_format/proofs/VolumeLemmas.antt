@@ -1,17 +1,16 @@
--- An empty volume, in parts, and the labels of a pair.
+-- An empty volume, in parts.
 use Rattle.std.proofs.Common.{◌≡◌, inl, inr, ℕ, suc, ◌+◌, ◌*◌, ◌^◌, ◌<◌, ◌≤◌, List, [], ◌∷◌, ◌++◌, length, take, drop, Result, Ok, refl, sym, ◌∙◌, ap, subst, arith}
 use Rattle.std.proofs.lemmas.Bool.{cases_lt}
 use Rattle.std.proofs.lemmas.List.{take_at, drop-drop}
-use Rattle.shore_types.specs.declared.faults.Device.TheVariants.{Log, Volume}
+use Rattle.shore_types.specs.declared.faults.Device.TheVariants.{Volume}
 use Rattle.shore_types.specs.declared.ids.PageId.{PageId}
 use Rattle.shore_types.specs.declared.layout.Geometry.{Geometry}
 use Rattle.shore_types.specs.Layout.{HasPage, IsInLimits}
-use Rattle.shore_disk.specs.Device.{History, size, seen, noted, wrote, may_leave, Stands, overwritten, Writes, LeavesOnly}
+use Rattle.shore_disk.specs.Device.{History, seen, noted, wrote, may_leave, Stands, overwritten, Writes, LeavesOnly}
 use Rattle.shore_disk.proofs.Images.{overwritten-append}
 use Rattle.shore_disk.proofs.Moments.{at_end, joined, started}
 use Rattle.shore_gate.specs.declared.gates.TheConstants.{OPEN, CLOSED}
-use Rattle.shore_gate.specs.declared.labels.Label.{Label}
-use Rattle.shore_gate.specs.Label.{HasLabel, HoldsLabel, label_bytes}
+use Rattle.shore_gate.specs.Label.{label_bytes}
 use Rattle.shore_gate.proofs.WidthLemmas.{length-label_bytes}
 use Rattle.shore_page.specs.Text.{IsPageText}
 use Rattle.shore_dwrite.specs.Volumes.{page_at, page_number, page_offset, part}
@@ -19,27 +18,10 @@ use Rattle.shore_dwrite.proofs.Moves.{write_more}
 use Rattle.shore_dwrite.proofs.Numbers.{one_page}
 use Rattle.shore_dwrite.proofs.Overwrites.{length-overwritten, take_below, part_front, part_here, take_again, take_less}
 use Rattle.shore_dwrite.proofs.PageWrites.{page_here, page_beside}
-use Rattle.shore_format.specs.Fronts.{IsShut, log_label}
-use Rattle.shore_format.specs.Pairs.{ArePaired}
-use Rattle.shore_format.specs.Volumes.{HasEmptyPages, IsEmptyBehind, IsEmptyVolume, volume_bytes, volume_label}
+use Rattle.shore_fronts.specs.Volumes.{volume_bytes, volume_label}
+use Rattle.shore_format.specs.Fronts.{IsShut}
+use Rattle.shore_format.specs.Volumes.{HasEmptyPages, IsEmptyBehind, IsEmptyVolume}
 use Rattle.shore_format.proofs.FrontLemmas.{label_leaves, shut_torn}
-
--- ---- the labels of a pair
-
-abbrev pub geometry_of : Label → Geometry
-geometry_of label = record { pair = label.pair; max_locks = label.max_locks; stores = label.stores }
-
-abbrev made : Geometry → ℕ → Label
-made g n = record { pair = g.pair; length = n; max_locks = g.max_locks; stores = g.stores }
-
-pub paired : (log volume : History) (a b : Label) → HasLabel Log log a → HasLabel Volume volume b → geometry_of b ≡ geometry_of a → ArePaired (geometry_of a) log volume
-paired log volume a b of_log of_volume same =
-    let log_is : a ≡ log_label (geometry_of a) (size log) = ap (made (geometry_of a)) of_log.limits.of_device in
-    let long : b.length ≡ volume_bytes (geometry_of b) = of_volume.limits.of_device ∙ of_volume.limits.as_long in
-    let volume_is : b ≡ volume_label (geometry_of a) = ap (made (geometry_of b)) long ∙ ap volume_label same in (
-      subst (HoldsLabel Log (size log) (take 512 (seen log))) log_is of_log,
-      subst (HasLabel Volume volume) volume_is of_volume,
-    )
 
 -- ---- the label and the gate of the area
 

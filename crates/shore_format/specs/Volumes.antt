@@ -1,22 +1,13 @@
 -- A volume as a format leaves it: its label, a shut double-write area, and every page empty.
-use Rattle.std.specs.Prelude.{◌≡◌, ℕ, ◌+◌, ◌-◌, ◌*◌, List, [], ◌∷◌, length, take}
+use Rattle.std.specs.Prelude.{◌≡◌, ℕ, ◌+◌, ◌-◌, List, [], ◌∷◌, length, take}
 use Rattle.shore_types.specs.declared.faults.Device.TheVariants.{Volume}
 use Rattle.shore_types.specs.declared.layout.Geometry.{Geometry}
-use Rattle.shore_types.specs.declared.layout.TheConstants.{PAGE_BYTES}
-use Rattle.shore_gate.specs.declared.labels.Label.{Label}
 use Rattle.shore_gate.specs.declared.gates.TheConstants.{CLOSED}
 use Rattle.shore_gate.specs.Label.{HoldsLabel, label_bytes}
 use Rattle.shore_dwrite.specs.declared.places.TheConstants.{GATE_AT, PAGES_AT}
 use Rattle.shore_dwrite.specs.Shown.{IsShut}
-use Rattle.shore_dwrite.specs.Volumes.{AreEmpty, page_at, page_count, part}
-
--- how long a volume of this geometry is
-abbrev pub volume_bytes : Geometry → ℕ
-volume_bytes g = PAGES_AT + PAGE_BYTES * page_count g
-
--- its label
-abbrev pub volume_label : Geometry → Label
-volume_label g = record { pair = g.pair; length = volume_bytes g; max_locks = g.max_locks; stores = g.stores }
+use Rattle.shore_dwrite.specs.Volumes.{AreEmpty, page_at, part}
+use Rattle.shore_fronts.specs.Volumes.{volume_bytes, volume_label}
 
 -- its pages are empty, and the bytes before the pages are those of another image
 pub record HasEmptyPages (g : Geometry) (before image : List ℕ) : Type 0 where

@@ -5,12 +5,12 @@ ghost use Rattle.shore_disk.specs.Device.{size, LeavesOnly, Stands};
 ghost use Rattle.shore_types.specs.declared.layout.TheConstants.{LOG_FRONT_BYTES};
 ghost use Rattle.shore_gate.specs.Checks.{IsFromOutside};
 ghost use Rattle.shore_gate.specs.Label.{label_bytes};
-ghost use Rattle.shore_format.specs.Fronts.{IsLogLength, IsShut, behind_label, log_label};
+ghost use Rattle.shore_fronts.specs.Fronts.{IsLogLength, log_label};
+ghost use Rattle.shore_format.specs.Fronts.{IsShut, behind_label};
 
 use shore_disk::{Disk, write_synced};
 use shore_gate::{Anchor, CLOSED, LABEL_BYTES, Label, OPEN, write_label};
-use shore_log::STREAM;
-use shore_types::layout::{MAX_LOG_BYTES, MIN_LOG_BYTES};
+use shore_types::layout::{LOG_FRONT_BYTES, MAX_LOG_BYTES, MIN_LOG_BYTES};
 use shore_types::{Device, Fault, Geometry, Lsn};
 use std::alloc::{AllocError, Global};
 
@@ -19,7 +19,7 @@ const ANCHOR_A: usize = 1024 - LABEL_BYTES;
 
 const ANCHOR_B: usize = 2048 - LABEL_BYTES;
 
-const STREAM_GATE: usize = STREAM as usize - LABEL_BYTES;
+const STREAM_GATE: usize = LOG_FRONT_BYTES as usize - LABEL_BYTES;
 
 /// The label of a log device of this length.
 pub fn log_label(alloc: Global, geometry: &Geometry, length: u64) -> Result<Label, AllocError>

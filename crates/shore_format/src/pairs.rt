@@ -1,18 +1,20 @@
 //! Formatting a pair of devices.
-ghost use Rattle.std.specs.Prelude.{◌≡◌, ◌≢◌, ℕ, List, [], IsTrue, IfErr, OnOk, Err};
+ghost use Rattle.std.specs.Prelude.{◌≡◌, ◌≢◌, ◌<◌, ◌^◌, ◌↔◌, ℕ, List, [], IsTrue, IfErr, OnOk, Err, Some, None};
 ghost use Rattle.shore_disk.specs.Device.{size, may_leave, LeavesOnly};
 ghost use Rattle.shore_types.specs.Layout.{IsInLimits, LocksInLimits, StoresInLimits};
 ghost use Rattle.shore_gate.specs.Checks.{IsFromOutside};
-ghost use Rattle.shore_format.specs.Causes.{HasCauseOfPair};
+ghost use Rattle.shore_fronts.specs.Causes.{HasCauseOfPair};
+ghost use Rattle.shore_fronts.specs.Fronts.{IsLogLength, log_label};
+ghost use Rattle.shore_fronts.specs.Volumes.{volume_bytes, volume_label};
 ghost use Rattle.shore_format.specs.Faults.{bad_setting};
-ghost use Rattle.shore_format.specs.Fronts.{IsLogLength, LeftByFormat, LogStandsFor};
+ghost use Rattle.shore_format.specs.Fronts.{LeftByFormat, LogStandsFor};
 ghost use Rattle.shore_format.specs.Pairs.{AreFormatted};
-ghost use Rattle.shore_format.specs.Volumes.{IsEmptyVolume, volume_bytes};
+ghost use Rattle.shore_format.specs.Volumes.{IsEmptyVolume};
 
 use crate::log::{is_log_length, log_label, write_log};
 use crate::volume::{volume_bytes, volume_label, write_volume};
 use shore_disk::Disk;
-use shore_gate::{close_gate, open_gate};
+use shore_gate::{Label, close_gate, open_gate};
 use shore_types::{ConfigPlace, Fault, Geometry, Setting};
 use std::alloc::Global;
 
@@ -55,22 +57,66 @@ pub fn format<L: Disk, V: Disk>(
     ensures size { (size (L.history log.new) ≡ size (L.history log.old)) × (size (V.history volume.new) ≡ size (V.history volume.old)) }
     ensures cause { HasCauseOfPair result (L.faults log.old) (L.faults log.new) (V.faults volume.old) (V.faults volume.new) }
 {
-    let length = log.len();
-    if !is_log_length(length) {
-        return Err(bad(Setting::LogBytes));
-    }
-    if let Some(setting) = geometry.outside_limits() {
+    if let Some(setting) = refused_setting(log.len(), volume.len(), geometry) {
         return Err(bad(setting));
     }
-    if volume.len() != volume_bytes(geometry) {
-        return Err(bad(Setting::VolumeBytes));
-    }
-    let of_log = log_label(alloc, geometry, length)?;
+    let of_log = log_label(alloc, geometry, log.len())?;
     let of_volume = volume_label(alloc, geometry)?;
+    write_pair(alloc, log, volume, geometry, &of_log, &of_volume)
+}
+
+// The first setting that devices of these lengths may not be formatted with.
+fn refused_setting(log_length: u64, volume_length: u64, geometry: &Geometry) -> Option<Setting>
+    ensures none { (result ≡ None) ↔ (IsLogLength log_length × IsInLimits geometry.now × (volume_length ≡ volume_bytes geometry.now)) }
+    ensures log_length { ¬ IsLogLength log_length → result ≡ Some Setting.LogBytes }
+    ensures stores { IsLogLength log_length → ¬ StoresInLimits geometry.now → result ≡ Some Setting.Stores }
+    ensures locks { IsLogLength log_length → StoresInLimits geometry.now → ¬ LocksInLimits geometry.now → result ≡ Some Setting.MaxLocks }
+    ensures volume_length { IsLogLength log_length → IsInLimits geometry.now → volume_length ≢ volume_bytes geometry.now
+        → result ≡ Some Setting.VolumeBytes }
+{
+    if !is_log_length(log_length) {
+        return Some(Setting::LogBytes);
+    }
+    if let Some(setting) = geometry.outside_limits() {
+        return Some(setting);
+    }
+    if volume_length != volume_bytes(geometry) {
+        return Some(Setting::VolumeBytes);
+    }
+    None
+}
+
+// Writes both devices behind closed gates, and opens these, the log's last. The labels are lent, so that no way out drops one.
+fn write_pair<L: Disk, V: Disk>(
+    alloc: Global,
+    log: &mut L,
+    volume: &mut V,
+    geometry: &Geometry,
+    of_log: &Label,
+    of_volume: &Label,
+) -> Result<(), Fault>
+    requires log_length { IsLogLength (size (L.history log.old)) }
+    requires limits { IsInLimits geometry.now }
+    requires pair { geometry.now.pair < 2 ^ 64 }
+    requires volume_length { size (V.history volume.old) ≡ volume_bytes geometry.now }
+    requires of_log { of_log.now ≡ log_label geometry.now (size (L.history log.old)) }
+    requires of_volume { of_volume.now ≡ volume_label geometry.now }
+    ensures formatted { IsTrue (L.is_honest log.old) → IsTrue (V.is_honest volume.old)
+        → OnOk result ((log_image volume_image : List ℕ) → may_leave (L.history log.new) log_image → may_leave (V.history volume.new) volume_image
+        → AreFormatted geometry.now (size (L.history log.old)) (size (V.history volume.old)) log_image volume_image) }
+    ensures any_log { IsTrue (L.is_honest log.old)
+        → LeavesOnly (L.history log.old) (L.history log.new) (LeftByFormat (LogStandsFor geometry.now (size (L.history log.old)) []) (L.history log.old)) }
+    ensures any_volume { IsTrue (V.is_honest volume.old)
+        → LeavesOnly (V.history volume.old) (V.history volume.new) (LeftByFormat (IsEmptyVolume geometry.now (size (V.history volume.old))) (V.history volume.old)) }
+    ensures outside { IfErr result IsFromOutside }
+    ensures honest { (L.is_honest log.new ≡ L.is_honest log.old) × (V.is_honest volume.new ≡ V.is_honest volume.old) }
+    ensures size { (size (L.history log.new) ≡ size (L.history log.old)) × (size (V.history volume.new) ≡ size (V.history volume.old)) }
+    ensures cause { HasCauseOfPair result (L.faults log.old) (L.faults log.new) (V.faults volume.old) (V.faults volume.new) }
+{
     close_gate(log, GATE)?;
     close_gate(volume, GATE)?;
-    write_log(alloc, log, &of_log)?;
-    write_volume(alloc, volume, geometry, &of_volume)?;
+    write_log(alloc, log, of_log)?;
+    write_volume(alloc, volume, geometry, of_volume)?;
     open_gate(volume, GATE)?;
     open_gate(log, GATE)?;
     Ok(())

@@ -6,7 +6,8 @@ ghost use Rattle.shore_types.specs.Layout.{IsInLimits};
 ghost use Rattle.shore_gate.specs.declared.gates.TheConstants.{CLOSED};
 ghost use Rattle.shore_gate.specs.Checks.{IsFromOutside};
 ghost use Rattle.shore_format.specs.Fronts.{IsShut};
-ghost use Rattle.shore_format.specs.Volumes.{HasEmptyPages, IsEmptyBehind, volume_bytes, volume_label};
+ghost use Rattle.shore_fronts.specs.Volumes.{volume_bytes, volume_label};
+ghost use Rattle.shore_format.specs.Volumes.{HasEmptyPages, IsEmptyBehind};
 
 use shore_disk::Disk;
 use shore_dwrite::{GATE_AT, page_count, page_of, page_offset};

@@ -8,11 +8,11 @@ use Rattle.shore_disk.proofs.Images.{overwritten-append}
 use Rattle.shore_gate.specs.declared.gates.TheConstants.{OPEN}
 use Rattle.shore_logrec.specs.Text.{texts}
 use Rattle.shore_model.specs.declared.log_records.LogRecord.{LogRecord}
-use Rattle.shore_log.specs.Frames.{AreNumbered, IsGroup, IsLongest, behind_gate, Frames, GivesBehind, GivesWithOrWithout, text, number_behind, AreGroups, joined}
+use Rattle.shore_frames.specs.Frames.{AreNumbered, IsGroup, IsLongest, behind_gate, Frames, GivesBehind, GivesWithOrWithout, text, number_behind, AreGroups, joined}
 use Rattle.shore_log.specs.Settled.{IsSettled, IsStaged, stable, waiting}
 use Rattle.shore_log.specs.declared.device.LogDev.{LogDev}
-use Rattle.shore_log.proofs.LoggedLemmas.{AreNumbered-test, AreNumbered-drop, IsGroup-longest, length-stable}
-use Rattle.shore_log.proofs.FrameLemmas.{AreGroups-push, closed_behind, text-push, joined-push, number_behind-joined, parts_of}
+use Rattle.shore_frames.proofs.LoggedLemmas.{AreNumbered-test, AreNumbered-drop, IsGroup-longest, length-stable}
+use Rattle.shore_frames.proofs.FrameLemmas.{AreGroups-push, closed_behind, text-push, joined-push, number_behind-joined, parts_of}
 
 module _ (front : List ℕ) (long : length front ≡ 4096) (gs : List (List LogRecord)) (offset : ℕ) (offset_is : offset ≡ length (text 1 gs)) where
   -- an image with these frames, and then the rest

@@ -1,7 +1,1 @@
-pub mod FrameLemmas
 pub mod ForceLemmas
-pub mod LoggedLemmas
-pub mod ReadLemmas
-pub mod OffsetLemmas
-pub mod StreamLemmas
-pub mod WalkLemmas

@@ -7,7 +7,7 @@ use Rattle.shore_types.specs.declared.faults.Fault.{Fault}
 use Rattle.shore_types.specs.declared.layout.TheConstants.{LOG_FRONT_BYTES}
 use Rattle.shore_model.specs.declared.log_records.LogRecord.{LogRecord}
 use Rattle.shore_logrec.specs.Text.{texts}
-use Rattle.shore_log.specs.Frames.{behind_gate, text, AreGroups, IsLongest, joined}
+use Rattle.shore_frames.specs.Frames.{behind_gate, text, AreGroups, IsLongest, joined}
 use Rattle.shore_log.specs.declared.device.LogDev.{LogDev}
 
 -- every record, in the order of their numbers

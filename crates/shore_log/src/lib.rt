@@ -4,10 +4,8 @@
 
 mod device;
 mod group;
-mod reading;
 mod tail;
 
 pub use device::{Durable, LogDev, STREAM};
-pub use reading::damaged;
 pub use shore_logrec::{LogRecord, Payload};
 pub use tail::{PlainTail, Tail};

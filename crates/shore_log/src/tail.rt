@@ -3,7 +3,7 @@ ghost use Rattle.std.specs.Prelude.{◌≡◌, ◌+◌, ◌<◌, ◌≤◌, ◌^
 ghost use Rattle.shore_types.specs.declared.faults.Fault.TheVariants as fault;
 ghost use Rattle.shore_model.specs.declared.log_records.LogRecord.{LogRecord};
 ghost use Rattle.shore_logrec.specs.Text.{Fits};
-ghost use Rattle.shore_log.specs.LoggedRecords.{are_numbered};
+ghost use Rattle.shore_frames.specs.LoggedRecords.{are_numbered};
 
 use shore_logrec::LogRecord;
 use shore_types::{Fault, Lsn};

@@ -2,7 +2,7 @@
 ghost use Rattle.std.specs.Prelude.{◌≡◌, IfOk, IfErr, IfSome, IsOkAnd};
 ghost use Rattle.shore_disk.specs.AnyDisk.{any_history};
 ghost use Rattle.shore_disk.specs.Device.{size};
-ghost use Rattle.shore_format.specs.Volumes.{volume_bytes};
+ghost use Rattle.shore_fronts.specs.Volumes.{volume_bytes};
 ghost use Rattle.shore_gate.specs.Checks.{IsFromOutside};
 ghost use Rattle.shore_settings.specs.Limits.{AreInLimits};
 ghost use Rattle.shore_settings.specs.declared.settings.Devices.TheVariants.{Memory};

@@ -5,7 +5,7 @@ use Rattle.shore_disk.specs.Device.{LeavesOnly, may_leave}
 use Rattle.shore_disk.specs.declared.device.Disk.{Ghosts}
 use Rattle.shore_model.specs.declared.log_records.LogRecord.{LogRecord}
 use Rattle.shore_types.specs.declared.faults.Fault.TheVariants as fault
-use Rattle.shore_log.specs.Frames.{GivesBehind}
+use Rattle.shore_frames.specs.Frames.{GivesBehind}
 use Rattle.shore_log.specs.Settled.{records_of_log, stable}
 use Rattle.shore_log.specs.declared.device.LogDev.{LogDev}
 use Rattle.shore_log.proofs.ForceLemmas.{settled_gives}

@@ -6,11 +6,11 @@ use Rattle.shore_disk.specs.Device.{History, LeavesOnly, may_leave}
 use Rattle.shore_disk.specs.declared.device.Disk.{Ghosts}
 use Rattle.shore_disk.proofs.Moments.{at_end, widened}
 use Rattle.shore_model.specs.declared.log_records.LogRecord.{LogRecord}
-use Rattle.shore_log.specs.Frames.{GivesBehind, GivesWithOrWithout, IsLongest}
+use Rattle.shore_frames.specs.Frames.{GivesBehind, GivesWithOrWithout, IsLongest}
 use Rattle.shore_log.specs.Settled.{IsSettled, records_of_log, stable, waiting}
 use Rattle.shore_log.specs.declared.device.LogDev.{LogDev}
 use Rattle.shore_log.proofs.ForceLemmas.{settled_gives}
-use Rattle.shore_log.proofs.LoggedLemmas.{has_longest}
+use Rattle.shore_frames.proofs.LoggedLemmas.{has_longest}
 use Rattle.shore_recovery.specs.Recovery.{ForceLog, RecoveryState, after_force}
 use Rattle.shore_restart.specs.declared.errors.RestartError.{RestartError}
 use Rattle.shore_stands.specs.Moments.{GivesPrefix, GoesOn, Moment, Path, ShowsLeft}

@@ -7,7 +7,7 @@ use Rattle.shore_recovery.specs.Recovery.{RecoveryEvent, RecoveryState, IsRecove
 use Rattle.shore_recovery.specs.Restarts.{IsRestartStep, RestartsTo}
 use Rattle.shore_recovery.proofs.Invariant.{event_kept}
 use Rattle.shore_model.specs.declared.log_records.LogRecord.{LogRecord}
-use Rattle.shore_log.specs.Frames.{GivesBehind}
+use Rattle.shore_frames.specs.Frames.{GivesBehind}
 use Rattle.shore_stands.specs.Moments.{GivesPrefix, GoesOn, IsCovered, Moment, Path, ShowsLeft}
 
 -- ---- work

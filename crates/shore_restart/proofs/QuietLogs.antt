@@ -4,8 +4,8 @@ use Rattle.std.specs.Prelude.{IfErr, IsErrAnd}
 use Rattle.shore_types.specs.declared.faults.Fault.{Fault}
 use Rattle.shore_types.specs.declared.faults.Fault.TheVariants as fault
 use Rattle.shore_disk.specs.declared.device.Disk.{Ghosts}
-use Rattle.shore_log.proofs.LoggedLemmas.{has_longest}
-use Rattle.shore_log.specs.Frames.{IsLongest}
+use Rattle.shore_frames.proofs.LoggedLemmas.{has_longest}
+use Rattle.shore_frames.specs.Frames.{IsLongest}
 use Rattle.shore_log.specs.Settled.{KeepsFrames, stable, waiting}
 use Rattle.shore_log.specs.declared.device.LogDev.{LogDev}
 use Rattle.shore_restart.specs.declared.errors.RestartError.{RestartError}

@@ -5,8 +5,8 @@ use Rattle.std.proofs.lemmas.List.Sums.{sum_by-append, sum_by-take-drop}
 use Rattle.shore_model.specs.declared.log_records.LogRecord.{LogRecord}
 use Rattle.shore_logrec.specs.Text.{texts, text as record_text, cost_of}
 use Rattle.shore_logrec.proofs.TextLengths.{length-text}
-use Rattle.shore_log.specs.Frames.{text, behind_gate, joined, AreGroups}
-use Rattle.shore_log.proofs.FrameLemmas.{length-behind_gate}
+use Rattle.shore_frames.specs.Frames.{text, behind_gate, joined, AreGroups}
+use Rattle.shore_frames.proofs.FrameLemmas.{length-behind_gate}
 use Rattle.shore_log.specs.Settled.{HasNoFrameRoom, IsSettled, records_of_log, waiting}
 use Rattle.shore_log.specs.declared.device.LogDev.{LogDev}
 use Rattle.shore_disk.specs.declared.device.Disk.{Ghosts}

@@ -13,7 +13,7 @@ use Rattle.shore_model.specs.declared.log_records.Payload.{Payload}
 use Rattle.shore_model.specs.declared.log_records.Payload.TheVariants.{Compensation}
 use Rattle.shore_model.specs.declared.unanswered_changes.UnansweredChange.{UnansweredChange}
 use Rattle.shore_model.specs.Logs.{image_in, undo_next_of}
-use Rattle.shore_log.specs.Frames.{GivesBehind}
+use Rattle.shore_frames.specs.Frames.{GivesBehind}
 use Rattle.shore_log.specs.Settled.{KeepsFrames, records_of_log}
 use Rattle.shore_log.specs.declared.device.LogDev.{LogDev}
 use Rattle.shore_page.specs.Room.{Fits}

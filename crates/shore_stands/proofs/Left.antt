@@ -17,7 +17,7 @@ use Rattle.shore_logged.proofs.Left.{empty_texts, left_cut}
 use Rattle.shore_logged.specs.LoggedHeaps.{LeavesStore}
 use Rattle.shore_format.proofs.FrontLemmas.{front_stays}
 use Rattle.shore_format.specs.Pairs.{AreFormatted}
-use Rattle.shore_format.specs.Volumes.{volume_label}
+use Rattle.shore_fronts.specs.Volumes.{volume_label}
 use Rattle.shore_stands.specs.Moments.{GivesPrefix, ShowsLeft}
 use Rattle.shore_stands.specs.StandsFor.{HaveFrontsOf, StandsFor}
 

@@ -2,7 +2,7 @@
 use Rattle.std.specs.Prelude.{◌≡◌, ◌≤◌, ◌⊎◌, ℕ, List, [], ◌∷◌, length, take}
 use Rattle.shore_types.specs.declared.layout.Geometry.{Geometry}
 use Rattle.shore_disk.specs.Device.{History, LeavesOnly, left_since, may_leave, moment}
-use Rattle.shore_log.specs.Frames.{GivesBehind}
+use Rattle.shore_frames.specs.Frames.{GivesBehind}
 use Rattle.shore_recovery.specs.Pages.{LoggedPages}
 use Rattle.shore_recovery.specs.Recovery.{CrashMayLeave, RecoveryEvent, RecoveryState}
 use Rattle.shore_recovery.specs.Restarts.{RestartsTo}

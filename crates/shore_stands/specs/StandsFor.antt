@@ -11,7 +11,7 @@ use Rattle.shore_recovery.specs.Pages.{LoggedPages}
 use Rattle.shore_stays.specs.SoundStores.{MayBeOpened, found_state}
 use Rattle.shore_logged.specs.LoggedHeaps.{LeavesStore}
 use Rattle.shore_format.specs.Fronts.{LogStandsFor}
-use Rattle.shore_format.specs.Volumes.{volume_label}
+use Rattle.shore_fronts.specs.Volumes.{volume_label}
 use Rattle.shore_stands.specs.Moments.{Moment}
 
 -- The volume's part of Stands for: its label is in order, and it shows these pages, be it behind an open double-write area.

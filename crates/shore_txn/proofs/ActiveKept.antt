@@ -17,9 +17,9 @@ use Rattle.shore_room.proofs.Fetching.{fetched}
 use Rattle.shore_room.proofs.Leaving.{left_keeps, left_slots}
 use Rattle.shore_room.proofs.Pages.{length-slots}
 use Rattle.shore_txn.specs.ActiveTxns.{HasMore, all_changes, session_txns}
-use Rattle.shore_txn.specs.Txns.{as_session_txn, entries_of}
-use Rattle.shore_txn.specs.UndoEntries.{claims_on, images_of}
-use Rattle.shore_txn.specs.declared.txn.Txn.{Txn}
+use Rattle.shore_undo.specs.Txns.{as_session_txn, entries_of}
+use Rattle.shore_undo.specs.UndoEntries.{claims_on, images_of}
+use Rattle.shore_undo.specs.declared.txn.Txn.{Txn}
 use Rattle.shore_txn.proofs.ClaimLemmas.{claims_append}
 use Rattle.shore_txn.proofs.KeptLemmas.{read_slots, told_reserved, told_there}
 

@@ -7,9 +7,9 @@ use Rattle.shore_sessions.specs.Sessions.{EachOnce, SessionTxn}
 use Rattle.shore_sessions.specs.Views.{IsAmong}
 use Rattle.shore_txn.specs.ActiveTxns as active
 use Rattle.shore_txn.specs.ActiveTxns.{CanNote, session_txns, sessions_of, undos_of}
-use Rattle.shore_txn.specs.Txns.{as_session_txn}
+use Rattle.shore_undo.specs.Txns.{as_session_txn}
 use Rattle.shore_txn.specs.declared.active.ActiveTxn.{ActiveTxn}
-use Rattle.shore_txn.specs.declared.txn.Txn.{Txn}
+use Rattle.shore_undo.specs.declared.txn.Txn.{Txn}
 use Rattle.shore_txn.proofs.OneOfMany.{among_map, among_middle, among_parts, map_among, map_join, map_parts, once_apart}
 
 -- ---- a list that has the oldest first, and the transactions of it, the newest first

@@ -17,8 +17,8 @@ use Rattle.shore_sessions.specs.Sessions.{SessionTxn}
 use Rattle.shore_room.specs.Claims.{SlotCounts, rid_on, slots_of, undecided_at}
 use Rattle.shore_room.specs.Settling.{reserved_for, settled_slots}
 use Rattle.shore_room.proofs.Leaving.{map_each}
-use Rattle.shore_txn.specs.UndoEntries.{claims_on, images_of}
-use Rattle.shore_txn.specs.declared.undo.UndoEntry.{UndoEntry}
+use Rattle.shore_undo.specs.UndoEntries.{claims_on, images_of}
+use Rattle.shore_undo.specs.declared.undo.UndoEntry.{UndoEntry}
 
 -- ---- claims rise in any order
 

@@ -1,7 +1,6 @@
 pub mod ChainLemmas
 pub mod ClaimLemmas
 pub mod KeptLemmas
-pub mod UndoLemmas
 pub mod OneOfMany
 pub mod ActiveLemmas
 pub mod ActiveSteps

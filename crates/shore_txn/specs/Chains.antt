@@ -2,10 +2,15 @@
 use Rattle.std.specs.Prelude.{◌≡◌, ◌==◌, ◌<◌, ◌+◌, ◌*◌, ◌%◌, ℕ, zero, suc, Bool, List, [], ◌∷◌, Some, length, map, take, get_or, slice_get, slice_index_or, if◌then◌else◌}
 use Rattle.shore_types.specs.declared.ids.PageId.{PageId}
 use Rattle.shore_txn.specs.declared.chains.Link.{Link}
+use Rattle.shore_undo.specs.declared.undo.UndoEntry.{UndoEntry}
 
 -- the bucket of a page
 abbrev pub bucket_of : PageId → ℕ
 bucket_of page = (page.store * 61 + page.page) % 1024
+
+-- .. the buckets of the pages of changes
+abbrev pub page_buckets : List UndoEntry → List ℕ
+page_buckets es = map (λ e. bucket_of e.id.page) es
 
 -- a place behind the first, if there is one; else the first, if it is asked for
 abbrev pub place_behind : Bool → ℕ → ℕ

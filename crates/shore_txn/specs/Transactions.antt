@@ -6,10 +6,10 @@ use Rattle.shore_sessions.specs.Views.{IsAmong}
 use Rattle.shore_txn.specs.declared.active.ActiveTxn.{ActiveTxn}
 use Rattle.shore_txn.specs.declared.log_room.LogRoom.{LogRoom}
 use Rattle.shore_txn.specs.declared.transactions.Transactions.{Transactions}
-use Rattle.shore_txn.specs.declared.txn.Txn.{Txn}
+use Rattle.shore_undo.specs.declared.txn.Txn.{Txn}
 use Rattle.shore_txn.specs.ActiveTxns.{CanNote, IsPlace, all_changes, changes_to, own_place, session_txns, txn_index, txns_of}
 use Rattle.shore_txn.specs.Chains.{bucket_of}
-use Rattle.shore_txn.specs.UndoEntries.{claims_on}
+use Rattle.shore_undo.specs.UndoEntries.{claims_on}
 
 -- the transactions under way, the newest first
 abbrev pub txns_in : Transactions → List Txn

@@ -3,17 +3,16 @@ ghost use Rattle.std.specs.Prelude.{◌≡◌, ◌-◌, ◌+◌, ◌<◌, ◌≤
 ghost use Rattle.shore_types.specs.declared.layout.TheConstants.{LAST_TXN, MAX_LOG_BYTES, MAX_RECORD_BYTES, MAX_SAVEPOINTS};
 ghost use Rattle.shore_page.specs.Slots.{image_len};
 ghost use Rattle.shore_room.specs.LogRooms.{compensation_cost};
-ghost use Rattle.shore_txn.specs.Chains.{bucket_of, newest_in};
+ghost use Rattle.shore_txn.specs.Chains.{bucket_of, newest_in, page_buckets};
 ghost use Rattle.shore_txn.specs.Places.{buckets_if};
-ghost use Rattle.shore_txn.specs.Txns.{IsAfterChange, IsAfterSavepoint, IsAfterUndo, IsBackAt, IsDoomed, SameTxn, entries_of, marks_of};
-ghost use Rattle.shore_txn.specs.UndoEntries.{claims_on, page_buckets};
-ghost use Rattle.shore_txn.specs.declared.undo.UndoEntry.{UndoEntry};
+ghost use Rattle.shore_undo.specs.Txns.{IsAfterChange, IsAfterSavepoint, IsAfterUndo, IsBackAt, IsDoomed, SameTxn, entries_of, marks_of};
+ghost use Rattle.shore_undo.specs.UndoEntries.{claims_on};
+ghost use Rattle.shore_undo.specs.declared.undo.UndoEntry.{UndoEntry};
 
 use crate::chains::PageChains;
-use crate::txn::Txn;
-use crate::undo::UndoEntry;
 use shore_sessions::Rollback;
 use shore_types::{Lsn, PageId, SessionId, TxnId};
+use shore_undo::{Txn, UndoEntry};
 use std::alloc::{AllocError, Global};
 
 /// A transaction under way. It has chains of its own from its first change on, so that a begin makes none.

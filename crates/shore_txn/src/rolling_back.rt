@@ -11,14 +11,14 @@ ghost use Rattle.shore_sessions.specs.UndoLists.{undo_rolled};
 ghost use Rattle.shore_sessions.specs.declared.rollbacks.Rollback.TheVariants.{Whole};
 ghost use Rattle.shore_sessions.specs.Views.{IsAmong};
 ghost use Rattle.shore_txn.specs.ActiveTxns.{HasMore, OneBecomes, OneLeaves, back_at, with_mark};
-ghost use Rattle.shore_txn.specs.Txns.{IsAfterSavepoint, IsAfterUndo, IsBackAt, IsDoomed, SameTxn};
-ghost use Rattle.shore_txn.specs.UndoEntries.{image_of};
+ghost use Rattle.shore_undo.specs.Txns.{IsAfterSavepoint, IsAfterUndo, IsBackAt, IsDoomed, SameTxn};
+ghost use Rattle.shore_undo.specs.UndoEntries.{image_of};
 
 use crate::transactions::Transactions;
-use crate::undo::UndoEntry;
 use shore_sessions::Rollback;
 use shore_types::layout::ENDING_COST;
 use shore_types::{Lsn, SessionId};
+use shore_undo::UndoEntry;
 use std::alloc::AllocError;
 
 impl Transactions {

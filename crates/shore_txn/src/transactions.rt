@@ -10,17 +10,16 @@ ghost use Rattle.shore_sessions.specs.Sessions.{EachOnce, SessionTxn, txns_of, w
 ghost use Rattle.shore_sessions.specs.UndoLists.{nothing_to_undo};
 ghost use Rattle.shore_sessions.specs.Views.{IsAmong};
 ghost use Rattle.shore_txn.specs.ActiveTxns.{EachOnce-prop, HasMore, IsBegun, OneBecomes, OneLeaves, sessions_of, undos_of, with_entry};
-ghost use Rattle.shore_txn.specs.Txns.{IsAfterChange, SameTxn, as_session_txn, entries_of};
-ghost use Rattle.shore_txn.specs.UndoEntries.{claims_on, images_of};
-ghost use Rattle.shore_txn.specs.declared.txn.Txn.{Txn};
+ghost use Rattle.shore_undo.specs.Txns.{IsAfterChange, SameTxn, as_session_txn, entries_of};
+ghost use Rattle.shore_undo.specs.UndoEntries.{claims_on, images_of};
+ghost use Rattle.shore_undo.specs.declared.txn.Txn.{Txn};
 
 use crate::active::ActiveTxn;
 use crate::guesses::Guesses;
 use crate::log_room::LogRoom;
-use crate::txn::Txn;
-use crate::undo::UndoEntry;
 use shore_types::layout::{ENDING_COST, LAST_TXN};
 use shore_types::{SessionId, TxnId};
+use shore_undo::{Txn, UndoEntry};
 use std::alloc::{AllocError, Global};
 
 /// The transactions under way, and the room of the log that they share with all records. A session has one at most.

@@ -23,7 +23,7 @@ use Rattle.shore_calls.specs.Settling.{SettledCall, SettledResume, Settles, Wait
 use Rattle.shore_calls.specs.Shapes.{with_locks_of}
 use Rattle.shore_calls.specs.States.{State, Waiting}
 use Rattle.shore_calls.specs.Victims.{TakesVictims, TellsVictim, Withdraws}
-use Rattle.shore_deadlock.specs.declared.victims.Victim.{Victim}
+use Rattle.shore_cycles.specs.declared.victims.Victim.{Victim}
 use Rattle.shore_recovery.specs.Recovery.{RecoveryState}
 use Rattle.shore_core.specs.Cores.{IsKept}
 use Rattle.shore_core.specs.Flushing.{FlushMoves}

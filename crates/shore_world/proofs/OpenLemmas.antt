@@ -5,7 +5,7 @@ use Rattle.shore_types.specs.declared.faults.Fault.TheVariants as fault
 use Rattle.shore_disk.specs.Device.{Rose}
 use Rattle.shore_disk.specs.Cause.{HasCause}
 use Rattle.shore_gate.specs.Checks.{IsFromOutside}
-use Rattle.shore_format.specs.Causes.{HasCauseOfPair}
+use Rattle.shore_fronts.specs.Causes.{HasCauseOfPair}
 use Rattle.shore_restart.specs.Errors.{log_answer, volume_answer}
 use Rattle.shore_restart.specs.declared.errors.RestartError.{RestartError}
 use Rattle.shore_restart.specs.declared.errors.RestartError.TheVariants.{BadRecord, Log, Memory, NoRoom, Page}

@@ -14,7 +14,7 @@ use Rattle.shore_disk.specs.declared.device.Disk.{Ghosts}
 use Rattle.shore_disk.proofs.Moments.{at_end, joined, widened}
 use Rattle.shore_gate.specs.Label.{HoldsLabel}
 use Rattle.shore_model.specs.declared.log_records.LogRecord.{LogRecord}
-use Rattle.shore_log.specs.Frames.{Gives}
+use Rattle.shore_frames.specs.Frames.{Gives}
 use Rattle.shore_log.specs.Settled.{IsSettled, records_of_log, stable}
 use Rattle.shore_log.specs.declared.device.LogDev.{LogDev}
 use Rattle.shore_page.specs.Slots.{settled}
@@ -33,9 +33,9 @@ use Rattle.shore_stays.proofs.SoundStores.{found_sound}
 use Rattle.shore_stays.specs.SoundStores.{found_state}
 use Rattle.shore_logged.specs.LoggedHeaps.{AreTextsOf, HasImages}
 use Rattle.shore_logged.proofs.Left.{opened_is}
-use Rattle.shore_format.specs.Fronts.{HasFront}
-use Rattle.shore_format.specs.Pairs.{HaveFronts}
-use Rattle.shore_format.specs.Volumes.{volume_label}
+use Rattle.shore_fronts.specs.Fronts.{HasFront}
+use Rattle.shore_fronts.specs.Pairs.{HaveFronts}
+use Rattle.shore_fronts.specs.Volumes.{volume_label}
 use Rattle.shore_stands.specs.Moments.{GivesPrefix, Moment, Path, ShowsLeft}
 use Rattle.shore_stands.specs.StandsFor.{StandsFor, begun_on}
 use Rattle.shore_gate.specs.Checks.{IsFromOutside}

@@ -14,7 +14,7 @@ use Rattle.shore_dwrite.specs.declared.device.PageDev.{PageDev}
 use Rattle.shore_pool.specs.declared.frame.Frame.{Frame}
 use Rattle.shore_heap.specs.declared.heap.Heap.{Heap}
 use Rattle.shore_heap.specs.Heaps as heaps
-use Rattle.shore_log.specs.Offsets.{IsFrameOf}
+use Rattle.shore_frames.specs.Offsets.{IsFrameOf}
 use Rattle.shore_log.specs.Settled.{IsSettled, records_of_log, stable}
 use Rattle.shore_log.specs.declared.device.LogDev.{LogDev}
 use Rattle.shore_model.specs.declared.log_records.LogRecord.{LogRecord}

@@ -19,7 +19,7 @@ use Rattle.shore_core.specs.declared.core_calls.Core.{Core}
 use Rattle.shore_core.specs.Cores.{faults_of, heap_of}
 use Rattle.shore_core.specs.Flushing.{FlushAnswers}
 use Rattle.shore_core.specs.Replies.{Earns, NeedsForce, NeedsForceIn, SameVolume, fault_at}
-use Rattle.shore_format.specs.Causes.{HasCauseOfPair}
+use Rattle.shore_fronts.specs.Causes.{HasCauseOfPair}
 use Rattle.shore_world.specs.declared.event.Event.{Event}
 use Rattle.shore_world.specs.declared.event.Event.TheVariants as event
 use Rattle.shore_world.specs.declared.world.World.{World}

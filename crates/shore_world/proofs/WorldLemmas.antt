@@ -7,11 +7,11 @@ use Rattle.shore_disk.specs.declared.device.Disk.{Ghosts}
 use Rattle.shore_disk.proofs.Moments.{started, widened, at_end, sync_leaves}
 use Rattle.shore_model.specs.declared.log_records.LogRecord.{LogRecord}
 use Rattle.shore_calls.specs.declared.step.Step.{Step}
-use Rattle.shore_log.specs.Frames.{GivesBehind, GivesWithOrWithout, IsLongest}
+use Rattle.shore_frames.specs.Frames.{GivesBehind, GivesWithOrWithout, IsLongest}
 use Rattle.shore_log.specs.Settled.{records_of_log, stable, waiting, IsSettled, IsStaged, KeepsFrames}
 use Rattle.shore_log.specs.declared.device.LogDev.{LogDev}
 use Rattle.shore_log.proofs.ForceLemmas.{settled_gives}
-use Rattle.shore_log.proofs.LoggedLemmas.{take-more_group}
+use Rattle.shore_frames.proofs.LoggedLemmas.{take-more_group}
 use Rattle.shore_calls.specs.States.{State}
 use Rattle.shore_recovery.specs.Recovery.{RecoveryState, after_force}
 use Rattle.shore_log.specs.declared.tail.Tail as tail

@@ -11,13 +11,13 @@ use Rattle.shore_disk.specs.Device.{History, seen, size}
 use Rattle.shore_gate.specs.Anchor.{offset_of}
 use Rattle.shore_gate.specs.declared.gates.TheConstants.{OPEN}
 use Rattle.shore_model.specs.declared.log_records.LogRecord.{LogRecord}
-use Rattle.shore_log.specs.Frames.{Gives}
-use Rattle.shore_log.specs.Offsets.{IsBadAt, IsFrameOf}
+use Rattle.shore_frames.specs.Frames.{Gives}
+use Rattle.shore_frames.specs.Offsets.{IsBadAt, IsFrameOf}
 use Rattle.shore_dwrite.specs.Checks.{RefusesArea}
 use Rattle.shore_dwrite.specs.Shown.{Shows}
 use Rattle.shore_dwrite.specs.Volumes.{HasNoPage, page_number, page_offset, part}
 use Rattle.shore_dwrite.specs.declared.places.TheConstants.{GATE_AT}
-use Rattle.shore_format.specs.Pairs.{HaveFronts, RefusesFronts}
+use Rattle.shore_fronts.specs.Pairs.{HaveFronts, RefusesFronts}
 use Rattle.shore_recovery.specs.Pages.{LoggedPages}
 use Rattle.shore_restart.specs.Turns.{LacksRoom}
 use Rattle.shore_stands.specs.StandsFor.{StandsFor}

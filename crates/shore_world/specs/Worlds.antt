@@ -15,9 +15,9 @@ use Rattle.shore_calls.specs.StateChanges.{with_durable, with_failure}
 use Rattle.shore_calls.specs.Events as calls
 use Rattle.shore_calls.specs.Settling.{SettledCall, SettledResume}
 use Rattle.shore_calls.specs.States.{State, cost_of_log}
-use Rattle.shore_log.specs.Frames.{GivesBehind, IsLongest}
+use Rattle.shore_frames.specs.Frames.{GivesBehind, IsLongest}
 use Rattle.shore_log.specs.Settled.{records_of_log, IsSettled, IsStaged}
-use Rattle.shore_format.specs.Causes.{HasCauseOfPair}
+use Rattle.shore_fronts.specs.Causes.{HasCauseOfPair}
 use Rattle.shore_pool.specs.Pools.{Holds}
 use Rattle.shore_heap.specs.Heaps.{WroteBack, limit_of, pool_of}
 use Rattle.shore_recovery.specs.Pages.{LoggedPages}

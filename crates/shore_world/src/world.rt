@@ -20,7 +20,7 @@ use crate::Event;
 use crate::opening::{fault_of, open_volume};
 use shore_core::{Core, Step};
 use shore_disk::{AnyDisk, Disk, FuseDisk, Pick};
-use shore_format::{Fronts, read_fronts};
+use shore_fronts::{Fronts, read_fronts};
 use shore_log::{LogDev, LogRecord, PlainTail};
 use shore_model::{Answer, Request};
 use shore_restart::{Report, restart};
@@ -41,12 +41,12 @@ pub struct World<L: Disk, V: Disk> {
 impl<L: Disk, V: Disk> World<L, V> {
     ghost use Rattle.shore_world.specs.Worlds.{IsInState, IsOverStore, Moves, HasForced, HasStaged, HasFailedToRead, IsLike, Steps, Runs, HasForceRoom, IsIdle, durable_in, failed_in, frames_in, geometry_in, list_in, report_in, fault_in, log_in, volume_in};
     ghost use Rattle.shore_world.specs.Opens.{IsReportOf, OpensAlong};
-    ghost use Rattle.shore_log.specs.Frames.{Gives};
+    ghost use Rattle.shore_frames.specs.Frames.{Gives};
     ghost use Rattle.shore_world.specs.Refusals.{RefusesOpen};
     ghost use Rattle.shore_restart.specs.Missing.{missing_on};
     ghost use Rattle.shore_stands.specs.StandsFor.{StandsFor};
-    ghost use Rattle.shore_format.specs.Causes.{HasCauseOfPair};
-    ghost use Rattle.shore_format.specs.Pairs.{HaveFronts};
+    ghost use Rattle.shore_fronts.specs.Causes.{HasCauseOfPair};
+    ghost use Rattle.shore_fronts.specs.Pairs.{HaveFronts};
     ghost use Rattle.shore_gate.specs.Checks.{IsFromOutside};
     ghost use Rattle.shore_disk.specs.Device.{Stands};
     ghost use Rattle.shore_dwrite.specs.Shown.{Shows};

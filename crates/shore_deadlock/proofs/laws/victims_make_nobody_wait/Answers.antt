@@ -1,4 +1,4 @@
-use Rattle.shore_deadlock.proofs.VictimLemmas.{still_quiet}
+use Rattle.shore_cycles.proofs.VictimLemmas.{still_quiet}
 use Rattle.shore_deadlock.proofs.laws.victims_make_nobody_wait.Goals as goal
 
 pub returns : goal.returns

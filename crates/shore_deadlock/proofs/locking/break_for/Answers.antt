@@ -1,6 +1,6 @@
 use Rattle.std.proofs.Common.{◌≡◌, ◌-◌, ◌++◌, ap, ◌∙◌, length, take, drop, arith}
-use Rattle.shore_deadlock.specs.Blockers.{is_victim}
-use Rattle.shore_deadlock.specs.Cycles.{after_victims}
+use Rattle.shore_cycles.specs.Blockers.{is_victim}
+use Rattle.shore_cycles.specs.Cycles.{after_victims}
 use Rattle.shore_deadlock.proofs.Lockings.{broken_of, rest_of}
 use Rattle.shore_deadlock.proofs.locking.break_for.Goals as goal
 

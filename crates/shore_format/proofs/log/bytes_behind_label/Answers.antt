@@ -3,7 +3,8 @@ use Rattle.std.proofs.lemmas.List.{length-replicate}
 use Rattle.shore_gate.specs.declared.gates.TheConstants.{OPEN, CLOSED}
 use Rattle.shore_gate.specs.Anchor.{anchor_bytes}
 use Rattle.shore_gate.proofs.WidthLemmas.{length-anchor_bytes}
-use Rattle.shore_format.specs.Fronts.{behind_label, first_anchor}
+use Rattle.shore_fronts.specs.Fronts.{first_anchor}
+use Rattle.shore_format.specs.Fronts.{behind_label}
 use Rattle.shore_format.proofs.FrontLemmas.{filled}
 use Rattle.shore_format.proofs.log.bytes_behind_label.Goals as goal
 

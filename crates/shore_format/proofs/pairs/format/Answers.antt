@@ -1,30 +1,15 @@
-use Rattle.std.proofs.Common.{rules, ◌≡◌, ◌<◌, ◌^◌, ℕ, List, [], ◌∙◌, ap, ◌∷◌, IsTrue, subst, sym, arith}
-use Rattle.shore_disk.specs.Device.{size, overwritten}
-use Rattle.shore_gate.specs.declared.gates.TheConstants.{OPEN}
-use Rattle.shore_gate.specs.declared.labels.Label.{Label}
-use Rattle.shore_format.specs.Fronts.{IsLogLength, LogStandsFor, log_label}
+use Rattle.std.proofs.Common.{[]}
+use Rattle.shore_disk.specs.Device.{size}
+use Rattle.shore_format.specs.Fronts.{LogStandsFor}
 use Rattle.shore_format.specs.Volumes.{IsEmptyVolume}
-use Rattle.shore_format.proofs.FrontLemmas.{untouched, closing, opening, made}
-use Rattle.shore_format.proofs.VolumeLemmas.{made_volume}
+use Rattle.shore_format.proofs.FrontLemmas.{untouched}
 use Rattle.shore_format.proofs.pairs.format.Goals as goal
-
-pub returns-then-not-is_log_length-clause-any_log : goal.returns-then-not-is_log_length-clause-any_log
-returns-then-not-is_log_length-clause-any_log g c honest = untouched (LogStandsFor c.args.geometry.now (size (g.L.Disk.history c.args.log.now)) []) (g.L.Disk.history c.args.log.now)
-
-pub returns-then-not-is_log_length-clause-any_volume : goal.returns-then-not-is_log_length-clause-any_volume
-returns-then-not-is_log_length-clause-any_volume g c honest = untouched (IsEmptyVolume c.args.geometry.now (size (g.V.Disk.history c.args.volume.now))) (g.V.Disk.history c.args.volume.now)
 
 pub returns-in-Some-clause-any_log : goal.returns-in-Some-clause-any_log
 returns-in-Some-clause-any_log g c honest = untouched (LogStandsFor c.args.geometry.now (size (g.L.Disk.history c.args.log.now)) []) (g.L.Disk.history c.args.log.now)
 
 pub returns-in-Some-clause-any_volume : goal.returns-in-Some-clause-any_volume
 returns-in-Some-clause-any_volume g c honest = untouched (IsEmptyVolume c.args.geometry.now (size (g.V.Disk.history c.args.volume.now))) (g.V.Disk.history c.args.volume.now)
-
-pub returns-then-len-volume_bytes-clause-any_log : goal.returns-then-len-volume_bytes-clause-any_log
-returns-then-len-volume_bytes-clause-any_log g c honest = untouched (LogStandsFor c.args.geometry.now (size (g.L.Disk.history c.args.log.now)) []) (g.L.Disk.history c.args.log.now)
-
-pub returns-then-len-volume_bytes-clause-any_volume : goal.returns-then-len-volume_bytes-clause-any_volume
-returns-then-len-volume_bytes-clause-any_volume g c honest = untouched (IsEmptyVolume c.args.geometry.now (size (g.V.Disk.history c.args.volume.now))) (g.V.Disk.history c.args.volume.now)
 
 pub returns-in_err-of_log-clause-any_log : goal.returns-in_err-of_log-clause-any_log
 returns-in_err-of_log-clause-any_log g c honest = untouched (LogStandsFor c.args.geometry.now (size (g.L.Disk.history c.args.log.now)) []) (g.L.Disk.history c.args.log.now)
@@ -37,103 +22,3 @@ returns-in_err-of_volume-clause-any_log g c honest = untouched (LogStandsFor c.a
 
 pub returns-in_err-of_volume-clause-any_volume : goal.returns-in_err-of_volume-clause-any_volume
 returns-in_err-of_volume-clause-any_volume g c honest = untouched (IsEmptyVolume c.args.geometry.now (size (g.V.Disk.history c.args.volume.now))) (g.V.Disk.history c.args.volume.now)
-
-pub returns-in_err-close_gate-clause-any_volume : goal.returns-in_err-close_gate-clause-any_volume
-returns-in_err-close_gate-clause-any_volume g c honest = untouched (IsEmptyVolume c.args.geometry.now (size (g.V.Disk.history c.args.volume.now))) (g.V.Disk.history c.args.volume.now)
-
-pub returns-in_err-write_log-clause-any_log : goal.returns-in_err-write_log-clause-any_log
-returns-in_err-write_log-clause-any_log g c honest =
-    let log_later = subst IsTrue (sym c.close_gate.ensures.honest) honest in
-    let closed = closing (LogStandsFor c.args.geometry.now (size (g.L.Disk.history c.args.log.now)) []) _ _ _ (c.close_gate.ensures.any_moment honest) (c.write_log.ensures.any_moment log_later _ (c.in_ok-close_gate.ensures.closed honest)) in
-    closed
-
-pub returns-in_err-write_volume-clause-any_log : goal.returns-in_err-write_volume-clause-any_log
-returns-in_err-write_volume-clause-any_log g c honest =
-    let log_later = subst IsTrue (sym c.close_gate.ensures.honest) honest in
-    let closed = closing (LogStandsFor c.args.geometry.now (size (g.L.Disk.history c.args.log.now)) []) _ _ _ (c.close_gate.ensures.any_moment honest) (c.write_log.ensures.any_moment log_later _ (c.in_ok-close_gate.ensures.closed honest)) in
-    closed
-
-pub returns-in_err-open_gate-clause-any_log : goal.returns-in_err-open_gate-clause-any_log
-returns-in_err-open_gate-clause-any_log g c honest =
-    let log_later = subst IsTrue (sym c.close_gate.ensures.honest) honest in
-    let closed = closing (LogStandsFor c.args.geometry.now (size (g.L.Disk.history c.args.log.now)) []) _ _ _ (c.close_gate.ensures.any_moment honest) (c.write_log.ensures.any_moment log_later _ (c.in_ok-close_gate.ensures.closed honest)) in
-    closed
-
-pub returns-in_err-write_volume-clause-any_volume : goal.returns-in_err-write_volume-clause-any_volume
-returns-in_err-write_volume-clause-any_volume g c honest =
-    let volume_later = subst IsTrue (sym c.close_gate-2.ensures.honest) honest in
-    let closed = closing (IsEmptyVolume c.args.geometry.now (size (g.V.Disk.history c.args.volume.now))) _ _ _ (c.close_gate-2.ensures.any_moment honest) (c.write_volume.ensures.any_moment volume_later _ (c.in_ok-close_gate-2.ensures.closed honest)) in
-    closed
-
-pub returns-in_err-open_gate-2-clause-any_log : goal.returns-in_err-open_gate-2-clause-any_log
-returns-in_err-open_gate-2-clause-any_log g c honest =
-    let log_later = subst IsTrue (sym c.close_gate.ensures.honest) honest in
-    let closed = closing (LogStandsFor c.args.geometry.now (size (g.L.Disk.history c.args.log.now)) []) _ _ _ (c.close_gate.ensures.any_moment honest) (c.write_log.ensures.any_moment log_later _ (c.in_ok-close_gate.ensures.closed honest)) in
-    let last = subst IsTrue (sym c.write_log.ensures.honest) log_later in
-    let stood = c.in_ok-write_log.ensures.stands log_later _ (c.in_ok-close_gate.ensures.closed honest) in
-    let label = c.in_ok-of_log.of_log in
-    let made_log = made c.args.geometry.now _ label _ (subst (λ n. label ≡ log_label c.args.geometry.now n) c.len-length.ensures c.in_ok-of_log.ensures.label) c.in_ok-of_log.ensures.pair (subst IsLogLength c.len-length.ensures (c.is_log_length.ensures.0 c.if-not-is_log_length.false)) (c.outside_limits.ensures.none.0 (search rules)) in
-    opening (LogStandsFor c.args.geometry.now (size (g.L.Disk.history c.args.log.now)) []) _ _ _ _ closed stood made_log (c.open_gate-2.ensures.any_moment last)
-
-pub returns-clause-any_log : goal.returns-clause-any_log
-returns-clause-any_log g c honest =
-    let log_later = subst IsTrue (sym c.close_gate.ensures.honest) honest in
-    let closed = closing (LogStandsFor c.args.geometry.now (size (g.L.Disk.history c.args.log.now)) []) _ _ _ (c.close_gate.ensures.any_moment honest) (c.write_log.ensures.any_moment log_later _ (c.in_ok-close_gate.ensures.closed honest)) in
-    let last = subst IsTrue (sym c.write_log.ensures.honest) log_later in
-    let stood = c.in_ok-write_log.ensures.stands log_later _ (c.in_ok-close_gate.ensures.closed honest) in
-    let label = c.in_ok-of_log.of_log in
-    let made_log = made c.args.geometry.now _ label _ (subst (λ n. label ≡ log_label c.args.geometry.now n) c.len-length.ensures c.in_ok-of_log.ensures.label) c.in_ok-of_log.ensures.pair (subst IsLogLength c.len-length.ensures (c.is_log_length.ensures.0 c.if-not-is_log_length.false)) (c.outside_limits.ensures.none.0 (search rules)) in
-    opening (LogStandsFor c.args.geometry.now (size (g.L.Disk.history c.args.log.now)) []) _ _ _ _ closed stood made_log (c.open_gate-2.ensures.any_moment last)
-
-pub returns-in_err-open_gate-clause-any_volume : goal.returns-in_err-open_gate-clause-any_volume
-returns-in_err-open_gate-clause-any_volume g c honest =
-    let volume_later = subst IsTrue (sym c.close_gate-2.ensures.honest) honest in
-    let closed = closing (IsEmptyVolume c.args.geometry.now (size (g.V.Disk.history c.args.volume.now))) _ _ _ (c.close_gate-2.ensures.any_moment honest) (c.write_volume.ensures.any_moment volume_later _ (c.in_ok-close_gate-2.ensures.closed honest)) in
-    let last = subst IsTrue (sym c.write_volume.ensures.honest) volume_later in
-    let stood = c.in_ok-write_volume.ensures.stands volume_later _ (c.in_ok-close_gate-2.ensures.closed honest) in
-    let label = c.in_ok-of_volume.ensures.label in
-    let pair : c.args.geometry.now.pair < 2 ^ 64 = omega (arith, ap (λ (l : Label). l.pair) label, c.in_ok-of_volume.ensures.pair) in
-    let made_one = made_volume c.args.geometry.now _ stood.0 (c.outside_limits.ensures.none.0 (search rules)) pair (omega (arith, c.len.ensures, c.if-len-volume_bytes.false, c.volume_bytes.ensures)) stood.2 in
-    opening (IsEmptyVolume c.args.geometry.now (size (g.V.Disk.history c.args.volume.now))) _ _ _ stood.0 closed stood.1 made_one (c.open_gate.ensures.any_moment last)
-
-pub returns-in_err-open_gate-2-clause-any_volume : goal.returns-in_err-open_gate-2-clause-any_volume
-returns-in_err-open_gate-2-clause-any_volume g c honest =
-    let volume_later = subst IsTrue (sym c.close_gate-2.ensures.honest) honest in
-    let closed = closing (IsEmptyVolume c.args.geometry.now (size (g.V.Disk.history c.args.volume.now))) _ _ _ (c.close_gate-2.ensures.any_moment honest) (c.write_volume.ensures.any_moment volume_later _ (c.in_ok-close_gate-2.ensures.closed honest)) in
-    let last = subst IsTrue (sym c.write_volume.ensures.honest) volume_later in
-    let stood = c.in_ok-write_volume.ensures.stands volume_later _ (c.in_ok-close_gate-2.ensures.closed honest) in
-    let label = c.in_ok-of_volume.ensures.label in
-    let pair : c.args.geometry.now.pair < 2 ^ 64 = omega (arith, ap (λ (l : Label). l.pair) label, c.in_ok-of_volume.ensures.pair) in
-    let made_one = made_volume c.args.geometry.now _ stood.0 (c.outside_limits.ensures.none.0 (search rules)) pair (omega (arith, c.len.ensures, c.if-len-volume_bytes.false, c.volume_bytes.ensures)) stood.2 in
-    opening (IsEmptyVolume c.args.geometry.now (size (g.V.Disk.history c.args.volume.now))) _ _ _ stood.0 closed stood.1 made_one (c.open_gate.ensures.any_moment last)
-
-pub returns-clause-any_volume : goal.returns-clause-any_volume
-returns-clause-any_volume g c honest =
-    let volume_later = subst IsTrue (sym c.close_gate-2.ensures.honest) honest in
-    let closed = closing (IsEmptyVolume c.args.geometry.now (size (g.V.Disk.history c.args.volume.now))) _ _ _ (c.close_gate-2.ensures.any_moment honest) (c.write_volume.ensures.any_moment volume_later _ (c.in_ok-close_gate-2.ensures.closed honest)) in
-    let last = subst IsTrue (sym c.write_volume.ensures.honest) volume_later in
-    let stood = c.in_ok-write_volume.ensures.stands volume_later _ (c.in_ok-close_gate-2.ensures.closed honest) in
-    let label = c.in_ok-of_volume.ensures.label in
-    let pair : c.args.geometry.now.pair < 2 ^ 64 = omega (arith, ap (λ (l : Label). l.pair) label, c.in_ok-of_volume.ensures.pair) in
-    let made_one = made_volume c.args.geometry.now _ stood.0 (c.outside_limits.ensures.none.0 (search rules)) pair (omega (arith, c.len.ensures, c.if-len-volume_bytes.false, c.volume_bytes.ensures)) stood.2 in
-    opening (IsEmptyVolume c.args.geometry.now (size (g.V.Disk.history c.args.volume.now))) _ _ _ stood.0 closed stood.1 made_one (c.open_gate.ensures.any_moment last)
-
-pub returns-clause-formatted : goal.returns-clause-formatted
-returns-clause-formatted g c of_log of_volume log_image volume_image log_left volume_left =
-    let geometry = c.args.geometry.now in
-    let limits = c.outside_limits.ensures.none.0 (search rules) in
-    let log_later = subst IsTrue (sym c.close_gate.ensures.honest) of_log in
-    let log_last = subst IsTrue (sym c.write_log.ensures.honest) log_later in
-    let log_stood = c.in_ok-write_log.ensures.stands log_later _ (c.in_ok-close_gate.ensures.closed of_log) in
-    let log_opened = c.in_ok-open_gate-2.ensures.open log_last in
-    let of = c.in_ok-of_log.of_log in
-    let made_log = made geometry _ of _ (subst (λ n. of ≡ log_label geometry n) c.len-length.ensures c.in_ok-of_log.ensures.label) c.in_ok-of_log.ensures.pair (subst IsLogLength c.len-length.ensures (c.is_log_length.ensures.0 c.if-not-is_log_length.false)) limits in
-    let volume_later = subst IsTrue (sym c.close_gate-2.ensures.honest) of_volume in
-    let volume_last = subst IsTrue (sym c.write_volume.ensures.honest) volume_later in
-    let stood = c.in_ok-write_volume.ensures.stands volume_later _ (c.in_ok-close_gate-2.ensures.closed of_volume) in
-    let volume_opened = c.in_ok-open_gate.ensures.open volume_last in
-    let pair : geometry.pair < 2 ^ 64 = omega (arith, ap (λ (l : Label). l.pair) c.in_ok-of_volume.ensures.label, c.in_ok-of_volume.ensures.pair) in
-    record {
-      log = subst (LogStandsFor geometry (size (g.L.Disk.history c.args.log.now)) []) (sym (log_opened.only log_image log_left ∙ ap (λ (i : List ℕ). overwritten i 0 (OPEN ∷ [])) log_stood.read)) made_log;
-      volume = subst (IsEmptyVolume geometry (size (g.V.Disk.history c.args.volume.now))) (sym (volume_opened.only volume_image volume_left ∙ ap (λ (i : List ℕ). overwritten i 0 (OPEN ∷ [])) stood.1.read)) (made_volume geometry _ stood.0 limits pair (omega (arith, c.len.ensures, c.if-len-volume_bytes.false, c.volume_bytes.ensures)) stood.2);
-    }

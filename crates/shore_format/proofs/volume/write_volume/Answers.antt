@@ -7,7 +7,7 @@ use Rattle.shore_gate.specs.declared.labels.Label.{Label}
 use Rattle.shore_gate.specs.Label.{label_bytes}
 use Rattle.shore_gate.proofs.WidthLemmas.{length-label_bytes}
 use Rattle.shore_format.specs.Fronts.{IsShut}
-use Rattle.shore_format.specs.Volumes.{volume_label}
+use Rattle.shore_fronts.specs.Volumes.{volume_label}
 use Rattle.shore_format.proofs.FrontLemmas.{label_leaves}
 use Rattle.shore_format.proofs.VolumeLemmas.{closed_is, empty_behind, gated_moments, paged_moments}
 use Rattle.shore_format.proofs.volume.write_volume.Goals as goal

@@ -2,8 +2,8 @@ use Rattle.std.proofs.Common.{◌≡◌, ◌++◌, ◌∷◌, [], List, ℕ, tak
 use Rattle.std.proofs.lemmas.List.{append-nil}
 use Rattle.shore_model.specs.declared.log_records.LogRecord.{LogRecord}
 use Rattle.shore_logrec.specs.Text.{text, texts}
-use Rattle.shore_log.specs.Frames.{frame_head, behind_gate}
-use Rattle.shore_log.proofs.LoggedLemmas.{texts-more}
+use Rattle.shore_frames.specs.Frames.{frame_head, behind_gate}
+use Rattle.shore_frames.proofs.LoggedLemmas.{texts-more}
 use Rattle.shore_log.proofs.group.frame_bytes.Goals as goal
 
 pub loop-record-init : goal.loop-record-init

@@ -1,6 +1,6 @@
 use Rattle.std.proofs.Common.{◌≡◌, ◌++◌, take}
 use Rattle.shore_logrec.specs.Text.{texts}
-use Rattle.shore_log.specs.Frames.{frame_head}
+use Rattle.shore_frames.specs.Frames.{frame_head}
 use Rattle.shore_log.proofs.group.frame_bytes.Given as goal
 
 abbrev pub invariant-loop-record : goal.invariant-loop-record

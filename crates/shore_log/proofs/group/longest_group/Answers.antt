@@ -1,6 +1,6 @@
 use Rattle.std.proofs.Common.{◌≡◌, ℕ, length, take, inl, inr, refl, ap, ◌∙◌, arith}
 use Rattle.shore_logrec.specs.Text.{texts}
-use Rattle.shore_log.proofs.LoggedLemmas.{length-texts-more}
+use Rattle.shore_frames.proofs.LoggedLemmas.{length-texts-more}
 use Rattle.shore_log.proofs.group.longest_group.Goals as goal
 
 pub loop-count-init : goal.loop-count-init

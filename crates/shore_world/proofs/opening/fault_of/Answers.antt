@@ -1,6 +1,6 @@
 use Rattle.std.proofs.Common.{◌≡◌, inr, sym, ◌∙◌, arith, subst}
 use Rattle.shore_disk.specs.Device.{seen}
-use Rattle.shore_log.specs.Offsets.{IsFrameOf}
+use Rattle.shore_frames.specs.Offsets.{IsFrameOf}
 use Rattle.shore_world.proofs.OpenLemmas.{same_number}
 use Rattle.shore_world.proofs.opening.fault_of.Goals as goal
 

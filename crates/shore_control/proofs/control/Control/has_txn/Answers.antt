@@ -1,7 +1,7 @@
 use Rattle.std.proofs.Common.{◌∙◌, ◌≡◌, sym, subst}
 use Rattle.shore_sessions.specs.Views.{IsAmong}
 use Rattle.shore_txn.specs.Transactions as table
-use Rattle.shore_txn.specs.Txns.{as_session_txn}
+use Rattle.shore_undo.specs.Txns.{as_session_txn}
 use Rattle.shore_txn.proofs.OneOfMany.{among_map}
 use Rattle.shore_control.specs.Controls.{txns_in, waits_in}
 use Rattle.shore_control.proofs.Answered.{none_told, some_told}

@@ -1,5 +1,5 @@
 use Rattle.std.proofs.Common.{◌≡◌, List, [], ◌∷◌, None, length, refl, sym, ap, subst, ◌∙◌, arith}
-use Rattle.shore_deadlock.specs.declared.victims.Victim.{Victim}
+use Rattle.shore_cycles.specs.declared.victims.Victim.{Victim}
 use Rattle.shore_control.specs.Noting.{AreNoted, StandsFor, told_cycle, victim_noted}
 use Rattle.shore_control.proofs.NotedVictims.{owners_on, owners_stay, stands_locked}
 use Rattle.shore_control.proofs.control.Control.note_victims.Goals as goal

@@ -1,7 +1,7 @@
 use Rattle.std.proofs.Common.{sym, ap, ◌∙◌}
 use Rattle.shore_sessions.specs.Sessions.{SessionTxn}
 use Rattle.shore_txn.specs.Transactions as table
-use Rattle.shore_txn.specs.Txns.{as_session_txn}
+use Rattle.shore_undo.specs.Txns.{as_session_txn}
 use Rattle.shore_txn.proofs.OneOfMany.{once_same}
 use Rattle.shore_control.specs.Controls.{txns_in}
 use Rattle.shore_control.proofs.control.Control.number_of.Goals as goal

@@ -10,7 +10,7 @@ use Rattle.shore_calls.specs.States.{IsOfSession, State}
 use Rattle.shore_txn.specs.ActiveTxns.{OneBecomes, with_mark}
 use Rattle.shore_txn.specs.Transactions as table
 use Rattle.shore_txn.specs.Transactions.{undos_in}
-use Rattle.shore_txn.specs.Txns.{IsAfterSavepoint, SameTxn}
+use Rattle.shore_undo.specs.Txns.{IsAfterSavepoint, SameTxn}
 use Rattle.shore_txn.proofs.ActiveSteps.{becomes_so}
 use Rattle.shore_control.specs.Controls.{txns_in, waits_in}
 use Rattle.shore_control.specs.Standing.{HasControl}

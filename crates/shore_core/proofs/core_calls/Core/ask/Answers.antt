@@ -14,9 +14,9 @@ use Rattle.shore_calls.proofs.LockRounds.{MayLock, lock_done, lock_refused, lock
 use Rattle.shore_control.specs.Controls.{locks_in}
 use Rattle.shore_txn.specs.Transactions as table
 use Rattle.shore_txn.specs.Transactions.{kept_in, room_in}
-use Rattle.shore_txn.specs.Txns.{last_of}
+use Rattle.shore_undo.specs.Txns.{last_of}
 use Rattle.shore_txn.specs.declared.transactions.Transactions.{Transactions}
-use Rattle.shore_txn.specs.declared.txn.Txn.{Txn}
+use Rattle.shore_undo.specs.declared.txn.Txn.{Txn}
 use Rattle.shore_core.specs.Cores.{control_of, faults_of, first_of, geometry_of, txns_of, waiting_of}
 use Rattle.shore_core.specs.Replies.{as_step, once_noted}
 use Rattle.shore_core.proofs.Acquiring.{asked_blocked, asked_early, asked_lacks, asked_waits, done_waits_not, idle_of, lasts_below, no_damage, no_failure, no_force, same_some, served_at_once}

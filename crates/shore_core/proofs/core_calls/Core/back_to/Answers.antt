@@ -11,8 +11,8 @@ use Rattle.shore_calls.specs.StateChanges.{answered}
 use Rattle.shore_calls.specs.States.{State}
 use Rattle.shore_control.proofs.WaitSteps.{in_none}
 use Rattle.shore_control.specs.Controls.{txns_in}
-use Rattle.shore_txn.specs.Txns.{as_session_txn, rolling_of}
-use Rattle.shore_txn.specs.declared.txn_state.TxnState.{TxnState}
+use Rattle.shore_undo.specs.Txns.{as_session_txn, rolling_of}
+use Rattle.shore_undo.specs.declared.txn_state.TxnState.{TxnState}
 use Rattle.shore_core.specs.Cores.{ComesTo, durable_of, faults_of, first_of, geometry_of, heap_of, last_of, txns_of, waiting_of, waits_of}
 use Rattle.shore_core.proofs.Coming.{comes_same, comes_then}
 use Rattle.shore_core.proofs.Earning.{earned_as}

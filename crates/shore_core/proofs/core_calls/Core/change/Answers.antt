@@ -22,7 +22,7 @@ use Rattle.shore_calls.specs.States.{HasRoomFor, page_slots}
 use Rattle.shore_logged.specs.LoggedHeaps.{IsMade}
 use Rattle.shore_logged.proofs.Made.{appended_is}
 use Rattle.shore_txn.specs.Transactions.{kept_in, room_in}
-use Rattle.shore_txn.specs.Txns.{as_session_txn}
+use Rattle.shore_undo.specs.Txns.{as_session_txn}
 use Rattle.shore_txn.proofs.OneOfMany.{once_same}
 use Rattle.shore_control.specs.Controls.{txns_in}
 use Rattle.shore_control.specs.Standing.{IsLogged, changed}

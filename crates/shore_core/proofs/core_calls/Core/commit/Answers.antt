@@ -21,10 +21,10 @@ use Rattle.shore_calls.specs.declared.step.Wait.TheVariants.{Durable}
 use Rattle.shore_txn.specs.ActiveTxns.{HasMore, OneLeaves}
 use Rattle.shore_txn.specs.Transactions.{kept_in, room_in, undos_in}
 use Rattle.shore_txn.specs.Transactions as table
-use Rattle.shore_txn.specs.Txns.{as_session_txn, last_of}
-use Rattle.shore_txn.specs.UndoEntries.{claims_on}
-use Rattle.shore_txn.specs.declared.txn.Txn.{Txn}
-use Rattle.shore_txn.specs.declared.undo.UndoEntry.{UndoEntry}
+use Rattle.shore_undo.specs.Txns.{as_session_txn, last_of}
+use Rattle.shore_undo.specs.UndoEntries.{claims_on}
+use Rattle.shore_undo.specs.declared.txn.Txn.{Txn}
+use Rattle.shore_undo.specs.declared.undo.UndoEntry.{UndoEntry}
 use Rattle.shore_control.specs.Controls.{txns_in}
 use Rattle.shore_control.specs.Standing.{IsLogged}
 use Rattle.shore_control.specs.declared.control.Control.{Control}

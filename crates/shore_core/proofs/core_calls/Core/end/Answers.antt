@@ -7,7 +7,7 @@ use Rattle.shore_model.specs.Logs.{previous_of}
 use Rattle.shore_sessions.specs.Sessions.{SessionTxn}
 use Rattle.shore_sessions.specs.Views.{IsAmong}
 use Rattle.shore_txn.specs.Transactions as table
-use Rattle.shore_txn.specs.Txns.{as_session_txn}
+use Rattle.shore_undo.specs.Txns.{as_session_txn}
 use Rattle.shore_control.specs.Controls.{txns_in}
 use Rattle.shore_control.specs.Standing.{IsLogged}
 use Rattle.shore_core.specs.Cores.{first_of, txns_of, waiting_of}

@@ -4,8 +4,8 @@ use Rattle.shore_types.specs.declared.layout.TheConstants.{LAST_OPENED}
 use Rattle.shore_sessions.specs.Views.{IsAmong}
 use Rattle.shore_txn.specs.Transactions.{room_in}
 use Rattle.shore_txn.specs.Transactions as table
-use Rattle.shore_txn.specs.Txns.{last_of}
-use Rattle.shore_txn.specs.declared.txn.Txn.{Txn}
+use Rattle.shore_undo.specs.Txns.{last_of}
+use Rattle.shore_undo.specs.declared.txn.Txn.{Txn}
 use Rattle.shore_core.specs.Cores.{first_of, locks_of, waiting_of}
 use Rattle.shore_core.proofs.Placing.{try_done, try_refused}
 use Rattle.shore_core.proofs.Taking.{plain_refusal}

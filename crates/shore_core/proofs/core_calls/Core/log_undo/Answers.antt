@@ -19,7 +19,7 @@ use Rattle.shore_calls.specs.States.{page_slots}
 use Rattle.shore_logged.specs.LoggedHeaps.{IsMade}
 use Rattle.shore_logged.proofs.Made.{appended_is}
 use Rattle.shore_txn.specs.Transactions.{kept_in}
-use Rattle.shore_txn.specs.UndoEntries.{image_of}
+use Rattle.shore_undo.specs.UndoEntries.{image_of}
 use Rattle.shore_control.specs.Controls.{txns_in}
 use Rattle.shore_control.specs.Standing.{HasControl, IsLogged}
 use Rattle.shore_core.specs.Cores.{durable_of, first_of, geometry_of, has_failed, txns_of, waiting_of}

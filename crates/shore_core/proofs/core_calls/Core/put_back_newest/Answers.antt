@@ -10,7 +10,7 @@ use Rattle.shore_pool.specs.Pools.{NeedsForce}
 use Rattle.shore_sessions.specs.Views.{IsAmong}
 use Rattle.shore_calls.specs.States.{page_slots}
 use Rattle.shore_txn.specs.Transactions.{HasTxnOf, kept_in, txns_in, undos_in}
-use Rattle.shore_txn.specs.UndoEntries.{image_of}
+use Rattle.shore_undo.specs.UndoEntries.{image_of}
 use Rattle.shore_control.specs.declared.control.Control.{Control}
 use Rattle.shore_core.specs.Cores.{IsSafe, durable_of, geometry_of, heap_of, last_of, txns_of}
 use Rattle.shore_core.proofs.Earning.{earned_as}

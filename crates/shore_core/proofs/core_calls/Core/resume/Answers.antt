@@ -8,9 +8,9 @@ use Rattle.shore_control.specs.Calls.{as_waiting}
 use Rattle.shore_control.specs.Standing.{HasControl}
 use Rattle.shore_txn.specs.Transactions as table
 use Rattle.shore_txn.specs.Transactions.{kept_in, room_in}
-use Rattle.shore_txn.specs.Txns.{last_of}
+use Rattle.shore_undo.specs.Txns.{last_of}
 use Rattle.shore_txn.specs.declared.transactions.Transactions.{Transactions}
-use Rattle.shore_txn.specs.declared.txn.Txn.{Txn}
+use Rattle.shore_undo.specs.declared.txn.Txn.{Txn}
 use Rattle.shore_core.specs.Cores.{first_of, waiting_of}
 use Rattle.shore_core.proofs.Coming.{comes_same}
 use Rattle.shore_core.proofs.Going.{asks_lock}

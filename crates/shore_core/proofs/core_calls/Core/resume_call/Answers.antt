@@ -19,8 +19,8 @@ use Rattle.shore_txn.specs.Transactions.{kept_in, room_in}
 use Rattle.shore_txn.specs.declared.transactions.Transactions.{Transactions}
 use Rattle.shore_control.proofs.WaitSteps.{call_waits}
 use Rattle.shore_control.specs.Calls.{as_waiting}
-use Rattle.shore_txn.specs.Txns as txns
-use Rattle.shore_txn.specs.declared.txn.Txn.{Txn}
+use Rattle.shore_undo.specs.Txns as txns
+use Rattle.shore_undo.specs.declared.txn.Txn.{Txn}
 use Rattle.shore_core.specs.Cores.{first_of, geometry_of, last_of, locks_of, waiting_of, waits_of}
 use Rattle.shore_core.specs.Replies.{IsEarned, NeedsForce, ReadsWaiting, fault_at}
 use Rattle.shore_core.proofs.Coming.{comes_same, over_as}

@@ -9,8 +9,8 @@ use Rattle.shore_calls.specs.declared.step.Wait.TheVariants.{Durable}
 use Rattle.shore_model.specs.declared.calls.Answer.TheVariants.{Committed}
 use Rattle.shore_txn.specs.Transactions as table
 use Rattle.shore_txn.specs.Transactions.{kept_in, room_in}
-use Rattle.shore_txn.specs.Txns.{last_of}
-use Rattle.shore_txn.specs.declared.txn.Txn.{Txn}
+use Rattle.shore_undo.specs.Txns.{last_of}
+use Rattle.shore_undo.specs.declared.txn.Txn.{Txn}
 use Rattle.shore_types.specs.declared.layout.TheConstants.{LAST_OPENED}
 use Rattle.shore_txn.specs.declared.transactions.Transactions.{Transactions}
 use Rattle.shore_core.specs.Cores.{first_of, geometry_of, waiting_of}

@@ -10,7 +10,7 @@ use Rattle.shore_calls.specs.States.{State}
 use Rattle.shore_control.specs.Controls.{txns_in}
 use Rattle.shore_txn.proofs.OneOfMany.{once_same}
 use Rattle.shore_txn.specs.Transactions.{undos_in}
-use Rattle.shore_txn.specs.Txns.{as_session_txn}
+use Rattle.shore_undo.specs.Txns.{as_session_txn}
 use Rattle.shore_core.specs.Cores.{first_of, txns_of, waiting_of}
 use Rattle.shore_core.proofs.Changed.{earlier_marked}
 use Rattle.shore_core.proofs.Coming.{comes_same}

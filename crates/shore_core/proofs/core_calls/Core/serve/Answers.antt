@@ -1,6 +1,6 @@
 use Rattle.std.proofs.Common.{◌≡◌, true, false, sym, ap, ◌∙◌}
 use Rattle.shore_locks.specs.Tables.{Table, is_waiting}
-use Rattle.shore_txn.specs.Txns.{as_session_txn}
+use Rattle.shore_undo.specs.Txns.{as_session_txn}
 use Rattle.shore_core.specs.Cores.{locks_of}
 use Rattle.shore_core.proofs.Going.{asked_calls}
 use Rattle.shore_core.proofs.Settling.{refused_calls}

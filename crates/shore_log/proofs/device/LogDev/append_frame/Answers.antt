@@ -1,9 +1,9 @@
 use Rattle.std.proofs.Common.{◌≡◌, ◌-◌, ◌++◌, List, ℕ, None, inl, subst, ap, ◌∙◌, take}
 use Rattle.shore_disk.proofs.Moments.{joined, widened}
 use Rattle.shore_model.specs.declared.log_records.LogRecord.{LogRecord}
-use Rattle.shore_log.specs.Frames.{GivesBehind, GivesWithOrWithout}
+use Rattle.shore_frames.specs.Frames.{GivesBehind, GivesWithOrWithout}
 use Rattle.shore_log.specs.Settled.{IsSettled, stable, waiting}
-use Rattle.shore_log.proofs.LoggedLemmas.{longest_is, on_ok, on_ok_two}
+use Rattle.shore_frames.proofs.LoggedLemmas.{longest_is, on_ok, on_ok_two}
 use Rattle.shore_log.proofs.device.LogDev.append_frame.Goals as goal
 
 pub returns-in-Some-clause-forced : goal.returns-in-Some-clause-forced

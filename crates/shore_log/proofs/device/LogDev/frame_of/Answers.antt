@@ -2,8 +2,8 @@ use Rattle.std.proofs.Common.{◌≡◌, ◌++◌, ◌∷◌, drop, length, ap, 
 use Rattle.std.specs.Prelude.{IfOk}
 use Rattle.std.proofs.lemmas.List.{drop_at}
 use Rattle.shore_disk.specs.Device.{seen}
-use Rattle.shore_log.specs.Frames.{text}
-use Rattle.shore_log.specs.Offsets.{IsFrameOf}
+use Rattle.shore_frames.specs.Frames.{text}
+use Rattle.shore_frames.specs.Offsets.{IsFrameOf}
 use Rattle.shore_log.proofs.device.LogDev.frame_of.Goals as goal
 
 pub returns-clause-found : goal.returns-clause-found

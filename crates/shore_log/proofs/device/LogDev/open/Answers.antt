@@ -1,11 +1,11 @@
 use Rattle.std.proofs.Common.{Bool, IsTrue, List, ℕ, drop, subst, sym, ◌∙◌, arith}
 use Rattle.std.proofs.lemmas.List.{take_all}
 use Rattle.shore_disk.specs.Device.{History, Stands, seen}
-use Rattle.shore_log.specs.Frames.{Frames}
+use Rattle.shore_frames.specs.Frames.{Frames}
 use Rattle.shore_log.proofs.ForceLemmas.{settled_from}
-use Rattle.shore_log.proofs.StreamLemmas.{frames_some}
-use Rattle.shore_log.proofs.ReadLemmas.{not_both}
-use Rattle.shore_log.proofs.LoggedLemmas.{test-AreNumbered}
+use Rattle.shore_frames.proofs.StreamLemmas.{frames_some}
+use Rattle.shore_frames.proofs.ReadLemmas.{not_both}
+use Rattle.shore_frames.proofs.LoggedLemmas.{test-AreNumbered}
 use Rattle.shore_log.proofs.device.LogDev.open.Goals as goal
 
 pub invariant_of-result : goal.invariant_of-result

@@ -4,11 +4,11 @@ use Rattle.shore_disk.proofs.Moments.{widened}
 use Rattle.shore_gate.specs.declared.gates.TheConstants.{OPEN}
 use Rattle.shore_model.specs.declared.log_records.LogRecord.{LogRecord}
 use Rattle.shore_logrec.specs.Text.{texts}
-use Rattle.shore_log.specs.Frames.{behind_gate, text, GivesWithOrWithout}
+use Rattle.shore_frames.specs.Frames.{behind_gate, text, GivesWithOrWithout}
 use Rattle.shore_log.specs.Settled.{stable}
-use Rattle.shore_log.proofs.FrameLemmas.{AreGroups-front, text-push, joined-push, length-text-push}
+use Rattle.shore_frames.proofs.FrameLemmas.{AreGroups-front, text-push, joined-push, length-text-push}
 use Rattle.shore_log.proofs.ForceLemmas.{image, torn_gate, over_gate, number_of_staged}
-use Rattle.shore_log.proofs.LoggedLemmas.{take-more_group}
+use Rattle.shore_frames.proofs.LoggedLemmas.{take-more_group}
 use Rattle.shore_log.proofs.device.LogDev.open_staged.Goals as goal
 
 pub returns-in_err-open_gate-clause-any_moment : goal.returns-in_err-open_gate-clause-any_moment

@@ -4,11 +4,11 @@ use Rattle.shore_disk.specs.Device.{overwritten, Torn, TornFrom, Stands}
 use Rattle.shore_disk.proofs.Moments.{started, widened}
 use Rattle.shore_model.specs.declared.log_records.LogRecord.{LogRecord}
 use Rattle.shore_logrec.specs.Text.{Fits, texts}
-use Rattle.shore_log.specs.Frames.{behind_gate, text, GivesBehind, IsLongest}
+use Rattle.shore_frames.specs.Frames.{behind_gate, text, GivesBehind, IsLongest}
 use Rattle.shore_log.specs.Settled.{stable, waiting}
-use Rattle.shore_log.proofs.FrameLemmas.{length-behind_gate}
+use Rattle.shore_frames.proofs.FrameLemmas.{length-behind_gate}
 use Rattle.shore_log.proofs.ForceLemmas.{staged_from, settled_gives, torn_rest, over_rest}
-use Rattle.shore_log.proofs.LoggedLemmas.{none_longest}
+use Rattle.shore_frames.proofs.LoggedLemmas.{none_longest}
 use Rattle.shore_log.proofs.device.LogDev.stage.Goals as goal
 
 pub returns-then-count-eq0-clause-none_waits : goal.returns-then-count-eq0-clause-none_waits

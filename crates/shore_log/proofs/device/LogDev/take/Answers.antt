@@ -1,7 +1,7 @@
 use Rattle.std.proofs.Common.{◌≤◌, List, IsTrue, ap, length, length-append, sym, subst, arith, ◌∷◌, []}
 use Rattle.shore_model.specs.declared.log_records.LogRecord.{LogRecord}
-use Rattle.shore_log.specs.LoggedRecords.{are_numbered}
-use Rattle.shore_log.proofs.LoggedLemmas.{numbered-push}
+use Rattle.shore_frames.specs.LoggedRecords.{are_numbered}
+use Rattle.shore_frames.proofs.LoggedLemmas.{numbered-push}
 use Rattle.shore_log.proofs.device.LogDev.take.Goals as goal
 
 pub invariant_of-self : goal.invariant_of-self

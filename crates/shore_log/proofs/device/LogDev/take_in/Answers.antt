@@ -1,6 +1,6 @@
 use Rattle.std.proofs.Common.{◌≤◌, length, IsTrue, subst, arith}
-use Rattle.shore_log.specs.LoggedRecords.{are_numbered}
-use Rattle.shore_log.proofs.LoggedLemmas.{numbered-appended, grown}
+use Rattle.shore_frames.specs.LoggedRecords.{are_numbered}
+use Rattle.shore_frames.proofs.LoggedLemmas.{numbered-appended, grown}
 use Rattle.shore_log.proofs.device.LogDev.take_in.Goals as goal
 
 pub invariant_of-self : goal.invariant_of-self

@@ -1,5 +1,5 @@
 use Rattle.std.proofs.Common.{◌-◌, length}
-use Rattle.shore_log.proofs.LoggedLemmas.{Fits-behind}
+use Rattle.shore_frames.proofs.LoggedLemmas.{Fits-behind}
 use Rattle.shore_log.proofs.device.LogDev.waiting_records.Goals as goal
 
 pub returns-clause-fit : goal.returns-clause-fit

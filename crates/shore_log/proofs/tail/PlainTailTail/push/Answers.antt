@@ -1,5 +1,5 @@
 use Rattle.std.proofs.Common.{is_ok, arith}
-use Rattle.shore_log.proofs.LoggedLemmas.{numbered-pushed}
+use Rattle.shore_frames.proofs.LoggedLemmas.{numbered-pushed}
 use Rattle.shore_log.proofs.tail.PlainTailTail.push.Goals as goal
 
 pub invariant_of-self : goal.invariant_of-self

@@ -1,7 +1,7 @@
 use Rattle.std.proofs.Common.{List, sym, subst}
 use Rattle.shore_txn.specs.ActiveTxns.{OneLeaves}
 use Rattle.shore_txn.specs.Transactions.{txns_in}
-use Rattle.shore_txn.specs.declared.undo.UndoEntry.{UndoEntry}
+use Rattle.shore_undo.specs.declared.undo.UndoEntry.{UndoEntry}
 use Rattle.shore_txn.proofs.ActiveSteps.{claims_left, undos_without}
 use Rattle.shore_txn.proofs.transactions.Transactions.note_commit.Goals as goal
 

@@ -1,7 +1,7 @@
 use Rattle.std.proofs.Common.{List, ap, arith}
 use Rattle.shore_room.specs.LogRooms.{compensation_costs}
-use Rattle.shore_txn.specs.UndoEntries.{images_of}
-use Rattle.shore_txn.specs.declared.undo.UndoEntry.{UndoEntry}
+use Rattle.shore_undo.specs.UndoEntries.{images_of}
+use Rattle.shore_undo.specs.declared.undo.UndoEntry.{UndoEntry}
 use Rattle.shore_txn.proofs.ActiveSteps.{claims_kept, leaves_empty, none_changed, undos_without}
 use Rattle.shore_txn.proofs.transactions.Transactions.note_end.Goals as goal
 

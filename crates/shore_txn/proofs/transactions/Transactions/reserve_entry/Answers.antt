@@ -2,7 +2,7 @@ use Rattle.std.proofs.Common.{◌≡◌, refl, sym, subst, ◌∙◌, OnOk, Ok, 
 use Rattle.std.specs.declared.alloc.AllocError.{AllocError}
 use Rattle.shore_sessions.specs.Views.{IsAmong}
 use Rattle.shore_txn.specs.ActiveTxns.{CanNote, undos_of}
-use Rattle.shore_txn.specs.Txns.{SameTxn}
+use Rattle.shore_undo.specs.Txns.{SameTxn}
 use Rattle.shore_txn.specs.declared.active.ActiveTxn.{ActiveTxn}
 use Rattle.shore_txn.proofs.ActiveLemmas.{holds_at, one_at, read_at, room_at}
 use Rattle.shore_txn.proofs.ActiveSteps.{AreKept, becomes_at, claims_stay, undos_stay}

@@ -1,9 +1,9 @@
 use Rattle.std.proofs.Common.{◌≡◌, refl, ap, ◌∙◌, arith}
 use Rattle.shore_room.specs.LogRooms.{owed}
 use Rattle.shore_txn.specs.ActiveTxns.{undos_of}
-use Rattle.shore_txn.specs.Txns.{as_session_txn, entries_of}
+use Rattle.shore_undo.specs.Txns.{as_session_txn, entries_of}
 use Rattle.shore_txn.specs.declared.active.ActiveTxn.{ActiveTxn}
-use Rattle.shore_txn.specs.declared.txn.Txn.{Txn}
+use Rattle.shore_undo.specs.declared.txn.Txn.{Txn}
 use Rattle.shore_txn.proofs.ActiveLemmas.{holds_at, one_at, read_at, session_txn_there}
 use Rattle.shore_txn.proofs.ActiveSteps.{kept_without, leaves_at}
 use Rattle.shore_txn.proofs.Lending.{kept_in}

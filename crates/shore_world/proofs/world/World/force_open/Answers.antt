@@ -2,7 +2,7 @@ use Rattle.std.proofs.Common.{inl, inr, ◌<◌, ◌≤◌, ◌++◌, List, leng
 use Rattle.shore_disk.specs.Device.{LeavesOnly}
 use Rattle.shore_heap.specs.Heaps as heaps
 use Rattle.shore_model.specs.declared.log_records.LogRecord.{LogRecord}
-use Rattle.shore_log.specs.Frames.{GivesWithOrWithout}
+use Rattle.shore_frames.specs.Frames.{GivesWithOrWithout}
 use Rattle.shore_log.specs.Settled.{records_of_log, stable}
 use Rattle.shore_log.specs.declared.device.LogDev.{LogDev}
 use Rattle.shore_calls.specs.StateChanges.{with_durable, with_failure}

@@ -4,7 +4,7 @@ use Rattle.shore_heap.specs.Heaps as heaps
 use Rattle.shore_types.specs.declared.layout.Geometry.{Geometry}
 use Rattle.shore_types.specs.declared.faults.Fault.TheVariants.{LogFull}
 use Rattle.shore_model.specs.declared.log_records.LogRecord.{LogRecord}
-use Rattle.shore_log.specs.Frames.{GivesBehind}
+use Rattle.shore_frames.specs.Frames.{GivesBehind}
 use Rattle.shore_log.specs.Settled.{records_of_log, waiting, stable, IsSettled}
 use Rattle.shore_log.specs.declared.device.LogDev.{LogDev}
 use Rattle.shore_calls.specs.StateChanges.{with_failure}

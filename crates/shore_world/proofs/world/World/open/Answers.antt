@@ -5,9 +5,9 @@ use Rattle.shore_dwrite.specs.Checks.{RefusesArea}
 use Rattle.shore_analysis.specs.Tables.{AreTables}
 use Rattle.shore_dwrite.specs.Settled as pages_of
 use Rattle.shore_dwrite.specs.Shown.{Shows}
-use Rattle.shore_format.specs.Causes.{HasCauseOfPair}
+use Rattle.shore_fronts.specs.Causes.{HasCauseOfPair}
 use Rattle.shore_heap.specs.Heaps as heaps
-use Rattle.shore_log.specs.Frames.{Gives}
+use Rattle.shore_frames.specs.Frames.{Gives}
 use Rattle.shore_log.specs.Settled.{device_of, fault_of, records_of_log}
 use Rattle.shore_log.specs.declared.device.LogDev.{LogDev}
 use Rattle.shore_model.specs.declared.log_records.LogRecord.{LogRecord}
@@ -19,7 +19,7 @@ use Rattle.shore_stands.specs.StandsFor.{begun_on}
 use Rattle.shore_stays.specs.SoundStores.{found_state}
 use Rattle.shore_world.specs.OpenedVolumes as volumes
 use Rattle.shore_world.specs.declared.world.World.{World}
-use Rattle.shore_log.specs.Offsets.{IsBadAt, IsFrameOf}
+use Rattle.shore_frames.specs.Offsets.{IsBadAt, IsFrameOf}
 use Rattle.shore_types.specs.declared.faults.Device.TheVariants.{Log as DeviceLog}
 use Rattle.shore_types.specs.declared.faults.Fault.TheVariants.{Damaged}
 use Rattle.shore_gate.specs.Anchor.{offset_of}

@@ -1,0 +1,5 @@
+pub mod Marks
+pub mod Blockers
+pub mod Reached
+pub mod Cycles
+pub mod Searching

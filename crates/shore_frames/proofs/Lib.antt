@@ -1,0 +1,6 @@
+pub mod FrameLemmas
+pub mod LoggedLemmas
+pub mod ReadLemmas
+pub mod OffsetLemmas
+pub mod StreamLemmas
+pub mod WalkLemmas

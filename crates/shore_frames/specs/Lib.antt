@@ -1,0 +1,4 @@
+pub mod Frames
+pub mod LoggedRecords
+pub mod Offsets
+pub mod Reading

@@ -1,0 +1,4 @@
+pub mod Causes
+pub mod Fronts
+pub mod Pairs
+pub mod Volumes

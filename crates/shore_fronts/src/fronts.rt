@@ -1,0 +1,147 @@
+//! Reading what the fronts of a pair say.
+ghost use Rattle.std.specs.Prelude.{◌≡◌, ◌⊎◌, ◌≤◌, ◌↔◌, IsTrue, IfOk, IfErr, OnOk, OnErr, MatchResult, Ok, Err};
+ghost use Rattle.shore_types.specs.Layout.{IsInLimits};
+ghost use Rattle.shore_types.specs.declared.layout.Geometry.{Geometry};
+ghost use Rattle.shore_disk.specs.Cause.{HasCause};
+ghost use Rattle.shore_disk.specs.Device.{size, seen, noted, synced};
+ghost use Rattle.shore_gate.specs.Checks.{IsFromOutside};
+ghost use Rattle.shore_gate.specs.Anchor as anchors;
+ghost use Rattle.shore_gate.specs.Anchor.{Counts, offset_of};
+ghost use Rattle.shore_gate.specs.declared.anchors.Slot.{Slot};
+ghost use Rattle.shore_fronts.specs.Causes.{HasCauseOfPair};
+ghost use Rattle.shore_fronts.specs.Fronts.{IsLogLength, first_anchor, first_checked, is_first};
+ghost use Rattle.shore_fronts.specs.Pairs.{AreFronts, ArePaired, HaveFronts, RefusesFronts, RefusesLabels};
+ghost use Rattle.shore_fronts.specs.Volumes.{volume_bytes};
+
+use shore_disk::Disk;
+use shore_gate::{Anchor, Anchors, Label, read_label};
+use shore_types::{Device, Fault, Geometry};
+use std::alloc::Global;
+
+/// What the fronts of a pair say.
+#[derive(Drop)]
+pub struct Fronts {
+    pub geometry: Geometry,
+    /// The same, as the volume's label has it, for those who keep the pages.
+    pub of_pages: Geometry,
+    /// The byte of the anchor that counts.
+    pub anchor_offset: u64,
+}
+
+/// Reads the fronts of a pair: a barrier on both devices, the log's first; the labels, the log's first; that they are of one pair; and the
+/// anchor that counts. `WrongPair` if the labels are laid out differently. No checkpoint is made as yet, and the log begins at its first
+/// record: another anchor is `Damaged` at its offset.
+pub fn read_fronts<L: Disk, V: Disk>(
+    alloc: Global,
+    log: &mut L,
+    volume: &mut V,
+) -> Result<Fronts, Fault>
+    // The fronts that stand there are answered, and nothing else is taken for one.
+    ensures found { IsTrue (L.is_honest log.old) → IsTrue (V.is_honest volume.old) → IfOk result (AreFronts (L.history log.old) (V.history volume.old)) }
+    ensures only { IsTrue (L.is_honest log.old) → IsTrue (V.is_honest volume.old) → (g : Geometry) → HaveFronts g (L.history log.old) (V.history volume.old)
+        → MatchResult result (λ fronts. fronts.geometry ≡ g) IsFromOutside }
+
+    // What is refused goes by the checks in their order.
+    ensures refused { IsTrue (L.is_honest log.old) → IsTrue (V.is_honest volume.old)
+        → IfErr result (λ fault. IsFromOutside fault ⊎ RefusesFronts (L.history log.old) (V.history volume.old) fault) }
+
+    // Both have synced; at an error each has synced or has done nothing.
+    ensures log_synced { IsTrue (L.is_honest log.old) → OnOk result (L.history log.new ≡ noted (L.history log.old) synced) }
+    ensures volume_synced { IsTrue (V.is_honest volume.old) → OnOk result (V.history volume.new ≡ noted (V.history volume.old) synced) }
+    ensures log_still { IsTrue (L.is_honest log.old)
+        → OnErr result ((L.history log.new ≡ L.history log.old) ⊎ (L.history log.new ≡ noted (L.history log.old) synced)) }
+    ensures volume_still { IsTrue (V.is_honest volume.old)
+        → OnErr result ((V.history volume.new ≡ V.history volume.old) ⊎ (V.history volume.new ≡ noted (V.history volume.old) synced)) }
+
+    ensures long { IfOk result (λ fronts. IsLogLength (size (L.history log.old)) × (size (V.history volume.old) ≡ volume_bytes fronts.geometry)) }
+    ensures limits { IfOk result (λ fronts. IsInLimits fronts.geometry × (fronts.of_pages ≡ fronts.geometry)) }
+    ensures honest { (L.is_honest log.new ≡ L.is_honest log.old) × (V.is_honest volume.new ≡ V.is_honest volume.old) }
+    ensures size { (size (L.history log.new) ≡ size (L.history log.old)) × (size (V.history volume.new) ≡ size (V.history volume.old)) }
+    ensures cause { HasCauseOfPair result (L.faults log.old) (L.faults log.new) (V.faults volume.old) (V.faults volume.new) }
+{
+    log.sync()?;
+    volume.sync()?;
+    let (geometry, of_pages) = read_labels(alloc, log, volume)?;
+    let anchor_offset = read_anchor(log)?;
+    Ok(Fronts {
+        geometry,
+        of_pages,
+        anchor_offset,
+    })
+}
+
+// The geometry as each label has it: they are the same.
+fn read_labels<L: Disk, V: Disk>(
+    alloc: Global,
+    log: &mut L,
+    volume: &mut V,
+) -> Result<(Geometry, Geometry), Fault>
+    ensures found { IsTrue (L.is_honest log.old) → IsTrue (V.is_honest volume.old) → IfOk result (λ found. ArePaired found.0 (L.history log.old) (V.history volume.old)) }
+    ensures only { IsTrue (L.is_honest log.old) → IsTrue (V.is_honest volume.old) → (g : Geometry) → ArePaired g (L.history log.old) (V.history volume.old)
+        → MatchResult result (λ found. found.0 ≡ g) IsFromOutside }
+    ensures refused { IsTrue (L.is_honest log.old) → IsTrue (V.is_honest volume.old)
+        → IfErr result (λ fault. IsFromOutside fault ⊎ RefusesLabels (L.history log.old) (V.history volume.old) fault) }
+    ensures long { IfOk result (λ found. IsLogLength (size (L.history log.old)) × (size (V.history volume.old) ≡ volume_bytes found.0)) }
+    ensures limits { IfOk result (λ found. IsInLimits found.0 × (found.1 ≡ found.0)) }
+    ensures log_same { IsTrue (L.is_honest log.old) → L.history log.new ≡ L.history log.old }
+    ensures volume_same { IsTrue (V.is_honest volume.old) → V.history volume.new ≡ V.history volume.old }
+    ensures honest { (L.is_honest log.new ≡ L.is_honest log.old) × (V.is_honest volume.new ≡ V.is_honest volume.old) }
+    ensures size { (size (L.history log.new) ≡ size (L.history log.old)) × (size (V.history volume.new) ≡ size (V.history volume.old)) }
+    ensures cause { HasCauseOfPair result (L.faults log.old) (L.faults log.new) (V.faults volume.old) (V.faults volume.new) }
+{
+    let of_log = read_label(alloc, log, Device::Log)?;
+    let of_volume = read_label(alloc, volume, Device::Volume)?;
+    let log_geometry = geometry_of(of_log);
+    let volume_geometry = geometry_of(of_volume);
+    if !are_same(&log_geometry, &volume_geometry) {
+        return Err(Fault::WrongPair);
+    }
+    Ok((log_geometry, volume_geometry))
+}
+
+fn geometry_of(label: Label) -> Geometry
+    ensures { result ≡ record { pair = label.pair; max_locks = label.max_locks; stores = label.stores } }
+{
+    Geometry {
+        pair: label.pair,
+        max_locks: label.max_locks,
+        stores: label.stores,
+    }
+}
+
+fn are_same(one: &Geometry, other: &Geometry) -> bool
+    ensures { IsTrue result ↔ (other.now ≡ one.now) }
+{
+    one.pair == other.pair && one.max_locks == other.max_locks && one.stores == other.stores
+}
+
+// The byte of the anchor that counts.
+fn read_anchor<D: Disk>(log: &mut D) -> Result<u64, Fault>
+    requires { IsLogLength (size (D.history log.old)) }
+    ensures found { IsTrue (D.is_honest log.old) → IfOk result (λ offset. (slot : Slot) × Counts (seen (D.history log.old)) slot first_anchor × (offset ≡ offset_of slot)) }
+    ensures only { IsTrue (D.is_honest log.old) → (slot : Slot) → Counts (seen (D.history log.old)) slot first_anchor
+        → MatchResult result (λ offset. offset ≡ offset_of slot) IsFromOutside }
+    ensures refused { IsTrue (D.is_honest log.old)
+        → IfErr result (λ fault. IsFromOutside fault ⊎ (first_checked (anchors.verdict_of (seen (D.history log.old))) ≡ Err fault)) }
+    ensures same { IsTrue (D.is_honest log.old) → D.history log.new ≡ D.history log.old }
+    ensures honest { D.is_honest log.new ≡ D.is_honest log.old }
+    ensures size { size (D.history log.new) ≡ size (D.history log.old) }
+    ensures cause { HasCause result (D.faults log.old) (D.faults log.new) }
+{
+    let counting = Anchors::read(log)?;
+    let anchor_offset = counting.slot.offset();
+    if !is_first(&counting.anchor) {
+        return Err(Fault::Damaged {
+            device: Device::Log,
+            place: anchor_offset,
+        });
+    }
+    Ok(anchor_offset)
+}
+
+// Whether a log is read from its first record on, without a checkpoint.
+fn is_first(anchor: &Anchor) -> bool
+    ensures { result ≡ is_first anchor.now }
+{
+    anchor.checkpoint.0 == 0 && anchor.tail.0 == 1 && anchor.tail_place == 0
+}

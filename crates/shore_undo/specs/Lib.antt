@@ -1,0 +1,2 @@
+pub mod UndoEntries
+pub mod Txns
