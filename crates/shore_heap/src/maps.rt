@@ -14,7 +14,8 @@ pub fn unknown_maps(alloc: Global, geometry: &Geometry) -> Result<Vec<FreeMap>, 
     let stores = geometry.stores.as_slice();
     let mut maps = Vec::with_capacity(alloc, stores.len())?;
     for i in 0..stores.len() {
-        maps.push(FreeMap::new(alloc, stores[i] as usize)?)?;
+        let map = FreeMap::new(alloc, stores[i] as usize)?;
+        maps.push_reserved(map);
     }
     Ok(maps)
 }

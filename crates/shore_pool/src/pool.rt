@@ -299,7 +299,7 @@ impl<D: Disk> Pool<D> {
             let Some(number) = self.next_due(next, seen) else {
                 return Ok(pages);
             };
-            pages.push(number)?;
+            pages.push_reserved(number);
             next = number + 1;
         }
         Ok(pages)

@@ -1,5 +1,7 @@
+use Rattle.std.proofs.Common.{◌≡◌, vec_capacity}
+use Rattle.shore_types.specs.declared.layout.TheConstants.{MAX_BATCH_PAGES}
 use Rattle.shore_pool.specs.Batches.{IsChosen}
 use Rattle.shore_pool.proofs.pool.Pool.due.Given as goal
 
 abbrev pub invariant-loop : goal.invariant-loop
-invariant-loop g l = IsChosen l.self l.from l.seen l.pages.items l.next l.counter
+invariant-loop g l = IsChosen l.self l.from l.seen l.pages.items l.next l.counter × (vec_capacity l.pages ≡ MAX_BATCH_PAGES)
