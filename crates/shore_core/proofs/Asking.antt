@@ -1,6 +1,7 @@
 -- Which calls ask for a lock, and when a call has to need the force that it asks for.
 use Rattle.std.proofs.Common.{◌≡◌, ℕ, Result, refl, sym, subst}
 use Rattle.std.specs.Prelude.{IfErr, IsSome}
+use Rattle.std.proofs.lemmas.Bool.{false≢true}
 use Rattle.shore_model.specs.declared.calls.Call.{Call}
 use Rattle.shore_model.specs.declared.calls.Call.TheVariants as call
 use Rattle.shore_disk.specs.declared.device.Disk as disk
@@ -49,9 +50,9 @@ module _ {T V : Type 0} {G : tail.Ghosts T} {H : disk.Ghosts V} (old : Core T V 
   forced_as_asked new (call.TryLock granule mode) asked = refl
   forced_as_asked new call.Begin asked = refl
   forced_as_asked new call.Savepoint asked = refl
-  forced_as_asked new (call.BackTo index) asked = cc
+  forced_as_asked new (call.BackTo index) asked = absurd (false≢true asked)
   forced_as_asked new call.Commit asked = refl
-  forced_as_asked new call.Abort asked = cc
+  forced_as_asked new call.Abort asked = absurd (false≢true asked)
   forced_as_asked new (call.Prepare global) asked = refl
   forced_as_asked new (call.Resolve global outcome) asked = refl
   forced_as_asked new call.InDoubt asked = refl

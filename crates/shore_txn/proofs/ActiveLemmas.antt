@@ -1,8 +1,9 @@
 -- The transaction at an index of the table, between older ones and newer ones.
-use Rattle.std.proofs.Common.{◌≡◌, ◌≢◌, inl, inr, ◌<◌, ℕ, zero, suc, List, [], ◌∷◌, ◌++◌, drop, length, map, set, take, reverse, Some, None, refl, sym, ap, subst, ◌∙◌, arith}
+use Rattle.std.proofs.Common.{◌≡◌, ◌≢◌, inl, inr, ◌<◌, ℕ, zero, suc, List, [], ◌∷◌, ◌++◌, drop, length, map, set, take, reverse, Option, Some, refl, sym, ap, subst, ◌∙◌, arith}
 use Rattle.std.specs.List.{All, HoldsAt, slice_get, slice_index_or}
+use Rattle.std.specs.Option.{unwrap_or}
 use Rattle.std.proofs.lemmas.List.{append_assoc, map-append, reverse-append, reverse-reverse}
-use Rattle.std.proofs.lemmas.Option.{get_or_from_slice_get, slice_get_cases}
+use Rattle.std.proofs.lemmas.Option.{get_or_from_slice_get, none-some, slice_get_cases}
 use Rattle.shore_sessions.specs.Sessions.{EachOnce, SessionTxn}
 use Rattle.shore_sessions.specs.Views.{IsAmong}
 use Rattle.shore_txn.specs.ActiveTxns as active
@@ -35,11 +36,8 @@ pub record IsAt (items : List ActiveTxn) (index : ℕ) (a : ActiveTxn) : Type 0 
 
 parts_at : (items : List ActiveTxn) (index : ℕ) (a : ActiveTxn) → slice_get items index ≡ Some a
     → (items ≡ take index items ++ a ∷ drop (suc index) items) × ((b : ActiveTxn) → set items index b ≡ take index items ++ b ∷ drop (suc index) items)
-parts_at [] index a is = let clash : None ≡ Some a = is in absurd (apart clash)
-  where
-    apart : None ≡ Some a → ⊥
-    apart clash = cc
-parts_at (x ∷ items) zero a is = let same : x ≡ a = cc in (ap (λ y. y ∷ items) same, λ b. refl)
+parts_at [] index a is = absurd (none-some a is)
+parts_at (x ∷ items) zero a is = let same : x ≡ a = ap (λ (o : Option ActiveTxn). unwrap_or o x) is in (ap (λ y. y ∷ items) same, λ b. refl)
 parts_at (x ∷ items) (suc index) a is = let rest = parts_at items index a is in (ap (λ l. x ∷ l) rest.0, λ b. ap (λ l. x ∷ l) (rest.1 b))
 
 pub is_at : (items : List ActiveTxn) (index : ℕ) (a : ActiveTxn) → slice_get items index ≡ Some a → IsAt items index a

@@ -1,9 +1,10 @@
 -- The places of the changes of many transactions, and what they tell of a page.
 use Rattle.std.proofs.Common.{◌≡◌, ◌+◌, ◌*◌, ◌-◌, ◌^◌, ◌<◌, ◌≤◌, ◌++◌, ◌∷◌, [], ℕ, zero, suc, List, Option, Some, None, get_or, length, map, take, option_to_list, refl, sym, ap, subst, ◌∙◌, arith}
 use Rattle.std.specs.List.{slice_get}
+use Rattle.std.specs.Option.{unwrap_or}
 use Rattle.std.proofs.lemmas.List.{append_assoc, append-nil, length-map, length-reverse}
 use Rattle.std.proofs.lemmas.Nat.{div-add-mod', div-mul-add, mod-mul-add, mod_below}
-use Rattle.std.proofs.lemmas.Option.{slice_get_within}
+use Rattle.std.proofs.lemmas.Option.{none-some, slice_get_within}
 use Rattle.shore_types.specs.declared.ids.PageId.{PageId}
 use Rattle.shore_room.specs.LogRooms.{compensation_costs, owed_by_all}
 use Rattle.shore_txn.specs.ActiveTxns as active
@@ -48,8 +49,8 @@ owed_few table = let sum = table.sum in let within = table.room.within in let sh
 -- ---- what the older transactions tell
 
 take_more : (items : List ActiveTxn) (index : ℕ) (a : ActiveTxn) → slice_get items index ≡ Some a → take (suc index) items ≡ take index items ++ a ∷ []
-take_more [] index a is = let clash : None ≡ Some a = is in absurd cc
-take_more (x ∷ items) zero a is = let same : x ≡ a = cc in ap (λ (y : ActiveTxn). y ∷ []) same
+take_more [] index a is = absurd (none-some a is)
+take_more (x ∷ items) zero a is = let same : x ≡ a = ap (λ (o : Option ActiveTxn). unwrap_or o x) is in ap (λ (y : ActiveTxn). y ∷ []) same
 take_more (x ∷ items) (suc index) a is = ap (λ (l : List ActiveTxn). x ∷ l) (take_more items index a is)
 
 module _ (p : PageId) (items : List ActiveTxn) where
