@@ -30,7 +30,9 @@ impl<R: Read + Drop> Lines<R> {
             if self.input.read_until(b'\n', &mut text)? == 0 {
                 return Ok(None);
             }
-            if text.as_slice().get(before..).map(without_end) == Some(BORDER) {
+            if let Some(line) = text.get(before..)
+                && without_end(line) == BORDER
+            {
                 text.truncate(before);
                 return Ok(Some(text));
             }

@@ -372,26 +372,21 @@ fn write_records<W: Write>(stores: &[Pairs], out: &mut W) -> io::Result<()> {
 }
 
 fn log<W: Write>(world: &ScriptWorld, out: &mut W) -> io::Result<()> {
-    let mut is_empty = true;
     let (forced, waiting) = world.records();
-    for (number, record) in (1u64..u64::MAX).zip(forced.iter().chain(waiting)) {
-        is_empty = false;
-        render::log_record(out, number, record)?;
+    if forced.is_empty() && waiting.is_empty() {
+        return out.write_all(b"no records\n");
     }
-    if is_empty {
-        out.write_all(b"no records\n")
-    } else {
-        Ok(())
-    }
+    let next = render::log_records(out, 1, forced)?;
+    render::log_records(out, next, waiting)?;
+    Ok(())
 }
 
-// Every node of the lock table, in the order of granule and transaction.
+// Every node of the lock table, by granule and then by transaction: so the world lists them.
 fn locks<W: Write>(alloc: Global, world: &ScriptWorld, out: &mut W) -> io::Result<()> {
-    let mut nodes = match world.nodes(alloc) {
+    let nodes = match world.nodes(alloc) {
         Ok(nodes) => nodes,
         Err(_) => return render::fault(out, None, &Fault::Memory),
     };
-    nodes.sort_unstable_by_key(|node| (node.granule, node.txn));
     if nodes.is_empty() {
         return out.write_all(b"no locks\n");
     }

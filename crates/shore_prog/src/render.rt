@@ -92,8 +92,17 @@ fn record<W: Write>(out: &mut W, id: Rid, found: &[u8]) -> io::Result<()> {
     out.write_all(b"\n")
 }
 
-/// Writes the line of a record of the log.
-pub fn log_record<W: Write>(out: &mut W, number: u64, record: &LogRecord) -> io::Result<()> {
+/// Writes a line for each of these records of the log, of which the first has this number. Answers the number behind the last.
+pub fn log_records<W: Write>(out: &mut W, first: u64, records: &[LogRecord]) -> io::Result<u64> {
+    let mut number = first;
+    for record in records {
+        log_record(out, number, record)?;
+        number = number.saturating_add(1);
+    }
+    Ok(number)
+}
+
+fn log_record<W: Write>(out: &mut W, number: u64, record: &LogRecord) -> io::Result<()> {
     let kind = kind_name(&record.payload);
     let txn = record.txn;
     let previous = record.previous;

@@ -11,8 +11,8 @@ const MOST_SESSIONS: u32 = 999;
 
 /// A decimal number with no sign and no leading zero.
 pub fn number(word: &str) -> Option<u64> {
-    let plain = word.bytes().all(|byte| byte.is_ascii_digit());
-    if !plain || (word.starts_with('0') && word.len() > 1) {
+    // `parse` takes a plus sign and leading zeros.
+    if word.starts_with('+') || (word.starts_with('0') && word.len() > 1) {
         return None;
     }
     word.parse::<u64>().ok()
@@ -44,12 +44,16 @@ pub fn store(word: &str) -> Option<StoreId> {
 
 /// A granule: the volume `v`, a store, a page as `0.1`, or a record.
 pub fn granule(word: &str) -> Option<Granule> {
-    match word.bytes().filter(|byte| *byte == b'.').count() {
-        0 if word == "v" => Some(Granule::Volume),
-        0 => Some(Granule::Store(store(word)?)),
-        1 => Some(Granule::Page(page(word)?)),
-        _ => Some(Granule::Record(record(word)?)),
+    if word == "v" {
+        return Some(Granule::Volume);
     }
+    if let Some(id) = record(word) {
+        return Some(Granule::Record(id));
+    }
+    if let Some(id) = page(word) {
+        return Some(Granule::Page(id));
+    }
+    Some(Granule::Store(store(word)?))
 }
 
 fn page(word: &str) -> Option<PageId> {
