@@ -1,2 +1,1 @@
 mod definitions;
-mod formats;
