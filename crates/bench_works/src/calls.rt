@@ -1,40 +1,47 @@
 //! How long the calls of a manager take, over devices in memory: of one session, alone and beside others.
 ghost use Rattle.std.specs.Prelude.{◌≤◌};
 
-use crate::clock::nanos_of_a_round;
-use crate::counted::CountDisk;
-use crate::layout::STORE;
-use crate::manager::{
-    FRAMES, LAST_SESSION, Manager, SESSION, ask, bytes, commit, fill, logged, new_manager, opened,
-    record_of, records, scan, taken_apart, update,
-};
+use crate::manager::{FRAMES, LAST_SESSION, Manager, Pair, SESSION, new_manager, opened};
 use crate::waiting;
+use bench_parts::host::Host;
+use bench_parts::layout::STORE;
+use bench_parts::records::record_of;
 use shore_disk::Pick;
 use shore_model::Call;
-use shore_types::{Fault, Granule, Mode, SessionId};
-use std::alloc::Global;
+use shore_types::{Granule, Mode, SessionId};
 use std::io;
-use std::time::Instant;
 
-// The names of all works.
-const WORKS: [&str; 17] = [
-    "call_get",
-    "call_get_beside",
-    "call_insert",
-    "call_insert_beside",
-    "call_insert_far",
-    "call_update",
-    "call_update_beside",
-    "call_scan",
-    "call_scan_beside",
-    "call_savepoint",
-    "call_back",
-    "call_commit",
-    "call_abort",
-    "call_open",
-    "call_let_through",
-    "call_wait",
-    "call_victims",
+/// All works with a manager in memory, by their names.
+pub const WORKS: [(&str, Work); 17] = [
+    ("call_get", Work::Call(Kind::Get, 1_000, None)),
+    (
+        "call_get_beside",
+        Work::Call(Kind::Get, 1_000, Some(Mode::IX)),
+    ),
+    ("call_insert", Work::Call(Kind::Insert, 0, None)),
+    (
+        "call_insert_beside",
+        Work::Call(Kind::Insert, 0, Some(Mode::IX)),
+    ),
+    ("call_insert_far", Work::Call(Kind::Insert, 78_000, None)),
+    ("call_update", Work::Call(Kind::Update, 1_000, None)),
+    (
+        "call_update_beside",
+        Work::Call(Kind::Update, 1_000, Some(Mode::IX)),
+    ),
+    ("call_scan", Work::Call(Kind::Scan, 1_000, None)),
+    (
+        "call_scan_beside",
+        Work::Call(Kind::Scan, 1_000, Some(Mode::IS)),
+    ),
+    ("call_savepoint", Work::Call(Kind::Savepoint, 1_000, None)),
+    ("call_back", Work::Call(Kind::Back, 1_000, None)),
+    ("call_commit", Work::Call(Kind::Nothing, 0, None)),
+    ("call_abort", Work::Abort),
+    ("call_open", Work::Open),
+    ("call_let_through", Work::Waiting(waiting::Work::LetThrough)),
+    ("call_wait", Work::Waiting(waiting::Work::Wait)),
+    ("call_victims", Work::Waiting(waiting::Work::Victims)),
 ];
 
 /// A call on records of a hundred bytes, under its locks.
@@ -42,10 +49,8 @@ const WORKS: [&str; 17] = [
 pub enum Kind {
     /// Gets one of a thousand records.
     Get,
-    /// Inserts a record into a store that was empty before the first round.
+    /// Inserts a record, into a store that was empty before the first round or behind a thousand pages that are full.
     Insert,
-    /// The same, behind a thousand pages that are full.
-    InsertFar,
     /// Updates one of a thousand records.
     Update,
     /// Scans a store of a thousand records, with few pages more than they need: a page that has no record is no record's cost.
@@ -61,10 +66,9 @@ pub enum Kind {
 /// What a round does.
 #[derive(Clone, Copy)]
 pub enum Work {
-    /// Makes a call. A hundred rounds with one are a transaction, with its begin, its commit and its force.
-    Alone(Kind),
-    /// The same, beside 255 transactions that have an intention on the store.
-    Beside(Kind),
+    /// Makes a call, behind so many records; alone, or beside 255 transactions that have an intention on the store by which they are in nobody's way. A hundred
+    /// rounds are a transaction, with its begin, its commit and its force.
+    Call(Kind, u64, Option<Mode>),
     /// The abort of a transaction with so many updates as there are rounds: a round is an update that is put back.
     Abort,
     /// An open of what a crash left of one transaction with so many inserts as there are rounds: a round is a record.
@@ -73,251 +77,147 @@ pub enum Work {
     Waiting(waiting::Work),
 }
 
-impl Work {
-    pub fn of(name: &str) -> Option<Work> {
-        match name {
-            "call_get" => Some(Work::Alone(Kind::Get)),
-            "call_get_beside" => Some(Work::Beside(Kind::Get)),
-            "call_insert" => Some(Work::Alone(Kind::Insert)),
-            "call_insert_beside" => Some(Work::Beside(Kind::Insert)),
-            "call_insert_far" => Some(Work::Alone(Kind::InsertFar)),
-            "call_update" => Some(Work::Alone(Kind::Update)),
-            "call_update_beside" => Some(Work::Beside(Kind::Update)),
-            "call_scan" => Some(Work::Alone(Kind::Scan)),
-            "call_scan_beside" => Some(Work::Beside(Kind::Scan)),
-            "call_savepoint" => Some(Work::Alone(Kind::Savepoint)),
-            "call_back" => Some(Work::Alone(Kind::Back)),
-            "call_commit" => Some(Work::Alone(Kind::Nothing)),
-            "call_abort" => Some(Work::Abort),
-            "call_open" => Some(Work::Open),
-            "call_let_through" => Some(Work::Waiting(waiting::Work::LetThrough)),
-            "call_wait" => Some(Work::Waiting(waiting::Work::Wait)),
-            "call_victims" => Some(Work::Waiting(waiting::Work::Victims)),
-            _ => None,
-        }
-    }
-
-    // The pages of the store.
-    fn pages(self) -> u32 {
-        match self {
-            Work::Alone(Kind::Scan) | Work::Beside(Kind::Scan) | Work::Waiting(_) => 16,
-            _ => 4_096,
-        }
-    }
-
-    // How many records are made before the first round.
-    fn records(self, rounds: u64) -> u64 {
-        match self {
-            Work::Alone(kind) | Work::Beside(kind) => kind.records(),
-            Work::Waiting(_) => 2,
-            Work::Abort => 1_000,
-            Work::Open => rounds,
-        }
-    }
-}
-
-impl Kind {
-    fn records(self) -> u64 {
-        match self {
-            Kind::Insert | Kind::Nothing => 0,
-            Kind::Get | Kind::Update | Kind::Scan | Kind::Savepoint | Kind::Back => 1_000,
-            Kind::InsertFar => 78_000,
-        }
-    }
-
-    // The intention on the store that the others have, so that they are in nobody's way.
-    fn intention_beside(self) -> Mode {
-        match self {
-            Kind::Scan => Mode::IS,
-            Kind::Get
-            | Kind::Insert
-            | Kind::InsertFar
-            | Kind::Update
-            | Kind::Savepoint
-            | Kind::Back
-            | Kind::Nothing => Mode::IX,
-        }
-    }
-
-    // How many rounds are one transaction.
-    fn rounds_of_a_transaction(self) -> u64
-        ensures { 1 ≤ result }
-    {
-        match self {
-            Kind::Nothing => 1,
-            _ => 100,
-        }
+// How many rounds with a call are one transaction.
+fn rounds_of_a_transaction(kind: Kind) -> u64
+    ensures { 1 ≤ result }
+{
+    match kind {
+        Kind::Nothing => 1,
+        _ => 100,
     }
 }
 
 /// Prints how many of a hundred rounds of each work are done.
 pub fn count(rt: &HostRuntime) -> io::Result<()> {
-    for name in WORKS {
-        if let Some(work) = Work::of(name) {
-            let (_, done) = measured(rt, work, 100)?;
-            println!(rt; "{name} {done}")?;
-        }
+    let host = Host::new(rt)?;
+    for (name, work) in WORKS {
+        let (_, done) = measured(&host, work, 100);
+        println!(rt; "{name} {done}")?;
     }
     Ok(())
 }
 
 // One call. Whether it was answered, and a scan with all records.
-fn call_of(alloc: Global, manager: &mut Manager, kind: Kind, round: u64) -> Result<bool, Fault> {
+fn has_called(manager: &mut Manager, kind: Kind, round: u64) -> bool {
     match kind {
-        Kind::Get => ask(alloc, manager, SESSION, Call::Get(record_of(round))),
-        Kind::Insert | Kind::InsertFar => {
-            ask(alloc, manager, SESSION, Call::Insert(STORE, bytes(alloc)?))
-        }
-        Kind::Update => update(alloc, manager, SESSION, round),
-        Kind::Scan => Ok(scan(alloc, manager)?.len() == 1_000),
+        Kind::Get => manager.has_answered(SESSION, Call::Get(record_of(round))),
+        Kind::Insert => matches!(manager.insert(), Ok(true)),
+        Kind::Update => matches!(manager.update(SESSION, round), Ok(true)),
+        Kind::Scan => match manager.scan() {
+            Ok(pairs) => pairs.len() == 1_000,
+            Err(_) => false,
+        },
         Kind::Savepoint => {
-            ask(alloc, manager, SESSION, Call::Savepoint)?;
-            ask(alloc, manager, SESSION, Call::BackTo(0))
+            manager.has_answered(SESSION, Call::Savepoint)
+                && manager.has_answered(SESSION, Call::BackTo(0))
         }
         Kind::Back => {
-            update(alloc, manager, SESSION, round)?;
-            ask(alloc, manager, SESSION, Call::BackTo(0))
+            manager.update(SESSION, round).is_ok() && manager.has_answered(SESSION, Call::BackTo(0))
         }
-        Kind::Nothing => Ok(true),
+        Kind::Nothing => true,
     }
 }
 
-// One round of a transaction, which begins with its first and commits with its last one. One that goes back sets its savepoint first.
-fn round_of(
-    alloc: Global,
-    manager: &mut Manager,
-    kind: Kind,
-    round: u64,
-    is_last: bool,
-) -> Result<bool, Fault> {
-    let rounds = kind.rounds_of_a_transaction();
-    let within = round % rounds;
-    if within == 0 {
-        ask(alloc, manager, SESSION, Call::Begin)?;
-        if matches!(kind, Kind::Savepoint | Kind::Back) {
-            ask(alloc, manager, SESSION, Call::Savepoint)?;
-        }
-    }
-    let is_done = call_of(alloc, manager, kind, round)?;
-    if is_last || within == rounds - 1 {
-        commit(alloc, manager, SESSION)?;
-    }
-    Ok(is_done)
+// The begin of a transaction. One that goes back sets its savepoint first.
+fn has_begun(manager: &mut Manager, kind: Kind) -> bool {
+    let goes_back = matches!(kind, Kind::Savepoint | Kind::Back);
+    manager.has_answered(SESSION, Call::Begin)
+        && (!goes_back || manager.has_answered(SESSION, Call::Savepoint))
 }
 
-// Makes a manager ready for the first round.
-fn prepare(alloc: Global, manager: &mut Manager, work: Work, rounds: u64) -> Result<(), Fault> {
-    fill(alloc, manager, work.records(rounds))?;
+// Makes a manager ready for the first round, and tells whether it is.
+fn prepare(manager: &mut Manager, work: Work, rounds: u64) -> bool {
+    let mut is_ready = true;
     match work {
-        Work::Alone(_) | Work::Open => Ok(()),
+        Work::Call(_, _, None) | Work::Open => {}
         Work::Abort => {
-            ask(alloc, manager, SESSION, Call::Begin)?;
+            is_ready &= manager.has_answered(SESSION, Call::Begin);
             for round in 0..rounds {
-                update(alloc, manager, SESSION, round)?;
+                is_ready &= manager.update(SESSION, round).is_ok();
             }
-            Ok(())
         }
-        Work::Beside(kind) => {
+        Work::Call(_, _, Some(intention)) => {
             for number in 2..=LAST_SESSION {
-                ask(alloc, manager, SessionId(number), Call::Begin)?;
-                let lock = Call::Lock(Granule::Store(STORE), kind.intention_beside());
-                ask(alloc, manager, SessionId(number), lock)?;
+                let lock = Call::Lock(Granule::Store(STORE), intention);
+                is_ready &= manager.has_answered(SessionId(number), Call::Begin);
+                is_ready &= manager.has_answered(SessionId(number), lock);
             }
-            Ok(())
         }
-        Work::Waiting(work) => waiting::prepare(alloc, manager, work),
+        Work::Waiting(work) => is_ready &= waiting::prepare(manager, work),
     }
+    is_ready
 }
 
 /// The nanoseconds of a round, and how many were done; nothing is done if there is no memory.
-pub fn measured(rt: &HostRuntime, work: Work, rounds: u64) -> io::Result<(u128, u64)> {
-    let mut manager = match new_manager(rt.alloc(), work.pages()) {
-        Ok(manager) => manager,
-        Err(_) => return Ok((0, 0)),
+pub fn measured(host: &Host, work: Work, rounds: u64) -> (u64, u64) {
+    // The pages of the store, and how many records are made before the first round.
+    let (pages, records) = match work {
+        Work::Call(Kind::Scan, records, _) => (16, records),
+        Work::Call(_, records, _) => (4_096, records),
+        Work::Abort => (4_096, 1_000),
+        Work::Open => (4_096, rounds),
+        Work::Waiting(_) => (16, 2),
     };
-    let measured = measured_on(rt, &mut manager, work, rounds);
-    let (log, volume) = taken_apart(manager);
+    let mut manager = match new_manager(host.alloc(), pages) {
+        Ok(manager) => manager,
+        Err(_) => return (0, 0),
+    };
+    let is_ready = manager.fill(records).is_ok() && prepare(&mut manager, work, rounds);
+    let measured = match work {
+        _ if !is_ready => (0, 0),
+        Work::Call(kind, _, _) => measured_rounds(host, &mut manager, kind, rounds),
+        Work::Abort => measured_abort(host, &mut manager, rounds),
+        Work::Waiting(work) => waiting::measured(host, &mut manager, work, rounds),
+        Work::Open => (0, 0),
+    };
+    let pair = manager.into_devices();
     match work {
-        Work::Open => measured_open(rt, log, volume, rounds),
+        Work::Open => measured_open(host, pair, rounds),
         _ => measured,
     }
 }
 
-fn measured_on(
-    rt: &HostRuntime,
-    manager: &mut Manager,
-    work: Work,
-    rounds: u64,
-) -> io::Result<(u128, u64)> {
-    if prepare(rt.alloc(), manager, work, rounds).is_err() {
-        return Ok((0, 0));
-    }
-    match work {
-        Work::Alone(kind) | Work::Beside(kind) => measured_rounds(rt, manager, kind, rounds),
-        Work::Abort => measured_abort(rt, manager, rounds),
-        Work::Waiting(work) => waiting::measured(rt, manager, work, rounds),
-        Work::Open => Ok((0, 0)),
-    }
-}
-
-fn measured_rounds(
-    rt: &HostRuntime,
-    manager: &mut Manager,
-    kind: Kind,
-    rounds: u64,
-) -> io::Result<(u128, u64)> {
-    let start = Instant::now(rt)?;
+// A transaction begins with its first round, and commits with its last one.
+fn measured_rounds(host: &Host, manager: &mut Manager, kind: Kind, rounds: u64) -> (u64, u64) {
+    let of_a_transaction = rounds_of_a_transaction(kind);
+    let start = host.nanos();
     let mut done = 0u64;
     for round in 0..rounds {
-        let is_last = round + 1 == rounds;
-        if matches!(
-            round_of(rt.alloc(), manager, kind, round, is_last),
-            Ok(true)
-        ) {
-            done = done.saturating_add(1);
-        }
+        let within = round % of_a_transaction;
+        let is_begun = within != 0 || has_begun(manager, kind);
+        let is_done = is_begun && has_called(manager, kind, round);
+        let goes_on = within != of_a_transaction - 1 && round + 1 != rounds;
+        let is_ended = goes_on || manager.commit(SESSION).is_ok();
+        done = done.saturating_add(u64::from(is_done && is_ended));
     }
-    Ok((nanos_of_a_round(rt, &start, rounds)?, done))
+    (host.nanos_of_a_round(start, rounds), done)
 }
 
 // With how many updates were put back: the log has a record more for each, and one for the end.
-fn measured_abort(
-    rt: &HostRuntime,
-    manager: &mut Manager,
-    updates: u64,
-) -> io::Result<(u128, u64)> {
-    let before = logged(manager);
-    let start = Instant::now(rt)?;
-    let is_done = ask(rt.alloc(), manager, SESSION, Call::Abort).is_ok();
-    let nanos = nanos_of_a_round(rt, &start, updates)?;
-    let undone = logged(manager).saturating_sub(before).saturating_sub(1);
-    Ok((nanos, if is_done { undone } else { 0 }))
+fn measured_abort(host: &Host, manager: &mut Manager, updates: u64) -> (u64, u64) {
+    let before = manager.logged();
+    let start = host.nanos();
+    let is_done = manager.ask(SESSION, Call::Abort).is_ok();
+    let nanos = host.nanos_of_a_round(start, updates);
+    let undone = manager.logged().saturating_sub(before).saturating_sub(1);
+    (nanos, if is_done { undone } else { 0 })
 }
 
 // Of what a loss of power leaves of the devices. With how many records are shown.
-fn measured_open(
-    rt: &HostRuntime,
-    mut log: CountDisk,
-    mut volume: CountDisk,
-    rounds: u64,
-) -> io::Result<(u128, u64)> {
+fn measured_open(host: &Host, pair: Pair, rounds: u64) -> (u64, u64) {
+    let (mut log, mut volume) = pair;
     log.crash(Pick::Old);
     volume.crash(Pick::Old);
-    let start = Instant::now(rt)?;
-    let opened = opened(rt.alloc(), log, volume, FRAMES);
-    let nanos = nanos_of_a_round(rt, &start, rounds);
-    let shown = shown_if_opened(rt.alloc(), opened);
-    Ok((nanos?, shown))
-}
-
-fn shown_if_opened(alloc: Global, opened: Result<Manager, Fault>) -> u64 {
+    let start = host.nanos();
+    let opened = opened(host.alloc(), (log, volume), FRAMES);
+    let nanos = host.nanos_of_a_round(start, rounds);
     let Ok(mut manager) = opened else {
-        return 0;
+        return (nanos, 0);
     };
-    let records = records(alloc, &mut manager);
-    taken_apart(manager);
+    let records = manager.records();
+    manager.into_devices();
     match records {
-        Ok(records) => records.len() as u64,
-        Err(_) => 0,
+        Ok(records) => (nanos, records.len() as u64),
+        Err(_) => (nanos, 0),
     }
 }

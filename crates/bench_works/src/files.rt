@@ -1,48 +1,43 @@
 //! How long a manager takes over two files: one kind of work on records of so many bytes, with a line `NAME.rSIZE VALUE UNIT` for each figure.
 //! Exit status 0: done. 1: refused, or a record was not as acknowledged. 2: there is no such work, or it takes no such size or count.
-mod figures;
 mod plan;
 mod store;
 mod works;
 
-use plan::Plan;
+use bench_parts::host::Host;
+use bench_parts::named;
+use plan::{Plan, WORKS, Work};
+use shore_types::layout::MAX_RECORD_BYTES;
 use std::io;
 use std::process::ExitCode;
-use works::{Work, perform};
+use works::perform;
 
 // A run that was refused.
 const REFUSED: u8 = 1;
 // Words that name no work.
 const NO_WORK: u8 = 2;
 
-fn number(word: &str) -> Option<u64> {
-    word.parse::<u64>().ok()
-}
-
-// Does a work, and prints its figures or the fault that it ended with.
-fn measure(rt: &HostRuntime, work: Work, plan: &Plan) -> io::Result<ExitCode> {
-    match perform(rt, work, plan) {
-        Ok(figures) => {
-            for figure in &figures {
-                figure.print(rt, plan.size)?;
-            }
-            Ok(ExitCode::SUCCESS)
-        }
-        Err(fault) => {
-            println!(rt; "fault {fault}")?;
-            Ok(ExitCode::from(REFUSED))
-        }
-    }
-}
-
 /// Prints how the works over files are called.
 pub fn print_usage(rt: &HostRuntime) -> io::Result<()> {
     println!(rt; "bench_works WORK SIZE DIR [N]: bench/store names the works")
 }
 
-fn refuse(rt: &HostRuntime) -> io::Result<ExitCode> {
-    print_usage(rt)?;
-    Ok(ExitCode::from(NO_WORK))
+fn number(word: &str) -> Option<u64> {
+    word.parse::<u64>().ok()
+}
+
+// The work of a name, the size of its records and how often it is done: as often as its table says if nothing is said.
+fn read(name: &str, size: &str, count: Option<&str>) -> Option<(Work, usize, u64)> {
+    let (work, by_default) = named(&WORKS, name)?;
+    let size = number(size)?;
+    let count = match count {
+        Some(word) => number(word)?,
+        None => by_default,
+    };
+    if size > MAX_RECORD_BYTES as u64 {
+        return None;
+    }
+    Some((work, size as usize, count))
 }
 
 /// Does the work of a name, on records of a size, over files of a folder, so many times or as often as it is done if nothing is said.
@@ -53,18 +48,23 @@ pub fn run(
     folder: &str,
     count: Option<&str>,
 ) -> io::Result<ExitCode> {
-    let (Some(work), Some(size)) = (Work::of(name), number(size)) else {
-        return refuse(rt);
+    let Some((work, size, count)) = read(name, size, count) else {
+        print_usage(rt)?;
+        return Ok(ExitCode::from(NO_WORK));
     };
-    let count = match count {
-        Some(word) => number(word),
-        None => Some(work.default_count()),
+    let host = Host::new(rt)?;
+    let plan = Plan {
+        host,
+        work,
+        size,
+        count,
+        folder,
     };
-    let Some(count) = count else {
-        return refuse(rt);
-    };
-    match Plan::new(rt.alloc(), size, count, folder)? {
-        Some(plan) => measure(rt, work, &plan),
-        None => refuse(rt),
+    match perform(&plan) {
+        Ok(()) => Ok(ExitCode::SUCCESS),
+        Err(fault) => {
+            println!(rt; "fault {fault}")?;
+            Ok(ExitCode::from(REFUSED))
+        }
     }
 }

@@ -1,15 +1,16 @@
-//! A manager over two devices, in memory or over files, its sessions, and the calls that the works make; and records of a hundred bytes.
+//! A manager over two devices, in memory or over files, its sessions, and the calls that the works make.
 ghost use Rattle.std.specs.Prelude.{◌≤◌};
 ghost use Rattle.shore_calls.specs.Events.{IsServed};
 ghost use Rattle.shore_types.specs.declared.layout.TheConstants.{MAX_PAGES, MIN_POOL_FRAMES};
 ghost use Rattle.shore_world.specs.Events.{IsServedEvent};
 
-use crate::counted::CountDisk;
-use crate::layout::{STORE, geometry, record_id, volume_bytes};
+use bench_parts::counted::CountDisk;
+use bench_parts::layout::{STORE, geometry, volume_bytes};
+use bench_parts::records::{hundred_bytes, record_of};
 use shore_model::{Answer, Call};
-use shore_types::{Bytes, Fault, Geometry, Granule, Mode, Pairs, Rid, Sequence, SessionId};
+use shore_types::{Fault, Geometry, Granule, Mode, Pairs, SessionId};
 use shore_world::{Event, Step, World, format};
-use std::alloc::{AllocError, Global};
+use std::alloc::Global;
 
 /// The session that is measured.
 pub const SESSION: SessionId = SessionId(1);
@@ -17,55 +18,53 @@ pub const SESSION: SessionId = SessionId(1);
 /// The sessions beside it: as many transactions as there may be.
 pub const LAST_SESSION: u32 = 256;
 
-/// How many records of a hundred bytes a page takes.
-const RECORDS_OF_A_PAGE: u64 = 78;
-
 const LOG_BYTES: u64 = 1 << 26;
-
-const RECORD: [u8; 100] = [0x5A; 100];
-
-/// In a box, since each function that moves what is not would be dear to prove: a world has many fields.
-pub type Manager = Box<World<CountDisk, CountDisk>>;
 
 /// As many as the greatest store has pages, so that each call is measured with its pages in memory.
 pub const FRAMES: usize = 4_096;
+
+/// The devices of the log and of the volume.
+pub type Pair = (CountDisk, CountDisk);
+
+/// A manager with its memory. In a box, since each function that moves what is not would be dear to prove: a world has many fields. It is no `Drop`, so that each
+/// ends by `into_devices`: one that went out of scope would have a `drop` to prove of every part that it has.
+pub struct Manager {
+    alloc: Global,
+    pub world: Box<World<CountDisk, CountDisk>>,
+}
 
 /// A manager over devices in memory, whose one store has so many pages.
 pub fn new_manager(alloc: Global, pages: u32) -> Result<Manager, Fault> {
     let geometry = geometry(alloc, 4_096, pages)?;
     let log = CountDisk::in_memory(alloc, LOG_BYTES)?;
     let volume = CountDisk::in_memory(alloc, volume_bytes(pages))?;
-    formatted(alloc, log, volume, &geometry, FRAMES)
+    formatted(alloc, (log, volume), &geometry, FRAMES)
 }
 
 /// The manager of a pair of devices that is formatted first. What is written is counted from then on.
 pub fn formatted(
     alloc: Global,
-    mut log: CountDisk,
-    mut volume: CountDisk,
+    pair: Pair,
     geometry: &Geometry,
     frames: usize,
 ) -> Result<Manager, Fault>
     requires some { MIN_POOL_FRAMES ≤ frames }
     requires most { frames ≤ MAX_PAGES }
 {
+    let (mut log, mut volume) = pair;
     format(alloc, &mut log, &mut volume, geometry)?;
-    opened(alloc, log.counted_anew(), volume.counted_anew(), frames)
+    opened(alloc, (log.counted_anew(), volume.counted_anew()), frames)
 }
 
 /// The manager of a pair of devices, with so many frames for pages.
-pub fn opened(
-    alloc: Global,
-    log: CountDisk,
-    volume: CountDisk,
-    frames: usize,
-) -> Result<Manager, Fault>
+pub fn opened(alloc: Global, pair: Pair, frames: usize) -> Result<Manager, Fault>
     requires some { MIN_POOL_FRAMES ≤ frames }
     requires most { frames ≤ MAX_PAGES }
 {
+    let (log, volume) = pair;
     match World::open(alloc, log, volume, frames) {
         Ok(world) => match Box::new(alloc, world) {
-            Ok(manager) => Ok(manager),
+            Ok(world) => Ok(Manager { alloc, world }),
             Err(refused) => {
                 refused.value.into_devices();
                 Err(Fault::Memory)
@@ -75,132 +74,122 @@ pub fn opened(
     }
 }
 
-/// The devices of a manager that ends. Each manager ends here: one that went out of scope would have a `drop` to prove of every part that it has.
-pub fn taken_apart(manager: Manager) -> (CountDisk, CountDisk) {
-    Box::into_inner(manager).into_devices()
-}
-
-/// The records in place.
-pub fn records(alloc: Global, manager: &mut Manager) -> Result<Pairs, Fault> {
-    manager.dump(alloc, STORE)
-}
-
-/// How many records the log has.
-pub fn logged(manager: &Manager) -> u64 {
-    let (handed_over, waiting) = manager.records();
-    (handed_over.len() as u64).saturating_add(waiting.len() as u64)
-}
-
-/// One of the first thousand records.
-pub fn record_of(round: u64) -> Rid {
-    let number = round % 1_000;
-    record_id(
-        (number / RECORDS_OF_A_PAGE) as u32,
-        (number % RECORDS_OF_A_PAGE) as u16,
-    )
-}
-
-/// A hundred bytes, copied from a record at hand: filled one by one they would cost more than a call.
-pub fn bytes(alloc: Global) -> Result<Bytes, AllocError> {
-    Ok(Sequence::from_vec(Vec::from_slice(alloc, &RECORD)?))
-}
-
-/// Whether an event was done; else it waits, or there was nothing to do.
-fn is_done(alloc: Global, manager: &mut Manager, event: Event) -> Result<bool, Fault>
-    requires { IsServedEvent event }
-{
-    match manager.step(alloc, event) {
-        Step::Done(_) => Ok(true),
-        Step::Refused(fault) => Err(fault),
-        Step::Waits(_) | Step::Nothing => Ok(false),
+impl Manager {
+    /// The devices of a manager that ends.
+    pub fn into_devices(self) -> Pair {
+        let Manager { alloc: _, world } = self;
+        Box::into_inner(world).into_devices()
     }
-}
 
-/// A call of a session. Whether it was answered; else it waits.
-pub fn ask(
-    alloc: Global,
-    manager: &mut Manager,
-    session: SessionId,
-    call: Call,
-) -> Result<bool, Fault>
-    requires { IsServed call }
-{
-    is_done(alloc, manager, Event::Call(session, call))
-}
-
-/// A session's update of one of the first thousand records.
-pub fn update(
-    alloc: Global,
-    manager: &mut Manager,
-    session: SessionId,
-    round: u64,
-) -> Result<bool, Fault> {
-    let call = Call::Update(record_of(round), bytes(alloc)?);
-    ask(alloc, manager, session, call)
-}
-
-/// The records that a scan of the store shows.
-pub fn scan(alloc: Global, manager: &mut Manager) -> Result<Pairs, Fault> {
-    match manager.step(alloc, Event::Call(SESSION, Call::Scan(STORE))) {
-        Step::Done(Answer::Scanned(pairs)) => Ok(pairs),
-        Step::Refused(fault) => Err(fault),
-        _ => Err(Fault::Failed),
+    /// The records in place.
+    pub fn records(&mut self) -> Result<Pairs, Fault> {
+        self.world.dump(self.alloc, STORE)
     }
-}
 
-/// Begins a transaction that has the whole store, so that it asks for no lock of a record.
-pub fn begin_alone(alloc: Global, manager: &mut Manager) -> Result<bool, Fault> {
-    ask(alloc, manager, SESSION, Call::Begin)?;
-    ask(
-        alloc,
-        manager,
-        SESSION,
-        Call::Lock(Granule::Store(STORE), Mode::EX),
-    )
-}
-
-/// Makes so many records in a transaction that has the whole store, and commits it.
-pub fn fill(alloc: Global, manager: &mut Manager, records: u64) -> Result<(), Fault> {
-    begin_alone(alloc, manager)?;
-    for _ in 0..records {
-        ask(alloc, manager, SESSION, Call::Insert(STORE, bytes(alloc)?))?;
+    /// How many records the log has.
+    pub fn logged(&self) -> u64 {
+        let (handed_over, waiting) = self.world.records();
+        (handed_over.len() as u64).saturating_add(waiting.len() as u64)
     }
-    commit(alloc, manager, SESSION)
-}
 
-/// Commits the transaction of a session, forces all records of the log and takes the answer.
-pub fn commit(alloc: Global, manager: &mut Manager, session: SessionId) -> Result<(), Fault> {
-    ask(alloc, manager, session, Call::Commit)?;
-    force(alloc, manager)?;
-    resume(alloc, manager, session)
-}
-
-/// Makes every record of the log durable, as many at a time as a frame holds.
-pub fn force(alloc: Global, manager: &mut Manager) -> Result<(), Fault> {
-    for _ in 0..u64::MAX {
-        if !is_done(alloc, manager, Event::ForceStage)? {
-            break;
-        }
-        is_done(alloc, manager, Event::ForceOpen)?;
-    }
-    Ok(())
-}
-
-/// Writes every dirty page with a durable number back.
-pub fn write_back(alloc: Global, manager: &mut Manager) -> Result<(), Fault> {
-    for _ in 0..u64::MAX {
-        if !is_done(alloc, manager, Event::FlushStep)? {
-            break;
+    /// Whether an event was done; else it waits, or there was nothing to do.
+    fn is_done(&mut self, event: Event) -> Result<bool, Fault>
+        requires { IsServedEvent event }
+    {
+        match self.world.step(self.alloc, event) {
+            Step::Done(_) => Ok(true),
+            Step::Refused(fault) => Err(fault),
+            Step::Waits(_) | Step::Nothing => Ok(false),
         }
     }
-    Ok(())
-}
 
-/// The answer to the session's call that waited. It is the fault `Failed` if the call waits still.
-pub fn resume(alloc: Global, manager: &mut Manager, session: SessionId) -> Result<(), Fault> {
-    if is_done(alloc, manager, Event::Resume(session))? {
+    /// A call of a session. Whether it was answered; else it waits.
+    pub fn ask(&mut self, session: SessionId, call: Call) -> Result<bool, Fault>
+        requires { IsServed call }
+    {
+        self.is_done(Event::Call(session, call))
+    }
+
+    /// Whether a call of a session was answered.
+    pub fn has_answered(&mut self, session: SessionId, call: Call) -> bool
+        requires { IsServed call }
+    {
+        matches!(self.ask(session, call), Ok(true))
+    }
+
+    /// An insert of the session that is measured.
+    pub fn insert(&mut self) -> Result<bool, Fault> {
+        let call = Call::Insert(STORE, hundred_bytes(self.alloc)?);
+        self.ask(SESSION, call)
+    }
+
+    /// A session's update of one of the first thousand records.
+    pub fn update(&mut self, session: SessionId, round: u64) -> Result<bool, Fault> {
+        let call = Call::Update(record_of(round), hundred_bytes(self.alloc)?);
+        self.ask(session, call)
+    }
+
+    /// The records that a scan of the store shows.
+    pub fn scan(&mut self) -> Result<Pairs, Fault> {
+        match self
+            .world
+            .step(self.alloc, Event::Call(SESSION, Call::Scan(STORE)))
+        {
+            Step::Done(Answer::Scanned(pairs)) => Ok(pairs),
+            Step::Refused(fault) => Err(fault),
+            _ => Err(Fault::Failed),
+        }
+    }
+
+    /// Begins a transaction that has the whole store, so that it asks for no lock of a record.
+    pub fn begin_alone(&mut self) -> Result<bool, Fault> {
+        self.ask(SESSION, Call::Begin)?;
+        self.ask(SESSION, Call::Lock(Granule::Store(STORE), Mode::EX))
+    }
+
+    /// Makes so many records in a transaction that has the whole store, and commits it.
+    pub fn fill(&mut self, records: u64) -> Result<(), Fault> {
+        self.begin_alone()?;
+        for _ in 0..records {
+            self.insert()?;
+        }
+        self.commit(SESSION)
+    }
+
+    /// Commits the transaction of a session, forces all records of the log and takes the answer.
+    pub fn commit(&mut self, session: SessionId) -> Result<(), Fault> {
+        self.ask(session, Call::Commit)?;
+        self.force()?;
+        self.resume(session)
+    }
+
+    /// Makes every record of the log durable, as many at a time as a frame holds.
+    pub fn force(&mut self) -> Result<(), Fault> {
+        for _ in 0..u64::MAX {
+            if !self.is_done(Event::ForceStage)? {
+                break;
+            }
+            self.is_done(Event::ForceOpen)?;
+        }
         Ok(())
-    } else {
-        Err(Fault::Failed)
+    }
+
+    /// Writes every dirty page with a durable number back.
+    pub fn write_back(&mut self) -> Result<(), Fault> {
+        for _ in 0..u64::MAX {
+            if !self.is_done(Event::FlushStep)? {
+                break;
+            }
+        }
+        Ok(())
+    }
+
+    /// The answer to the session's call that waited. It is the fault `Failed` if the call waits still.
+    pub fn resume(&mut self, session: SessionId) -> Result<(), Fault> {
+        if self.is_done(Event::Resume(session))? {
+            Ok(())
+        } else {
+            Err(Fault::Failed)
+        }
     }
 }

@@ -1,11 +1,10 @@
 //! How long a manager takes over sessions that wait for one another: 256 of them, over devices in memory. Of each round one part is measured, and neither what
 //! makes it ready nor what ends it.
-use crate::manager::{LAST_SESSION, Manager, SESSION, ask, commit, record_of, resume, update};
+use crate::manager::{LAST_SESSION, Manager, SESSION};
+use bench_parts::host::Host;
+use bench_parts::records::record_of;
 use shore_model::Call;
 use shore_types::{Fault, SessionId};
-use std::alloc::Global;
-use std::io;
-use std::time::Instant;
 
 /// What is measured of a round.
 #[derive(Clone, Copy)]
@@ -19,93 +18,71 @@ pub enum Work {
     Victims,
 }
 
-/// Makes a manager ready for the first round.
-pub fn prepare(alloc: Global, manager: &mut Manager, work: Work) -> Result<(), Fault> {
-    match work {
-        Work::LetThrough | Work::Wait => {
-            for number in 1..=LAST_SESSION {
-                update_anew(alloc, manager, SessionId(number))?;
-            }
+/// Makes a manager ready for the first round, and tells whether it is.
+pub fn prepare(manager: &mut Manager, work: Work) -> bool {
+    let mut is_ready = true;
+    if !matches!(work, Work::Victims) {
+        for number in 1..=LAST_SESSION {
+            is_ready &= update_anew(manager, SessionId(number));
         }
-        Work::Victims => {}
     }
-    Ok(())
+    is_ready
 }
 
 /// The nanoseconds of what is measured of a round, and how many rounds were done.
-pub fn measured(
-    rt: &HostRuntime,
-    manager: &mut Manager,
-    work: Work,
-    rounds: u64,
-) -> io::Result<(u128, u64)> {
-    let mut nanos = 0u128;
-    let mut done = 0u64;
+pub fn measured(host: &Host, manager: &mut Manager, work: Work, rounds: u64) -> (u64, u64) {
+    let (mut nanos, mut done) = (0u64, 0u64);
     for round in 0..rounds {
-        let is_ready = make_ready(rt.alloc(), manager, work, round).is_ok();
-        let start = Instant::now(rt)?;
-        let is_done = call_of(rt.alloc(), manager, work, round).is_ok();
-        nanos = nanos.saturating_add(start.elapsed(rt)?.as_nanos());
-        let is_ended = end(rt.alloc(), manager, work, round).is_ok();
-        done = done.saturating_add(u64::from(is_ready && is_done && is_ended));
+        let (took, is_done) = match work {
+            Work::LetThrough => timed_let_through(host, manager, round),
+            Work::Wait => timed_wait(host, manager, round),
+            Work::Victims => timed_victims(host, manager),
+        };
+        nanos = nanos.saturating_add(took);
+        done = done.saturating_add(u64::from(is_done));
     }
-    Ok((nanos / u128::from(rounds.max(1)), done))
+    (nanos / rounds.max(1), done)
 }
 
-fn make_ready(alloc: Global, manager: &mut Manager, work: Work, round: u64) -> Result<(), Fault> {
-    match work {
-        Work::LetThrough => {}
-        Work::Wait => {
-            let_through(alloc, manager, round)?;
-            ask(alloc, manager, session_of(round), Call::Begin)?;
-        }
-        // The session that is measured begins first, and has the first record; all others have read the second, and wait for the first.
-        Work::Victims => {
-            update_anew(alloc, manager, SESSION)?;
-            for number in 2..=LAST_SESSION {
-                ask(alloc, manager, SessionId(number), Call::Begin)?;
-                ask(alloc, manager, SessionId(number), Call::Get(record_of(1)))?;
-                update(alloc, manager, SessionId(number), 0)?;
-            }
-        }
-    }
-    Ok(())
+fn timed_let_through(host: &Host, manager: &mut Manager, round: u64) -> (u64, bool) {
+    let start = host.nanos();
+    let is_done = let_through(manager, round);
+    let nanos = host.nanos_since(start);
+    (nanos, is_done & update_anew(manager, session_of(round)))
 }
 
-// What is measured.
-fn call_of(alloc: Global, manager: &mut Manager, work: Work, round: u64) -> Result<(), Fault> {
-    match work {
-        Work::LetThrough => let_through(alloc, manager, round)?,
-        Work::Wait => {
-            update(alloc, manager, session_of(round), 0)?;
-        }
-        Work::Victims => {
-            update(alloc, manager, SESSION, 1)?;
-        }
-    }
-    Ok(())
+fn timed_wait(host: &Host, manager: &mut Manager, round: u64) -> (u64, bool) {
+    let is_ready = let_through(manager, round)
+        && manager.has_answered(session_of(round), Call::Begin);
+    let start = host.nanos();
+    let is_done = manager.update(session_of(round), 0).is_ok();
+    (host.nanos_since(start), is_ready && is_done)
 }
 
-fn end(alloc: Global, manager: &mut Manager, work: Work, round: u64) -> Result<(), Fault> {
-    match work {
-        Work::LetThrough => {
-            update_anew(alloc, manager, session_of(round))?;
-        }
-        Work::Wait => {}
-        // Each of the others is told that it was chosen as a victim, and is rolled back.
-        Work::Victims => {
-            for number in 2..=LAST_SESSION {
-                let told = resume(alloc, manager, SessionId(number));
-                if !matches!(told, Err(Fault::Deadlock { .. })) {
-                    return Err(Fault::Failed);
-                }
-                ask(alloc, manager, SessionId(number), Call::Abort)?;
-            }
-            resume(alloc, manager, SESSION)?;
-            commit(alloc, manager, SESSION)?;
-        }
+// The session that is measured begins first, and has the first record; all others have read the second, and wait for the first.
+fn timed_victims(host: &Host, manager: &mut Manager) -> (u64, bool) {
+    let mut is_ready = update_anew(manager, SESSION);
+    for number in 2..=LAST_SESSION {
+        let session = SessionId(number);
+        is_ready &= manager.has_answered(session, Call::Begin);
+        is_ready &= manager.has_answered(session, Call::Get(record_of(1)));
+        is_ready &= manager.update(session, 0).is_ok();
     }
-    Ok(())
+    let start = host.nanos();
+    let is_done = manager.update(SESSION, 1).is_ok();
+    let nanos = host.nanos_since(start);
+    (nanos, end_victims(manager) && is_ready && is_done)
+}
+
+// Each of the others is told that it was chosen as a victim, and is rolled back.
+fn end_victims(manager: &mut Manager) -> bool {
+    let mut is_ended = true;
+    for number in 2..=LAST_SESSION {
+        let told = manager.resume(SessionId(number));
+        is_ended &= matches!(told, Err(Fault::Deadlock { .. }));
+        is_ended &= manager.has_answered(SessionId(number), Call::Abort);
+    }
+    is_ended && manager.resume(SESSION).is_ok() && manager.commit(SESSION).is_ok()
 }
 
 // The session whose turn it is.
@@ -114,13 +91,12 @@ fn session_of(round: u64) -> SessionId {
 }
 
 // A session begins and asks for the first record, which it has or waits for.
-fn update_anew(alloc: Global, manager: &mut Manager, session: SessionId) -> Result<bool, Fault> {
-    ask(alloc, manager, session, Call::Begin)?;
-    update(alloc, manager, session, 0)
+fn update_anew(manager: &mut Manager, session: SessionId) -> bool {
+    manager.has_answered(session, Call::Begin) && manager.update(session, 0).is_ok()
 }
 
 // The session whose turn it is commits, and that of the next round has the record then.
-fn let_through(alloc: Global, manager: &mut Manager, round: u64) -> Result<(), Fault> {
-    commit(alloc, manager, session_of(round))?;
-    resume(alloc, manager, session_of(round.wrapping_add(1)))
+fn let_through(manager: &mut Manager, round: u64) -> bool {
+    manager.commit(session_of(round)).is_ok()
+        && manager.resume(session_of(round.wrapping_add(1))).is_ok()
 }

@@ -1,88 +1,58 @@
 //! A manager with one session over two files of a folder, and records whose bytes tell a number.
 use super::plan::Plan;
-use crate::counted::CountDisk;
-use crate::layout::{STORE, geometry, volume_bytes};
-use crate::manager::{Manager, SESSION, ask, force, formatted, opened};
+use crate::manager::{Manager, SESSION, formatted, opened};
+use bench_parts::counted::CountDisk;
+use bench_parts::files::{file_of, of_device};
+use bench_parts::layout::{STORE, geometry, log_bytes_for, pages_for, volume_bytes};
+use bench_parts::records::numbered;
+use shore_disk::AnyDisk;
 use shore_model::Call;
 use shore_types::layout::MAX_POOL_FRAMES;
-use shore_types::{Bytes, Fault, Rid, Sequence};
-use std::alloc::{AllocError, Global};
-use std::io;
-use std::time::Instant;
+use shore_types::{Fault, Rid};
 
-/// What a file or the clock answers. Its error is the fault `Device`.
-pub fn of_device<T>(answer: io::Result<T>) -> Result<T, Fault> {
-    match answer {
-        Ok(value) => Ok(value),
-        Err(_) => Err(Fault::Device),
-    }
-}
-
-/// The nanoseconds since a moment.
-pub fn nanos_since(rt: &HostRuntime, start: &Instant) -> Result<u64, Fault> {
-    let time = of_device(start.elapsed(rt))?;
-    Ok(u64::try_from(time.as_nanos()).unwrap_or(u64::MAX))
+fn device(plan: &Plan, name: &str, zeros: Option<u64>) -> Result<CountDisk, Fault> {
+    let file = of_device(file_of(&plan.host, plan.folder, name, zeros))?;
+    Ok(CountDisk::new(AnyDisk::File(file)))
 }
 
 /// Makes both files anew, as the plan wants them, and opens them.
-pub fn new_manager(rt: &HostRuntime, plan: &Plan) -> Result<Manager, Fault> {
-    let pages = u32::from(plan.pages()) + 1;
-    let geometry = geometry(rt.alloc(), 1_024, pages)?;
-    let log = of_device(CountDisk::made(rt, &plan.log, plan.log_bytes()))?;
-    let volume = of_device(CountDisk::made(rt, &plan.volume, volume_bytes(pages)))?;
-    formatted(rt.alloc(), log, volume, &geometry, MAX_POOL_FRAMES)
+pub fn new_manager(plan: &Plan) -> Result<Manager, Fault> {
+    let pages = pages_for(plan.count, plan.size);
+    let log_bytes = log_bytes_for(plan.count, plan.size);
+    let geometry = geometry(plan.host.alloc(), 1_024, pages)?;
+    let log = device(plan, "log", Some(log_bytes))?;
+    let volume = device(plan, "volume", Some(volume_bytes(pages)))?;
+    formatted(plan.host.alloc(), (log, volume), &geometry, MAX_POOL_FRAMES)
 }
 
 /// Opens both files as they are.
-pub fn open_manager(rt: &HostRuntime, plan: &Plan) -> Result<Manager, Fault> {
-    let log = of_device(CountDisk::open(rt, &plan.log))?;
-    let volume = of_device(CountDisk::open(rt, &plan.volume))?;
-    opened(rt.alloc(), log, volume, MAX_POOL_FRAMES)
+pub fn open_manager(plan: &Plan) -> Result<Manager, Fault> {
+    let log = device(plan, "log", None)?;
+    let volume = device(plan, "volume", None)?;
+    opened(plan.host.alloc(), (log, volume), MAX_POOL_FRAMES)
 }
 
-/// So many bytes, of which the first eight tell a number.
-pub fn bytes(alloc: Global, number: u64, size: usize) -> Result<Bytes, AllocError> {
-    let mut bytes = Vec::from_elem(alloc, 0xaau8, size)?;
-    let told = number.to_le_bytes();
-    let shown = told.len().min(size);
-    bytes[..shown].copy_from_slice(&told[..shown]);
-    Ok(Sequence::from_vec(bytes))
-}
-
-/// What is done with a record.
-#[derive(Clone, Copy)]
-pub enum Change {
-    Insert,
-    Update(Rid),
-}
-
-/// Inserts or updates a record, so that its bytes tell a number. A call that needs a force before it begins is made again behind it.
+/// Updates the record of an id, or inserts one, so that its bytes tell a number. A call that needs a force before it begins is made again behind it.
 pub fn change_record(
-    alloc: Global,
+    plan: &Plan,
     manager: &mut Manager,
-    change: &Change,
+    id: Option<Rid>,
     number: u64,
-    size: usize,
 ) -> Result<bool, Fault> {
-    match put(alloc, manager, change, number, size) {
+    match put(plan, manager, id, number) {
         Err(Fault::NeedForce { .. }) => {
-            force(alloc, manager)?;
-            put(alloc, manager, change, number, size)
+            manager.force()?;
+            put(plan, manager, id, number)
         }
         answer => answer,
     }
 }
 
-fn put(
-    alloc: Global,
-    manager: &mut Manager,
-    change: &Change,
-    number: u64,
-    size: usize,
-) -> Result<bool, Fault> {
-    let bytes = bytes(alloc, number, size)?;
-    match change {
-        Change::Insert => ask(alloc, manager, SESSION, Call::Insert(STORE, bytes)),
-        Change::Update(id) => ask(alloc, manager, SESSION, Call::Update(*id, bytes)),
-    }
+fn put(plan: &Plan, manager: &mut Manager, id: Option<Rid>, number: u64) -> Result<bool, Fault> {
+    let bytes = numbered(plan.host.alloc(), number, plan.size)?;
+    let call = match id {
+        None => Call::Insert(STORE, bytes),
+        Some(id) => Call::Update(id, bytes),
+    };
+    manager.ask(SESSION, call)
 }

@@ -1,0 +1,33 @@
+//! Files of a folder, and plain writes to one.
+use crate::host::Host;
+use shore_disk::{Disk, FileDisk};
+use shore_types::Fault;
+use std::io;
+
+/// What a file or the output answers. Its error is the fault `Device`.
+pub fn of_device<T>(answer: io::Result<T>) -> Result<T, Fault> {
+    match answer {
+        Ok(value) => Ok(value),
+        Err(_) => Err(Fault::Device),
+    }
+}
+
+/// A file of a folder, as it is, or made anew with so many zeros.
+pub fn file_of(host: &Host, folder: &str, name: &str, zeros: Option<u64>) -> io::Result<FileDisk> {
+    let path = format!(in host.alloc(); "{folder}/bench.{name}")?;
+    match zeros {
+        Some(len) => FileDisk::open_or_create(host.rt, &path)?.cleared(len),
+        None => FileDisk::open(host.rt, &path),
+    }
+}
+
+/// A plain write with its sync, one behind another, as a log has it.
+pub fn write_and_sync(file: &mut FileDisk, number: u64, text: &[u8]) -> Result<(), Fault> {
+    let at = number.saturating_mul(text.len() as u64);
+    match at.checked_add(text.len() as u64) {
+        Some(end) if end <= file.len() => file.write_at(at, text)?,
+        _ => return Err(Fault::Device),
+    }
+    file.sync()?;
+    Ok(())
+}

@@ -1,6 +1,0 @@
-use Rattle.std.proofs.Common.{◌≡◌, false}
-use Rattle.shore_locks.specs.Tables.{is_waiting}
-use Rattle.bench_works.proofs.locks.take_bucket.Given as goal
-
-abbrev pub invariant-loop-index : goal.invariant-loop-index
-invariant-loop-index l = is_waiting 1 l.table.requests ≡ false
