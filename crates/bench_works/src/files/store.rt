@@ -36,7 +36,7 @@ pub fn open_manager(plan: &Plan) -> Result<Manager, Fault> {
 pub fn change_record(
     plan: &Plan,
     manager: &mut Manager,
-    id: Option<Rid>,
+    id: &Option<Rid>,
     number: u64,
 ) -> Result<bool, Fault> {
     match put(plan, manager, id, number) {
@@ -48,11 +48,11 @@ pub fn change_record(
     }
 }
 
-fn put(plan: &Plan, manager: &mut Manager, id: Option<Rid>, number: u64) -> Result<bool, Fault> {
+fn put(plan: &Plan, manager: &mut Manager, id: &Option<Rid>, number: u64) -> Result<bool, Fault> {
     let bytes = numbered(plan.host.alloc(), number, plan.size)?;
     let call = match id {
         None => Call::Insert(STORE, bytes),
-        Some(id) => Call::Update(id, bytes),
+        Some(id) => Call::Update(*id, bytes),
     };
     manager.ask(SESSION, call)
 }

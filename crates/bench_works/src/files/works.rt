@@ -50,7 +50,7 @@ fn timed_fill(plan: &Plan, manager: &mut Manager, records: u64) -> Result<(u64, 
     let start = plan.host.nanos();
     manager.begin_alone()?;
     for number in 0..records {
-        change_record(plan, manager, None, number)?;
+        change_record(plan, manager, &None, number)?;
     }
     let inserted = plan.host.nanos_since(start);
     manager.commit(SESSION)?;
@@ -95,7 +95,7 @@ fn updates(plan: &Plan, manager: &mut Manager) -> Result<(), Fault> {
 fn update_one(plan: &Plan, manager: &mut Manager, pairs: &Pairs, nth: u64) -> Result<bool, Fault> {
     let place = nth % (pairs.len() as u64).max(1);
     match pairs.get(place as usize) {
-        Some((id, _)) => change_record(plan, manager, Some(id), told(plan, nth)),
+        Some((id, _)) => change_record(plan, manager, &Some(id), told(plan, nth)),
         None => Err(Fault::NoRecord),
     }
 }
