@@ -82,14 +82,28 @@ fn take(table: &mut LockTable, granule: Granule, mode: Mode)
 fn take_records(table: &mut LockTable, places: Places, count: u32)
     requires { is_waiting 1 table.old.requests ≡ false }
 {
-    for index in 0..count {
-        let granule = match places {
-            Places::Slots => record((index & 0xffff) as u16),
-            Places::Pages => record_in(index, 0),
-            Places::Remainder => remainder(index),
-            Places::Bucket => in_bucket(index),
-        };
-        take(table, granule, Mode::EX);
+    // A loop for each: a choice in the loop would be measured with each lock.
+    match places {
+        Places::Slots => {
+            for slot in 0..count {
+                take(table, record((slot & 0xffff) as u16), Mode::EX);
+            }
+        }
+        Places::Pages => {
+            for page in 0..count {
+                take(table, record_in(page, 0), Mode::EX);
+            }
+        }
+        Places::Remainder => {
+            for number in 0..count {
+                take(table, remainder(number), Mode::EX);
+            }
+        }
+        Places::Bucket => {
+            for index in 0..count {
+                take(table, in_bucket(index), Mode::EX);
+            }
+        }
     }
 }
 
