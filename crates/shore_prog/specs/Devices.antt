@@ -5,7 +5,7 @@ use Rattle.shore_disk.specs.Device.{History, size}
 use Rattle.shore_disk.specs.Fuse.{fuse_calls, fuse_inner}
 use Rattle.shore_disk.specs.declared.any.AnyDisk.{AnyDisk}
 use Rattle.shore_disk.specs.declared.fuse.FuseDisk.{FuseDisk}
-use Rattle.shore_prog.specs.declared.fuses.Fuses.{Fuses}
+use Rattle.shore_script.specs.declared.fuses.Fuses.{Fuses}
 
 abbrev pub history_of : FuseDisk AnyDisk → History
 history_of d = any_history (fuse_inner d)

@@ -9,8 +9,8 @@ ghost use Rattle.shore_settings.specs.declared.settings.Devices.TheVariants.{Mem
 ghost use Rattle.shore_types.specs.declared.faults.Fault.TheVariants as Fault;
 ghost use Rattle.shore_prog.specs.Devices.{AreFused, HaveLengths};
 
-use crate::fuses::Fuses;
 use shore_disk::{AnyDisk, FileDisk, FuseDisk, MemDisk};
+use shore_script::Fuses;
 use shore_settings::{Devices, FilePair, Settings};
 use shore_types::Fault;
 use shore_world::{format, volume_bytes};

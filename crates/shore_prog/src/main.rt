@@ -1,17 +1,12 @@
 //! The storage manager as a program: settings and a script come on standard input, the answers go to standard output.
 #![tactic(auto)]
 
-mod command;
 mod devices;
 mod forcing;
-mod fuses;
-mod lines;
 mod manager;
 mod program;
-mod render;
 mod rounds;
 mod stop;
-mod words;
 
 pub use program::run;
 pub use shore_world as world;

@@ -3,20 +3,19 @@ ghost use Rattle.std.specs.Prelude.{◌≡◌, ◌≤◌, ◌↔◌, ℕ, IsTrue
 ghost use Rattle.shore_types.specs.declared.faults.Fault.TheVariants.{NeedForce};
 ghost use Rattle.shore_types.specs.declared.layout.TheConstants.{MAX_PAGES, MIN_POOL_FRAMES};
 ghost use Rattle.shore_calls.specs.Events.{IsServed};
+ghost use Rattle.shore_script.specs.Commands.{IsServedCommand};
 ghost use Rattle.shore_settings.specs.Limits.{AreInLimits};
-ghost use Rattle.shore_prog.specs.Commands.{IsServedCommand, IsTaken};
+ghost use Rattle.shore_prog.specs.Commands.{IsTaken};
 ghost use Rattle.shore_prog.specs.declared.manager.Progress.TheVariants.{Again};
 
-use crate::command::Command;
 use crate::devices::{ScriptDisk, first_pair, pair_after_crash};
 use crate::forcing::force;
-use crate::fuses::{Fuse, Fuses};
-use crate::render;
 use crate::rounds::{WaitingLines, go_round};
 use crate::stop::Stop;
 use shore_calls::Wait;
 use shore_disk::Pick;
 use shore_model::{Answer, Call};
+use shore_script::{Command, Fuse, Fuses, render};
 use shore_settings::{Devices, Settings};
 use shore_types::layout::MAX_STORES;
 use shore_types::{Device, Fault, Pairs, SessionId, StoreId};

@@ -1,14 +1,10 @@
 //! A run of the program.
-ghost use Rattle.std.specs.Prelude.{IfOk, IfSome};
-ghost use Rattle.shore_prog.specs.Commands.{IsServedCommand};
-
-use crate::command::{Command, parse};
-use crate::lines::{Lines, MAX_LINE_BYTES};
 use crate::manager::{Manager, Progress};
 use crate::stop::{Status, Stop};
+use shore_script::{Lines, read_line};
 use shore_settings::read_settings;
 use shore_types::{ConfigPlace, Fault};
-use std::alloc::{AllocError, Global};
+use std::alloc::Global;
 use std::fs::{File, Files};
 use std::io::{BufWriter, Read, Write};
 use std::process::ExitCode;
@@ -136,17 +132,4 @@ fn run_line<F: Files<File = File>, W: Write>(
         }
     }
     Ok(true)
-}
-
-// What the line asks for, unless it is too long, no UTF-8 or no line of the script.
-fn read_line(alloc: Global, line: &[u8]) -> Result<Option<Command>, AllocError>
-    ensures { IfOk result (λ found. IfSome found IsServedCommand) }
-{
-    if line.len() > MAX_LINE_BYTES {
-        return Ok(None);
-    }
-    match str::from_utf8(line) {
-        Ok(line) => parse(alloc, line),
-        Err(_) => Ok(None),
-    }
 }

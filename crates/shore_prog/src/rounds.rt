@@ -1,10 +1,9 @@
 //! Rounds: after each line the calls that wait go on, session by session, until nothing changes.
-use crate::command::{Command, parse};
 use crate::forcing::force;
 use crate::manager::ScriptWorld;
-use crate::render;
 use crate::stop::Stop;
 use shore_calls::Wait;
+use shore_script::{Command, read_line, render};
 use shore_types::{Fault, SessionId};
 use shore_world::{Event, Step};
 use std::alloc::{AllocError, Global};
@@ -198,14 +197,8 @@ fn wait_on(line: &mut WaitingLine, wait: Wait) -> Resumed {
 
 // The call of the line is made again, behind a force.
 fn make_again(alloc: Global, world: &mut ScriptWorld, line: &WaitingLine) -> Result<Step, Stop> {
-    let Ok(text) = str::from_utf8(&line.line) else {
-        return Ok(Step::Nothing);
-    };
-    let Some(command) = parse(alloc, text)? else {
-        return Ok(Step::Nothing);
-    };
-    match command {
-        Command::Ask(session, call) => Ok(world.step(alloc, Event::Call(session, call))),
+    match read_line(alloc, &line.line)? {
+        Some(Command::Ask(session, call)) => Ok(world.step(alloc, Event::Call(session, call))),
         _ => Ok(Step::Nothing),
     }
 }

@@ -1,5 +1,5 @@
 //! How a run ends.
-use crate::render;
+use shore_script::render;
 use shore_types::Fault;
 use std::alloc::AllocError;
 use std::io::{self, ErrorKind, Write};

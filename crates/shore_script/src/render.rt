@@ -1,6 +1,6 @@
 //! Answers as the script prints them.
 ghost use Rattle.std.specs.Prelude.{◌≤◌, length};
-ghost use Rattle.shore_prog.specs.declared.render.TheConstants.{PART};
+ghost use Rattle.shore_script.specs.declared.render.TheConstants.{PART};
 
 use shore_model::{Answer, LogRecord, Payload, Request};
 use shore_types::{Fault, Granule, Pairs, Rid, SessionId};

@@ -1,9 +1,10 @@
 //! A line of the script.
 ghost use Rattle.std.specs.Prelude.{IfOk, IfSome};
 ghost use Rattle.shore_calls.specs.Events.{IsServed};
-ghost use Rattle.shore_prog.specs.Commands.{IsServedCommand};
+ghost use Rattle.shore_script.specs.Commands.{IsServedCommand};
 
 use crate::fuses::Fuse;
+use crate::lines::MAX_LINE_BYTES;
 use crate::words;
 use shore_disk::Pick;
 use shore_model::Call;
@@ -38,8 +39,20 @@ pub enum Command {
     Locks,
 }
 
-/// What the line asks for. `Ok(None)`: the line is not a script line.
-pub fn parse(alloc: Global, line: &str) -> Result<Option<Command>, AllocError>
+/// What a line asks for. `Ok(None)`: it is too long, no UTF-8 or no line of the script.
+pub fn read_line(alloc: Global, line: &[u8]) -> Result<Option<Command>, AllocError>
+    ensures { IfOk result (λ found. IfSome found IsServedCommand) }
+{
+    if line.len() > MAX_LINE_BYTES {
+        return Ok(None);
+    }
+    match str::from_utf8(line) {
+        Ok(line) => parse(alloc, line),
+        Err(_) => Ok(None),
+    }
+}
+
+fn parse(alloc: Global, line: &str) -> Result<Option<Command>, AllocError>
     ensures { IfOk result (λ found. IfSome found IsServedCommand) }
 {
     if line.is_empty() || line.starts_with('#') {
