@@ -1,7 +1,9 @@
 //! A line of the script.
-ghost use Rattle.std.specs.Prelude.{IfOk, IfSome};
+ghost use Rattle.std.specs.Prelude.{◌≡◌, IfOk, IfSome, codes};
 ghost use Rattle.shore_calls.specs.Events.{IsServed};
 ghost use Rattle.shore_script.specs.Commands.{IsServedCommand};
+ghost use Rattle.shore_script.specs.Words.{Asks, AsksCall, AsksPlain, FirstAsksCall, FirstAsksPlain, pick_word};
+ghost use Rattle.shore_types.specs.Names.{device_name};
 
 use crate::fuses::Fuse;
 use crate::lines::MAX_LINE_BYTES;
@@ -64,7 +66,8 @@ fn parse(alloc: Global, line: &str) -> Result<Option<Command>, AllocError>
 }
 
 fn command_of(alloc: Global, words: &[&str]) -> Result<Option<Command>, AllocError>
-    ensures { IfOk result (λ found. IfSome found IsServedCommand) }
+    ensures served { IfOk result (λ found. IfSome found IsServedCommand) }
+    ensures words { IfOk result (λ found. IfSome found (Asks words.now)) }
 {
     match words {
         [first, call @ ..] => match words::session(first) {
@@ -79,7 +82,8 @@ fn command_of(alloc: Global, words: &[&str]) -> Result<Option<Command>, AllocErr
 }
 
 fn plain_command(words: &[&str]) -> Option<Command>
-    ensures { IfSome result IsServedCommand }
+    ensures served { IfSome result IsServedCommand }
+    ensures word { IfSome result (FirstAsksPlain words.now) }
 {
     match words {
         [word] => match *word {
@@ -98,7 +102,8 @@ fn plain_command(words: &[&str]) -> Option<Command>
 }
 
 fn fuse_command(word: &str, device: &str, calls: &str) -> Option<Command>
-    ensures { IfSome result IsServedCommand }
+    ensures served { IfSome result IsServedCommand }
+    ensures word { IfSome result (AsksPlain word.now) }
 {
     let fuse = Fuse {
         device: device_of(device)?,
@@ -111,7 +116,9 @@ fn fuse_command(word: &str, device: &str, calls: &str) -> Option<Command>
     }
 }
 
-fn device_of(word: &str) -> Option<Device> {
+fn device_of(word: &str) -> Option<Device>
+    ensures { IfSome result (λ device. word.now ≡ device_name device) }
+{
     match word {
         "log" => Some(Device::Log),
         "volume" => Some(Device::Volume),
@@ -119,7 +126,9 @@ fn device_of(word: &str) -> Option<Device> {
     }
 }
 
-fn pick_of(word: &str) -> Option<Pick> {
+fn pick_of(word: &str) -> Option<Pick>
+    ensures { IfSome result (λ pick. word.now ≡ pick_word pick) }
+{
     match word {
         "old" => Some(Pick::Old),
         "new" => Some(Pick::New),
@@ -129,7 +138,8 @@ fn pick_of(word: &str) -> Option<Pick> {
 }
 
 fn call_of(alloc: Global, words: &[&str]) -> Result<Option<Call>, AllocError>
-    ensures { IfOk result (λ found. IfSome found IsServed) }
+    ensures served { IfOk result (λ found. IfSome found IsServed) }
+    ensures word { IfOk result (λ found. IfSome found (FirstAsksCall words.now)) }
 {
     match words {
         [word, store, bytes] if *word == "insert" => insert_of(alloc, store, bytes),
@@ -140,7 +150,8 @@ fn call_of(alloc: Global, words: &[&str]) -> Result<Option<Call>, AllocError>
 
 // The calls that have no bytes.
 fn plain_call_of(words: &[&str]) -> Option<Call>
-    ensures { IfSome result IsServed }
+    ensures served { IfSome result IsServed }
+    ensures word { IfSome result (FirstAsksCall words.now) }
 {
     match words {
         [word] => call_of_a_word(word),
@@ -151,7 +162,8 @@ fn plain_call_of(words: &[&str]) -> Option<Call>
 }
 
 fn call_of_a_word(word: &str) -> Option<Call>
-    ensures { IfSome result IsServed }
+    ensures served { IfSome result IsServed }
+    ensures word { IfSome result (AsksCall word.now) }
 {
     match word {
         "begin" => Some(Call::Begin),
@@ -163,7 +175,8 @@ fn call_of_a_word(word: &str) -> Option<Call>
 }
 
 fn call_with(word: &str, object: &str) -> Option<Call>
-    ensures { IfSome result IsServed }
+    ensures served { IfSome result IsServed }
+    ensures word { IfSome result (AsksCall word.now) }
 {
     match word {
         "back" => Some(Call::BackTo(words::index(object)?)),
@@ -176,7 +189,8 @@ fn call_with(word: &str, object: &str) -> Option<Call>
 }
 
 fn lock_of(word: &str, granule: &str, mode: &str) -> Option<Call>
-    ensures { IfSome result IsServed }
+    ensures served { IfSome result IsServed }
+    ensures word { IfSome result (AsksCall word.now) }
 {
     let (granule, mode) = (words::granule(granule)?, words::mode(mode)?);
     match word {
@@ -187,7 +201,8 @@ fn lock_of(word: &str, granule: &str, mode: &str) -> Option<Call>
 }
 
 fn insert_of(alloc: Global, store: &str, bytes: &str) -> Result<Option<Call>, AllocError>
-    ensures { IfOk result (λ found. IfSome found IsServed) }
+    ensures served { IfOk result (λ found. IfSome found IsServed) }
+    ensures word { IfOk result (λ found. IfSome found (AsksCall (codes "insert"))) }
 {
     let Some(store) = words::store(store) else {
         return Ok(None);
@@ -199,7 +214,8 @@ fn insert_of(alloc: Global, store: &str, bytes: &str) -> Result<Option<Call>, Al
 }
 
 fn update_of(alloc: Global, record: &str, bytes: &str) -> Result<Option<Call>, AllocError>
-    ensures { IfOk result (λ found. IfSome found IsServed) }
+    ensures served { IfOk result (λ found. IfSome found IsServed) }
+    ensures word { IfOk result (λ found. IfSome found (AsksCall (codes "update"))) }
 {
     let Some(id) = words::record(record) else {
         return Ok(None);

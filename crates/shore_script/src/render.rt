@@ -1,5 +1,5 @@
 //! Answers as the script prints them.
-ghost use Rattle.std.specs.Prelude.{◌≤◌, length};
+ghost use Rattle.std.specs.Prelude.{◌≡◌, ◌≤◌, ◌+◌, ◌^◌, ◌-◌, IfOk, length, min};
 ghost use Rattle.shore_script.specs.declared.render.TheConstants.{PART};
 
 use shore_model::{Answer, LogRecord, Payload, Request};
@@ -93,13 +93,15 @@ fn record<W: Write>(out: &mut W, id: Rid, found: &[u8]) -> io::Result<()> {
 }
 
 /// Writes a line for each of these records of the log, of which the first has this number. Answers the number behind the last.
-pub fn log_records<W: Write>(out: &mut W, first: u64, records: &[LogRecord]) -> io::Result<u64> {
+pub fn log_records<W: Write>(out: &mut W, first: u64, records: &[LogRecord]) -> io::Result<u64>
+    ensures { IfOk result (λ behind. behind ≡ min (first + length records.now) (2 ^ 64 - 1)) }
+{
     let mut number = first;
     for record in records {
         log_record(out, number, record)?;
         number = number.saturating_add(1);
     }
-    Ok(number)
+    Ok(first.saturating_add(records.len() as u64))
 }
 
 fn log_record<W: Write>(out: &mut W, number: u64, record: &LogRecord) -> io::Result<()> {

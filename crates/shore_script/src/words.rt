@@ -1,5 +1,6 @@
 //! The words of a script line: numbers, ids and bytes.
-ghost use Rattle.std.specs.Prelude.{◌<◌, IfSome};
+ghost use Rattle.std.specs.Prelude.{◌≡◌, ◌<◌, IfSome};
+ghost use Rattle.shore_types.specs.Names.{mode_name};
 
 use shore_types::{Bytes, Granule, Mode, PageId, Rid, Sequence, SessionId, StoreId};
 use std::alloc::{AllocError, Global};
@@ -24,7 +25,7 @@ fn short_number(word: &str) -> Option<u32> {
 
 /// The index of a savepoint.
 pub fn index(word: &str) -> Option<usize> {
-    usize::try_from(number(word)?).ok()
+    Some(number(word)? as usize)
 }
 
 /// A session, 1 to 999.
@@ -58,6 +59,10 @@ pub fn granule(word: &str) -> Option<Granule> {
 
 fn page(word: &str) -> Option<PageId> {
     let (store_word, page_word) = word.split_once('.')?;
+    page_of(store_word, page_word)
+}
+
+fn page_of(store_word: &str, page_word: &str) -> Option<PageId> {
     Some(PageId {
         store: store(store_word)?,
         page: short_number(page_word)?,
@@ -65,7 +70,9 @@ fn page(word: &str) -> Option<PageId> {
 }
 
 /// A mode of a lock.
-pub fn mode(word: &str) -> Option<Mode> {
+pub fn mode(word: &str) -> Option<Mode>
+    ensures { IfSome result (λ mode. word.now ≡ mode_name mode) }
+{
     match word {
         "IS" => Some(Mode::IS),
         "IX" => Some(Mode::IX),
@@ -81,10 +88,7 @@ pub fn mode(word: &str) -> Option<Mode> {
 pub fn record(word: &str) -> Option<Rid> {
     let (store_word, rest) = word.split_once('.')?;
     let (page_word, slot_word) = rest.split_once('.')?;
-    let page = PageId {
-        store: store(store_word)?,
-        page: short_number(page_word)?,
-    };
+    let page = page_of(store_word, page_word)?;
     let slot = u16::try_from(number(slot_word)?).ok()?;
     Some(Rid { page, slot })
 }
