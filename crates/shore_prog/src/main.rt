@@ -6,7 +6,6 @@ mod forcing;
 mod manager;
 mod program;
 mod rounds;
-mod stop;
 
 pub use program::run;
 pub use shore_world as world;

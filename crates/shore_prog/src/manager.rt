@@ -11,7 +11,6 @@ ghost use Rattle.shore_prog.specs.declared.manager.Progress.TheVariants.{Again};
 use crate::devices::{ScriptDisk, first_pair, pair_after_crash};
 use crate::forcing::force;
 use crate::rounds::{WaitingLines, go_round};
-use crate::stop::Stop;
 use shore_calls::Wait;
 use shore_disk::Pick;
 use shore_model::{Answer, Call};
@@ -112,7 +111,7 @@ impl Manager {
         command: Command,
         line: &[u8],
         out: &mut W,
-    ) -> Result<Progress, Stop>
+    ) -> io::Result<Progress>
         requires served { IsServedCommand command }
         requires taken { IsTaken self.old.devices command }
     {
@@ -133,12 +132,11 @@ impl Manager {
         command: Command,
         line: &[u8],
         out: &mut W,
-    ) -> Result<Progress, Stop>
+    ) -> io::Result<Progress>
         requires { IsServedCommand command }
     {
         let Access::Open(Opened { world, waiting }) = &mut self.access else {
-            render::fault(out, asker_of(&command), &Fault::Failed)?;
-            return Ok(Progress::Done);
+            return tell(out, asker_of(&command), &Fault::Failed);
         };
         let progress = answer(alloc, world, waiting, command, line, out)?;
         if progress == Progress::Done {
@@ -154,7 +152,7 @@ impl Manager {
         files: &F,
         pick: Pick,
         out: &mut W,
-    ) -> Result<(), Stop> {
+    ) -> io::Result<()> {
         let left = match mem::replace(&mut self.access, Access::Lost) {
             Access::Open(opened) => Some(Box::into_inner(opened.world).lose_power(pick)),
             Access::Closed(log, volume) => Some((crashed(log, pick), crashed(volume, pick))),
@@ -170,10 +168,9 @@ impl Manager {
             Err(fault) => Some(fault),
         };
         match refused {
-            None => out.write_all(b"opened\n")?,
-            Some(fault) => render::open_fault(out, &fault)?,
+            None => out.write_all(b"opened\n"),
+            Some(fault) => render::open_fault(out, &fault),
         }
-        Ok(())
     }
 
     fn set_fuse(&mut self, fuse: Fuse) {
@@ -219,6 +216,12 @@ fn boxed(alloc: Global, world: ScriptWorld) -> (Access, Option<Fault>) {
     }
 }
 
+// A line that is answered by a fault is done.
+fn tell<W: Write>(out: &mut W, session: Option<SessionId>, fault: &Fault) -> io::Result<Progress> {
+    render::fault(out, session, fault)?;
+    Ok(Progress::Done)
+}
+
 // Whose call a line is.
 fn asker_of(command: &Command) -> Option<SessionId> {
     match command {
@@ -234,12 +237,12 @@ fn answer<W: Write>(
     command: Command,
     line: &[u8],
     out: &mut W,
-) -> Result<Progress, Stop>
+) -> io::Result<Progress>
     requires { IsServedCommand command }
 {
     match command {
         Command::Ask(session, call) => return ask(alloc, world, waiting, session, call, line, out),
-        Command::Dump => return Ok(dump(alloc, world, out)?),
+        Command::Dump => return dump(alloc, world, out),
         Command::Force => force_line(alloc, world, out)?,
         Command::Flush => flush_line(alloc, world, out)?,
         Command::Log | Command::Locks if world.has_failed() => render::fault(
@@ -263,7 +266,7 @@ fn ask<W: Write>(
     call: Call,
     line: &[u8],
     out: &mut W,
-) -> Result<Progress, Stop>
+) -> io::Result<Progress>
     requires { IsServed call }
 {
     waiting.reserve()?;
@@ -274,7 +277,7 @@ fn ask<W: Write>(
             }
             waiting.add(alloc, session, wait, line)?;
         }
-        Step::Refused(fault) => return Ok(refuse(alloc, world, Some(session), fault, out)?),
+        Step::Refused(fault) => return refuse(alloc, world, Some(session), fault, out),
         Step::Done(answer) => render::answer(out, session, &answer)?,
         Step::Nothing => {}
     }

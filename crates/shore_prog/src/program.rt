@@ -1,12 +1,14 @@
 //! A run of the program.
+ghost use Rattle.std.specs.Prelude.{IfOk};
+ghost use Rattle.shore_settings.specs.Limits.{AreInLimits};
+
 use crate::manager::{Manager, Progress};
-use crate::stop::{Status, Stop};
-use shore_script::{Lines, read_line};
-use shore_settings::read_settings;
+use shore_script::{Lines, Status, Stop, read_line};
+use shore_settings::{Settings, read_settings};
 use shore_types::{ConfigPlace, Fault};
 use std::alloc::Global;
 use std::fs::{File, Files};
-use std::io::{BufWriter, Read, Write};
+use std::io::{self, BufWriter, Read, Write};
 use std::process::ExitCode;
 
 /// Runs the script of the input under its settings, line by line, and writes the answers to the output, at the latest before the input
@@ -72,22 +74,38 @@ fn start<F: Files<File = File>, R: Read + Drop>(
     files: &F,
     lines: &mut Lines<R>,
 ) -> Result<Manager, Stop> {
-    let no_toml = Stop::Bad(Fault::BadConfig(ConfigPlace::Toml));
-    let Some(text) = lines.settings(alloc)? else {
-        return Err(no_toml);
-    };
-    let Ok(text) = str::from_utf8(&text) else {
-        return Err(no_toml);
-    };
-    let settings = match read_settings(alloc, text) {
-        Ok(settings) => settings,
-        Err(Fault::Memory) => return Err(Stop::Memory),
-        Err(fault) => return Err(Stop::Bad(fault)),
-    };
+    let settings = first_settings(alloc, lines)?;
     match Manager::start(alloc, files, settings) {
         Ok(manager) => Ok(manager),
         Err(fault) => Err(Stop::Refused(fault)),
     }
+}
+
+fn first_settings<R: Read + Drop>(alloc: Global, lines: &mut Lines<R>) -> Result<Settings, Stop>
+    ensures { IfOk result AreInLimits }
+{
+    match lines.settings(alloc) {
+        Ok(Some(text)) => settings_of(alloc, &text),
+        Ok(None) => Err(no_toml()),
+        Err(error) => Err(Stop::from(error)),
+    }
+}
+
+fn settings_of(alloc: Global, text: &[u8]) -> Result<Settings, Stop>
+    ensures { IfOk result AreInLimits }
+{
+    let Ok(text) = str::from_utf8(text) else {
+        return Err(no_toml());
+    };
+    match read_settings(alloc, text) {
+        Ok(settings) => Ok(settings),
+        Err(Fault::Memory) => Err(Stop::Memory),
+        Err(fault) => Err(Stop::Bad(fault)),
+    }
+}
+
+fn no_toml() -> Stop {
+    Stop::Bad(Fault::BadConfig(ConfigPlace::Toml))
 }
 
 // Runs each line, up to a bad one.
@@ -120,7 +138,7 @@ fn run_line<F: Files<File = File>, W: Write>(
     manager: &mut Manager,
     line: &[u8],
     output: &mut W,
-) -> Result<bool, Stop> {
+) -> io::Result<bool> {
     for _ in 0..u64::MAX {
         match read_line(alloc, line)? {
             Some(command) if manager.takes(&command) => {

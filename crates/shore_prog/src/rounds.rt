@@ -1,13 +1,14 @@
 //! Rounds: after each line the calls that wait go on, session by session, until nothing changes.
+ghost use Rattle.std.specs.Prelude.{◌≤◌, vec_len};
+
 use crate::forcing::force;
 use crate::manager::ScriptWorld;
-use crate::stop::Stop;
 use shore_calls::Wait;
 use shore_script::{Command, read_line, render};
 use shore_types::{Fault, SessionId};
 use shore_world::{Event, Step};
 use std::alloc::{AllocError, Global};
-use std::io::Write;
+use std::io::{self, Write};
 
 /// A session's line whose call waits.
 #[derive(Drop)]
@@ -49,11 +50,7 @@ impl WaitingLines {
         if matches!(wait, Wait::Lock(_)) {
             line.extend_from_slice(text)?;
         }
-        let at = self
-            .lines
-            .iter()
-            .position(|other| session.0 < other.session.0)
-            .unwrap_or(self.lines.len());
+        let at = self.place_of(session);
         self.lines.insert(
             at,
             WaitingLine {
@@ -65,14 +62,28 @@ impl WaitingLines {
         Ok(())
     }
 
+    // Where the line of a session belongs.
+    fn place_of(&self, session: SessionId) -> usize
+        ensures { result ≤ vec_len self.now.lines }
+    {
+        for at in 0..self.lines.len() {
+            if session.0 < self.lines[at].session.0 {
+                return at;
+            }
+        }
+        self.lines.len()
+    }
+
     // The lowest session whose call waits for a number that is not durable.
     fn to_be_forced(&self, world: &ScriptWorld) -> Option<SessionId> {
         let durable = world.durable();
-        let line = self.lines.iter().find(|line| match line.wait {
-            Wait::Durable(number) => durable < number,
-            Wait::Lock(_) => false,
-        })?;
-        Some(line.session)
+        for line in &self.lines {
+            match line.wait {
+                Wait::Durable(number) if durable < number => return Some(line.session),
+                Wait::Durable(_) | Wait::Lock(_) => {}
+            }
+        }
+        None
     }
 }
 
@@ -84,7 +95,7 @@ pub fn go_round<W: Write>(
     world: &mut ScriptWorld,
     waiting: &mut WaitingLines,
     out: &mut W,
-) -> Result<(), Stop> {
+) -> io::Result<()> {
     for _ in 0..u64::MAX {
         if let Some(session) = waiting.to_be_forced(world) {
             match force(alloc, world) {
@@ -107,11 +118,10 @@ fn give_up<W: Write>(
     waiting: &mut WaitingLines,
     session: SessionId,
     out: &mut W,
-) -> Result<(), Stop> {
+) -> io::Result<()> {
     let _refused = world.step(alloc, Event::Resume(session));
     waiting.lines.retain(|line| line.session != session);
-    render::fault(out, Some(session), &Fault::Device)?;
-    Ok(())
+    render::fault(out, Some(session), &Fault::Device)
 }
 
 // Whether something has changed.
@@ -120,7 +130,7 @@ fn resume_all<W: Write>(
     world: &mut ScriptWorld,
     waiting: &mut WaitingLines,
     out: &mut W,
-) -> Result<bool, Stop> {
+) -> io::Result<bool> {
     let mut is_changed = false;
     let mut at = 0;
     for _ in 0..waiting.lines.len() {
@@ -156,7 +166,7 @@ fn resume<W: Write>(
     world: &mut ScriptWorld,
     line: &mut WaitingLine,
     out: &mut W,
-) -> Result<Resumed, Stop> {
+) -> io::Result<Resumed> {
     let mut step = world.step(alloc, Event::Resume(line.session));
     for _ in 0..u64::MAX {
         match step {
@@ -196,9 +206,12 @@ fn wait_on(line: &mut WaitingLine, wait: Wait) -> Resumed {
 }
 
 // The call of the line is made again, behind a force.
-fn make_again(alloc: Global, world: &mut ScriptWorld, line: &WaitingLine) -> Result<Step, Stop> {
-    match read_line(alloc, &line.line)? {
-        Some(Command::Ask(session, call)) => Ok(world.step(alloc, Event::Call(session, call))),
+fn make_again(alloc: Global, world: &mut ScriptWorld, line: &WaitingLine) -> io::Result<Step> {
+    let Some(command) = read_line(alloc, &line.line)? else {
+        return Ok(Step::Nothing);
+    };
+    match command {
+        Command::Ask(session, call) => Ok(world.step(alloc, Event::Call(session, call))),
         _ => Ok(Step::Nothing),
     }
 }

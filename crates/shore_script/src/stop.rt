@@ -1,7 +1,6 @@
-//! How a run ends.
-use shore_script::render;
+//! How a run of a script ends.
+use crate::render;
 use shore_types::Fault;
-use std::alloc::AllocError;
 use std::io::{self, ErrorKind, Write};
 use std::process::ExitCode;
 
@@ -55,12 +54,6 @@ impl Stop {
             Stop::Refused(fault) => render::open_fault(out, fault)?,
         }
         out.flush()
-    }
-}
-
-impl From<AllocError> for Stop {
-    fn from(_: AllocError) -> Stop {
-        Stop::Memory
     }
 }
 
