@@ -1,9 +1,11 @@
 //! A line of the script.
-ghost use Rattle.std.specs.Prelude.{◌≡◌, IfOk, IfSome, codes};
+ghost use Rattle.std.specs.Prelude.{◌≡◌, ◌≢◌, IfNone, IfOk, IfSome, codes};
 ghost use Rattle.shore_calls.specs.Events.{IsServed};
 ghost use Rattle.shore_script.specs.Commands.{IsServedCommand};
 ghost use Rattle.shore_script.specs.Words.{Asks, AsksCall, AsksPlain, FirstAsksCall, FirstAsksPlain, pick_word};
+ghost use Rattle.shore_disk.specs.declared.memory.Pick.{Pick as PickData};
 ghost use Rattle.shore_types.specs.Names.{device_name};
+ghost use Rattle.shore_types.specs.declared.faults.Device.{Device as DeviceData};
 
 use crate::fuses::Fuse;
 use crate::lines::MAX_LINE_BYTES;
@@ -117,7 +119,8 @@ fn fuse_command(word: &str, device: &str, calls: &str) -> Option<Command>
 }
 
 fn device_of(word: &str) -> Option<Device>
-    ensures { IfSome result (λ device. word.now ≡ device_name device) }
+    ensures some { IfSome result (λ device. word.now ≡ device_name device) }
+    ensures none { IfNone result ((device : DeviceData) → word.now ≢ device_name device) }
 {
     match word {
         "log" => Some(Device::Log),
@@ -127,7 +130,8 @@ fn device_of(word: &str) -> Option<Device>
 }
 
 fn pick_of(word: &str) -> Option<Pick>
-    ensures { IfSome result (λ pick. word.now ≡ pick_word pick) }
+    ensures some { IfSome result (λ pick. word.now ≡ pick_word pick) }
+    ensures none { IfNone result ((pick : PickData) → word.now ≢ pick_word pick) }
 {
     match word {
         "old" => Some(Pick::Old),

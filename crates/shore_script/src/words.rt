@@ -1,6 +1,7 @@
 //! The words of a script line: numbers, ids and bytes.
-ghost use Rattle.std.specs.Prelude.{◌≡◌, ◌<◌, IfSome};
+ghost use Rattle.std.specs.Prelude.{◌≡◌, ◌≢◌, ◌<◌, ◌≤◌, IfNone, IfSome};
 ghost use Rattle.shore_types.specs.Names.{mode_name};
+ghost use Rattle.shore_types.specs.declared.locking.Mode.{Mode};
 
 use shore_types::{Bytes, Granule, Mode, PageId, Rid, Sequence, SessionId, StoreId};
 use std::alloc::{AllocError, Global};
@@ -29,7 +30,9 @@ pub fn index(word: &str) -> Option<usize> {
 }
 
 /// A session, 1 to 999.
-pub fn session(word: &str) -> Option<SessionId> {
+pub fn session(word: &str) -> Option<SessionId>
+    ensures { IfSome result (λ id. (1 ≤ id) × (id ≤ 999)) }
+{
     let id = short_number(word)?;
     if 1 <= id && id <= MOST_SESSIONS {
         Some(SessionId(id))
@@ -71,7 +74,8 @@ fn page_of(store_word: &str, page_word: &str) -> Option<PageId> {
 
 /// A mode of a lock.
 pub fn mode(word: &str) -> Option<Mode>
-    ensures { IfSome result (λ mode. word.now ≡ mode_name mode) }
+    ensures some { IfSome result (λ mode. word.now ≡ mode_name mode) }
+    ensures none { IfNone result ((mode : Mode) → word.now ≢ mode_name mode) }
 {
     match word {
         "IS" => Some(Mode::IS),
