@@ -1,7 +1,11 @@
 pub mod Answered
 pub mod Counted
+pub mod Entries
+pub mod Found
+pub mod Greatest
 pub mod KnownNext
 pub mod Listed
 pub mod MeantLogs
 pub mod OneMore
+pub mod Turns
 pub mod Undone

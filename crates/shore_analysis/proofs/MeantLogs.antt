@@ -12,13 +12,13 @@ use Rattle.shore_model.specs.declared.log_records.LogRecord.{LogRecord}
 use Rattle.shore_model.specs.declared.log_records.Payload.{Payload}
 use Rattle.shore_model.specs.declared.log_records.Payload.TheVariants.{Change, Compensation, Commit, End, Prepare, RollbackDecided, CheckpointBegin, CheckpointEnd, Anchor}
 use Rattle.shore_model.specs.Logs.{Lawful, MayFollow, MaySay, Answers, id_in, has, is_over, is_commit, is_end, is_prepare, is_rollback, is_in_doubt, is_of_checkpoint, is_unprepared, first_number, last_of, answered_by, unanswered, undo_next_of}
-use Rattle.shore_recovery.specs.UndoChains.{LastNamesNext, next_named_by}
-use Rattle.shore_sessions.proofs.EndedTxns.{over_now, over_other}
-use Rattle.shore_sessions.proofs.UnansweredChanges.{unanswered_other, unanswered_own}
-use Rattle.shore_recovery.proofs.Numbers.{last_own, newest_other}
-use Rattle.shore_recovery.proofs.Redo.{slice_get_last, take_next}
-use Rattle.shore_recovery.proofs.Writers.{no_place, same_or_not}
-use Rattle.shore_recovery.proofs.OneMore.{by_push, has-not_this}
+use Rattle.shore_lives.specs.UndoChains.{LastNamesNext, next_named_by}
+use Rattle.shore_lives.proofs.EndedTxns.{over_now, over_other}
+use Rattle.shore_lives.proofs.UnansweredChanges.{unanswered_other, unanswered_own}
+use Rattle.shore_lives.proofs.Numbers.{last_own, newest_other}
+use Rattle.shore_lives.proofs.Redo.{slice_get_last, take_next}
+use Rattle.shore_lives.proofs.Writers.{no_place, same_or_not}
+use Rattle.shore_lives.proofs.OneMore.{by_push, has-not_this}
 use Rattle.shore_analysis.specs.Meant.{Means, IsMeant, IsCrowded, GoesOn, AreMeant, IsFirstUnmeant, IsServed, IsInBounds}
 
 -- ---- lists

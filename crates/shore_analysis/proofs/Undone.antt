@@ -12,14 +12,14 @@ use Rattle.shore_model.specs.declared.unanswered_changes.UnansweredChange.{Unans
 use Rattle.shore_model.specs.declared.log_records.LogRecord.{LogRecord}
 use Rattle.shore_model.specs.declared.log_records.LogTxn.{LogTxn}
 use Rattle.shore_model.specs.Logs.{Answers, IsEntry, IsListed, IsTable, Lists, first_number, is_in_doubt, is_over, last_of, rise_above, unanswered, undo_next_of}
-use Rattle.shore_recovery.specs.Undo.{IsLoser, undo_payload, undo_record}
-use Rattle.shore_recovery.specs.UndoChains.{IsUndoChain}
-use Rattle.shore_recovery.proofs.Numbers.{newest_other}
-use Rattle.shore_recovery.proofs.OneMore.{by_push}
-use Rattle.shore_recovery.proofs.Redo.{slice_get_last}
-use Rattle.shore_recovery.proofs.UndoChains.{unanswered_chain}
-use Rattle.shore_recovery.proofs.Writers.{same_or_not}
-use Rattle.shore_sessions.proofs.EndedTxns.{over_other}
+use Rattle.shore_lives.specs.Undo.{IsLoser, undo_payload, undo_record}
+use Rattle.shore_lives.specs.UndoChains.{IsUndoChain}
+use Rattle.shore_lives.proofs.Numbers.{newest_other}
+use Rattle.shore_lives.proofs.OneMore.{by_push}
+use Rattle.shore_lives.proofs.Redo.{slice_get_last}
+use Rattle.shore_lives.proofs.UndoChains.{unanswered_chain}
+use Rattle.shore_lives.proofs.Writers.{same_or_not}
+use Rattle.shore_lives.proofs.EndedTxns.{over_other}
 use Rattle.shore_analysis.specs.Meant.{AreMeant, GoesOn, IsCrowded, IsMeant, Means, MeansChange}
 use Rattle.shore_analysis.specs.Passes.{entry_of}
 use Rattle.shore_analysis.proofs.Answered.{last_named}

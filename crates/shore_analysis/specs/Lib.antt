@@ -1,3 +1,4 @@
+pub mod Losers
 pub mod Meant
 pub mod Passes
 pub mod Tables

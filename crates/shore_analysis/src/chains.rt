@@ -3,7 +3,7 @@ ghost use Rattle.std.specs.Prelude.{◌≡◌, ◌↔◌, ◌<◌, ◌-◌, ℕ,
 ghost use Rattle.shore_types.specs.declared.layout.Geometry.{Geometry};
 ghost use Rattle.shore_model.specs.declared.log_records.LogRecord.{LogRecord};
 ghost use Rattle.shore_model.specs.Logs.{Answers, is_over, previous_of, unanswered, undo_next_of};
-ghost use Rattle.shore_recovery.specs.UndoChains.{next_named_by};
+ghost use Rattle.shore_lives.specs.UndoChains.{next_named_by};
 ghost use Rattle.shore_analysis.specs.Meant.{AreMeant, IsChangeFrom};
 
 use shore_model::{LogRecord, Payload};

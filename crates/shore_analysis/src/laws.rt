@@ -3,7 +3,7 @@ ghost use Rattle.std.specs.Prelude.{◌↔◌, ◌++◌, ◌∷◌, [], ℕ, All
 ghost use Rattle.shore_types.specs.declared.layout.Geometry.{Geometry};
 ghost use Rattle.shore_model.specs.declared.log_records.LogRecord.{LogRecord};
 ghost use Rattle.shore_model.specs.Logs.{Lawful, Lists};
-ghost use Rattle.shore_recovery.specs.Undo.{IsLoser, undo_record};
+ghost use Rattle.shore_lives.specs.Undo.{IsLoser, undo_record};
 ghost use Rattle.shore_analysis.specs.declared.analysis.Tables.{Tables};
 ghost use Rattle.shore_analysis.specs.Meant.{AreMeant, GoesOn, IsCrowded, IsFirstUnmeant, IsInBounds};
 ghost use Rattle.shore_analysis.specs.Tables.{AreTables};

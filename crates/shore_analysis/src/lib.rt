@@ -1,11 +1,16 @@
-//! Analysis of a log: one pass over its records gives the transactions that have not ended and the pages that have been changed, or
-//! the first record that a restart cannot work on (ARIES: analysis).
+//! What a restart makes of the records of a log alone. Analysis: one pass gives the transactions that have not ended and the pages that have been changed, or
+//! the first record that a restart cannot work on. Undo of the losers: the records that take them back (ARIES: the analysis and undo passes).
 #![tactic(auto)]
 
 mod analysis;
 mod chains;
 pub mod laws;
+mod losers;
 mod passes;
+mod undo;
+pub mod undo_laws;
 
 pub use analysis::{NotAnalysed, Tables, analyse};
 pub use chains::{next_behind, record_at};
+pub use losers::Losers;
+pub use undo::undo_all;

@@ -8,7 +8,7 @@ use Rattle.shore_model.specs.declared.calls.Call.TheVariants as call
 use Rattle.shore_model.specs.declared.histories.Decision.{Decision}
 use Rattle.shore_model.specs.declared.histories.Entry.{Entry}
 use Rattle.shore_model.specs.Histories.{acknowledged, acknowledged_by, asked_by}
-use Rattle.shore_sessions.specs.SessionSteps.{IsInnerCall}
+use Rattle.shore_lives.specs.SessionSteps.{IsInnerCall}
 
 pub inner_asks_none : (t : ℕ) (c : Call) → IsInnerCall c → asked_by t c ≡ None
 inner_asks_none t call.Begin inner = absurd inner

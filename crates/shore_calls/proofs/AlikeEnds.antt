@@ -8,13 +8,13 @@ use Rattle.shore_model.specs.declared.log_records.LogRecord.{LogRecord}
 use Rattle.shore_model.specs.declared.log_records.Payload.TheVariants.{Compensation, End}
 use Rattle.shore_model.specs.Records.{Records}
 use Rattle.shore_locks.specs.Grants.{released}
-use Rattle.shore_sessions.proofs.Lists.{take-take}
-use Rattle.shore_sessions.proofs.UndoLists.{laid_over-append}
-use Rattle.shore_sessions.specs.declared.rollbacks.Rollback.TheVariants.{To, Whole}
-use Rattle.shore_sessions.specs.LogTells.{AreLogged}
-use Rattle.shore_sessions.specs.Logged.{and_compensations, and_record, and_rollback, next_to_undo}
-use Rattle.shore_sessions.specs.Sessions.{SessionTxn, with_undo, without_txn}
-use Rattle.shore_sessions.specs.UndoLists.{UndoList, images_since, mark_of, rolled_back, undo_rolled}
+use Rattle.shore_lives.proofs.Lists.{take-take}
+use Rattle.shore_lives.proofs.UndoLists.{laid_over-append}
+use Rattle.shore_lives.specs.declared.rollbacks.Rollback.TheVariants.{To, Whole}
+use Rattle.shore_lives.specs.LogTells.{AreLogged}
+use Rattle.shore_lives.specs.Logged.{and_compensations, and_record, and_rollback, next_to_undo}
+use Rattle.shore_lives.specs.Sessions.{SessionTxn, with_undo, without_txn}
+use Rattle.shore_lives.specs.UndoLists.{UndoList, images_since, mark_of, rolled_back, undo_rolled}
 use Rattle.shore_calls.proofs.RollbackLinks.{one_logged}
 use Rattle.shore_calls.proofs.Unwinding.{last_logged, last_previous, list_gone, list_twice, own_previous, same_mark}
 use Rattle.shore_calls.specs.CallSteps.{aborted, with_requests}

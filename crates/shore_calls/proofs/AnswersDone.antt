@@ -19,12 +19,12 @@ use Rattle.shore_model.specs.declared.log_records.LogRecord.{LogRecord}
 use Rattle.shore_model.specs.declared.log_records.Payload.TheVariants as payload
 use Rattle.shore_held.specs.CallLocks.{Asked}
 use Rattle.shore_room.specs.Claims.{SlotCounts}
-use Rattle.shore_sessions.proofs.Ids.{put_here}
-use Rattle.shore_sessions.proofs.Lists.{length-push}
-use Rattle.shore_sessions.proofs.Members.{among_without}
-use Rattle.shore_sessions.specs.Sessions.{IsCurrent, SessionTxn}
-use Rattle.shore_sessions.specs.UndoLists.{nothing_to_undo}
-use Rattle.shore_sessions.specs.Views.{IsAmong}
+use Rattle.shore_lives.proofs.Ids.{put_here}
+use Rattle.shore_lives.proofs.Lists.{length-push}
+use Rattle.shore_lives.proofs.Members.{among_without}
+use Rattle.shore_lives.specs.Sessions.{IsCurrent, SessionTxn}
+use Rattle.shore_lives.specs.UndoLists.{nothing_to_undo}
+use Rattle.shore_lives.specs.Views.{IsAmong}
 use Rattle.shore_calls.specs.declared.step.Step.TheVariants.{Done, Waits}
 use Rattle.shore_calls.specs.declared.step.Wait.{Wait}
 use Rattle.shore_calls.proofs.Decided.{both_ways}

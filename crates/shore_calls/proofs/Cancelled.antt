@@ -15,8 +15,8 @@ use Rattle.shore_path.proofs.Freeing.{rooted_cancelled, weaker_cancelled}
 use Rattle.shore_path.proofs.Intentions.{are_rooted, rooted_of}
 use Rattle.shore_deadlock.proofs.Sparing.{Spares, spares_cancelled}
 use Rattle.shore_held.proofs.Held.{moves_of, numbers_of}
-use Rattle.shore_sessions.specs.SessionSteps.{MoveLocks, StepsTo}
-use Rattle.shore_sessions.specs.Sessions.{Sessions, locks_moved}
+use Rattle.shore_lives.specs.SessionSteps.{MoveLocks, StepsTo}
+use Rattle.shore_lives.specs.Sessions.{Sessions, locks_moved}
 
 module _ (rs : List Request) (t : ℕ) (orderly : IsOrderly rs) where
   abbrev left : List Request

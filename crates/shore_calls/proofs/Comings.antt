@@ -19,15 +19,15 @@ use Rattle.shore_model.specs.Records.{Records}
 use Rattle.shore_model.specs.Requests.{held_by_all}
 use Rattle.shore_locks.specs.Grants.{released}
 use Rattle.shore_held.proofs.Held.{released_moves}
-use Rattle.shore_sessions.proofs.Members.{txn_of_one}
-use Rattle.shore_sessions.specs.LogPrefixes.{decisions_in}
-use Rattle.shore_sessions.specs.declared.rollbacks.Rollback.TheVariants.{Whole}
-use Rattle.shore_sessions.specs.LogTells.{AreLogged}
-use Rattle.shore_sessions.specs.Logged.{and_compensations, and_rollback}
-use Rattle.shore_sessions.specs.SessionSteps.{AnswerAbort, AnswerCommit, AppendCommit, MoveLocks, SessionEvent, StepsTo, entries_by, exchange}
-use Rattle.shore_sessions.specs.Sessions.{SessionTxn, Sessions, commit_answered, txns_of, with_undo, without_txn}
-use Rattle.shore_sessions.specs.UndoLists.{rolled_back, undo_rolled}
-use Rattle.shore_sessions.specs.Views.{IsAmong}
+use Rattle.shore_lives.proofs.Members.{txn_of_one}
+use Rattle.shore_lives.specs.LogPrefixes.{decisions_in}
+use Rattle.shore_lives.specs.declared.rollbacks.Rollback.TheVariants.{Whole}
+use Rattle.shore_lives.specs.LogTells.{AreLogged}
+use Rattle.shore_lives.specs.Logged.{and_compensations, and_rollback}
+use Rattle.shore_lives.specs.SessionSteps.{AnswerAbort, AnswerCommit, AppendCommit, MoveLocks, SessionEvent, StepsTo, entries_by, exchange}
+use Rattle.shore_lives.specs.Sessions.{SessionTxn, Sessions, commit_answered, txns_of, with_undo, without_txn}
+use Rattle.shore_lives.specs.UndoLists.{rolled_back, undo_rolled}
+use Rattle.shore_lives.specs.Views.{IsAmong}
 use Rattle.shore_calls.specs.declared.step.Step.{Step}
 use Rattle.shore_calls.proofs.Links.{ComesBy, Goes, GoesBy, IsDurable, IsLike, answer_goes, commit_goes, locks_go, quietly_comes, with_answer, with_commit}
 use Rattle.shore_calls.proofs.RefusalTells.{same_entry}

@@ -21,9 +21,9 @@ use Rattle.shore_held.specs.CallLocks.{Asked}
 use Rattle.shore_deadlock.proofs.AcquireLemmas.{ClosesOwn, acquire_closes}
 use Rattle.shore_deadlock.proofs.LawLemmas.{release_keeps_free}
 use Rattle.shore_cycles.specs.Cycles.{IsOnEachCycle}
-use Rattle.shore_sessions.specs.declared.rollbacks.Rollback.TheVariants.{Whole}
-use Rattle.shore_sessions.specs.Sessions.{SessionTxn}
-use Rattle.shore_sessions.specs.Views.{IsAmong}
+use Rattle.shore_lives.specs.declared.rollbacks.Rollback.TheVariants.{Whole}
+use Rattle.shore_lives.specs.Sessions.{SessionTxn}
+use Rattle.shore_lives.specs.Views.{IsAmong}
 use Rattle.shore_calls.specs.declared.step.Step.{Step}
 use Rattle.shore_calls.specs.declared.step.Step.TheVariants.{Done, Nothing, Refused, Waits}
 use Rattle.shore_calls.specs.declared.step.Wait.{Wait}

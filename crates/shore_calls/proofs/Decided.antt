@@ -18,8 +18,8 @@ use Rattle.shore_page.specs.Room.{Fits, free_bytes, need}
 use Rattle.shore_page.specs.Slots.{Slot}
 use Rattle.shore_room.proofs.Leaving.{same_page}
 use Rattle.shore_room.specs.Claims.{Grows, SlotCounts}
-use Rattle.shore_sessions.proofs.Lists.{within_or_beyond}
-use Rattle.shore_sessions.specs.Views.{IsAmong}
+use Rattle.shore_lives.proofs.Lists.{within_or_beyond}
+use Rattle.shore_lives.specs.Views.{IsAmong}
 use Rattle.shore_calls.specs.declared.step.Step.TheVariants.{Refused}
 use Rattle.shore_calls.specs.StateChanges.{ComesOfState}
 use Rattle.shore_calls.specs.States.{HasRoomFor, State, Waiting, log_room}

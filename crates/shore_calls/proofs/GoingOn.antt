@@ -28,12 +28,12 @@ use Rattle.shore_path.specs.Acquires.{MayRefuse}
 use Rattle.shore_held.specs.CallLocks.{Asked, asked_by}
 use Rattle.shore_held.proofs.Acquired.{acquired_refused}
 use Rattle.shore_held.proofs.Held.{locked_of, served_by}
-use Rattle.shore_sessions.proofs.GranuleLocks.{permitted}
-use Rattle.shore_sessions.proofs.Views.{read_of_write}
-use Rattle.shore_sessions.specs.RepliesInPlace.{Permit}
-use Rattle.shore_sessions.specs.SessionSteps.{IsInnerCall, TellsNothing, exchange}
-use Rattle.shore_sessions.specs.Sessions.{SessionTxn}
-use Rattle.shore_sessions.specs.Views.{IsAmong}
+use Rattle.shore_lives.proofs.GranuleLocks.{permitted}
+use Rattle.shore_lives.proofs.Views.{read_of_write}
+use Rattle.shore_lives.specs.RepliesInPlace.{Permit}
+use Rattle.shore_lives.specs.SessionSteps.{IsInnerCall, TellsNothing, exchange}
+use Rattle.shore_lives.specs.Sessions.{SessionTxn}
+use Rattle.shore_lives.specs.Views.{IsAmong}
 use Rattle.shore_room.specs.Claims.{SlotCounts}
 use Rattle.shore_calls.specs.declared.step.Step.{Step}
 use Rattle.shore_calls.specs.declared.step.Step.TheVariants.{Done, Nothing, Refused, Waits}

@@ -6,7 +6,7 @@ use Rattle.shore_model.specs.declared.histories.Decision.{Decision}
 use Rattle.shore_model.specs.declared.histories.Entry.{Entry}
 use Rattle.shore_model.specs.declared.log_records.LogRecord.{LogRecord}
 use Rattle.shore_model.specs.Histories.{acknowledged, acknowledged_by}
-use Rattle.shore_sessions.specs.LogPrefixes.{decisions_in}
+use Rattle.shore_lives.specs.LogPrefixes.{decisions_in}
 use Rattle.shore_calls.proofs.Acknowledged.{acknowledges_none}
 use Rattle.shore_calls.proofs.Elements.{in_grown}
 use Rattle.shore_calls.specs.CallHistories.{IsPrefix, IsForced}

@@ -23,11 +23,11 @@ use Rattle.shore_held.specs.CallLocks.{Asked, asked_by}
 use Rattle.shore_room.specs.Claims.{Grows}
 use Rattle.shore_room.specs.Events.{EventFits}
 use Rattle.shore_room.specs.LogRooms.{EventAdmits, LogRoom, RoomAfter, begun_room, ended_room, owed}
-use Rattle.shore_sessions.proofs.Lists.{length-push}
-use Rattle.shore_sessions.specs.Logged.{and_record, log_after}
-use Rattle.shore_sessions.specs.SessionSteps.{AnswerAbort, AnswerCommit, AppendCommit, BeginTxn, Doom, GiveReply, MoveLocks, PutBack, RefuseCall, SessionEvent, StepsTo, entries_by}
-use Rattle.shore_sessions.specs.Sessions.{SessionTxn, commit_answered, commit_appended, txn_begun, without_txn}
-use Rattle.shore_sessions.specs.Views.{IsAmong}
+use Rattle.shore_lives.proofs.Lists.{length-push}
+use Rattle.shore_lives.specs.Logged.{and_record, log_after}
+use Rattle.shore_lives.specs.SessionSteps.{AnswerAbort, AnswerCommit, AppendCommit, BeginTxn, Doom, GiveReply, MoveLocks, PutBack, RefuseCall, SessionEvent, StepsTo, entries_by}
+use Rattle.shore_lives.specs.Sessions.{SessionTxn, commit_answered, commit_appended, txn_begun, without_txn}
+use Rattle.shore_lives.specs.Views.{IsAmong}
 use Rattle.shore_calls.proofs.Rooms.{cost_pushed}
 use Rattle.shore_calls.specs.StateChanges.{FitsAt, with_failure}
 use Rattle.shore_calls.specs.CallSteps.{lock_waiting, txn_count, with_requests}

@@ -18,7 +18,7 @@ use Rattle.shore_path.specs.declared.answers.Acquired.TheVariants as acquire
 use Rattle.shore_path.specs.declared.answers.OnConflict.{OnConflict}
 use Rattle.shore_path.specs.declared.answers.OnConflict.TheVariants as conflict
 use Rattle.shore_held.specs.CallLocks.{Asked, asked_by}
-use Rattle.shore_sessions.specs.Sessions.{SessionTxn}
+use Rattle.shore_lives.specs.Sessions.{SessionTxn}
 use Rattle.shore_calls.proofs.AcquireAnswers.{allowed_mode, wait_never_blocks}
 use Rattle.shore_calls.proofs.RefusalCauses.{table_full}
 use Rattle.shore_calls.proofs.SessionInversions.{IsOwn, RefusedIn, asks_no_begin, insert_asks, refused_in, same_lock}

@@ -10,13 +10,13 @@ use Rattle.shore_model.specs.declared.histories.Entry.{Entry}
 use Rattle.shore_model.specs.declared.histories.Entry.TheVariants.{Exchanged}
 use Rattle.shore_model.specs.declared.log_records.LogRecord.{LogRecord}
 use Rattle.shore_model.specs.Alone.{IsRight, record_named_by}
-use Rattle.shore_sessions.proofs.Members.{among_with}
-use Rattle.shore_sessions.specs.LogTells.{records_committed}
-use Rattle.shore_sessions.specs.RepliesInPlace.{IsKnownAbsent, Permit}
-use Rattle.shore_sessions.specs.SessionSteps.{GiveReply, IsInnerCall, RefuseCall, TellsNothing, exchange}
-use Rattle.shore_sessions.specs.Sessions.{SessionTxn, reply_given}
-use Rattle.shore_sessions.specs.UndoLists.{MayGiveReply, undo_after}
-use Rattle.shore_sessions.specs.Views.{IsAmong}
+use Rattle.shore_lives.proofs.Members.{among_with}
+use Rattle.shore_lives.specs.LogTells.{records_committed}
+use Rattle.shore_lives.specs.RepliesInPlace.{IsKnownAbsent, Permit}
+use Rattle.shore_lives.specs.SessionSteps.{GiveReply, IsInnerCall, RefuseCall, TellsNothing, exchange}
+use Rattle.shore_lives.specs.Sessions.{SessionTxn, reply_given}
+use Rattle.shore_lives.specs.UndoLists.{MayGiveReply, undo_after}
+use Rattle.shore_lives.specs.Views.{IsAmong}
 use Rattle.shore_room.specs.Claims.{SlotCounts}
 use Rattle.shore_locks.specs.Tables.{is_waiting}
 use Rattle.shore_calls.proofs.Elements.{same_undo}

@@ -11,7 +11,7 @@ use Rattle.shore_types.specs.declared.locking.Mode.TheVariants.{EX}
 use Rattle.shore_model.specs.Locks.{HoldsAtLeast, MayRead, MayWrite}
 use Rattle.shore_locks.specs.Grants.{released}
 use Rattle.shore_path.proofs.Freeing.{weaker_released}
-use Rattle.shore_sessions.specs.declared.rollbacks.Rollback.TheVariants.{Whole}
+use Rattle.shore_lives.specs.declared.rollbacks.Rollback.TheVariants.{Whole}
 use Rattle.shore_model.specs.declared.calls.Answer.{Answer}
 use Rattle.shore_model.specs.declared.calls.Answer.TheVariants.{Aborted}
 use Rattle.shore_model.specs.declared.calls.Call.{Call}
@@ -31,12 +31,12 @@ use Rattle.shore_held.proofs.Acquired.{acquired_leaves}
 use Rattle.shore_held.proofs.Held.{locked_of, served_by}
 use Rattle.shore_held.specs.Acquires.{Leaves}
 use Rattle.shore_held.specs.CallLocks.{Asked}
-use Rattle.shore_sessions.proofs.GranuleLocks.{permitted}
-use Rattle.shore_sessions.proofs.StrongerLocks.{reads_up, writes_up}
-use Rattle.shore_sessions.specs.GranuleLocks.{HasLock, HasLocksFor}
-use Rattle.shore_sessions.specs.RepliesInPlace.{Permit}
-use Rattle.shore_sessions.specs.SessionSteps.{KeepsLocks}
-use Rattle.shore_sessions.specs.Sessions.{SessionTxn}
+use Rattle.shore_lives.proofs.GranuleLocks.{permitted}
+use Rattle.shore_lives.proofs.StrongerLocks.{reads_up, writes_up}
+use Rattle.shore_lives.specs.GranuleLocks.{HasLock, HasLocksFor}
+use Rattle.shore_lives.specs.RepliesInPlace.{Permit}
+use Rattle.shore_lives.specs.SessionSteps.{KeepsLocks}
+use Rattle.shore_lives.specs.Sessions.{SessionTxn}
 use Rattle.shore_calls.specs.declared.step.Step.{Step}
 use Rattle.shore_calls.specs.declared.step.Step.TheVariants.{Done, Nothing, Refused, Waits}
 use Rattle.shore_calls.proofs.SessionCalls.{session_call_kept}

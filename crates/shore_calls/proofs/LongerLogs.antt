@@ -9,10 +9,10 @@ use Rattle.shore_model.specs.declared.calls.Call.{Call}
 use Rattle.shore_model.specs.declared.calls.Call.TheVariants as call
 use Rattle.shore_model.specs.declared.log_records.LogRecord.{LogRecord}
 use Rattle.shore_cycles.specs.declared.victims.Victim.{Victim}
-use Rattle.shore_sessions.specs.declared.rollbacks.Rollback.{Rollback}
-use Rattle.shore_sessions.specs.declared.rollbacks.Rollback.TheVariants.{To, Whole}
-use Rattle.shore_sessions.specs.Sessions.{SessionTxn}
-use Rattle.shore_sessions.specs.UndoLists.{images_since}
+use Rattle.shore_lives.specs.declared.rollbacks.Rollback.{Rollback}
+use Rattle.shore_lives.specs.declared.rollbacks.Rollback.TheVariants.{To, Whole}
+use Rattle.shore_lives.specs.Sessions.{SessionTxn}
+use Rattle.shore_lives.specs.UndoLists.{images_since}
 use Rattle.shore_calls.proofs.Prefixes.{prefix_on}
 use Rattle.shore_calls.proofs.Unwinding.{compensations_on, rollback_on}
 use Rattle.shore_calls.specs.declared.step.Wait.{Wait}

@@ -3,7 +3,7 @@ use Rattle.std.proofs.Common.{◌≡◌, ◌⊎◌, inl, inr, ⊎_elim, ◌≤�
 use Rattle.shore_types.specs.declared.ids.Rid.{Rid}
 use Rattle.shore_room.specs.Choosing.{IsLowest}
 use Rattle.shore_room.specs.Claims.{rid_on}
-use Rattle.shore_sessions.proofs.Lists.{within_or_beyond}
+use Rattle.shore_lives.proofs.Lists.{within_or_beyond}
 use Rattle.shore_calls.proofs.Decided.{OrNot}
 
 -- the first of the numbers below one that passes, or none passes

@@ -21,10 +21,10 @@ use Rattle.shore_locks.specs.Tables.{is_waiting}
 use Rattle.shore_path.specs.declared.answers.Acquired.{Acquired}
 use Rattle.shore_path.specs.declared.answers.Acquired.TheVariants as acquire
 use Rattle.shore_held.specs.CallLocks.{Asked, asked_by}
-use Rattle.shore_sessions.specs.declared.rollbacks.Rollback.{Rollback}
-use Rattle.shore_sessions.specs.declared.rollbacks.Rollback.TheVariants.{To, Whole}
-use Rattle.shore_sessions.specs.Sessions.{SessionTxn}
-use Rattle.shore_sessions.specs.Views.{IsAmong}
+use Rattle.shore_lives.specs.declared.rollbacks.Rollback.{Rollback}
+use Rattle.shore_lives.specs.declared.rollbacks.Rollback.TheVariants.{To, Whole}
+use Rattle.shore_lives.specs.Sessions.{SessionTxn}
+use Rattle.shore_lives.specs.Views.{IsAmong}
 use Rattle.shore_calls.specs.declared.step.Step.{Step}
 use Rattle.shore_calls.specs.declared.step.Step.TheVariants.{Done, Nothing, Refused, Waits}
 use Rattle.shore_calls.specs.declared.step.Wait.{Wait}

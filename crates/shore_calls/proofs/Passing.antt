@@ -22,11 +22,11 @@ use Rattle.shore_path.specs.declared.answers.Acquired.TheVariants as acquire
 use Rattle.shore_path.specs.declared.answers.OnConflict.TheVariants.{Refuse}
 use Rattle.shore_held.specs.CallLocks.{Asked, asked_by}
 use Rattle.shore_held.proofs.Acquired.{acquired_refused}
-use Rattle.shore_sessions.proofs.Views.{read_of_write}
-use Rattle.shore_sessions.specs.RepliesInPlace.{IsKnownAbsent, Permit}
-use Rattle.shore_sessions.specs.SessionSteps.{GiveReply, IsInnerCall, RefuseCall, TellsNothing, exchange}
-use Rattle.shore_sessions.specs.Sessions.{SessionTxn, reply_given}
-use Rattle.shore_sessions.specs.Views.{IsAmong}
+use Rattle.shore_lives.proofs.Views.{read_of_write}
+use Rattle.shore_lives.specs.RepliesInPlace.{IsKnownAbsent, Permit}
+use Rattle.shore_lives.specs.SessionSteps.{GiveReply, IsInnerCall, RefuseCall, TellsNothing, exchange}
+use Rattle.shore_lives.specs.Sessions.{SessionTxn, reply_given}
+use Rattle.shore_lives.specs.Views.{IsAmong}
 use Rattle.shore_room.specs.Claims.{SlotCounts}
 use Rattle.shore_calls.specs.declared.step.Step.{Step}
 use Rattle.shore_calls.specs.declared.step.Step.TheVariants.{Done, Nothing, Refused, Waits}

@@ -9,8 +9,8 @@ use Rattle.shore_model.specs.declared.calls.Exchange.{Exchange}
 use Rattle.shore_model.specs.declared.histories.Entry.TheVariants.{Exchanged}
 use Rattle.shore_model.specs.declared.holds.Hold.{Hold}
 use Rattle.shore_model.specs.Locks.{MayRead}
-use Rattle.shore_sessions.specs.RepliesInPlace.{IsKnownAbsent}
-use Rattle.shore_sessions.specs.SessionSteps.{TellsNothing}
+use Rattle.shore_lives.specs.RepliesInPlace.{IsKnownAbsent}
+use Rattle.shore_lives.specs.SessionSteps.{TellsNothing}
 use Rattle.shore_calls.specs.States.{State}
 
 -- ---- which refusals tell of a record

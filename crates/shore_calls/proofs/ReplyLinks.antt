@@ -21,13 +21,13 @@ use Rattle.shore_room.proofs.Costs.{change_bytes}
 use Rattle.shore_room.specs.Claims.{SlotCounts}
 use Rattle.shore_room.specs.Events.{EventFits}
 use Rattle.shore_room.specs.LogRooms.{EventAdmits, change_cost, changed_room, undone_rooms}
-use Rattle.shore_sessions.proofs.Lists.{length-push}
-use Rattle.shore_sessions.specs.Logged.{and_compensations, and_record}
-use Rattle.shore_sessions.specs.RepliesInPlace.{Permit}
-use Rattle.shore_sessions.specs.SessionSteps.{GiveReply, IsInnerCall}
-use Rattle.shore_sessions.specs.Sessions.{SessionTxn, with_undo}
-use Rattle.shore_sessions.specs.UndoLists.{MayGiveReply, UndoList, images_since, undo_after}
-use Rattle.shore_sessions.specs.Views.{IsAmong}
+use Rattle.shore_lives.proofs.Lists.{length-push}
+use Rattle.shore_lives.specs.Logged.{and_compensations, and_record}
+use Rattle.shore_lives.specs.RepliesInPlace.{Permit}
+use Rattle.shore_lives.specs.SessionSteps.{GiveReply, IsInnerCall}
+use Rattle.shore_lives.specs.Sessions.{SessionTxn, with_undo}
+use Rattle.shore_lives.specs.UndoLists.{MayGiveReply, UndoList, images_since, undo_after}
+use Rattle.shore_lives.specs.Views.{IsAmong}
 use Rattle.shore_calls.proofs.Links.{Goes, HasRoomAfter, Writes, same_room}
 use Rattle.shore_calls.proofs.Rooms.{cost_pushed}
 use Rattle.shore_calls.specs.StateChanges.{MayChange, answered}

@@ -14,15 +14,15 @@ use Rattle.shore_model.specs.declared.log_records.Payload.TheVariants as payload
 use Rattle.shore_model.specs.Logs.{logged_writes, previous_of}
 use Rattle.shore_room.proofs.Costs.{compensation_bytes}
 use Rattle.shore_room.specs.LogRooms.{ended_room, left_room, undone_room}
-use Rattle.shore_sessions.proofs.Lists.{length-push}
-use Rattle.shore_sessions.proofs.LoggedUndos.{with_compensations}
-use Rattle.shore_sessions.specs.declared.rollbacks.Rollback.{Rollback}
-use Rattle.shore_sessions.specs.LogTells.{AreLogged}
-use Rattle.shore_sessions.specs.Logged.{and_compensations, and_record, log_after, next_to_undo}
-use Rattle.shore_sessions.specs.SessionSteps.{AnswerAbort, PutBack, SessionEvent}
-use Rattle.shore_sessions.specs.Sessions.{SessionTxn, abort_answered, image_put_back, with_undo}
-use Rattle.shore_sessions.specs.UndoLists.{MayRoll, UndoList, least_kept, rolled_back, undo_rolled}
-use Rattle.shore_sessions.specs.Views.{IsAmong}
+use Rattle.shore_lives.proofs.Lists.{length-push}
+use Rattle.shore_lives.proofs.LoggedUndos.{with_compensations}
+use Rattle.shore_lives.specs.declared.rollbacks.Rollback.{Rollback}
+use Rattle.shore_lives.specs.LogTells.{AreLogged}
+use Rattle.shore_lives.specs.Logged.{and_compensations, and_record, log_after, next_to_undo}
+use Rattle.shore_lives.specs.SessionSteps.{AnswerAbort, PutBack, SessionEvent}
+use Rattle.shore_lives.specs.Sessions.{SessionTxn, abort_answered, image_put_back, with_undo}
+use Rattle.shore_lives.specs.UndoLists.{MayRoll, UndoList, least_kept, rolled_back, undo_rolled}
+use Rattle.shore_lives.specs.Views.{IsAmong}
 use Rattle.shore_calls.proofs.Links.{Goes, GoesBy, HasRoomAfter, Writes, shorter_without}
 use Rattle.shore_calls.proofs.ReplyLinks.{as_many}
 use Rattle.shore_calls.proofs.Rooms.{cost_pushed}

@@ -28,10 +28,10 @@ use Rattle.shore_room.proofs.Leaving.{same_page}
 use Rattle.shore_room.proofs.Pages.{same_id}
 use Rattle.shore_room.specs.Claims.{Grows, SlotCounts, befores_at, slots_of}
 use Rattle.shore_room.specs.LogRooms.{image_cost}
-use Rattle.shore_sessions.proofs.Ids.{put_here}
-use Rattle.shore_sessions.specs.declared.rollbacks.Rollback.TheVariants.{Whole}
-use Rattle.shore_sessions.specs.Sessions.{SessionTxn, txn_begun}
-use Rattle.shore_sessions.specs.UndoLists.{nothing_to_undo, undo_rolled, with_before_image}
+use Rattle.shore_lives.proofs.Ids.{put_here}
+use Rattle.shore_lives.specs.declared.rollbacks.Rollback.TheVariants.{Whole}
+use Rattle.shore_lives.specs.Sessions.{SessionTxn, txn_begun}
+use Rattle.shore_lives.specs.UndoLists.{nothing_to_undo, undo_rolled, with_before_image}
 use Rattle.shore_calls.proofs.SettledAtOnce.{at_once, resumed_at_once}
 use Rattle.shore_calls.specs.declared.step.Step.TheVariants.{Done, Refused, Waits}
 use Rattle.shore_calls.specs.declared.step.Wait.TheVariants.{Durable}

@@ -20,14 +20,14 @@ use Rattle.shore_locks.specs.Grants.{released}
 use Rattle.shore_locks.specs.Tables.{is_waiting}
 use Rattle.shore_held.proofs.Held.{released_below, released_moves, released_orderly, released_rooted}
 use Rattle.shore_held.proofs.Waiting.{released_stay_quiet}
-use Rattle.shore_sessions.proofs.Members.{among_with, among_without, txn_without}
-use Rattle.shore_sessions.specs.declared.rollbacks.Rollback.{Rollback}
-use Rattle.shore_sessions.specs.declared.rollbacks.Rollback.TheVariants.{To, Whole}
-use Rattle.shore_sessions.specs.LogTells.{records_committed}
-use Rattle.shore_sessions.specs.SessionSteps.{AnswerAbort, MoveLocks, SessionEvent, TellsNothing, entries_by, exchange}
-use Rattle.shore_sessions.specs.Sessions.{SessionTxn, abort_answered, txns_of}
-use Rattle.shore_sessions.specs.UndoLists.{MayGiveReply, MayRoll, UndoToSavepoints, least_kept, mark_of, undo_rolled}
-use Rattle.shore_sessions.specs.Views.{IsAmong}
+use Rattle.shore_lives.proofs.Members.{among_with, among_without, txn_without}
+use Rattle.shore_lives.specs.declared.rollbacks.Rollback.{Rollback}
+use Rattle.shore_lives.specs.declared.rollbacks.Rollback.TheVariants.{To, Whole}
+use Rattle.shore_lives.specs.LogTells.{records_committed}
+use Rattle.shore_lives.specs.SessionSteps.{AnswerAbort, MoveLocks, SessionEvent, TellsNothing, entries_by, exchange}
+use Rattle.shore_lives.specs.Sessions.{SessionTxn, abort_answered, txns_of}
+use Rattle.shore_lives.specs.UndoLists.{MayGiveReply, MayRoll, UndoToSavepoints, least_kept, mark_of, undo_rolled}
+use Rattle.shore_lives.specs.Views.{IsAmong}
 use Rattle.shore_calls.specs.declared.step.Step.{Step}
 use Rattle.shore_calls.specs.declared.step.Step.TheVariants.{Done, Nothing, Refused, Waits}
 use Rattle.shore_calls.proofs.GoingOn.{page_fault_tells_nothing}

@@ -13,14 +13,14 @@ use Rattle.shore_model.specs.declared.histories.Entry.{Entry}
 use Rattle.shore_model.specs.declared.histories.Entry.TheVariants.{Exchanged}
 use Rattle.shore_model.specs.declared.log_records.LogRecord.{LogRecord}
 use Rattle.shore_model.specs.Records.{Records}
-use Rattle.shore_sessions.proofs.Lists.{take-take}
-use Rattle.shore_sessions.specs.declared.rollbacks.Rollback.{Rollback}
-use Rattle.shore_sessions.specs.declared.rollbacks.Rollback.TheVariants.{To, Whole}
-use Rattle.shore_sessions.specs.Logged.{and_compensations}
-use Rattle.shore_sessions.specs.SessionSteps.{GiveReply, PutBack, RefuseCall, SessionEvent, TellsNothing, exchange}
-use Rattle.shore_sessions.specs.Sessions.{SessionTxn, with_undo}
-use Rattle.shore_sessions.specs.UndoLists.{MayRoll, UndoList, images_since, mark_of, rolled_back, undo_rolled}
-use Rattle.shore_sessions.specs.Views.{IsAmong}
+use Rattle.shore_lives.proofs.Lists.{take-take}
+use Rattle.shore_lives.specs.declared.rollbacks.Rollback.{Rollback}
+use Rattle.shore_lives.specs.declared.rollbacks.Rollback.TheVariants.{To, Whole}
+use Rattle.shore_lives.specs.Logged.{and_compensations}
+use Rattle.shore_lives.specs.SessionSteps.{GiveReply, PutBack, RefuseCall, SessionEvent, TellsNothing, exchange}
+use Rattle.shore_lives.specs.Sessions.{SessionTxn, with_undo}
+use Rattle.shore_lives.specs.UndoLists.{MayRoll, UndoList, images_since, mark_of, rolled_back, undo_rolled}
+use Rattle.shore_lives.specs.Views.{IsAmong}
 use Rattle.shore_calls.specs.declared.step.Step.{Step}
 use Rattle.shore_calls.specs.declared.step.Step.TheVariants.{Done, Nothing, Refused, Waits}
 use Rattle.shore_calls.proofs.Links.{GoesQuietly, IsLeft, IsQuiet, quietly_one, refusal_goes}

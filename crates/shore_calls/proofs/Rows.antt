@@ -10,10 +10,10 @@ use Rattle.shore_types.specs.declared.layout.Geometry.{Geometry}
 use Rattle.shore_room.proofs.Pages.{page_or_other}
 use Rattle.shore_room.specs.Choosing.{IsBefore}
 use Rattle.shore_room.specs.Claims.{Grows, SlotCounts, rid_on}
-use Rattle.shore_sessions.proofs.Lists.{within_or_beyond}
-use Rattle.shore_sessions.proofs.Members.{txn_among}
-use Rattle.shore_sessions.specs.Sessions.{EachOnce, SessionTxn, txns_of}
-use Rattle.shore_sessions.specs.Views.{IsAmong}
+use Rattle.shore_lives.proofs.Lists.{within_or_beyond}
+use Rattle.shore_lives.proofs.Members.{txn_among}
+use Rattle.shore_lives.specs.Sessions.{EachOnce, SessionTxn, txns_of}
+use Rattle.shore_lives.specs.Views.{IsAmong}
 
 -- ---- rows of tests
 

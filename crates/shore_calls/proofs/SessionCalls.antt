@@ -20,11 +20,11 @@ use Rattle.shore_model.specs.declared.log_records.LogRecord.{LogRecord}
 use Rattle.shore_model.specs.Alone.{record_named_by}
 use Rattle.shore_locks.specs.Tables.{is_waiting}
 use Rattle.shore_held.proofs.Waiting.{newcomer_quiet}
-use Rattle.shore_sessions.proofs.Members.{among_without}
-use Rattle.shore_sessions.specs.LogTells.{records_committed}
-use Rattle.shore_sessions.specs.RepliesInPlace.{IsKnownAbsent}
-use Rattle.shore_sessions.specs.SessionSteps.{AppendCommit, BeginTxn, IsInnerCall, TellsNothing, exchange}
-use Rattle.shore_sessions.specs.Sessions.{SessionTxn, txn_begun}
+use Rattle.shore_lives.proofs.Members.{among_without}
+use Rattle.shore_lives.specs.LogTells.{records_committed}
+use Rattle.shore_lives.specs.RepliesInPlace.{IsKnownAbsent}
+use Rattle.shore_lives.specs.SessionSteps.{AppendCommit, BeginTxn, IsInnerCall, TellsNothing, exchange}
+use Rattle.shore_lives.specs.Sessions.{SessionTxn, txn_begun}
 use Rattle.shore_calls.specs.declared.step.Step.{Step}
 use Rattle.shore_calls.specs.declared.step.Step.TheVariants.{Done, Nothing, Refused, Waits}
 use Rattle.shore_calls.proofs.GoingOn.{goes_on_kept}

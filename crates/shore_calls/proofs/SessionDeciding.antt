@@ -33,11 +33,11 @@ use Rattle.shore_held.proofs.Places.{EndsWell, acquired_ends}
 use Rattle.shore_held.specs.CallLocks.{Asked, CanLockNow, asked_by}
 use Rattle.shore_room.proofs.Fitting.{delete_fits}
 use Rattle.shore_room.specs.Claims.{SlotCounts}
-use Rattle.shore_sessions.proofs.Lists.{within_or_beyond}
-use Rattle.shore_sessions.specs.declared.rollbacks.Rollback.{Rollback}
-use Rattle.shore_sessions.specs.declared.rollbacks.Rollback.TheVariants.{To, Whole}
-use Rattle.shore_sessions.specs.Sessions.{SessionTxn, txn_begun}
-use Rattle.shore_sessions.specs.Views.{IsAmong}
+use Rattle.shore_lives.proofs.Lists.{within_or_beyond}
+use Rattle.shore_lives.specs.declared.rollbacks.Rollback.{Rollback}
+use Rattle.shore_lives.specs.declared.rollbacks.Rollback.TheVariants.{To, Whole}
+use Rattle.shore_lives.specs.Sessions.{SessionTxn, txn_begun}
+use Rattle.shore_lives.specs.Views.{IsAmong}
 use Rattle.shore_calls.specs.declared.step.Step.{Step}
 use Rattle.shore_calls.specs.declared.step.Step.TheVariants.{Done, Nothing, Refused, Waits}
 use Rattle.shore_calls.specs.declared.step.Wait.{Wait}

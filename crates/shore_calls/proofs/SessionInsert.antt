@@ -21,9 +21,9 @@ use Rattle.shore_calls.specs.declared.step.Wait.TheVariants.{Durable}
 use Rattle.shore_room.proofs.Leaving.{same_page}
 use Rattle.shore_room.specs.Claims.{Grows, SlotCounts}
 use Rattle.shore_room.specs.LogRooms.{image_cost}
-use Rattle.shore_sessions.proofs.Ids.{put_here}
-use Rattle.shore_sessions.specs.Sessions.{SessionTxn, txn_begun}
-use Rattle.shore_sessions.specs.UndoLists.{nothing_to_undo, with_before_image}
+use Rattle.shore_lives.proofs.Ids.{put_here}
+use Rattle.shore_lives.specs.Sessions.{SessionTxn, txn_begun}
+use Rattle.shore_lives.specs.UndoLists.{nothing_to_undo, with_before_image}
 use Rattle.shore_calls.specs.CallHistories.{IsOpened}
 use Rattle.shore_calls.specs.Events.{Called, Forced, Resumed, EventMoves, MovesMaking, entries_of}
 use Rattle.shore_calls.specs.StateChanges.{FitsAt, MayChange, answered, commit_waiting, committed, with_durable}

@@ -10,9 +10,9 @@ use Rattle.shore_model.specs.declared.calls.Call.{Call}
 use Rattle.shore_model.specs.declared.calls.Call.TheVariants as call
 use Rattle.shore_path.specs.declared.answers.Acquired.TheVariants as acquire
 use Rattle.shore_held.specs.CallLocks.{Asked, asked_by}
-use Rattle.shore_sessions.specs.declared.rollbacks.Rollback.{Rollback}
-use Rattle.shore_sessions.specs.declared.rollbacks.Rollback.TheVariants.{To, Whole}
-use Rattle.shore_sessions.specs.Sessions.{SessionTxn}
+use Rattle.shore_lives.specs.declared.rollbacks.Rollback.{Rollback}
+use Rattle.shore_lives.specs.declared.rollbacks.Rollback.TheVariants.{To, Whole}
+use Rattle.shore_lives.specs.Sessions.{SessionTxn}
 use Rattle.shore_calls.specs.declared.step.Step.{Step}
 use Rattle.shore_calls.specs.declared.step.Step.TheVariants.{Done, Refused, Waits}
 use Rattle.shore_calls.specs.declared.step.Wait.{Wait}

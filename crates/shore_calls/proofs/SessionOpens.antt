@@ -9,18 +9,18 @@ use Rattle.shore_locks.specs.Orderly.{IsOrderly}
 use Rattle.shore_locks.specs.Tables.{is_waiting}
 use Rattle.shore_locks.proofs.Tables.{orderly_none}
 use Rattle.shore_path.specs.Rooted.{AreRooted, IsRootedRequest}
-use Rattle.shore_sessions.specs.Views.{IsAmong}
+use Rattle.shore_lives.specs.Views.{IsAmong}
 use Rattle.shore_calls.specs.CallHistories.{IsOpened}
 use Rattle.shore_calls.proofs.Waiters.{none_wait}
 use Rattle.shore_calls.specs.LockedStates.{HasTrueLocks, IsSessionsState}
 use Rattle.shore_calls.specs.Events.{IsStateAfter}
 use Rattle.shore_calls.specs.States.{State}
-use Rattle.shore_sessions.proofs.LogDecisions.{open_decides}
-use Rattle.shore_sessions.proofs.LogSteps.{open_has_log}
-use Rattle.shore_sessions.proofs.SessionsAgree.{open_agrees}
-use Rattle.shore_sessions.proofs.Steps.{open_is_sound}
-use Rattle.shore_sessions.specs.LogPrefixes.{LogDecides, decisions_in}
-use Rattle.shore_sessions.specs.LogTells.{IsLogAfter, records_committed}
+use Rattle.shore_lives.proofs.LogDecisions.{open_decides}
+use Rattle.shore_lives.proofs.LogSteps.{open_has_log}
+use Rattle.shore_lives.proofs.SessionsAgree.{open_agrees}
+use Rattle.shore_lives.proofs.Steps.{open_is_sound}
+use Rattle.shore_lives.specs.LogPrefixes.{LogDecides, decisions_in}
+use Rattle.shore_lives.specs.LogTells.{IsLogAfter, records_committed}
 use Rattle.std.specs.List.{AllByRecursion}
 
 -- nobody holds or asks for a lock

@@ -18,7 +18,7 @@ use Rattle.shore_page.specs.Slots.{Slot}
 use Rattle.shore_room.proofs.Pages.{length-slots}
 use Rattle.shore_room.specs.Choosing.{IsBefore}
 use Rattle.shore_room.specs.Claims.{rid_on}
-use Rattle.shore_sessions.proofs.Lists.{within_or_beyond}
+use Rattle.shore_lives.proofs.Lists.{within_or_beyond}
 use Rattle.shore_calls.specs.CallHistories.{IsRoomyState}
 use Rattle.shore_calls.specs.CallSteps.{IsInReach, IsPlaceOf, ServesTxn}
 use Rattle.shore_calls.specs.States.{State, page_slots}

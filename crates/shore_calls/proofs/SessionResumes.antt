@@ -17,11 +17,11 @@ use Rattle.shore_locks.specs.Grants.{released}
 use Rattle.shore_locks.specs.Tables.{is_waiting}
 use Rattle.shore_held.proofs.Held.{released_below, released_moves, released_orderly, released_rooted}
 use Rattle.shore_held.proofs.Waiting.{released_stay_quiet}
-use Rattle.shore_sessions.proofs.Members.{txn_of_one}
-use Rattle.shore_sessions.specs.LogTells.{records_committed}
-use Rattle.shore_sessions.specs.SessionSteps.{AnswerCommit, MoveLocks, exchange}
-use Rattle.shore_sessions.specs.Sessions.{SessionTxn, commit_answered, txns_of}
-use Rattle.shore_sessions.specs.Views.{IsAmong}
+use Rattle.shore_lives.proofs.Members.{txn_of_one}
+use Rattle.shore_lives.specs.LogTells.{records_committed}
+use Rattle.shore_lives.specs.SessionSteps.{AnswerCommit, MoveLocks, exchange}
+use Rattle.shore_lives.specs.Sessions.{SessionTxn, commit_answered, txns_of}
+use Rattle.shore_lives.specs.Views.{IsAmong}
 use Rattle.shore_calls.specs.declared.step.Step.{Step}
 use Rattle.shore_calls.specs.declared.step.Step.TheVariants.{Done, Nothing, Refused, Waits}
 use Rattle.shore_calls.specs.declared.step.Wait.{Wait}

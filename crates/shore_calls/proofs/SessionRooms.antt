@@ -10,9 +10,9 @@ use Rattle.shore_room.proofs.LogRooms.{event_room}
 use Rattle.shore_room.proofs.Undone.{event_claims}
 use Rattle.shore_room.specs.Claims.{Claimed}
 use Rattle.shore_room.specs.LogRooms.{HasLogRoom}
-use Rattle.shore_sessions.specs.LogTells.{records_committed}
-use Rattle.shore_sessions.specs.SessionSteps.{SessionEvent, entries_by}
-use Rattle.shore_sessions.specs.Sessions.{Sessions}
+use Rattle.shore_lives.specs.LogTells.{records_committed}
+use Rattle.shore_lives.specs.SessionSteps.{SessionEvent, entries_by}
+use Rattle.shore_lives.specs.Sessions.{Sessions}
 use Rattle.shore_calls.specs.declared.step.Step.{Step}
 use Rattle.shore_calls.proofs.Comings.{goes_keeps, like_keeps, session_call_comes, session_resume_comes}
 use Rattle.shore_calls.proofs.Links.{ComesBy, Goes, GoesBy, IsLike}

@@ -19,9 +19,9 @@ use Rattle.shore_room.proofs.Costs.{change_bytes}
 use Rattle.shore_room.proofs.Leaving.{same_page}
 use Rattle.shore_room.specs.Claims.{Grows, SlotCounts}
 use Rattle.shore_room.specs.LogRooms.{image_cost}
-use Rattle.shore_sessions.proofs.Ids.{put_here}
-use Rattle.shore_sessions.specs.Sessions.{SessionTxn, txn_begun}
-use Rattle.shore_sessions.specs.UndoLists.{nothing_to_undo, with_before_image}
+use Rattle.shore_lives.proofs.Ids.{put_here}
+use Rattle.shore_lives.specs.Sessions.{SessionTxn, txn_begun}
+use Rattle.shore_lives.specs.UndoLists.{nothing_to_undo, with_before_image}
 use Rattle.shore_calls.proofs.SettledAtOnce.{at_once, resumed_at_once, lone_waiter_is_on_no_cycle, waits_alone, waits_at_once}
 use Rattle.shore_calls.specs.declared.step.Step.TheVariants.{Done, Waits}
 use Rattle.shore_calls.specs.declared.step.Wait.TheVariants.{Durable, Lock}

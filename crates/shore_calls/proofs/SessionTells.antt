@@ -12,17 +12,17 @@ use Rattle.shore_model.specs.declared.histories.Entry.TheVariants.{Decided, Exch
 use Rattle.shore_model.specs.declared.log_records.LogRecord.{LogRecord}
 use Rattle.shore_model.specs.Histories.{Kept, RunsAloneAfter, acknowledged, decisions, serial}
 use Rattle.shore_model.specs.Records.{Records, overlay, overlays}
-use Rattle.shore_sessions.proofs.EndSteps.{commit_now, commit_sees}
-use Rattle.shore_sessions.proofs.InPlace.{is_overlaid}
-use Rattle.shore_sessions.proofs.LogDecisions.{event_midst, prefix_decides}
-use Rattle.shore_sessions.proofs.Members.{txn_among}
-use Rattle.shore_sessions.proofs.Views.{read_of_write}
-use Rattle.shore_sessions.specs.LogPrefixes.{DecidesNothing, decisions_in, LogDecides, TellsItsDecisions}
-use Rattle.shore_sessions.specs.LogTells.{records_committed}
-use Rattle.shore_sessions.specs.SessionSteps.{AnswerAbort, AnswerCommit, AppendCommit, BeginTxn, Doom, GiveReply, MoveLocks, PutBack, RefuseCall, SessionEvent, entries_by}
-use Rattle.shore_sessions.specs.Sessions.{SessionTxn, abort_answered, txns_of}
-use Rattle.shore_sessions.specs.Soundness.{history_from, serial_after, written_by}
-use Rattle.shore_sessions.specs.Views.{IsAmong}
+use Rattle.shore_lives.proofs.EndSteps.{commit_now, commit_sees}
+use Rattle.shore_lives.proofs.InPlace.{is_overlaid}
+use Rattle.shore_lives.proofs.LogDecisions.{event_midst, prefix_decides}
+use Rattle.shore_lives.proofs.Members.{txn_among}
+use Rattle.shore_lives.proofs.Views.{read_of_write}
+use Rattle.shore_lives.specs.LogPrefixes.{DecidesNothing, decisions_in, LogDecides, TellsItsDecisions}
+use Rattle.shore_lives.specs.LogTells.{records_committed}
+use Rattle.shore_lives.specs.SessionSteps.{AnswerAbort, AnswerCommit, AppendCommit, BeginTxn, Doom, GiveReply, MoveLocks, PutBack, RefuseCall, SessionEvent, entries_by}
+use Rattle.shore_lives.specs.Sessions.{SessionTxn, abort_answered, txns_of}
+use Rattle.shore_lives.specs.Soundness.{history_from, serial_after, written_by}
+use Rattle.shore_lives.specs.Views.{IsAmong}
 use Rattle.shore_calls.proofs.Comings.{goes_keeps}
 use Rattle.shore_calls.proofs.Links.{Goes, GoesBy, GoesQuietly, IsQuiet, left_like}
 use Rattle.shore_calls.proofs.Sessions.{AreSessionsAfter, its_txn}

@@ -7,17 +7,17 @@ use Rattle.shore_model.specs.declared.log_records.LogRecord.{LogRecord}
 use Rattle.shore_model.specs.declared.sessions.SessionState.{SessionState}
 use Rattle.shore_model.specs.Histories.{free, session_state}
 use Rattle.shore_model.specs.Records.{Records}
-use Rattle.shore_sessions.proofs.LogDecisions.{event_decides}
-use Rattle.shore_sessions.proofs.LogSteps.{event_keeps_log}
-use Rattle.shore_sessions.proofs.SessionsAgree.{event_agrees}
-use Rattle.shore_sessions.proofs.Steps.{event_stays_sound}
-use Rattle.shore_sessions.specs.LogPrefixes.{LogDecides}
-use Rattle.shore_sessions.specs.LogTells.{IsLogAfter}
-use Rattle.shore_sessions.specs.Logged.{log_after}
-use Rattle.shore_sessions.specs.SessionSteps.{SessionEvent, StepsTo, entries_by}
-use Rattle.shore_sessions.specs.Sessions.{IsCurrent, IsTxnOf, SessionTxn, Sessions}
-use Rattle.shore_sessions.specs.Soundness.{IsSoundAfter, SessionsAgree}
-use Rattle.shore_sessions.specs.Views.{IsAmong}
+use Rattle.shore_lives.proofs.LogDecisions.{event_decides}
+use Rattle.shore_lives.proofs.LogSteps.{event_keeps_log}
+use Rattle.shore_lives.proofs.SessionsAgree.{event_agrees}
+use Rattle.shore_lives.proofs.Steps.{event_stays_sound}
+use Rattle.shore_lives.specs.LogPrefixes.{LogDecides}
+use Rattle.shore_lives.specs.LogTells.{IsLogAfter}
+use Rattle.shore_lives.specs.Logged.{log_after}
+use Rattle.shore_lives.specs.SessionSteps.{SessionEvent, StepsTo, entries_by}
+use Rattle.shore_lives.specs.Sessions.{IsCurrent, IsTxnOf, SessionTxn, Sessions}
+use Rattle.shore_lives.specs.Soundness.{IsSoundAfter, SessionsAgree}
+use Rattle.shore_lives.specs.Views.{IsAmong}
 use Rattle.shore_calls.specs.CallHistories.{txn_among, txn_of}
 
 -- ---- the transaction of a session

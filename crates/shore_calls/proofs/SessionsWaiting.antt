@@ -15,14 +15,14 @@ use Rattle.shore_model.specs.declared.log_records.LogRecord.{LogRecord}
 use Rattle.shore_model.specs.declared.log_records.Payload.TheVariants as payload
 use Rattle.shore_model.specs.Logs.{previous_of}
 use Rattle.shore_model.specs.Records.{Records}
-use Rattle.shore_sessions.proofs.Lists.{length-push, take-beyond}
-use Rattle.shore_sessions.proofs.LogPrefixes.{decisions_more}
-use Rattle.shore_sessions.proofs.Members.{among_without, member_stays}
-use Rattle.shore_sessions.specs.LogPrefixes.{decisions_in}
-use Rattle.shore_sessions.specs.SessionSteps.{AnswerAbort, AnswerCommit, AppendCommit, BeginTxn, Doom, GiveReply, MoveLocks, PutBack, RefuseCall, SessionEvent}
-use Rattle.shore_sessions.specs.Sessions.{SessionTxn, Sessions, with_undo}
-use Rattle.shore_sessions.specs.UndoLists.{MayGiveReply, UndoList, undo_after, undo_rolled}
-use Rattle.shore_sessions.specs.Views.{IsAmong}
+use Rattle.shore_lives.proofs.Lists.{length-push, take-beyond}
+use Rattle.shore_lives.proofs.LogPrefixes.{decisions_more}
+use Rattle.shore_lives.proofs.Members.{among_without, member_stays}
+use Rattle.shore_lives.specs.LogPrefixes.{decisions_in}
+use Rattle.shore_lives.specs.SessionSteps.{AnswerAbort, AnswerCommit, AppendCommit, BeginTxn, Doom, GiveReply, MoveLocks, PutBack, RefuseCall, SessionEvent}
+use Rattle.shore_lives.specs.Sessions.{SessionTxn, Sessions, with_undo}
+use Rattle.shore_lives.specs.UndoLists.{MayGiveReply, UndoList, undo_after, undo_rolled}
+use Rattle.shore_lives.specs.Views.{IsAmong}
 use Rattle.shore_calls.proofs.Elements.{among_contained, among_last, waits_on}
 use Rattle.shore_calls.proofs.Growing.{still_there}
 use Rattle.shore_calls.proofs.Links.{BeginsToWait, Goes, GoesBy, GoesQuietly, IsLeft, IsQuiet, Writes}

@@ -12,7 +12,7 @@ use Rattle.shore_locks.proofs.Members.{In}
 use Rattle.shore_locks.specs.Tables.{is_waiting, waiting_request}
 use Rattle.shore_cycles.proofs.Steps.{quiet_waits_not, waits_as}
 use Rattle.shore_cycles.specs.Cycles.{IsOnNoCycle}
-use Rattle.shore_sessions.specs.Sessions.{SessionTxn}
+use Rattle.shore_lives.specs.Sessions.{SessionTxn}
 use Rattle.shore_calls.specs.declared.step.Step.{Step}
 use Rattle.shore_calls.specs.declared.step.Step.TheVariants.{Waits}
 use Rattle.shore_calls.specs.declared.step.Wait.TheVariants.{Lock}

@@ -9,9 +9,9 @@ use Rattle.shore_model.specs.declared.log_records.LogRecord.{LogRecord}
 use Rattle.shore_model.specs.Logs.{committed_in}
 use Rattle.shore_room.specs.Claims.{SlotCounts}
 use Rattle.shore_cycles.specs.declared.victims.Victim.{Victim}
-use Rattle.shore_sessions.specs.SessionSteps.{AnswerAbort, AnswerCommit, AppendCommit, BeginTxn, Doom, GiveReply, MoveLocks, PutBack, RefuseCall, SessionEvent, entries_by}
-use Rattle.shore_sessions.specs.Sessions.{Sessions}
-use Rattle.shore_sessions.specs.Views.{IsAmong}
+use Rattle.shore_lives.specs.SessionSteps.{AnswerAbort, AnswerCommit, AppendCommit, BeginTxn, Doom, GiveReply, MoveLocks, PutBack, RefuseCall, SessionEvent, entries_by}
+use Rattle.shore_lives.specs.Sessions.{Sessions}
+use Rattle.shore_lives.specs.Views.{IsAmong}
 use Rattle.shore_calls.specs.declared.step.Step.{Step}
 use Rattle.shore_calls.proofs.Comings.{like_itself, nothing_comes, session_call_comes, session_resume_comes}
 use Rattle.shore_calls.proofs.Links.{ComesBy, Goes, GoesBy, IsDurable, IsLike, Writes}

@@ -15,8 +15,8 @@ use Rattle.shore_cycles.proofs.Steps.{cancelled_adds_none, quiet_waits_not}
 use Rattle.shore_cycles.proofs.Walks.{cycle_as, member_waits}
 use Rattle.shore_cycles.specs.Cycles.{IsOnEachCycle}
 use Rattle.shore_cycles.specs.declared.victims.Victim.{Victim}
-use Rattle.shore_sessions.specs.Sessions.{SessionTxn}
-use Rattle.shore_sessions.specs.Views.{IsAmong}
+use Rattle.shore_lives.specs.Sessions.{SessionTxn}
+use Rattle.shore_lives.specs.Views.{IsAmong}
 use Rattle.shore_calls.specs.declared.step.Step.{Step}
 use Rattle.shore_calls.proofs.CycleSteps.{ClosesAtMost, call_closes, none_as_before, resume_closes}
 use Rattle.shore_calls.proofs.SessionOpens.{sessions_after_open}

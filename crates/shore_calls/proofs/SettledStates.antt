@@ -13,8 +13,8 @@ use Rattle.shore_locks.specs.Grants.{cancelled}
 use Rattle.shore_locks.specs.Tables.{is_waiting}
 use Rattle.shore_held.specs.CallLocks.{Asked, asked_by}
 use Rattle.shore_cycles.specs.declared.victims.Victim.{Victim}
-use Rattle.shore_sessions.specs.SessionSteps.{exchange}
-use Rattle.shore_sessions.specs.Sessions.{SessionTxn}
+use Rattle.shore_lives.specs.SessionSteps.{exchange}
+use Rattle.shore_lives.specs.Sessions.{SessionTxn}
 use Rattle.shore_calls.specs.declared.step.Step.{Step}
 use Rattle.shore_calls.specs.declared.step.Step.TheVariants.{Done, Nothing, Refused, Waits}
 use Rattle.shore_calls.specs.declared.step.Wait.{Wait}

@@ -14,10 +14,10 @@ use Rattle.shore_model.specs.declared.histories.Decision.TheVariants as decision
 use Rattle.shore_model.specs.declared.histories.Entry.{Entry}
 use Rattle.shore_model.specs.declared.histories.Entry.TheVariants.{Decided, Exchanged}
 use Rattle.shore_model.specs.declared.log_records.LogRecord.{LogRecord}
-use Rattle.shore_sessions.specs.RepliesInPlace.{IsKnownAbsent}
-use Rattle.shore_sessions.specs.SessionSteps.{BeginTxn, TellsNothing, exchange}
-use Rattle.shore_sessions.specs.Sessions.{SessionTxn, txn_begun}
-use Rattle.shore_sessions.specs.Views.{IsAmong}
+use Rattle.shore_lives.specs.RepliesInPlace.{IsKnownAbsent}
+use Rattle.shore_lives.specs.SessionSteps.{BeginTxn, TellsNothing, exchange}
+use Rattle.shore_lives.specs.Sessions.{SessionTxn, txn_begun}
+use Rattle.shore_lives.specs.Views.{IsAmong}
 use Rattle.shore_calls.specs.declared.step.Step.{Step}
 use Rattle.shore_calls.specs.declared.step.Step.TheVariants.{Done, Nothing, Refused, Waits}
 use Rattle.shore_calls.specs.declared.step.Wait.{Wait}

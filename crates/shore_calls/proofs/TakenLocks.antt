@@ -16,11 +16,11 @@ use Rattle.shore_held.specs.Acquires.{Leaves}
 use Rattle.shore_held.proofs.Acquired.{acquired_leaves}
 use Rattle.shore_held.proofs.Held.{moves_of, numbers_of}
 use Rattle.shore_held.proofs.Waiting.{others_stay_quiet}
-use Rattle.shore_sessions.proofs.Members.{txn_among}
-use Rattle.shore_sessions.specs.LogTells.{records_committed}
-use Rattle.shore_sessions.specs.SessionSteps.{MoveLocks, StepsTo}
-use Rattle.shore_sessions.specs.Sessions.{SessionTxn, locks_moved}
-use Rattle.shore_sessions.specs.Views.{IsAmong}
+use Rattle.shore_lives.proofs.Members.{txn_among}
+use Rattle.shore_lives.specs.LogTells.{records_committed}
+use Rattle.shore_lives.specs.SessionSteps.{MoveLocks, StepsTo}
+use Rattle.shore_lives.specs.Sessions.{SessionTxn, locks_moved}
+use Rattle.shore_lives.specs.Views.{IsAmong}
 use Rattle.shore_calls.proofs.Sessions.{AreSessionsAfter, event_keeps}
 use Rattle.shore_calls.specs.CallSteps.{lock_waiting, with_requests}
 use Rattle.shore_calls.specs.LockedStates.{AreUnderWay, HasTrueLocks, IsSessionsState}

@@ -12,13 +12,13 @@ use Rattle.shore_locks.specs.Tables.{is_waiting}
 use Rattle.shore_locks.proofs.Outcomes.{quiet_after_cancel}
 use Rattle.shore_locks.proofs.Tables.{orderly_cancelled}
 use Rattle.shore_cycles.proofs.Steps.{cancelled_keeps_quiet}
-use Rattle.shore_sessions.proofs.Members.{among_with, txn_among}
-use Rattle.shore_sessions.specs.declared.rollbacks.Rollback.TheVariants.{Whole}
-use Rattle.shore_sessions.specs.LogTells.{records_committed}
-use Rattle.shore_sessions.specs.SessionSteps.{Doom, MoveLocks, StepsTo}
-use Rattle.shore_sessions.specs.Sessions.{SessionTxn, doomed, locks_moved}
-use Rattle.shore_sessions.specs.UndoLists.{UndoList, undo_rolled}
-use Rattle.shore_sessions.specs.Views.{IsAmong}
+use Rattle.shore_lives.proofs.Members.{among_with, txn_among}
+use Rattle.shore_lives.specs.declared.rollbacks.Rollback.TheVariants.{Whole}
+use Rattle.shore_lives.specs.LogTells.{records_committed}
+use Rattle.shore_lives.specs.SessionSteps.{Doom, MoveLocks, StepsTo}
+use Rattle.shore_lives.specs.Sessions.{SessionTxn, doomed, locks_moved}
+use Rattle.shore_lives.specs.UndoLists.{UndoList, undo_rolled}
+use Rattle.shore_lives.specs.Views.{IsAmong}
 use Rattle.shore_calls.proofs.Cancelled.{cancelled_below, cancelled_moves, cancelled_rooted}
 use Rattle.shore_calls.proofs.Links.{Goes, same_room}
 use Rattle.shore_calls.proofs.ReplyLinks.{as_many}

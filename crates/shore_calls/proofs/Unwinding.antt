@@ -12,16 +12,16 @@ use Rattle.shore_model.specs.declared.log_records.LogRecord.{LogRecord}
 use Rattle.shore_model.specs.declared.log_records.Payload.{Payload}
 use Rattle.shore_model.specs.declared.log_records.Payload.TheVariants.{Compensation, End}
 use Rattle.shore_model.specs.Logs.{first_number, last_of, logged_writes, previous_of, records_of}
-use Rattle.shore_sessions.proofs.Lists.{drop-whole, length-take_within, slice_get-take, take-take}
-use Rattle.shore_sessions.proofs.LogTells.{logged_other}
-use Rattle.shore_sessions.proofs.Views.{not_some}
-use Rattle.shore_sessions.specs.declared.rollbacks.Rollback.{Rollback}
-use Rattle.shore_sessions.specs.declared.rollbacks.Rollback.TheVariants.{To, Whole}
-use Rattle.shore_sessions.specs.LogTells.{AreLogged}
-use Rattle.shore_sessions.specs.Logged.{and_compensations, and_record, and_rollback, next_to_undo}
-use Rattle.shore_sessions.specs.Sessions.{SessionTxn, with_undo, without_txn}
-use Rattle.shore_sessions.specs.UndoLists.{MayRoll, UndoList, images_since, least_kept, mark_of, marks_kept, undo_rolled}
-use Rattle.shore_sessions.specs.Views.{IsAmong}
+use Rattle.shore_lives.proofs.Lists.{drop-whole, length-take_within, slice_get-take, take-take}
+use Rattle.shore_lives.proofs.LogTells.{logged_other}
+use Rattle.shore_lives.proofs.Views.{not_some}
+use Rattle.shore_lives.specs.declared.rollbacks.Rollback.{Rollback}
+use Rattle.shore_lives.specs.declared.rollbacks.Rollback.TheVariants.{To, Whole}
+use Rattle.shore_lives.specs.LogTells.{AreLogged}
+use Rattle.shore_lives.specs.Logged.{and_compensations, and_record, and_rollback, next_to_undo}
+use Rattle.shore_lives.specs.Sessions.{SessionTxn, with_undo, without_txn}
+use Rattle.shore_lives.specs.UndoLists.{MayRoll, UndoList, images_since, least_kept, mark_of, marks_kept, undo_rolled}
+use Rattle.shore_lives.specs.Views.{IsAmong}
 use Rattle.shore_calls.proofs.Prefixes.{prefix_on, whole_prefix}
 use Rattle.shore_calls.specs.CallHistories.{IsPrefix}
 

@@ -20,13 +20,13 @@ use Rattle.shore_cycles.specs.declared.victims.Victim.{Victim}
 use Rattle.shore_cycles.proofs.Steps.{quiet_waits_not}
 use Rattle.shore_cycles.proofs.VictimLemmas.{first_In}
 use Rattle.shore_cycles.proofs.Walks.{member_waits}
-use Rattle.shore_sessions.proofs.Doomed.{doomed_left}
-use Rattle.shore_sessions.proofs.Members.{among_with, same_member}
-use Rattle.shore_sessions.specs.declared.rollbacks.Rollback.TheVariants.{To, Whole}
-use Rattle.shore_sessions.specs.SessionSteps.{KeepsLocks}
-use Rattle.shore_sessions.specs.Sessions.{SessionTxn, doomed}
-use Rattle.shore_sessions.specs.UndoLists.{undo_rolled}
-use Rattle.shore_sessions.specs.Views.{IsAmong}
+use Rattle.shore_lives.proofs.Doomed.{doomed_left}
+use Rattle.shore_lives.proofs.Members.{among_with, same_member}
+use Rattle.shore_lives.specs.declared.rollbacks.Rollback.TheVariants.{To, Whole}
+use Rattle.shore_lives.specs.SessionSteps.{KeepsLocks}
+use Rattle.shore_lives.specs.Sessions.{SessionTxn, doomed}
+use Rattle.shore_lives.specs.UndoLists.{undo_rolled}
+use Rattle.shore_lives.specs.Views.{IsAmong}
 use Rattle.shore_calls.proofs.Elements.{waits_on}
 use Rattle.shore_calls.proofs.Sessions.{one_txn}
 use Rattle.shore_calls.proofs.ToldCycles.{own_waits, to_tell}

@@ -13,12 +13,12 @@ use Rattle.shore_model.specs.declared.requests.Request.{Request}
 use Rattle.shore_model.specs.Requests.{held_by_all}
 use Rattle.shore_locks.specs.Grants.{cancelled}
 use Rattle.shore_cycles.specs.declared.victims.Victim.{Victim}
-use Rattle.shore_sessions.proofs.Members.{txn_among}
-use Rattle.shore_sessions.specs.declared.rollbacks.Rollback.TheVariants.{Whole}
-use Rattle.shore_sessions.specs.SessionSteps.{Doom, MoveLocks, TellsNothing, exchange}
-use Rattle.shore_sessions.specs.Sessions.{SessionTxn}
-use Rattle.shore_sessions.specs.UndoLists.{undo_rolled}
-use Rattle.shore_sessions.specs.Views.{IsAmong}
+use Rattle.shore_lives.proofs.Members.{txn_among}
+use Rattle.shore_lives.specs.declared.rollbacks.Rollback.TheVariants.{Whole}
+use Rattle.shore_lives.specs.SessionSteps.{Doom, MoveLocks, TellsNothing, exchange}
+use Rattle.shore_lives.specs.Sessions.{SessionTxn}
+use Rattle.shore_lives.specs.UndoLists.{undo_rolled}
+use Rattle.shore_lives.specs.Views.{IsAmong}
 use Rattle.shore_calls.proofs.Growing.{forced_grown}
 use Rattle.shore_calls.proofs.Links.{ComesBy, locks_go, quietly_behind, quietly_comes}
 use Rattle.shore_calls.proofs.LockedAnswers.{refusal_told}

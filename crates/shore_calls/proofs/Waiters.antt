@@ -8,10 +8,10 @@ use Rattle.shore_locks.specs.Orderly.{IsOrderly}
 use Rattle.shore_locks.specs.Tables.{is_waiting}
 use Rattle.shore_path.specs.Acquires.{OthersOnlyGranted}
 use Rattle.shore_held.proofs.Waiting.{others_stay_quiet, released_stay_quiet}
-use Rattle.shore_sessions.specs.Sessions.{SessionTxn, txns_of, with_undo, without_txn}
-use Rattle.shore_sessions.specs.UndoLists.{UndoList}
-use Rattle.shore_sessions.specs.Views.{IsAmong}
-use Rattle.shore_sessions.proofs.Members.{txn_stays, txns_with}
+use Rattle.shore_lives.specs.Sessions.{SessionTxn, txns_of, with_undo, without_txn}
+use Rattle.shore_lives.specs.UndoLists.{UndoList}
+use Rattle.shore_lives.specs.Views.{IsAmong}
+use Rattle.shore_lives.proofs.Members.{txn_stays, txns_with}
 use Rattle.shore_calls.specs.LockedStates.{AreUnderWay}
 
 -- nobody waits in an empty table

@@ -20,10 +20,10 @@ use Rattle.shore_path.specs.declared.answers.Acquired.TheVariants as acquire
 use Rattle.shore_held.specs.CallLocks.{Asked, CanLockNow, asked_by}
 use Rattle.shore_room.specs.Choosing.{IsBefore}
 use Rattle.shore_room.specs.Claims.{SlotCounts}
-use Rattle.shore_sessions.proofs.Ids.{put_here}
-use Rattle.shore_sessions.proofs.Lists.{length-push}
-use Rattle.shore_sessions.specs.Sessions.{SessionTxn}
-use Rattle.shore_sessions.specs.Views.{IsAmong}
+use Rattle.shore_lives.proofs.Ids.{put_here}
+use Rattle.shore_lives.proofs.Lists.{length-push}
+use Rattle.shore_lives.specs.Sessions.{SessionTxn}
+use Rattle.shore_lives.specs.Views.{IsAmong}
 use Rattle.shore_calls.specs.declared.step.Step.TheVariants.{Done}
 use Rattle.shore_calls.proofs.Decided.{both_ways, no_record_both}
 use Rattle.shore_calls.proofs.SessionInversions.{AnsweredFrom, AnsweredIn, answered_in, answered_of, answered_running, asks_no_begin, asks_no_lockless, begun_in, insert_asks, same_lock}

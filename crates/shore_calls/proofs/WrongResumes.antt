@@ -31,9 +31,9 @@ use Rattle.shore_path.specs.Walks.{acquired}
 use Rattle.shore_path.specs.declared.answers.Acquired.TheVariants as acquire
 use Rattle.shore_path.specs.declared.answers.OnConflict.{OnConflict}
 use Rattle.shore_held.proofs.Held.{gone_of}
-use Rattle.shore_sessions.specs.SessionSteps.{KeepsLocks}
-use Rattle.shore_sessions.specs.Sessions.{SessionTxn}
-use Rattle.shore_sessions.specs.Views.{IsAmong}
+use Rattle.shore_lives.specs.SessionSteps.{KeepsLocks}
+use Rattle.shore_lives.specs.Sessions.{SessionTxn}
+use Rattle.shore_lives.specs.Views.{IsAmong}
 use Rattle.shore_calls.specs.declared.step.Step.{Step}
 use Rattle.shore_calls.specs.declared.step.Step.TheVariants.{Done, Nothing, Refused, Waits}
 use Rattle.shore_calls.specs.declared.step.Wait.{Wait}

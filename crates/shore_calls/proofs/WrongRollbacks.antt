@@ -19,12 +19,12 @@ use Rattle.shore_model.specs.declared.log_records.LogRecord.{LogRecord}
 use Rattle.shore_model.specs.declared.log_records.Payload.TheVariants.{End}
 use Rattle.shore_model.specs.Logs.{previous_of}
 use Rattle.shore_held.proofs.Held.{gone_of}
-use Rattle.shore_sessions.proofs.Members.{among_without}
-use Rattle.shore_sessions.specs.declared.rollbacks.Rollback.{Rollback}
-use Rattle.shore_sessions.specs.declared.rollbacks.Rollback.TheVariants.{To, Whole}
-use Rattle.shore_sessions.specs.Logged.{and_compensations, and_record}
-use Rattle.shore_sessions.specs.Sessions.{IsCurrent, SessionTxn}
-use Rattle.shore_sessions.specs.UndoLists.{images_since, rolled_back}
+use Rattle.shore_lives.proofs.Members.{among_without}
+use Rattle.shore_lives.specs.declared.rollbacks.Rollback.{Rollback}
+use Rattle.shore_lives.specs.declared.rollbacks.Rollback.TheVariants.{To, Whole}
+use Rattle.shore_lives.specs.Logged.{and_compensations, and_record}
+use Rattle.shore_lives.specs.Sessions.{IsCurrent, SessionTxn}
+use Rattle.shore_lives.specs.UndoLists.{images_since, rolled_back}
 use Rattle.shore_calls.specs.declared.step.Step.TheVariants.{Done, Refused, Waits}
 use Rattle.shore_calls.specs.declared.step.Wait.{Wait}
 use Rattle.shore_calls.proofs.SessionInversions.{aborted_in, answered_of, same_fault, saved_in, waits_in, went_back_in}

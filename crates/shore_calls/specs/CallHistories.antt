@@ -8,10 +8,10 @@ use Rattle.shore_model.specs.declared.calls.Call.TheVariants as call
 use Rattle.shore_model.specs.declared.histories.Entry.{Entry}
 use Rattle.shore_model.specs.declared.log_records.LogRecord.{LogRecord}
 use Rattle.shore_model.specs.Histories.{acknowledged}
-use Rattle.shore_sessions.specs.LogPrefixes.{decisions_in}
-use Rattle.shore_sessions.specs.LogTells.{records_committed}
-use Rattle.shore_sessions.specs.Sessions.{SessionTxn, Sessions}
-use Rattle.shore_sessions.specs.Soundness.{IsJustOpened}
+use Rattle.shore_lives.specs.LogPrefixes.{decisions_in}
+use Rattle.shore_lives.specs.LogTells.{records_committed}
+use Rattle.shore_lives.specs.Sessions.{SessionTxn, Sessions}
+use Rattle.shore_lives.specs.Soundness.{IsJustOpened}
 use Rattle.shore_room.specs.Claims.{Claimed}
 use Rattle.shore_room.specs.LogRooms.{HasLogRoom}
 use Rattle.shore_calls.specs.States.{State, log_room}

@@ -31,15 +31,15 @@ use Rattle.shore_path.specs.Walks.{Outcome, acquired}
 use Rattle.shore_held.specs.CallLocks.{Asked, CanLockNow, asked_by}
 use Rattle.shore_room.specs.Choosing.{IsLowest}
 use Rattle.shore_room.specs.Claims.{SlotCounts, rid_on}
-use Rattle.shore_sessions.specs.Logged.{log_after}
-use Rattle.shore_sessions.specs.SessionSteps.{AnswerAbort}
-use Rattle.shore_sessions.specs.Sessions.{SessionTxn, abort_answered, commit_answered, locks_moved, txn_begun}
-use Rattle.shore_sessions.specs.Views.{IsAmong}
+use Rattle.shore_lives.specs.Logged.{log_after}
+use Rattle.shore_lives.specs.SessionSteps.{AnswerAbort}
+use Rattle.shore_lives.specs.Sessions.{SessionTxn, abort_answered, commit_answered, locks_moved, txn_begun}
+use Rattle.shore_lives.specs.Views.{IsAmong}
 use Rattle.shore_calls.specs.declared.step.Step.{Step}
 use Rattle.shore_calls.specs.declared.step.Step.TheVariants.{Done, Nothing, Refused, Waits}
 use Rattle.shore_calls.specs.declared.step.Wait.{Wait}
 use Rattle.shore_calls.specs.declared.step.Wait.TheVariants.{Durable, Lock}
-use Rattle.shore_sessions.specs.declared.rollbacks.Rollback.TheVariants.{Whole}
+use Rattle.shore_lives.specs.declared.rollbacks.Rollback.TheVariants.{Whole}
 use Rattle.shore_calls.specs.Rollbacks.{BackToStep, IsInterrupted, SavepointStep, TakesCall}
 use Rattle.shore_calls.specs.StateChanges.{CanLog, FitsAt, IsPageFault, IsShort, MayChange, after_refusal, answered, committed, wait_refused}
 use Rattle.shore_calls.specs.States.{DoesNotWait, HasNoTxn, IsInTxn, IsOfSession, MayBegin, State, Waiting, next_number, without_waiting}

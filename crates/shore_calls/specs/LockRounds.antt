@@ -12,8 +12,8 @@ use Rattle.shore_cycles.specs.Blockers.{is_victim}
 use Rattle.shore_cycles.specs.Cycles.{IsOnNoCycle}
 use Rattle.shore_cycles.specs.declared.victims.Victim.{Victim}
 use Rattle.shore_held.specs.CallLocks.{Asked}
-use Rattle.shore_sessions.specs.Sessions.{SessionTxn}
-use Rattle.shore_sessions.specs.Views.{IsAmong}
+use Rattle.shore_lives.specs.Sessions.{SessionTxn}
+use Rattle.shore_lives.specs.Views.{IsAmong}
 use Rattle.shore_calls.specs.CallSteps.{behind_lock, lock_outcome, lock_waiting, with_requests}
 use Rattle.shore_calls.specs.StateChanges.{wait_refused}
 use Rattle.shore_calls.specs.States.{State}

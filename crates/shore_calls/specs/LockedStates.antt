@@ -11,12 +11,12 @@ use Rattle.shore_model.specs.declared.requests.Request.{Request}
 use Rattle.shore_locks.specs.Orderly.{IsOrderly}
 use Rattle.shore_locks.specs.Tables.{is_waiting}
 use Rattle.shore_path.specs.Rooted.{AreRooted}
-use Rattle.shore_sessions.specs.LogPrefixes.{LogDecides}
-use Rattle.shore_sessions.specs.LogTells.{IsLogAfter, records_committed}
-use Rattle.shore_sessions.specs.SessionSteps.{exchange}
-use Rattle.shore_sessions.specs.Sessions.{SessionTxn, txns_of}
-use Rattle.shore_sessions.specs.Soundness.{IsSoundAfter, SessionsAgree}
-use Rattle.shore_sessions.specs.Views.{IsAmong}
+use Rattle.shore_lives.specs.LogPrefixes.{LogDecides}
+use Rattle.shore_lives.specs.LogTells.{IsLogAfter, records_committed}
+use Rattle.shore_lives.specs.SessionSteps.{exchange}
+use Rattle.shore_lives.specs.Sessions.{SessionTxn, txns_of}
+use Rattle.shore_lives.specs.Soundness.{IsSoundAfter, SessionsAgree}
+use Rattle.shore_lives.specs.Views.{IsAmong}
 use Rattle.shore_calls.specs.declared.step.Step.{Step}
 use Rattle.shore_calls.specs.declared.step.Step.TheVariants.{Done, Nothing, Refused, Waits}
 use Rattle.shore_calls.specs.declared.step.Wait.{Wait}

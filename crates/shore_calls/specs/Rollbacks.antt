@@ -9,11 +9,11 @@ use Rattle.shore_types.specs.declared.layout.TheConstants.{MAX_SAVEPOINTS}
 use Rattle.shore_model.specs.declared.calls.Answer.TheVariants.{Saved, WentBack}
 use Rattle.shore_model.specs.declared.calls.Call.{Call}
 use Rattle.shore_model.specs.declared.calls.Call.TheVariants as call
-use Rattle.shore_sessions.specs.Logged.{and_compensations}
-use Rattle.shore_sessions.specs.Sessions.{SessionTxn, with_undo}
-use Rattle.shore_sessions.specs.UndoLists.{UndoList, least_kept, rolled_back, undo_rolled}
-use Rattle.shore_sessions.specs.declared.rollbacks.Rollback.{Rollback}
-use Rattle.shore_sessions.specs.declared.rollbacks.Rollback.TheVariants.{To}
+use Rattle.shore_lives.specs.Logged.{and_compensations}
+use Rattle.shore_lives.specs.Sessions.{SessionTxn, with_undo}
+use Rattle.shore_lives.specs.UndoLists.{UndoList, least_kept, rolled_back, undo_rolled}
+use Rattle.shore_lives.specs.declared.rollbacks.Rollback.{Rollback}
+use Rattle.shore_lives.specs.declared.rollbacks.Rollback.TheVariants.{To}
 use Rattle.shore_calls.specs.declared.step.Step.{Step}
 use Rattle.shore_calls.specs.declared.step.Step.TheVariants.{Done, Nothing, Refused, Waits}
 use Rattle.shore_calls.specs.StateChanges.{IsPageFault, after_refusal, answered}

@@ -3,9 +3,9 @@ use Rattle.std.specs.Prelude.{◌≡◌, ◌<◌, ◌≤◌, ◌⊎◌, ℕ, Non
 use Rattle.shore_types.specs.declared.locking.Granule.{Granule}
 use Rattle.shore_model.specs.declared.histories.Decision.TheVariants as decision
 use Rattle.shore_held.specs.CallLocks.{Asked, asked_by}
-use Rattle.shore_sessions.specs.LogPrefixes.{decisions_in}
-use Rattle.shore_sessions.specs.Sessions.{SessionTxn}
-use Rattle.shore_sessions.specs.Views.{IsAmong}
+use Rattle.shore_lives.specs.LogPrefixes.{decisions_in}
+use Rattle.shore_lives.specs.Sessions.{SessionTxn}
+use Rattle.shore_lives.specs.Views.{IsAmong}
 use Rattle.shore_calls.specs.declared.step.Wait.TheVariants.{Lock}
 use Rattle.shore_calls.specs.StateChanges.{commit_waiting}
 use Rattle.shore_calls.specs.States.{State, Waiting}

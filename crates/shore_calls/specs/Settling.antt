@@ -6,7 +6,7 @@ use Rattle.shore_model.specs.declared.calls.Call.{Call}
 use Rattle.shore_locks.specs.Tables.{is_waiting}
 use Rattle.shore_cycles.specs.Cycles.{IsOnNoCycle}
 use Rattle.shore_cycles.specs.declared.victims.Victim.{Victim}
-use Rattle.shore_sessions.specs.Sessions.{SessionTxn}
+use Rattle.shore_lives.specs.Sessions.{SessionTxn}
 use Rattle.shore_calls.specs.declared.step.Step.{Step}
 use Rattle.shore_calls.specs.declared.step.Step.TheVariants.{Done, Nothing, Refused, Waits}
 use Rattle.shore_calls.specs.declared.step.Wait.TheVariants.{Durable, Lock}

@@ -9,10 +9,10 @@ use Rattle.shore_types.specs.declared.locking.Mode.TheVariants.{IX}
 use Rattle.shore_model.specs.declared.calls.Call.{Call}
 use Rattle.shore_model.specs.declared.calls.Call.TheVariants as call
 use Rattle.shore_held.specs.CallLocks.{Asked}
-use Rattle.shore_sessions.specs.declared.rollbacks.Rollback.{Rollback}
-use Rattle.shore_sessions.specs.declared.rollbacks.Rollback.TheVariants.{To, Whole}
-use Rattle.shore_sessions.specs.Sessions.{SessionTxn, locks_moved}
-use Rattle.shore_sessions.specs.Views.{IsAmong}
+use Rattle.shore_lives.specs.declared.rollbacks.Rollback.{Rollback}
+use Rattle.shore_lives.specs.declared.rollbacks.Rollback.TheVariants.{To, Whole}
+use Rattle.shore_lives.specs.Sessions.{SessionTxn, locks_moved}
+use Rattle.shore_lives.specs.Views.{IsAmong}
 use Rattle.shore_calls.specs.declared.step.Wait.TheVariants.{Durable, Lock}
 use Rattle.shore_calls.specs.CallSteps.{MayAsk, behind_lock}
 use Rattle.shore_calls.specs.Rollbacks.{Interrupts}

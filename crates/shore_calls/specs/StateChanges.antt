@@ -12,8 +12,8 @@ use Rattle.shore_model.specs.declared.log_records.Payload.TheVariants as payload
 use Rattle.shore_calls.specs.declared.step.Step.{Step}
 use Rattle.shore_calls.specs.declared.step.Step.TheVariants.{Done, Waits, Refused, Nothing}
 use Rattle.shore_calls.specs.declared.step.Wait.TheVariants.{Durable}
-use Rattle.shore_sessions.specs.Logged.{and_record, log_after_answer}
-use Rattle.shore_sessions.specs.Sessions.{SessionTxn, commit_appended, reply_given}
+use Rattle.shore_lives.specs.Logged.{and_record, log_after_answer}
+use Rattle.shore_lives.specs.Sessions.{SessionTxn, commit_appended, reply_given}
 use Rattle.shore_room.specs.Claims.{SlotCounts, Grows}
 use Rattle.shore_calls.specs.States.{State, Waiting, next_number, without_waiting, log_room, page_slots}
 use Rattle.shore_types.specs.declared.faults.Device.TheVariants.{Volume}

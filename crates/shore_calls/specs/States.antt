@@ -9,8 +9,8 @@ use Rattle.shore_model.specs.declared.log_records.LogRecord.{LogRecord}
 use Rattle.shore_locks.specs.Tables.{Table}
 use Rattle.shore_logrec.specs.Text.{cost_of}
 use Rattle.shore_calls.specs.declared.step.Wait.{Wait}
-use Rattle.shore_sessions.specs.Sessions.{IsInNoTxn, SessionTxn, Sessions}
-use Rattle.shore_sessions.specs.Views.{IsAmong}
+use Rattle.shore_lives.specs.Sessions.{IsInNoTxn, SessionTxn, Sessions}
+use Rattle.shore_lives.specs.Views.{IsAmong}
 use Rattle.shore_page.specs.Slots.{Slot}
 use Rattle.shore_room.specs.Claims.{SlotCounts, slots_of}
 use Rattle.shore_room.specs.LogRooms.{Admits, LogRoom, owed_by_all}

@@ -4,8 +4,8 @@ use Rattle.shore_types.specs.declared.faults.Fault.TheVariants as fault
 use Rattle.shore_locks.specs.Grants.{cancelled}
 use Rattle.shore_cycles.specs.Cycles.{IsVictim}
 use Rattle.shore_cycles.specs.declared.victims.Victim.{Victim}
-use Rattle.shore_sessions.specs.Sessions.{SessionTxn, doomed}
-use Rattle.shore_sessions.specs.Views.{IsAmong}
+use Rattle.shore_lives.specs.Sessions.{SessionTxn, doomed}
+use Rattle.shore_lives.specs.Views.{IsAmong}
 use Rattle.shore_calls.specs.declared.step.Step.{Step}
 use Rattle.shore_calls.specs.declared.step.Step.TheVariants.{Refused}
 use Rattle.shore_calls.specs.CallSteps.{with_requests}

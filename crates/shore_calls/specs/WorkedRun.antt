@@ -7,7 +7,7 @@ use Rattle.shore_model.specs.declared.calls.Answer.TheVariants.{Began, Committed
 use Rattle.shore_model.specs.declared.calls.Call.TheVariants as call
 use Rattle.shore_calls.specs.declared.step.Step.TheVariants.{Done, Waits}
 use Rattle.shore_calls.specs.declared.step.Wait.TheVariants.{Durable}
-use Rattle.shore_sessions.specs.WorkedRun.{just_opened}
+use Rattle.shore_lives.specs.WorkedRun.{just_opened}
 use Rattle.shore_calls.specs.Events.{Called, Forced, ManagerEvent, Resumed}
 use Rattle.shore_calls.specs.States.{State}
 

@@ -12,7 +12,7 @@ ghost use Rattle.shore_model.specs.declared.calls.Call.{Call};
 ghost use Rattle.shore_model.specs.declared.calls.Call.TheVariants.{Commit, Begin, Delete, Get, GetForUpdate, Insert, Scan, TryLock, Update};
 ghost use Rattle.shore_model.specs.Records.{scan_of};
 ghost use Rattle.shore_room.specs.Choosing.{IsBefore};
-ghost use Rattle.shore_sessions.specs.Views.{IsAmong};
+ghost use Rattle.shore_lives.specs.Views.{IsAmong};
 ghost use Rattle.shore_calls.specs.declared.step.Step.TheVariants.{Done};
 ghost use Rattle.shore_calls.specs.declared.step.Wait.TheVariants.{Lock};
 ghost use Rattle.shore_calls.specs.StateChanges.{CanLog, FitsAt};

@@ -10,16 +10,16 @@ ghost use Rattle.shore_model.specs.declared.calls.Call.TheVariants.{Commit, Dele
 ghost use Rattle.shore_model.specs.declared.histories.Entry.{Entry};
 ghost use Rattle.shore_model.specs.declared.log_records.LogRecord.{LogRecord};
 ghost use Rattle.shore_model.specs.Locks.{MayRead, MayWrite};
-ghost use Rattle.shore_sessions.specs.Sessions.{SessionTxn};
-ghost use Rattle.shore_sessions.specs.Views.{IsAmong};
+ghost use Rattle.shore_lives.specs.Sessions.{SessionTxn};
+ghost use Rattle.shore_lives.specs.Views.{IsAmong};
 ghost use Rattle.shore_calls.specs.declared.step.Step.{Step};
 ghost use Rattle.shore_calls.specs.declared.step.Step.TheVariants.{Done, Waits};
 ghost use Rattle.shore_calls.specs.declared.step.Wait.{Wait};
 ghost use Rattle.shore_calls.specs.CallSteps.{CallStep, ResumeStep};
 ghost use Rattle.shore_calls.specs.LockedStates.{IsSessionsState};
 ghost use Rattle.shore_calls.specs.States.{IsOfSession, State};
-ghost use Rattle.shore_sessions.specs.GranuleLocks.{HasLocksFor};
-ghost use Rattle.shore_sessions.specs.SessionSteps.{KeepsLocks};
+ghost use Rattle.shore_lives.specs.GranuleLocks.{HasLocksFor};
+ghost use Rattle.shore_lives.specs.SessionSteps.{KeepsLocks};
 
 /// An answer has the locks that it needs, and no call makes a lock of another transaction weaker, whatever it comes to, nor one of its own, unless it is an
 /// abort that is answered: so neither a refusal, nor the append of a commit, nor a way back, nor an abort that is interrupted gives a lock back.

@@ -13,7 +13,7 @@ ghost use Rattle.shore_model.specs.declared.calls.Call.{Call};
 ghost use Rattle.shore_model.specs.declared.calls.Call.TheVariants.{Commit, Begin, Delete, Get, GetForUpdate, Insert, TryLock, Update};
 ghost use Rattle.shore_model.specs.declared.histories.Entry.{Entry};
 ghost use Rattle.shore_model.specs.declared.log_records.LogRecord.{LogRecord};
-ghost use Rattle.shore_sessions.specs.Sessions.{SessionTxn};
+ghost use Rattle.shore_lives.specs.Sessions.{SessionTxn};
 ghost use Rattle.shore_calls.specs.declared.step.Step.TheVariants.{Done, Refused};
 ghost use Rattle.shore_calls.specs.StateChanges.{CanLog, FitsAt};
 ghost use Rattle.shore_calls.specs.CallSteps.{IsPlaceOf, ServesTxn, CallStep, behind_place, lock_outcome, place_outcome, txn_count};
@@ -30,7 +30,7 @@ ghost use Rattle.shore_path.specs.Walks.{acquired};
 ghost use Rattle.shore_path.specs.declared.answers.Acquired.TheVariants as acquire;
 ghost use Rattle.shore_path.specs.declared.answers.OnConflict.TheVariants.{Refuse};
 ghost use Rattle.shore_held.specs.CallLocks.{Asked, asked_by};
-ghost use Rattle.shore_sessions.specs.GranuleLocks.{HasLock};
+ghost use Rattle.shore_lives.specs.GranuleLocks.{HasLock};
 ghost use Rattle.shore_calls.specs.Shapes.{ForItsTxn, rollback_of, store_lock, store_locked, with_locks_of};
 
 /// Refusals of a manager or a session that must not come: each without its cause.

@@ -9,7 +9,7 @@ ghost use Rattle.shore_model.specs.declared.calls.Call.{Call};
 ghost use Rattle.shore_model.specs.declared.histories.Entry.{Entry};
 ghost use Rattle.shore_model.specs.declared.log_records.LogRecord.{LogRecord};
 ghost use Rattle.shore_model.specs.Requests.{HasNoCycle};
-ghost use Rattle.shore_sessions.specs.Views.{IsAmong};
+ghost use Rattle.shore_lives.specs.Views.{IsAmong};
 ghost use Rattle.shore_calls.specs.declared.step.Step.{Step};
 ghost use Rattle.shore_calls.specs.declared.step.Step.TheVariants.{Done, Refused, Waits};
 ghost use Rattle.shore_calls.specs.declared.step.Wait.{Wait};

@@ -18,12 +18,12 @@ use Rattle.shore_path.specs.declared.answers.OnConflict.{OnConflict}
 use Rattle.shore_path.specs.Walks.{Outcome, acquired}
 use Rattle.shore_held.proofs.Held.{locked_of}
 use Rattle.shore_room.specs.Claims.{NoOthers, before_of, befores_in}
-use Rattle.shore_sessions.proofs.GranuleLocks.{permitted}
-use Rattle.shore_sessions.proofs.Ids.{told_apart}
-use Rattle.shore_sessions.proofs.Views.{read_of_write}
-use Rattle.shore_sessions.specs.Sessions.{SessionTxn, Sessions}
-use Rattle.shore_sessions.specs.Soundness.{IsSoundAfter}
-use Rattle.shore_sessions.specs.Views.{IsAmong}
+use Rattle.shore_lives.proofs.GranuleLocks.{permitted}
+use Rattle.shore_lives.proofs.Ids.{told_apart}
+use Rattle.shore_lives.proofs.Views.{read_of_write}
+use Rattle.shore_lives.specs.Sessions.{SessionTxn, Sessions}
+use Rattle.shore_lives.specs.Soundness.{IsSoundAfter}
+use Rattle.shore_lives.specs.Views.{IsAmong}
 use Rattle.shore_calls.proofs.TakenLocks.{leaves, locked_state}
 use Rattle.shore_calls.specs.CallSteps.{with_requests}
 use Rattle.shore_calls.specs.LockedStates.{IsSessionsState}

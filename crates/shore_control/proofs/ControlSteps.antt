@@ -9,9 +9,9 @@ use Rattle.shore_model.specs.declared.log_records.LogRecord.{LogRecord}
 use Rattle.shore_model.specs.Records.{Records}
 use Rattle.shore_locks.specs.Grants.{released}
 use Rattle.shore_locks.specs.Tables.{Table}
-use Rattle.shore_sessions.specs.Sessions.{SessionTxn}
-use Rattle.shore_sessions.specs.Soundness.{SessionsAgree}
-use Rattle.shore_sessions.specs.Views.{IsAmong}
+use Rattle.shore_lives.specs.Sessions.{SessionTxn}
+use Rattle.shore_lives.specs.Soundness.{SessionsAgree}
+use Rattle.shore_lives.specs.Views.{IsAmong}
 use Rattle.shore_calls.specs.StateChanges.{wait_refused}
 use Rattle.shore_calls.specs.CallSteps.{commit_ended, lock_waiting}
 use Rattle.shore_calls.specs.States.{IsOfSession, State, cost_of_log}

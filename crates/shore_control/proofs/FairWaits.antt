@@ -17,7 +17,7 @@ use Rattle.shore_deadlock.proofs.Lockings.{gentle_cancel}
 use Rattle.shore_cycles.proofs.Steps.{cancelled_keeps_quiet}
 use Rattle.shore_held.proofs.Acquired.{acquired_leaves}
 use Rattle.shore_held.proofs.Waiting.{others_stay_quiet}
-use Rattle.shore_sessions.specs.Views.{IsAmong}
+use Rattle.shore_lives.specs.Views.{IsAmong}
 use Rattle.shore_calls.specs.States.{Waiting}
 use Rattle.shore_calls.specs.Victims.{with_cycle}
 use Rattle.shore_txn.proofs.OneOfMany.{among_map}

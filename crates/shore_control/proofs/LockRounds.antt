@@ -27,10 +27,10 @@ use Rattle.shore_cycles.proofs.Steps.{quiet_waits_not}
 use Rattle.shore_cycles.proofs.VictimLemmas.{first_In, first_victim, later_spared}
 use Rattle.shore_cycles.proofs.Walks.{member_waits}
 use Rattle.shore_held.specs.CallLocks.{Asked}
-use Rattle.shore_sessions.specs.Sessions.{SessionTxn}
-use Rattle.shore_sessions.specs.UndoLists.{undo_rolled}
-use Rattle.shore_sessions.specs.Views.{IsAmong}
-use Rattle.shore_sessions.specs.declared.rollbacks.Rollback.TheVariants.{Whole}
+use Rattle.shore_lives.specs.Sessions.{SessionTxn}
+use Rattle.shore_lives.specs.UndoLists.{undo_rolled}
+use Rattle.shore_lives.specs.Views.{IsAmong}
+use Rattle.shore_lives.specs.declared.rollbacks.Rollback.TheVariants.{Whole}
 use Rattle.shore_calls.specs.CallSteps.{behind_lock, lock_outcome, lock_waiting, on_conflict_of, with_requests}
 use Rattle.shore_calls.specs.LockRounds.{EndsLock, EndsWell, IsBroken, LetThrough, LocksTo, waits_at}
 use Rattle.shore_calls.specs.StateChanges.{wait_refused}

@@ -6,9 +6,9 @@ use Rattle.shore_model.specs.declared.log_records.LogRecord.{LogRecord}
 use Rattle.shore_locks.specs.Tables.{is_waiting}
 use Rattle.shore_path.specs.declared.answers.OnConflict.TheVariants as conflict
 use Rattle.shore_held.specs.CallLocks.{Asked}
-use Rattle.shore_sessions.specs.Sessions.{SessionTxn}
-use Rattle.shore_sessions.specs.Views.{IsAmong}
-use Rattle.shore_sessions.proofs.Members.{txn_of_one}
+use Rattle.shore_lives.specs.Sessions.{SessionTxn}
+use Rattle.shore_lives.specs.Views.{IsAmong}
+use Rattle.shore_lives.proofs.Members.{txn_of_one}
 use Rattle.shore_calls.proofs.Sessions.{one_txn}
 use Rattle.shore_calls.specs.CallSteps.{on_conflict_of}
 use Rattle.shore_calls.specs.Events.{IsStateAfter}

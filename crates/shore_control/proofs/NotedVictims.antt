@@ -1,11 +1,11 @@
 -- Victims as they are noted one after another: what each makes of the transactions, and whose call is told.
 use Rattle.std.proofs.Common.{◌≡◌, ◌≢◌, ⊎_elim, ℕ, List, true, false, map, refl, sym, ap, subst, ◌∙◌}
 use Rattle.std.proofs.lemmas.Bool.{cases_Bool}
-use Rattle.shore_sessions.specs.Sessions.{EachOnce, SessionTxn, txns_of, with_undo}
-use Rattle.shore_sessions.specs.UndoLists.{undo_rolled}
-use Rattle.shore_sessions.specs.Views.{IsAmong}
-use Rattle.shore_sessions.specs.declared.rollbacks.Rollback.TheVariants.{Whole}
-use Rattle.shore_sessions.proofs.Members.{among_with}
+use Rattle.shore_lives.specs.Sessions.{EachOnce, SessionTxn, txns_of, with_undo}
+use Rattle.shore_lives.specs.UndoLists.{undo_rolled}
+use Rattle.shore_lives.specs.Views.{IsAmong}
+use Rattle.shore_lives.specs.declared.rollbacks.Rollback.TheVariants.{Whole}
+use Rattle.shore_lives.proofs.Members.{among_with}
 use Rattle.shore_model.specs.declared.requests.Request.{Request}
 use Rattle.shore_calls.specs.CallSteps.{with_requests}
 use Rattle.shore_calls.specs.States.{State, Waiting}

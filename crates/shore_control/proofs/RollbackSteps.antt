@@ -15,13 +15,13 @@ use Rattle.shore_room.specs.Entries.{claim_before, claims_before}
 use Rattle.shore_room.specs.LogRooms.{compensation_cost}
 use Rattle.shore_room.proofs.Costs.{compensation_bytes}
 use Rattle.shore_room.proofs.Entries.{before_push}
-use Rattle.shore_sessions.specs.Logged.{next_to_undo}
-use Rattle.shore_sessions.specs.LogTells.{MatchesUndo}
-use Rattle.shore_sessions.specs.Sessions.{SessionTxn, with_undo, without_txn}
-use Rattle.shore_sessions.specs.UndoLists.{undo_rolled}
-use Rattle.shore_sessions.specs.Views.{IsAmong}
-use Rattle.shore_sessions.specs.declared.rollbacks.Rollback.{Rollback}
-use Rattle.shore_sessions.proofs.UnansweredChanges.{unanswered_own}
+use Rattle.shore_lives.specs.Logged.{next_to_undo}
+use Rattle.shore_lives.specs.LogTells.{MatchesUndo}
+use Rattle.shore_lives.specs.Sessions.{SessionTxn, with_undo, without_txn}
+use Rattle.shore_lives.specs.UndoLists.{undo_rolled}
+use Rattle.shore_lives.specs.Views.{IsAmong}
+use Rattle.shore_lives.specs.declared.rollbacks.Rollback.{Rollback}
+use Rattle.shore_lives.proofs.UnansweredChanges.{unanswered_own}
 use Rattle.shore_calls.specs.States.{State}
 use Rattle.shore_txn.specs.ActiveTxns.{OneBecomes, OneLeaves}
 use Rattle.shore_txn.specs.Transactions.{next_in, room_in, undos_in}

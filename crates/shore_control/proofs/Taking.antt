@@ -2,7 +2,7 @@
 use Rattle.std.proofs.Common.{◌≡◌, ◌≢◌, inl, inr, ◌<◌, ◌∷◌, [], ℕ, zero, suc, List, true, false, cond, refl, sym, ap, subst, ◌∙◌, arith, length, get_or, Bool}
 use Rattle.std.specs.Prelude.{◌==◌, All, AllPairs, filter, not, remove}
 use Rattle.std.proofs.lemmas.Bool.{eq-eqb, ne_eqb}
-use Rattle.shore_sessions.specs.Views.{IsAmong}
+use Rattle.shore_lives.specs.Views.{IsAmong}
 use Rattle.shore_control.specs.declared.waits.WaitingCall.{WaitingCall}
 use Rattle.shore_control.proofs.Lists.{among_filtered, filter_all}
 

@@ -8,7 +8,7 @@ use Rattle.shore_path.specs.declared.answers.Acquired.{Acquired}
 use Rattle.shore_path.specs.declared.answers.Acquired.TheVariants as acquire
 use Rattle.shore_path.specs.declared.answers.OnConflict.TheVariants as conflict
 use Rattle.shore_held.specs.CallLocks.{Asked}
-use Rattle.shore_sessions.specs.Sessions.{SessionTxn}
+use Rattle.shore_lives.specs.Sessions.{SessionTxn}
 use Rattle.shore_calls.proofs.AcquireAnswers.{try_never_waits}
 use Rattle.shore_calls.specs.CallSteps.{behind_lock, lock_outcome, on_conflict_of, with_requests}
 use Rattle.shore_calls.specs.LockRounds.{LocksTo}

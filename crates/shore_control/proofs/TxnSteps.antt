@@ -16,12 +16,12 @@ use Rattle.shore_page.specs.Room.{claim_at}
 use Rattle.shore_room.specs.Claims.{Claimed, NoOthers, SlotCounts}
 use Rattle.shore_room.specs.Entries.{claims_before}
 use Rattle.shore_room.proofs.Entries as entries
-use Rattle.shore_sessions.specs.Logged.{and_record}
-use Rattle.shore_sessions.specs.Sessions.{SessionTxn, txn_begun, with_undo, without_txn}
-use Rattle.shore_sessions.specs.UndoLists.{nothing_to_undo, with_before_image}
-use Rattle.shore_sessions.specs.Views.{IsAmong}
-use Rattle.shore_sessions.proofs.Lists.{recursion-push}
-use Rattle.shore_sessions.proofs.UnansweredChanges.{unanswered_other, unanswered_own}
+use Rattle.shore_lives.specs.Logged.{and_record}
+use Rattle.shore_lives.specs.Sessions.{SessionTxn, txn_begun, with_undo, without_txn}
+use Rattle.shore_lives.specs.UndoLists.{nothing_to_undo, with_before_image}
+use Rattle.shore_lives.specs.Views.{IsAmong}
+use Rattle.shore_lives.proofs.Lists.{recursion-push}
+use Rattle.shore_lives.proofs.UnansweredChanges.{unanswered_other, unanswered_own}
 use Rattle.shore_calls.specs.StateChanges.{committed}
 use Rattle.shore_calls.specs.States.{State, cost_of_log, page_slots}
 use Rattle.shore_txn.specs.ActiveTxns.{IsBegun, OneBecomes, OneLeaves, session_txns, with_entry}

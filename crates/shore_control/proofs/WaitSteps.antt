@@ -11,11 +11,11 @@ use Rattle.shore_model.specs.declared.histories.Entry.{Entry}
 use Rattle.shore_model.specs.declared.sessions.SessionState.{SessionState}
 use Rattle.shore_model.specs.Histories.{free, session_state}
 use Rattle.shore_model.specs.Records.{Records}
-use Rattle.shore_sessions.specs.Sessions.{EachOnce, SessionTxn, txns_of, with_undo, without_txn}
-use Rattle.shore_sessions.specs.Soundness.{SessionsAgree}
-use Rattle.shore_sessions.specs.UndoLists.{UndoList}
-use Rattle.shore_sessions.specs.Views.{IsAmong}
-use Rattle.shore_sessions.proofs.Members.{member_stays}
+use Rattle.shore_lives.specs.Sessions.{EachOnce, SessionTxn, txns_of, with_undo, without_txn}
+use Rattle.shore_lives.specs.Soundness.{SessionsAgree}
+use Rattle.shore_lives.specs.UndoLists.{UndoList}
+use Rattle.shore_lives.specs.Views.{IsAmong}
+use Rattle.shore_lives.proofs.Members.{member_stays}
 use Rattle.shore_calls.specs.StateChanges.{commit_waiting, committed, wait_refused}
 use Rattle.shore_calls.specs.CallSteps.{commit_ended, lock_waiting}
 use Rattle.shore_calls.specs.States.{DoesNotWait, HasNoTxn, IsOfSession, State, Waiting, next_number, without_waiting}

@@ -3,7 +3,7 @@ use Rattle.std.specs.Prelude.{◌==◌, ℕ, List, Bool, Some, true, false, filt
 use Rattle.shore_calls.specs.declared.step.Wait.{Wait}
 use Rattle.shore_calls.specs.declared.step.Wait.TheVariants.{Durable, Lock}
 use Rattle.shore_calls.specs.States.{Waiting}
-use Rattle.shore_sessions.specs.Sessions.{SessionTxn}
+use Rattle.shore_lives.specs.Sessions.{SessionTxn}
 use Rattle.shore_control.specs.declared.waits.WaitingCall.{WaitingCall}
 
 abbrev pub as_waiting : WaitingCall → Waiting

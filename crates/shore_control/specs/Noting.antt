@@ -10,8 +10,8 @@ use Rattle.shore_path.specs.declared.answers.Acquired.TheVariants as acquire
 use Rattle.shore_deadlock.specs.declared.locking.Locked.{Locked}
 use Rattle.shore_deadlock.specs.declared.locking.Locked.TheVariants as locked
 use Rattle.shore_cycles.specs.declared.victims.Victim.{Victim}
-use Rattle.shore_sessions.specs.Sessions.{SessionTxn, doomed}
-use Rattle.shore_sessions.specs.Views.{IsAmong}
+use Rattle.shore_lives.specs.Sessions.{SessionTxn, doomed}
+use Rattle.shore_lives.specs.Views.{IsAmong}
 use Rattle.shore_calls.specs.CallSteps.{with_requests}
 use Rattle.shore_calls.specs.States.{DoesNotWait, State}
 use Rattle.shore_calls.specs.Victims.{with_cycle}

@@ -10,11 +10,11 @@ use Rattle.shore_model.specs.declared.unanswered_changes.UnansweredChange.{Unans
 use Rattle.shore_model.specs.Logs.{previous_of, unanswered}
 use Rattle.shore_model.specs.Records.{put_image}
 use Rattle.shore_room.specs.Claims.{SlotCounts}
-use Rattle.shore_sessions.specs.Logged.{and_record, next_to_undo}
-use Rattle.shore_sessions.specs.declared.rollbacks.Rollback.{Rollback}
-use Rattle.shore_sessions.specs.Sessions.{SessionTxn, abort_answered, image_put_back, with_undo}
-use Rattle.shore_sessions.specs.UndoLists.{with_before_image}
-use Rattle.shore_sessions.specs.Views.{IsAmong}
+use Rattle.shore_lives.specs.Logged.{and_record, next_to_undo}
+use Rattle.shore_lives.specs.declared.rollbacks.Rollback.{Rollback}
+use Rattle.shore_lives.specs.Sessions.{SessionTxn, abort_answered, image_put_back, with_undo}
+use Rattle.shore_lives.specs.UndoLists.{with_before_image}
+use Rattle.shore_lives.specs.Views.{IsAmong}
 use Rattle.shore_locks.specs.Grants.{released}
 use Rattle.shore_calls.specs.CallSteps.{with_requests}
 use Rattle.shore_calls.specs.States.{State, cost_of_log}

@@ -10,9 +10,9 @@ ghost use Rattle.shore_locks.specs.Grants.{released};
 ghost use Rattle.shore_page.specs.Slots.{image_len};
 ghost use Rattle.shore_room.specs.Entries.{claim_before};
 ghost use Rattle.shore_room.specs.LogRooms.{compensation_cost};
-ghost use Rattle.shore_sessions.specs.Sessions.{SessionTxn};
-ghost use Rattle.shore_sessions.specs.UndoLists.{images_since};
-ghost use Rattle.shore_sessions.specs.Views.{IsAmong};
+ghost use Rattle.shore_lives.specs.Sessions.{SessionTxn};
+ghost use Rattle.shore_lives.specs.UndoLists.{images_since};
+ghost use Rattle.shore_lives.specs.Views.{IsAmong};
 ghost use Rattle.shore_calls.specs.StateChanges.{answered};
 ghost use Rattle.shore_calls.specs.States.{IsOfSession, State};
 ghost use Rattle.shore_txn.specs.ActiveTxns.{HasMore, OneBecomes, OneLeaves};
@@ -22,7 +22,7 @@ ghost use Rattle.shore_undo.specs.Txns.{IsAfterSavepoint, IsAfterUndo, IsBackAt,
 ghost use Rattle.shore_undo.specs.UndoEntries.{image_of};
 
 use crate::control::Control;
-use shore_sessions::Rollback;
+use shore_lives::Rollback;
 use shore_txn::UndoEntry;
 use shore_types::{Lsn, SessionId};
 use std::alloc::AllocError;

@@ -1,6 +1,6 @@
 //! The calls that wait.
 ghost use Rattle.std.specs.Prelude.{◌≡◌, ◌≢◌, ◌<◌, ◌≤◌, ◌^◌, ◌++◌, ◌∷◌, [], ℕ, All, AllPairs, IfNone, IfSome, IsSome, OnOk, false, filter, length, not, slice_index_or, true, ◌==◌};
-ghost use Rattle.shore_sessions.specs.Views.{IsAmong};
+ghost use Rattle.shore_lives.specs.Views.{IsAmong};
 ghost use Rattle.shore_control.specs.Calls.{commits_of, cycle_noted, is_commit};
 ghost use Rattle.shore_control.specs.declared.waits.WaitingCall.{WaitingCall};
 

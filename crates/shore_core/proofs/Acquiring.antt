@@ -12,13 +12,13 @@ use Rattle.shore_disk.specs.declared.device.Disk as disk
 use Rattle.shore_log.specs.declared.tail.Tail as tail
 use Rattle.shore_path.specs.declared.answers.Acquired.{Acquired}
 use Rattle.shore_path.specs.declared.answers.Acquired.TheVariants as acquire
-use Rattle.shore_recovery.specs.Recovery.{RecoveryState}
-use Rattle.shore_sessions.specs.Sessions.{SessionTxn}
+use Rattle.shore_lives.specs.Recovery.{RecoveryState}
+use Rattle.shore_lives.specs.Sessions.{SessionTxn}
 use Rattle.shore_calls.specs.StateChanges.{after_refusal}
 use Rattle.shore_calls.specs.CallSteps.{MayAsk, RefusesEarly}
 use Rattle.shore_calls.specs.Settling.{GoesSettled, WaitsForNoLock}
 use Rattle.shore_calls.specs.States.{DoesNotWait, State}
-use Rattle.shore_sessions.specs.Views.{IsAmong}
+use Rattle.shore_lives.specs.Views.{IsAmong}
 use Rattle.shore_undo.specs.Txns.{last_of}
 use Rattle.shore_undo.specs.declared.txn.Txn.{Txn}
 use Rattle.shore_txn.proofs.OneOfMany.{among_map, map_among}

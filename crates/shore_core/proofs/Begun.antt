@@ -2,8 +2,8 @@
 use Rattle.std.proofs.Common.{◌≡◌, ◌+◌, ◌<◌, ◌≤◌, ◌∷◌, ⊎_elim, ℕ, Result, Ok, Err, OnOk, OnErr, ap, subst, ◌∙◌, arith}
 use Rattle.shore_types.specs.declared.layout.TheConstants.{ENDING_COST}
 use Rattle.shore_room.specs.LogRooms.{owed_by_all}
-use Rattle.shore_sessions.specs.UndoLists.{nothing_to_undo}
-use Rattle.shore_sessions.specs.Views.{IsAmong}
+use Rattle.shore_lives.specs.UndoLists.{nothing_to_undo}
+use Rattle.shore_lives.specs.Views.{IsAmong}
 use Rattle.shore_txn.specs.ActiveTxns.{IsBegun}
 use Rattle.shore_txn.specs.Transactions.{IsUnchanged, next_in, room_in, undos_in}
 use Rattle.shore_txn.specs.Transactions as table

@@ -24,15 +24,15 @@ use Rattle.shore_dwrite.specs.Settled as settled_device
 use Rattle.shore_dwrite.specs.Volumes.{page_number}
 use Rattle.shore_heap.proofs.Bounds.{cases_page, slots_here, slots_other}
 use Rattle.shore_heap.proofs.Showing.{shows_same, shows_told}
-use Rattle.shore_sessions.specs.Sessions.{SessionTxn}
-use Rattle.shore_sessions.specs.Views.{IsAmong}
+use Rattle.shore_lives.specs.Sessions.{SessionTxn}
+use Rattle.shore_lives.specs.Views.{IsAmong}
 use Rattle.shore_room.specs.Claims.{Claimed, Grows, NoOthers, SlotCounts}
 use Rattle.shore_room.specs.LogRooms.{change_cost, compensation_cost}
 use Rattle.shore_room.proofs.Costs.{change_bytes, compensation_bytes}
 use Rattle.shore_room.proofs.Rooms.{change_others, change_slots}
 use Rattle.shore_calls.specs.States.{State, page_slots}
 use Rattle.shore_core.specs.declared.core_calls.Core.{Core}
-use Rattle.shore_recovery.specs.Recovery.{RecoveryState}
+use Rattle.shore_lives.specs.Recovery.{RecoveryState}
 use Rattle.shore_txn.specs.declared.transactions.Transactions.{Transactions}
 use Rattle.shore_undo.specs.declared.txn.Txn.{Txn}
 use Rattle.shore_undo.specs.declared.undo.UndoEntry.{UndoEntry}

@@ -13,13 +13,13 @@ use Rattle.shore_txn.proofs.ActiveKept.{back_again, fit_again}
 use Rattle.shore_heap.specs.Heaps as heaps
 use Rattle.shore_heap.specs.Heaps.{KeepsSlots, LeavesPages, Shows}
 use Rattle.shore_lives.specs.ManagerSteps.{WorksTo}
-use Rattle.shore_recovery.specs.Pages.{LoggedPages}
-use Rattle.shore_recovery.specs.Recovery.{AppendRecord, CrashMayLeave, LeadsTo, RecoveryEvent, RecoveryState, after_append}
-use Rattle.shore_recovery.proofs.Invariant.{event_kept}
+use Rattle.shore_lives.specs.Pages.{LoggedPages}
+use Rattle.shore_lives.specs.Recovery.{AppendRecord, CrashMayLeave, LeadsTo, RecoveryEvent, RecoveryState, after_append}
+use Rattle.shore_lives.proofs.Invariant.{event_kept}
 use Rattle.shore_lives.proofs.Works.{all_work}
-use Rattle.shore_logged.proofs.Flushes.{left_amid, work_of}
-use Rattle.shore_logged.proofs.Stores.{store_over}
-use Rattle.shore_logged.specs.LoggedHeaps.{IsStoreOf, LeavesStore}
+use Rattle.shore_stands.proofs.Flushes.{left_amid, work_of}
+use Rattle.shore_stands.proofs.Stores.{store_over}
+use Rattle.shore_stands.specs.LoggedHeaps.{IsStoreOf, LeavesStore}
 use Rattle.shore_heap.specs.declared.heap.Heap.{Heap}
 use Rattle.shore_heap.proofs.Showing.{shows_told}
 use Rattle.shore_pool.proofs.Same.{pages_stay}

@@ -14,18 +14,18 @@ use Rattle.shore_heap.specs.declared.heap.Heap.{Heap}
 use Rattle.shore_heap.specs.Heaps.{Shows}
 use Rattle.shore_heap.proofs.Showing.{shows_same}
 use Rattle.shore_locks.specs.Grants.{released}
-use Rattle.shore_recovery.specs.Recovery.{RecoveryState, after_append}
+use Rattle.shore_lives.specs.Recovery.{RecoveryState, after_append}
 use Rattle.shore_room.specs.Claims.{Claimed, slots_of}
 use Rattle.shore_room.specs.Settling.{let_go}
 use Rattle.shore_room.proofs.Leaving.{left_slots}
-use Rattle.shore_sessions.specs.Logged.{and_record, and_rollback}
-use Rattle.shore_sessions.specs.Sessions.{SessionTxn, abort_answered, without_txn}
-use Rattle.shore_sessions.specs.UndoLists.{rolled_back}
-use Rattle.shore_sessions.specs.Views.{IsAmong}
+use Rattle.shore_lives.specs.Logged.{and_record, and_rollback}
+use Rattle.shore_lives.specs.Sessions.{SessionTxn, abort_answered, without_txn}
+use Rattle.shore_lives.specs.UndoLists.{rolled_back}
+use Rattle.shore_lives.specs.Views.{IsAmong}
 use Rattle.shore_calls.specs.CallSteps.{aborted, with_requests}
 use Rattle.shore_calls.specs.States.{State, page_slots}
-use Rattle.shore_logged.specs.LoggedHeaps.{IsStoreOf}
-use Rattle.shore_logged.proofs.Made.{appended_without}
+use Rattle.shore_stands.specs.LoggedHeaps.{IsStoreOf}
+use Rattle.shore_stands.proofs.Made.{appended_without}
 use Rattle.shore_txn.specs.ActiveTxns.{OneLeaves}
 use Rattle.shore_txn.specs.Transactions.{kept_in, txns_in, undos_in}
 use Rattle.shore_undo.specs.Txns.{as_session_txn, entries_of, last_of}

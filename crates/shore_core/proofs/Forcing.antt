@@ -14,8 +14,8 @@ use Rattle.shore_pool.specs.Pools as pools
 use Rattle.shore_pool.specs.Pools.{Holds, NeedsForce}
 use Rattle.shore_pool.specs.declared.pool.Pool.{Pool}
 use Rattle.shore_pool.specs.declared.frame.Frame.{Frame}
-use Rattle.shore_recovery.specs.Recovery.{RecoveryState}
-use Rattle.shore_logged.specs.LoggedHeaps.{IsStoreOf}
+use Rattle.shore_lives.specs.Recovery.{RecoveryState}
+use Rattle.shore_stands.specs.LoggedHeaps.{IsStoreOf}
 use Rattle.shore_calls.specs.StateChanges.{IsPageFault}
 use Rattle.shore_calls.specs.States.{State}
 use Rattle.shore_core.specs.Cores.{IsKept}

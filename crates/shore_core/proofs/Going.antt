@@ -9,9 +9,9 @@ use Rattle.shore_model.specs.declared.log_records.LogRecord.{LogRecord}
 use Rattle.shore_disk.specs.declared.device.Disk as disk
 use Rattle.shore_log.specs.declared.tail.Tail as tail
 use Rattle.shore_locks.specs.Tables.{is_waiting}
-use Rattle.shore_recovery.specs.Recovery.{RecoveryState}
-use Rattle.shore_sessions.specs.Sessions.{SessionTxn}
-use Rattle.shore_sessions.specs.Views.{IsAmong}
+use Rattle.shore_lives.specs.Recovery.{RecoveryState}
+use Rattle.shore_lives.specs.Sessions.{SessionTxn}
+use Rattle.shore_lives.specs.Views.{IsAmong}
 use Rattle.shore_control.proofs.Lists.{among_filtered}
 use Rattle.shore_calls.proofs.OneSessionStep.{none_early}
 use Rattle.shore_calls.proofs.SessionFailures.{IsHarmless, early_harmless}

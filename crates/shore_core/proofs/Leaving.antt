@@ -6,9 +6,9 @@ use Rattle.shore_disk.specs.declared.device.Disk as disk
 use Rattle.shore_log.specs.declared.tail.Tail as tail
 use Rattle.shore_heap.specs.declared.heap.Heap.{Heap}
 use Rattle.shore_heap.specs.Heaps.{Shows}
-use Rattle.shore_recovery.specs.Recovery.{RecoveryState}
+use Rattle.shore_lives.specs.Recovery.{RecoveryState}
 use Rattle.shore_room.specs.LogRooms.{owed, owed_by_all}
-use Rattle.shore_sessions.specs.Views.{IsAmong}
+use Rattle.shore_lives.specs.Views.{IsAmong}
 use Rattle.shore_calls.specs.States.{State, page_slots}
 use Rattle.shore_txn.specs.ActiveTxns.{OneLeaves, session_txns}
 use Rattle.shore_txn.specs.Transactions.{kept_in, room_in, txns_in}

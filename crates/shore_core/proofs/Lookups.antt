@@ -8,8 +8,8 @@ use Rattle.shore_types.specs.declared.layout.Geometry.{Geometry}
 use Rattle.shore_model.specs.declared.calls.Answer.TheVariants.{Got, Locked}
 use Rattle.shore_model.specs.declared.calls.Call.{Call}
 use Rattle.shore_model.specs.declared.calls.Call.TheVariants as call
-use Rattle.shore_sessions.specs.Sessions.{EachOnce, SessionTxn, txns_of, with_undo}
-use Rattle.shore_sessions.specs.Views.{IsAmong}
+use Rattle.shore_lives.specs.Sessions.{EachOnce, SessionTxn, txns_of, with_undo}
+use Rattle.shore_lives.specs.Views.{IsAmong}
 use Rattle.shore_calls.proofs.Elements.{same_undo}
 use Rattle.shore_calls.proofs.PlainReads.{get_leaves}
 use Rattle.shore_calls.specs.StateChanges.{IsPageFault, after_refusal}

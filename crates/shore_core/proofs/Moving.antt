@@ -9,8 +9,8 @@ use Rattle.shore_disk.specs.declared.device.Disk as disk
 use Rattle.shore_log.specs.declared.tail.Tail as tail
 use Rattle.shore_heap.specs.declared.heap.Heap.{Heap}
 use Rattle.shore_heap.specs.Heaps.{Shows}
-use Rattle.shore_recovery.specs.Recovery.{RecoveryState}
-use Rattle.shore_sessions.specs.Sessions.{SessionTxn}
+use Rattle.shore_lives.specs.Recovery.{RecoveryState}
+use Rattle.shore_lives.specs.Sessions.{SessionTxn}
 use Rattle.shore_calls.specs.CallSteps.{GoesOn, HasLocked}
 use Rattle.shore_calls.specs.States.{State, page_slots}
 use Rattle.shore_calls.specs.declared.step.Step.{Step}

@@ -11,9 +11,9 @@ use Rattle.shore_disk.specs.Cause.{HasCause}
 use Rattle.shore_disk.specs.declared.device.Disk as disk
 use Rattle.shore_log.specs.declared.tail.Tail as tail
 use Rattle.shore_held.specs.CallLocks.{asked_by}
-use Rattle.shore_recovery.specs.Recovery.{RecoveryState}
-use Rattle.shore_sessions.specs.UndoLists.{UndoList}
-use Rattle.shore_sessions.specs.Views.{IsAmong}
+use Rattle.shore_lives.specs.Recovery.{RecoveryState}
+use Rattle.shore_lives.specs.UndoLists.{UndoList}
+use Rattle.shore_lives.specs.Views.{IsAmong}
 use Rattle.shore_calls.specs.Rollbacks.{TakesCall}
 use Rattle.shore_calls.specs.States.{DoesNotWait, State}
 use Rattle.shore_calls.specs.declared.step.Step.{Step}

@@ -15,7 +15,7 @@ use Rattle.shore_path.specs.Walks.{acquired}
 use Rattle.shore_held.proofs.Places.{acquired_ends}
 use Rattle.shore_disk.specs.declared.device.Disk as disk
 use Rattle.shore_log.specs.declared.tail.Tail as tail
-use Rattle.shore_recovery.specs.Recovery.{RecoveryState}
+use Rattle.shore_lives.specs.Recovery.{RecoveryState}
 use Rattle.shore_model.specs.declared.log_records.LogRecord.{LogRecord}
 use Rattle.shore_model.specs.Records.{AreRecords, scan_of}
 use Rattle.shore_page.specs.Slots.{image_at_slot}
@@ -24,7 +24,7 @@ use Rattle.shore_heap.specs.Scans.{IsScan}
 use Rattle.shore_heap.proofs.Scanned.{scans_as_the_model}
 use Rattle.shore_room.specs.Claims.{Claimed}
 use Rattle.shore_model.specs.declared.calls.Call.TheVariants as call
-use Rattle.shore_sessions.specs.Sessions.{SessionTxn}
+use Rattle.shore_lives.specs.Sessions.{SessionTxn}
 use Rattle.shore_calls.specs.StateChanges.{CanLog, IsPageFault, after_refusal}
 use Rattle.shore_calls.specs.CallSteps.{HasPlace, IsPlaceOf, ServesTxn, behind_place, place_outcome}
 use Rattle.shore_calls.specs.declared.step.Step.{Step}

@@ -10,7 +10,7 @@ use Rattle.shore_types.specs.declared.layout.Geometry.{Geometry}
 use Rattle.shore_model.specs.declared.calls.Call.TheVariants as call
 use Rattle.shore_page.specs.Room.{Fits}
 use Rattle.shore_page.specs.Slots.{Slot, image_at_slot}
-use Rattle.shore_sessions.specs.Sessions.{SessionTxn}
+use Rattle.shore_lives.specs.Sessions.{SessionTxn}
 use Rattle.shore_calls.specs.StateChanges.{CanLog, FitsAt, after_refusal}
 use Rattle.shore_calls.specs.CallSteps.{Finds, RefusesRead}
 use Rattle.shore_calls.specs.States.{State}

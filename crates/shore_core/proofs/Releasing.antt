@@ -19,8 +19,8 @@ use Rattle.shore_dwrite.specs.Volumes.{page_number}
 use Rattle.shore_heap.proofs.Bounds.{cases_page, slots_here, slots_other}
 use Rattle.shore_heap.proofs.Released.{images_claimed}
 use Rattle.shore_heap.proofs.Showing.{shows_same, shows_told}
-use Rattle.shore_sessions.specs.Sessions.{SessionTxn, without_txn}
-use Rattle.shore_sessions.specs.Views.{IsAmong}
+use Rattle.shore_lives.specs.Sessions.{SessionTxn, without_txn}
+use Rattle.shore_lives.specs.Views.{IsAmong}
 use Rattle.shore_room.specs.Claims.{Claimed, slots_of}
 use Rattle.shore_txn.specs.ActiveTxns.{HasMore, all_changes, session_txns}
 use Rattle.shore_txn.proofs.ActiveKept.{left_fit, left_read, no_more}

@@ -12,14 +12,14 @@ use Rattle.shore_types.specs.declared.ids.Rid.{Rid}
 use Rattle.shore_model.specs.declared.calls.Answer.TheVariants.{WentBack}
 use Rattle.shore_model.specs.declared.calls.Call.TheVariants as call
 use Rattle.shore_model.specs.declared.log_records.LogRecord.{LogRecord}
-use Rattle.shore_recovery.specs.Recovery.{RecoveryState}
+use Rattle.shore_lives.specs.Recovery.{RecoveryState}
 use Rattle.shore_room.proofs.Leaving.{marked_slots}
 use Rattle.shore_room.specs.Claims.{slots_of}
-use Rattle.shore_sessions.specs.Logged.{and_compensations}
-use Rattle.shore_sessions.specs.Sessions.{SessionTxn, with_undo}
-use Rattle.shore_sessions.specs.UndoLists.{MayRoll, UndoList, images_since, least_kept, mark_of, rolled_back}
-use Rattle.shore_sessions.specs.declared.rollbacks.Rollback.{Rollback}
-use Rattle.shore_sessions.specs.declared.rollbacks.Rollback.TheVariants.{To}
+use Rattle.shore_lives.specs.Logged.{and_compensations}
+use Rattle.shore_lives.specs.Sessions.{SessionTxn, with_undo}
+use Rattle.shore_lives.specs.UndoLists.{MayRoll, UndoList, images_since, least_kept, mark_of, rolled_back}
+use Rattle.shore_lives.specs.declared.rollbacks.Rollback.{Rollback}
+use Rattle.shore_lives.specs.declared.rollbacks.Rollback.TheVariants.{To}
 use Rattle.shore_calls.specs.declared.step.Step.{Step}
 use Rattle.shore_calls.specs.declared.step.Step.TheVariants.{Refused}
 use Rattle.shore_calls.specs.CallSteps.{CallStep}
@@ -32,7 +32,7 @@ use Rattle.shore_undo.specs.Txns.{IsBackAt, last_of}
 use Rattle.shore_txn.specs.declared.transactions.Transactions.{Transactions}
 use Rattle.shore_undo.specs.declared.txn.Txn.{Txn}
 use Rattle.shore_txn.proofs.ActiveOthers.{each_becomes}
-use Rattle.shore_sessions.specs.Views.{IsAmong}
+use Rattle.shore_lives.specs.Views.{IsAmong}
 use Rattle.shore_core.specs.declared.core_calls.Core.{Core}
 use Rattle.shore_core.specs.Cores.{ComesTo, IsSafe, geometry_of}
 use Rattle.shore_core.specs.Replies.{Replied}

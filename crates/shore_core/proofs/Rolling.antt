@@ -15,14 +15,14 @@ use Rattle.shore_model.specs.Logs.{logged_writes}
 use Rattle.shore_page.specs.Room.{Fits}
 use Rattle.shore_page.specs.Slots.{image_len}
 use Rattle.shore_room.proofs.Pages.{undo_fits}
-use Rattle.shore_sessions.specs.LogTells.{AreLogged}
-use Rattle.shore_sessions.specs.Sessions.{SessionTxn, with_undo}
-use Rattle.shore_sessions.proofs.Lists.{drop-whole}
-use Rattle.shore_sessions.specs.UndoLists.{MayRoll, UndoList, images_since, least_kept, mark_of, rolled_back, undo_rolled}
-use Rattle.shore_sessions.specs.Views.{IsAmong}
-use Rattle.shore_sessions.specs.Logged.{and_compensations}
-use Rattle.shore_sessions.specs.declared.rollbacks.Rollback.{Rollback}
-use Rattle.shore_sessions.specs.declared.rollbacks.Rollback.TheVariants.{To, Whole}
+use Rattle.shore_lives.specs.LogTells.{AreLogged}
+use Rattle.shore_lives.specs.Sessions.{SessionTxn, with_undo}
+use Rattle.shore_lives.proofs.Lists.{drop-whole}
+use Rattle.shore_lives.specs.UndoLists.{MayRoll, UndoList, images_since, least_kept, mark_of, rolled_back, undo_rolled}
+use Rattle.shore_lives.specs.Views.{IsAmong}
+use Rattle.shore_lives.specs.Logged.{and_compensations}
+use Rattle.shore_lives.specs.declared.rollbacks.Rollback.{Rollback}
+use Rattle.shore_lives.specs.declared.rollbacks.Rollback.TheVariants.{To, Whole}
 use Rattle.shore_lives.proofs.WholeLogs.{image_in_place}
 use Rattle.shore_calls.specs.declared.step.Step.TheVariants.{Done, Refused}
 use Rattle.shore_model.specs.declared.calls.Answer.TheVariants.{Aborted, WentBack}
@@ -38,14 +38,14 @@ use Rattle.shore_calls.proofs.SessionStates.{session_call_stays}
 use Rattle.shore_calls.proofs.AlikeEnds.{abort_alike, back_alike}
 use Rattle.shore_calls.proofs.Unwinding.{its_list, list_twice, rolled_on, same_mark}
 use Rattle.shore_analysis.specs.Meant.{IsInBounds}
-use Rattle.shore_bounds.proofs.LoggedIds.{logged_inside}
-use Rattle.shore_bounds.proofs.Opens.{records_inside}
-use Rattle.shore_bounds.proofs.Prefixes.{whole_roomy}
-use Rattle.shore_bounds.proofs.Running.{comes_leaving}
+use Rattle.shore_managers.proofs.LoggedIds.{logged_inside}
+use Rattle.shore_managers.proofs.Opens.{records_inside}
+use Rattle.shore_managers.proofs.Prefixes.{whole_roomy}
+use Rattle.shore_managers.proofs.Running.{comes_leaving}
 use Rattle.shore_disk.specs.declared.device.Disk as disk
 use Rattle.shore_log.specs.declared.tail.Tail as tail
 use Rattle.shore_model.specs.declared.log_records.LogRecord.{LogRecord}
-use Rattle.shore_recovery.specs.Recovery.{RecoveryState}
+use Rattle.shore_lives.specs.Recovery.{RecoveryState}
 use Rattle.shore_txn.specs.Transactions.{txns_in, undos_in}
 use Rattle.shore_undo.specs.Txns.{as_session_txn, entries_of}
 use Rattle.shore_undo.specs.UndoEntries.{image_of, images_of}

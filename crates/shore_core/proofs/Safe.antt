@@ -25,15 +25,15 @@ use Rattle.shore_path.specs.declared.answers.OnConflict.TheVariants.{Refuse}
 use Rattle.shore_held.specs.CallLocks.{Asked}
 use Rattle.shore_held.proofs.Held.{locked_of}
 use Rattle.shore_room.specs.Claims.{NoOthers}
-use Rattle.shore_sessions.proofs.GranuleLocks.{permitted}
-use Rattle.shore_sessions.specs.GranuleLocks.{HasLock}
-use Rattle.shore_sessions.specs.Sessions.{SessionTxn}
-use Rattle.shore_sessions.specs.Views.{IsAmong}
+use Rattle.shore_lives.proofs.GranuleLocks.{permitted}
+use Rattle.shore_lives.specs.GranuleLocks.{HasLock}
+use Rattle.shore_lives.specs.Sessions.{SessionTxn}
+use Rattle.shore_lives.specs.Views.{IsAmong}
 use Rattle.shore_heap.specs.Heaps as heaps
 use Rattle.shore_heap.specs.Heaps.{Shows}
-use Rattle.shore_recovery.specs.Recovery.{RecoveryState}
+use Rattle.shore_lives.specs.Recovery.{RecoveryState}
 use Rattle.shore_txn.specs.Transactions.{kept_in}
-use Rattle.shore_bounds.specs.RoomyStates.{LeavesRoomyLogs}
+use Rattle.shore_managers.specs.RoomyStates.{LeavesRoomyLogs}
 use Rattle.shore_calls.proofs.TakenLocks.{leaves, locked_state}
 use Rattle.shore_calls.specs.CallHistories.{IsForced, IsRoomyState}
 use Rattle.shore_calls.specs.CallSteps.{behind_lock, behind_place, lock_outcome, on_conflict_of, place_outcome, with_requests}

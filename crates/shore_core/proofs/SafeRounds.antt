@@ -16,11 +16,11 @@ use Rattle.shore_cycles.specs.Blockers.{is_victim}
 use Rattle.shore_cycles.specs.declared.victims.Victim.{Victim}
 use Rattle.shore_held.specs.CallLocks.{Asked, asked_by}
 use Rattle.shore_room.proofs.Leaving.{marked_slots}
-use Rattle.shore_sessions.specs.Sessions.{SessionTxn}
-use Rattle.shore_sessions.specs.UndoLists.{undo_rolled}
-use Rattle.shore_sessions.specs.declared.rollbacks.Rollback.TheVariants.{Whole}
-use Rattle.shore_sessions.specs.Views.{IsAmong}
-use Rattle.shore_bounds.proofs.Running.{comes_leaving}
+use Rattle.shore_lives.specs.Sessions.{SessionTxn}
+use Rattle.shore_lives.specs.UndoLists.{undo_rolled}
+use Rattle.shore_lives.specs.declared.rollbacks.Rollback.TheVariants.{Whole}
+use Rattle.shore_lives.specs.Views.{IsAmong}
+use Rattle.shore_managers.proofs.Running.{comes_leaving}
 use Rattle.shore_calls.proofs.SessionRooms.{comes_roomy}
 use Rattle.shore_calls.specs.CallHistories.{IsRoomyState}
 use Rattle.shore_calls.specs.CallSteps.{MayAsk, lock_outcome}

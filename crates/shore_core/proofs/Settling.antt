@@ -7,7 +7,7 @@ use Rattle.shore_types.specs.declared.layout.Geometry.{Geometry}
 use Rattle.shore_types.specs.declared.locking.Granule.{Granule}
 use Rattle.shore_model.specs.declared.calls.Call.{Call}
 use Rattle.shore_model.specs.declared.log_records.LogRecord.{LogRecord}
-use Rattle.shore_recovery.specs.Recovery.{RecoveryState}
+use Rattle.shore_lives.specs.Recovery.{RecoveryState}
 use Rattle.shore_held.specs.CallLocks.{Asked, asked_by}
 use Rattle.shore_calls.proofs.SessionInversions.{waits_in}
 use Rattle.shore_calls.specs.CallSteps.{CallStep, ResumeStep}

@@ -5,7 +5,7 @@ use Rattle.std.specs.Option.{IfNone}
 use Rattle.std.proofs.lemmas.List.{append_assoc}
 use Rattle.shore_types.specs.declared.layout.TheConstants.{GREATEST_CHECKPOINT, LAST_LSN, LONGEST_FRAME}
 use Rattle.shore_model.specs.declared.log_records.LogRecord.{LogRecord}
-use Rattle.shore_sessions.specs.Views.{IsAmong}
+use Rattle.shore_lives.specs.Views.{IsAmong}
 use Rattle.shore_room.specs.LogRooms.{owed_by_all}
 use Rattle.shore_txn.specs.Transactions.{room_in}
 use Rattle.shore_calls.specs.States.{HasRoomFor, State}

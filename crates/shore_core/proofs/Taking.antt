@@ -12,7 +12,7 @@ use Rattle.shore_page.specs.Slots.{Slot, image_at_slot}
 use Rattle.shore_page.specs.Undo.{claiming}
 use Rattle.shore_pool.specs.declared.frame.Frame.{Frame}
 use Rattle.shore_heap.specs.Contents.{HasSlots}
-use Rattle.shore_sessions.specs.Sessions.{SessionTxn}
+use Rattle.shore_lives.specs.Sessions.{SessionTxn}
 use Rattle.shore_room.specs.Claims.{Claimed, SlotCounts, rid_on, slots_of, undecided_at}
 use Rattle.shore_room.proofs.Leaving.{map_each}
 use Rattle.shore_room.proofs.Lists.{each_at}
@@ -30,13 +30,13 @@ use Rattle.shore_log.specs.declared.tail.Tail as tail
 use Rattle.shore_disk.specs.Device.{may_leave}
 use Rattle.shore_heap.specs.declared.heap.Heap.{Heap}
 use Rattle.shore_heap.specs.Heaps as heaps
-use Rattle.shore_logged.specs.LoggedHeaps.{LeavesStore}
-use Rattle.shore_logged.proofs.Left.{left_settled}
-use Rattle.shore_recovery.specs.Pages.{LoggedPages}
+use Rattle.shore_stands.specs.LoggedHeaps.{LeavesStore}
+use Rattle.shore_stands.proofs.LoggedLeft.{left_settled}
+use Rattle.shore_lives.specs.Pages.{LoggedPages}
 use Rattle.shore_heap.proofs.Finding.{ok_same}
 use Rattle.shore_core.specs.declared.core_calls.Core.{Core}
 use Rattle.shore_core.specs.Cores.{ComesTo, FailsOver, IsBeside, IsIn, IsKept, IsKeptBehind, IsOver, control_of, durable_of, geometry_of, has_failed, heap_of, tail_of, waiting_of}
-use Rattle.shore_recovery.specs.Recovery.{CrashMayLeave, RecoveryState}
+use Rattle.shore_lives.specs.Recovery.{CrashMayLeave, RecoveryState}
 use Rattle.shore_calls.specs.declared.step.Step.{Step}
 use Rattle.shore_calls.specs.declared.step.Step.TheVariants.{Refused}
 use Rattle.shore_model.specs.declared.calls.Call.{Call}

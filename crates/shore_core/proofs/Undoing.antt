@@ -21,9 +21,9 @@ use Rattle.shore_room.specs.Entries.{claim_before}
 use Rattle.shore_room.specs.LogRooms.{compensation_cost}
 use Rattle.shore_room.proofs.Entries.{unreserved}
 use Rattle.shore_room.proofs.Rooms.{undo_others}
-use Rattle.shore_sessions.specs.Logged.{next_to_undo}
-use Rattle.shore_sessions.specs.UndoLists.{marks_kept}
-use Rattle.shore_sessions.specs.declared.rollbacks.Rollback.{Rollback}
+use Rattle.shore_lives.specs.Logged.{next_to_undo}
+use Rattle.shore_lives.specs.UndoLists.{marks_kept}
+use Rattle.shore_lives.specs.declared.rollbacks.Rollback.{Rollback}
 use Rattle.shore_calls.specs.Rollbacks.{put_back}
 use Rattle.shore_calls.specs.States.{State, page_slots}
 use Rattle.shore_control.proofs.RollbackSteps.{undo_next_logged}
@@ -32,7 +32,7 @@ use Rattle.shore_txn.specs.ActiveTxns.{OneBecomes}
 use Rattle.shore_undo.specs.Txns.{IsAfterUndo, last_of, number_of}
 use Rattle.shore_txn.proofs.ActiveOthers.{each_becomes}
 use Rattle.shore_txn.proofs.OneOfMany.{among_map, among_middle}
-use Rattle.shore_logged.proofs.SlotImages.{count-with_image}
+use Rattle.shore_stands.proofs.SlotImages.{count-with_image}
 use Rattle.shore_logrec.specs.Text as text
 use Rattle.shore_logrec.specs.Text.{RidFits}
 use Rattle.shore_core.specs.Undoing.{IsNext}
@@ -41,8 +41,8 @@ use Rattle.shore_types.specs.Images.{Image}
 use Rattle.shore_types.specs.declared.ids.Rid.{Rid}
 use Rattle.shore_types.specs.declared.layout.TheConstants.{MAX_RECORD_BYTES}
 use Rattle.shore_page.specs.Slots.{image_len}
-use Rattle.shore_sessions.specs.Sessions.{SessionTxn}
-use Rattle.shore_sessions.specs.Views.{IsAmong}
+use Rattle.shore_lives.specs.Sessions.{SessionTxn}
+use Rattle.shore_lives.specs.Views.{IsAmong}
 use Rattle.shore_txn.specs.Transactions.{HasTxnOf, txns_in, undos_in}
 use Rattle.shore_undo.specs.Txns.{as_session_txn, entries_of}
 use Rattle.shore_undo.specs.UndoEntries.{AreShort, image_of, images_of, number_behind}

@@ -15,16 +15,16 @@ use Rattle.shore_control.specs.declared.waits.WaitingCall.{WaitingCall}
 use Rattle.shore_locks.specs.Tables.{Table}
 use Rattle.shore_txn.specs.Transactions.{kept_in}
 use Rattle.shore_txn.specs.declared.transactions.Transactions.{Transactions}
-use Rattle.shore_recovery.specs.Pages.{LoggedPages}
-use Rattle.shore_recovery.specs.Recovery.{CrashMayLeave, IsRecoverable, RecoveryEvent, RecoveryState}
+use Rattle.shore_lives.specs.Pages.{LoggedPages}
+use Rattle.shore_lives.specs.Recovery.{CrashMayLeave, IsRecoverable, RecoveryEvent, RecoveryState}
 use Rattle.shore_lives.specs.ManagerSteps.{WorksTo}
 use Rattle.shore_managers.specs.StoredRuns.{IsStored}
-use Rattle.shore_bounds.specs.RoomyStates.{LeavesRoomyLogs}
-use Rattle.shore_logged.specs.LoggedHeaps.{IsStoreOf, LeavesStore}
+use Rattle.shore_managers.specs.RoomyStates.{LeavesRoomyLogs}
+use Rattle.shore_stands.specs.LoggedHeaps.{IsStoreOf, LeavesStore}
 use Rattle.shore_model.specs.Records.{AreRecords}
 use Rattle.shore_types.specs.declared.locking.Granule.{Granule}
 use Rattle.shore_model.specs.declared.histories.Entry.{Entry}
-use Rattle.shore_sessions.specs.Views.{IsAmong}
+use Rattle.shore_lives.specs.Views.{IsAmong}
 use Rattle.shore_calls.specs.declared.step.Wait.TheVariants.{Lock}
 use Rattle.shore_calls.specs.CallHistories.{IsRoomyState}
 use Rattle.shore_calls.specs.CallSteps.{MayAsk}

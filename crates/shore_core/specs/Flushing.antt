@@ -7,7 +7,7 @@ use Rattle.shore_disk.specs.declared.device.Disk as disk
 use Rattle.shore_log.specs.declared.tail.Tail as tail
 use Rattle.shore_flush.specs.Flushes.{Flushes, NoneDue}
 use Rattle.shore_heap.specs.Heaps.{bounds_of, frame_at, pool_of}
-use Rattle.shore_recovery.specs.Recovery.{AppendRecord, FlushPage, ForceLog, LosePower, RecoveryEvent, RecoveryState, RedoRecord}
+use Rattle.shore_lives.specs.Recovery.{AppendRecord, FlushPage, ForceLog, LosePower, RecoveryEvent, RecoveryState, RedoRecord}
 use Rattle.shore_calls.specs.StateChanges.{with_failure}
 use Rattle.shore_calls.specs.States.{State}
 use Rattle.shore_calls.specs.declared.step.Step.{Step}

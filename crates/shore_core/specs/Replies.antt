@@ -8,7 +8,7 @@ use Rattle.shore_heap.specs.Heaps as heaps
 use Rattle.shore_heap.specs.Heaps.{LeavesPages, pool_of}
 use Rattle.shore_disk.specs.Device.{LeavesOnly, size}
 use Rattle.shore_pool.specs.Pools as pools
-use Rattle.shore_recovery.specs.Recovery.{RecoveryState}
+use Rattle.shore_lives.specs.Recovery.{RecoveryState}
 use Rattle.shore_types.specs.Layout.{HasPage}
 use Rattle.shore_types.specs.declared.faults.Device.{Device}
 use Rattle.shore_types.specs.declared.faults.Device.TheVariants.{Volume}
@@ -22,7 +22,7 @@ use Rattle.shore_model.specs.declared.calls.Call.TheVariants as call
 use Rattle.shore_model.specs.declared.log_records.LogRecord.{LogRecord}
 use Rattle.shore_calls.specs.declared.step.Step.{Step}
 use Rattle.shore_calls.specs.declared.step.Step.TheVariants.{Done, Waits, Refused, Nothing}
-use Rattle.shore_sessions.specs.Sessions.{SessionTxn}
+use Rattle.shore_lives.specs.Sessions.{SessionTxn}
 use Rattle.shore_calls.specs.StateChanges.{CanLog, MayChange, after_refusal}
 use Rattle.shore_calls.specs.CallSteps.{AnswersBehind, HasPlace, MayAsk, RefusesBehind, RefusesEarly, CallStep, behind_place}
 use Rattle.shore_calls.specs.Settling.{GoesSettled, SettledCall, SettledResume}
@@ -32,7 +32,7 @@ use Rattle.shore_room.specs.Claims.{SlotCounts}
 use Rattle.shore_control.specs.Standing.{changed}
 use Rattle.shore_txn.specs.Transactions.{HasNoTxnOf, undos_in}
 use Rattle.shore_control.specs.declared.waits.WaitingCall.{WaitingCall}
-use Rattle.shore_sessions.specs.Views.{IsAmong}
+use Rattle.shore_lives.specs.Views.{IsAmong}
 use Rattle.shore_calls.specs.States.{IsOfSession, State}
 use Rattle.shore_types.specs.declared.locking.Granule.TheVariants.{Record}
 use Rattle.shore_types.specs.declared.locking.Mode.TheVariants.{EX}

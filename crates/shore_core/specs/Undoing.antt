@@ -9,11 +9,11 @@ use Rattle.shore_types.specs.declared.ids.Rid.{Rid}
 use Rattle.shore_model.specs.declared.log_records.LogRecord.{LogRecord}
 use Rattle.shore_model.specs.declared.log_records.Payload.TheVariants.{Compensation}
 use Rattle.shore_page.specs.Slots.{image_len}
-use Rattle.shore_recovery.specs.Recovery.{RecoveryState}
+use Rattle.shore_lives.specs.Recovery.{RecoveryState}
 use Rattle.shore_room.specs.LogRooms.{compensation_cost}
-use Rattle.shore_sessions.specs.Sessions.{SessionTxn}
-use Rattle.shore_sessions.specs.Views.{IsAmong}
-use Rattle.shore_sessions.specs.declared.rollbacks.Rollback.{Rollback}
+use Rattle.shore_lives.specs.Sessions.{SessionTxn}
+use Rattle.shore_lives.specs.Views.{IsAmong}
+use Rattle.shore_lives.specs.declared.rollbacks.Rollback.{Rollback}
 use Rattle.shore_types.specs.declared.faults.Fault.TheVariants.{Memory}
 use Rattle.shore_calls.specs.CallSteps.{aborted}
 use Rattle.shore_calls.specs.Rollbacks.{Interrupts, put_back}

@@ -5,7 +5,7 @@ ghost use Rattle.shore_types.specs.declared.layout.TheConstants.{GREATEST_CHECKP
 ghost use Rattle.shore_model.specs.declared.calls.Call.TheVariants as Call;
 ghost use Rattle.shore_model.specs.declared.log_records.LogRecord.{LogRecord};
 ghost use Rattle.shore_disk.specs.Cause.{HasCause};
-ghost use Rattle.shore_recovery.specs.Recovery.{RecoveryState, after_force};
+ghost use Rattle.shore_lives.specs.Recovery.{RecoveryState, after_force};
 ghost use Rattle.shore_calls.specs.declared.step.Step.TheVariants as Step;
 ghost use Rattle.shore_calls.specs.StateChanges.{after_refusal, with_durable, with_failure};
 ghost use Rattle.shore_calls.specs.Events.{IsServed};
@@ -15,7 +15,7 @@ ghost use Rattle.shore_txn.specs.Transactions.{room_in};
 ghost use Rattle.shore_txn.specs.Transactions as table;
 ghost use Rattle.shore_undo.specs.Txns.{last_of};
 ghost use Rattle.shore_undo.specs.declared.txn.Txn.{Txn};
-ghost use Rattle.shore_sessions.specs.Views.{IsAmong};
+ghost use Rattle.shore_lives.specs.Views.{IsAmong};
 
 use shore_calls::{Step, Wait};
 use shore_control::Control;

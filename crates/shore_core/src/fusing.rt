@@ -2,7 +2,7 @@
 ghost use Rattle.std.specs.Prelude.{◌≡◌, ℕ, List};
 ghost use Rattle.shore_heap.specs.Heaps.{KeepsVolume};
 ghost use Rattle.shore_calls.specs.States.{State};
-ghost use Rattle.shore_recovery.specs.Recovery.{RecoveryState};
+ghost use Rattle.shore_lives.specs.Recovery.{RecoveryState};
 ghost use Rattle.shore_model.specs.declared.log_records.LogRecord.{LogRecord};
 
 use crate::core_calls::Core;

@@ -4,7 +4,7 @@ ghost use Rattle.shore_types.specs.declared.faults.Fault.TheVariants as Fault;
 ghost use Rattle.shore_log.specs.Settled.{IsSettled, records_of_log, stable};
 ghost use Rattle.shore_heap.specs.Heaps as heaps;
 ghost use Rattle.shore_calls.specs.States.{State};
-ghost use Rattle.shore_recovery.specs.Recovery.{RecoveryState};
+ghost use Rattle.shore_lives.specs.Recovery.{RecoveryState};
 
 use crate::core_calls::Core;
 use shore_disk::Disk;

@@ -7,8 +7,8 @@ ghost use Rattle.shore_heap.specs.Heaps.{Shows};
 ghost use Rattle.shore_control.specs.Controls.{txns_in};
 ghost use Rattle.shore_control.specs.Standing.{HasControl};
 ghost use Rattle.shore_txn.specs.Transactions as table;
-ghost use Rattle.shore_logged.specs.LoggedHeaps.{IsStoreOf};
-ghost use Rattle.shore_recovery.specs.Recovery.{RecoveryState};
+ghost use Rattle.shore_stands.specs.LoggedHeaps.{IsStoreOf};
+ghost use Rattle.shore_lives.specs.Recovery.{RecoveryState};
 
 use crate::core_calls::Core;
 use shore_control::Control;

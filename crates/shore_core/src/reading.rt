@@ -8,8 +8,8 @@ ghost use Rattle.shore_model.specs.declared.calls.Call.TheVariants as Call;
 ghost use Rattle.shore_disk.specs.Cause.{HasCause};
 ghost use Rattle.shore_page.specs.Slots.{image_at_slot};
 ghost use Rattle.shore_heap.specs.Heaps.{frame_of};
-ghost use Rattle.shore_sessions.specs.Sessions.{SessionTxn};
-ghost use Rattle.shore_sessions.specs.Views.{IsAmong};
+ghost use Rattle.shore_lives.specs.Sessions.{SessionTxn};
+ghost use Rattle.shore_lives.specs.Views.{IsAmong};
 ghost use Rattle.shore_calls.specs.CallSteps.{RefusesRead};
 ghost use Rattle.shore_calls.specs.StateChanges.{IsPageFault};
 

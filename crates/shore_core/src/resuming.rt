@@ -1,7 +1,7 @@
 //! Going on with calls that wait.
 ghost use Rattle.std.specs.Prelude.{◌≡◌, ◌≤◌, ◌<◌, IsFalse, IsTrue, Ok, false};
 ghost use Rattle.shore_disk.specs.Cause.{HasCause};
-ghost use Rattle.shore_sessions.specs.Views.{IsAmong};
+ghost use Rattle.shore_lives.specs.Views.{IsAmong};
 ghost use Rattle.shore_calls.specs.declared.step.Wait.TheVariants as Wait;
 ghost use Rattle.shore_calls.specs.States.{Waiting};
 

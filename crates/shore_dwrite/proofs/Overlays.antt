@@ -8,9 +8,6 @@ use Rattle.shore_dwrite.specs.Shown.{AreImages, overlaid}
 use Rattle.shore_dwrite.specs.Volumes.{part, IsImageOf}
 use Rattle.shore_dwrite.proofs.Overwrites.{take_again}
 
-contained_behind : (n k : ℕ) (ns : List ℕ) → Contains ns k → Contains (n ∷ ns) k
-contained_behind n k ns has = (suc has.0, omega (arith, has.1), has.2)
-
 -- one who is in a list but not at its front
 not_contained : (n k : ℕ) (ns : List ℕ) → (n ≡ k → ⊥) → (Contains ns k → ⊥) → Contains (n ∷ ns) k → ⊥
 not_contained n k ns other none (zero, inside, is) = other is

@@ -45,11 +45,6 @@ page_stops pages table n i low before bad =
       | inr more ↦ and_right (nat_le low (cell (i + 1) table)) (nat_lt (cell (i + 1) table) pages) (false_from_ne_true (nat_lt (cell (i + 1) table) pages) (λ is. absurd (omega (arith, ltb-true (cell (i + 1) table) pages is))))
     ])
 
-pub page_ends : (pages : ℕ) (table : List ℕ) (n i low : ℕ) → n ≤ i → page_verdict pages table i low (n - i) ≡ Ok tt
-page_ends pages table n i low end =
-    let none : n - i ≡ 0 = omega arith in
-    ap (page_verdict pages table i low) none
-
 -- the first entries are read
 pub record HasRead (table : List ℕ) (pages : ℕ) (numbers : List ℕ) (i low : ℕ) : Type 0 where
   pub length_is : length numbers ≡ i
@@ -61,15 +56,6 @@ pub record HasRead (table : List ℕ) (pages : ℕ) (numbers : List ℕ) (i low 
 rise_push : (low k : ℕ) (ns : List ℕ) → RiseFrom low ns → All (λ n. n < k) ns → low ≤ k → RiseFrom low (ns ++ k ∷ [])
 rise_push low k [] rise below le = (le, tt)
 rise_push low k (n ∷ ns) rise below le = (rise.0, rise_push (n + 1) k ns rise.1 (All-tail (λ n. n < k) n ns below) (omega (arith, All-head (λ n. n < k) n ns below)))
-
-pub read_none : (table : List ℕ) (pages : ℕ) → HasRead table pages [] 0 0
-read_none table pages = record {
-  length_is = refl;
-  entries = λ j k got. absurd (omega (arith, slice_get_within [] j k got));
-  rise = tt;
-  below = All-nil (λ k. k < 0);
-  on_volume = All-nil (λ k. k < pages);
-}
 
 pub read_more : (table : List ℕ) (pages : ℕ) (numbers : List ℕ) (i low k : ℕ) → HasRead table pages numbers i low → k ≡ cell (i + 1) table → low ≤ k → k < pages → HasRead table pages (numbers ++ k ∷ []) (i + 1) (k + 1)
 read_more table pages numbers i low k so_far is least most = record {

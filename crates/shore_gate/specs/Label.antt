@@ -10,6 +10,7 @@ use Rattle.shore_types.specs.declared.faults.Fault.TheVariants.{NotFormatted, Wr
 use Rattle.shore_types.specs.declared.layout.TheConstants.{LEAST_MAX_LOCKS, MAX_LOG_BYTES, MAX_PAGES, MAX_STORES, MIN_LOG_BYTES, MOST_MAX_LOCKS, PAGE_BYTES, VERSION}
 use Rattle.shore_gate.specs.declared.gates.TheConstants.{OPEN}
 use Rattle.shore_gate.specs.declared.labels.Label.{Label}
+use Rattle.shore_gate.specs.declared.labels.TheConstants.{LEAST_DEVICE_BYTES, VOLUME_HEAD_BYTES}
 use Rattle.shore_gate.specs.Numbers.{number_at, numbers_at, are_zero}
 use Rattle.shore_gate.specs.Checks.{Check, check, judged, is_within}
 
@@ -30,7 +31,7 @@ label_bytes device label = label_head device label ++ flat_map (little_bytes 4) 
 -- the lengths that a device with so many pages may have
 abbrev pub HasLength : Device → ℕ → ℕ → Type 0
 HasLength Log pages bytes = (MIN_LOG_BYTES ≤ bytes) × (bytes ≤ MAX_LOG_BYTES)
-HasLength Volume pages bytes = bytes ≡ 270336 + PAGE_BYTES * pages
+HasLength Volume pages bytes = bytes ≡ VOLUME_HEAD_BYTES + PAGE_BYTES * pages
 
 -- within the limits, on a device of this length
 pub record IsLabel (device : Device) (bytes : ℕ) (label : Label) : Type 0 where
@@ -57,12 +58,12 @@ may_be_long Volume bytes = true
 -- whether a device of so many pages has this length
 abbrev pub is_filled : Device → ℕ → ℕ → Bool
 is_filled Log pages bytes = true
-is_filled Volume pages bytes = bytes == 270336 + PAGE_BYTES * pages
+is_filled Volume pages bytes = bytes == VOLUME_HEAD_BYTES + PAGE_BYTES * pages
 
 -- what tells that it is a label of this version, and of this device
 abbrev pub kind_checks : Device → ℕ → List ℕ → List Check
 kind_checks device size bytes =
-    check (nat_le 4096 size) NotFormatted
+    check (nat_le LEAST_DEVICE_BYTES size) NotFormatted
     ∷ check (slice_index bytes 0 == OPEN) NotFormatted
     ∷ check (slice_index bytes 1 == kind_of device) NotFormatted
     ∷ check (number_at bytes 2 2 == VERSION) WrongVersion

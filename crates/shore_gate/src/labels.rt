@@ -147,7 +147,7 @@ fn push_stores(bytes: &mut Vec<u8>, stores: &[u32]) -> Result<(), AllocError>
 
 // The label that the bytes of a device of this length hold.
 fn decode_label(alloc: Global, device: Device, len: u64, bytes: &[u8]) -> Result<Label, Fault>
-    requires long { 4096 ≤ len }
+    requires long { LEAST_DEVICE_BYTES ≤ len }
     requires whole { length bytes.now ≡ 512 }
     ensures found { IfOk result (HoldsLabel device len bytes.now) }
     ensures only { (label : Label) → HoldsLabel device len bytes.now label → MatchResult result (λ l. l ≡ label) (λ fault. fault ≡ Fault.Memory) }
@@ -165,7 +165,7 @@ fn decode_label(alloc: Global, device: Device, len: u64, bytes: &[u8]) -> Result
 
 // Makes each check, and answers the pages of the stores.
 fn check_label(alloc: Global, device: Device, len: u64, bytes: &[u8]) -> Result<Vec<u32>, Fault>
-    requires long { 4096 ≤ len }
+    requires long { LEAST_DEVICE_BYTES ≤ len }
     requires whole { length bytes.now ≡ 512 }
     ensures passed { IfOk result (λ stores. (label_verdict device len bytes.now ≡ Ok tt) × (stores.items ≡ stores_of bytes.now)) }
     ensures refused { IfErr result (λ fault. (fault ≡ Fault.Memory) ⊎ (label_verdict device len bytes.now ≡ Err fault)) }
@@ -180,7 +180,7 @@ fn check_label(alloc: Global, device: Device, len: u64, bytes: &[u8]) -> Result<
 
 fn check_kind(device: Device, bytes: &[u8]) -> Result<(), Fault>
     requires { length bytes.now ≡ 512 }
-    ensures { (len : ℕ) → 4096 ≤ len → result ≡ judged (kind_checks device len bytes.now) }
+    ensures { (len : ℕ) → LEAST_DEVICE_BYTES ≤ len → result ≡ judged (kind_checks device len bytes.now) }
 {
     if !is_open(bytes[0]) || bytes[1] != kind_byte(device) {
         return Err(Fault::NotFormatted);

@@ -8,7 +8,7 @@ pub use Rattle.shore_page.specs.Claims.{FitIn, Kept, claimed_by, unclaimed}
 use Rattle.shore_page.specs.Room.{Fits}
 use Rattle.shore_page.specs.Slots.{Slot, image_at_slot, settled}
 use Rattle.shore_page.specs.Text.{IsPageText, images_of}
-use Rattle.shore_freemap.specs.Bounds.{bound_at}
+use Rattle.shore_heap.specs.Bounds.{bound_at}
 use Rattle.shore_pool.specs.declared.frame.Frame.{Frame}
 
 -- a frame whose slots keep so much more

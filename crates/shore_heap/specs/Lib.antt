@@ -1,4 +1,6 @@
+pub mod Bounds
 pub mod Contents
 pub mod Heaps
+pub mod Maxima
 pub mod Places
 pub mod Scans

@@ -15,10 +15,10 @@ ghost use Rattle.shore_types.specs.declared.ids.PageId.{PageId};
 ghost use Rattle.shore_types.specs.declared.layout.TheConstants.{MAX_PAGES, MAX_RECORD_BYTES, MIN_POOL_FRAMES};
 ghost use Rattle.shore_heap.specs.Contents.{FitIn, Kept, bound_of, claimed_by, unclaimed, with_slots};
 
+use crate::free_map::FreeMap;
 use crate::maps::unknown_maps;
 use shore_disk::{Disk, FuseDisk};
 use shore_dwrite::PageDev;
-use shore_freemap::FreeMap;
 use shore_page::Page;
 use shore_pool::Pool;
 use shore_types::{Fault, Geometry, Lsn, PageId, Rid};

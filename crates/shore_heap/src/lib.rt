@@ -1,12 +1,14 @@
-//! Records in the pages of a pool: a heap file for each store of a volume.
+//! Records in the pages of a pool: a heap file for each store of a volume, with a free space map, which knows of each page how many bytes do not find room there.
 #![tactic(auto)]
 
 mod choices;
 mod fetching;
 mod flushing;
+mod free_map;
 mod heap;
 mod laws;
 mod maps;
+mod maxima;
 mod places;
 mod scans;
 mod slots;

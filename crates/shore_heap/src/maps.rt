@@ -2,7 +2,7 @@
 ghost use Rattle.std.specs.Prelude.{◌≡◌, ◌+◌, ◌≤◌, IfOk, map, replicate, sum};
 ghost use Rattle.shore_types.specs.declared.layout.TheConstants.{MAX_PAGES, MAX_RECORD_BYTES};
 
-use shore_freemap::FreeMap;
+use crate::free_map::FreeMap;
 use shore_types::Geometry;
 use std::alloc::{AllocError, Global};
 

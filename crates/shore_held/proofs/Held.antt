@@ -31,10 +31,10 @@ use Rattle.shore_path.proofs.Freeing.{rooted_released, weaker_released}
 use Rattle.shore_path.proofs.Harmonies.{harmony_of}
 use Rattle.shore_path.proofs.Intentions.{are_rooted, rooted_of, well_rooted}
 use Rattle.shore_path.proofs.Holding.{enough_of, holder_from_lock, holder_of, holding, lock_from_holder}
-use Rattle.shore_sessions.specs.GranuleLocks.{HasLock, HasLocksFor}
-use Rattle.shore_sessions.specs.SessionSteps.{KeepsLocks, MoveLocks, StepsTo}
-use Rattle.shore_sessions.specs.Sessions.{Sessions, locks_moved, txns_of}
-use Rattle.shore_sessions.specs.Views.{IsAmong}
+use Rattle.shore_lives.specs.GranuleLocks.{HasLock, HasLocksFor}
+use Rattle.shore_lives.specs.SessionSteps.{KeepsLocks, MoveLocks, StepsTo}
+use Rattle.shore_lives.specs.Sessions.{Sessions, locks_moved, txns_of}
+use Rattle.shore_lives.specs.Views.{IsAmong}
 use Rattle.shore_held.specs.CallLocks.{Asked, asked_by, asked_for}
 
 -- what a transaction holds by requests of which none of its own becomes weaker

@@ -21,10 +21,10 @@ ghost use Rattle.shore_path.specs.declared.answers.OnConflict.TheVariants.{Refus
 ghost use Rattle.shore_path.specs.Walks.{acquired};
 ghost use Rattle.shore_path.specs.Acquires.{IsReached, NoneWeaker, OthersOnlyGranted};
 ghost use Rattle.shore_path.specs.Rooted.{AreRooted};
-ghost use Rattle.shore_sessions.specs.GranuleLocks.{HasLock, HasLocksFor};
-ghost use Rattle.shore_sessions.specs.SessionSteps.{KeepsLocks, MoveLocks, StepsTo};
-ghost use Rattle.shore_sessions.specs.Sessions.{Sessions, locks_moved, txns_of};
-ghost use Rattle.shore_sessions.specs.Views.{IsAmong};
+ghost use Rattle.shore_lives.specs.GranuleLocks.{HasLock, HasLocksFor};
+ghost use Rattle.shore_lives.specs.SessionSteps.{KeepsLocks, MoveLocks, StepsTo};
+ghost use Rattle.shore_lives.specs.Sessions.{Sessions, locks_moved, txns_of};
+ghost use Rattle.shore_lives.specs.Views.{IsAmong};
 ghost use Rattle.shore_held.specs.Acquires.{Leaves};
 ghost use Rattle.shore_held.specs.CallLocks.{Asked, CanLockNow, asked_by};
 

@@ -14,14 +14,14 @@ use Rattle.shore_model.specs.Histories.{acknowledged, acknowledged_by, asked_by}
 use Rattle.shore_model.specs.Logs.{commit_of, committed_in, is_commit}
 use Rattle.shore_model.specs.Records.{Records}
 use Rattle.shore_model.proofs.RecordPaths.{head_contained, rest_contained}
-use Rattle.shore_sessions.proofs.Lists.{recursion-push}
-use Rattle.shore_sessions.proofs.LogPrefixes.{decisions_in-take}
-use Rattle.shore_sessions.proofs.Members.{among_with, among_without}
-use Rattle.shore_sessions.specs.LogPrefixes.{decisions_in}
-use Rattle.shore_sessions.specs.SessionSteps.{AnswerAbort, AnswerCommit, AppendCommit, BeginTxn, Doom, GiveReply, IsInnerCall, MoveLocks, PutBack, RefuseCall, SessionEvent, StepsTo, entries_by}
-use Rattle.shore_sessions.specs.Sessions.{IsCurrent, SessionTxn, Sessions, with_undo}
-use Rattle.shore_sessions.specs.UndoLists.{UndoList}
-use Rattle.shore_sessions.specs.Views.{IsAmong}
+use Rattle.shore_lives.proofs.Lists.{recursion-push}
+use Rattle.shore_lives.proofs.LogPrefixes.{decisions_in-take}
+use Rattle.shore_lives.proofs.Members.{among_with, among_without}
+use Rattle.shore_lives.specs.LogPrefixes.{decisions_in}
+use Rattle.shore_lives.specs.SessionSteps.{AnswerAbort, AnswerCommit, AppendCommit, BeginTxn, Doom, GiveReply, IsInnerCall, MoveLocks, PutBack, RefuseCall, SessionEvent, StepsTo, entries_by}
+use Rattle.shore_lives.specs.Sessions.{IsCurrent, SessionTxn, Sessions, with_undo}
+use Rattle.shore_lives.specs.UndoLists.{UndoList}
+use Rattle.shore_lives.specs.Views.{IsAmong}
 
 -- ---- elements of lists
 

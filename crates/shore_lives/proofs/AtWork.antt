@@ -6,15 +6,15 @@ use Rattle.shore_types.specs.declared.ids.Rid.{Rid}
 use Rattle.shore_model.specs.declared.histories.Entry.{Entry}
 use Rattle.shore_model.specs.Histories.{acknowledged}
 use Rattle.shore_model.specs.Records.{Records}
-use Rattle.shore_recovery.proofs.Invariant.{redone_whole}
-use Rattle.shore_recovery.specs.Recovery.{IsRecoverable, RecoveryState}
-use Rattle.shore_sessions.proofs.Lists.{recursion-weaker}
-use Rattle.shore_sessions.proofs.LogDecisions.{event_decides}
-use Rattle.shore_sessions.specs.LogPrefixes.{LogDecides, decisions_in}
-use Rattle.shore_sessions.specs.Logged.{log_after}
-use Rattle.shore_sessions.specs.SessionSteps.{AnswerCommit, SessionEvent, StepsTo, entries_by}
-use Rattle.shore_sessions.specs.Sessions.{Sessions}
-use Rattle.shore_sessions.specs.Views.{IsAmong}
+use Rattle.shore_lives.proofs.Invariant.{redone_whole}
+use Rattle.shore_lives.specs.Recovery.{IsRecoverable, RecoveryState}
+use Rattle.shore_lives.proofs.Lists.{recursion-weaker}
+use Rattle.shore_lives.proofs.LogDecisions.{event_decides}
+use Rattle.shore_lives.specs.LogPrefixes.{LogDecides, decisions_in}
+use Rattle.shore_lives.specs.Logged.{log_after}
+use Rattle.shore_lives.specs.SessionSteps.{AnswerCommit, SessionEvent, StepsTo, entries_by}
+use Rattle.shore_lives.specs.Sessions.{Sessions}
+use Rattle.shore_lives.specs.Views.{IsAmong}
 use Rattle.shore_lives.proofs.Acknowledged.{NumbersAreNew, commit_is_own, event_acknowledges, new_in_longer, numbers_stay_new, still_decided}
 use Rattle.shore_lives.proofs.WholeLogs.{image_in_place}
 use Rattle.shore_lives.proofs.WholeRuns.{AllHold, event_keeps_all}

@@ -15,21 +15,21 @@ use Rattle.shore_model.specs.declared.log_records.LogRecord.{LogRecord}
 use Rattle.shore_model.specs.declared.log_records.Payload.TheVariants.{Compensation, Commit, End}
 use Rattle.shore_model.specs.Logs.{commit_of, committed_in, previous_of, records_told}
 use Rattle.shore_model.specs.Records.{Records}
-use Rattle.shore_recovery.proofs.ComesThrough.{comes_through}
-use Rattle.shore_recovery.proofs.Invariant.{crash_stands, from_the_first}
-use Rattle.shore_recovery.proofs.Restarts.{events_restart, restart_shows}
-use Rattle.shore_recovery.specs.Recovery.{AppendRecord, ForceLog, IsRecoverable, RecoveryEvent, RecoveryState, after_append, after_force}
-use Rattle.shore_recovery.specs.Restarts.{IsRestartOf, RestartsTo}
-use Rattle.shore_recovery.specs.Undo.{HasNoLosers}
-use Rattle.shore_sessions.proofs.Lists.{recursion-weaker}
-use Rattle.shore_sessions.proofs.LogTells.{committed_one}
-use Rattle.shore_sessions.proofs.Members.{among_without}
-use Rattle.shore_sessions.specs.Logged.{and_compensations, and_record, and_rollback, log_after, log_after_answer, log_after_reply, next_to_undo}
-use Rattle.shore_sessions.specs.SessionSteps.{AnswerAbort, AnswerCommit, AppendCommit, BeginTxn, Doom, GiveReply, MoveLocks, PutBack, RefuseCall, SessionEvent, StepsTo, entries_by}
-use Rattle.shore_sessions.specs.Sessions.{SessionTxn, Sessions}
-use Rattle.shore_sessions.specs.Soundness.{RunsTo}
-use Rattle.shore_sessions.specs.UndoLists.{images_since}
-use Rattle.shore_sessions.specs.Views.{IsAmong}
+use Rattle.shore_lives.proofs.ComesThrough.{comes_through}
+use Rattle.shore_lives.proofs.Invariant.{crash_stands, from_the_first}
+use Rattle.shore_lives.proofs.Restarts.{events_restart, restart_shows}
+use Rattle.shore_lives.specs.Recovery.{AppendRecord, ForceLog, IsRecoverable, RecoveryEvent, RecoveryState, after_append, after_force}
+use Rattle.shore_lives.specs.Restarts.{IsRestartOf, RestartsTo}
+use Rattle.shore_lives.specs.Undo.{HasNoLosers}
+use Rattle.shore_lives.proofs.Lists.{recursion-weaker}
+use Rattle.shore_lives.proofs.LogTells.{committed_one}
+use Rattle.shore_lives.proofs.Members.{among_without}
+use Rattle.shore_lives.specs.Logged.{and_compensations, and_record, and_rollback, log_after, log_after_answer, log_after_reply, next_to_undo}
+use Rattle.shore_lives.specs.SessionSteps.{AnswerAbort, AnswerCommit, AppendCommit, BeginTxn, Doom, GiveReply, MoveLocks, PutBack, RefuseCall, SessionEvent, StepsTo, entries_by}
+use Rattle.shore_lives.specs.Sessions.{SessionTxn, Sessions}
+use Rattle.shore_lives.specs.Soundness.{RunsTo}
+use Rattle.shore_lives.specs.UndoLists.{images_since}
+use Rattle.shore_lives.specs.Views.{IsAmong}
 use Rattle.shore_lives.proofs.AtWork.{IsAtWork, stays_at_work}
 use Rattle.shore_lives.proofs.Openings.{opens_at_work}
 use Rattle.shore_lives.proofs.Stretches.{up_is_at_work}

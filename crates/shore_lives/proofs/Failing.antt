@@ -8,15 +8,15 @@ use Rattle.shore_model.specs.declared.histories.Entry.{Entry}
 use Rattle.shore_model.specs.Histories.{Kept, acknowledged, decisions, serial}
 use Rattle.shore_model.specs.Logs.{Lawful, is_prepare, records_told}
 use Rattle.shore_model.specs.Records.{Records}
-use Rattle.shore_recovery.proofs.UndoRecords.{lawful_front}
-use Rattle.shore_recovery.specs.Recovery.{IsRecoverable, RecoveryState}
-use Rattle.shore_sessions.proofs.Lists.{recursion-take, recursion-weaker}
-use Rattle.shore_sessions.proofs.LogDecisions.{event_midst}
-use Rattle.shore_sessions.proofs.LogPrefixes.{decisions_in-take}
-use Rattle.shore_sessions.specs.LogPrefixes.{PrefixesTell, TellsItsDecisions, decisions_in}
-use Rattle.shore_sessions.specs.Logged.{log_after}
-use Rattle.shore_sessions.specs.Soundness.{written_by}
-use Rattle.shore_sessions.specs.Views.{IsAmong}
+use Rattle.shore_lives.proofs.UndoRecords.{lawful_front}
+use Rattle.shore_lives.specs.Recovery.{IsRecoverable, RecoveryState}
+use Rattle.shore_lives.proofs.Lists.{recursion-take, recursion-weaker}
+use Rattle.shore_lives.proofs.LogDecisions.{event_midst}
+use Rattle.shore_lives.proofs.LogPrefixes.{decisions_in-take}
+use Rattle.shore_lives.specs.LogPrefixes.{PrefixesTell, TellsItsDecisions, decisions_in}
+use Rattle.shore_lives.specs.Logged.{log_after}
+use Rattle.shore_lives.specs.Soundness.{written_by}
+use Rattle.shore_lives.specs.Views.{IsAmong}
 use Rattle.shore_lives.proofs.Acknowledged.{among_contained, still_decided}
 use Rattle.shore_lives.proofs.AtWork.{AcknowledgedAreDurable, IsAtWork, durable_after_work}
 use Rattle.shore_lives.proofs.WholeLogs.{tells_the_committed}

@@ -7,17 +7,17 @@ use Rattle.shore_model.specs.declared.log_records.LogRecord.{LogRecord}
 use Rattle.shore_model.specs.declared.unanswered_changes.UnansweredChange.{UnansweredChange}
 use Rattle.shore_model.specs.Histories.{serial}
 use Rattle.shore_model.specs.Logs.{committed_in, is_commit, is_prepare, records_told, unanswered}
-use Rattle.shore_recovery.proofs.Restarts.{events_restart, restart_shows}
-use Rattle.shore_recovery.proofs.UndoRecords.{undone_front, undone_lawful, undone_tells}
-use Rattle.shore_recovery.specs.Recovery.{IsRecoverable, RecoveryEvent, RecoveryState}
-use Rattle.shore_recovery.specs.Restarts.{IsRestartOf, RestartsTo}
-use Rattle.shore_recovery.specs.Undo.{HasNoLosers, IsUndoneTo, undo_payload, undo_record}
-use Rattle.shore_sessions.proofs.Lists.{drop-whole, length-push, recursion-push, recursion-take}
-use Rattle.shore_sessions.proofs.LogPrefixes.{decisions_same}
-use Rattle.shore_sessions.specs.LogPrefixes.{PrefixesTell, decisions_in}
-use Rattle.shore_sessions.specs.Sessions.{Sessions}
-use Rattle.shore_sessions.specs.Soundness.{written_by}
-use Rattle.shore_sessions.specs.Views.{IsAmong}
+use Rattle.shore_lives.proofs.Restarts.{events_restart, restart_shows}
+use Rattle.shore_lives.proofs.UndoRecords.{undone_front, undone_lawful, undone_tells}
+use Rattle.shore_lives.specs.Recovery.{IsRecoverable, RecoveryEvent, RecoveryState}
+use Rattle.shore_lives.specs.Restarts.{IsRestartOf, RestartsTo}
+use Rattle.shore_lives.specs.Undo.{HasNoLosers, IsUndoneTo, undo_payload, undo_record}
+use Rattle.shore_lives.proofs.Lists.{drop-whole, length-push, recursion-push, recursion-take}
+use Rattle.shore_lives.proofs.LogPrefixes.{decisions_same}
+use Rattle.shore_lives.specs.LogPrefixes.{PrefixesTell, decisions_in}
+use Rattle.shore_lives.specs.Sessions.{Sessions}
+use Rattle.shore_lives.specs.Soundness.{written_by}
+use Rattle.shore_lives.specs.Views.{IsAmong}
 use Rattle.shore_lives.proofs.AtWork.{IsAtWork}
 use Rattle.shore_lives.proofs.WholeLogs.{tells_the_committed}
 use Rattle.shore_lives.proofs.WholeRuns.{AllHold, open_is_whole}

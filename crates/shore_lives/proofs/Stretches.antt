@@ -1,7 +1,7 @@
 -- A manager that is up after a restart.
 use Rattle.std.proofs.Common.{◌≡◌, [], length}
 use Rattle.shore_model.specs.Logs.{records_told}
-use Rattle.shore_recovery.specs.Recovery.{RecoveryState}
+use Rattle.shore_lives.specs.Recovery.{RecoveryState}
 use Rattle.shore_lives.proofs.AtWork.{IsAtWork, all_stay_at_work}
 use Rattle.shore_lives.proofs.Openings.{open_shows_found, opens_at_work}
 use Rattle.shore_lives.specs.Stretches.{IsUpAfter, MayBeFound, Stretch}

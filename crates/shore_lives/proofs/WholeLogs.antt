@@ -14,20 +14,20 @@ use Rattle.shore_model.specs.declared.log_records.Payload.TheVariants.{Compensat
 use Rattle.shore_model.specs.Locks.{MayWrite}
 use Rattle.shore_model.specs.Logs.{Lawful, LeavesFree, MayFollow, NoOtherChanged, has, id_in, image_of_record, is_commit, is_end, is_in_doubt, is_of_checkpoint, is_over, is_prepare, is_rollback, is_undoable, is_unprepared, logged_writes, prepare_of, previous_of, records_told, unanswered}
 use Rattle.shore_model.specs.Records.{Records, overlays}
-use Rattle.shore_recovery.proofs.OneMore.{has-not_its, id_itself, writes_none}
-use Rattle.shore_recovery.proofs.UndoRecords.{lawful_next}
-use Rattle.shore_recovery.proofs.Writers.{never_true, one_writer_at_most, same_or_not}
-use Rattle.shore_recovery.specs.Writers.{HasOneWriterAtMost, changes_id, is_this_id}
-use Rattle.shore_sessions.proofs.EndedTxns.{over_same}
-use Rattle.shore_sessions.proofs.Lists.{recursion-push}
-use Rattle.shore_sessions.proofs.LogSteps.{disjoint}
-use Rattle.shore_sessions.proofs.LoggedInPlace.{stand_logged}
-use Rattle.shore_sessions.proofs.UnansweredChanges.{compensation_answers, unanswered_other}
-use Rattle.shore_sessions.specs.LogTells.{IsLogAfter, MatchesUndo, records_committed}
-use Rattle.shore_sessions.specs.Logged.{and_compensations, and_record, next_to_undo}
-use Rattle.shore_sessions.specs.Sessions.{Sessions, txns_of}
-use Rattle.shore_sessions.specs.Soundness.{IsSoundAfter}
-use Rattle.shore_sessions.specs.Views.{IsAmong}
+use Rattle.shore_lives.proofs.OneMore.{has-not_its, id_itself, writes_none}
+use Rattle.shore_lives.proofs.UndoRecords.{lawful_next}
+use Rattle.shore_lives.proofs.Writers.{never_true, one_writer_at_most, same_or_not}
+use Rattle.shore_lives.specs.Writers.{HasOneWriterAtMost, changes_id, is_this_id}
+use Rattle.shore_lives.proofs.EndedTxns.{over_same}
+use Rattle.shore_lives.proofs.Lists.{recursion-push}
+use Rattle.shore_lives.proofs.LogSteps.{disjoint}
+use Rattle.shore_lives.proofs.LoggedInPlace.{stand_logged}
+use Rattle.shore_lives.proofs.UnansweredChanges.{compensation_answers, unanswered_other}
+use Rattle.shore_lives.specs.LogTells.{IsLogAfter, MatchesUndo, records_committed}
+use Rattle.shore_lives.specs.Logged.{and_compensations, and_record, next_to_undo}
+use Rattle.shore_lives.specs.Sessions.{Sessions, txns_of}
+use Rattle.shore_lives.specs.Soundness.{IsSoundAfter}
+use Rattle.shore_lives.specs.Views.{IsAmong}
 use Rattle.shore_lives.specs.WholeLogs.{HasNoPrepare, IsWholeLog}
 
 -- ---- nobody has prepared

@@ -5,15 +5,15 @@ use Rattle.shore_model.specs.declared.histories.Entry.{Entry}
 use Rattle.shore_model.specs.declared.log_records.LogRecord.{LogRecord}
 use Rattle.shore_model.specs.Logs.{records_told}
 use Rattle.shore_model.specs.Records.{Records}
-use Rattle.shore_sessions.proofs.LogSteps.{event_keeps_log, open_has_log}
-use Rattle.shore_sessions.proofs.SessionsAgree.{event_agrees, open_agrees}
-use Rattle.shore_sessions.proofs.Steps.{event_stays_sound, open_is_sound}
-use Rattle.shore_sessions.specs.LogTells.{IsLogAfter}
-use Rattle.shore_sessions.specs.Logged.{log_after}
-use Rattle.shore_sessions.specs.SessionSteps.{SessionEvent, StepsTo, entries_by}
-use Rattle.shore_sessions.specs.Sessions.{Sessions, txns_of}
-use Rattle.shore_sessions.specs.Soundness.{IsSoundAfter, SessionsAgree}
-use Rattle.shore_sessions.specs.Views.{IsAmong}
+use Rattle.shore_lives.proofs.LogSteps.{event_keeps_log, open_has_log}
+use Rattle.shore_lives.proofs.SessionsAgree.{event_agrees, open_agrees}
+use Rattle.shore_lives.proofs.Steps.{event_stays_sound, open_is_sound}
+use Rattle.shore_lives.specs.LogTells.{IsLogAfter}
+use Rattle.shore_lives.specs.Logged.{log_after}
+use Rattle.shore_lives.specs.SessionSteps.{SessionEvent, StepsTo, entries_by}
+use Rattle.shore_lives.specs.Sessions.{Sessions, txns_of}
+use Rattle.shore_lives.specs.Soundness.{IsSoundAfter, SessionsAgree}
+use Rattle.shore_lives.specs.Views.{IsAmong}
 use Rattle.shore_lives.proofs.WholeLogs.{none_in_doubt, tells_the_committed}
 use Rattle.shore_lives.proofs.WholeSteps.{event_stays_whole}
 use Rattle.shore_lives.specs.WholeLogs.{IsOpenOn, IsWholeLog, RunsWithLog}

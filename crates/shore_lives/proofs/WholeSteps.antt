@@ -18,25 +18,25 @@ use Rattle.shore_model.specs.declared.log_records.Payload.TheVariants.{Change, C
 use Rattle.shore_model.specs.Locks.{MayWrite}
 use Rattle.shore_model.specs.Logs.{MayFollow, has, is_commit, is_end, is_in_doubt, is_over, is_prepare, last_of, previous_of, unanswered}
 use Rattle.shore_model.specs.Records.{Records, put_image}
-use Rattle.shore_recovery.proofs.OneMore.{by_push, has-not_this}
-use Rattle.shore_recovery.proofs.UndoEnds.{has_known}
-use Rattle.shore_recovery.proofs.UndoRecords.{lawful_next}
-use Rattle.shore_recovery.proofs.Writers.{same_or_not}
-use Rattle.shore_recovery.specs.Writers.{changes_id}
-use Rattle.shore_sessions.proofs.EndedTxns.{over_now, over_other}
-use Rattle.shore_sessions.proofs.Lists.{recursion-push, recursion-unpush, recursion-weaker}
-use Rattle.shore_sessions.proofs.Members.{among_with, among_without, txn_among, txn_stays, txn_without, txns_with}
-use Rattle.shore_sessions.proofs.UnansweredChanges.{change_matches, compensations_match, unanswered_other}
-use Rattle.shore_sessions.specs.declared.rollbacks.Rollback.{Rollback}
-use Rattle.shore_sessions.specs.declared.rollbacks.Rollback.TheVariants.{Whole}
-use Rattle.shore_sessions.specs.LogTells.{IsLogAfter, MatchesUndo}
-use Rattle.shore_sessions.specs.Logged.{and_compensations, and_record, log_after, log_after_answer, log_after_reply}
-use Rattle.shore_sessions.specs.RepliesInPlace.{MayReplyInPlace, Permit}
-use Rattle.shore_sessions.specs.SessionSteps.{AnswerAbort, AnswerCommit, AppendCommit, BeginTxn, Doom, GiveReply, MoveLocks, PutBack, RefuseCall, SessionEvent, StepsTo}
-use Rattle.shore_sessions.specs.Sessions.{SessionTxn, Sessions, doomed, image_put_back, reply_given, txn_begun, txns_of, with_undo, without_txn}
-use Rattle.shore_sessions.specs.Soundness.{IsSoundAfter}
-use Rattle.shore_sessions.specs.UndoLists.{UndoList, in_place_after, mark_of, undo_after, undo_after_answer, undo_rolled}
-use Rattle.shore_sessions.specs.Views.{IsAmong}
+use Rattle.shore_lives.proofs.OneMore.{by_push, has-not_this}
+use Rattle.shore_lives.proofs.UndoEnds.{has_known}
+use Rattle.shore_lives.proofs.UndoRecords.{lawful_next}
+use Rattle.shore_lives.proofs.Writers.{same_or_not}
+use Rattle.shore_lives.specs.Writers.{changes_id}
+use Rattle.shore_lives.proofs.EndedTxns.{over_now, over_other}
+use Rattle.shore_lives.proofs.Lists.{recursion-push, recursion-unpush, recursion-weaker}
+use Rattle.shore_lives.proofs.Members.{among_with, among_without, txn_among, txn_stays, txn_without, txns_with}
+use Rattle.shore_lives.proofs.UnansweredChanges.{change_matches, compensations_match, unanswered_other}
+use Rattle.shore_lives.specs.declared.rollbacks.Rollback.{Rollback}
+use Rattle.shore_lives.specs.declared.rollbacks.Rollback.TheVariants.{Whole}
+use Rattle.shore_lives.specs.LogTells.{IsLogAfter, MatchesUndo}
+use Rattle.shore_lives.specs.Logged.{and_compensations, and_record, log_after, log_after_answer, log_after_reply}
+use Rattle.shore_lives.specs.RepliesInPlace.{MayReplyInPlace, Permit}
+use Rattle.shore_lives.specs.SessionSteps.{AnswerAbort, AnswerCommit, AppendCommit, BeginTxn, Doom, GiveReply, MoveLocks, PutBack, RefuseCall, SessionEvent, StepsTo}
+use Rattle.shore_lives.specs.Sessions.{SessionTxn, Sessions, doomed, image_put_back, reply_given, txn_begun, txns_of, with_undo, without_txn}
+use Rattle.shore_lives.specs.Soundness.{IsSoundAfter}
+use Rattle.shore_lives.specs.UndoLists.{UndoList, in_place_after, mark_of, undo_after, undo_after_answer, undo_rolled}
+use Rattle.shore_lives.specs.Views.{IsAmong}
 use Rattle.shore_lives.proofs.WholeLogs.{HasMoreOf, all_undoable, all_unprepared, compensations_on, image_in_place, is_of_txn, no_more, one_more, others_have_ended}
 use Rattle.shore_lives.specs.WholeLogs.{IsWholeLog}
 

@@ -1,9 +1,9 @@
 -- Work on log and pages while a manager is up: the log only grows, what is durable stays so, and the pages have all of the log.
 use Rattle.std.proofs.Common.{◌≡◌, ◌≤◌, ◌+◌, List, [], ◌∷◌, ◌++◌, sym, ap, subst, ◌∙◌, length, arith, append-nil, append_assoc}
 use Rattle.shore_model.specs.declared.log_records.LogRecord.{LogRecord}
-use Rattle.shore_recovery.proofs.Invariant.{event_kept}
-use Rattle.shore_recovery.specs.Recovery.{AppendRecord, FlushPage, ForceLog, IsRecoverable, LeadsTo, LosePower, RecoveryEvent, RecoveryState, RedoRecord}
-use Rattle.shore_sessions.proofs.Lists.{length-push}
+use Rattle.shore_lives.proofs.Invariant.{event_kept}
+use Rattle.shore_lives.specs.Recovery.{AppendRecord, FlushPage, ForceLog, IsRecoverable, LeadsTo, LosePower, RecoveryEvent, RecoveryState, RedoRecord}
+use Rattle.shore_lives.proofs.Lists.{length-push}
 use Rattle.shore_lives.specs.ManagerSteps.{IsWork, WorksTo}
 
 pub record HasWorked (s new : RecoveryState) : Type 0 where

@@ -5,15 +5,15 @@ use Rattle.shore_model.specs.declared.histories.Opening.{Opening}
 use Rattle.shore_model.specs.declared.log_records.LogRecord.{LogRecord}
 use Rattle.shore_model.specs.Lives.{Span}
 use Rattle.shore_model.specs.Logs.{Lawful, records_told}
-use Rattle.shore_recovery.specs.Pages.{LoggedPages, empty_page}
-use Rattle.shore_recovery.specs.Recovery.{IsRecoverable, MayCrash, RecoveryEvent, RecoveryState, after_crash}
-use Rattle.shore_recovery.specs.Restarts.{RestartsTo}
-use Rattle.shore_recovery.specs.Undo.{HasNoLosers}
-use Rattle.shore_sessions.specs.LogPrefixes.{DecidesNothing, decisions_in}
-use Rattle.shore_sessions.specs.Logged.{log_after}
-use Rattle.shore_sessions.specs.SessionSteps.{SessionEvent, StepsTo}
-use Rattle.shore_sessions.specs.Sessions.{Sessions}
-use Rattle.shore_sessions.specs.Soundness.{opening_with}
+use Rattle.shore_lives.specs.Pages.{LoggedPages, empty_page}
+use Rattle.shore_lives.specs.Recovery.{IsRecoverable, MayCrash, RecoveryEvent, RecoveryState, after_crash}
+use Rattle.shore_lives.specs.Restarts.{RestartsTo}
+use Rattle.shore_lives.specs.Undo.{HasNoLosers}
+use Rattle.shore_lives.specs.LogPrefixes.{DecidesNothing, decisions_in}
+use Rattle.shore_lives.specs.Logged.{log_after}
+use Rattle.shore_lives.specs.SessionSteps.{SessionEvent, StepsTo}
+use Rattle.shore_lives.specs.Sessions.{Sessions}
+use Rattle.shore_lives.specs.Soundness.{opening_with}
 use Rattle.shore_lives.specs.ManagerSteps.{ManagerState, ManagerEvent, ManagerRunsTo, OpensOver, WorksTo}
 use Rattle.shore_lives.specs.WholeLogs.{HasNoPrepare}
 

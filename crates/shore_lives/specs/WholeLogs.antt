@@ -5,14 +5,14 @@ use Rattle.shore_types.specs.declared.ids.Rid.{Rid}
 use Rattle.shore_model.specs.declared.histories.Entry.{Entry}
 use Rattle.shore_model.specs.declared.log_records.LogRecord.{LogRecord}
 use Rattle.shore_model.specs.Logs.{Lawful, has, is_over, is_prepare, records_told}
-use Rattle.shore_recovery.specs.Undo.{HasNoLosers}
-use Rattle.shore_recovery.specs.Writers.{changes_id}
-use Rattle.shore_sessions.specs.LogTells.{MatchesUndo}
-use Rattle.shore_sessions.specs.Logged.{log_after}
-use Rattle.shore_sessions.specs.SessionSteps.{SessionEvent, StepsTo, entries_by}
-use Rattle.shore_sessions.specs.Sessions.{SessionTxn, Sessions, txns_of}
-use Rattle.shore_sessions.specs.Soundness.{IsJustOpened}
-use Rattle.shore_sessions.specs.Views.{IsAmong}
+use Rattle.shore_lives.specs.Undo.{HasNoLosers}
+use Rattle.shore_lives.specs.Writers.{changes_id}
+use Rattle.shore_lives.specs.LogTells.{MatchesUndo}
+use Rattle.shore_lives.specs.Logged.{log_after}
+use Rattle.shore_lives.specs.SessionSteps.{SessionEvent, StepsTo, entries_by}
+use Rattle.shore_lives.specs.Sessions.{SessionTxn, Sessions, txns_of}
+use Rattle.shore_lives.specs.Soundness.{IsJustOpened}
+use Rattle.shore_lives.specs.Views.{IsAmong}
 
 -- nobody has prepared
 abbrev pub HasNoPrepare : List LogRecord → Type 0

@@ -7,7 +7,7 @@ use Rattle.shore_types.specs.declared.locking.Granule.{Granule}
 use Rattle.shore_types.specs.declared.locking.Granule.TheVariants.{Volume, Store, Page, Record}
 use Rattle.shore_types.specs.declared.locking.Level.{Level}
 use Rattle.shore_types.specs.declared.locking.Level.TheVariants as level
-use Rattle.shore_types.specs.declared.layout.TheConstants.{MAX_RECORD_BYTES}
+use Rattle.shore_types.specs.declared.layout.TheConstants.{ENDING_COST, MAX_RECORD_BYTES}
 use Rattle.shore_types.specs.Images.{Image}
 use Rattle.shore_model.specs.declared.log_records.DirtyPage.{DirtyPage}
 use Rattle.shore_model.specs.declared.log_records.LogRecord.{LogRecord}
@@ -157,7 +157,7 @@ pub record Fits (r : LogRecord) : Type 0 where
 -- What a record takes of the log's room: its text, and 13 bytes for its share of a frame, which has a gate, a length and
 -- a first number beside its records.
 abbrev pub cost_of : Payload → ℕ
-cost_of p = 34 + length (payload_text p)
+cost_of p = ENDING_COST + length (payload_text p)
 
 -- the bytes of an image's text, by the number of the image's bytes
 abbrev pub image_text_len : Option ℕ → ℕ

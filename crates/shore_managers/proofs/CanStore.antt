@@ -2,7 +2,7 @@
 use Rattle.std.proofs.Common.{◌≡◌, ◌++◌, ◌+◌, List, [], ◌∷◌, refl, sym, ap, subst, ◌∙◌, length, arith, length-append, append-nil, append_assoc}
 use Rattle.shore_types.specs.declared.layout.Geometry.{Geometry}
 use Rattle.shore_model.specs.declared.log_records.LogRecord.{LogRecord}
-use Rattle.shore_recovery.specs.Recovery.{AppendRecord, ForceLog, RecoveryEvent, RecoveryState, after_append, after_force}
+use Rattle.shore_lives.specs.Recovery.{AppendRecord, ForceLog, RecoveryEvent, RecoveryState, after_append, after_force}
 use Rattle.shore_calls.proofs.LongerLogs.{GoesFurther, settled_call_further, settled_resume_further}
 use Rattle.shore_calls.specs.Events.{Called, Forced, HasFailed, ManagerEvent, Resumed, EventMoves}
 use Rattle.shore_calls.specs.States.{State}

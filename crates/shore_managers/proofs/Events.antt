@@ -5,16 +5,16 @@ use Rattle.shore_types.specs.declared.layout.Geometry.{Geometry}
 use Rattle.shore_model.specs.declared.histories.Entry.{Entry}
 use Rattle.shore_model.specs.declared.log_records.LogRecord.{LogRecord}
 use Rattle.shore_model.specs.Logs.{committed_in}
-use Rattle.shore_recovery.specs.Recovery.{RecoveryEvent, RecoveryState}
-use Rattle.shore_sessions.specs.Logged.{log_after}
-use Rattle.shore_sessions.specs.SessionSteps.{AnswerAbort, AnswerCommit, AppendCommit, BeginTxn, Doom, GiveReply, MoveLocks, PutBack, RefuseCall, SessionEvent, entries_by}
-use Rattle.shore_sessions.specs.Sessions.{Sessions}
-use Rattle.shore_sessions.specs.Views.{IsAmong}
+use Rattle.shore_lives.specs.Recovery.{RecoveryEvent, RecoveryState}
+use Rattle.shore_lives.specs.Logged.{log_after}
+use Rattle.shore_lives.specs.SessionSteps.{AnswerAbort, AnswerCommit, AppendCommit, BeginTxn, Doom, GiveReply, MoveLocks, PutBack, RefuseCall, SessionEvent, entries_by}
+use Rattle.shore_lives.specs.Sessions.{Sessions}
+use Rattle.shore_lives.specs.Views.{IsAmong}
 use Rattle.shore_calls.proofs.SettledComings.{session_event_comes}
 use Rattle.shore_calls.proofs.Links.{ComesBy, GoesBy, IsDurable}
 use Rattle.shore_calls.proofs.SessionsWaiting.{goes_on_log}
 use Rattle.shore_managers.proofs.SplitWorks.{by_on, split_works, stays_durable, works_on}
-use Rattle.shore_sessions.proofs.Lists.{recursion-weaker}
+use Rattle.shore_lives.proofs.Lists.{recursion-weaker}
 use Rattle.shore_calls.specs.Events as calls
 use Rattle.shore_calls.specs.Events.{IsStateAfter, EventMoves, entries_of}
 use Rattle.shore_calls.specs.States.{State}

@@ -4,9 +4,9 @@ use Rattle.std.specs.List.{AllByRecursion}
 use Rattle.shore_types.specs.declared.layout.Geometry.{Geometry}
 use Rattle.shore_model.specs.declared.histories.Entry.{Entry}
 use Rattle.shore_model.specs.declared.log_records.LogRecord.{LogRecord}
-use Rattle.shore_recovery.proofs.Restarts.{events_restart}
-use Rattle.shore_recovery.proofs.UndoRecords.{undone_grows}
-use Rattle.shore_recovery.specs.Recovery.{RecoveryState}
+use Rattle.shore_lives.proofs.Restarts.{events_restart}
+use Rattle.shore_lives.proofs.UndoRecords.{undone_grows}
+use Rattle.shore_lives.specs.Recovery.{RecoveryState}
 use Rattle.shore_calls.proofs.LongerLogs.{session_event_goes_on}
 use Rattle.shore_calls.proofs.Prefixes.{prefix_left, prefix_on, whole_prefix}
 use Rattle.shore_calls.specs.CallHistories.{IsPrefix}

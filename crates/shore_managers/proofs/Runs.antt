@@ -9,16 +9,16 @@ use Rattle.shore_model.specs.declared.histories.Entry.{Entry}
 use Rattle.shore_model.specs.declared.log_records.LogRecord.{LogRecord}
 use Rattle.shore_model.specs.Lives.{IsLife, next_opening}
 use Rattle.shore_model.specs.Logs.{records_told}
-use Rattle.shore_recovery.specs.Recovery.{RecoveryState}
-use Rattle.shore_sessions.specs.LogPrefixes.{LogDecides, decisions_in}
-use Rattle.shore_sessions.specs.LogTells.{IsLogAfter, records_committed}
-use Rattle.shore_sessions.specs.Soundness.{IsSoundAfter, SessionsAgree}
-use Rattle.shore_sessions.specs.Views.{IsAmong}
+use Rattle.shore_lives.specs.Recovery.{RecoveryState}
+use Rattle.shore_lives.specs.LogPrefixes.{LogDecides, decisions_in}
+use Rattle.shore_lives.specs.LogTells.{IsLogAfter, records_committed}
+use Rattle.shore_lives.specs.Soundness.{IsSoundAfter, SessionsAgree}
+use Rattle.shore_lives.specs.Views.{IsAmong}
 use Rattle.shore_calls.proofs.SessionOpens.{locks_of_none}
 use Rattle.shore_calls.proofs.SettledStates.{session_event_stays}
 use Rattle.shore_calls.specs.Events.{IsStateAfter}
 use Rattle.shore_lives.proofs.AtWork.{IsAtWork, all_stay_at_work, pages_have_records}
-use Rattle.shore_lives.proofs.Lives.{stretches_are_a_life}
+use Rattle.shore_lives.proofs.LifeSteps.{stretches_are_a_life}
 use Rattle.shore_lives.proofs.Openings.{opens_at_work}
 use Rattle.shore_lives.proofs.Stretches.{up_shows_found}
 use Rattle.shore_lives.proofs.WholeLogs.{tells_the_committed}

@@ -6,9 +6,9 @@ use Rattle.shore_types.specs.declared.layout.Geometry.{Geometry}
 use Rattle.shore_model.specs.declared.log_records.LogRecord.{LogRecord}
 use Rattle.shore_model.specs.declared.histories.Entry.{Entry}
 use Rattle.shore_model.specs.Logs.{commit_of, committed_in}
-use Rattle.shore_recovery.specs.Recovery.{AppendRecord, FlushPage, ForceLog, LosePower, RecoveryEvent, RecoveryState, RedoRecord}
-use Rattle.shore_sessions.specs.SessionSteps.{AnswerAbort, AnswerCommit, AppendCommit, BeginTxn, Doom, GiveReply, MoveLocks, PutBack, RefuseCall, SessionEvent}
-use Rattle.shore_sessions.specs.Views.{IsAmong}
+use Rattle.shore_lives.specs.Recovery.{AppendRecord, FlushPage, ForceLog, LosePower, RecoveryEvent, RecoveryState, RedoRecord}
+use Rattle.shore_lives.specs.SessionSteps.{AnswerAbort, AnswerCommit, AppendCommit, BeginTxn, Doom, GiveReply, MoveLocks, PutBack, RefuseCall, SessionEvent}
+use Rattle.shore_lives.specs.Views.{IsAmong}
 use Rattle.shore_calls.proofs.Links.{GoesBy}
 use Rattle.shore_calls.proofs.Prefixes.{prefix_on, whole_prefix}
 use Rattle.shore_calls.proofs.SessionsWaiting.{goes_on_log}

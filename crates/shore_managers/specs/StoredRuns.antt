@@ -1,4 +1,4 @@
--- A manager with its store: the calls of `shore_calls` above, the log and the pages of `shore_recovery` below. They meet in two numbers
+-- A manager with its store: the calls of `shore_calls` above, the log and the pages of `shore_lives` below. They meet in two numbers
 -- and a list: the log is one, and as much of it is durable as the manager was told.
 use Rattle.std.specs.Prelude.{◌≡◌, ◌++◌, ℕ, List, [], ◌∷◌, false, length, take}
 use Rattle.std.specs.List.{AllByRecursion}
@@ -7,11 +7,11 @@ use Rattle.shore_model.specs.declared.histories.Entry.{Entry}
 use Rattle.shore_model.specs.declared.histories.Opening.{Opening}
 use Rattle.shore_model.specs.declared.log_records.LogRecord.{LogRecord}
 use Rattle.shore_model.specs.Lives.{Span, next_opening}
-use Rattle.shore_recovery.specs.Pages.{LoggedPages}
-use Rattle.shore_recovery.specs.Recovery.{MayCrash, RecoveryEvent, RecoveryState, after_crash}
-use Rattle.shore_recovery.specs.Restarts.{RestartsTo}
-use Rattle.shore_recovery.specs.Undo.{HasNoLosers}
-use Rattle.shore_sessions.specs.LogPrefixes.{decisions_in}
+use Rattle.shore_lives.specs.Pages.{LoggedPages}
+use Rattle.shore_lives.specs.Recovery.{MayCrash, RecoveryEvent, RecoveryState, after_crash}
+use Rattle.shore_lives.specs.Restarts.{RestartsTo}
+use Rattle.shore_lives.specs.Undo.{HasNoLosers}
+use Rattle.shore_lives.specs.LogPrefixes.{decisions_in}
 use Rattle.shore_calls.specs.CallHistories.{IsPrefix}
 use Rattle.shore_calls.specs.Events.{ManagerEvent, EventMoves, entries_of}
 use Rattle.shore_calls.specs.States.{State}

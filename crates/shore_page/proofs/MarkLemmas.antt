@@ -45,18 +45,6 @@ not_true : (m : Bool) → beq m true ≡ false → m ≡ false
 not_true true test = test
 not_true false test = refl
 
-is_true : (m : Bool) → beq m true ≡ true → m ≡ true
-is_true true test = refl
-is_true false test = test
-
--- a part that has a mark
-pub taken_part : (marks : List Bool) (from to k : ℕ) → from ≤ to → to ≤ length marks → k < length (take (to - from) (drop from marks)) → beq (get_or (take (to - from) (drop from marks)) k false) true ≡ true
-    → IsTaken marks from to
-taken_part marks from to k order within inside test =
-    let len = length-part marks from to order within in
-    let here : get_or (take (to - from) (drop from marks)) k false ≡ get_or marks (from + k) false = get_or-take (to - from) (drop from marks) k false (omega arith) ∙ get_or-drop from marks k false in
-    (from + k, omega arith, omega arith, sym here ∙ is_true (get_or (take (to - from) (drop from marks)) k false) test)
-
 -- a part that has no mark, marked
 pub marks_part : (old part : List Bool) (from to : ℕ) → from ≤ to → to ≤ length old → ((k : ℕ) → k < length (take (to - from) (drop from old)) → beq (get_or (take (to - from) (drop from old)) k false) true ≡ false)
     → part ≡ replicate (length (take (to - from) (drop from old))) true → Marks old (put_mid from (to - from) old part) from to

@@ -16,15 +16,6 @@ pub record Rising (bytes : List ℕ) (slots i end : ℕ) : Type 0 where
   pub back : end ≤ table_of slots
   pub ends : (j : ℕ) → j < i → offset_at bytes j + length_at bytes j ≤ end
 
-pub rising_none : (bytes : List ℕ) (slots : ℕ) → slots ≤ 2042 → Rising bytes slots 0 24
-rising_none bytes slots few = record {
-  each = λ j none. absurd (omega arith);
-  apart = λ a b position none. absurd (omega arith);
-  room = omega arith;
-  back = omega arith;
-  ends = λ j none. absurd (omega arith);
-}
-
 -- one slot more
 pub rising_more : (bytes : List ℕ) (slots i end new : ℕ) → length bytes ≡ 8192 → slots ≤ 2042 → Rising bytes slots i end
     → Follows (table_of slots) end (offset_at bytes i) (length_at bytes i) new → Rising bytes slots (i + 1) new
@@ -72,8 +63,3 @@ rising_all bytes slots i end so_far reached inside whole few = record {
   back = so_far.back;
   ends = λ slot before. so_far.ends slot (omega arith);
 }
-
-pub rising_room : (bytes : List ℕ) (slots i end : ℕ) → Rising bytes slots i end → slots ≤ i → i ≤ slots → slots ≤ 2042 → 4 * slots + record_bytes (images_in bytes slots) ≤ 8168
-rising_room bytes slots i end so_far reached inside few =
-    let same : i ≡ slots = omega arith in
-    subst (λ (n : ℕ). 4 * slots + record_bytes (images_in bytes n) ≤ 8168) same (omega (arith, so_far.room, so_far.back))

@@ -101,29 +101,6 @@ hold_one slots claimed i image x y kept inside here is fits =
     set_others (z ∷ slots) (suc i) y zero apart = refl
     set_others (z ∷ slots) (suc i) y (suc other) apart = set_others slots i y other (λ (e : other ≡ i). apart (ap suc e))
 
--- no record fits a slot that is there
-pub fits_none : (slots : List Slot) (i : ℕ) (x : Slot) → HasRoom slots → i < length slots → x ≡ get_or slots i x → Fits slots i (image_len None)
-fits_none slots i x room inside here = record { there = omega (arith, room.room); most = omega arith; room = omega (arith, need_inside slots i 0 x inside here) }
-
--- a claim raised by what is free, at most
-pub raise_kept : (slots : List Slot) (claimed i bytes : ℕ) (x y : Slot) → KeepsClaims slots claimed → i < length slots → x ≡ get_or slots i x → y ≡ raised bytes x
-    → Fits slots i bytes → KeepsClaims (set slots i y) (claimed + (y.claim - x.claim))
-raise_kept slots claimed i bytes x y kept inside here is fits =
-    let claim : y.claim ≡ max x.claim bytes = ap (λ (s : Slot). s.claim) is in
-    let held : image_len y.image ≡ image_len x.image = ap (λ (s : Slot). image_len s.image) is in
-    let old : HoldsItsImage x = subst HoldsItsImage (sym here) (All-get_or HoldsItsImage slots i x inside kept.room.each) in
-    let room : bytes - x.claim ≤ free_bytes slots = omega (arith, need_inside slots i bytes x inside here, fits.room) in
-    set_kept slots claimed i x y kept inside here (omega (arith, old.0), omega (arith, old.1)) (omega arith) (omega arith)
-
--- a claim lowered, but not below its record
-pub lower_kept : (slots : List Slot) (claimed i bytes : ℕ) (x y : Slot) → KeepsClaims slots claimed → i < length slots → x ≡ get_or slots i x → y ≡ lowered bytes x
-    → KeepsClaims (set slots i y) (claimed - (x.claim - y.claim))
-lower_kept slots claimed i bytes x y kept inside here is =
-    let claim : y.claim ≡ min x.claim (max (image_len x.image) bytes) = ap (λ (s : Slot). s.claim) is in
-    let held : image_len y.image ≡ image_len x.image = ap (λ (s : Slot). image_len s.image) is in
-    let old : HoldsItsImage x = subst HoldsItsImage (sym here) (All-get_or HoldsItsImage slots i x inside kept.room.each) in
-    set_kept_less slots claimed i x y kept inside here (omega (arith, old.0), omega (arith, old.1)) (omega arith)
-
 -- ---- slots up to one
 
 abbrev pub nothing : Slot

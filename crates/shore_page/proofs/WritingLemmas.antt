@@ -225,11 +225,3 @@ cleared from to old part order within is =
       λ i low high. put_mid_inside from (to - from) old part i (omega arith) len low (omega arith)
           ∙ ap (λ (l : List ℕ). get_or l (i - from) 0) filled ∙ get_or-replicate (to - from) (i - from) 0 0 (omega arith),
     )
-
--- a number whose bytes are zeros
-pub number_zero : (bytes : List ℕ) (position : ℕ) → position + 2 ≤ length bytes → get_or bytes position 0 ≡ 0 → get_or bytes (position + 1) 0 ≡ 0 → number_at bytes position 2 ≡ 0
-number_zero bytes position inside first second =
-    let start : position + 0 ≡ position = omega arith in
-    let low : get_or (between position (position + 2) bytes) 0 0 ≡ 0 = get_or-between bytes position (position + 2) 0 0 (omega arith) ∙ ap (λ (k : ℕ). get_or bytes k 0) start ∙ first in
-    let high : get_or (between position (position + 2) bytes) 1 0 ≡ 0 = get_or-between bytes position (position + 2) 1 0 (omega arith) ∙ second in
-    omega arith

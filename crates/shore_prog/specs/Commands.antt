@@ -2,8 +2,8 @@
 use Rattle.std.specs.Prelude.{◌≡◌, None}
 use Rattle.shore_script.specs.declared.command.Command.{Command}
 use Rattle.shore_script.specs.declared.command.Command.TheVariants as command
-use Rattle.shore_settings.specs.declared.settings.Devices.{Devices}
-use Rattle.shore_settings.specs.declared.settings.Devices.TheVariants as devices
+use Rattle.shore_script.specs.declared.settings.Devices.{Devices}
+use Rattle.shore_script.specs.declared.settings.Devices.TheVariants as devices
 
 -- files have no fuse, and a crash of them picks nothing
 abbrev pub IsForFiles : Command → Type 0

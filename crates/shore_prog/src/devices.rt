@@ -4,14 +4,13 @@ ghost use Rattle.shore_disk.specs.AnyDisk.{any_history};
 ghost use Rattle.shore_disk.specs.Device.{size};
 ghost use Rattle.shore_fronts.specs.Volumes.{volume_bytes};
 ghost use Rattle.shore_gate.specs.Checks.{IsFromOutside};
-ghost use Rattle.shore_settings.specs.Limits.{AreInLimits};
-ghost use Rattle.shore_settings.specs.declared.settings.Devices.TheVariants.{Memory};
+ghost use Rattle.shore_script.specs.Limits.{AreInLimits};
+ghost use Rattle.shore_script.specs.declared.settings.Devices.TheVariants.{Memory};
 ghost use Rattle.shore_types.specs.declared.faults.Fault.TheVariants as Fault;
 ghost use Rattle.shore_prog.specs.Devices.{AreFused, HaveLengths};
 
 use shore_disk::{AnyDisk, FileDisk, FuseDisk, MemDisk};
-use shore_script::Fuses;
-use shore_settings::{Devices, FilePair, Settings};
+use shore_script::{Devices, FilePair, Fuses, Settings};
 use shore_types::Fault;
 use shore_world::{format, volume_bytes};
 use std::alloc::{AllocError, Global};

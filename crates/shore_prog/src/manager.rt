@@ -4,7 +4,7 @@ ghost use Rattle.shore_types.specs.declared.faults.Fault.TheVariants.{NeedForce}
 ghost use Rattle.shore_types.specs.declared.layout.TheConstants.{MAX_PAGES, MIN_POOL_FRAMES};
 ghost use Rattle.shore_calls.specs.Events.{IsServed};
 ghost use Rattle.shore_script.specs.Commands.{IsServedCommand};
-ghost use Rattle.shore_settings.specs.Limits.{AreInLimits};
+ghost use Rattle.shore_script.specs.Limits.{AreInLimits};
 ghost use Rattle.shore_prog.specs.Commands.{IsTaken};
 ghost use Rattle.shore_prog.specs.declared.manager.Progress.TheVariants.{Again};
 
@@ -14,8 +14,7 @@ use crate::rounds::{WaitingLines, go_round};
 use shore_calls::Wait;
 use shore_disk::Pick;
 use shore_model::{Answer, Call};
-use shore_script::{Command, Fuse, Fuses, render};
-use shore_settings::{Devices, Settings};
+use shore_script::{Command, Devices, Fuse, Fuses, Settings, render};
 use shore_types::layout::MAX_STORES;
 use shore_types::{Device, Fault, Pairs, SessionId, StoreId};
 use shore_world::{Event, Step, World, crashed};

@@ -1,10 +1,9 @@
 //! A run of the program.
 ghost use Rattle.std.specs.Prelude.{IfOk};
-ghost use Rattle.shore_settings.specs.Limits.{AreInLimits};
+ghost use Rattle.shore_script.specs.Limits.{AreInLimits};
 
 use crate::manager::{Manager, Progress};
-use shore_script::{Lines, Status, Stop, read_line};
-use shore_settings::{Settings, read_settings};
+use shore_script::{Lines, Settings, Status, Stop, read_line, read_settings};
 use shore_types::{ConfigPlace, Fault};
 use std::alloc::Global;
 use std::fs::{File, Files};

@@ -10,9 +10,9 @@ use Rattle.shore_model.specs.declared.log_records.LogRecord.{LogRecord}
 use Rattle.shore_model.specs.declared.log_records.Payload.{Payload}
 use Rattle.shore_model.specs.declared.log_records.Payload.TheVariants.{Change}
 use Rattle.shore_model.specs.Logs.{id_in, unanswered, undo_next_of}
-use Rattle.shore_recovery.specs.Undo.{IsUndoneTo, undo_payload, undo_record}
-use Rattle.shore_recovery.specs.UndoChains.{IsUndoChain}
-use Rattle.shore_recovery.proofs.UndoChains.{unanswered_chain}
+use Rattle.shore_lives.specs.Undo.{IsUndoneTo, undo_payload, undo_record}
+use Rattle.shore_lives.specs.UndoChains.{IsUndoChain}
+use Rattle.shore_lives.proofs.UndoChains.{unanswered_chain}
 use Rattle.shore_analysis.specs.Meant.{GoesOn, IsFirstUnmeant}
 use Rattle.shore_analysis.proofs.MeantLogs.{own_or_last}
 use Rattle.shore_restart.specs.declared.errors.RestartError.TheVariants.{BadRecord}

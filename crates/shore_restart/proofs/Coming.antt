@@ -11,9 +11,9 @@ use Rattle.shore_log.specs.declared.device.LogDev.{LogDev}
 use Rattle.shore_log.proofs.ForceLemmas.{settled_gives}
 use Rattle.shore_heap.specs.declared.heap.Heap.{Heap}
 use Rattle.shore_heap.specs.Heaps.{geometry_of, history_of}
-use Rattle.shore_recovery.specs.Recovery.{ForceLog, IsRecoverable, RecoveryState, after_force}
-use Rattle.shore_recovery.proofs.Invariant.{event_kept}
-use Rattle.shore_logged.proofs.Stores.{forced_is}
+use Rattle.shore_lives.specs.Recovery.{ForceLog, IsRecoverable, RecoveryState, after_force}
+use Rattle.shore_lives.proofs.Invariant.{event_kept}
+use Rattle.shore_stands.proofs.Stores.{forced_is}
 use Rattle.shore_restart.specs.declared.errors.RestartError.{RestartError}
 use Rattle.shore_restart.specs.declared.errors.RestartError.TheVariants.{Page}
 use Rattle.shore_stands.specs.Moments.{GivesPrefix, Moment, Path, ShowsLeft}

@@ -11,7 +11,7 @@ use Rattle.shore_log.specs.Settled.{IsSettled, records_of_log, stable, waiting}
 use Rattle.shore_log.specs.declared.device.LogDev.{LogDev}
 use Rattle.shore_log.proofs.ForceLemmas.{settled_gives}
 use Rattle.shore_frames.proofs.LoggedLemmas.{has_longest}
-use Rattle.shore_recovery.specs.Recovery.{ForceLog, RecoveryState, after_force}
+use Rattle.shore_lives.specs.Recovery.{ForceLog, RecoveryState, after_force}
 use Rattle.shore_restart.specs.declared.errors.RestartError.{RestartError}
 use Rattle.shore_stands.specs.Moments.{GivesPrefix, GoesOn, Moment, Path, ShowsLeft}
 use Rattle.shore_restart.specs.Standing.{Forces, ForcesFrame, IsAtRest, SameLog, log_history}

@@ -3,9 +3,9 @@ use Rattle.std.proofs.Common.{◌≡◌, ◌≤◌, ℕ, List, [], ◌∷◌, �
 use Rattle.shore_types.specs.declared.layout.Geometry.{Geometry}
 use Rattle.shore_disk.specs.Device.{History, LeavesOnly, may_leave}
 use Rattle.shore_disk.proofs.Moments.{started}
-use Rattle.shore_recovery.specs.Recovery.{RecoveryEvent, RecoveryState, IsRecoverable, LeadsTo}
-use Rattle.shore_recovery.specs.Restarts.{IsRestartStep, RestartsTo}
-use Rattle.shore_recovery.proofs.Invariant.{event_kept}
+use Rattle.shore_lives.specs.Recovery.{RecoveryEvent, RecoveryState, IsRecoverable, LeadsTo}
+use Rattle.shore_lives.specs.Restarts.{IsRestartStep, RestartsTo}
+use Rattle.shore_lives.proofs.Invariant.{event_kept}
 use Rattle.shore_model.specs.declared.log_records.LogRecord.{LogRecord}
 use Rattle.shore_frames.specs.Frames.{GivesBehind}
 use Rattle.shore_stands.specs.Moments.{GivesPrefix, GoesOn, IsCovered, Moment, Path, ShowsLeft}

@@ -21,13 +21,13 @@ use Rattle.shore_pool.specs.Pages.{SamePages}
 use Rattle.shore_heap.specs.declared.heap.Heap.{Heap}
 use Rattle.shore_heap.specs.Contents.{unclaimed}
 use Rattle.shore_heap.specs.Heaps.{Shows, device_of, frame_at, frame_of, geometry_of}
-use Rattle.shore_recovery.specs.Recovery.{AppendRecord, LeadsTo, RecoveryEvent, RecoveryState, RedoRecord, after_append, after_redo}
-use Rattle.shore_recovery.proofs.Invariant.{event_kept}
-use Rattle.shore_logged.specs.LoggedHeaps.{IsMade, IsReleased, IsStoreOf}
-use Rattle.shore_logged.proofs.Made.{appended_is, redone_is}
-use Rattle.shore_logged.proofs.SlotImages.{count-with_image}
-use Rattle.shore_logged.proofs.StaySettled.{settled_after}
-use Rattle.shore_logged.proofs.Stores.{store_unwritten}
+use Rattle.shore_lives.specs.Recovery.{AppendRecord, LeadsTo, RecoveryEvent, RecoveryState, RedoRecord, after_append, after_redo}
+use Rattle.shore_lives.proofs.Invariant.{event_kept}
+use Rattle.shore_stands.specs.LoggedHeaps.{IsMade, IsReleased, IsStoreOf}
+use Rattle.shore_stands.proofs.Made.{appended_is, redone_is}
+use Rattle.shore_stands.proofs.SlotImages.{count-with_image}
+use Rattle.shore_stands.proofs.StaySettled.{settled_after}
+use Rattle.shore_stands.proofs.Stores.{store_unwritten}
 use Rattle.shore_restart.specs.Standing.{Stands}
 
 pub some_held : {A : Type 0} (o : Option A) (P : A → Type 0) → IsSomeAnd o P → IsTrue (is_some o)

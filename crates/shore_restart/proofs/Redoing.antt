@@ -18,12 +18,12 @@ use Rattle.shore_page.specs.Slots.{Slot, image_len}
 use Rattle.shore_pool.specs.declared.frame.Frame.{Frame}
 use Rattle.shore_heap.specs.declared.heap.Heap.{Heap}
 use Rattle.shore_heap.specs.Heaps.{frame_of, geometry_of, history_of}
-use Rattle.shore_recovery.specs.Pages.{redone_on_all}
-use Rattle.shore_recovery.specs.Recovery.{LeadsTo, RecoveryState, RedoRecord, after_redo}
-use Rattle.shore_recovery.proofs.Invariant.{event_kept}
-use Rattle.shore_bounds.specs.SlotCounts.{FitsBehind, slots_left}
-use Rattle.shore_logged.proofs.Made.{passed_is, without_is}
-use Rattle.shore_logged.proofs.SettledSlots.{frame_number, framed_due}
+use Rattle.shore_lives.specs.Pages.{redone_on_all}
+use Rattle.shore_lives.specs.Recovery.{LeadsTo, RecoveryState, RedoRecord, after_redo}
+use Rattle.shore_lives.proofs.Invariant.{event_kept}
+use Rattle.shore_managers.specs.SlotCounts.{FitsBehind, slots_left}
+use Rattle.shore_stands.proofs.Made.{passed_is, without_is}
+use Rattle.shore_stands.proofs.SettledSlots.{frame_number, framed_due}
 use Rattle.shore_restart.specs.declared.errors.RestartError.{RestartError}
 use Rattle.shore_restart.specs.Errors.{DoesNotFit}
 use Rattle.shore_stands.specs.Moments.{ShowsLeft}

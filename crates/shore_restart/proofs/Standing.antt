@@ -13,12 +13,12 @@ use Rattle.shore_pool.specs.Pools.{NeedsForce}
 use Rattle.shore_heap.specs.declared.heap.Heap.{Heap}
 use Rattle.shore_heap.specs.Contents.{AreKept, unclaimed}
 use Rattle.shore_heap.specs.Heaps.{KeepsSlots, LeavesPages, frame_at, frame_of, geometry_of, history_of, pool_of}
-use Rattle.shore_recovery.specs.Recovery.{IsRecoverable, RecoveryState}
-use Rattle.shore_recovery.proofs.Redo.{own_number}
-use Rattle.shore_logged.proofs.Flushes.{left_amid, work_of}
-use Rattle.shore_logged.proofs.Left.{left_settled}
-use Rattle.shore_logged.proofs.SettledSlots.{frame_number, settled_kept, shows_only}
-use Rattle.shore_logged.proofs.StaySettled.{settled_shown}
+use Rattle.shore_lives.specs.Recovery.{IsRecoverable, RecoveryState}
+use Rattle.shore_lives.proofs.Redo.{own_number}
+use Rattle.shore_stands.proofs.Flushes.{left_amid, work_of}
+use Rattle.shore_stands.proofs.LoggedLeft.{left_settled}
+use Rattle.shore_stands.proofs.SettledSlots.{frame_number, settled_kept, shows_only}
+use Rattle.shore_stands.proofs.StaySettled.{settled_shown}
 use Rattle.shore_restart.specs.declared.errors.RestartError.{RestartError}
 use Rattle.shore_stands.specs.Moments.{ShowsLeft}
 use Rattle.shore_restart.specs.Standing.{Fetches, SameInPlace, Stands, Worked}

@@ -21,12 +21,12 @@ use Rattle.shore_page.specs.Slots.{Slot}
 use Rattle.shore_pool.specs.declared.frame.Frame.{Frame}
 use Rattle.shore_heap.specs.declared.heap.Heap.{Heap}
 use Rattle.shore_heap.specs.Heaps.{frame_of, geometry_of, history_of}
-use Rattle.shore_recovery.specs.Recovery.{AppendRecord, LeadsTo, RecoveryState, after_append}
-use Rattle.shore_recovery.specs.Undo.{IsLoser, undo_payload, undo_record}
-use Rattle.shore_recovery.proofs.Invariant.{event_kept}
-use Rattle.shore_bounds.specs.SlotCounts.{slots_left}
-use Rattle.shore_logged.proofs.Made.{appended_without}
-use Rattle.shore_logged.proofs.SettledSlots.{framed_whole}
+use Rattle.shore_lives.specs.Recovery.{AppendRecord, LeadsTo, RecoveryState, after_append}
+use Rattle.shore_lives.specs.Undo.{IsLoser, undo_payload, undo_record}
+use Rattle.shore_lives.proofs.Invariant.{event_kept}
+use Rattle.shore_managers.specs.SlotCounts.{slots_left}
+use Rattle.shore_stands.proofs.Made.{appended_without}
+use Rattle.shore_stands.proofs.SettledSlots.{framed_whole}
 use Rattle.shore_restart.specs.declared.errors.RestartError.{RestartError}
 use Rattle.shore_stands.specs.Moments.{GivesPrefix, Path, ShowsLeft}
 use Rattle.shore_restart.specs.Standing.{Appends, IsAtRest, IsReady, Moves, Stands, log_history, moment_of}

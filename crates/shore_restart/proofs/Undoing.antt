@@ -8,9 +8,9 @@ use Rattle.shore_model.specs.Logs.{Lawful}
 use Rattle.shore_log.specs.declared.device.LogDev.{LogDev}
 use Rattle.shore_heap.specs.declared.heap.Heap.{Heap}
 use Rattle.shore_heap.specs.Heaps.{geometry_of, history_of}
-use Rattle.shore_recovery.specs.Recovery.{RecoveryState, after_force}
-use Rattle.shore_recovery.specs.Undo.{IsLoser, undo_record}
-use Rattle.shore_recovery.proofs.UndoRecords.{undone_lawful, undone_more}
+use Rattle.shore_lives.specs.Recovery.{RecoveryState, after_force}
+use Rattle.shore_lives.specs.Undo.{IsLoser, undo_record}
+use Rattle.shore_lives.proofs.UndoRecords.{undone_lawful, undone_more}
 use Rattle.shore_restart.specs.declared.errors.RestartError.{RestartError}
 use Rattle.shore_restart.specs.Standing.{Forces, Moves, SameLog, log_history, moment_of, stream_bytes_of}
 use Rattle.shore_restart.specs.Turns.{IsUndoneSoFar}

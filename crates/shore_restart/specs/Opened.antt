@@ -11,11 +11,11 @@ use Rattle.shore_log.specs.Settled.{records_of_log}
 use Rattle.shore_heap.specs.declared.heap.Heap.{Heap}
 use Rattle.shore_heap.specs.Heaps as heaps
 use Rattle.shore_analysis.specs.Tables.{IsNext}
-use Rattle.shore_recovery.specs.Recovery.{RecoveryState}
-use Rattle.shore_recovery.specs.Undo.{HasNoLosers}
+use Rattle.shore_lives.specs.Recovery.{RecoveryState}
+use Rattle.shore_lives.specs.Undo.{HasNoLosers}
 use Rattle.shore_calls.specs.States.{State}
 use Rattle.shore_managers.specs.StoredRuns.{IsOpenedOver}
-use Rattle.shore_bounds.specs.SlotCounts.{slot_count}
+use Rattle.shore_managers.specs.SlotCounts.{slot_count}
 use Rattle.shore_core.specs.declared.core_calls.Core.{Core}
 use Rattle.shore_core.specs.Cores.{IsIn, IsOver, heap_of}
 use Rattle.shore_restart.specs.declared.errors.RestartError.{RestartError}

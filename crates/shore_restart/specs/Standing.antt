@@ -13,11 +13,11 @@ use Rattle.shore_heap.specs.declared.heap.Heap.{Heap}
 use Rattle.shore_heap.specs.Contents.{unclaimed}
 use Rattle.shore_heap.specs.Heaps as heaps
 use Rattle.shore_heap.specs.Heaps.{Shows}
-use Rattle.shore_recovery.specs.Pages.{redone_on_all}
-use Rattle.shore_recovery.specs.Recovery.{AppendRecord, IsRecoverable, LeadsTo, RecoveryEvent, RecoveryState, after_append, after_force}
+use Rattle.shore_lives.specs.Pages.{redone_on_all}
+use Rattle.shore_lives.specs.Recovery.{AppendRecord, IsRecoverable, LeadsTo, RecoveryEvent, RecoveryState, after_append, after_force}
 use Rattle.shore_model.specs.declared.log_records.LogRecord.{LogRecord}
-use Rattle.shore_recovery.specs.Restarts.{RestartsTo}
-use Rattle.shore_logged.specs.LoggedHeaps.{AreSettled, IsStoreOf}
+use Rattle.shore_lives.specs.Restarts.{RestartsTo}
+use Rattle.shore_stands.specs.LoggedHeaps.{AreSettled, IsStoreOf}
 use Rattle.shore_restart.specs.declared.errors.RestartError.{RestartError}
 use Rattle.shore_restart.specs.declared.errors.RestartError.TheVariants.{Page}
 use Rattle.shore_stands.specs.Moments.{GoesOn, IsCovered, Moment, Path, ShowsLeft}

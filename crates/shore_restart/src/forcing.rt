@@ -7,7 +7,7 @@ ghost use Rattle.shore_types.specs.declared.faults.Fault.TheVariants as Fault;
 ghost use Rattle.shore_types.specs.declared.layout.Geometry.{Geometry};
 ghost use Rattle.shore_types.specs.declared.layout.TheConstants.{LOG_FRONT_BYTES};
 ghost use Rattle.shore_log.specs.Settled.{IsSettled, records_of_log, waiting};
-ghost use Rattle.shore_recovery.specs.Recovery.{RecoveryState};
+ghost use Rattle.shore_lives.specs.Recovery.{RecoveryState};
 ghost use Rattle.shore_restart.specs.declared.errors.RestartError.TheVariants as RestartError;
 ghost use Rattle.shore_restart.specs.Errors.{log_answer};
 ghost use Rattle.shore_stands.specs.Moments.{ShowsLeft};

@@ -11,7 +11,7 @@ ghost use Rattle.shore_page.specs.Room.{Fits};
 ghost use Rattle.shore_page.specs.Slots.{image_len};
 ghost use Rattle.shore_pool.specs.Pools.{Holds};
 ghost use Rattle.shore_heap.specs.Heaps.{faults_of, frame_of, geometry_of, history_of, pool_of};
-ghost use Rattle.shore_recovery.specs.Recovery.{AppendRecord, LeadsTo, RecoveryState, RedoRecord, after_append, after_redo};
+ghost use Rattle.shore_lives.specs.Recovery.{AppendRecord, LeadsTo, RecoveryState, RedoRecord, after_append, after_redo};
 ghost use Rattle.shore_restart.specs.declared.errors.RestartError.{RestartError};
 ghost use Rattle.shore_restart.specs.declared.errors.RestartError.TheVariants as RestartError;
 ghost use Rattle.shore_restart.specs.Errors.{IsEarned, volume_answer};

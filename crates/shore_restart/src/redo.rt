@@ -9,7 +9,7 @@ ghost use Rattle.shore_types.specs.declared.ids.Rid.{Rid};
 ghost use Rattle.shore_model.specs.declared.log_records.LogRecord.{LogRecord};
 ghost use Rattle.shore_model.specs.Logs.{id_in, image_in};
 ghost use Rattle.shore_heap.specs.Heaps.{faults_of, geometry_of};
-ghost use Rattle.shore_recovery.specs.Recovery.{RecoveryState};
+ghost use Rattle.shore_lives.specs.Recovery.{RecoveryState};
 ghost use Rattle.shore_analysis.specs.Meant.{AreMeant};
 ghost use Rattle.shore_restart.specs.declared.errors.RestartError.{RestartError};
 ghost use Rattle.shore_restart.specs.declared.errors.RestartError.TheVariants as RestartError;

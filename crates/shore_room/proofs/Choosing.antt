@@ -7,8 +7,8 @@ use Rattle.shore_types.specs.declared.ids.Rid.{Rid}
 use Rattle.shore_model.specs.Records.{Records}
 use Rattle.shore_room.specs.Choosing.{IsChoice, Serves, first_from, first_of, or_later}
 use Rattle.shore_room.specs.Claims.{SlotCounts, rid_on}
-use Rattle.shore_sessions.specs.Sessions.{SessionTxn}
-use Rattle.shore_sessions.proofs.Lists.{within_or_beyond}
+use Rattle.shore_lives.specs.Sessions.{SessionTxn}
+use Rattle.shore_lives.proofs.Lists.{within_or_beyond}
 
 -- the first number that passes, or none does
 abbrev pub IsFirst : (ℕ → Bool) → ℕ → ℕ → Option ℕ → Type 0

@@ -13,12 +13,12 @@ use Rattle.shore_page.specs.Undo.{longest}
 use Rattle.shore_page.proofs.UndoLemmas.{with_change_twice}
 use Rattle.shore_room.specs.Claims.{Claimed, NoOthers, SlotCounts, befores_at, befores_in, slots_of}
 use Rattle.shore_room.specs.Entries.{claim_before, claims_before, claims_behind}
-use Rattle.shore_sessions.specs.declared.rollbacks.Rollback.{Rollback}
-use Rattle.shore_sessions.specs.Sessions.{SessionTxn, with_undo}
-use Rattle.shore_sessions.specs.UndoLists.{UndoList, with_before_image}
-use Rattle.shore_sessions.specs.Views.{IsAmong}
-use Rattle.shore_sessions.proofs.Ids.{put_here}
-use Rattle.shore_sessions.proofs.Lists.{within_or_beyond}
+use Rattle.shore_lives.specs.declared.rollbacks.Rollback.{Rollback}
+use Rattle.shore_lives.specs.Sessions.{SessionTxn, with_undo}
+use Rattle.shore_lives.specs.UndoLists.{UndoList, with_before_image}
+use Rattle.shore_lives.specs.Views.{IsAmong}
+use Rattle.shore_lives.proofs.Ids.{put_here}
+use Rattle.shore_lives.proofs.Lists.{within_or_beyond}
 use Rattle.shore_room.proofs.Lists.{split}
 use Rattle.shore_room.proofs.Numbers.{claim_is}
 use Rattle.shore_room.proofs.Pages.{all_behind, its_own, its_slot, length-slots, lone_at, lone_with}

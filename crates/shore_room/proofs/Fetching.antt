@@ -17,12 +17,12 @@ use Rattle.shore_page.specs.Slots.{Slot, image_len, settled, with_change}
 use Rattle.shore_page.specs.Undo.{claiming, longest}
 use Rattle.shore_room.specs.Claims.{Claimed, SlotCounts, before_of, befores_at, befores_in, each_from, rid_on, slots_of, undecided_at}
 use Rattle.shore_room.specs.Settling.{AllReservesFit, ReservesFit, reserved_for_all, settled_slots}
-use Rattle.shore_sessions.specs.Sessions.{SessionTxn}
-use Rattle.shore_sessions.specs.Views.{IsAmong}
+use Rattle.shore_lives.specs.Sessions.{SessionTxn}
+use Rattle.shore_lives.specs.Views.{IsAmong}
 use Rattle.shore_room.proofs.Leaving.{AreOn, are_on, at_all, map_each, on_each, one_each, same_page}
 use Rattle.shore_room.proofs.Lists.{each_alike, each_at, length-each}
 use Rattle.shore_room.proofs.Pages.{back_same}
-use Rattle.shore_sessions.proofs.Lists.{recursion-weaker}
+use Rattle.shore_lives.proofs.Lists.{recursion-weaker}
 use Rattle.shore_page.proofs.RoomLemmas.{need_inside}
 
 pub longest_append : (xs ys : List Image) → longest (xs ++ ys) ≡ max (longest xs) (longest ys)

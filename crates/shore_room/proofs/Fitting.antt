@@ -15,8 +15,8 @@ use Rattle.shore_page.proofs.RoomLemmas.{need_inside}
 use Rattle.shore_room.specs.Claims.{Claimed, SlotCounts, befores_at, befores_in, each_from, rid_on, slots_of, undecided_at}
 use Rattle.shore_room.specs.Events.{ChangeFitsPage}
 use Rattle.shore_room.specs.Settling.{settled_slots}
-use Rattle.shore_sessions.specs.Sessions.{SessionTxn}
-use Rattle.shore_sessions.specs.Views.{IsAmong}
+use Rattle.shore_lives.specs.Sessions.{SessionTxn}
+use Rattle.shore_lives.specs.Views.{IsAmong}
 use Rattle.shore_room.proofs.Fetching.{claims_less, claims_raised, longest_append, longest_of_all}
 use Rattle.shore_room.proofs.Leaving.{map_each}
 use Rattle.shore_room.proofs.Lists.{each_at, each_changed, length-each}

@@ -16,12 +16,12 @@ use Rattle.shore_page.specs.Slots.{Slot, image_len, settled, with_change}
 use Rattle.shore_page.specs.Undo.{Undecided, claiming, claiming_all, longest}
 use Rattle.shore_room.specs.Claims.{Claimed, NoOthers, SlotCounts, before_of, befores_at, befores_in, each_from, rid_on, slots_of, undecided_at}
 use Rattle.shore_room.specs.Settling.{let_go, on_each_entry}
-use Rattle.shore_sessions.specs.Sessions.{EachOnce, SessionTxn, txns_of, with_undo, without_txn}
-use Rattle.shore_sessions.specs.UndoLists.{UndoList}
-use Rattle.shore_sessions.specs.Views.{IsAmong}
-use Rattle.shore_sessions.proofs.Ids.{told_apart}
-use Rattle.shore_sessions.proofs.Members.{among_with, among_without, once_without, txns_with}
-use Rattle.shore_sessions.proofs.Lists.{recursion-weaker}
+use Rattle.shore_lives.specs.Sessions.{EachOnce, SessionTxn, txns_of, with_undo, without_txn}
+use Rattle.shore_lives.specs.UndoLists.{UndoList}
+use Rattle.shore_lives.specs.Views.{IsAmong}
+use Rattle.shore_lives.proofs.Ids.{told_apart}
+use Rattle.shore_lives.proofs.Members.{among_with, among_without, once_without, txns_with}
+use Rattle.shore_lives.proofs.Lists.{recursion-weaker}
 use Rattle.shore_room.proofs.Lists.{IsSplit, append_empty, befores_append, each_alike, each_changed, none_at, not_empty, split}
 use Rattle.shore_room.proofs.Pages.{alike_with, other_id, page_or_other, same_id}
 use Rattle.shore_room.proofs.Rooms.{lower_room, no_others_with}

@@ -4,19 +4,19 @@ use Rattle.std.specs.FinMap.{get}
 use Rattle.std.proofs.lemmas.List.{append-nil, append_assoc, take-append-drop}
 use Rattle.shore_types.specs.declared.ids.Rid.{Rid}
 use Rattle.shore_room.specs.LogRooms.{Admits, AnswerAdmits, EventAdmits, HasLogRoom, LogRoom, RoomAfter, Takes, TurnsTake, answered_room, begun_room, change_cost, changed_room, compensation_cost, compensation_costs, ended_room, left_room, owed, owed_by_all, undone_room, undone_rooms}
-use Rattle.shore_sessions.specs.declared.rollbacks.Rollback.{Rollback}
-use Rattle.shore_sessions.specs.declared.rollbacks.Rollback.TheVariants.{Whole}
-use Rattle.shore_sessions.specs.SessionSteps.{AnswerAbort, AnswerCommit, AppendCommit, BeginTxn, Doom, GiveReply, MoveLocks, PutBack, RefuseCall, SessionEvent, StepsTo}
-use Rattle.shore_sessions.specs.Sessions.{EachOnce, SessionTxn, Sessions, txns_of, with_undo, without_txn}
-use Rattle.shore_sessions.specs.UndoLists.{UndoList, mark_of, marks_kept, nothing_to_undo, undo_after_answer, undo_rolled, with_before_image}
-use Rattle.shore_sessions.specs.Views.{IsAmong}
+use Rattle.shore_lives.specs.declared.rollbacks.Rollback.{Rollback}
+use Rattle.shore_lives.specs.declared.rollbacks.Rollback.TheVariants.{Whole}
+use Rattle.shore_lives.specs.SessionSteps.{AnswerAbort, AnswerCommit, AppendCommit, BeginTxn, Doom, GiveReply, MoveLocks, PutBack, RefuseCall, SessionEvent, StepsTo}
+use Rattle.shore_lives.specs.Sessions.{EachOnce, SessionTxn, Sessions, txns_of, with_undo, without_txn}
+use Rattle.shore_lives.specs.UndoLists.{UndoList, mark_of, marks_kept, nothing_to_undo, undo_after_answer, undo_rolled, with_before_image}
+use Rattle.shore_lives.specs.Views.{IsAmong}
 use Rattle.shore_types.specs.declared.layout.TheConstants.{ENDING_COST, GREATEST_CHECKPOINT, LONGEST_FRAME}
 use Rattle.shore_model.specs.declared.calls.Answer.{Answer}
 use Rattle.shore_model.specs.declared.calls.Answer.TheVariants.{Inserted}
 use Rattle.shore_model.specs.declared.calls.Call.{Call}
 use Rattle.shore_model.specs.declared.calls.Call.TheVariants as call
 use Rattle.shore_types.specs.Images.{Image}
-use Rattle.shore_sessions.proofs.Members.{txns_with}
+use Rattle.shore_lives.proofs.Members.{txns_with}
 use Rattle.shore_room.proofs.Lists.{IsSplit, split, with_its}
 use Rattle.shore_room.proofs.Undone.{new_among, with_twice, without_with}
 

@@ -11,8 +11,8 @@ use Rattle.shore_page.specs.Room.{claim_at, claims}
 use Rattle.shore_page.specs.Slots.{Slot, image_len}
 use Rattle.shore_page.specs.Undo.{claiming, longest}
 use Rattle.shore_room.specs.Claims.{Claimed, NoOthers, SlotCounts, befores_at, befores_in, rid_on, slots_of, undecided_at}
-use Rattle.shore_sessions.specs.Sessions.{SessionTxn}
-use Rattle.shore_sessions.specs.Views.{IsAmong}
+use Rattle.shore_lives.specs.Sessions.{SessionTxn}
+use Rattle.shore_lives.specs.Views.{IsAmong}
 use Rattle.shore_room.proofs.Leaving.{map_each}
 use Rattle.shore_room.proofs.Lists.{each_at, split}
 use Rattle.shore_room.proofs.Pages.{length-slots, lone_at}

@@ -18,11 +18,11 @@ use Rattle.shore_page.specs.Slots.{image_len, with_change}
 use Rattle.shore_page.specs.Undo.{Undecided, changing, claiming, claiming_all, undone, undoing, undo_image, untouched, with_undecided}
 use Rattle.shore_page.proofs.UndoLemmas.{undos_fit}
 use Rattle.shore_room.specs.Claims.{Claimed, NoOthers, SlotCounts, before_of, befores_at, befores_in, each_from, rid_on, slots_of, undecided_at, undecided_on}
-use Rattle.shore_sessions.specs.declared.rollbacks.Rollback.{Rollback}
-use Rattle.shore_sessions.specs.Sessions.{SessionTxn, with_undo}
-use Rattle.shore_sessions.specs.UndoLists.{UndoList, with_before_image}
-use Rattle.shore_sessions.specs.Views.{IsAmong}
-use Rattle.shore_sessions.proofs.Ids.{put_here, put_there, told_apart}
+use Rattle.shore_lives.specs.declared.rollbacks.Rollback.{Rollback}
+use Rattle.shore_lives.specs.Sessions.{SessionTxn, with_undo}
+use Rattle.shore_lives.specs.UndoLists.{UndoList, with_before_image}
+use Rattle.shore_lives.specs.Views.{IsAmong}
+use Rattle.shore_lives.proofs.Ids.{put_here, put_there, told_apart}
 use Rattle.shore_room.proofs.Lists.{IsSplit, befores_append, befores_push, each_alike, each_append, each_at, each_changed, each_same, length-each, none_at, split, with_its}
 
 -- ---- ids

@@ -16,9 +16,9 @@ use Rattle.shore_page.specs.Undo.{claiming, longest}
 use Rattle.shore_room.specs.Claims.{Claimed, SlotCounts, before_of, befores_at, befores_in, each_from, rid_on, undecided_at}
 use Rattle.shore_room.specs.RolledBack.{all_rolled_back, images_on}
 use Rattle.shore_room.specs.Settling.{settled_slots}
-use Rattle.shore_sessions.specs.Sessions.{SessionTxn}
-use Rattle.shore_sessions.specs.Views.{IsAmong}
-use Rattle.shore_sessions.proofs.Ids.{put_here, put_there, told_apart}
+use Rattle.shore_lives.specs.Sessions.{SessionTxn}
+use Rattle.shore_lives.specs.Views.{IsAmong}
+use Rattle.shore_lives.proofs.Ids.{put_here, put_there, told_apart}
 use Rattle.shore_room.proofs.Fetching.{claims_less, longest_append, most_claim}
 use Rattle.shore_room.proofs.Fitting.{longest_of_some}
 use Rattle.shore_room.proofs.Leaving.{map_each}

@@ -16,13 +16,13 @@ use Rattle.shore_page.proofs.RoomLemmas.{with_image_room}
 use Rattle.shore_page.proofs.UndoLemmas.{change_claims, undo_claims, length-with_change}
 use Rattle.shore_room.specs.Claims.{Claimed, Grows, NoOthers, SlotCounts, before_of, befores_in, slots_of, undecided_on}
 use Rattle.shore_room.specs.Turns.{TurnsFit}
-use Rattle.shore_sessions.specs.declared.rollbacks.Rollback.{Rollback}
-use Rattle.shore_sessions.specs.Sessions.{EachOnce, SessionTxn, with_undo}
-use Rattle.shore_sessions.specs.UndoLists.{UndoList, with_before_image}
-use Rattle.shore_sessions.specs.Views.{IsAmong}
-use Rattle.shore_sessions.proofs.Ids.{put_there}
-use Rattle.shore_sessions.proofs.Members.{among_with, txns_with}
-use Rattle.shore_sessions.proofs.Lists.{recursion-push, recursion-weaker}
+use Rattle.shore_lives.specs.declared.rollbacks.Rollback.{Rollback}
+use Rattle.shore_lives.specs.Sessions.{EachOnce, SessionTxn, with_undo}
+use Rattle.shore_lives.specs.UndoLists.{UndoList, with_before_image}
+use Rattle.shore_lives.specs.Views.{IsAmong}
+use Rattle.shore_lives.proofs.Ids.{put_there}
+use Rattle.shore_lives.proofs.Members.{among_with, txns_with}
+use Rattle.shore_lives.proofs.Lists.{recursion-push, recursion-weaker}
 use Rattle.shore_room.proofs.Lists.{append_empty, befores_push, not_empty}
 use Rattle.shore_room.proofs.Pages.{all_but_last, back_same, changed_other, changed_page, its_slot, other_id, page_or_other, pushed_there, stands_there, undo_fits, undone_other, undone_page}
 

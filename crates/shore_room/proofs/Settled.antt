@@ -12,7 +12,7 @@ use Rattle.shore_page.specs.Slots.{Slot, image_len, settled}
 use Rattle.shore_page.specs.Undo.{claiming}
 use Rattle.shore_room.specs.Claims.{Claimed, NoOthers, SlotCounts, rid_on, slots_of, undecided_at}
 use Rattle.shore_room.specs.Settling.{let_go, settled_slots}
-use Rattle.shore_sessions.specs.Sessions.{SessionTxn, without_txn}
+use Rattle.shore_lives.specs.Sessions.{SessionTxn, without_txn}
 use Rattle.shore_room.proofs.Leaving.{left_keeps, left_slots, map_each}
 use Rattle.shore_room.proofs.Lists.{each_alike}
 

@@ -6,16 +6,16 @@ use Rattle.shore_room.specs.Claims.{Claimed, SlotCounts, undecided_on}
 use Rattle.shore_room.specs.LogRooms.{HasLogRoom, LogRoom, TurnsTake}
 use Rattle.shore_room.specs.Tables.{AllHaveRoom, EndTxn, EnterTxn, HasItsRoom, IsRoomy, LeaveTable, MakeChange, MayStep, MayStepAll, RunsWithRoom, SetMarks, Table, TableStep, UndoOne, stepped, stepped_all}
 use Rattle.shore_room.specs.Turns.{TurnsFit}
-use Rattle.shore_sessions.specs.SessionSteps.{SessionEvent, entries_by}
-use Rattle.shore_sessions.specs.Sessions.{SessionTxn, Sessions}
-use Rattle.shore_sessions.specs.Soundness.{IsJustOpened, IsSoundAfter, SessionsAgree}
+use Rattle.shore_lives.specs.SessionSteps.{SessionEvent, entries_by}
+use Rattle.shore_lives.specs.Sessions.{SessionTxn, Sessions}
+use Rattle.shore_lives.specs.Soundness.{IsJustOpened, IsSoundAfter, SessionsAgree}
 use Rattle.shore_types.specs.declared.layout.TheConstants.{GREATEST_CHECKPOINT, LONGEST_FRAME}
 use Rattle.shore_model.specs.declared.histories.Entry.{Entry}
 use Rattle.shore_model.specs.Records.{Records}
 use Rattle.shore_page.specs.Undo.{UndoFits}
 use Rattle.shore_page.proofs.UndoLemmas.{undos_fit}
-use Rattle.shore_sessions.proofs.SessionsAgree.{event_agrees, open_agrees}
-use Rattle.shore_sessions.proofs.Steps.{event_stays_sound, open_is_sound}
+use Rattle.shore_lives.proofs.SessionsAgree.{event_agrees, open_agrees}
+use Rattle.shore_lives.proofs.Steps.{event_stays_sound, open_is_sound}
 use Rattle.shore_room.proofs.Leaving.{begun_keeps, left_keeps, marked_keeps}
 use Rattle.shore_room.proofs.LogRooms.{begun_has, changed_has, ended_takes, event_room, marked_has, turns_take, undone_takes}
 use Rattle.shore_room.proofs.Pages.{undo_fits}

@@ -13,15 +13,15 @@ use Rattle.shore_types.specs.Images.{Image}
 use Rattle.shore_model.specs.Records.{Records, laid_over, put_image}
 use Rattle.shore_room.specs.Claims.{Claimed, NoOthers, SlotCounts, befores_in}
 use Rattle.shore_room.specs.Events.{AnswerFits, ChangeFitsPage, EventFits}
-use Rattle.shore_sessions.specs.declared.rollbacks.Rollback.{Rollback}
-use Rattle.shore_sessions.specs.declared.rollbacks.Rollback.TheVariants.{Whole}
-use Rattle.shore_sessions.specs.RepliesInPlace.{Permit}
-use Rattle.shore_sessions.specs.SessionSteps.{AnswerAbort, AnswerCommit, AppendCommit, BeginTxn, Doom, GiveReply, MoveLocks, PutBack, RefuseCall, SessionEvent, StepsTo}
-use Rattle.shore_sessions.specs.Sessions.{SessionTxn, Sessions, with_undo, without_txn}
-use Rattle.shore_sessions.specs.Soundness.{IsSoundAfter}
-use Rattle.shore_sessions.specs.UndoLists.{UndoList, in_place_after_answer, mark_of, marks_kept, nothing_to_undo, undo_after_answer, undo_rolled, with_before_image}
-use Rattle.shore_sessions.specs.Views.{IsAmong}
-use Rattle.shore_sessions.proofs.Views.{read_of_write, writer_excludes}
+use Rattle.shore_lives.specs.declared.rollbacks.Rollback.{Rollback}
+use Rattle.shore_lives.specs.declared.rollbacks.Rollback.TheVariants.{Whole}
+use Rattle.shore_lives.specs.RepliesInPlace.{Permit}
+use Rattle.shore_lives.specs.SessionSteps.{AnswerAbort, AnswerCommit, AppendCommit, BeginTxn, Doom, GiveReply, MoveLocks, PutBack, RefuseCall, SessionEvent, StepsTo}
+use Rattle.shore_lives.specs.Sessions.{SessionTxn, Sessions, with_undo, without_txn}
+use Rattle.shore_lives.specs.Soundness.{IsSoundAfter}
+use Rattle.shore_lives.specs.UndoLists.{UndoList, in_place_after_answer, mark_of, marks_kept, nothing_to_undo, undo_after_answer, undo_rolled, with_before_image}
+use Rattle.shore_lives.specs.Views.{IsAmong}
+use Rattle.shore_lives.proofs.Views.{read_of_write, writer_excludes}
 use Rattle.shore_room.proofs.Leaving.{begun_keeps, empty_or_not, found_at, left_keeps, marked_keeps}
 use Rattle.shore_room.proofs.Lists.{IsSplit, split, with_its}
 use Rattle.shore_room.proofs.Rooms.{change_keeps, undo_keeps}

@@ -4,7 +4,7 @@ use Rattle.std.specs.FinMap.{get}
 use Rattle.shore_types.specs.declared.ids.Rid.{Rid}
 use Rattle.shore_model.specs.Records.{Records}
 use Rattle.shore_page.specs.Room.{Fits}
-use Rattle.shore_sessions.specs.Sessions.{SessionTxn}
+use Rattle.shore_lives.specs.Sessions.{SessionTxn}
 use Rattle.shore_room.specs.Claims.{SlotCounts, rid_on, slots_of}
 
 -- A new record of so many bytes may have the id: its slot is an empty one or the one behind the last, the bytes fit the page, and the id

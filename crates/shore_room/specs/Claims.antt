@@ -12,8 +12,8 @@ use Rattle.shore_model.specs.Records.{Records}
 use Rattle.shore_page.specs.Room.{HasRoom}
 use Rattle.shore_page.specs.Slots.{Slot}
 use Rattle.shore_page.specs.Undo.{Undecided, claiming_all}
-use Rattle.shore_sessions.specs.Sessions.{EachOnce, SessionTxn, txns_of}
-use Rattle.shore_sessions.specs.Views.{IsAmong}
+use Rattle.shore_lives.specs.Sessions.{EachOnce, SessionTxn, txns_of}
+use Rattle.shore_lives.specs.Views.{IsAmong}
 
 abbrev pub rid_on : PageId → ℕ → Rid
 rid_on p slot = record { page = p; slot = slot }

@@ -9,8 +9,8 @@ use Rattle.shore_model.specs.declared.calls.Call.TheVariants as call
 use Rattle.shore_model.specs.Records.{Records}
 use Rattle.shore_page.specs.Room.{Fits}
 use Rattle.shore_page.specs.Slots.{image_len}
-use Rattle.shore_sessions.specs.SessionSteps.{AnswerAbort, AnswerCommit, AppendCommit, BeginTxn, Doom, GiveReply, MoveLocks, PutBack, RefuseCall, SessionEvent}
-use Rattle.shore_sessions.specs.Sessions.{SessionTxn, Sessions}
+use Rattle.shore_lives.specs.SessionSteps.{AnswerAbort, AnswerCommit, AppendCommit, BeginTxn, Doom, GiveReply, MoveLocks, PutBack, RefuseCall, SessionEvent}
+use Rattle.shore_lives.specs.Sessions.{SessionTxn, Sessions}
 use Rattle.shore_room.specs.Claims.{Grows, SlotCounts, slots_of}
 
 -- a change to an id fits its page

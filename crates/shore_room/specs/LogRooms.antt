@@ -10,11 +10,11 @@ use Rattle.shore_model.specs.declared.calls.Answer.TheVariants.{Inserted}
 use Rattle.shore_model.specs.declared.calls.Call.{Call}
 use Rattle.shore_model.specs.declared.calls.Call.TheVariants as call
 use Rattle.shore_model.specs.Records.{Records}
-use Rattle.shore_sessions.specs.declared.rollbacks.Rollback.{Rollback}
-use Rattle.shore_sessions.specs.SessionSteps.{AnswerAbort, AnswerCommit, AppendCommit, BeginTxn, Doom, GiveReply, MoveLocks, PutBack, RefuseCall, SessionEvent}
-use Rattle.shore_sessions.specs.Sessions.{SessionTxn, Sessions, with_undo}
-use Rattle.shore_sessions.specs.UndoLists.{images_since}
-use Rattle.shore_sessions.specs.Views.{IsAmong}
+use Rattle.shore_lives.specs.declared.rollbacks.Rollback.{Rollback}
+use Rattle.shore_lives.specs.SessionSteps.{AnswerAbort, AnswerCommit, AppendCommit, BeginTxn, Doom, GiveReply, MoveLocks, PutBack, RefuseCall, SessionEvent}
+use Rattle.shore_lives.specs.Sessions.{SessionTxn, Sessions, with_undo}
+use Rattle.shore_lives.specs.UndoLists.{images_since}
+use Rattle.shore_lives.specs.Views.{IsAmong}
 
 -- the bytes of an image in a record: whether there is one, how long it is, and itself
 abbrev pub image_cost : Image → ℕ

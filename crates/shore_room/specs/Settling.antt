@@ -9,7 +9,7 @@ use Rattle.shore_types.specs.declared.ids.Rid.{Rid}
 use Rattle.shore_model.specs.Records.{Records}
 use Rattle.shore_page.specs.Room.{Fits, lowered, raised}
 use Rattle.shore_page.specs.Slots.{Slot, image_len, settled, with_change}
-use Rattle.shore_sessions.specs.Sessions.{SessionTxn}
+use Rattle.shore_lives.specs.Sessions.{SessionTxn}
 use Rattle.shore_room.specs.Claims.{each_from, rid_on}
 
 -- one slot of the page after another changed, for each entry of an undo list that is on the page

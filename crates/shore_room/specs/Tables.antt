@@ -8,11 +8,11 @@ use Rattle.shore_types.specs.declared.layout.TheConstants.{ENDING_COST}
 use Rattle.shore_model.specs.Records.{Records, put_image}
 use Rattle.shore_page.specs.Room.{Fits}
 use Rattle.shore_page.specs.Slots.{image_len}
-use Rattle.shore_sessions.specs.declared.rollbacks.Rollback.{Rollback}
-use Rattle.shore_sessions.specs.SessionSteps.{SessionEvent, StepsTo}
-use Rattle.shore_sessions.specs.Sessions.{SessionTxn, Sessions, txns_of, with_undo, without_txn}
-use Rattle.shore_sessions.specs.UndoLists.{with_before_image}
-use Rattle.shore_sessions.specs.Views.{IsAmong}
+use Rattle.shore_lives.specs.declared.rollbacks.Rollback.{Rollback}
+use Rattle.shore_lives.specs.SessionSteps.{SessionEvent, StepsTo}
+use Rattle.shore_lives.specs.Sessions.{SessionTxn, Sessions, txns_of, with_undo, without_txn}
+use Rattle.shore_lives.specs.UndoLists.{with_before_image}
+use Rattle.shore_lives.specs.Views.{IsAmong}
 use Rattle.shore_room.specs.Claims.{Claimed, NoOthers, SlotCounts, slots_of}
 use Rattle.shore_room.specs.Events.{ChangeFitsPage, EventFits}
 use Rattle.shore_room.specs.LogRooms.{Admits, ChangeAdmits, EventAdmits, HasLogRoom, LogRoom, RoomAfter, Takes, begun_room, changed_room, compensation_cost, ended_room, left_room, owed, undone_room}

@@ -1,14 +1,17 @@
-//! The script language: its lines, what they ask for, the answers as they are printed, and how a run ends.
+//! What the program reads and prints: the settings that a manager is made with, the lines of a script, what they ask for, the answers as they are printed, and how
+//! a run ends.
 #![tactic(auto)]
 
 mod command;
 mod fuses;
 mod lines;
 pub mod render;
+mod settings;
 mod stop;
 mod words;
 
 pub use command::{Command, read_line};
 pub use fuses::{Fuse, Fuses};
 pub use lines::Lines;
+pub use settings::{Devices, FilePair, Settings, read_settings};
 pub use stop::{Status, Stop};

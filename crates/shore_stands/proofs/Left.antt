@@ -9,12 +9,12 @@ use Rattle.shore_gate.specs.Label.{HoldsLabel}
 use Rattle.shore_model.specs.declared.log_records.LogRecord.{LogRecord}
 use Rattle.shore_dwrite.specs.Volumes.{page_at}
 use Rattle.shore_dwrite.specs.declared.places.TheConstants.{GATE_AT}
-use Rattle.shore_recovery.specs.Pages.{LoggedPages, empty_page}
-use Rattle.shore_recovery.specs.Recovery.{RecoveryState}
-use Rattle.shore_stays.proofs.SoundStores.{format_may_be_opened, left_may_be_opened}
-use Rattle.shore_stays.specs.SoundStores.{IsLost, IsSoundStore}
-use Rattle.shore_logged.proofs.Left.{empty_texts, left_cut}
-use Rattle.shore_logged.specs.LoggedHeaps.{LeavesStore}
+use Rattle.shore_lives.specs.Pages.{LoggedPages, empty_page}
+use Rattle.shore_lives.specs.Recovery.{RecoveryState}
+use Rattle.shore_managers.proofs.SoundStores.{format_may_be_opened, left_may_be_opened}
+use Rattle.shore_managers.specs.SoundStores.{IsLost, IsSoundStore}
+use Rattle.shore_stands.proofs.LoggedLeft.{empty_texts, left_cut}
+use Rattle.shore_stands.specs.LoggedHeaps.{LeavesStore}
 use Rattle.shore_format.proofs.FrontLemmas.{front_stays}
 use Rattle.shore_format.specs.Pairs.{AreFormatted}
 use Rattle.shore_fronts.specs.Volumes.{volume_label}

@@ -6,12 +6,12 @@ use Rattle.shore_disk.specs.Device.{History, size}
 use Rattle.shore_disk.proofs.Moments.{started}
 use Rattle.shore_model.specs.declared.log_records.LogRecord.{LogRecord}
 use Rattle.shore_dwrite.specs.declared.places.TheConstants.{GATE_AT}
-use Rattle.shore_recovery.specs.Pages.{LoggedPages}
-use Rattle.shore_recovery.specs.Recovery.{RecoveryEvent, RecoveryState}
-use Rattle.shore_recovery.specs.Restarts.{RestartsTo}
-use Rattle.shore_stays.proofs.SoundStores.{found_sound, restart_sound, restarts_join}
-use Rattle.shore_stays.specs.SoundStores.{found_state}
-use Rattle.shore_stays.specs.Stays.{IsStoredCut, StoredCut}
+use Rattle.shore_lives.specs.Pages.{LoggedPages}
+use Rattle.shore_lives.specs.Recovery.{RecoveryEvent, RecoveryState}
+use Rattle.shore_lives.specs.Restarts.{RestartsTo}
+use Rattle.shore_managers.proofs.SoundStores.{found_sound, restart_sound, restarts_join}
+use Rattle.shore_managers.specs.SoundStores.{found_state}
+use Rattle.shore_managers.specs.Stays.{IsStoredCut, StoredCut}
 use Rattle.shore_stands.proofs.Left.{left_stand}
 use Rattle.shore_stands.specs.Moments.{GivesPrefix, GoesOn, IsLostAlong, Moment, Path, ShowsLeft}
 use Rattle.shore_stands.specs.StandsFor.{HaveFrontsOf, StandsFor, begun_on}

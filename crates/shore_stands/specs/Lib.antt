@@ -1,2 +1,3 @@
+pub mod LoggedHeaps
 pub mod Moments
 pub mod StandsFor

@@ -3,10 +3,10 @@ use Rattle.std.specs.Prelude.{◌≡◌, ◌≤◌, ◌⊎◌, ℕ, List, [], �
 use Rattle.shore_types.specs.declared.layout.Geometry.{Geometry}
 use Rattle.shore_disk.specs.Device.{History, LeavesOnly, left_since, may_leave, moment}
 use Rattle.shore_frames.specs.Frames.{GivesBehind}
-use Rattle.shore_recovery.specs.Pages.{LoggedPages}
-use Rattle.shore_recovery.specs.Recovery.{CrashMayLeave, RecoveryEvent, RecoveryState}
-use Rattle.shore_recovery.specs.Restarts.{RestartsTo}
-use Rattle.shore_logged.specs.LoggedHeaps.{LeavesStore}
+use Rattle.shore_lives.specs.Pages.{LoggedPages}
+use Rattle.shore_lives.specs.Recovery.{CrashMayLeave, RecoveryEvent, RecoveryState}
+use Rattle.shore_lives.specs.Restarts.{RestartsTo}
+use Rattle.shore_stands.specs.LoggedHeaps.{LeavesStore}
 
 -- the calls of both devices so far, and the store over plain data that they stand for
 pub record Moment : Type 0 where

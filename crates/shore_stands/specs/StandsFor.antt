@@ -7,9 +7,9 @@ use Rattle.shore_disk.specs.Device.{History}
 use Rattle.shore_gate.specs.Label.{HoldsLabel}
 use Rattle.shore_model.specs.declared.log_records.LogRecord.{LogRecord}
 use Rattle.shore_dwrite.specs.declared.places.TheConstants.{GATE_AT}
-use Rattle.shore_recovery.specs.Pages.{LoggedPages}
-use Rattle.shore_stays.specs.SoundStores.{MayBeOpened, found_state}
-use Rattle.shore_logged.specs.LoggedHeaps.{LeavesStore}
+use Rattle.shore_lives.specs.Pages.{LoggedPages}
+use Rattle.shore_managers.specs.SoundStores.{MayBeOpened, found_state}
+use Rattle.shore_stands.specs.LoggedHeaps.{LeavesStore}
 use Rattle.shore_format.specs.Fronts.{LogStandsFor}
 use Rattle.shore_fronts.specs.Volumes.{volume_label}
 use Rattle.shore_stands.specs.Moments.{Moment}

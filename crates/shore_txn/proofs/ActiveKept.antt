@@ -9,8 +9,8 @@ use Rattle.shore_page.specs.Room.{HasRoom, raised}
 use Rattle.shore_page.specs.Slots.{Slot, settled, with_change}
 use Rattle.shore_page.specs.Text as text
 use Rattle.shore_page.proofs.Fitting.{fit_in_room}
-use Rattle.shore_sessions.specs.Sessions.{SessionTxn, without_txn}
-use Rattle.shore_sessions.specs.Views.{IsAmong}
+use Rattle.shore_lives.specs.Sessions.{SessionTxn, without_txn}
+use Rattle.shore_lives.specs.Views.{IsAmong}
 use Rattle.shore_room.specs.Claims.{Claimed, SlotCounts, slots_of}
 use Rattle.shore_room.specs.Settling.{let_go, reserved_for, reserved_for_all, settled_slots}
 use Rattle.shore_room.proofs.Fetching.{fetched}

@@ -1,7 +1,7 @@
 -- What holds of each transaction of a list, once one of them has become another or has left.
 use Rattle.std.proofs.Common.{◌≡◌, ◌≢◌, inl, inr, ◌++◌, ◌∷◌, ℕ, List, map, sym, ap, subst, ◌∙◌}
-use Rattle.shore_sessions.specs.Sessions.{EachOnce, SessionTxn, txns_of}
-use Rattle.shore_sessions.specs.Views.{IsAmong}
+use Rattle.shore_lives.specs.Sessions.{EachOnce, SessionTxn, txns_of}
+use Rattle.shore_lives.specs.Views.{IsAmong}
 use Rattle.shore_txn.specs.ActiveTxns.{OneBecomes, OneLeaves, session_txns, sessions_of}
 use Rattle.shore_undo.specs.Txns.{as_session_txn, number_of}
 use Rattle.shore_undo.specs.declared.txn.Txn.{Txn}

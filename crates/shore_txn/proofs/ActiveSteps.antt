@@ -8,16 +8,16 @@ use Rattle.shore_types.specs.declared.ids.Rid.{Rid}
 use Rattle.shore_types.specs.declared.layout.TheConstants.{ENDING_COST}
 use Rattle.shore_page.specs.Slots.{image_len}
 use Rattle.shore_room.specs.LogRooms.{compensation_cost, compensation_costs, owed, owed_by_all}
-use Rattle.shore_sessions.specs.Sessions.{EachOnce, SessionTxn, txns_of, with_undo, without_txn}
-use Rattle.shore_sessions.specs.UndoLists.{UndoList, marks_kept, undo_rolled}
-use Rattle.shore_sessions.specs.Views.{IsAmong}
+use Rattle.shore_lives.specs.Sessions.{EachOnce, SessionTxn, txns_of, with_undo, without_txn}
+use Rattle.shore_lives.specs.UndoLists.{UndoList, marks_kept, undo_rolled}
+use Rattle.shore_lives.specs.Views.{IsAmong}
 use Rattle.shore_txn.specs.ActiveTxns as active
 use Rattle.shore_txn.specs.ActiveTxns.{HasMore, OneBecomes, OneLeaves, all_changes, back_at, session_txns, sessions_of, with_entry, with_mark}
 use Rattle.shore_undo.specs.Txns.{IsAfterChange, IsAfterSavepoint, IsAfterUndo, IsBackAt, IsDoomed, SameTxn, as_session_txn, entries_of, marks_of, number_of, rolling_of, state_of}
 use Rattle.shore_undo.specs.UndoEntries.{claims_on, image_of, images_of}
 use Rattle.shore_txn.specs.declared.active.ActiveTxn.{ActiveTxn}
-use Rattle.shore_sessions.specs.declared.rollbacks.Rollback.{Rollback}
-use Rattle.shore_sessions.specs.declared.rollbacks.Rollback.TheVariants.{Whole}
+use Rattle.shore_lives.specs.declared.rollbacks.Rollback.{Rollback}
+use Rattle.shore_lives.specs.declared.rollbacks.Rollback.TheVariants.{Whole}
 use Rattle.shore_undo.specs.declared.txn.Txn.{Txn}
 use Rattle.shore_undo.specs.declared.undo.UndoEntry.{UndoEntry}
 use Rattle.shore_txn.proofs.ActiveLemmas.{IsAt, txns_join, txns_parts}

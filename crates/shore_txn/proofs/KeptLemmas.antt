@@ -13,7 +13,7 @@ use Rattle.shore_page.specs.Room.{raised}
 use Rattle.shore_page.specs.Slots.{Slot, image_len, settled, with_change}
 use Rattle.shore_page.specs.Text as text
 use Rattle.shore_page.specs.Undo.{claiming}
-use Rattle.shore_sessions.specs.Sessions.{SessionTxn}
+use Rattle.shore_lives.specs.Sessions.{SessionTxn}
 use Rattle.shore_room.specs.Claims.{SlotCounts, rid_on, slots_of, undecided_at}
 use Rattle.shore_room.specs.Settling.{reserved_for, settled_slots}
 use Rattle.shore_room.proofs.Leaving.{map_each}

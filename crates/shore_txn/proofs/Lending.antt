@@ -1,7 +1,7 @@
 -- A transaction of the table that is lent, and what the table is once it has become another.
 use Rattle.std.proofs.Common.{◌≡◌, ◌<◌, ℕ, length, set, sym, ap, subst, ◌∙◌}
 use Rattle.std.specs.List.{HoldsAt, slice_index_or}
-use Rattle.shore_sessions.specs.Views.{IsAmong}
+use Rattle.shore_lives.specs.Views.{IsAmong}
 use Rattle.shore_txn.specs.ActiveTxns.{OneBecomes, undos_of}
 use Rattle.shore_txn.specs.Transactions.{txns_in, undos_in}
 use Rattle.shore_txn.specs.ActiveTxns as active

@@ -4,9 +4,9 @@ use Rattle.std.specs.Prelude.{◌==◌, not}
 use Rattle.std.specs.List.{AllByRecursion}
 use Rattle.std.proofs.lemmas.Bool.{eqb-true, eq-eqb}
 use Rattle.shore_room.specs.LogRooms.{owed, owed_by_all}
-use Rattle.shore_sessions.specs.Sessions.{EachOnce, SessionTxn, txns_of, with_undo, without_txn}
-use Rattle.shore_sessions.specs.UndoLists.{UndoList}
-use Rattle.shore_sessions.specs.Views.{IsAmong}
+use Rattle.shore_lives.specs.Sessions.{EachOnce, SessionTxn, txns_of, with_undo, without_txn}
+use Rattle.shore_lives.specs.UndoLists.{UndoList}
+use Rattle.shore_lives.specs.Views.{IsAmong}
 
 -- ---- elements
 

@@ -1,8 +1,8 @@
 -- Transactions under way, as a list that has the newest first, and the places of their changes.
 use Rattle.std.specs.Prelude.{◌≡◌, ◌/◌, ◌%◌, ◌+◌, ◌++◌, ◌∷◌, [], ℕ, List, Option, None, Some, length, map, reverse, slice_get, take}
 use Rattle.std.specs.Coded.{×_prop, →_prop, Unit-prop}
-use Rattle.shore_sessions.specs.Sessions.{EachOnce, SessionTxn}
-use Rattle.shore_sessions.specs.UndoLists.{UndoList}
+use Rattle.shore_lives.specs.Sessions.{EachOnce, SessionTxn}
+use Rattle.shore_lives.specs.UndoLists.{UndoList}
 use Rattle.shore_txn.specs.declared.active.ActiveTxn.{ActiveTxn}
 use Rattle.shore_txn.specs.declared.claims.TheConstants.{OWN_PLACES}
 use Rattle.shore_undo.specs.declared.txn.Txn.{Txn}

@@ -10,7 +10,7 @@ ghost use Rattle.shore_undo.specs.UndoEntries.{claims_on};
 ghost use Rattle.shore_undo.specs.declared.undo.UndoEntry.{UndoEntry};
 
 use crate::chains::PageChains;
-use shore_sessions::Rollback;
+use shore_lives::Rollback;
 use shore_types::{Lsn, PageId, SessionId, TxnId};
 use shore_undo::{Txn, UndoEntry};
 use std::alloc::{AllocError, Global};

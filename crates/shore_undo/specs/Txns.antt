@@ -1,10 +1,10 @@
 -- A transaction of the table, as the sessions have it.
 use Rattle.std.specs.Prelude.{◌≡◌, ◌+◌, ◌<◌, ◌++◌, ℕ, List, [], ◌∷◌, Option, None, Some, length, take}
 use Rattle.std.specs.Prelude.{vec_capacity, vec_len}
-use Rattle.shore_sessions.specs.Sessions.{SessionTxn}
-use Rattle.shore_sessions.specs.UndoLists.{marks_kept}
-use Rattle.shore_sessions.specs.declared.rollbacks.Rollback.{Rollback}
-use Rattle.shore_sessions.specs.declared.rollbacks.Rollback.TheVariants.{Whole}
+use Rattle.shore_lives.specs.Sessions.{SessionTxn}
+use Rattle.shore_lives.specs.UndoLists.{marks_kept}
+use Rattle.shore_lives.specs.declared.rollbacks.Rollback.{Rollback}
+use Rattle.shore_lives.specs.declared.rollbacks.Rollback.TheVariants.{Whole}
 use Rattle.shore_undo.specs.declared.txn.Txn.{Txn}
 use Rattle.shore_undo.specs.declared.txn_state.TxnState.{TxnState}
 use Rattle.shore_undo.specs.declared.txn_state.TxnState.TheVariants.{Active, RollingBack}

@@ -3,14 +3,14 @@ ghost use Rattle.std.specs.Prelude.{◌≡◌, ◌+◌, ◌<◌, ◌≤◌, ◌+
 ghost use Rattle.shore_types.specs.declared.layout.TheConstants.{ENDING_COST, LAST_TXN, MAX_LOG_BYTES, MAX_RECORD_BYTES, MAX_SAVEPOINTS};
 ghost use Rattle.shore_page.specs.Slots.{image_len};
 ghost use Rattle.shore_room.specs.LogRooms.{compensation_cost, compensation_costs};
-ghost use Rattle.shore_sessions.specs.UndoLists.{marks_kept};
+ghost use Rattle.shore_lives.specs.UndoLists.{marks_kept};
 ghost use Rattle.shore_undo.specs.UndoEntries.{AreShort, claims_on, images_of, number_behind};
 ghost use Rattle.shore_undo.specs.declared.txn_state.TxnState.TheVariants as state;
 ghost use Rattle.shore_undo.specs.declared.undo.UndoEntry.{UndoEntry};
 
 use crate::txn_state::TxnState;
 use crate::undo::UndoEntry;
-use shore_sessions::Rollback;
+use shore_lives::Rollback;
 use shore_types::layout::ENDING_COST;
 use shore_types::{Lsn, PageId, SessionId, TxnId};
 use std::alloc::{AllocError, Global};

@@ -1,5 +1,5 @@
 //! What a transaction under way may do.
-use shore_sessions::Rollback;
+use shore_lives::Rollback;
 
 #[derive(Clone, Copy)]
 pub enum TxnState {

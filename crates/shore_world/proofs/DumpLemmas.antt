@@ -7,7 +7,7 @@ use Rattle.shore_log.specs.Settled.{records_of_log}
 use Rattle.shore_log.specs.declared.device.LogDev.{LogDev}
 use Rattle.shore_calls.specs.StateChanges.{after_refusal, with_failure}
 use Rattle.shore_calls.specs.States.{State}
-use Rattle.shore_recovery.specs.Recovery.{RecoveryState}
+use Rattle.shore_lives.specs.Recovery.{RecoveryState}
 use Rattle.shore_core.specs.Cores as cores
 use Rattle.shore_core.specs.Cores.{heap_of}
 use Rattle.shore_core.specs.Replies.{Fails, InEach, MayLeave, SameVolume}

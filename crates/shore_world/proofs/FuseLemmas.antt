@@ -2,7 +2,7 @@
 use Rattle.std.proofs.Common.{◌≡◌, ℕ, List}
 use Rattle.shore_disk.specs.declared.device.Disk.{Ghosts}
 use Rattle.shore_calls.specs.States.{State}
-use Rattle.shore_recovery.specs.Recovery.{RecoveryState}
+use Rattle.shore_lives.specs.Recovery.{RecoveryState}
 use Rattle.shore_core.specs.Cores as cores
 use Rattle.shore_core.specs.Replies.{SameVolume}
 use Rattle.shore_world.specs.declared.world.World.{World}

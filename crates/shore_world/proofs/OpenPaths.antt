@@ -26,13 +26,13 @@ use Rattle.shore_heap.specs.Contents.{unclaimed}
 use Rattle.shore_heap.specs.declared.heap.Heap.{Heap}
 use Rattle.shore_heap.specs.Heaps as heaps
 use Rattle.shore_room.specs.Claims.{each_from}
-use Rattle.shore_bounds.specs.SlotCounts.{slot_count}
-use Rattle.shore_recovery.specs.Pages.{LoggedPages}
-use Rattle.shore_recovery.specs.Recovery.{RecoveryState}
-use Rattle.shore_stays.proofs.SoundStores.{found_sound}
-use Rattle.shore_stays.specs.SoundStores.{found_state}
-use Rattle.shore_logged.specs.LoggedHeaps.{AreTextsOf, HasImages}
-use Rattle.shore_logged.proofs.Left.{opened_is}
+use Rattle.shore_managers.specs.SlotCounts.{slot_count}
+use Rattle.shore_lives.specs.Pages.{LoggedPages}
+use Rattle.shore_lives.specs.Recovery.{RecoveryState}
+use Rattle.shore_managers.proofs.SoundStores.{found_sound}
+use Rattle.shore_managers.specs.SoundStores.{found_state}
+use Rattle.shore_stands.specs.LoggedHeaps.{AreTextsOf, HasImages}
+use Rattle.shore_stands.proofs.LoggedLeft.{opened_is}
 use Rattle.shore_fronts.specs.Fronts.{HasFront}
 use Rattle.shore_fronts.specs.Pairs.{HaveFronts}
 use Rattle.shore_fronts.specs.Volumes.{volume_label}

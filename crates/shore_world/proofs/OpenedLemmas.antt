@@ -6,12 +6,12 @@ use Rattle.shore_disk.specs.Device.{size}
 use Rattle.shore_disk.specs.declared.device.Disk.{Ghosts}
 use Rattle.shore_model.specs.declared.log_records.LogRecord.{LogRecord}
 use Rattle.shore_log.specs.Settled.{records_of_log}
-use Rattle.shore_recovery.specs.Recovery.{IsRecoverable, RecoveryState}
-use Rattle.shore_recovery.specs.Restarts.{IsRestartOf}
-use Rattle.shore_recovery.specs.Undo.{HasNoLosers}
-use Rattle.shore_recovery.proofs.Restarts.{events_restart}
-use Rattle.shore_bounds.proofs.Managers.{opened_over}
-use Rattle.shore_logged.proofs.Left.{left_settled}
+use Rattle.shore_lives.specs.Recovery.{IsRecoverable, RecoveryState}
+use Rattle.shore_lives.specs.Restarts.{IsRestartOf}
+use Rattle.shore_lives.specs.Undo.{HasNoLosers}
+use Rattle.shore_lives.proofs.Restarts.{events_restart}
+use Rattle.shore_managers.proofs.ManagerLogs.{opened_over}
+use Rattle.shore_stands.proofs.LoggedLeft.{left_settled}
 use Rattle.shore_stands.specs.Moments.{Moment, Path}
 use Rattle.shore_stands.proofs.Paths.{path_restarts}
 use Rattle.shore_restart.specs.Opened.{OpensIn}

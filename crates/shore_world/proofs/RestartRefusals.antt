@@ -7,13 +7,13 @@ use Rattle.shore_types.specs.declared.layout.Geometry.{Geometry}
 use Rattle.shore_types.specs.declared.layout.TheConstants.{MAX_LOG_BYTES}
 use Rattle.shore_model.specs.declared.log_records.LogRecord.{LogRecord}
 use Rattle.shore_model.specs.Logs.{Lawful}
-use Rattle.shore_recovery.specs.Undo.{undo_record}
+use Rattle.shore_lives.specs.Undo.{undo_record}
 use Rattle.shore_gate.specs.Checks.{IsFromOutside}
-use Rattle.shore_bounds.specs.RoomyLogs.{AreRoomy}
-use Rattle.shore_bounds.proofs.Opens.{fits_stream, has_numbers, meant, undo_fits}
-use Rattle.shore_bounds.proofs.Prefixes.{whole_roomy}
-use Rattle.shore_bounds.proofs.Redoing.{each_fits}
-use Rattle.shore_bounds.proofs.Undoing.{turns_are_roomy, undone_are_roomy}
+use Rattle.shore_managers.specs.RoomyLogs.{AreRoomy}
+use Rattle.shore_managers.proofs.Opens.{fits_stream, has_numbers, meant, undo_fits}
+use Rattle.shore_managers.proofs.Prefixes.{whole_roomy}
+use Rattle.shore_managers.proofs.Redoing.{each_fits}
+use Rattle.shore_managers.proofs.Undoing.{turns_are_roomy, undone_are_roomy}
 use Rattle.shore_analysis.specs.Meant.{GoesOn}
 use Rattle.shore_restart.specs.declared.errors.RestartError.{RestartError}
 use Rattle.shore_restart.specs.declared.errors.RestartError.TheVariants as error

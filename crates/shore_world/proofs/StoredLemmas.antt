@@ -9,7 +9,7 @@ use Rattle.shore_disk.specs.declared.device.Disk.{Ghosts}
 use Rattle.shore_model.specs.declared.calls.Answer.TheVariants.{Staged, Forced}
 use Rattle.shore_model.specs.declared.histories.Entry.{Entry}
 use Rattle.shore_model.specs.declared.log_records.LogRecord.{LogRecord}
-use Rattle.shore_recovery.specs.Recovery.{RecoveryEvent, RecoveryState}
+use Rattle.shore_lives.specs.Recovery.{RecoveryEvent, RecoveryState}
 use Rattle.shore_lives.specs.ManagerSteps.{WorksTo}
 use Rattle.shore_calls.specs.declared.step.Step.{Step}
 use Rattle.shore_calls.specs.declared.step.Step.TheVariants.{Done, Waits, Refused, Nothing}
@@ -18,10 +18,10 @@ use Rattle.shore_calls.specs.StateChanges.{with_failure}
 use Rattle.shore_calls.specs.Events as calls
 use Rattle.shore_calls.specs.States.{State, cost_of_log}
 use Rattle.shore_managers.specs.StoredRuns.{IsStored, Manage, StoredEvent, StoredMoves, StoredState, StoredSteps, Tend, entries_made}
-use Rattle.shore_bounds.proofs.Opens.{fits_stream}
-use Rattle.shore_bounds.proofs.Prefixes.{whole_roomy}
-use Rattle.shore_stays.proofs.UnderWay.{managed_join, moves_join, step_under_way, under_way_inside}
-use Rattle.shore_stays.specs.SoundStores.{IsUnderWay, managed}
+use Rattle.shore_managers.proofs.Opens.{fits_stream}
+use Rattle.shore_managers.proofs.Prefixes.{whole_roomy}
+use Rattle.shore_managers.proofs.UnderWay.{managed_join, moves_join, step_under_way, under_way_inside}
+use Rattle.shore_managers.specs.SoundStores.{IsUnderWay, managed}
 use Rattle.shore_stands.specs.Moments.{GivesPrefix, ShowsLeft}
 use Rattle.shore_core.specs.Cores.{IsSafe}
 use Rattle.shore_core.specs.Flushing.{FlushMoves}

@@ -9,12 +9,12 @@ use Rattle.shore_heap.specs.Heaps.{LeavesPages}
 use Rattle.shore_model.specs.declared.log_records.LogRecord.{LogRecord}
 use Rattle.shore_log.specs.Settled.{records_of_log}
 use Rattle.shore_calls.specs.States.{State}
-use Rattle.shore_recovery.specs.Pages.{LoggedPages}
-use Rattle.shore_recovery.specs.Recovery.{CrashMayLeave, ForceLog, RecoveryEvent, RecoveryState, after_force}
+use Rattle.shore_lives.specs.Pages.{LoggedPages}
+use Rattle.shore_lives.specs.Recovery.{CrashMayLeave, ForceLog, RecoveryEvent, RecoveryState, after_force}
 use Rattle.shore_lives.specs.ManagerSteps.{WorksTo}
-use Rattle.shore_logged.specs.LoggedHeaps.{LeavesStore}
-use Rattle.shore_logged.proofs.Flushes.{left_amid}
-use Rattle.shore_logged.proofs.Left.{left_settled}
+use Rattle.shore_stands.specs.LoggedHeaps.{LeavesStore}
+use Rattle.shore_stands.proofs.Flushes.{left_amid}
+use Rattle.shore_stands.proofs.LoggedLeft.{left_settled}
 use Rattle.shore_core.specs.Cores as cores
 use Rattle.shore_core.specs.Cores.{FailsOver, IsKept, IsSafe, durable_of, heap_of}
 use Rattle.shore_core.specs.Flushing.{AreFlushes}

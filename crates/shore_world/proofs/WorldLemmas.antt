@@ -13,7 +13,7 @@ use Rattle.shore_log.specs.declared.device.LogDev.{LogDev}
 use Rattle.shore_log.proofs.ForceLemmas.{settled_gives}
 use Rattle.shore_frames.proofs.LoggedLemmas.{take-more_group}
 use Rattle.shore_calls.specs.States.{State}
-use Rattle.shore_recovery.specs.Recovery.{RecoveryState, after_force}
+use Rattle.shore_lives.specs.Recovery.{RecoveryState, after_force}
 use Rattle.shore_log.specs.declared.tail.Tail as tail
 use Rattle.shore_core.specs.declared.core_calls.Core.{Core}
 use Rattle.shore_core.specs.Cores.{IsBeside, IsSafe, tail_of, waiting_of}

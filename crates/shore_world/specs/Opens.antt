@@ -9,10 +9,10 @@ use Rattle.shore_dwrite.specs.declared.places.TheConstants.{GATE_AT}
 use Rattle.shore_model.specs.declared.log_records.LogRecord.{LogRecord}
 use Rattle.shore_analysis.specs.declared.analysis.Tables.{Tables}
 use Rattle.shore_analysis.specs.Tables.{AreTables}
-use Rattle.shore_recovery.specs.Pages.{LoggedPages}
-use Rattle.shore_recovery.specs.Undo.{HasNoLosers}
+use Rattle.shore_lives.specs.Pages.{LoggedPages}
+use Rattle.shore_lives.specs.Undo.{HasNoLosers}
 use Rattle.shore_managers.specs.StoredRuns.{IsOpenedOver}
-use Rattle.shore_bounds.specs.RoomyStates.{IsOpenedFrom}
+use Rattle.shore_managers.specs.RoomyStates.{IsOpenedFrom}
 use Rattle.shore_calls.specs.States.{State}
 use Rattle.shore_stands.specs.Moments.{Moment, Path}
 use Rattle.shore_stands.specs.StandsFor.{begun_on}

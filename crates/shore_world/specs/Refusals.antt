@@ -18,7 +18,7 @@ use Rattle.shore_dwrite.specs.Shown.{Shows}
 use Rattle.shore_dwrite.specs.Volumes.{HasNoPage, page_number, page_offset, part}
 use Rattle.shore_dwrite.specs.declared.places.TheConstants.{GATE_AT}
 use Rattle.shore_fronts.specs.Pairs.{HaveFronts, RefusesFronts}
-use Rattle.shore_recovery.specs.Pages.{LoggedPages}
+use Rattle.shore_lives.specs.Pages.{LoggedPages}
 use Rattle.shore_restart.specs.Turns.{LacksRoom}
 use Rattle.shore_stands.specs.StandsFor.{StandsFor}
 

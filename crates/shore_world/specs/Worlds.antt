@@ -20,10 +20,10 @@ use Rattle.shore_log.specs.Settled.{records_of_log, IsSettled, IsStaged}
 use Rattle.shore_fronts.specs.Causes.{HasCauseOfPair}
 use Rattle.shore_pool.specs.Pools.{Holds}
 use Rattle.shore_heap.specs.Heaps.{WroteBack, limit_of, pool_of}
-use Rattle.shore_recovery.specs.Pages.{LoggedPages}
-use Rattle.shore_recovery.specs.Recovery.{CrashMayLeave, RecoveryEvent, RecoveryState}
+use Rattle.shore_lives.specs.Pages.{LoggedPages}
+use Rattle.shore_lives.specs.Recovery.{CrashMayLeave, RecoveryEvent, RecoveryState}
 use Rattle.shore_lives.specs.ManagerSteps.{WorksTo}
-use Rattle.shore_logged.specs.LoggedHeaps.{LeavesStore}
+use Rattle.shore_stands.specs.LoggedHeaps.{LeavesStore}
 use Rattle.shore_core.specs.Cores as cores
 use Rattle.shore_core.specs.Cores.{IsIn, IsOver, IsSafe}
 use Rattle.shore_core.specs.Flushing.{AreFlushes, FlushAnswers, FlushMoves}

@@ -12,7 +12,7 @@ ghost use Rattle.shore_disk.specs.Memory.{picked_after};
 ghost use Rattle.shore_log.specs.Settled.{records_of_log, stable};
 ghost use Rattle.shore_calls.specs.StateChanges.{IsPageFault, with_failure};
 ghost use Rattle.shore_calls.specs.States.{State};
-ghost use Rattle.shore_recovery.specs.Recovery.{RecoveryState};
+ghost use Rattle.shore_lives.specs.Recovery.{RecoveryState};
 ghost use Rattle.shore_core.specs.Cores.{IsSafe, durable_of, first_of, heap_of, waiting_of};
 ghost use Rattle.shore_world.specs.Events.{IsServedEvent, ReadBy};
 
@@ -50,7 +50,7 @@ impl<L: Disk, V: Disk> World<L, V> {
     ghost use Rattle.shore_gate.specs.Checks.{IsFromOutside};
     ghost use Rattle.shore_disk.specs.Device.{Stands};
     ghost use Rattle.shore_dwrite.specs.Shown.{Shows};
-    ghost use Rattle.shore_recovery.specs.Pages.{LoggedPages};
+    ghost use Rattle.shore_lives.specs.Pages.{LoggedPages};
     ghost use Rattle.shore_model.specs.declared.log_records.LogRecord.{LogRecord};
     ghost use Rattle.shore_types.specs.declared.layout.Geometry.{Geometry};
     ghost use Rattle.shore_types.specs.declared.layout.TheConstants.{MAX_PAGES, MIN_POOL_FRAMES};

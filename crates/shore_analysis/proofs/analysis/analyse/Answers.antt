@@ -1,7 +1,7 @@
 use Rattle.std.proofs.Common.{◌≡◌, ◌<◌, ℕ, Some, length, take, take_all, sym, ap, subst, refl, arith}
 use Rattle.std.specs.Prelude.{slice_get}
 use Rattle.std.proofs.lemmas.Option.{slice_get_read}
-use Rattle.shore_recovery.proofs.Redo.{take_next}
+use Rattle.shore_lives.proofs.Redo.{take_next}
 use Rattle.shore_analysis.specs.declared.analysis.NotAnalysed.{NotAnalysed}
 use Rattle.shore_analysis.specs.declared.analysis.NotAnalysed.TheVariants.{Memory, Unlawful}
 use Rattle.shore_analysis.specs.Meant.{AreMeant, GoesOn}

@@ -7,7 +7,7 @@ use Rattle.shore_dwrite.proofs.Moves.{if_err}
 use Rattle.shore_model.specs.declared.log_records.LogRecord.{LogRecord}
 use Rattle.shore_types.specs.Layout.{HasPage}
 use Rattle.shore_types.specs.declared.layout.Geometry.{Geometry}
-use Rattle.shore_recovery.specs.Pages.{LoggedPages}
+use Rattle.shore_lives.specs.Pages.{LoggedPages}
 use Rattle.shore_restart.specs.declared.errors.RestartError.{RestartError}
 use Rattle.shore_restart.specs.declared.errors.RestartError.TheVariants.{BadRecord}
 use Rattle.shore_restart.specs.Standing.{Redoes}

@@ -2,7 +2,7 @@ use Rattle.std.proofs.Common.{Err, arith, refl, sym, ap, subst, ◌∙◌, lengt
 use Rattle.shore_heap.specs.declared.heap.Heap.{Heap}
 use Rattle.shore_heap.specs.Heaps.{geometry_of}
 use Rattle.shore_model.specs.Logs.{Lawful}
-use Rattle.shore_recovery.specs.Undo.{HasNoLosers}
+use Rattle.shore_lives.specs.Undo.{HasNoLosers}
 use Rattle.shore_log.specs.Settled.{records_of_log}
 use Rattle.shore_stands.specs.Moments.{Path}
 use Rattle.shore_restart.specs.Standing.{log_history, moment_of, stream_bytes_of}

@@ -3,7 +3,7 @@ use Rattle.shore_log.specs.Settled.{records_of_log}
 use Rattle.std.specs.Prelude.{IsSome}
 use Rattle.shore_model.specs.declared.log_records.Payload.{Payload}
 use Rattle.shore_model.specs.Logs.{id_in, image_in, unanswered}
-use Rattle.shore_recovery.specs.Undo.{undo_record}
+use Rattle.shore_lives.specs.Undo.{undo_record}
 use Rattle.shore_restart.proofs.Causes.{err_to}
 use Rattle.shore_restart.proofs.Turning.{append_without, undo_without}
 use Rattle.shore_restart.proofs.HeldPages.{held_beside, held_here}

@@ -1,7 +1,7 @@
 use Rattle.std.proofs.Common.{◌≡◌, ℕ, inl, inr, Result, false, true, refl, sym, ap, subst, ◌∙◌, length, arith}
 use Rattle.shore_log.specs.Settled.{records_of_log}
 use Rattle.shore_heap.specs.Heaps.{geometry_of, history_of}
-use Rattle.shore_recovery.specs.Recovery.{after_force}
+use Rattle.shore_lives.specs.Recovery.{after_force}
 use Rattle.shore_restart.specs.declared.errors.RestartError.{RestartError}
 use Rattle.shore_restart.specs.Standing.{Moves, log_history, moment_of}
 use Rattle.shore_restart.proofs.Causes.{device_alone, err_to, force_runs, none_above}

@@ -6,10 +6,10 @@ use Rattle.shore_dwrite.proofs.Moves.{if_err}
 use Rattle.shore_model.specs.declared.log_records.LogRecord.{LogRecord}
 use Rattle.shore_page.specs.Room.{Fits}
 use Rattle.shore_page.specs.Slots.{image_len}
-use Rattle.shore_bounds.specs.SlotCounts.{slots_left}
+use Rattle.shore_managers.specs.SlotCounts.{slots_left}
 use Rattle.shore_heap.specs.Heaps.{frame_of}
 use Rattle.shore_log.specs.Settled.{records_of_log}
-use Rattle.shore_recovery.specs.Recovery.{RecoveryState}
+use Rattle.shore_lives.specs.Recovery.{RecoveryState}
 use Rattle.shore_restart.specs.declared.errors.RestartError.{RestartError}
 use Rattle.shore_restart.specs.declared.errors.RestartError.TheVariants.{BadRecord}
 use Rattle.shore_restart.specs.Standing.{Appends}

@@ -1,6 +1,6 @@
 use Rattle.std.proofs.Common.{refl}
 use Rattle.std.specs.FinMap.{get}
-use Rattle.shore_sessions.specs.UndoLists.{with_before_image}
+use Rattle.shore_lives.specs.UndoLists.{with_before_image}
 use Rattle.shore_room.proofs.LogRooms.{begun_has, changed_has, ended_takes, marked_has, undone_takes}
 use Rattle.shore_room.proofs.laws.steps_keep_log_room.Goals as goal
 

@@ -1,5 +1,5 @@
 use Rattle.std.proofs.Common.{inr, refl}
-use Rattle.shore_sessions.specs.Sessions.{txn_begun}
+use Rattle.shore_lives.specs.Sessions.{txn_begun}
 use Rattle.shore_control.specs.Controls.{txns_in, waits_in}
 use Rattle.shore_control.proofs.Answered.{err_so, ok_so}
 use Rattle.shore_control.proofs.TxnSteps.{txns_begun, txns_unchanged}

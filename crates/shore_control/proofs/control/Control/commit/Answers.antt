@@ -1,8 +1,8 @@
 use Rattle.std.proofs.Common.{◌≡◌, ◌≢◌, ◌++◌, ◌∷◌, [], None, sym, ap, subst, ◌∙◌}
 use Rattle.std.specs.Prelude.{All}
 use Rattle.shore_model.specs.declared.calls.Call.TheVariants as call
-use Rattle.shore_sessions.specs.Sessions.{EachOnce, txns_of}
-use Rattle.shore_sessions.specs.Views.{IsAmong}
+use Rattle.shore_lives.specs.Sessions.{EachOnce, txns_of}
+use Rattle.shore_lives.specs.Views.{IsAmong}
 use Rattle.shore_calls.specs.StateChanges.{committed}
 use Rattle.shore_calls.specs.States.{next_number}
 use Rattle.shore_calls.specs.declared.step.Wait.TheVariants.{Durable}

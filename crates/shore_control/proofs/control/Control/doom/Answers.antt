@@ -1,5 +1,5 @@
 use Rattle.std.proofs.Common.{subst}
-use Rattle.shore_sessions.specs.Views.{IsAmong}
+use Rattle.shore_lives.specs.Views.{IsAmong}
 use Rattle.shore_control.specs.Controls.{txns_in}
 use Rattle.shore_control.proofs.NotedVictims.{txns_doomed}
 use Rattle.shore_control.proofs.control.Control.doom.Goals as goal

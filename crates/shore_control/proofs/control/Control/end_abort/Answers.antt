@@ -2,8 +2,8 @@ use Rattle.std.proofs.Common.{◌≢◌, ℕ, [], sym, ap, subst, ◌∙◌}
 use Rattle.std.specs.Prelude.{All}
 use Rattle.shore_locks.specs.Grants.{released}
 use Rattle.shore_locks.specs.Tables.{Table}
-use Rattle.shore_sessions.specs.Sessions.{EachOnce, txns_of}
-use Rattle.shore_sessions.specs.Views.{IsAmong}
+use Rattle.shore_lives.specs.Sessions.{EachOnce, txns_of}
+use Rattle.shore_lives.specs.Views.{IsAmong}
 use Rattle.shore_control.specs.Controls.{locks_in, txns_in, waits_in}
 use Rattle.shore_control.specs.declared.waits.WaitingCall.{WaitingCall}
 use Rattle.shore_control.proofs.RollbackSteps.{txns_aborted}

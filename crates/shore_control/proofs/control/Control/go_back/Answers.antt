@@ -1,10 +1,10 @@
 use Rattle.std.proofs.Common.{refl, sym, ap, subst, ◌∙◌}
 use Rattle.shore_model.specs.declared.calls.Answer.TheVariants.{WentBack}
 use Rattle.shore_model.specs.declared.calls.Call.TheVariants as call
-use Rattle.shore_sessions.specs.Logged.{and_compensations}
-use Rattle.shore_sessions.specs.Sessions.{with_undo}
-use Rattle.shore_sessions.specs.UndoLists.{mark_of, undo_after_answer}
-use Rattle.shore_sessions.specs.Views.{IsAmong}
+use Rattle.shore_lives.specs.Logged.{and_compensations}
+use Rattle.shore_lives.specs.Sessions.{with_undo}
+use Rattle.shore_lives.specs.UndoLists.{mark_of, undo_after_answer}
+use Rattle.shore_lives.specs.Views.{IsAmong}
 use Rattle.shore_calls.specs.StateChanges.{answered}
 use Rattle.shore_calls.specs.States.{State}
 use Rattle.shore_txn.proofs.ActiveSteps.{becomes_so}

@@ -1,6 +1,6 @@
 use Rattle.std.proofs.Common.{◌∙◌, ◌+◌, refl, sym, ap, subst}
-use Rattle.shore_sessions.specs.UndoLists.{with_before_image}
-use Rattle.shore_sessions.specs.Views.{IsAmong}
+use Rattle.shore_lives.specs.UndoLists.{with_before_image}
+use Rattle.shore_lives.specs.Views.{IsAmong}
 use Rattle.shore_txn.specs.Transactions.{room_in}
 use Rattle.shore_control.specs.Controls.{txns_in, waits_in}
 use Rattle.shore_control.specs.Standing.{changed}

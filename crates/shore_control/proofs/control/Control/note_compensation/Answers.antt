@@ -1,6 +1,6 @@
 use Rattle.std.proofs.Common.{refl, sym, subst}
-use Rattle.shore_sessions.specs.Views.{IsAmong}
-use Rattle.shore_sessions.specs.UndoLists.{undo_rolled}
+use Rattle.shore_lives.specs.Views.{IsAmong}
+use Rattle.shore_lives.specs.UndoLists.{undo_rolled}
 use Rattle.shore_undo.specs.UndoEntries.{image_of}
 use Rattle.shore_control.specs.Controls.{txns_in, waits_in}
 use Rattle.shore_control.specs.Standing.{put_back}

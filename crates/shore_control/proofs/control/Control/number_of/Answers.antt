@@ -1,5 +1,5 @@
 use Rattle.std.proofs.Common.{sym, ap, ◌∙◌}
-use Rattle.shore_sessions.specs.Sessions.{SessionTxn}
+use Rattle.shore_lives.specs.Sessions.{SessionTxn}
 use Rattle.shore_txn.specs.Transactions as table
 use Rattle.shore_undo.specs.Txns.{as_session_txn}
 use Rattle.shore_txn.proofs.OneOfMany.{once_same}

@@ -3,8 +3,8 @@ use Rattle.std.specs.Prelude.{IfOk, OnErr, OnOk}
 use Rattle.std.specs.declared.alloc.AllocError.{AllocError}
 use Rattle.shore_model.specs.declared.calls.Answer.TheVariants.{Saved}
 use Rattle.shore_model.specs.declared.calls.Call.TheVariants as call
-use Rattle.shore_sessions.specs.Sessions.{SessionTxn, with_undo}
-use Rattle.shore_sessions.specs.Views.{IsAmong}
+use Rattle.shore_lives.specs.Sessions.{SessionTxn, with_undo}
+use Rattle.shore_lives.specs.Views.{IsAmong}
 use Rattle.shore_calls.specs.StateChanges.{answered}
 use Rattle.shore_calls.specs.States.{IsOfSession, State}
 use Rattle.shore_txn.specs.ActiveTxns.{OneBecomes, with_mark}

@@ -1,5 +1,5 @@
 use Rattle.std.proofs.Common.{subst}
-use Rattle.shore_sessions.specs.Views.{IsAmong}
+use Rattle.shore_lives.specs.Views.{IsAmong}
 use Rattle.shore_control.proofs.Answered.{none_so}
 use Rattle.shore_control.proofs.control.Control.txn.Goals as goal
 

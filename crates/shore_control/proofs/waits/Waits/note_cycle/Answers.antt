@@ -1,5 +1,5 @@
 use Rattle.std.proofs.Common.{refl, set, subst, sym, ap, ◌∙◌}
-use Rattle.shore_sessions.specs.Views.{IsAmong}
+use Rattle.shore_lives.specs.Views.{IsAmong}
 use Rattle.shore_control.specs.Calls.{is_commit}
 use Rattle.shore_control.specs.Waits.{calls_in}
 use Rattle.shore_control.specs.declared.waits.WaitingCall.{WaitingCall}

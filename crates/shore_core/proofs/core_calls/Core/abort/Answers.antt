@@ -1,8 +1,8 @@
 use Rattle.std.proofs.Common.{◌≢◌, inl, inr, List, All, refl, sym, ap, subst, ◌∙◌, arith}
 use Rattle.shore_types.specs.declared.layout.Geometry.{Geometry}
 use Rattle.shore_pool.specs.Pools.{NeedsForce}
-use Rattle.shore_sessions.specs.Views.{IsAmong}
-use Rattle.shore_sessions.specs.declared.rollbacks.Rollback.TheVariants.{Whole}
+use Rattle.shore_lives.specs.Views.{IsAmong}
+use Rattle.shore_lives.specs.declared.rollbacks.Rollback.TheVariants.{Whole}
 use Rattle.shore_heap.specs.Heaps as heaps
 use Rattle.shore_control.proofs.WaitSteps.{in_none}
 use Rattle.shore_control.specs.declared.waits.WaitingCall.{WaitingCall}

@@ -1,5 +1,5 @@
 use Rattle.std.proofs.Common.{◌≡◌, inr, None, Some, refl, sym, ap, ◌∙◌}
-use Rattle.shore_sessions.specs.declared.rollbacks.Rollback.{Rollback}
+use Rattle.shore_lives.specs.declared.rollbacks.Rollback.{Rollback}
 use Rattle.shore_undo.specs.Txns.{as_session_txn, rolling_of}
 use Rattle.shore_core.proofs.core_calls.Core.active.Goals as goal
 

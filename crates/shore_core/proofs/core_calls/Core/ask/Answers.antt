@@ -6,7 +6,7 @@ use Rattle.shore_path.specs.Acquires.{IsReached}
 use Rattle.shore_path.specs.declared.answers.Acquired.{Acquired}
 use Rattle.shore_path.specs.declared.answers.Acquired.TheVariants as acquire
 use Rattle.shore_held.specs.CallLocks.{Asked}
-use Rattle.shore_sessions.specs.Views.{IsAmong}
+use Rattle.shore_lives.specs.Views.{IsAmong}
 use Rattle.shore_calls.specs.CallSteps.{MayAsk, RefusesEarly, lock_waiting}
 use Rattle.shore_calls.specs.LockRounds.{LocksTo}
 use Rattle.shore_calls.specs.States.{DoesNotWait, State}

@@ -3,9 +3,9 @@ use Rattle.shore_types.specs.declared.layout.TheConstants.{LAST_OPENED}
 use Rattle.shore_model.specs.declared.calls.Answer.TheVariants.{WentBack}
 use Rattle.shore_model.specs.declared.calls.Call.TheVariants as call
 use Rattle.shore_pool.specs.Pools.{NeedsForce}
-use Rattle.shore_sessions.specs.UndoLists.{MayRoll}
-use Rattle.shore_sessions.specs.Views.{IsAmong}
-use Rattle.shore_sessions.specs.declared.rollbacks.Rollback.TheVariants.{To}
+use Rattle.shore_lives.specs.UndoLists.{MayRoll}
+use Rattle.shore_lives.specs.Views.{IsAmong}
+use Rattle.shore_lives.specs.declared.rollbacks.Rollback.TheVariants.{To}
 use Rattle.shore_calls.proofs.RollingCalls.{mark_of_within}
 use Rattle.shore_calls.specs.StateChanges.{answered}
 use Rattle.shore_calls.specs.States.{State}

@@ -4,8 +4,8 @@ use Rattle.shore_types.specs.declared.layout.TheConstants.{ENDING_COST}
 use Rattle.shore_model.specs.declared.calls.Answer.TheVariants.{Began}
 use Rattle.shore_model.specs.declared.calls.Call.TheVariants as call
 use Rattle.shore_room.proofs.Leaving.{begun_slots}
-use Rattle.shore_sessions.specs.Sessions.{txn_begun}
-use Rattle.shore_sessions.specs.UndoLists.{nothing_to_undo}
+use Rattle.shore_lives.specs.Sessions.{txn_begun}
+use Rattle.shore_lives.specs.UndoLists.{nothing_to_undo}
 use Rattle.shore_calls.specs.States.{State, page_slots}
 use Rattle.shore_heap.proofs.Showing.{shows_same}
 use Rattle.shore_control.specs.Controls.{txns_in}

@@ -16,11 +16,11 @@ use Rattle.shore_heap.specs.Contents.{with_slots}
 use Rattle.shore_heap.specs.Heaps.{Shows, frame_of}
 use Rattle.shore_room.specs.LogRooms.{compensation_cost}
 use Rattle.shore_room.proofs.Costs.{compensation_bytes}
-use Rattle.shore_sessions.specs.Sessions.{SessionTxn}
-use Rattle.shore_sessions.specs.Views.{IsAmong}
+use Rattle.shore_lives.specs.Sessions.{SessionTxn}
+use Rattle.shore_lives.specs.Views.{IsAmong}
 use Rattle.shore_calls.specs.States.{HasRoomFor, page_slots}
-use Rattle.shore_logged.specs.LoggedHeaps.{IsMade}
-use Rattle.shore_logged.proofs.Made.{appended_is}
+use Rattle.shore_stands.specs.LoggedHeaps.{IsMade}
+use Rattle.shore_stands.proofs.Made.{appended_is}
 use Rattle.shore_txn.specs.Transactions.{kept_in, room_in}
 use Rattle.shore_undo.specs.Txns.{as_session_txn}
 use Rattle.shore_txn.proofs.OneOfMany.{once_same}

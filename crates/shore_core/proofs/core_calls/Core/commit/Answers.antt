@@ -12,9 +12,9 @@ use Rattle.shore_model.specs.Logs.{previous_of}
 use Rattle.shore_model.proofs.LogSteps.{take-whole}
 use Rattle.shore_pool.proofs.Same.{pages_on, pages_stay}
 use Rattle.shore_heap.specs.Heaps.{Shows, frame_at, frame_of}
-use Rattle.shore_recovery.specs.Recovery.{after_append}
-use Rattle.shore_sessions.specs.Sessions.{without_txn}
-use Rattle.shore_sessions.specs.Views.{IsAmong}
+use Rattle.shore_lives.specs.Recovery.{after_append}
+use Rattle.shore_lives.specs.Sessions.{without_txn}
+use Rattle.shore_lives.specs.Views.{IsAmong}
 use Rattle.shore_calls.specs.StateChanges.{committed}
 use Rattle.shore_calls.specs.States.{State, page_slots}
 use Rattle.shore_calls.specs.declared.step.Wait.TheVariants.{Durable}
@@ -28,7 +28,7 @@ use Rattle.shore_undo.specs.declared.undo.UndoEntry.{UndoEntry}
 use Rattle.shore_control.specs.Controls.{txns_in}
 use Rattle.shore_control.specs.Standing.{IsLogged}
 use Rattle.shore_control.specs.declared.control.Control.{Control}
-use Rattle.shore_logged.proofs.Made.{appended_without}
+use Rattle.shore_stands.proofs.Made.{appended_without}
 use Rattle.shore_core.specs.Cores.{control_of, durable_of, first_of, has_failed, txns_of, waiting_of}
 use Rattle.shore_core.specs.Parts.{HasParts}
 use Rattle.shore_core.proofs.Changed.{same_geometry, same_history}

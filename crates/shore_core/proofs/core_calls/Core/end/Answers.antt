@@ -4,8 +4,8 @@ use Rattle.std.proofs.lemmas.Bool.{eqb-true}
 use Rattle.shore_model.specs.declared.log_records.LogRecord.{LogRecord}
 use Rattle.shore_model.specs.declared.log_records.Payload.TheVariants.{End}
 use Rattle.shore_model.specs.Logs.{previous_of}
-use Rattle.shore_sessions.specs.Sessions.{SessionTxn}
-use Rattle.shore_sessions.specs.Views.{IsAmong}
+use Rattle.shore_lives.specs.Sessions.{SessionTxn}
+use Rattle.shore_lives.specs.Views.{IsAmong}
 use Rattle.shore_txn.specs.Transactions as table
 use Rattle.shore_undo.specs.Txns.{as_session_txn}
 use Rattle.shore_control.specs.Controls.{txns_in}

@@ -11,13 +11,13 @@ use Rattle.shore_page.specs.Slots.{image_len, with_change, with_image}
 use Rattle.shore_heap.specs.Contents.{with_slots}
 use Rattle.shore_heap.specs.Heaps.{Shows, frame_at, frame_of}
 use Rattle.shore_room.specs.Entries.{claim_before}
-use Rattle.shore_recovery.specs.Recovery.{after_append}
-use Rattle.shore_sessions.specs.Logged.{next_to_undo}
-use Rattle.shore_sessions.specs.Views.{IsAmong}
+use Rattle.shore_lives.specs.Recovery.{after_append}
+use Rattle.shore_lives.specs.Logged.{next_to_undo}
+use Rattle.shore_lives.specs.Views.{IsAmong}
 use Rattle.shore_calls.specs.Rollbacks.{put_back}
 use Rattle.shore_calls.specs.States.{page_slots}
-use Rattle.shore_logged.specs.LoggedHeaps.{IsMade}
-use Rattle.shore_logged.proofs.Made.{appended_is}
+use Rattle.shore_stands.specs.LoggedHeaps.{IsMade}
+use Rattle.shore_stands.proofs.Made.{appended_is}
 use Rattle.shore_txn.specs.Transactions.{kept_in}
 use Rattle.shore_undo.specs.UndoEntries.{image_of}
 use Rattle.shore_control.specs.Controls.{txns_in}

@@ -1,6 +1,6 @@
 use Rattle.std.proofs.Common.{length, sym, ap, subst, ◌∙◌, arith}
 use Rattle.shore_pool.specs.Pools.{NeedsForce}
-use Rattle.shore_sessions.specs.Views.{IsAmong}
+use Rattle.shore_lives.specs.Views.{IsAmong}
 use Rattle.shore_core.specs.Cores.{durable_of, faults_of, geometry_of, heap_of, last_of, txns_of}
 use Rattle.shore_core.proofs.Earning.{earned_as}
 use Rattle.shore_core.proofs.Forcing.{forced_as}

@@ -7,7 +7,7 @@ use Rattle.shore_page.specs.Room.{Fits}
 use Rattle.shore_page.specs.Slots.{image_len}
 use Rattle.shore_heap.specs.Heaps.{frame_of}
 use Rattle.shore_pool.specs.Pools.{NeedsForce}
-use Rattle.shore_sessions.specs.Views.{IsAmong}
+use Rattle.shore_lives.specs.Views.{IsAmong}
 use Rattle.shore_calls.specs.States.{page_slots}
 use Rattle.shore_txn.specs.Transactions.{HasTxnOf, kept_in, txns_in, undos_in}
 use Rattle.shore_undo.specs.UndoEntries.{image_of}

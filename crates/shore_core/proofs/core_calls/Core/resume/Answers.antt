@@ -1,7 +1,7 @@
 use Rattle.std.proofs.Common.{◌≡◌, ◌<◌, ◌≤◌, ◌+◌, inl, inr, true, length, refl, sym, ap, subst, ◌∙◌}
 use Rattle.shore_types.specs.declared.layout.TheConstants.{LAST_OPENED}
 use Rattle.shore_heap.specs.Heaps as heaps
-use Rattle.shore_sessions.specs.Views.{IsAmong}
+use Rattle.shore_lives.specs.Views.{IsAmong}
 use Rattle.shore_calls.specs.StateChanges.{wait_refused}
 use Rattle.shore_calls.specs.States.{State}
 use Rattle.shore_control.specs.Calls.{as_waiting}

@@ -1,7 +1,7 @@
 use Rattle.std.proofs.Common.{◌≡◌, ◌<◌, ◌≤◌, ◌+◌, inl, inr, None, Ok, Err, IfErr, true, false, length, refl, sym, ap, subst, ◌∙◌}
 use Rattle.std.specs.Prelude.{IsSome}
 use Rattle.shore_types.specs.declared.layout.TheConstants.{LAST_OPENED}
-use Rattle.shore_sessions.specs.Views.{IsAmong}
+use Rattle.shore_lives.specs.Views.{IsAmong}
 use Rattle.shore_heap.specs.Heaps as heaps
 use Rattle.shore_locks.specs.Tables.{Table, is_waiting}
 use Rattle.shore_held.specs.CallLocks.{asked_by}

@@ -1,5 +1,5 @@
 use Rattle.std.proofs.Common.{◌≡◌, ◌<◌, ◌≤◌, ◌+◌, length, inl, inr, refl, sym, ap, subst, ◌∙◌, arith}
-use Rattle.shore_sessions.specs.Views.{IsAmong}
+use Rattle.shore_lives.specs.Views.{IsAmong}
 use Rattle.shore_calls.specs.CallSteps.{ResumesWait, commit_ended}
 use Rattle.shore_calls.specs.SessionWaits.{IsCommitWait}
 use Rattle.shore_calls.specs.States.{State, Waiting}

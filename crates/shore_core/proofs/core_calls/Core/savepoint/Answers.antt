@@ -4,7 +4,7 @@ use Rattle.shore_types.specs.declared.layout.TheConstants.{LAST_OPENED, MAX_SAVE
 use Rattle.shore_model.specs.declared.calls.Answer.TheVariants.{Saved}
 use Rattle.shore_model.specs.declared.calls.Call.TheVariants as call
 use Rattle.shore_room.proofs.Leaving.{marked_slots}
-use Rattle.shore_sessions.specs.Sessions.{SessionTxn}
+use Rattle.shore_lives.specs.Sessions.{SessionTxn}
 use Rattle.shore_calls.specs.StateChanges.{answered}
 use Rattle.shore_calls.specs.States.{State}
 use Rattle.shore_control.specs.Controls.{txns_in}

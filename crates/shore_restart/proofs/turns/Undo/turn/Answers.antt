@@ -5,7 +5,7 @@ use Rattle.shore_dwrite.proofs.Moves.{if_err}
 use Rattle.shore_model.specs.declared.log_records.LogRecord.{LogRecord}
 use Rattle.shore_log.specs.Settled.{records_of_log}
 use Rattle.shore_heap.specs.Heaps.{geometry_of}
-use Rattle.shore_recovery.specs.Undo.{HasNoLosers, IsLoser, undo_record}
+use Rattle.shore_lives.specs.Undo.{HasNoLosers, IsLoser, undo_record}
 use Rattle.shore_restart.specs.declared.errors.RestartError.{RestartError}
 use Rattle.shore_restart.specs.declared.errors.RestartError.TheVariants.{Memory, NoRoom}
 use Rattle.shore_restart.specs.Standing.{Moves, stream_bytes_of}

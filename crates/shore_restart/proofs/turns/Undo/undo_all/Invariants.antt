@@ -1,8 +1,8 @@
 use Rattle.std.proofs.Common.{◌≡◌, ◌≤◌, ℕ, List, length}
 use Rattle.shore_heap.specs.Heaps.{faults_of, geometry_of}
 use Rattle.shore_log.specs.Settled.{records_of_log, stable}
-use Rattle.shore_recovery.specs.Recovery.{RecoveryState}
-use Rattle.shore_losers.specs.Losers.{turns_left}
+use Rattle.shore_lives.specs.Recovery.{RecoveryState}
+use Rattle.shore_analysis.specs.Losers.{turns_left}
 use Rattle.shore_restart.specs.Held.{IsHeld, StaysHeld}
 use Rattle.shore_restart.specs.Quiet.{IsQuiet}
 use Rattle.shore_restart.specs.Standing.{IsReady, SameLog, SameVolume, log_faults, stream_bytes_of}

@@ -1,5 +1,5 @@
-use Rattle.shore_sessions.specs.UndoLists.{undo_rolled}
-use Rattle.shore_sessions.specs.declared.rollbacks.Rollback.TheVariants.{Whole}
+use Rattle.shore_lives.specs.UndoLists.{undo_rolled}
+use Rattle.shore_lives.specs.declared.rollbacks.Rollback.TheVariants.{Whole}
 use Rattle.shore_undo.specs.Txns.{IsDoomed}
 use Rattle.shore_txn.proofs.ActiveSteps.{becomes_so, claims_still, doomed_keeps, kept_still, session_doomed, undos_by}
 use Rattle.shore_txn.proofs.Lending.{kept_in, lent_becomes}

@@ -1,6 +1,6 @@
 use Rattle.std.proofs.Common.{◌≡◌, refl, sym, subst, ◌∙◌, OnOk, Ok, Err, Result, set}
 use Rattle.std.specs.declared.alloc.AllocError.{AllocError}
-use Rattle.shore_sessions.specs.Views.{IsAmong}
+use Rattle.shore_lives.specs.Views.{IsAmong}
 use Rattle.shore_txn.specs.ActiveTxns.{CanNote, undos_of}
 use Rattle.shore_undo.specs.Txns.{SameTxn}
 use Rattle.shore_txn.specs.declared.active.ActiveTxn.{ActiveTxn}

@@ -16,7 +16,7 @@ use Rattle.shore_restart.specs.Standing.{stream_bytes_of}
 use Rattle.shore_core.specs.Cores.{heap_of}
 use Rattle.shore_stands.specs.Moments.{Moment, Path}
 use Rattle.shore_stands.specs.StandsFor.{begun_on}
-use Rattle.shore_stays.specs.SoundStores.{found_state}
+use Rattle.shore_managers.specs.SoundStores.{found_state}
 use Rattle.shore_world.specs.OpenedVolumes as volumes
 use Rattle.shore_world.specs.declared.world.World.{World}
 use Rattle.shore_frames.specs.Offsets.{IsBadAt, IsFrameOf}

@@ -1,0 +1,194 @@
+-- The entries of the losers of a log, with one more record of undo.
+use Rattle.std.proofs.Common.{◌≡◌, ◌≢◌, inl, inr, ⊎_elim, ◌+◌, ◌<◌, ℕ, List, [], ◌∷◌, ◌++◌, Bool, true, false, cond, map, refl, sym, ap, subst, ◌∙◌, length, drop, arith}
+use Rattle.std.specs.Prelude.{filter, ◌==◌, ◌&&◌, not}
+use Rattle.std.specs.List.{AllByRecursion}
+use Rattle.std.proofs.lemmas.Bool.{cases_Bool, true≢false, eqb-true, eqb-false}
+use Rattle.std.proofs.lemmas.List.Elements.{recursion_from_All}
+use Rattle.shore_types.specs.Images.{Image}
+use Rattle.shore_types.specs.declared.ids.Rid.{Rid}
+use Rattle.shore_types.specs.declared.layout.Geometry.{Geometry}
+use Rattle.shore_model.specs.declared.unanswered_changes.UnansweredChange.{UnansweredChange}
+use Rattle.shore_model.specs.declared.log_records.LogRecord.{LogRecord}
+use Rattle.shore_model.specs.declared.log_records.LogTxn.{LogTxn}
+use Rattle.shore_model.specs.declared.log_records.Payload.TheVariants.{Compensation}
+use Rattle.shore_model.specs.Logs.{IsEntry, has, is_over, is_commit, is_end, is_prepare, is_rollback, is_in_doubt, first_number, last_of, answered_by, unanswered, undo_next_of}
+use Rattle.shore_lives.specs.Views.{IsAmong}
+use Rattle.shore_lives.proofs.EndedTxns.{over_now, over_other, over_same}
+use Rattle.shore_lives.proofs.UnansweredChanges.{unanswered_other, unanswered_own}
+use Rattle.shore_lives.specs.Undo.{IsLoser, undo_payload, undo_record}
+use Rattle.shore_lives.proofs.Numbers.{last_own, newest_other}
+use Rattle.shore_lives.proofs.OneMore.{has-not_its, has-not_this}
+use Rattle.shore_lives.proofs.Writers.{same_or_not}
+use Rattle.shore_analysis.specs.declared.analysis.Tables.{Tables}
+use Rattle.shore_analysis.specs.Meant.{AreMeant}
+use Rattle.shore_analysis.specs.Tables.{AreTables}
+use Rattle.shore_analysis.proofs.Counted.{Among, listed_among, loser_listed}
+use Rattle.shore_analysis.proofs.MeantLogs.{none_in_doubt}
+use Rattle.shore_analysis.specs.Losers.{AreEntriesOfLosers, IsEntryOfLoser, is_another, with_numbers}
+
+-- ---- the table of a log
+
+module _ (g : Geometry) (log : List LogRecord) (tables : Tables) (meant : AreMeant g log) (are : AreTables log tables) where
+  among_map : (t : ℕ) (es : List LogTxn) → Among t es → IsAmong t (map (λ e. e.txn) es)
+  among_map t [] h = h
+  among_map t (e ∷ es) (inl own) = inl own
+  among_map t (e ∷ es) (inr later) = inr (among_map t es later)
+
+  entries : (es : List LogTxn) → AllByRecursion (IsEntry log) es → AllByRecursion (IsEntryOfLoser log) es
+  entries [] h = tt
+  entries (e ∷ es) h = (
+    record {
+      loser = record { is_one = h.0.0.is_one; known = h.0.0.known; not_over = h.0.0.not_over; not_in_doubt = none_in_doubt g log meant e.txn };
+      last = h.0.1.last;
+      undo_next = h.0.1.undo_next;
+    },
+    entries es h.1,
+  )
+
+  pub of_tables : AreEntriesOfLosers log tables.txns
+  of_tables = record {
+    each = entries tables.txns (recursion_from_All (IsEntry log) tables.txns are.txns.each);
+    every = λ t loser. among_map t tables.txns (listed_among t tables.txns (loser_listed log tables.txns are.txns (none_in_doubt g log meant) t loser));
+  }
+
+-- ---- one record more
+
+doubt-by : (log more : List LogRecord) (t : ℕ) → has is_prepare t more ≡ has is_prepare t log → has is_commit t more ≡ has is_commit t log → has is_rollback t more ≡ has is_rollback t log → is_in_doubt t more ≡ is_in_doubt t log
+doubt-by log more t p c r =
+    ap (λ b. b && not (has is_commit t more) && not (has is_rollback t more)) p ∙ ap (λ b. has is_prepare t log && not b && not (has is_rollback t more)) c
+    ∙ ap (λ b. has is_prepare t log && not (has is_commit t log) && not b) r
+
+module _ (log : List LogRecord) (r : LogRecord) (u : ℕ) (ne : r.txn ≢ u) where
+  last_other : last_of u (log ++ r ∷ []) ≡ last_of u log
+  last_other = ap first_number (newest_other log r u ne)
+
+  doubt_other : is_in_doubt u (log ++ r ∷ []) ≡ is_in_doubt u log
+  doubt_other = doubt-by log (log ++ r ∷ []) u (has-not_its log r is_prepare u ne) (has-not_its log r is_commit u ne) (has-not_its log r is_rollback u ne)
+
+  stays_loser : IsLoser log u → IsLoser (log ++ r ∷ []) u
+  stays_loser h = record {
+    is_one = h.is_one;
+    known = subst (λ n. 0 < n) (sym last_other) h.known;
+    not_over = over_other log r u ne ∙ h.not_over;
+    not_in_doubt = doubt_other ∙ h.not_in_doubt;
+  }
+
+  was_loser : IsLoser (log ++ r ∷ []) u → IsLoser log u
+  was_loser h = record {
+    is_one = h.is_one;
+    known = subst (λ n. 0 < n) last_other h.known;
+    not_over = sym (over_other log r u ne) ∙ h.not_over;
+    not_in_doubt = sym doubt_other ∙ h.not_in_doubt;
+  }
+
+other_entry : (log : List LogRecord) (r : LogRecord) (e : LogTxn) → r.txn ≢ e.txn → IsEntryOfLoser log e → IsEntryOfLoser (log ++ r ∷ []) e
+other_entry log r e ne h = record {
+  loser = stays_loser log r e.txn ne h.loser;
+  last = h.last ∙ sym (last_other log r e.txn ne);
+  undo_next = h.undo_next ∙ ap undo_next_of (sym (unanswered_other e.txn log r ne));
+}
+
+-- ---- a record of undo
+
+module _ (log : List LogRecord) (t : ℕ) (loser : IsLoser log t) where
+  abbrev next : LogRecord
+  next = undo_record log t
+
+  abbrev after : List LogRecord
+  after = log ++ next ∷ []
+
+  fewer : (u : ℕ) → IsLoser after u → IsLoser log u
+  fewer u h = ⊎_elim (λ own. subst (IsLoser log) own loser) (λ ne. was_loser log next u ne h) (same_or_not t u)
+
+  another : (e : LogTxn) → (e.txn == t) ≡ false → IsEntryOfLoser log e → IsEntryOfLoser after e
+  another e off h = other_entry log next e (λ own. eqb-false e.txn t off (sym own)) h
+
+  -- ---- a Compensation
+
+  module _ (c : UnansweredChange) (cs : List UnansweredChange) (newest : unanswered t log ≡ c ∷ cs) where
+    is : next.payload ≡ Compensation c.id c.before (undo_next_of cs)
+    is = ap undo_payload newest
+
+    still_loser : IsLoser after t
+    still_loser =
+        let number = last_own log next in
+        record {
+          is_one = loser.is_one;
+          known = omega (arith, number);
+          not_over = over_same log next (ap is_commit is) (ap is_end is) t ∙ loser.not_over;
+          not_in_doubt = doubt-by log after t (has-not_this log next is_prepare t (ap is_prepare is)) (has-not_this log next is_commit t (ap is_commit is)) (has-not_this log next is_rollback t (ap is_rollback is)) ∙ loser.not_in_doubt;
+        }
+
+    left_over : unanswered t after ≡ cs
+    left_over = unanswered_own t log next refl ∙ ap (λ p. answered_by (1 + length log) p (unanswered t log)) is ∙ ap (drop 1) newest
+
+    own_entry : (e : LogTxn) → e.txn ≡ t → e.last ≡ 1 + length log → e.undo_next ≡ undo_next_of cs → IsEntryOfLoser after e
+    own_entry e own last undo_next = record {
+      loser = subst (IsLoser after) (sym own) still_loser;
+      last = last ∙ sym (last_own log next) ∙ ap (λ u. last_of u after) (sym own);
+      undo_next = undo_next ∙ ap undo_next_of (sym left_over) ∙ ap (λ u. undo_next_of (unanswered u after)) (sym own);
+    }
+
+    module _ (n u : ℕ) (last : n ≡ 1 + length log) (undo_next : u ≡ undo_next_of cs) where
+      each_renumbered : (es : List LogTxn) → AllByRecursion (IsEntryOfLoser log) es → AllByRecursion (IsEntryOfLoser after) (map (with_numbers t n u) es)
+      each_renumbered [] h = tt
+      each_renumbered (e ∷ es) h = (
+        ⊎_elim
+            (λ own. subst (λ b. IsEntryOfLoser after (cond b (record e { last = n; undo_next = u }) e)) (sym own) (own_entry (record e { last = n; undo_next = u }) (eqb-true e.txn t own) last undo_next))
+            (λ off. subst (λ b. IsEntryOfLoser after (cond b (record e { last = n; undo_next = u }) e)) (sym off) (another e off h.0))
+            (cases_Bool (e.txn == t)),
+        each_renumbered es h.1,
+      )
+
+  txn_renumbered : (n u : ℕ) (e : LogTxn) (b : Bool) → (cond b (record e { last = n; undo_next = u }) e).txn ≡ e.txn
+  txn_renumbered n u e true = refl
+  txn_renumbered n u e false = refl
+
+  txns_renumbered : (n u : ℕ) (es : List LogTxn) → map (λ e. e.txn) (map (with_numbers t n u) es) ≡ map (λ e. e.txn) es
+  txns_renumbered n u [] = refl
+  txns_renumbered n u (e ∷ es) =
+      ap (λ x. x ∷ map (λ e. e.txn) (map (with_numbers t n u) es)) (txn_renumbered n u e (e.txn == t)) ∙ ap (λ xs. e.txn ∷ xs) (txns_renumbered n u es)
+
+  pub renumbered : (es : List LogTxn) → AreEntriesOfLosers log es → (id : Rid) (image : Image) (u : ℕ) → next.payload ≡ Compensation id image u → (n : ℕ) → n ≡ length log + 1
+      → AreEntriesOfLosers after (map (with_numbers t n u) es)
+  renumbered es h id image u says n last = by_newest (unanswered t log) refl says
+    where
+      by_newest : (us : List UnansweredChange) → unanswered t log ≡ us → undo_payload us ≡ Compensation id image u → AreEntriesOfLosers after (map (with_numbers t n u) es)
+      by_newest [] e p = cc
+      by_newest (c ∷ cs) e p =
+          let named : u ≡ undo_next_of cs = cc in
+          record {
+            each = each_renumbered c cs e n u (omega (arith, last)) named es h.each;
+            every = λ v loses. subst (IsAmong v) (sym (txns_renumbered n u es)) (h.every v (fewer v loses));
+          }
+
+  -- ---- an End
+
+  each_left : (es : List LogTxn) → AllByRecursion (IsEntryOfLoser log) es → AllByRecursion (IsEntryOfLoser after) (filter (is_another t) es)
+  each_left [] h = tt
+  each_left (e ∷ es) h = ⊎_elim
+      (λ own. subst (λ b. AllByRecursion (IsEntryOfLoser after) (cond (not b) (e ∷ filter (is_another t) es) (filter (is_another t) es))) (sym own) (each_left es h.1))
+      (λ off. subst (λ b. AllByRecursion (IsEntryOfLoser after) (cond (not b) (e ∷ filter (is_another t) es) (filter (is_another t) es))) (sym off) (another e off h.0, each_left es h.1))
+      (cases_Bool (e.txn == t))
+
+  among_left : (u : ℕ) → (t ≢ u) → (es : List LogTxn) → IsAmong u (map (λ e. e.txn) es) → IsAmong u (map (λ e. e.txn) (filter (is_another t) es))
+  among_left u ne [] h = h
+  among_left u ne (e ∷ es) h = ⊎_elim
+      (λ own. subst (λ b. IsAmong u (map (λ e. e.txn) (cond (not b) (e ∷ filter (is_another t) es) (filter (is_another t) es)))) (sym own)
+      (⊎_elim (λ this. absurd (ne (sym (eqb-true e.txn t own) ∙ this))) (λ later. among_left u ne es later) h))
+      (λ off. subst (λ b. IsAmong u (map (λ e. e.txn) (cond (not b) (e ∷ filter (is_another t) es) (filter (is_another t) es)))) (sym off)
+      (⊎_elim (λ this. inl this) (λ later. inr (among_left u ne es later)) h))
+      (cases_Bool (e.txn == t))
+
+  pub left : (es : List LogTxn) → AreEntriesOfLosers log es → ((id : Rid) (image : Image) (u : ℕ) → next.payload ≡ Compensation id image u → ⊥) → AreEntriesOfLosers after (filter (is_another t) es)
+  left es h other = record {
+    each = each_left es h.each;
+    every = λ u loses. among_left u (λ own. absurd (true≢false (sym over ∙ ap (λ v. is_over v after) own ∙ loses.not_over))) es (h.every u (fewer u loses));
+  }
+    where
+      is_the_end : (us : List UnansweredChange) → ((id : Rid) (image : Image) (u : ℕ) → undo_payload us ≡ Compensation id image u → ⊥) → is_end (undo_payload us) ≡ true
+      is_the_end [] other = refl
+      is_the_end (c ∷ cs) other = absurd (other c.id c.before (undo_next_of cs) refl)
+
+      over : is_over t after ≡ true
+      over = over_now log next (inr (is_the_end (unanswered t log) other))

@@ -1,0 +1,26 @@
+use Rattle.std.proofs.Common.{sym, subst}
+use Rattle.shore_analysis.specs.Losers.{AreEntriesOfLosers}
+use Rattle.shore_analysis.proofs.Greatest.{entry_of_one, next_to_undo, no_losers, none_left}
+use Rattle.shore_analysis.proofs.losers.Losers.next_record.Goals as goal
+
+pub returns-clause-loser : goal.returns-clause-loser
+returns-clause-loser c log h =
+    let held = subst (AreEntriesOfLosers log) (sym c.as_slice.ensures.value) h in
+    (entry_of_one log c.as_slice.result.now c.in-Some.loser held.each c.in-Some.ensures.some).loser
+
+pub returns-clause-greatest : goal.returns-clause-greatest
+returns-clause-greatest c log h =
+    let held = subst (AreEntriesOfLosers log) (sym c.as_slice.ensures.value) h in
+    next_to_undo log c.as_slice.result.now c.in-Some.loser held c.in-Some.ensures.some c.in-Some.ensures.greatest
+
+pub returns-clause-undoes : goal.returns-clause-undoes
+returns-clause-undoes c g turns log meant undone h =
+    let held = subst (AreEntriesOfLosers log) (sym c.as_slice.ensures.value) h in
+    let entry = entry_of_one log c.as_slice.result.now c.in-Some.loser held.each c.in-Some.ensures.some in
+    let says = c.in_ok-payload.ensures g turns log c.in-Some.loser.txn meant undone entry.undo_next in
+    λ i. record { txn = c.in-Some.loser.txn; previous = entry.last i; payload = says i }
+
+pub returns-in_default-clause-done : goal.returns-in_default-clause-done
+returns-in_default-clause-done c log lawful h =
+    let held = subst (AreEntriesOfLosers log) (sym c.as_slice.ensures.value) h in
+    no_losers log lawful (none_left log c.as_slice.result.now c.in_default.ensures.none held)

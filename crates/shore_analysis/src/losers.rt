@@ -1,0 +1,148 @@
+//! The transactions that undo still has to end, and the record that it appends next.
+ghost use Rattle.std.specs.Prelude.{◌≡◌, ◌<◌, ◌≤◌, ◌+◌, ◌++◌, ◌∷◌, [], ℕ, List, IfOk, IfNone, IfSome, filter, length, map};
+ghost use Rattle.std.specs.List.{AllByRecursion};
+ghost use Rattle.shore_types.specs.declared.layout.Geometry.{Geometry};
+ghost use Rattle.shore_model.specs.declared.log_records.LogRecord.{LogRecord};
+ghost use Rattle.shore_model.specs.Logs.{Lawful, unanswered, undo_next_of};
+ghost use Rattle.shore_lives.specs.Views.{IsAmong};
+ghost use Rattle.shore_lives.specs.Undo.{HasNoLosers, IsLoser, IsUndoneTo, undo_payload, undo_record};
+ghost use Rattle.shore_analysis.specs.declared.analysis.Tables.{Tables};
+ghost use Rattle.shore_analysis.specs.Meant.{AreMeant};
+ghost use Rattle.shore_analysis.specs.Tables.{AreTables};
+ghost use Rattle.shore_analysis.specs.Losers as losers;
+ghost use Rattle.shore_analysis.specs.Losers.{HasLosers, IsNextToUndo, is_another, turns_left};
+
+use crate::{next_behind, record_at};
+use shore_model::rid_map::copy_image;
+use shore_model::{LogRecord, LogTxn, Payload};
+use shore_types::{Lsn, Sequence, TxnId};
+use std::alloc::{AllocError, Global};
+
+/// The losers, each with the numbers of its last record and of its Change to be undone next.
+#[derive(Drop)]
+pub struct Losers {
+    entries: Vec<LogTxn>,
+}
+
+impl Losers {
+    /// The losers of a log, by the transactions in its tables.
+    pub fn of(txns: Sequence<LogTxn>) -> Losers
+        ensures { (g : Geometry) (found : List LogRecord) (tables : Tables) → AreMeant g found → AreTables found tables → tables.txns ≡ txns
+            → HasLosers found result }
+    {
+        Losers {
+            entries: txns.into_vec(),
+        }
+    }
+
+    /// The next record of undo, of the loser with the greatest number to be undone next; None if nobody is left. The records are those that
+    /// the restart found: what undo has appended behind them is not needed.
+    pub fn next_record(
+        &self,
+        alloc: Global,
+        found: &[LogRecord],
+    ) -> Result<Option<LogRecord>, AllocError>
+        ensures none { (log : List LogRecord) → HasLosers log self.now → IfOk result (λ next. IfNone next ((t : ℕ) → IsLoser log t → ⊥)) }
+        ensures done { (log : List LogRecord) → Lawful log → HasLosers log self.now → IfOk result (λ next. IfNone next (HasNoLosers log)) }
+        ensures loser { (log : List LogRecord) → HasLosers log self.now → IfOk result (λ next. IfSome next (λ r. IsLoser log r.txn)) }
+        ensures greatest { (log : List LogRecord) → HasLosers log self.now → IfOk result (λ next. IfSome next (λ r. IsNextToUndo log r.txn)) }
+        ensures undoes { (g : Geometry) (turns : List ℕ) (log : List LogRecord) → AreMeant g found.now → IsUndoneTo found.now turns log
+            → HasLosers log self.now → IfOk result (λ next. IfSome next (λ r. r ≡ undo_record log r.txn)) }
+    {
+        let Some(loser) = newest(self.entries.as_slice()) else {
+            return Ok(None);
+        };
+        let payload = undo_of(alloc, found, loser.undo_next)?;
+        Ok(Some(LogRecord {
+            txn: loser.txn,
+            previous: loser.last,
+            payload,
+        }))
+    }
+
+    /// The number of the Change that the next record of undo undoes; 0 if that is an End, or nobody is left.
+    pub fn next_change(&self) -> Lsn
+        ensures { (log : List LogRecord) (t : ℕ) → HasLosers log self.now → IsLoser log t → IsNextToUndo log t → result ≡ undo_next_of (unanswered t log) }
+    {
+        match newest(self.entries.as_slice()) {
+            Some(loser) => loser.undo_next,
+            None => Lsn(0),
+        }
+    }
+
+    /// The next record of undo was logged, under this number.
+    pub fn note_logged(&mut self, logged: &LogRecord, number: Lsn)
+        ensures losers { (log : List LogRecord) → HasLosers log self.old → IsLoser log logged.now.txn → logged.now ≡ undo_record log logged.now.txn
+            → number ≡ length log + 1 → HasLosers (log ++ logged.now ∷ []) self.new }
+        ensures fewer { (log : List LogRecord) → HasLosers log self.old → IsLoser log logged.now.txn → logged.now ≡ undo_record log logged.now.txn
+            → turns_left (log ++ logged.now ∷ []) self.new < turns_left log self.old }
+    {
+        match &logged.payload {
+            Payload::Compensation { undo_next, .. } => {
+                renumber(&mut self.entries, logged.txn, number, *undo_next)
+            }
+            _ => leave(&mut self.entries, logged.txn),
+        }
+    }
+}
+
+// An entry with the greatest number to be undone next.
+fn newest(entries: &[LogTxn]) -> Option<LogTxn>
+    ensures none { IfNone result (entries.now ≡ []) }
+    ensures some { IfSome result (λ e. IsAmong e entries.now) }
+    ensures greatest { IfSome result (λ e. AllByRecursion (λ x. x.undo_next ≤ e.undo_next) entries.now) }
+{
+    let (first, rest) = entries.split_first()?;
+    match newest(rest) {
+        Some(other) if first.undo_next.0 < other.undo_next.0 => Some(other),
+        _ => Some(*first),
+    }
+}
+
+// What undo of the Change with this number says; at 0 nothing is left to be undone.
+fn undo_of(alloc: Global, found: &[LogRecord], change: Lsn) -> Result<Payload, AllocError>
+    ensures { (g : Geometry) (turns : List ℕ) (log : List LogRecord) (t : ℕ) → AreMeant g found.now → IsUndoneTo found.now turns log
+        → change ≡ undo_next_of (unanswered t log) → IfOk result (λ payload. payload ≡ undo_payload (unanswered t log)) }
+{
+    let Some(logged) = record_at(found, change) else {
+        return Ok(Payload::End);
+    };
+    match &logged.payload {
+        Payload::Change { id, before, .. } => Ok(Payload::Compensation {
+            id: *id,
+            after: copy_image(alloc, before)?,
+            undo_next: next_behind(found, logged),
+        }),
+        _ => Ok(Payload::End),
+    }
+}
+
+// Puts these numbers into the transaction's entry.
+fn renumber(entries: &mut Vec<LogTxn>, txn: TxnId, last: Lsn, undo_next: Lsn)
+    ensures { entries.new.items ≡ map (losers.with_numbers txn last undo_next) entries.old.items }
+{
+    for entry in entries.iter_mut() {
+        *entry = with_numbers(*entry, txn, last, undo_next);
+    }
+}
+
+// The entry, with these numbers if it is the transaction's.
+fn with_numbers(entry: LogTxn, txn: TxnId, last: Lsn, undo_next: Lsn) -> LogTxn
+    ensures { result ≡ losers.with_numbers txn last undo_next entry }
+{
+    if entry.txn != txn {
+        return entry;
+    }
+    LogTxn {
+        last,
+        undo_next,
+        ..entry
+    }
+}
+
+// Takes the transaction's entry out.
+fn leave(entries: &mut Vec<LogTxn>, txn: TxnId)
+    ensures { entries.new.items ≡ filter (is_another txn) entries.old.items }
+{
+    entries.retain(|entry| entry.txn != txn);
+}

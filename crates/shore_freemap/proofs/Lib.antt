@@ -1,2 +1,0 @@
-pub mod TreeLemmas
-pub mod LeafLemmas

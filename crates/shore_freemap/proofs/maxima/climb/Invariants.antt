@@ -1,8 +1,0 @@
-use Rattle.shore_freemap.specs.Maxima.{Reaches}
-use Rattle.shore_freemap.proofs.maxima.climb.Given as goal
-
-abbrev pub invariant-loop-node : goal.invariant-loop-node
-invariant-loop-node l = Reaches l.tree l.leaves l.first l.number l.node
-
-abbrev pub decreases-loop-node : goal.decreases-loop-node
-decreases-loop-node l = l.node

@@ -1,4 +1,0 @@
-pub mod Entries
-pub mod Found
-pub mod Greatest
-pub mod Turns

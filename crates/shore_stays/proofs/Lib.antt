@@ -1,3 +1,0 @@
-pub mod SoundStores
-pub mod Stays
-pub mod UnderWay

@@ -1,2 +1,0 @@
-pub mod SoundStores
-pub mod Stays
