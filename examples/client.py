@@ -1,20 +1,25 @@
 #!/usr/bin/env python3
 """A server in another language: it runs the built program as a child and talks with it through pipes, a line for a line.
 
-usage: examples/client.py [PROGRAM]      (PROGRAM: the one that `rt ci` or ./shore has built, if none is given)
+usage: examples/client.py [PROGRAM]
 
 What a server has to know: once it has read `committed`, the transaction is durable; so it answers its own caller then, and not before. Here money
 is moved between accounts, the program is killed by SIGKILL in the midst of a transfer and started again with `format = false`. It has each
 transfer that it acknowledged then, and the one in the midst not at all, or the whole of it if its commit was asked for.
 
+How it talks with the program is in tools/pipes.py, which another server may take over. The program is the proved one, if no other is named by its path.
+
 Status 0: all of it was there. 1: an acknowledged commit was lost, or a transaction was there in part.
 """
 import os
-import subprocess
 import sys
 import tempfile
 
-BUILT = f"{os.path.dirname(os.path.realpath(__file__))}/../crates/shore_prog/out/shore_prog"
+sys.dont_write_bytecode = True
+sys.path.insert(0, f"{os.path.dirname(os.path.realpath(__file__))}/../tools")
+from pipes import Child, Ended
+from programs import named_program
+
 SETTINGS = 'devices = "files"\nlog_path = "client.log"\nvolume_path = "client.volume"\nstores = [4]\n'
 ACCOUNTS, ROUNDS, TRANSFERS = 4, 5, 20
 
@@ -23,20 +28,19 @@ class Store:
     """The program as it runs on the pair of files in a folder. Each call writes one line and waits for its answer."""
 
     def __init__(self, program, folder, is_anew):
-        self.child = subprocess.Popen([program], cwd=folder, stdin=subprocess.PIPE, stdout=subprocess.PIPE, text=True, bufsize=1)
-        self.child.stdin.write(f"format = {str(is_anew).lower()}\n{SETTINGS}---\n")
-
-    def send(self, line):
-        self.child.stdin.write(line + "\n")
+        self.child = Child(program, f"format = {str(is_anew).lower()}\n{SETTINGS}", folder)
 
     def answer(self):
-        line = self.child.stdout.readline().rstrip("\n")
-        if not line or "fault" in line:
+        try:
+            line = self.child.answer()
+        except Ended:
+            raise SystemExit("client: FAILED: the store has ended") from None
+        if "fault" in line:
             raise SystemExit(f"client: FAILED: the store answered {line!r}")
         return line.removeprefix("1: ")
 
     def ask(self, line):
-        self.send(f"1 {line}")
+        self.child.send(f"1 {line}")
         return self.answer()
 
     def demand(self, line, wanted):
@@ -45,7 +49,7 @@ class Store:
             raise SystemExit(f"client: FAILED: {line!r} was answered by {said!r}")
 
     def commit(self):
-        """Behind this the transaction is durable."""
+        """After this the transaction is durable."""
         self.demand("commit", "committed")
 
     def insert(self, money):
@@ -64,11 +68,11 @@ class Store:
 
     def kill(self):
         self.child.kill()
-        self.child.wait()
+        self.child.end()
 
     def close(self):
-        self.child.stdin.close()
-        if self.child.wait() != 0:
+        self.child.end()
+        if self.child.status() != 0:
             raise SystemExit("client: FAILED: the store ended with another status than 0")
 
 
@@ -99,7 +103,7 @@ def serve(program, folder):
             store.commit()
         moved = move(store, accounts, TRANSFERS)
         if is_asked := number % 2 == 1:
-            store.send("1 commit")
+            store.child.send("1 commit")
         store.kill()
         store = Store(program, folder, is_anew=False)
         found = store.records()
@@ -111,7 +115,7 @@ def serve(program, folder):
 
 def main():
     with tempfile.TemporaryDirectory() as folder:
-        serve(sys.argv[1] if len(sys.argv) > 1 else BUILT, folder)
+        serve(named_program(sys.argv[1:])[0], folder)
     print(f"{ROUNDS * TRANSFERS} transfers were acknowledged, the store was killed {ROUNDS} times, and had each of them")
 
 

@@ -97,15 +97,24 @@ def volume_file(geometry, pages=(), numbers=(), images=(), gate=SHUT, label_of=N
 
 
 class Refused(Exception):
-    """The fault that an open of the files is refused with."""
+    """The fault that an open of the files is refused with, and why, if that is not seen from the fault."""
+
+    def __init__(self, fault, why=""):
+        super().__init__(fault)
+        self.why = why
 
 
 class NoText(Exception):
-    """Bytes are no text of a record."""
+    """Bytes are no text of a frame, of a record or of a page, and why."""
 
 
-def damaged(device, offset):
-    return Refused(f"25 Damaged {device} {offset}")
+def damaged(device, offset, why=""):
+    return Refused(f"25 Damaged {device} {offset}", why)
+
+
+def demand(is_right, why):
+    if not is_right:
+        raise NoText(why)
 
 
 def field(content, offset, size):
@@ -153,7 +162,7 @@ class Text:
 
     def take(self, size):
         if size > len(self.rest):
-            raise NoText
+            raise NoText(f"{size} bytes are to come, and {len(self.rest)} are left")
         taken, self.rest = self.rest[:size], self.rest[size:]
         return taken
 
@@ -163,8 +172,8 @@ class Text:
     def image(self):
         tag = self.number(1)
         content = self.take(self.number(2)) if tag else None
-        if tag > 1 or len(content or b"") > 4_000:
-            raise NoText
+        demand(tag <= 1, f"the first byte of an image is {tag:#04x}")
+        demand(len(content or b"") <= 4_000, f"an image has {len(content or b'')} bytes")
         return content
 
     def record(self):
@@ -174,43 +183,64 @@ class Text:
         before = payload.image() if kind == CHANGE else None
         after = payload.image() if at else None
         following = payload.number(8) if kind == COMPENSATION else None
-        if payload.rest or txn == 0 or not CHANGE <= kind <= END or (kind == CHANGE and before is None and after is None):
-            raise NoText
+        demand(CHANGE <= kind <= END, f"a record has the kind {kind}")
+        demand(txn > 0, "a record has the transaction 0")
+        demand(not payload.rest, f"{len(payload.rest)} bytes of a record's payload belong to nothing")
+        demand(kind != CHANGE or before is not None or after is not None, "a Change has no image")
         return Record(kind, txn, previous, at, before, after, following)
 
 
+def read_frame(log, at, first):
+    """The records of the frame at an offset, the first of which has this number, and where the next frame is."""
+    head = Text(log[at + 1 : at + 1 + LONGEST_FRAME])
+    length, number_of_first = head.number(4), head.number(8)
+    demand(number_of_first == first, f"its first record has the number {number_of_first}, and {first} is to come")
+    demand(1 <= length <= 65_536, f"its records have {length} bytes")
+    texts, records = Text(head.take(length)), []
+    demand(head.rest, "no byte is left for the gate after it")
+    while texts.rest:
+        records.append(texts.record())
+        demand(records[-1].previous < first + len(records) - 1, f"record {first + len(records) - 1} has the previous number {records[-1].previous}")
+    return records, at + 13 + length
+
+
 def read_frames(log):
-    """Each record with the offset of its frame, and where the closed gate behind the last frame is."""
+    """Each record with the offset of its frame, and where the closed gate after the last frame is."""
     at, records = STREAM_AT, []
     while log[at : at + 1] == OPEN:
         try:
-            head = Text(log[at + 1 :])
-            length, first = head.number(4), head.number(8)
-            texts = Text(head.take(length))
-            if first != len(records) + 1 or not 1 <= length <= 65_536 or not head.rest:
-                raise NoText
-            while texts.rest:
-                read = texts.record()
-                if read.previous > len(records):
-                    raise NoText
-                records.append((at, read))
-        except NoText:
-            raise damaged("log", at) from None
-        at += 13 + length
+            read, following = read_frame(log, at, len(records) + 1)
+        except NoText as why:
+            raise damaged("log", at, str(why)) from None
+        records += [(at, it) for it in read]
+        at = following
     return records, at
+
+
+def read_entries(content, place, last):
+    """Where the record of each slot is and how long; of bytes that are a text of the page with a number up to the last one."""
+    store, index, lsn, count, table, zero = struct.unpack("<IIQHHI", content[:24])
+    demand((store, index) == place, f"it names the page {store}.{index}")
+    demand(zero == 0, "its bytes 20 to 23 are not zero")
+    demand(lsn <= last, f"its number is {lsn}, and the log ends at {last}")
+    demand(count <= MOST_SLOTS, f"it has {count} slots")
+    demand(table == PAGE - 4 * count, f"its slot table begins at {table}, for {count} slots")
+    entries = [struct.unpack_from("<HH", content, PAGE - 4 * (slot + 1)) for slot in range(count)]
+    behind = 24
+    for offset, length in sorted(it for it in entries if it != (0, 0)):
+        demand(length <= 4_000, f"a record at {offset} has {length} bytes")
+        demand(offset >= (behind if length else 24), f"a record at {offset} begins before {behind if length else 24}")
+        demand(offset + length <= table, f"a record at {offset} ends at {offset + length}, and the slot table begins at {table}")
+        behind = max(behind, offset + length)
+    return entries
 
 
 def read_page(content, place, last):
     """What is in each slot; None if the bytes are no text of the page with a number up to the last one."""
-    store, index, lsn, count, table, zero = struct.unpack("<IIQHHI", content[:24])
-    if (store, index, zero) != (*place, 0) or lsn > last or count > MOST_SLOTS or table != PAGE - 4 * count:
+    try:
+        entries = read_entries(content, place, last)
+    except NoText:
         return None
-    entries = [struct.unpack_from("<HH", content, PAGE - 4 * (slot + 1)) for slot in range(count)]
-    behind = 24
-    for offset, length in sorted(it for it in entries if it != (0, 0)):
-        if length > 4_000 or offset < (behind if length else 24) or offset + length > table:
-            return None
-        behind = max(behind, offset + length)
     return [None if it == (0, 0) else content[it[0] : it[0] + it[1]] for it in entries]
 
 
@@ -219,11 +249,13 @@ class Opening:
 
     def __init__(self, log, volume):
         self.log, self.volume, self.shown = log, volume, {}
+        # The records that are done again, by their numbers, and the numbers of the changes that are undone, by their transactions.
+        self.redone, self.undone = [], {}
         try:
             self.open()
             self.lines = ["opened", *self.dumped()]
         except Refused as refusal:
-            self.lines = [f"open fault {refusal}", "fault 24 Failed"]
+            self.lines, self.why = [f"open fault {refusal}", "fault 24 Failed"], refusal.why
 
     def open(self):
         of_log = read_label("log", self.log)
@@ -237,14 +269,15 @@ class Opening:
         self.last, self.unanswered = {}, collections.defaultdict(list)
         for count, (at, read) in enumerate(self.records, 1):
             if not self.is_meant(read):
-                raise damaged("log", at)
+                raise damaged("log", at, f"record {count} does not go with those before it, or with the volume")
             self.note(count, read)
         # Each record takes of the room what it would in a frame of its own.
         if self.end - STREAM_AT + 13 * (len(self.records) - len({at for at, _ in self.records})) + LONGEST_FRAME > len(self.log) - STREAM_AT:
-            raise damaged("log", anchor_at)
+            raise damaged("log", anchor_at, "the records leave no room for the longest frame")
         for count, (at, read) in enumerate(self.records, 1):
             if read.at and self.page(read.at)[0] < count:
                 self.put(count, at, read)
+                self.redone.append(count)
         self.undo()
 
     def replay(self):
@@ -254,19 +287,25 @@ class Opening:
         table = [field(self.volume, TABLE_AT + 4 * it, 4) for it in range(MOST_OF_A_BATCH + 1)]
         count, least = table[0], 0
         if not 1 <= count <= MOST_OF_A_BATCH:
-            raise damaged("volume", TABLE_AT)
+            raise damaged("volume", TABLE_AT, f"a batch has {count} pages")
         for index, entry in enumerate(table[1:]):
             if not (least <= entry < len(self.places) if index < count else entry == 0):
-                raise damaged("volume", TABLE_AT + 4 * (index + 1))
+                raise damaged("volume", TABLE_AT + 4 * (index + 1), f"entry {index} of a batch of {count} is {entry}")
             least = entry + 1
         after = bytearray(self.volume)
         for index, entry in enumerate(table[1 : count + 1]):
             text = self.volume[IMAGES_AT + PAGE * index : IMAGES_AT + PAGE * (index + 1)]
-            if read_page(text, self.places[entry], 2**64) is None:
-                raise damaged("volume", IMAGES_AT + PAGE * index)
+            self.judge_page(IMAGES_AT + PAGE * index, text, self.places[entry], 2**64)
             after[PAGES_AT + PAGE * entry : PAGES_AT + PAGE * (entry + 1)] = text
         after[GATE_AT : GATE_AT + 1] = SHUT
         self.volume = bytes(after)
+
+    def judge_page(self, offset, content, place, last):
+        """The bytes at this offset of the volume have to be a text of the page."""
+        try:
+            read_entries(content, place, last)
+        except NoText as why:
+            raise damaged("volume", offset, str(why)) from None
 
     def is_meant(self, read):
         """Whether a record means what it has to, behind those that were noted."""
@@ -292,10 +331,9 @@ class Opening:
         """The number and the slots of a page, as it is in memory."""
         if at[:2] not in self.shown:
             offset = PAGES_AT + PAGE * self.places.index(at[:2])
-            slots = read_page(self.volume[offset : offset + PAGE], at[:2], len(self.records))
-            if slots is None:
-                raise damaged("volume", offset)
-            self.shown[at[:2]] = [field(self.volume, offset + 8, 8), slots]
+            content = self.volume[offset : offset + PAGE]
+            self.judge_page(offset, content, at[:2], len(self.records))
+            self.shown[at[:2]] = [field(self.volume, offset + 8, 8), read_page(content, at[:2], len(self.records))]
         return self.shown[at[:2]]
 
     def put(self, count, at, read):
@@ -306,7 +344,7 @@ class Opening:
         took = len(after[slot] or b"")
         free = PAGE - 24 - 4 * len(after) - sum(len(it or b"") for it in after)
         if max(len(read.after or b"") - took, 0) > free:
-            raise damaged("log", at)
+            raise damaged("log", at, f"record {count} has no room on its page")
         after[slot] = read.after
         shown[:] = count, after
 
@@ -314,6 +352,7 @@ class Opening:
         """Undoes the one loser that the logs of this script have at most, and puts the records of that behind the others."""
         losers = [txn for txn, last in self.last.items() if last > 0]
         texts = []
+        self.undone = {txn: self.unanswered[txn][::-1] for txn in losers}
         for txn in losers:
             while self.unanswered[txn]:
                 at, undone = self.records[self.unanswered[txn][-1] - 1]
