@@ -6,7 +6,9 @@ use std::alloc::{AllocError, Global};
 /// has one.
 #[derive(Drop)]
 pub struct CountDisk {
+    // The device.
     disk: AnyDisk,
+    // How many bytes were written to it.
     written: u64,
 }
 

@@ -7,8 +7,11 @@ use std::io;
 /// A thousandth of a unit is the least that is told.
 #[derive(Clone, Copy)]
 pub struct Figure {
+    // What was measured.
     name: &'static str,
+    // How much, in thousandths of the unit.
     thousandths: u64,
+    // The unit.
     unit: &'static str,
 }
 

@@ -6,7 +6,9 @@ use std::time::Instant;
 /// Memory, and a clock that begins with a run.
 #[derive(Clone, Copy)]
 pub struct Host<'a> {
+    /// What gives memory, files and the clock.
     pub rt: &'a HostRuntime,
+    // When the run began.
     start: Instant,
 }
 

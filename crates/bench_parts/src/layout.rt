@@ -4,9 +4,9 @@ ghost use Rattle.shore_dwrite.specs.Settled.{geometry_of};
 ghost use Rattle.shore_types.specs.declared.layout.TheConstants.{MAX_PAGES};
 
 use shore_disk::MemDisk;
-use shore_dwrite::{PAGES_AT, PageDev};
+use shore_dwrite::PageDev;
 use shore_page::Page;
-use shore_types::layout::{MAX_LOG_BYTES, PAGE_BYTES, PAGE_ROOM, SLOT_ENTRY_BYTES};
+use shore_types::layout::{MAX_LOG_BYTES, PAGE_BYTES, PAGE_ROOM, PAGES_AT, SLOT_ENTRY_BYTES};
 use shore_types::{Geometry, PageId, Rid, Sequence, StoreId};
 use std::alloc::{AllocError, Global};
 

@@ -7,7 +7,7 @@ use crate::host::Host;
 use crate::layout::{page_id, volume};
 use shore_disk::MemDisk;
 use shore_pool::Pool;
-use shore_types::Lsn;
+use shore_types::{LogEnds, Lsn};
 use std::alloc::{AllocError, Global};
 
 /// The pages of the volume, twice as many as there are frames.
@@ -32,8 +32,11 @@ fn fetch(alloc: Global, pool: &mut Pool<MemDisk>, page: u32) -> bool
     requires there { page < 2048 }
     ensures { geometry_of pool.new ≡ geometry_of pool.old }
 {
-    let all = Lsn(u64::MAX);
-    pool.fetch(alloc, page_id(page), all, all).is_ok()
+    let ends = LogEnds {
+        last: Lsn(u64::MAX),
+        durable: Lsn(u64::MAX),
+    };
+    pool.fetch(alloc, page_id(page), &ends).is_ok()
 }
 
 /// Fetches a page and puts eight bytes into its first slot.

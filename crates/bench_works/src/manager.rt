@@ -1,6 +1,6 @@
 //! A manager over two devices, in memory or over files, its sessions, and the calls that the works make.
 ghost use Rattle.std.specs.Prelude.{◌≤◌};
-ghost use Rattle.shore_calls.specs.Events.{IsServed};
+ghost use Rattle.shore_model.specs.Calls.{IsServed};
 ghost use Rattle.shore_types.specs.declared.layout.TheConstants.{MAX_PAGES, MIN_POOL_FRAMES};
 ghost use Rattle.shore_world.specs.Events.{IsServedEvent};
 
@@ -29,7 +29,9 @@ pub type Pair = (CountDisk, CountDisk);
 /// A manager with its memory. In a box, since each function that moves what is not would be dear to prove: a world has many fields. It is no `Drop`, so that each
 /// ends by `into_devices`: one that went out of scope would have a `drop` to prove of every part that it has.
 pub struct Manager {
+    // What the records that it is handed are made with.
     alloc: Global,
+    /// The manager over its two devices.
     pub world: Box<World<CountDisk, CountDisk>>,
 }
 

@@ -1,7 +1,7 @@
 //! The manager as a library: a pair of files is formatted and opened, a transaction inserts a record and commits, and a second open shows it.
 #![tactic(auto)]
 
-ghost use Rattle.shore_calls.specs.Events.{IsServed};
+ghost use Rattle.shore_model.specs.Calls.{IsServed};
 
 use anyhow::{Error, Result};
 use shore_disk::FileDisk;

@@ -8,7 +8,7 @@ use Rattle.shore_types.specs.declared.layout.Geometry.{Geometry}
 use Rattle.shore_model.specs.declared.unanswered_changes.UnansweredChange.{UnansweredChange}
 use Rattle.shore_model.specs.declared.log_records.LogRecord.{LogRecord}
 use Rattle.shore_model.specs.Logs.{Answers, last_of, previous_of, unanswered, undo_next_of}
-use Rattle.shore_lives.specs.UndoChains.{IsUndoChain, next_named_by}
+use Rattle.laws_lives.specs.UndoChains.{IsUndoChain, next_named_by}
 use Rattle.shore_analysis.specs.Meant.{IsMeant, AreMeant, IsChangeFrom}
 use Rattle.shore_analysis.proofs.MeantLogs.{AreMeant-take, get_in_take, next_by_last, nothing_unanswered, taken_within}
 

@@ -13,12 +13,12 @@ use Rattle.shore_types.specs.declared.layout.TheConstants.{MAX_TRANSACTIONS}
 use Rattle.shore_model.specs.declared.log_records.LogRecord.{LogRecord}
 use Rattle.shore_model.specs.declared.log_records.LogTxn.{LogTxn}
 use Rattle.shore_model.specs.Logs.{IsEntry, IsTable, Lists, first_number, is_in_doubt, is_over, last_of, rise_above}
-use Rattle.shore_lives.specs.Undo.{IsLoser}
-use Rattle.shore_lives.proofs.Booleans.{and_true}
-use Rattle.shore_lives.proofs.Numbers.{newest_other}
-use Rattle.shore_lives.proofs.OneMore.{by_push}
-use Rattle.shore_lives.proofs.Redo.{slice_get_last}
-use Rattle.shore_lives.proofs.Writers.{same_or_not}
+use Rattle.laws_lives.specs.Undo.{IsLoser}
+use Rattle.laws_lives.proofs.Booleans.{and_true}
+use Rattle.laws_lives.proofs.Numbers.{newest_other}
+use Rattle.laws_lives.proofs.OneMore.{by_push}
+use Rattle.laws_lives.proofs.Redo.{slice_get_last}
+use Rattle.laws_lives.proofs.Writers.{same_or_not}
 use Rattle.shore_analysis.proofs.MeantLogs.{longer_get, still_none_in_doubt}
 use Rattle.shore_analysis.proofs.Listed.{is_table}
 use Rattle.shore_analysis.specs.Meant.{AreMeant, IsCrowded, IsMeant}

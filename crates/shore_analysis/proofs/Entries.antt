@@ -12,13 +12,13 @@ use Rattle.shore_model.specs.declared.log_records.LogRecord.{LogRecord}
 use Rattle.shore_model.specs.declared.log_records.LogTxn.{LogTxn}
 use Rattle.shore_model.specs.declared.log_records.Payload.TheVariants.{Compensation}
 use Rattle.shore_model.specs.Logs.{IsEntry, has, is_over, is_commit, is_end, is_prepare, is_rollback, is_in_doubt, first_number, last_of, answered_by, unanswered, undo_next_of}
-use Rattle.shore_lives.specs.Views.{IsAmong}
-use Rattle.shore_lives.proofs.EndedTxns.{over_now, over_other, over_same}
-use Rattle.shore_lives.proofs.UnansweredChanges.{unanswered_other, unanswered_own}
-use Rattle.shore_lives.specs.Undo.{IsLoser, undo_payload, undo_record}
-use Rattle.shore_lives.proofs.Numbers.{last_own, newest_other}
-use Rattle.shore_lives.proofs.OneMore.{has-not_its, has-not_this}
-use Rattle.shore_lives.proofs.Writers.{same_or_not}
+use Rattle.laws_lives.specs.Views.{IsAmong}
+use Rattle.laws_lives.proofs.EndedTxns.{over_now, over_other, over_same}
+use Rattle.laws_lives.proofs.UnansweredChanges.{unanswered_other, unanswered_own}
+use Rattle.laws_lives.specs.Undo.{IsLoser, undo_payload, undo_record}
+use Rattle.laws_lives.proofs.Numbers.{last_own, newest_other}
+use Rattle.laws_lives.proofs.OneMore.{has-not_its, has-not_this}
+use Rattle.laws_lives.proofs.Writers.{same_or_not}
 use Rattle.shore_analysis.specs.declared.analysis.Tables.{Tables}
 use Rattle.shore_analysis.specs.Meant.{AreMeant}
 use Rattle.shore_analysis.specs.Tables.{AreTables}

@@ -9,9 +9,9 @@ use Rattle.shore_model.specs.declared.unanswered_changes.UnansweredChange.{Unans
 use Rattle.shore_model.specs.declared.log_records.LogRecord.{LogRecord}
 use Rattle.shore_model.specs.declared.log_records.Payload.TheVariants.{Change, Compensation, End}
 use Rattle.shore_model.specs.Logs.{unanswered, undo_next_of}
-use Rattle.shore_lives.specs.Undo.{IsUndoneTo, undo_payload, undo_record}
-use Rattle.shore_lives.specs.UndoChains.{IsChangeAt, IsUndoChain}
-use Rattle.shore_lives.proofs.UndoChains.{unanswered_chain}
+use Rattle.laws_lives.specs.Undo.{IsUndoneTo, undo_payload, undo_record}
+use Rattle.laws_lives.specs.UndoChains.{IsChangeAt, IsUndoChain}
+use Rattle.laws_lives.proofs.UndoChains.{unanswered_chain}
 use Rattle.shore_analysis.proofs.MeantLogs.{own_or_last}
 
 no_change : (us : List UnansweredChange) (id : Rid) (before after : Image) → undo_payload us ≡ Change id before after → ⊥

@@ -5,9 +5,9 @@ use Rattle.std.proofs.lemmas.Bool.{cases_Bool}
 use Rattle.shore_model.specs.declared.log_records.LogRecord.{LogRecord}
 use Rattle.shore_model.specs.declared.log_records.LogTxn.{LogTxn}
 use Rattle.shore_model.specs.Logs.{Lawful, is_in_doubt, unanswered, undo_next_of}
-use Rattle.shore_lives.specs.Views.{IsAmong}
-use Rattle.shore_lives.specs.Undo.{HasNoLosers, IsLoser}
-use Rattle.shore_lives.proofs.UndoEnds.{has_known}
+use Rattle.laws_lives.specs.Views.{IsAmong}
+use Rattle.laws_lives.specs.Undo.{HasNoLosers, IsLoser}
+use Rattle.laws_lives.proofs.UndoEnds.{has_known}
 use Rattle.shore_analysis.specs.Losers.{AreEntriesOfLosers, IsEntryOfLoser, IsNextToUndo}
 
 -- what is at most a number is at most a greater one

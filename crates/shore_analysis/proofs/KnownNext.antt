@@ -13,8 +13,8 @@ use Rattle.shore_types.specs.declared.layout.Geometry.{Geometry}
 use Rattle.shore_types.specs.declared.ids.PageId.{PageId}
 use Rattle.shore_model.specs.declared.log_records.LogRecord.{LogRecord}
 use Rattle.shore_model.specs.Logs.{id_in, is_commit, is_end, is_over, last_of, unanswered, undo_next_of}
-use Rattle.shore_lives.proofs.Booleans.{is_equal, or_none, or_true}
-use Rattle.shore_lives.proofs.EndedTxns.{over_now, over_other, over_same}
+use Rattle.laws_lives.proofs.Booleans.{is_equal, or_none, or_true}
+use Rattle.laws_lives.proofs.EndedTxns.{over_now, over_other, over_same}
 use Rattle.shore_analysis.specs.declared.passes.Pass.{Pass}
 use Rattle.shore_analysis.specs.Meant.{IsMeant, AreMeant}
 use Rattle.shore_analysis.specs.Passes.{Knows, entry_after, entry_at, is_ending, noted, numbers_of, over_after, txn_after}

@@ -19,10 +19,10 @@ use Rattle.shore_model.specs.declared.log_records.LogRecord.{LogRecord}
 use Rattle.shore_model.specs.declared.log_records.LogTxn.{LogTxn}
 use Rattle.shore_model.specs.declared.log_records.TxnState.TheVariants.{Active, RollingBack}
 use Rattle.shore_model.specs.Logs.{IsEntry, IsTable, Lists, first_number, is_in_doubt, is_over, is_prepared, last_of, records_of, rise_above}
-use Rattle.shore_lives.proofs.Booleans.{and_true, is_equal}
-use Rattle.shore_lives.proofs.Numbers.{last_own, newest_other}
-use Rattle.shore_lives.proofs.OneMore.{by_push}
-use Rattle.shore_lives.proofs.Writers.{same_or_not}
+use Rattle.laws_lives.proofs.Booleans.{and_true, is_equal}
+use Rattle.laws_lives.proofs.Numbers.{last_own, newest_other}
+use Rattle.laws_lives.proofs.OneMore.{by_push}
+use Rattle.laws_lives.proofs.Writers.{same_or_not}
 use Rattle.shore_analysis.specs.Passes.{as_dirty, entry_at, entry_of, is_running, recovery_at}
 use Rattle.shore_analysis.specs.Tables.{IsDirtyTable, first_change, newest_is_undo, state_of}
 use Rattle.shore_analysis.proofs.OneMore.{entry_some}

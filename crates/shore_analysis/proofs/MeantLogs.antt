@@ -12,14 +12,14 @@ use Rattle.shore_model.specs.declared.log_records.LogRecord.{LogRecord}
 use Rattle.shore_model.specs.declared.log_records.Payload.{Payload}
 use Rattle.shore_model.specs.declared.log_records.Payload.TheVariants.{Change, Compensation, Commit, End, Prepare, RollbackDecided, CheckpointBegin, CheckpointEnd, Anchor}
 use Rattle.shore_model.specs.Logs.{Lawful, MayFollow, MaySay, Answers, id_in, has, is_over, is_commit, is_end, is_prepare, is_rollback, is_in_doubt, is_of_checkpoint, is_unprepared, first_number, last_of, answered_by, unanswered, undo_next_of}
-use Rattle.shore_lives.specs.UndoChains.{LastNamesNext, next_named_by}
-use Rattle.shore_lives.proofs.EndedTxns.{over_now, over_other}
-use Rattle.shore_lives.proofs.UnansweredChanges.{unanswered_other, unanswered_own}
-use Rattle.shore_lives.proofs.Numbers.{last_own, newest_other}
-use Rattle.shore_lives.proofs.Redo.{slice_get_last, take_next}
-use Rattle.shore_lives.proofs.Writers.{no_place, same_or_not}
-use Rattle.shore_lives.proofs.OneMore.{by_push, has-not_this}
-use Rattle.shore_analysis.specs.Meant.{Means, IsMeant, IsCrowded, GoesOn, AreMeant, IsFirstUnmeant, IsServed, IsInBounds}
+use Rattle.laws_lives.specs.UndoChains.{LastNamesNext, next_named_by}
+use Rattle.laws_lives.proofs.EndedTxns.{over_now, over_other}
+use Rattle.laws_lives.proofs.UnansweredChanges.{unanswered_other, unanswered_own}
+use Rattle.laws_lives.proofs.Numbers.{last_own, newest_other}
+use Rattle.laws_lives.proofs.Redo.{slice_get_last, take_next}
+use Rattle.laws_lives.proofs.Writers.{no_place, same_or_not}
+use Rattle.laws_lives.proofs.OneMore.{by_push, has-not_this}
+use Rattle.shore_analysis.specs.Meant.{Means, IsMeant, IsCrowded, MayBeNext, AreMeant, IsFirstUnmeant, IsServedKind, IsInBounds}
 
 -- ---- lists
 
@@ -70,16 +70,16 @@ module _ (g : Geometry) where
   pub AreMeant-nil : AreMeant g []
   AreMeant-nil n r h = cc
 
-  pub AreMeant-push : (rs : List LogRecord) (r : LogRecord) → AreMeant g rs → GoesOn g rs r → AreMeant g (rs ++ r ∷ [])
+  pub AreMeant-push : (rs : List LogRecord) (r : LogRecord) → AreMeant g rs → MayBeNext g rs r → AreMeant g (rs ++ r ∷ [])
   AreMeant-push rs r all here n q h = ⊎_elim
-      (λ own. subst (λ xs. GoesOn g xs q) (sym (take-append-le n rs (r ∷ []) (let lt = slice_get_within rs n q own in omega arith))) (all n q own))
-      (λ last. subst (λ xs. GoesOn g xs q) (sym (ap (λ k. take k (rs ++ r ∷ [])) last.0 ∙ before_last rs r)) (subst (λ x. GoesOn g rs x) last.1 here))
+      (λ own. subst (λ xs. MayBeNext g xs q) (sym (take-append-le n rs (r ∷ []) (let lt = slice_get_within rs n q own in omega arith))) (all n q own))
+      (λ last. subst (λ xs. MayBeNext g xs q) (sym (ap (λ k. take k (rs ++ r ∷ [])) last.0 ∙ before_last rs r)) (subst (λ x. MayBeNext g rs x) last.1 here))
       (own_or_last rs r q n h)
 
   pub AreMeant-take : (rs : List LogRecord) (n : ℕ) → AreMeant g rs → AreMeant g (take n rs)
   AreMeant-take rs n all k r h =
       let lt = taken_within rs n k r h in
-      subst (λ xs. GoesOn g xs r) (sym (take_in_take rs n k (omega arith))) (all k r (sym (get_in_take rs n k lt) ∙ h))
+      subst (λ xs. MayBeNext g xs r) (sym (take_in_take rs n k (omega arith))) (all k r (sym (get_in_take rs n k lt) ∙ h))
 
   -- P holds of every such log, if it holds of the empty one and each record that means what it has to keeps it
   pub by_meant : (P : List LogRecord → Type 0) → P [] → ((xs : List LogRecord) (r : LogRecord) → IsMeant g xs r → P xs → P (xs ++ r ∷ []))
@@ -97,14 +97,14 @@ module _ (g : Geometry) where
       up_to (suc n) le = one_more n (omega arith) (slice_get log n) refl (up_to n (omega arith))
 
   -- the first record by which it may not go on
-  pub first_unmeant : (rs : List LogRecord) (i : ℕ) (r : LogRecord) → slice_get rs i ≡ Some r → AreMeant g (take i rs) → (GoesOn g (take i rs) r → ⊥)
+  pub first_unmeant : (rs : List LogRecord) (i : ℕ) (r : LogRecord) → slice_get rs i ≡ Some r → AreMeant g (take i rs) → (MayBeNext g (take i rs) r → ⊥)
       → (n : ℕ) → i + 1 ≡ n → IsFirstUnmeant g rs n
   first_unmeant rs i r at before refused n is =
       let place : i ≡ n - 1 = omega (arith, is) in
       record {
         some = omega (arith, is);
         before = subst (λ k. AreMeant g (take k rs)) place before;
-        here = subst (λ k. IsSomeAnd (slice_get rs k) (λ r. GoesOn g (take k rs) r → ⊥)) place (subst (λ o. IsSomeAnd o (λ r. GoesOn g (take i rs) r → ⊥)) (sym at) refused);
+        here = subst (λ k. IsSomeAnd (slice_get rs k) (λ r. MayBeNext g (take k rs) r → ⊥)) place (subst (λ o. IsSomeAnd o (λ r. MayBeNext g (take i rs) r → ⊥)) (sym at) refused);
       }
 
 -- ---- nobody has prepared
@@ -207,7 +207,7 @@ not_zero : (t : ℕ) → (t == 0) ≡ false → 0 < t
 not_zero zero h = cc
 not_zero (suc t) h = omega arith
 
-served_says : (g : Geometry) (rs : List LogRecord) (t : ℕ) (p : Payload) → IsServed p → ((id : Rid) → id_in p ≡ Some id → HasSlot g id) → MaySay rs t p → Means g rs t p
+served_says : (g : Geometry) (rs : List LogRecord) (t : ℕ) (p : Payload) → IsServedKind p → ((id : Rid) → id_in p ≡ Some id → HasSlot g id) → MaySay rs t p → Means g rs t p
 served_says g rs t (Change id was image) served inside says = (inside id refl, says.0)
 served_says g rs t (Compensation id image undo_next) served inside says = (inside id refl, says.1)
 served_says g rs t Commit served inside says = tt
@@ -218,7 +218,7 @@ served_says g rs t CheckpointBegin served inside says = absurd served
 served_says g rs t (CheckpointEnd begin next txns dirty) served inside says = absurd served
 served_says g rs t (Anchor checkpoint tail) served inside says = absurd served
 
-served_of : (p : Payload) → IsServed p → is_of_checkpoint p ≡ false
+served_of : (p : Payload) → IsServedKind p → is_of_checkpoint p ≡ false
 served_of CheckpointBegin served = absurd served
 served_of (CheckpointEnd begin next txns dirty) served = absurd served
 served_of (Anchor checkpoint tail) served = absurd served

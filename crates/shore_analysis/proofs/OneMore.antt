@@ -13,12 +13,12 @@ use Rattle.shore_model.specs.declared.log_records.Payload.TheVariants.{Prepare}
 use Rattle.shore_model.specs.declared.log_records.TxnState.TheVariants.{Active, RollingBack}
 use Rattle.shore_model.specs.Logs.{first_number, first_of, id_in, is_commit, is_end, is_over, is_prepare, last_of, numbered, prepare_number, records_of, unanswered, undo_next_of}
 use Rattle.shore_model.proofs.LogSteps.{newest-push}
-use Rattle.shore_lives.specs.UndoChains.{next_named_by}
-use Rattle.shore_lives.proofs.Numbers.{last_own, newest_other}
-use Rattle.shore_lives.proofs.OneMore.{by_push}
-use Rattle.shore_lives.proofs.Writers.{same_or_not}
-use Rattle.shore_lives.proofs.EndedTxns.{over_other, over_same}
-use Rattle.shore_lives.proofs.UnansweredChanges.{unanswered_other, unanswered_own}
+use Rattle.laws_lives.specs.UndoChains.{next_named_by}
+use Rattle.laws_lives.proofs.Numbers.{last_own, newest_other}
+use Rattle.laws_lives.proofs.OneMore.{by_push}
+use Rattle.laws_lives.proofs.Writers.{same_or_not}
+use Rattle.laws_lives.proofs.EndedTxns.{over_other, over_same}
+use Rattle.laws_lives.proofs.UnansweredChanges.{unanswered_other, unanswered_own}
 use Rattle.shore_analysis.specs.Meant.{IsMeant, AreMeant, Means}
 use Rattle.shore_analysis.specs.Passes.{entry_after, entry_at, entry_of, first_in, noted, recovery_at}
 use Rattle.shore_analysis.specs.Tables.{first_change, is_on_page, newest_is_undo}

@@ -9,9 +9,9 @@ use Rattle.shore_model.specs.declared.log_records.LogRecord.{LogRecord}
 use Rattle.shore_model.specs.declared.log_records.LogTxn.{LogTxn}
 use Rattle.shore_model.specs.declared.log_records.Payload.TheVariants.{Compensation}
 use Rattle.shore_model.specs.Logs.{answered_by, unanswered}
-use Rattle.shore_lives.specs.Views.{IsAmong}
-use Rattle.shore_lives.proofs.UnansweredChanges.{unanswered_other, unanswered_own}
-use Rattle.shore_lives.specs.Undo.{undo_payload, undo_record}
+use Rattle.laws_lives.specs.Views.{IsAmong}
+use Rattle.laws_lives.proofs.UnansweredChanges.{unanswered_other, unanswered_own}
+use Rattle.laws_lives.specs.Undo.{undo_payload, undo_record}
 use Rattle.shore_analysis.specs.Losers.{is_another, turns_left_of, with_numbers}
 
 module _ (log : List LogRecord) (t : ℕ) where

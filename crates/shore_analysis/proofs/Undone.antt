@@ -12,15 +12,15 @@ use Rattle.shore_model.specs.declared.unanswered_changes.UnansweredChange.{Unans
 use Rattle.shore_model.specs.declared.log_records.LogRecord.{LogRecord}
 use Rattle.shore_model.specs.declared.log_records.LogTxn.{LogTxn}
 use Rattle.shore_model.specs.Logs.{Answers, IsEntry, IsListed, IsTable, Lists, first_number, is_in_doubt, is_over, last_of, rise_above, unanswered, undo_next_of}
-use Rattle.shore_lives.specs.Undo.{IsLoser, undo_payload, undo_record}
-use Rattle.shore_lives.specs.UndoChains.{IsUndoChain}
-use Rattle.shore_lives.proofs.Numbers.{newest_other}
-use Rattle.shore_lives.proofs.OneMore.{by_push}
-use Rattle.shore_lives.proofs.Redo.{slice_get_last}
-use Rattle.shore_lives.proofs.UndoChains.{unanswered_chain}
-use Rattle.shore_lives.proofs.Writers.{same_or_not}
-use Rattle.shore_lives.proofs.EndedTxns.{over_other}
-use Rattle.shore_analysis.specs.Meant.{AreMeant, GoesOn, IsCrowded, IsMeant, Means, MeansChange}
+use Rattle.laws_lives.specs.Undo.{IsLoser, undo_payload, undo_record}
+use Rattle.laws_lives.specs.UndoChains.{IsUndoChain}
+use Rattle.laws_lives.proofs.Numbers.{newest_other}
+use Rattle.laws_lives.proofs.OneMore.{by_push}
+use Rattle.laws_lives.proofs.Redo.{slice_get_last}
+use Rattle.laws_lives.proofs.UndoChains.{unanswered_chain}
+use Rattle.laws_lives.proofs.Writers.{same_or_not}
+use Rattle.laws_lives.proofs.EndedTxns.{over_other}
+use Rattle.shore_analysis.specs.Meant.{AreMeant, MayBeNext, IsCrowded, IsMeant, Means, MeansChange}
 use Rattle.shore_analysis.specs.Passes.{entry_of}
 use Rattle.shore_analysis.proofs.Answered.{last_named}
 use Rattle.shore_analysis.proofs.Counted.{Among, cases_lt, last_is_one, listed_among, rise_first}
@@ -131,7 +131,7 @@ among_listed t (e ∷ es) (inr later) = Any-later (λ x. x.txn ≡ t) e es (amon
 
 uncrowded : (g : Geometry) (rs : List LogRecord) → AreMeant g rs → 0 < length rs → IsCrowded rs → ⊥
 uncrowded g = by_push (λ rs. AreMeant g rs → 0 < length rs → IsCrowded rs → ⊥) (λ all some. absurd (omega (arith, some)))
-    (λ rs r known all some crowded. (subst (λ xs. GoesOn g xs r) (before_last rs r) (all (length rs) r (slice_get_last rs r))).1 crowded)
+    (λ rs r known all some crowded. (subst (λ xs. MayBeNext g xs r) (before_last rs r) (all (length rs) r (slice_get_last rs r))).1 crowded)
 
 module _ (rs : List LogRecord) (t : ℕ) (loser : IsLoser rs t) (doubts : (u : ℕ) → is_in_doubt u rs ≡ false) (r : LogRecord) (its : r.txn ≡ t) where
   abbrev after : List LogRecord
@@ -197,7 +197,7 @@ module _ (rs : List LogRecord) (t : ℕ) (loser : IsLoser rs t) (doubts : (u : �
       let many = c.2 in
       (put (entry_of t rs) (map back c.0), was_table c.0 c.1, omega (arith, long, longer, many))
 
-pub undo_goes_on : (g : Geometry) (rs : List LogRecord) (t : ℕ) → AreMeant g rs → IsLoser rs t → GoesOn g rs (undo_record rs t)
+pub undo_goes_on : (g : Geometry) (rs : List LogRecord) (t : ℕ) → AreMeant g rs → IsLoser rs t → MayBeNext g rs (undo_record rs t)
 undo_goes_on g rs t all loser =
     let one = last_is_one rs t loser.known in
     let within = slice_get_within rs one.at one.found one.here in

@@ -4,8 +4,8 @@ use Rattle.std.specs.List.{AllByRecursion}
 use Rattle.shore_model.specs.declared.log_records.LogRecord.{LogRecord}
 use Rattle.shore_model.specs.declared.log_records.LogTxn.{LogTxn}
 use Rattle.shore_model.specs.Logs.{last_of, unanswered, undo_next_of}
-use Rattle.shore_lives.specs.Views.{IsAmong}
-use Rattle.shore_lives.specs.Undo.{IsLoser}
+use Rattle.laws_lives.specs.Views.{IsAmong}
+use Rattle.laws_lives.specs.Undo.{IsLoser}
 use Rattle.shore_analysis.specs.declared.losers.Losers.{Losers}
 
 -- the entry is a loser's, with the numbers of its last record and of its Change to be undone next

@@ -57,33 +57,33 @@ abbrev pub IsCrowded : List LogRecord → Type 0
 IsCrowded rs = (txns : List LogTxn) × IsTable rs txns × (MAX_TRANSACTIONS < length txns)
 
 -- the log may go on by the record
-abbrev pub GoesOn : Geometry → List LogRecord → LogRecord → Type 0
-GoesOn g before r = IsMeant g before r × (IsCrowded (before ++ r ∷ []) → ⊥)
+abbrev pub MayBeNext : Geometry → List LogRecord → LogRecord → Type 0
+MayBeNext g before r = IsMeant g before r × (IsCrowded (before ++ r ∷ []) → ⊥)
 
 -- and has come about so
 abbrev pub AreMeant : Geometry → List LogRecord → Type 0
-AreMeant g rs = (n : ℕ) (r : LogRecord) → slice_get rs n ≡ Some r → GoesOn g (take n rs) r
+AreMeant g rs = (n : ℕ) (r : LogRecord) → slice_get rs n ≡ Some r → MayBeNext g (take n rs) r
 
 -- the record of this number is the first by which the log may not go on
 pub record IsFirstUnmeant (g : Geometry) (rs : List LogRecord) (n : ℕ) : Type 0 where
   pub some : 0 < n
   pub before : AreMeant g (take (n - 1) rs)
-  pub here : IsSomeAnd (slice_get rs (n - 1)) (λ r. GoesOn g (take (n - 1) rs) r → ⊥)
+  pub here : IsSomeAnd (slice_get rs (n - 1)) (λ r. MayBeNext g (take (n - 1) rs) r → ⊥)
 
 -- a kind that a reader of the log serves
-abbrev pub IsServed : Payload → Type 0
-IsServed (Change id was image) = Unit {0}
-IsServed (Compensation id image undo_next) = Unit {0}
-IsServed Commit = Unit {0}
-IsServed End = Unit {0}
-IsServed (Prepare global granules) = ⊥
-IsServed RollbackDecided = ⊥
-IsServed CheckpointBegin = ⊥
-IsServed (CheckpointEnd begin next txns dirty) = ⊥
-IsServed (Anchor checkpoint tail) = ⊥
+abbrev pub IsServedKind : Payload → Type 0
+IsServedKind (Change id was image) = Unit {0}
+IsServedKind (Compensation id image undo_next) = Unit {0}
+IsServedKind Commit = Unit {0}
+IsServedKind End = Unit {0}
+IsServedKind (Prepare global granules) = ⊥
+IsServedKind RollbackDecided = ⊥
+IsServedKind CheckpointBegin = ⊥
+IsServedKind (CheckpointEnd begin next txns dirty) = ⊥
+IsServedKind (Anchor checkpoint tail) = ⊥
 
 -- an id that the record changes may be one, its transaction has a number that one may have, and its kind is served
 pub record IsInBounds (g : Geometry) (r : LogRecord) : Type 0 where
   pub number : r.txn < LAST_TXN
-  pub served : IsServed r.payload
+  pub served : IsServedKind r.payload
   pub id : (id : Rid) → id_in r.payload ≡ Some id → HasSlot g id

@@ -10,7 +10,7 @@ use Rattle.shore_model.specs.declared.log_records.LogRecord.{LogRecord}
 use Rattle.shore_model.specs.declared.log_records.LogTxn.{LogTxn}
 use Rattle.shore_model.specs.declared.log_records.Payload.{Payload}
 use Rattle.shore_model.specs.declared.log_records.TxnState.TheVariants.{Active, RollingBack}
-use Rattle.shore_lives.specs.UndoChains.{next_named_by}
+use Rattle.laws_lives.specs.UndoChains.{next_named_by}
 use Rattle.shore_model.specs.Logs.{first_of, is_commit, is_end, is_over, last_of, prepare_number, unanswered, undo_next_of}
 use Rattle.shore_analysis.specs.declared.passes.Pass.{Pass}
 use Rattle.shore_analysis.specs.Tables.{IsNext, first_change, is_undo, state_of}

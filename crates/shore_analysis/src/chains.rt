@@ -3,7 +3,7 @@ ghost use Rattle.std.specs.Prelude.{◌≡◌, ◌↔◌, ◌<◌, ◌-◌, ℕ,
 ghost use Rattle.shore_types.specs.declared.layout.Geometry.{Geometry};
 ghost use Rattle.shore_model.specs.declared.log_records.LogRecord.{LogRecord};
 ghost use Rattle.shore_model.specs.Logs.{Answers, is_over, previous_of, unanswered, undo_next_of};
-ghost use Rattle.shore_lives.specs.UndoChains.{next_named_by};
+ghost use Rattle.laws_lives.specs.UndoChains.{next_named_by};
 ghost use Rattle.shore_analysis.specs.Meant.{AreMeant, IsChangeFrom};
 
 use shore_model::{LogRecord, Payload};
@@ -16,7 +16,13 @@ pub(crate) fn next_named(number: Lsn, payload: &Payload) -> Lsn
     match payload {
         Payload::Change { .. } => number,
         Payload::Compensation { undo_next, .. } => *undo_next,
-        _ => Lsn(0),
+        Payload::Commit
+        | Payload::End
+        | Payload::Prepare { .. }
+        | Payload::RollbackDecided
+        | Payload::CheckpointBegin
+        | Payload::CheckpointEnd { .. }
+        | Payload::Anchor { .. } => Lsn(0),
     }
 }
 
@@ -71,6 +77,13 @@ fn puts_back(payload: &Payload, id: &Rid, image: &Option<Bytes>) -> bool
             before,
             ..
         } => *changed == *id && *before == *image,
-        _ => false,
+        Payload::Compensation { .. }
+        | Payload::Commit
+        | Payload::End
+        | Payload::Prepare { .. }
+        | Payload::RollbackDecided
+        | Payload::CheckpointBegin
+        | Payload::CheckpointEnd { .. }
+        | Payload::Anchor { .. } => false,
     }
 }

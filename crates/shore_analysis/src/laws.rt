@@ -3,9 +3,9 @@ ghost use Rattle.std.specs.Prelude.{◌↔◌, ◌++◌, ◌∷◌, [], ℕ, All
 ghost use Rattle.shore_types.specs.declared.layout.Geometry.{Geometry};
 ghost use Rattle.shore_model.specs.declared.log_records.LogRecord.{LogRecord};
 ghost use Rattle.shore_model.specs.Logs.{Lawful, Lists};
-ghost use Rattle.shore_lives.specs.Undo.{IsLoser, undo_record};
+ghost use Rattle.laws_lives.specs.Undo.{IsLoser, IsUndoneTo, undo_record};
 ghost use Rattle.shore_analysis.specs.declared.analysis.Tables.{Tables};
-ghost use Rattle.shore_analysis.specs.Meant.{AreMeant, GoesOn, IsCrowded, IsFirstUnmeant, IsInBounds};
+ghost use Rattle.shore_analysis.specs.Meant.{AreMeant, MayBeNext, IsCrowded, IsFirstUnmeant, IsInBounds};
 ghost use Rattle.shore_analysis.specs.Tables.{AreTables};
 
 /// Each record of a lawful log in bounds means what it has to: no record of such a log is refused.
@@ -23,6 +23,13 @@ pub fn tables_list_the_losers()
 
 /// A log that was analysed goes on by the records of undo, whichever loser takes its turn, so that analysis takes the longer log too.
 pub fn undo_goes_on()
-    ensures undo { (g : Geometry) (rs : List LogRecord) (t : ℕ) → AreMeant g rs → IsLoser rs t → GoesOn g rs (undo_record rs t) }
-    ensures longer { (g : Geometry) (rs : List LogRecord) (r : LogRecord) → AreMeant g rs → GoesOn g rs r → AreMeant g (rs ++ r ∷ []) }
+    ensures undo { (g : Geometry) (rs : List LogRecord) (t : ℕ) → AreMeant g rs → IsLoser rs t → MayBeNext g rs (undo_record rs t) }
+    ensures longer { (g : Geometry) (rs : List LogRecord) (r : LogRecord) → AreMeant g rs → MayBeNext g rs r → AreMeant g (rs ++ r ∷ []) }
+{}
+
+/// A record of undo more: the log is still the one that was found, with turns of undo behind it.
+pub fn turns_of_undo_go_on()
+    ensures begins { (found : List LogRecord) → IsUndoneTo found [] found }
+    ensures goes_on { (found : List LogRecord) (turns : List ℕ) (log : List LogRecord) (t : ℕ) → IsUndoneTo found turns log → IsLoser log t
+        → IsUndoneTo found (turns ++ t ∷ []) (log ++ undo_record log t ∷ []) }
 {}

@@ -7,10 +7,7 @@ mod chains;
 pub mod laws;
 mod losers;
 mod passes;
-mod undo;
-pub mod undo_laws;
 
 pub use analysis::{NotAnalysed, Tables, analyse};
 pub use chains::{next_behind, record_at};
 pub use losers::Losers;
-pub use undo::undo_all;

@@ -1,11 +1,14 @@
 //! The transactions that undo still has to end, and the record that it appends next.
-ghost use Rattle.std.specs.Prelude.{◌≡◌, ◌<◌, ◌≤◌, ◌+◌, ◌++◌, ◌∷◌, [], ℕ, List, IfOk, IfNone, IfSome, filter, length, map};
+ghost use Rattle.std.specs.Prelude.{◌≡◌, ◌≢◌, ◌<◌, ◌≤◌, ◌+◌, ◌++◌, ◌∷◌, [], ℕ, List, IfOk, IfNone, IfSome, MatchOption, filter, length, map};
 ghost use Rattle.std.specs.List.{AllByRecursion};
+ghost use Rattle.shore_types.specs.Images.{Image};
+ghost use Rattle.shore_types.specs.declared.ids.Rid.{Rid};
 ghost use Rattle.shore_types.specs.declared.layout.Geometry.{Geometry};
 ghost use Rattle.shore_model.specs.declared.log_records.LogRecord.{LogRecord};
+ghost use Rattle.shore_model.specs.declared.log_records.Payload.TheVariants.{Change, Compensation};
 ghost use Rattle.shore_model.specs.Logs.{Lawful, unanswered, undo_next_of};
-ghost use Rattle.shore_lives.specs.Views.{IsAmong};
-ghost use Rattle.shore_lives.specs.Undo.{HasNoLosers, IsLoser, IsUndoneTo, undo_payload, undo_record};
+ghost use Rattle.laws_lives.specs.Views.{IsAmong};
+ghost use Rattle.laws_lives.specs.Undo.{HasNoLosers, IsLoser, IsUndoneTo, undo_payload, undo_record};
 ghost use Rattle.shore_analysis.specs.declared.analysis.Tables.{Tables};
 ghost use Rattle.shore_analysis.specs.Meant.{AreMeant};
 ghost use Rattle.shore_analysis.specs.Tables.{AreTables};
@@ -13,14 +16,15 @@ ghost use Rattle.shore_analysis.specs.Losers as losers;
 ghost use Rattle.shore_analysis.specs.Losers.{HasLosers, IsNextToUndo, is_another, turns_left};
 
 use crate::{next_behind, record_at};
-use shore_model::rid_map::copy_image;
 use shore_model::{LogRecord, LogTxn, Payload};
-use shore_types::{Lsn, Sequence, TxnId};
+use shore_types::images::copy_of;
+use shore_types::{Bytes, Lsn, Rid, Sequence, TxnId};
 use std::alloc::{AllocError, Global};
 
 /// The losers, each with the numbers of its last record and of its Change to be undone next.
 #[derive(Drop)]
 pub struct Losers {
+    // An entry of the transaction table for each loser that is left, with its numbers as after the records of undo so far.
     entries: Vec<LogTxn>,
 }
 
@@ -77,12 +81,28 @@ impl Losers {
         ensures fewer { (log : List LogRecord) → HasLosers log self.old → IsLoser log logged.now.txn → logged.now ≡ undo_record log logged.now.txn
             → turns_left (log ++ logged.now ∷ []) self.new < turns_left log self.old }
     {
-        match &logged.payload {
-            Payload::Compensation { undo_next, .. } => {
-                renumber(&mut self.entries, logged.txn, number, *undo_next)
-            }
-            _ => leave(&mut self.entries, logged.txn),
+        match next_after(&logged.payload) {
+            Some(undo_next) => renumber(&mut self.entries, logged.txn, number, undo_next),
+            None => leave(&mut self.entries, logged.txn),
         }
+    }
+}
+
+// The number of the Change to be undone after this record of undo, which a Compensation names.
+fn next_after(payload: &Payload) -> Option<Lsn>
+    ensures { MatchOption result ((id : Rid) (image : Image) (undo_next : ℕ) → payload.now ≢ Compensation id image undo_next)
+        (λ undo_next. (id : Rid) × (image : Image) × (payload.now ≡ Compensation id image undo_next)) }
+{
+    match payload {
+        Payload::Compensation { undo_next, .. } => Some(*undo_next),
+        Payload::Change { .. } => None,
+        Payload::Commit => None,
+        Payload::End => None,
+        Payload::Prepare { .. } => None,
+        Payload::RollbackDecided => None,
+        Payload::CheckpointBegin => None,
+        Payload::CheckpointEnd { .. } => None,
+        Payload::Anchor { .. } => None,
     }
 }
 
@@ -107,13 +127,31 @@ fn undo_of(alloc: Global, found: &[LogRecord], change: Lsn) -> Result<Payload, A
     let Some(logged) = record_at(found, change) else {
         return Ok(Payload::End);
     };
-    match &logged.payload {
-        Payload::Change { id, before, .. } => Ok(Payload::Compensation {
-            id: *id,
-            after: copy_image(alloc, before)?,
+    match change_in(&logged.payload) {
+        Some((id, before)) => Ok(Payload::Compensation {
+            id,
+            after: copy_of(alloc, before)?,
             undo_next: next_behind(found, logged),
         }),
-        _ => Ok(Payload::End),
+        None => Ok(Payload::End),
+    }
+}
+
+// The id that a Change is of, and the image before it.
+fn change_in(payload: &Payload) -> Option<(Rid, &Option<Bytes>)>
+    ensures { MatchOption result ((id : Rid) (before after : Image) → payload.now ≢ Change id before after)
+        (λ change. (after : Image) × (payload.now ≡ Change change.0 change.1.now after)) }
+{
+    match payload {
+        Payload::Change { id, before, .. } => Some((*id, before)),
+        Payload::Compensation { .. } => None,
+        Payload::Commit => None,
+        Payload::End => None,
+        Payload::Prepare { .. } => None,
+        Payload::RollbackDecided => None,
+        Payload::CheckpointBegin => None,
+        Payload::CheckpointEnd { .. } => None,
+        Payload::Anchor { .. } => None,
     }
 }
 

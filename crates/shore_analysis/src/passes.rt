@@ -11,7 +11,7 @@ ghost use Rattle.shore_model.specs.declared.log_records.LogRecord.{LogRecord};
 ghost use Rattle.shore_model.specs.declared.log_records.TxnState.TheVariants.{Active, RollingBack};
 ghost use Rattle.shore_analysis.specs.Tables.{AreTables, is_on_page, is_undo};
 ghost use Rattle.shore_model.specs.Logs.{id_in, unanswered, undo_next_of};
-ghost use Rattle.shore_analysis.specs.Meant.{AreMeant, GoesOn, IsMeant, Means};
+ghost use Rattle.shore_analysis.specs.Meant.{AreMeant, MayBeNext, IsMeant, Means};
 ghost use Rattle.shore_analysis.specs.Passes.{Knows, as_dirty, entry_after, noted, numbers_of, over_after, txn_after};
 
 use crate::analysis::Tables;
@@ -56,7 +56,7 @@ impl Pass {
     ) -> Result<bool, AllocError>
         requires knows { Knows before.now self.old }
         requires meant { AreMeant geometry.now before.now }
-        ensures test { IfOk result (λ goes_on. IsTrue goes_on ↔ GoesOn geometry.now before.now logged.now) }
+        ensures test { IfOk result (λ goes_on. IsTrue goes_on ↔ MayBeNext geometry.now before.now logged.now) }
         ensures knows { IfOk result (λ goes_on. IsTrue goes_on → Knows (before.now ++ logged.now ∷ []) self.new) }
     {
         if !self.is_meant(geometry, before, logged) {
@@ -162,7 +162,11 @@ fn means(geometry: &Geometry, before: &[LogRecord], newest: Lsn, payload: &Paylo
         } => { geometry.has_slot(*id) && is_answer(before, newest, id, after, *undo_next) }
         Payload::Commit => true,
         Payload::End => newest.0 == 0,
-        _ => false,
+        Payload::Prepare { .. }
+        | Payload::RollbackDecided
+        | Payload::CheckpointBegin
+        | Payload::CheckpointEnd { .. }
+        | Payload::Anchor { .. } => false,
     }
 }
 
@@ -247,6 +251,12 @@ fn state_after(payload: &Payload) -> TxnState
 {
     match payload {
         Payload::Compensation { .. } | Payload::RollbackDecided => TxnState::RollingBack,
-        _ => TxnState::Active,
+        Payload::Change { .. }
+        | Payload::Commit
+        | Payload::End
+        | Payload::Prepare { .. }
+        | Payload::CheckpointBegin
+        | Payload::CheckpointEnd { .. }
+        | Payload::Anchor { .. } => TxnState::Active,
     }
 }

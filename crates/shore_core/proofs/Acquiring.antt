@@ -1,39 +1,37 @@
 -- What a call comes to that asks for its lock.
-use Rattle.std.proofs.Common.{◌≡◌, ◌<◌, inl, inr, ℕ, List, [], Result, Option, None, Some, Ok, Err, IfErr, IsErrAnd, map, refl, sym, ap, subst, ◌∙◌, arith}
-use Rattle.shore_types.specs.declared.faults.Device.{Device}
+use Rattle.std.proofs.Common.{◌≡◌, ◌<◌, inl, inr, ℕ, List, [], Result, Option, None, Some, Ok, Err, IsErrAnd, map, refl, sym, ap, subst}
 use Rattle.shore_types.specs.declared.faults.Fault.{Fault}
 use Rattle.shore_types.specs.declared.faults.Fault.TheVariants as fault
 use Rattle.shore_types.specs.declared.layout.Geometry.{Geometry}
 use Rattle.shore_types.specs.declared.locking.Granule.{Granule}
 use Rattle.shore_model.specs.declared.calls.Call.{Call}
 use Rattle.shore_model.specs.declared.log_records.LogRecord.{LogRecord}
-use Rattle.shore_disk.specs.Cause.{HasCause}
 use Rattle.shore_disk.specs.declared.device.Disk as disk
 use Rattle.shore_log.specs.declared.tail.Tail as tail
 use Rattle.shore_path.specs.declared.answers.Acquired.{Acquired}
 use Rattle.shore_path.specs.declared.answers.Acquired.TheVariants as acquire
-use Rattle.shore_lives.specs.Recovery.{RecoveryState}
-use Rattle.shore_lives.specs.Sessions.{SessionTxn}
-use Rattle.shore_calls.specs.StateChanges.{after_refusal}
-use Rattle.shore_calls.specs.CallSteps.{MayAsk, RefusesEarly}
-use Rattle.shore_calls.specs.Settling.{GoesSettled, WaitsForNoLock}
-use Rattle.shore_calls.specs.States.{DoesNotWait, State}
-use Rattle.shore_lives.specs.Views.{IsAmong}
-use Rattle.shore_undo.specs.Txns.{last_of}
-use Rattle.shore_undo.specs.declared.txn.Txn.{Txn}
+use Rattle.laws_lives.specs.Recovery.{RecoveryState}
+use Rattle.laws_lives.specs.Sessions.{SessionTxn}
+use Rattle.laws_calls.specs.StateChanges.{after_refusal}
+use Rattle.laws_calls.specs.CallSteps.{MayAsk, RefusesEarly}
+use Rattle.laws_calls.specs.Settling.{GoesSettled, WaitsForNoLock}
+use Rattle.laws_calls.specs.States.{DoesNotWait, State}
+use Rattle.laws_lives.specs.Views.{IsAmong}
+use Rattle.shore_txn.specs.Txns.{last_of}
+use Rattle.shore_txn.specs.declared.txn.Txn.{Txn}
 use Rattle.shore_txn.proofs.OneOfMany.{among_map, map_among}
-use Rattle.shore_control.proofs.WaitSteps.{free_waits_not}
-use Rattle.shore_control.specs.Controls.{IsFree, waits_in}
-use Rattle.shore_control.specs.Noting.{IsOfNoDevice}
-use Rattle.shore_control.specs.Standing.{HasControl}
-use Rattle.shore_control.specs.declared.control.Control.{Control}
-use Rattle.shore_calls.specs.declared.step.Step.{Step}
-use Rattle.shore_calls.specs.declared.step.Step.TheVariants.{Done, Nothing, Refused, Waits}
-use Rattle.shore_calls.specs.declared.step.Wait.TheVariants.{Lock}
+use Rattle.shore_sessions.proofs.WaitSteps.{free_waits_not}
+use Rattle.shore_sessions.specs.Controls.{HasNoWait, waits_in}
+use Rattle.shore_sessions.specs.Noting.{IsOfNoDevice}
+use Rattle.shore_sessions.specs.Standing.{HasControl}
+use Rattle.shore_sessions.specs.declared.control.Control.{Control}
+use Rattle.shore_model.specs.declared.step.Step.{Step}
+use Rattle.shore_model.specs.declared.step.Step.TheVariants.{Done, Nothing, Refused, Waits}
+use Rattle.shore_model.specs.declared.step.Wait.TheVariants.{Lock}
 use Rattle.shore_core.specs.declared.core_calls.Core.{Core}
-use Rattle.shore_core.specs.Cores.{ComesTo, geometry_of}
+use Rattle.shore_core.specs.Cores.{CoreComesTo, geometry_of}
 use Rattle.shore_core.specs.Replies.{AskedFor, IsServedBehind, as_step}
-use Rattle.shore_core.proofs.Taking.{plain_refusal, stays_after}
+use Rattle.shore_core.proofs.Taking.{stays_after}
 
 -- ---- the lock that is asked for
 
@@ -47,40 +45,17 @@ same_some x y is = ap (λ o. value_or x o) is
 pub done_waits_not : (at : Granule) → ◌≡◌ {A = Result Acquired Fault} (Ok acquire.Done) (Ok (acquire.Waiting at)) → ⊥
 done_waits_not at clash = cc
 
--- ---- a lock that is refused
-
-module _ (f : Fault) (may : IsOfNoDevice f) where
-  -- it asks for no force
-  pub no_force : {A : Type 0} (X : ℕ → Type 0) (r : Result A Fault) → IsErrAnd r (λ e. e ≡ f) → IfErr r (λ e. (n : ℕ) → e ≡ fault.NeedForce n → X n)
-  no_force X r same = plain_refusal r (λ e. (n : ℕ) → e ≡ fault.NeedForce n → X n) f same (λ n is. absurd (may.2 n is))
-
-  -- .. and says that nothing is damaged
-  pub no_damage : {A : Type 0} (X : Device → ℕ → Type 0) (r : Result A Fault) → IsErrAnd r (λ e. e ≡ f) → IfErr r (λ e. (d : Device) (offset : ℕ) → e ≡ fault.Damaged d offset → X d offset)
-  no_damage X r same = plain_refusal r (λ e. (d : Device) (offset : ℕ) → e ≡ fault.Damaged d offset → X d offset) f same (λ d offset is. absurd (may.1 d offset is))
-
-  -- .. nor that a device has failed
-  pub no_failure : {A : Type 0} (r : Result A Fault) (n : ℕ) → IsErrAnd r (λ e. e ≡ f) → HasCause r n n
-  no_failure (Err e) n same = record {
-    no_lower = omega arith;
-    reported = λ is. absurd (may.0 (sym same ∙ fault_is is));
-    unreported = λ other. refl;
-  }
-    where
-      fault_is : {A : Type 0} {e : Fault} → ◌≡◌ {A = Result A Fault} (Err e) (Err fault.Device) → e ≡ fault.Device
-      fault_is is = cc
-  no_failure (Ok x) n same = absurd same
-
 -- ---- what is asked for
 
 module _ {T V : Type 0} {G : tail.Ghosts T} {H : disk.Ghosts V} (old new : Core T V G H) (front : List ℕ) (before : List LogRecord) (s : State) (store : RecoveryState) (a : SessionTxn) (c : Call) where
   -- refused before it asks
-  pub asked_early : (r : Result Step Fault) (f : Fault) → IsErrAnd r (λ e. e ≡ f) → RefusesEarly (geometry_of old) c f → ComesTo new front before store s
+  pub asked_early : (r : Result Step Fault) (f : Fault) → IsErrAnd r (λ e. e ≡ f) → RefusesEarly (geometry_of old) c f → CoreComesTo new front before store s
       → AskedFor a c r old new front before s store
   asked_early (Err e) f same refuses comes = record { later = s; asks = inl (e, subst (RefusesEarly (geometry_of old) c) (sym same) refuses, refl, refl); comes = inr comes }
   asked_early (Ok x) f same refuses comes = absurd same
 
   -- .. for an allocation failed
-  pub asked_lacks : (r : Result Step Fault) → IsErrAnd r (λ e. e ≡ fault.Memory) → MayAsk (geometry_of old) c → ComesTo new front before store s
+  pub asked_lacks : (r : Result Step Fault) → IsErrAnd r (λ e. e ≡ fault.Memory) → MayAsk (geometry_of old) c → CoreComesTo new front before store s
       → AskedFor a c r old new front before s store
   asked_lacks (Err e) same may comes = record {
     later = s;
@@ -96,7 +71,7 @@ module _ {T V : Type 0} {G : tail.Ghosts T} {H : disk.Ghosts V} (old new : Core 
   module _ (may : MayAsk (geometry_of old) c) where
     -- .. by the locks
     pub asked_blocked : (r : Result Step Fault) (f : Fault) → IsErrAnd r (λ e. e ≡ f) → IsOfNoDevice f → (later : State) → GoesSettled (geometry_of old) s a c (Refused f) later
-        → ComesTo new front before store later → AskedFor a c r old new front before s store
+        → CoreComesTo new front before store later → AskedFor a c r old new front before s store
     asked_blocked (Err e) f same plain later settled comes = record {
       later = later;
       asks = inr (
@@ -109,7 +84,7 @@ module _ {T V : Type 0} {G : tail.Ghosts T} {H : disk.Ghosts V} (old new : Core 
     asked_blocked (Ok x) f same plain later settled comes = absurd same
 
     -- it waits there
-    pub asked_waits : (at : Granule) (later : State) → GoesSettled (geometry_of old) s a c (Waits (Lock at)) later → ComesTo new front before store later
+    pub asked_waits : (at : Granule) (later : State) → GoesSettled (geometry_of old) s a c (Waits (Lock at)) later → CoreComesTo new front before store later
         → AskedFor a c (Ok (Waits (Lock at))) old new front before s store
     asked_waits at later settled comes = record { later = later; asks = inr (may, settled); comes = comes }
 
@@ -122,7 +97,7 @@ served_at_once g s a c (Ok (Refused f)) new h = absurd h
 served_at_once g s a c (Ok Nothing) new h = absurd h
 
 -- a session is free whose call does not wait in the control
-pub idle_of : (control : Control) (s : State) (a : SessionTxn) (session : ℕ) → HasControl control s → IsFree session control → a.session ≡ session → DoesNotWait s a.session
+pub idle_of : (control : Control) (s : State) (a : SessionTxn) (session : ℕ) → HasControl control s → HasNoWait session control → a.session ≡ session → DoesNotWait s a.session
 idle_of control s a session stands free of = subst (DoesNotWait s) (sym of) (free_waits_not (waits_in control) s stands.waits session free)
 
 -- each last record is below a number, if each was before

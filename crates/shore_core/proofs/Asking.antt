@@ -11,15 +11,15 @@ use Rattle.shore_heap.specs.declared.heap.Heap.{Heap}
 use Rattle.shore_heap.specs.Heaps.{pool_of}
 use Rattle.shore_types.specs.declared.faults.Fault.{Fault}
 use Rattle.shore_types.specs.declared.faults.Fault.TheVariants as fault
-use Rattle.shore_held.specs.CallLocks.{asked_by}
-use Rattle.shore_calls.specs.Events.{IsServed}
+use Rattle.laws_locks.specs.CallLocks.{lock_asked_by}
+use Rattle.shore_model.specs.Calls.{IsServed}
 use Rattle.shore_core.specs.declared.core_calls.Core.{Core}
 use Rattle.shore_core.specs.Cores.{durable_of, heap_of}
 use Rattle.shore_core.specs.Replies.{NeedsForceIn, forced_at}
 
 -- a call that is served, but for those that begin a transaction, end it or roll it back
 pub asks : (c : Call) → IsServed c → (c ≡ call.Begin → ⊥) → (c ≡ call.Commit → ⊥) → (c ≡ call.Savepoint → ⊥) → ((index : ℕ) → c ≡ call.BackTo index → ⊥) → (c ≡ call.Abort → ⊥)
-    → IsSome (asked_by c)
+    → IsSome (lock_asked_by c)
 asks call.Begin served begin commit savepoint back abort = absurd (begin refl)
 asks call.Commit served begin commit savepoint back abort = absurd (commit refl)
 asks (call.Get id) served begin commit savepoint back abort = refl
@@ -39,7 +39,7 @@ asks call.InDoubt served begin commit savepoint back abort = absurd served
 
 module _ {T V : Type 0} {G : tail.Ghosts T} {H : disk.Ghosts V} (old : Core T V G H) where
   -- a call that asks for a lock has to need a force as it begins
-  pub forced_as_asked : (new : Core T V G H) (c : Call) → IsSome (asked_by c) → forced_at c old new ≡ old
+  pub forced_as_asked : (new : Core T V G H) (c : Call) → IsSome (lock_asked_by c) → forced_at c old new ≡ old
   forced_as_asked new (call.Get id) asked = refl
   forced_as_asked new (call.GetForUpdate id) asked = refl
   forced_as_asked new (call.Insert store bytes) asked = refl

@@ -1,16 +1,16 @@
 -- What a begin leaves of the table, be it refused or not.
 use Rattle.std.proofs.Common.{◌≡◌, ◌+◌, ◌<◌, ◌≤◌, ◌∷◌, ⊎_elim, ℕ, Result, Ok, Err, OnOk, OnErr, ap, subst, ◌∙◌, arith}
 use Rattle.shore_types.specs.declared.layout.TheConstants.{ENDING_COST}
-use Rattle.shore_room.specs.LogRooms.{owed_by_all}
-use Rattle.shore_lives.specs.UndoLists.{nothing_to_undo}
-use Rattle.shore_lives.specs.Views.{IsAmong}
+use Rattle.laws_room.specs.LogRooms.{owed_by_all}
+use Rattle.laws_lives.specs.UndoLists.{nothing_to_undo}
+use Rattle.laws_lives.specs.Views.{IsAmong}
 use Rattle.shore_txn.specs.ActiveTxns.{IsBegun}
 use Rattle.shore_txn.specs.Transactions.{IsUnchanged, next_in, room_in, undos_in}
 use Rattle.shore_txn.specs.Transactions as table
-use Rattle.shore_undo.specs.Txns.{last_of}
+use Rattle.shore_txn.specs.Txns.{last_of}
 use Rattle.shore_txn.specs.declared.log_room.LogRoom.{LogRoom}
 use Rattle.shore_txn.specs.declared.transactions.Transactions.{Transactions}
-use Rattle.shore_undo.specs.declared.txn.Txn.{Txn}
+use Rattle.shore_txn.specs.declared.txn.Txn.{Txn}
 
 module _ {A E : Type 0} (old new : Transactions) (session : ℕ) where
   -- it reserves what an ending costs at most

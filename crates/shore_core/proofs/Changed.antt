@@ -7,16 +7,16 @@ use Rattle.shore_types.specs.declared.faults.Fault.{Fault}
 use Rattle.shore_types.specs.declared.faults.Fault.TheVariants as fault
 use Rattle.shore_types.specs.declared.ids.PageId.{PageId}
 use Rattle.shore_types.specs.declared.ids.Rid.{Rid}
-use Rattle.shore_types.specs.Images.{Image}
+use Rattle.shore_types.specs.Images.{Image, image_len}
 use Rattle.shore_types.specs.Layout.{HasPage}
 use Rattle.shore_model.specs.declared.log_records.LogRecord.{LogRecord}
 use Rattle.shore_model.specs.declared.log_records.Payload.TheVariants.{Change, Compensation}
 use Rattle.shore_model.specs.Records.{Records}
 use Rattle.shore_logrec.specs.Text.{ImageFits, cost_of}
 use Rattle.shore_page.specs.Room.{Fits}
-use Rattle.shore_page.specs.Slots.{image_len, with_image}
+use Rattle.shore_page.specs.Slots.{with_image}
 use Rattle.shore_heap.specs.declared.heap.Heap.{Heap}
-use Rattle.shore_heap.specs.Contents.{Kept, with_slots}
+use Rattle.shore_heap.specs.Contents.{ClaimsOfPages, with_slots}
 use Rattle.shore_heap.specs.Heaps as heaps
 use Rattle.shore_heap.specs.Heaps.{Shows, frame_of, geometry_of}
 use Rattle.shore_types.specs.declared.layout.TheConstants.{MAX_RECORD_BYTES}
@@ -24,26 +24,26 @@ use Rattle.shore_dwrite.specs.Settled as settled_device
 use Rattle.shore_dwrite.specs.Volumes.{page_number}
 use Rattle.shore_heap.proofs.Bounds.{cases_page, slots_here, slots_other}
 use Rattle.shore_heap.proofs.Showing.{shows_same, shows_told}
-use Rattle.shore_lives.specs.Sessions.{SessionTxn}
-use Rattle.shore_lives.specs.Views.{IsAmong}
-use Rattle.shore_room.specs.Claims.{Claimed, Grows, NoOthers, SlotCounts}
-use Rattle.shore_room.specs.LogRooms.{change_cost, compensation_cost}
-use Rattle.shore_room.proofs.Costs.{change_bytes, compensation_bytes}
-use Rattle.shore_room.proofs.Rooms.{change_others, change_slots}
-use Rattle.shore_calls.specs.States.{State, page_slots}
+use Rattle.laws_lives.specs.Sessions.{SessionTxn}
+use Rattle.laws_lives.specs.Views.{IsAmong}
+use Rattle.laws_room.specs.Claims.{Claimed, Grows, NoOthers, SlotCounts}
+use Rattle.laws_room.specs.LogRooms.{change_cost, compensation_cost}
+use Rattle.laws_room.proofs.Costs.{change_bytes, compensation_bytes}
+use Rattle.laws_room.proofs.Rooms.{change_others, change_slots}
+use Rattle.laws_calls.specs.States.{State, page_slots}
 use Rattle.shore_core.specs.declared.core_calls.Core.{Core}
-use Rattle.shore_lives.specs.Recovery.{RecoveryState}
+use Rattle.laws_lives.specs.Recovery.{RecoveryState}
 use Rattle.shore_txn.specs.declared.transactions.Transactions.{Transactions}
-use Rattle.shore_undo.specs.declared.txn.Txn.{Txn}
-use Rattle.shore_undo.specs.declared.undo.UndoEntry.{UndoEntry}
+use Rattle.shore_txn.specs.declared.txn.Txn.{Txn}
+use Rattle.shore_txn.specs.declared.undo.UndoEntry.{UndoEntry}
 use Rattle.shore_txn.specs.ActiveTxns.{OneBecomes}
 use Rattle.shore_txn.specs.Transactions.{kept_in, txns_in}
-use Rattle.shore_undo.specs.Txns.{IsAfterChange, IsAfterSavepoint, SameTxn, last_of}
+use Rattle.shore_txn.specs.Txns.{IsAfterChange, IsAfterSavepoint, SameTxn, last_of}
 use Rattle.shore_txn.proofs.ActiveOthers.{AreApart, each_becomes}
 use Rattle.shore_pool.specs.declared.frame.Frame.{Frame}
 use Rattle.shore_page.specs.Slots.{Slot}
-use Rattle.shore_core.specs.Cores.{ComesTo}
-use Rattle.shore_control.specs.Standing.{changed}
+use Rattle.shore_core.specs.Cores.{CoreComesTo}
+use Rattle.shore_sessions.specs.Standing.{changed}
 use Rattle.shore_core.specs.Replies.{Changes}
 
 -- the page of the id has slots up to the id's
@@ -62,7 +62,7 @@ grows counts id = record { here = here (cases_page id.page id.page); others = λ
     others p apart (inr other) = refl
 
 module _ {V : Type 0} {H : disk.Ghosts V} where
-  pub pages_changed : (new : Heap V H) (K : Kept) (front : List ℕ) (disk : ℕ → List ℕ) (s : State) (a : SessionTxn) (id : Rid) (image : Image) (counts : SlotCounts)
+  pub pages_changed : (new : Heap V H) (K : ClaimsOfPages) (front : List ℕ) (disk : ℕ → List ℕ) (s : State) (a : SessionTxn) (id : Rid) (image : Image) (counts : SlotCounts)
       → Claimed s.sessions.records s.sessions.active s.counts → IsAmong a s.sessions.active → NoOthers s.sessions.active a.txn id → Fits (page_slots s id.page) id.slot (image_len image) → Grows s.counts counts id
       → Shows K new front disk (with_slots (page_slots s) id.page (λ slots. with_image slots id.slot image)) → Shows K new front disk (page_slots (changed s a id image counts))
   pages_changed new K front disk s a id image counts k among alone fits grows shows =
@@ -106,7 +106,7 @@ costs_are R id was image logged undo a b found =
 module _ {T V : Type 0} {G : tail.Ghosts T} {H : disk.Ghosts V} (new : Core T V G H) (front : List ℕ) (before : List LogRecord) (s : State) (store : RecoveryState) (a : SessionTxn)
     (id : Rid) (image : Image) where
   -- an allocation failed, and the state is as it was
-  pub changes_none : (r : Result (Unit {0}) Fault) → IsErrAnd r (λ e. e ≡ fault.Memory) → ComesTo new front before store s → Changes new a id image r front before s store
+  pub changes_none : (r : Result (Unit {0}) Fault) → IsErrAnd r (λ e. e ≡ fault.Memory) → CoreComesTo new front before store s → Changes new a id image r front before s store
   changes_none (Err e) memory comes = (inl memory, comes)
   changes_none (Ok u) memory comes = absurd memory
 

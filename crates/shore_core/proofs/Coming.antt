@@ -12,28 +12,28 @@ use Rattle.shore_heap.specs.Contents.{AreKept, FitIn, claimed_by}
 use Rattle.shore_txn.proofs.ActiveKept.{back_again, fit_again}
 use Rattle.shore_heap.specs.Heaps as heaps
 use Rattle.shore_heap.specs.Heaps.{KeepsSlots, LeavesPages, Shows}
-use Rattle.shore_lives.specs.ManagerSteps.{WorksTo}
-use Rattle.shore_lives.specs.Pages.{LoggedPages}
-use Rattle.shore_lives.specs.Recovery.{AppendRecord, CrashMayLeave, LeadsTo, RecoveryEvent, RecoveryState, after_append}
-use Rattle.shore_lives.proofs.Invariant.{event_kept}
-use Rattle.shore_lives.proofs.Works.{all_work}
-use Rattle.shore_stands.proofs.Flushes.{left_amid, work_of}
-use Rattle.shore_stands.proofs.Stores.{store_over}
-use Rattle.shore_stands.specs.LoggedHeaps.{IsStoreOf, LeavesStore}
+use Rattle.laws_lives.specs.ManagerSteps.{WorksTo}
+use Rattle.laws_lives.specs.Pages.{LoggedPages}
+use Rattle.laws_lives.specs.Recovery.{AppendRecord, CrashMayLeave, LeadsTo, RecoveryEvent, RecoveryState, after_append}
+use Rattle.laws_lives.proofs.Invariant.{event_kept}
+use Rattle.laws_lives.proofs.Works.{all_work}
+use Rattle.laws_images.proofs.Flushes.{left_amid, work_of}
+use Rattle.laws_images.proofs.Stores.{store_over}
+use Rattle.laws_images.specs.LoggedHeaps.{IsStoreOf, LeavesStore}
 use Rattle.shore_heap.specs.declared.heap.Heap.{Heap}
 use Rattle.shore_heap.proofs.Showing.{shows_told}
 use Rattle.shore_pool.proofs.Same.{pages_stay}
 use Rattle.shore_pool.specs.Pages.{SamePages}
 use Rattle.shore_txn.specs.declared.transactions.Transactions.{Transactions}
 use Rattle.shore_types.specs.declared.ids.PageId.{PageId}
-use Rattle.shore_calls.specs.States.{State, page_slots}
+use Rattle.laws_calls.specs.States.{State, page_slots}
 use Rattle.shore_txn.specs.Transactions.{kept_in, undos_in}
 use Rattle.shore_txn.specs.Transactions as table
-use Rattle.shore_room.specs.Claims.{Claimed, slots_of}
+use Rattle.laws_room.specs.Claims.{Claimed, slots_of}
 use Rattle.shore_core.specs.declared.core_calls.Core.{Core}
-use Rattle.shore_core.specs.Cores.{ComesTo, FailsOver, IsBeside, IsIn, IsKept, IsKeptBehind, IsOver, IsSafe, control_of, durable_of, geometry_of, has_failed, heap_of, history_of, tail_of, txns_of, waiting_of}
-use Rattle.shore_control.specs.declared.control.Control.{Control}
-use Rattle.shore_control.specs.Controls.{txns_in}
+use Rattle.shore_core.specs.Cores.{CoreComesTo, FailsOver, IsBeside, IsIn, IsKept, IsKeptBehind, IsOver, IsSafe, control_of, durable_of, geometry_of, has_failed, heap_of, history_of, tail_of, txns_of, waiting_of}
+use Rattle.shore_sessions.specs.declared.control.Control.{Control}
+use Rattle.shore_sessions.specs.Controls.{txns_in}
 use Rattle.shore_core.specs.Parts.{HasParts}
 use Rattle.shore_core.specs.Replies.{MayLeave, OnlyReads, Stays}
 
@@ -77,12 +77,12 @@ module _ {T V : Type 0} {G : tail.Ghosts T} {H : disk.Ghosts V} where
 
   -- nothing was done
   pub comes_same : (new : Core T V G H) (front : List ℕ) (disk : ℕ → List ℕ) (before : List LogRecord) (s : State) (store : RecoveryState)
-      → IsIn front disk before new s → IsOver disk new s store → ComesTo new front before store s
+      → IsIn front disk before new s → IsOver disk new s store → CoreComesTo new front before store s
   comes_same new front disk before s store is over = record { left = disk; is_in = is; works = []; after = store; work = refl; over = over }
 
   -- a core that has failed is in each state beside
   pub comes_failed : (new : Core T V G H) (front : List ℕ) (before : List LogRecord) (s : State) (store : RecoveryState) → s.failed ≡ true
-      → IsBeside before new s → IsKeptBehind s store → ComesTo new front before store s
+      → IsBeside before new s → IsKeptBehind s store → CoreComesTo new front before store s
   comes_failed new front before s store fails beside behind = record {
     left = λ k. [];
     is_in = record { beside = beside; pages = λ works. never_both s.failed fails works };
@@ -97,11 +97,11 @@ module _ {T V : Type 0} {G : tail.Ghosts T} {H : disk.Ghosts V} where
     beside : IsBeside before new s
     beside = beside_same old new before s reads.tail reads.control reads.durable reads.failed is.beside
 
-    pub read_failed : s.failed ≡ true → ComesTo new front before store s
+    pub read_failed : s.failed ≡ true → CoreComesTo new front before store s
     read_failed fails = comes_failed new front before s store fails beside (kept_behind s store over.kept)
 
     -- pages were written back, and all are in place as they were
-    pub read_running : s.failed ≡ false → KeepsSlots (kept_in (txns_of old)) (heap_of old) (heap_of new) (durable_of old) front disk (page_slots s) → ComesTo new front before store s
+    pub read_running : s.failed ≡ false → KeepsSlots (kept_in (txns_of old)) (heap_of old) (heap_of new) (durable_of old) front disk (page_slots s) → CoreComesTo new front before store s
     read_running works (left, shows, stay) =
         let durable : durable_of old ≡ store.durable = sym (over.kept.stored.durable ∙ is.beside.parts.durable_is) in
         let back = work_of (heap_of old) (heap_of new) (durable_of old) disk left store (over.pages works) stay (omega (arith, durable)) reads.volume.geometry in
@@ -151,14 +151,14 @@ pages_may_go core before s was safe id has =
 module _ {T V : Type 0} {G : tail.Ghosts T} {H : disk.Ghosts V} (new : Core T V G H) (front : List ℕ) (before : List LogRecord) (s : State) (store : RecoveryState) where
   -- a call that was refused
   abbrev pub StaysRefused : Fault → Type 0
-  StaysRefused f = ((f ≡ fault.Device) × IsBeside before new s × FailsOver new front s store) ⊎ ComesTo new front before store s
+  StaysRefused f = ((f ≡ fault.Device) × IsBeside before new s × FailsOver new front s store) ⊎ CoreComesTo new front before store s
 
   pub stays_beside : (f : Fault) → StaysRefused f → IsBeside before new s
   stays_beside f (inl device) = device.1
   stays_beside f (inr comes) = comes.is_in.beside
 
   -- .. and not for the device
-  pub stays_comes : (f : Fault) → (f ≡ fault.Device → ⊥) → StaysRefused f → ComesTo new front before store s
+  pub stays_comes : (f : Fault) → (f ≡ fault.Device → ⊥) → StaysRefused f → CoreComesTo new front before store s
   stays_comes f other (inl device) = absurd (other device.0)
   stays_comes f other (inr comes) = comes
 
@@ -185,7 +185,7 @@ works_then s mid last [] two first second = subst (λ x. WorksTo x two last) fir
 works_then s mid last (e ∷ one) two first second = (first.0, first.1, first.2, works_then first.1 mid last one two first.3 second)
 
 pub comes_then : {T V : Type 0} {G : tail.Ghosts T} {H : disk.Ghosts V} (mid new : Core T V G H) (front : List ℕ) (before : List LogRecord) (s later : State) (store : RecoveryState)
-    → (one : ComesTo mid front before store s) → ComesTo new front before one.after later → ComesTo new front before store later
+    → (one : CoreComesTo mid front before store s) → CoreComesTo new front before one.after later → CoreComesTo new front before store later
 comes_then mid new front before s later store one two = record {
   left = two.left;
   is_in = two.is_in;
@@ -197,7 +197,7 @@ comes_then mid new front before s later store one two = record {
 
 -- a fault behind a call that was answered
 pub stays_behind : {T V : Type 0} {G : tail.Ghosts T} {H : disk.Ghosts V} (mid new : Core T V G H) (front : List ℕ) (before : List LogRecord) (s later : State) (store : RecoveryState) (f : Fault)
-    → (one : ComesTo mid front before store s) → StaysRefused new front before later one.after f → StaysRefused new front before later store f
+    → (one : CoreComesTo mid front before store s) → StaysRefused new front before later one.after f → StaysRefused new front before later store f
 stays_behind mid new front before s later store f one (inl device) =
     let behind = device.2.behind in
     inl (
@@ -220,7 +220,7 @@ stays_behind mid new front before s later store f one (inr comes) = inr (comes_t
 module _ {T V : Type 0} {G : tail.Ghosts T} {H : disk.Ghosts V} (new : Core T V G H) (front : List ℕ) (disk : ℕ → List ℕ) (before : List LogRecord) (s later : State) (store : RecoveryState) (r : LogRecord) where
   -- a record was appended, and done on its page
   pub comes_appended : IsKept s store → later.log ≡ s.log ++ r ∷ [] → later.durable ≡ s.durable → IsIn front disk before new later
-      → (later.failed ≡ false → IsStoreOf (heap_of new) disk (after_append store r)) → ComesTo new front before store later
+      → (later.failed ≡ false → IsStoreOf (heap_of new) disk (after_append store r)) → CoreComesTo new front before store later
   comes_appended kept log durable is pages =
       let leads : LeadsTo store (AppendRecord r) (after_append store r) = (kept.redone, refl) in
       let long = length-append store.log (r ∷ []) in

@@ -14,29 +14,29 @@ use Rattle.shore_heap.specs.declared.heap.Heap.{Heap}
 use Rattle.shore_heap.specs.Heaps.{Shows}
 use Rattle.shore_heap.proofs.Showing.{shows_same}
 use Rattle.shore_locks.specs.Grants.{released}
-use Rattle.shore_lives.specs.Recovery.{RecoveryState, after_append}
-use Rattle.shore_room.specs.Claims.{Claimed, slots_of}
-use Rattle.shore_room.specs.Settling.{let_go}
-use Rattle.shore_room.proofs.Leaving.{left_slots}
-use Rattle.shore_lives.specs.Logged.{and_record, and_rollback}
-use Rattle.shore_lives.specs.Sessions.{SessionTxn, abort_answered, without_txn}
-use Rattle.shore_lives.specs.UndoLists.{rolled_back}
-use Rattle.shore_lives.specs.Views.{IsAmong}
-use Rattle.shore_calls.specs.CallSteps.{aborted, with_requests}
-use Rattle.shore_calls.specs.States.{State, page_slots}
-use Rattle.shore_stands.specs.LoggedHeaps.{IsStoreOf}
-use Rattle.shore_stands.proofs.Made.{appended_without}
+use Rattle.laws_lives.specs.Recovery.{RecoveryState, after_append}
+use Rattle.laws_room.specs.Claims.{Claimed, slots_of}
+use Rattle.laws_room.specs.Settling.{let_go}
+use Rattle.laws_room.proofs.Leaving.{left_slots}
+use Rattle.laws_lives.specs.Logged.{and_record, and_rollback}
+use Rattle.laws_lives.specs.Sessions.{SessionTxn, abort_answered, without_txn}
+use Rattle.laws_lives.specs.UndoLists.{rolled_back}
+use Rattle.laws_lives.specs.Views.{IsAmong}
+use Rattle.laws_calls.specs.CallSteps.{aborted, with_requests}
+use Rattle.laws_calls.specs.States.{State, page_slots}
+use Rattle.laws_images.specs.LoggedHeaps.{IsStoreOf}
+use Rattle.laws_images.proofs.Made.{appended_without}
 use Rattle.shore_txn.specs.ActiveTxns.{OneLeaves}
 use Rattle.shore_txn.specs.Transactions.{kept_in, txns_in, undos_in}
-use Rattle.shore_undo.specs.Txns.{as_session_txn, entries_of, last_of}
-use Rattle.shore_undo.specs.UndoEntries.{images_of}
+use Rattle.shore_txn.specs.Txns.{as_session_txn, entries_of, last_of}
+use Rattle.shore_txn.specs.UndoEntries.{images_of}
 use Rattle.shore_txn.specs.declared.transactions.Transactions.{Transactions}
-use Rattle.shore_undo.specs.declared.txn.Txn.{Txn}
-use Rattle.shore_undo.specs.declared.undo.UndoEntry.{UndoEntry}
+use Rattle.shore_txn.specs.declared.txn.Txn.{Txn}
+use Rattle.shore_txn.specs.declared.undo.UndoEntry.{UndoEntry}
 use Rattle.shore_txn.proofs.OneOfMany.{among_more}
-use Rattle.shore_control.specs.Standing.{HasControl, abort_ended}
+use Rattle.shore_sessions.specs.Standing.{HasControl, abort_ended}
 use Rattle.shore_core.specs.declared.core_calls.Core.{Core}
-use Rattle.shore_core.specs.Cores.{ComesTo, IsIn, IsOver, control_of, durable_of, first_of, has_failed, heap_of, txns_of, waiting_of}
+use Rattle.shore_core.specs.Cores.{CoreComesTo, IsIn, IsOver, control_of, durable_of, first_of, has_failed, heap_of, txns_of, waiting_of}
 use Rattle.shore_core.specs.Parts.{HasParts}
 use Rattle.shore_core.proofs.Coming.{comes_appended, comes_same, over_as, pages_told}
 use Rattle.shore_core.proofs.Tables.{parts_logged, parts_moved}
@@ -109,7 +109,7 @@ module _ {T V : Type 0} {G : tail.Ghosts T} {H : disk.Ghosts V} (old new : Core 
       (subst (λ (n : ℕ). HasParts (control_of new) waiting n (has_failed old) before (aborted s a)) (sym durable) has)
 
   -- it has logged nothing
-  pub ended_unlogged : waiting_of new ≡ waiting_of old → previous_of a.txn s.log ≡ 0 → HasControl (control_of new) (abort_ended s a false) → ComesTo new front before store (aborted s a)
+  pub ended_unlogged : waiting_of new ≡ waiting_of old → previous_of a.txn s.log ≡ 0 → HasControl (control_of new) (abort_ended s a false) → CoreComesTo new front before store (aborted s a)
   ended_unlogged waiting nothing stands =
       let log : (aborted s a).log ≡ s.log = ap (λ (x : State). x.log) (aborted_unlogged s a none nothing) in
       let has = subst (HasControl (control_of new)) (sym (aborted_unlogged s a none nothing)) stands in
@@ -123,7 +123,7 @@ module _ {T V : Type 0} {G : tail.Ghosts T} {H : disk.Ghosts V} (old new : Core 
 
   -- its End was appended
   pub ended_logged : (r : LogRecord) → r ≡ record { txn = a.txn; previous = previous_of a.txn s.log; payload = End } → waiting_of new ≡ waiting_of old ++ r ∷ [] → (previous_of a.txn s.log ≡ 0 → ⊥)
-      → HasControl (control_of new) (abort_ended s a true) → ComesTo new front before store (aborted s a)
+      → HasControl (control_of new) (abort_ended s a true) → CoreComesTo new front before store (aborted s a)
   ended_logged r r_is waiting some stands =
       let own : LogRecord = record { txn = a.txn; previous = previous_of a.txn s.log; payload = End } in
       let log : (aborted s a).log ≡ s.log ++ own ∷ [] = ap (λ (x : State). x.log) (aborted_logged s a none some) in

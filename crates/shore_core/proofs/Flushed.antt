@@ -6,21 +6,21 @@ use Rattle.shore_model.specs.declared.log_records.LogRecord.{LogRecord}
 use Rattle.shore_disk.specs.declared.device.Disk as disk
 use Rattle.shore_log.specs.declared.tail.Tail as tail
 use Rattle.shore_heap.specs.Heaps.{KeepsSlots, Shows, WroteBack}
-use Rattle.shore_lives.specs.ManagerSteps.{WorksTo}
-use Rattle.shore_lives.specs.Recovery.{AppendRecord, FlushPage, ForceLog, LosePower, RecoveryEvent, RecoveryState, RedoRecord, after_force}
-use Rattle.shore_lives.proofs.Lists.{length-push}
-use Rattle.shore_calls.specs.StateChanges.{with_failure}
-use Rattle.shore_calls.specs.States.{State, page_slots}
-use Rattle.shore_calls.specs.declared.step.Step.{Step}
-use Rattle.shore_calls.specs.declared.step.Step.TheVariants.{Refused}
+use Rattle.laws_lives.specs.ManagerSteps.{WorksTo}
+use Rattle.laws_lives.specs.Recovery.{AppendRecord, FlushPage, ForceLog, LosePower, RecoveryEvent, RecoveryState, RedoRecord, after_force}
+use Rattle.laws_lives.proofs.Lists.{length-push}
+use Rattle.laws_calls.specs.StateChanges.{with_failure}
+use Rattle.laws_calls.specs.States.{State, page_slots}
+use Rattle.shore_model.specs.declared.step.Step.{Step}
+use Rattle.shore_model.specs.declared.step.Step.TheVariants.{Refused}
 use Rattle.shore_txn.specs.Transactions.{kept_in}
-use Rattle.shore_control.specs.declared.control.Control.{Control}
-use Rattle.shore_control.specs.Controls.{txns_in}
+use Rattle.shore_sessions.specs.declared.control.Control.{Control}
+use Rattle.shore_sessions.specs.Controls.{txns_in}
 use Rattle.shore_core.specs.declared.core_calls.Core.{Core}
 use Rattle.shore_core.specs.Cores.{IsIn, IsOver, control_of, durable_of, has_failed, heap_of, tail_of, txns_of}
 use Rattle.shore_core.specs.Flushing.{AreFlushes, FlushMoves, FlushSteps}
 use Rattle.shore_core.specs.Replies.{OnlyReads, fault_at}
-use Rattle.shore_stands.proofs.Flushes.{work_of}
+use Rattle.laws_images.proofs.Flushes.{work_of}
 use Rattle.shore_core.proofs.Coming.{beside_same, kept_after}
 use Rattle.shore_core.proofs.Taking.{in_failed, over_failed, true_false}
 

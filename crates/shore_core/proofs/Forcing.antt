@@ -11,13 +11,13 @@ use Rattle.shore_heap.specs.declared.heap.Heap.{Heap}
 use Rattle.shore_heap.specs.Heaps.{AsksForForce, WroteBack, frame_at, geometry_of}
 use Rattle.shore_heap.specs.Places.{IsRefused}
 use Rattle.shore_pool.specs.Pools as pools
-use Rattle.shore_pool.specs.Pools.{Holds, NeedsForce}
+use Rattle.shore_pool.specs.Pools.{PoolHolds, NeedsForce}
 use Rattle.shore_pool.specs.declared.pool.Pool.{Pool}
 use Rattle.shore_pool.specs.declared.frame.Frame.{Frame}
-use Rattle.shore_lives.specs.Recovery.{RecoveryState}
-use Rattle.shore_stands.specs.LoggedHeaps.{IsStoreOf}
-use Rattle.shore_calls.specs.StateChanges.{IsPageFault}
-use Rattle.shore_calls.specs.States.{State}
+use Rattle.laws_lives.specs.Recovery.{RecoveryState}
+use Rattle.laws_images.specs.LoggedHeaps.{IsStoreOf}
+use Rattle.laws_calls.specs.StateChanges.{IsPageFault}
+use Rattle.laws_calls.specs.States.{State}
 use Rattle.shore_core.specs.Cores.{IsKept}
 use Rattle.shore_pool.specs.Pages.{IsPage}
 
@@ -117,8 +117,8 @@ module _ {V : Type 0} {H : disk.Ghosts V} where
 
   -- pages that were written back by a call that was not refused
   pub wrote_ok : {A : Type 0} (old new : Heap V H) (seen : ℕ) (r : Result A Fault)
-      → ((front : List ℕ) (disk : ℕ → List ℕ) → Holds old.pool front disk
+      → ((front : List ℕ) (disk : ℕ → List ℕ) → PoolHolds old.pool front disk
       → MatchResult r (λ done. WroteBack old new seen front disk) (λ f. (f ≡ fault.Device) ⊎ WroteBack old new seen front disk))
-      → OnOk r ((front : List ℕ) (disk : ℕ → List ℕ) → Holds old.pool front disk → WroteBack old new seen front disk)
+      → OnOk r ((front : List ℕ) (disk : ℕ → List ℕ) → PoolHolds old.pool front disk → WroteBack old new seen front disk)
   wrote_ok old new seen (Ok x) wrote = wrote
   wrote_ok old new seen (Err f) wrote = tt

@@ -9,25 +9,25 @@ use Rattle.shore_model.specs.declared.log_records.LogRecord.{LogRecord}
 use Rattle.shore_disk.specs.declared.device.Disk as disk
 use Rattle.shore_log.specs.declared.tail.Tail as tail
 use Rattle.shore_locks.specs.Tables.{is_waiting}
-use Rattle.shore_lives.specs.Recovery.{RecoveryState}
-use Rattle.shore_lives.specs.Sessions.{SessionTxn}
-use Rattle.shore_lives.specs.Views.{IsAmong}
-use Rattle.shore_control.proofs.Lists.{among_filtered}
-use Rattle.shore_calls.proofs.OneSessionStep.{none_early}
-use Rattle.shore_calls.proofs.SessionFailures.{IsHarmless, early_harmless}
-use Rattle.shore_calls.proofs.SessionResumes.{apart, woken}
-use Rattle.shore_calls.proofs.SessionsWaiting.{woken_waits}
-use Rattle.shore_calls.specs.StateChanges.{after_refusal, wait_refused}
-use Rattle.shore_calls.specs.CallSteps.{GoesOn, MayAsk, RefusesEarly, ResumesWait}
-use Rattle.shore_calls.specs.Settling.{GoesSettled, SettledCall, SettledResume, Settles}
-use Rattle.shore_calls.specs.declared.step.Step.{Step}
-use Rattle.shore_calls.specs.declared.step.Step.TheVariants.{Refused}
-use Rattle.shore_calls.specs.SessionWaits.{IsCommitWait, IsLockWait, WaitsOfSessions}
-use Rattle.shore_calls.specs.States.{DoesNotWait, IsOfSession, State, Waiting}
-use Rattle.shore_calls.specs.declared.step.Wait.{Wait}
-use Rattle.shore_calls.specs.declared.step.Wait.TheVariants.{Durable, Lock}
-use Rattle.shore_control.specs.Calls.{is_commit, is_durable}
-use Rattle.shore_control.specs.declared.waits.WaitingCall.{WaitingCall}
+use Rattle.laws_lives.specs.Recovery.{RecoveryState}
+use Rattle.laws_lives.specs.Sessions.{SessionTxn}
+use Rattle.laws_lives.specs.Views.{IsAmong}
+use Rattle.shore_sessions.proofs.Lists.{among_filtered}
+use Rattle.laws_calls.proofs.OneSessionStep.{none_early}
+use Rattle.laws_calls.proofs.SessionFailures.{IsHarmless, early_harmless}
+use Rattle.laws_calls.proofs.SessionResumes.{apart, woken}
+use Rattle.laws_calls.proofs.SessionsWaiting.{woken_waits}
+use Rattle.laws_calls.specs.StateChanges.{after_refusal, wait_refused}
+use Rattle.laws_calls.specs.CallSteps.{CallGoesOn, MayAsk, RefusesEarly, ResumesWait}
+use Rattle.laws_calls.specs.Settling.{GoesSettled, SettledCall, SettledResume, Settles}
+use Rattle.shore_model.specs.declared.step.Step.{Step}
+use Rattle.shore_model.specs.declared.step.Step.TheVariants.{Refused}
+use Rattle.laws_calls.specs.SessionWaits.{IsCommitWait, IsLockWait, WaitsOfSessions}
+use Rattle.laws_calls.specs.States.{DoesNotWait, IsOfSession, State, Waiting}
+use Rattle.shore_model.specs.declared.step.Wait.{Wait}
+use Rattle.shore_model.specs.declared.step.Wait.TheVariants.{Durable, Lock}
+use Rattle.shore_sessions.specs.Calls.{is_commit, is_durable}
+use Rattle.shore_sessions.specs.declared.waits.WaitingCall.{WaitingCall}
 use Rattle.shore_core.specs.declared.core_calls.Core.{Core}
 use Rattle.shore_core.specs.Cores.{IsSafe, geometry_of}
 use Rattle.shore_core.specs.Replies.{AskedFor, Called, as_step, once_noted}
@@ -145,7 +145,7 @@ module _ {T V : Type 0} {G : tail.Ghosts T} {H : disk.Ghosts V} (old new : Core 
           inr (
             works,
             subst (λ (x : Wait). ResumesWait (geometry_of old) s w x goes.first goes.mid) (sym waits)
-                (a, (its.0, its.1 ∙ sym same), inr (quiet, subst (λ n. GoesOn (geometry_of old) (wait_refused s n) a w.call goes.first goes.mid) (sym same) goes.goes)),
+                (a, (its.0, its.1 ∙ sym same), inr (quiet, subst (λ n. CallGoesOn (geometry_of old) (wait_refused s n) a w.call goes.first goes.mid) (sym same) goes.goes)),
             spared,
           ),
         );

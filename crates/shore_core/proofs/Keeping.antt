@@ -1,5 +1,5 @@
 -- What calls one after another keep of the volume.
-use Rattle.std.proofs.Common.{◌≡◌, ap, ◌∙◌, sym, subst}
+use Rattle.std.proofs.Common.{◌≡◌, ◌∙◌, sym, subst}
 use Rattle.shore_disk.specs.declared.device.Disk as disk
 use Rattle.shore_disk.specs.Device.{History, LeavesOnly}
 use Rattle.shore_log.specs.declared.tail.Tail as tail
@@ -8,18 +8,10 @@ use Rattle.shore_heap.proofs.Going.{goes_nowhere}
 use Rattle.shore_heap.specs.Contents.{unclaimed}
 use Rattle.shore_heap.specs.Heaps.{LeavesPages}
 use Rattle.shore_core.specs.Cores.{durable_of, heap_of, history_of}
-use Rattle.shore_core.specs.Replies.{Keeps, MayLeave, OnlyReads}
+use Rattle.shore_core.specs.Replies.{Keeps, MayLeave}
 
 module _ {T V : Type 0} {G : tail.Ghosts T} {H : disk.Ghosts V} where
-  -- a call that only reads, and then one that keeps what no call changes
-  pub reads_then_keeps : (old mid new : Core T V G H) → OnlyReads old mid → Keeps mid new → Keeps old new
-  reads_then_keeps old mid new one two = record {
-    volume = record { geometry = two.volume.geometry ∙ one.volume.geometry; honest = two.volume.honest ∙ one.volume.honest; size = two.volume.size ∙ one.volume.size };
-    durable = two.durable ∙ one.durable;
-    failed = two.failed ∙ one.failed;
-    first = two.first ∙ ap G.first one.tail;
-  }
-
+  -- two calls that keep what no call changes
   pub keeps_then : (old mid new : Core T V G H) → Keeps old mid → Keeps mid new → Keeps old new
   keeps_then old mid new one two = record {
     volume = record { geometry = two.volume.geometry ∙ one.volume.geometry; honest = two.volume.honest ∙ one.volume.honest; size = two.volume.size ∙ one.volume.size };

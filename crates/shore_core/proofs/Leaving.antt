@@ -6,20 +6,20 @@ use Rattle.shore_disk.specs.declared.device.Disk as disk
 use Rattle.shore_log.specs.declared.tail.Tail as tail
 use Rattle.shore_heap.specs.declared.heap.Heap.{Heap}
 use Rattle.shore_heap.specs.Heaps.{Shows}
-use Rattle.shore_lives.specs.Recovery.{RecoveryState}
-use Rattle.shore_room.specs.LogRooms.{owed, owed_by_all}
-use Rattle.shore_lives.specs.Views.{IsAmong}
-use Rattle.shore_calls.specs.States.{State, page_slots}
+use Rattle.laws_lives.specs.Recovery.{RecoveryState}
+use Rattle.laws_room.specs.LogRooms.{owed, owed_by_all}
+use Rattle.laws_lives.specs.Views.{IsAmong}
+use Rattle.laws_calls.specs.States.{State, page_slots}
 use Rattle.shore_txn.specs.ActiveTxns.{OneLeaves, session_txns}
 use Rattle.shore_txn.specs.Transactions.{kept_in, room_in, txns_in}
-use Rattle.shore_undo.specs.Txns.{as_session_txn, last_of}
+use Rattle.shore_txn.specs.Txns.{as_session_txn, last_of}
 use Rattle.shore_txn.specs.declared.transactions.Transactions.{Transactions}
-use Rattle.shore_undo.specs.declared.txn.Txn.{Txn}
-use Rattle.shore_undo.specs.declared.undo.UndoEntry.{UndoEntry}
+use Rattle.shore_txn.specs.declared.txn.Txn.{Txn}
+use Rattle.shore_txn.specs.declared.undo.UndoEntry.{UndoEntry}
 use Rattle.shore_txn.proofs.OneOfMany.{among_more, map_join, map_parts, owed_parts}
-use Rattle.shore_control.specs.Standing.{HasControl}
+use Rattle.shore_sessions.specs.Standing.{HasControl}
 use Rattle.shore_core.specs.declared.core_calls.Core.{Core}
-use Rattle.shore_core.specs.Cores.{ComesTo, IsIn, IsOver, control_of, durable_of, first_of, has_failed, heap_of, txns_of, waiting_of}
+use Rattle.shore_core.specs.Cores.{CoreComesTo, IsIn, IsOver, control_of, durable_of, first_of, has_failed, heap_of, txns_of, waiting_of}
 use Rattle.shore_core.proofs.Coming.{comes_same, over_as}
 
 module _ (old new : Transactions) {session : ℕ} {changes : List UndoEntry} (left : OneLeaves session changes (txns_in old) (txns_in new)) where
@@ -44,7 +44,7 @@ module _ (old new : Transactions) {session : ℕ} {changes : List UndoEntry} (le
 module _ {T V : Type 0} {G : tail.Ghosts T} {H : disk.Ghosts V} (old new : Core T V G H) (front : List ℕ) (disk : ℕ → List ℕ) (before : List LogRecord) (s : State) (store : RecoveryState) where
   -- nothing but memory has changed
   pub comes_lacking : heap_of new ≡ heap_of old → first_of new ≡ first_of old → waiting_of new ≡ waiting_of old → durable_of new ≡ durable_of old → has_failed new ≡ has_failed old
-      → txns_of new ≡ txns_of old → HasControl (control_of new) s → IsIn front disk before old s → IsOver disk old s store → ComesTo new front before store s
+      → txns_of new ≡ txns_of old → HasControl (control_of new) s → IsIn front disk before old s → IsOver disk old s store → CoreComesTo new front before store s
   comes_lacking heap first waiting durable failed txns stands is over =
       comes_same new front disk before s store
       (record {

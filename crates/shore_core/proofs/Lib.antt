@@ -25,5 +25,6 @@ pub mod Undoing
 pub mod Rewinding
 pub mod Ending
 pub mod Rolling
+pub mod Serving
 pub mod Unwinding
 pub mod RolledBack

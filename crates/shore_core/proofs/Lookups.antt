@@ -1,20 +1,22 @@
 -- What calls that read come to: they leave the state as it was.
-use Rattle.std.proofs.Common.{◌≡◌, ◌≢◌, ◌⊎◌, inl, inr, ℕ, List, Err, Some, ap, refl, sym, subst}
+use Rattle.std.proofs.Common.{◌≡◌, ◌⊎◌, inl, inr, ℕ, List, Err, Some, ap, refl, sym, subst}
 use Rattle.std.specs.FinMap.{get}
 use Rattle.shore_types.specs.declared.faults.Fault.{Fault}
 use Rattle.shore_types.specs.declared.faults.Fault.TheVariants as fault
 use Rattle.shore_types.specs.declared.ids.Rid.{Rid}
 use Rattle.shore_types.specs.declared.layout.Geometry.{Geometry}
+use Rattle.shore_types.specs.declared.locking.Granule.{Granule}
+use Rattle.shore_types.specs.declared.locking.Mode.{Mode}
 use Rattle.shore_model.specs.declared.calls.Answer.TheVariants.{Got, Locked}
 use Rattle.shore_model.specs.declared.calls.Call.{Call}
 use Rattle.shore_model.specs.declared.calls.Call.TheVariants as call
-use Rattle.shore_lives.specs.Sessions.{EachOnce, SessionTxn, txns_of, with_undo}
-use Rattle.shore_lives.specs.Views.{IsAmong}
-use Rattle.shore_calls.proofs.Elements.{same_undo}
-use Rattle.shore_calls.proofs.PlainReads.{get_leaves}
-use Rattle.shore_calls.specs.StateChanges.{IsPageFault, after_refusal}
-use Rattle.shore_calls.specs.CallSteps.{AnswersBehind, MayAsk, RefusesRead}
-use Rattle.shore_calls.specs.States.{State}
+use Rattle.laws_lives.specs.Sessions.{EachOnce, SessionTxn, txns_of, with_undo}
+use Rattle.laws_lives.specs.Views.{IsAmong}
+use Rattle.laws_calls.proofs.Elements.{same_undo}
+use Rattle.laws_calls.proofs.PlainReads.{get_leaves}
+use Rattle.laws_calls.specs.StateChanges.{IsPageFault, after_refusal}
+use Rattle.laws_calls.specs.CallSteps.{AnswersBehind, RefusesRead}
+use Rattle.laws_calls.specs.States.{State}
 use Rattle.shore_core.specs.Replies.{IsServedBehind}
 
 module _ (g : Geometry) (s : State) (a : SessionTxn) (id : Rid) where
@@ -45,21 +47,6 @@ module _ (g : Geometry) (s : State) (a : SessionTxn) (once : EachOnce (txns_of s
   as_it_was : s ≡ record s { sessions = record s.sessions { active = with_undo a.txn a.undo s.sessions.active } }
   as_it_was = sym (ap (λ (xs : List SessionTxn). record s { sessions = record s.sessions { active = xs } }) (same_undo a s.sessions.active once mem))
 
-  pub lock_answer : (c : Call) → MayAsk g c → ((id : Rid) → c ≢ call.Get id) → ((id : Rid) → c ≢ call.GetForUpdate id) → ((store : ℕ) (bytes : List ℕ) → c ≢ call.Insert store bytes)
-      → ((id : Rid) (bytes : List ℕ) → c ≢ call.Update id bytes) → ((id : Rid) → c ≢ call.Delete id) → ((store : ℕ) → c ≢ call.Scan store) → AnswersBehind g s a c Locked s
-  lock_answer (call.Lock at mode) may get getu insert update delete scan = (refl, as_it_was)
-  lock_answer (call.TryLock at mode) may get getu insert update delete scan = (refl, as_it_was)
-  lock_answer (call.Get id) may get getu insert update delete scan = absurd (get id refl)
-  lock_answer (call.GetForUpdate id) may get getu insert update delete scan = absurd (getu id refl)
-  lock_answer (call.Insert store bytes) may get getu insert update delete scan = absurd (insert store bytes refl)
-  lock_answer (call.Update id bytes) may get getu insert update delete scan = absurd (update id bytes refl)
-  lock_answer (call.Delete id) may get getu insert update delete scan = absurd (delete id refl)
-  lock_answer (call.Scan store) may get getu insert update delete scan = absurd (scan store refl)
-  lock_answer call.Begin may get getu insert update delete scan = absurd may
-  lock_answer call.Savepoint may get getu insert update delete scan = absurd may
-  lock_answer (call.BackTo index) may get getu insert update delete scan = absurd may
-  lock_answer call.Commit may get getu insert update delete scan = absurd may
-  lock_answer call.Abort may get getu insert update delete scan = absurd may
-  lock_answer (call.Prepare global) may get getu insert update delete scan = absurd may
-  lock_answer (call.Resolve global outcome) may get getu insert update delete scan = absurd may
-  lock_answer call.InDoubt may get getu insert update delete scan = absurd may
+  pub lock_answer : (c : Call) → ((at : Granule) × (mode : Mode) × (c ≡ call.Lock at mode)) ⊎ ((at : Granule) × (mode : Mode) × (c ≡ call.TryLock at mode)) → AnswersBehind g s a c Locked s
+  lock_answer c (inl lock) = subst (λ (it : Call). AnswersBehind g s a it Locked s) (sym lock.2) (refl, as_it_was)
+  lock_answer c (inr lock) = subst (λ (it : Call). AnswersBehind g s a it Locked s) (sym lock.2) (refl, as_it_was)

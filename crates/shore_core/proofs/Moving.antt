@@ -9,17 +9,17 @@ use Rattle.shore_disk.specs.declared.device.Disk as disk
 use Rattle.shore_log.specs.declared.tail.Tail as tail
 use Rattle.shore_heap.specs.declared.heap.Heap.{Heap}
 use Rattle.shore_heap.specs.Heaps.{Shows}
-use Rattle.shore_lives.specs.Recovery.{RecoveryState}
-use Rattle.shore_lives.specs.Sessions.{SessionTxn}
-use Rattle.shore_calls.specs.CallSteps.{GoesOn, HasLocked}
-use Rattle.shore_calls.specs.States.{State, page_slots}
-use Rattle.shore_calls.specs.declared.step.Step.{Step}
-use Rattle.shore_calls.specs.declared.step.Step.TheVariants.{Done, Nothing, Refused, Waits}
-use Rattle.shore_control.specs.Standing.{HasControl}
+use Rattle.laws_lives.specs.Recovery.{RecoveryState}
+use Rattle.laws_lives.specs.Sessions.{SessionTxn}
+use Rattle.laws_calls.specs.CallSteps.{CallGoesOn, HasLocked}
+use Rattle.laws_calls.specs.States.{State, page_slots}
+use Rattle.shore_model.specs.declared.step.Step.{Step}
+use Rattle.shore_model.specs.declared.step.Step.TheVariants.{Done, Nothing, Refused, Waits}
+use Rattle.shore_sessions.specs.Standing.{HasControl}
 use Rattle.shore_txn.specs.Transactions.{kept_in}
 use Rattle.shore_heap.proofs.Showing.{shows_same}
 use Rattle.shore_core.specs.declared.core_calls.Core.{Core}
-use Rattle.shore_core.specs.Cores.{ComesTo, IsIn, IsOver, control_of, durable_of, first_of, has_failed, heap_of, txns_of, waiting_of}
+use Rattle.shore_core.specs.Cores.{CoreComesTo, IsIn, IsOver, control_of, durable_of, first_of, has_failed, heap_of, txns_of, waiting_of}
 use Rattle.shore_core.specs.Replies.{IsServedBehind, as_step}
 use Rattle.shore_core.proofs.Coming.{comes_same, over_as, pages_told}
 
@@ -40,13 +40,13 @@ module _ {T V : Type 0} {G : tail.Ghosts T} {H : disk.Ghosts V} (old new : Core 
 
   pub comes_moved : heap_of new ≡ heap_of old → first_of new ≡ first_of old → waiting_of new ≡ waiting_of old → durable_of new ≡ durable_of old → has_failed new ≡ has_failed old
       → ((p : PageId) → kept_in (txns_of new) p ≡ kept_in (txns_of old) p) → HasControl (control_of new) later → later.log ≡ s.log → later.durable ≡ s.durable → later.failed ≡ s.failed
-      → ((p : PageId) → page_slots later p ≡ page_slots s p) → IsIn front disk before old s → IsOver disk old s store → ComesTo new front before store later
+      → ((p : PageId) → page_slots later p ≡ page_slots s p) → IsIn front disk before old s → IsOver disk old s store → CoreComesTo new front before store later
   comes_moved heap first waiting durable failed claims stands log told fails slots is over =
       comes_same new front disk before later store (in_moved heap first waiting durable failed claims stands log told fails slots is) (over_as old new disk s later store heap log told fails over)
 
 -- what is served behind its locks is how a call goes on from them
 pub goes_served : (g : Geometry) (s : State) (a : SessionTxn) (c : Call) (locked : State) → HasLocked s a c locked → (r : Result Step Fault) (new : State) → IsServedBehind g locked a c r new
-    → GoesOn g s a c (as_step r) new
+    → CallGoesOn g s a c (as_step r) new
 goes_served g s a c locked has (Ok (Done answer)) new serves = (locked, has, serves)
 goes_served g s a c locked has (Ok (Waits wait)) new serves = absurd serves
 goes_served g s a c locked has (Ok (Refused f)) new serves = absurd serves

@@ -10,14 +10,14 @@ use Rattle.shore_model.specs.declared.log_records.LogRecord.{LogRecord}
 use Rattle.shore_disk.specs.Cause.{HasCause}
 use Rattle.shore_disk.specs.declared.device.Disk as disk
 use Rattle.shore_log.specs.declared.tail.Tail as tail
-use Rattle.shore_held.specs.CallLocks.{asked_by}
-use Rattle.shore_lives.specs.Recovery.{RecoveryState}
-use Rattle.shore_lives.specs.UndoLists.{UndoList}
-use Rattle.shore_lives.specs.Views.{IsAmong}
-use Rattle.shore_calls.specs.Rollbacks.{TakesCall}
-use Rattle.shore_calls.specs.States.{DoesNotWait, State}
-use Rattle.shore_calls.specs.declared.step.Step.{Step}
-use Rattle.shore_control.proofs.WaitSteps.{in_none}
+use Rattle.laws_locks.specs.CallLocks.{lock_asked_by}
+use Rattle.laws_lives.specs.Recovery.{RecoveryState}
+use Rattle.laws_lives.specs.UndoLists.{UndoList}
+use Rattle.laws_lives.specs.Views.{IsAmong}
+use Rattle.laws_calls.specs.Rollbacks.{TakesCall}
+use Rattle.laws_calls.specs.States.{DoesNotWait, State}
+use Rattle.shore_model.specs.declared.step.Step.{Step}
+use Rattle.shore_sessions.proofs.WaitSteps.{in_none}
 use Rattle.shore_core.specs.declared.core_calls.Core.{Core}
 use Rattle.shore_core.specs.Cores.{IsIn, IsOver, waits_of}
 use Rattle.shore_core.specs.Replies.{IsNotOpen, Replied}
@@ -30,20 +30,20 @@ pub record IsInner (c : Call) : Type 0 where
   pub aborts : c ≢ call.Abort
   pub goes : (n : ℕ) → c ≢ call.BackTo n
 
-pub inner_asks : (c : Call) → IsSome (asked_by c) → IsInner c
+pub inner_asks : (c : Call) → IsSome (lock_asked_by c) → IsInner c
 inner_asks c some = record {
-  begins = λ is. begin (subst (λ x. IsSome (asked_by x)) is some);
-  aborts = λ is. abort (subst (λ x. IsSome (asked_by x)) is some);
-  goes = λ n is. back n (subst (λ x. IsSome (asked_by x)) is some);
+  begins = λ is. begin (subst (λ x. IsSome (lock_asked_by x)) is some);
+  aborts = λ is. abort (subst (λ x. IsSome (lock_asked_by x)) is some);
+  goes = λ n is. back n (subst (λ x. IsSome (lock_asked_by x)) is some);
 }
   where
-    begin : IsSome (asked_by call.Begin) → ⊥
+    begin : IsSome (lock_asked_by call.Begin) → ⊥
     begin e = cc
 
-    abort : IsSome (asked_by call.Abort) → ⊥
+    abort : IsSome (lock_asked_by call.Abort) → ⊥
     abort e = cc
 
-    back : (n : ℕ) → IsSome (asked_by (call.BackTo n)) → ⊥
+    back : (n : ℕ) → IsSome (lock_asked_by (call.BackTo n)) → ⊥
     back n e = cc
 
 pub inner_commit : IsInner call.Commit

@@ -12,25 +12,25 @@ use Rattle.shore_path.specs.declared.answers.Acquired.{Acquired}
 use Rattle.shore_path.specs.declared.answers.Acquired.TheVariants as acquire
 use Rattle.shore_path.specs.declared.answers.OnConflict.TheVariants.{Refuse}
 use Rattle.shore_path.specs.Walks.{acquired}
-use Rattle.shore_held.proofs.Places.{acquired_ends}
+use Rattle.laws_locks.proofs.Places.{acquired_ends}
 use Rattle.shore_disk.specs.declared.device.Disk as disk
 use Rattle.shore_log.specs.declared.tail.Tail as tail
-use Rattle.shore_lives.specs.Recovery.{RecoveryState}
+use Rattle.laws_lives.specs.Recovery.{RecoveryState}
 use Rattle.shore_model.specs.declared.log_records.LogRecord.{LogRecord}
 use Rattle.shore_model.specs.Records.{AreRecords, scan_of}
 use Rattle.shore_page.specs.Slots.{image_at_slot}
 use Rattle.shore_heap.specs.Places.{HasNoPlace, IsPlace, Takes}
 use Rattle.shore_heap.specs.Scans.{IsScan}
 use Rattle.shore_heap.proofs.Scanned.{scans_as_the_model}
-use Rattle.shore_room.specs.Claims.{Claimed}
+use Rattle.laws_room.specs.Claims.{Claimed}
 use Rattle.shore_model.specs.declared.calls.Call.TheVariants as call
-use Rattle.shore_lives.specs.Sessions.{SessionTxn}
-use Rattle.shore_calls.specs.StateChanges.{CanLog, IsPageFault, after_refusal}
-use Rattle.shore_calls.specs.CallSteps.{HasPlace, IsPlaceOf, ServesTxn, behind_place, place_outcome}
-use Rattle.shore_calls.specs.declared.step.Step.{Step}
-use Rattle.shore_calls.specs.States.{State, page_slots}
+use Rattle.laws_lives.specs.Sessions.{SessionTxn}
+use Rattle.laws_calls.specs.StateChanges.{CanLog, IsPageFault, after_refusal}
+use Rattle.laws_calls.specs.CallSteps.{HasPlace, IsPlaceOf, ServesTxn, behind_place, place_outcome}
+use Rattle.shore_model.specs.declared.step.Step.{Step}
+use Rattle.laws_calls.specs.States.{State, page_slots}
 use Rattle.shore_core.specs.declared.core_calls.Core.{Core}
-use Rattle.shore_core.specs.Cores.{ComesTo, geometry_of}
+use Rattle.shore_core.specs.Cores.{CoreComesTo, geometry_of}
 use Rattle.shore_core.specs.Replies.{IsServedBehind, Served, can_lock}
 use Rattle.shore_core.proofs.Tables.{no_such}
 use Rattle.shore_core.proofs.Taking.{image_shown}
@@ -135,7 +135,7 @@ insert_unlogged g s a store bytes id place f (inr full) =
 -- it is refused behind it
 pub served_behind_place : {T V : Type 0} {G : tail.Ghosts T} {H : disk.Ghosts V} (old new : Core T V G H) (front : List ℕ) (before : List LogRecord) (s : State) (plain : RecoveryState) (a : SessionTxn)
     (store : ℕ) (bytes : List ℕ) (id : Rid) (r : Result Step Fault) (f : Fault) → IsErrAnd r (λ e. e ≡ f)
-    → IsServedBehind (geometry_of old) s a (call.Insert store bytes) (Err f) (after_refusal f (behind_place s a id)) → ComesTo new front before plain (behind_place s a id)
+    → IsServedBehind (geometry_of old) s a (call.Insert store bytes) (Err f) (after_refusal f (behind_place s a id)) → CoreComesTo new front before plain (behind_place s a id)
     → Served a (call.Insert store bytes) r old new front before s plain
 served_behind_place old new front before s plain a store bytes id (Err e) f same serves comes = record {
   later = behind_place s a id;

@@ -10,10 +10,10 @@ use Rattle.shore_types.specs.declared.layout.Geometry.{Geometry}
 use Rattle.shore_model.specs.declared.calls.Call.TheVariants as call
 use Rattle.shore_page.specs.Room.{Fits}
 use Rattle.shore_page.specs.Slots.{Slot, image_at_slot}
-use Rattle.shore_lives.specs.Sessions.{SessionTxn}
-use Rattle.shore_calls.specs.StateChanges.{CanLog, FitsAt, after_refusal}
-use Rattle.shore_calls.specs.CallSteps.{Finds, RefusesRead}
-use Rattle.shore_calls.specs.States.{State}
+use Rattle.laws_lives.specs.Sessions.{SessionTxn}
+use Rattle.laws_calls.specs.StateChanges.{CanLog, FitsAt, after_refusal}
+use Rattle.laws_calls.specs.CallSteps.{Finds, RefusesRead}
+use Rattle.laws_calls.specs.States.{State}
 use Rattle.shore_core.specs.Replies.{IsServedBehind}
 
 pub map_some : {A : Type 0} (P Q : A → Type 0) (o : Option A) → ((x : A) → P x → Q x) → IsSomeAnd o P → IsSomeAnd o Q

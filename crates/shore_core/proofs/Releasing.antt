@@ -7,30 +7,30 @@ use Rattle.shore_disk.specs.declared.device.Disk as disk
 use Rattle.shore_types.specs.Ids.{exact_pages, page_cmp}
 use Rattle.shore_types.specs.declared.ids.PageId.{PageId}
 use Rattle.shore_types.specs.declared.ids.Rid.{Rid}
-use Rattle.shore_types.specs.Images.{Image}
+use Rattle.shore_types.specs.Images.{Image, image_len}
 use Rattle.shore_page.specs.Room.{lowered}
-use Rattle.shore_page.specs.Slots.{Slot, image_len, settled, with_change}
+use Rattle.shore_page.specs.Slots.{Slot, settled, with_change}
 use Rattle.shore_page.specs.Text as texts
 use Rattle.shore_heap.specs.declared.heap.Heap.{Heap}
-use Rattle.shore_heap.specs.Contents.{FitIn, Kept, claimed_by, with_slots}
+use Rattle.shore_heap.specs.Contents.{FitIn, ClaimsOfPages, claimed_by, with_slots}
 use Rattle.shore_heap.specs.Heaps.{Shows, device_of, frame_at, frame_of, geometry_of}
 use Rattle.shore_dwrite.specs.Settled as settled_device
 use Rattle.shore_dwrite.specs.Volumes.{page_number}
 use Rattle.shore_heap.proofs.Bounds.{cases_page, slots_here, slots_other}
 use Rattle.shore_heap.proofs.Released.{images_claimed}
 use Rattle.shore_heap.proofs.Showing.{shows_same, shows_told}
-use Rattle.shore_lives.specs.Sessions.{SessionTxn, without_txn}
-use Rattle.shore_lives.specs.Views.{IsAmong}
-use Rattle.shore_room.specs.Claims.{Claimed, slots_of}
+use Rattle.laws_lives.specs.Sessions.{SessionTxn, without_txn}
+use Rattle.laws_lives.specs.Views.{IsAmong}
+use Rattle.laws_room.specs.Claims.{Claimed, slots_of}
 use Rattle.shore_txn.specs.ActiveTxns.{HasMore, all_changes, session_txns}
 use Rattle.shore_txn.proofs.ActiveKept.{left_fit, left_read, no_more}
-use Rattle.shore_room.specs.Settling.{let_go}
-use Rattle.shore_room.proofs.Leaving.{left_slots, same_page}
-use Rattle.shore_calls.specs.StateChanges.{committed}
-use Rattle.shore_calls.specs.States.{State, page_slots}
-use Rattle.shore_undo.specs.declared.txn.Txn.{Txn}
-use Rattle.shore_undo.specs.declared.undo.UndoEntry.{UndoEntry}
-use Rattle.shore_undo.specs.UndoEntries.{claims_on, image_of, images_of}
+use Rattle.laws_room.specs.Settling.{let_go}
+use Rattle.laws_room.proofs.Leaving.{left_slots, same_page}
+use Rattle.laws_calls.specs.StateChanges.{committed}
+use Rattle.laws_calls.specs.States.{State, page_slots}
+use Rattle.shore_txn.specs.declared.txn.Txn.{Txn}
+use Rattle.shore_txn.specs.declared.undo.UndoEntry.{UndoEntry}
+use Rattle.shore_txn.specs.UndoEntries.{claims_on, image_of, images_of}
 
 -- the last entry goes last
 pub let_go_more : (p : PageId) (es : List (Rid × Image)) (e : Rid × Image) (slots : List Slot) → let_go p (es ++ e ∷ []) slots ≡ let_go p (e ∷ []) (let_go p es slots)
@@ -141,19 +141,19 @@ is_none (Some x) is = absurd (clash is)
     clash e = cc
 
 -- each page takes these claims, as it would be read
-abbrev pub Take : Kept → (PageId → List Slot) → Type 0
+abbrev pub Take : ClaimsOfPages → (PageId → List Slot) → Type 0
 Take stay S = (p : PageId) → FitIn (stay p) (map settled (texts.images_of (S p)))
 
 -- N are the claims that stay
-module _ (framed : PageId → Bool) (K N : Kept) (S : PageId → List Slot) where
+module _ (framed : PageId → Bool) (K N : ClaimsOfPages) (S : PageId → List Slot) where
   -- what is told of each page, and the slots that it has
-  abbrev pub kept_by : List UndoEntry → Kept
+  abbrev pub kept_by : List UndoEntry → ClaimsOfPages
   kept_by done p = kept_left p done (N p) (K p)
 
   abbrev pub slots_by : List UndoEntry → PageId → List Slot
   slots_by done p = slots_left (framed p) p done (N p) (S p)
 
-module _ {V : Type 0} {H : disk.Ghosts V} (framed : PageId → Bool) (K N : Kept) (S : PageId → List Slot) where
+module _ {V : Type 0} {H : disk.Ghosts V} (framed : PageId → Bool) (K N : ClaimsOfPages) (S : PageId → List Slot) where
   -- what a heap shows once these entries have let their claims go
   abbrev pub ShowsLeft : Heap V H → List ℕ → (ℕ → List ℕ) → List UndoEntry → Type 0
   ShowsLeft heap front disk done = Shows (λ p. kept_left p done (N p) (K p)) heap front disk (λ p. slots_left (framed p) p done (N p) (S p))
@@ -205,8 +205,8 @@ module _ {V : Type 0} {H : disk.Ghosts V} (framed : PageId → Bool) (K N : Kept
   -- one entry more of an undo list has let its claim go
   pub released_more : (mid new : Heap V H) (front : List ℕ) (disk : ℕ → List ℕ) (done more : List UndoEntry) (e : UndoEntry) → more ≡ done ++ e ∷ [] → Take N S
       → is_some (frame_of mid e.id.page) ≡ framed e.id.page → is_some (frame_of new e.id.page) ≡ framed e.id.page
-      → ((L : Kept) (T : PageId → List Slot) → Shows L mid front disk T → (frame_of mid e.id.page ≡ None → L e.id.page ≡ []) → Shows L new front disk (with_slots T e.id.page (λ slots. with_change (lowered 0) slots e.id.slot)))
-      → ((L M : Kept) (T : PageId → List Slot) → Shows L mid front disk T → frame_of mid e.id.page ≡ None → ((p : PageId) → p ≢ e.id.page → M p ≡ L p)
+      → ((L : ClaimsOfPages) (T : PageId → List Slot) → Shows L mid front disk T → (frame_of mid e.id.page ≡ None → L e.id.page ≡ []) → Shows L new front disk (with_slots T e.id.page (λ slots. with_change (lowered 0) slots e.id.slot)))
+      → ((L M : ClaimsOfPages) (T : PageId → List Slot) → Shows L mid front disk T → frame_of mid e.id.page ≡ None → ((p : PageId) → p ≢ e.id.page → M p ≡ L p)
       → FitIn (M e.id.page) (map settled (texts.images_of (T e.id.page))) → Shows M new front disk (with_slots T e.id.page (λ slots. claimed_by (M e.id.page) (map settled (texts.images_of slots)))))
       → ShowsLeft mid front disk done → ShowsLeft new front disk more
   released_more mid new front disk done more e is fit was held lowers tells shows = subst (ShowsLeft new front disk) (sym is) (each (framed e.id.page) refl)
@@ -237,7 +237,7 @@ framed_as old new id device held = ap (λ d. is_some (frame_at new (page_number 
 module _ (s : State) (a : SessionTxn) (es : List UndoEntry) (old new : List Txn) (all : images_of es ≡ a.undo.images) (claimed : Claimed s.sessions.records s.sessions.active s.counts)
     (m : IsAmong a s.sessions.active) (was : s.sessions.active ≡ session_txns old) (out : session_txns new ≡ without_txn a.txn (session_txns old))
     (more : (p : PageId) → HasMore (claims_on p es) (claims_on p (all_changes new)) (claims_on p (all_changes old))) where
-  abbrev stay : Kept
+  abbrev stay : ClaimsOfPages
   stay p = claims_on p (all_changes new)
 
   gone : (p : PageId) → page_slots (committed s a) p ≡ let_go p (images_of es) (page_slots s p)

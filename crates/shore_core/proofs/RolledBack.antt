@@ -12,29 +12,29 @@ use Rattle.shore_types.specs.declared.ids.Rid.{Rid}
 use Rattle.shore_model.specs.declared.calls.Answer.TheVariants.{WentBack}
 use Rattle.shore_model.specs.declared.calls.Call.TheVariants as call
 use Rattle.shore_model.specs.declared.log_records.LogRecord.{LogRecord}
-use Rattle.shore_lives.specs.Recovery.{RecoveryState}
-use Rattle.shore_room.proofs.Leaving.{marked_slots}
-use Rattle.shore_room.specs.Claims.{slots_of}
-use Rattle.shore_lives.specs.Logged.{and_compensations}
-use Rattle.shore_lives.specs.Sessions.{SessionTxn, with_undo}
-use Rattle.shore_lives.specs.UndoLists.{MayRoll, UndoList, images_since, least_kept, mark_of, rolled_back}
-use Rattle.shore_lives.specs.declared.rollbacks.Rollback.{Rollback}
-use Rattle.shore_lives.specs.declared.rollbacks.Rollback.TheVariants.{To}
-use Rattle.shore_calls.specs.declared.step.Step.{Step}
-use Rattle.shore_calls.specs.declared.step.Step.TheVariants.{Refused}
-use Rattle.shore_calls.specs.CallSteps.{CallStep}
-use Rattle.shore_calls.specs.Rollbacks.{TakesCall}
-use Rattle.shore_calls.specs.StateChanges.{after_refusal, answered}
-use Rattle.shore_calls.specs.States.{DoesNotWait, IsOfSession, State, page_slots}
+use Rattle.laws_lives.specs.Recovery.{RecoveryState}
+use Rattle.laws_room.proofs.Leaving.{marked_slots}
+use Rattle.laws_room.specs.Claims.{slots_of}
+use Rattle.laws_lives.specs.Logged.{and_compensations}
+use Rattle.laws_lives.specs.Sessions.{SessionTxn, with_undo}
+use Rattle.laws_lives.specs.UndoLists.{MayRoll, UndoList, images_since, least_kept, mark_of, rolled_back}
+use Rattle.shore_model.specs.declared.rollbacks.Rollback.{Rollback}
+use Rattle.shore_model.specs.declared.rollbacks.Rollback.TheVariants.{To}
+use Rattle.shore_model.specs.declared.step.Step.{Step}
+use Rattle.shore_model.specs.declared.step.Step.TheVariants.{Refused}
+use Rattle.laws_calls.specs.CallSteps.{CallStep}
+use Rattle.laws_calls.specs.Rollbacks.{TakesCall}
+use Rattle.laws_calls.specs.StateChanges.{after_refusal, answered}
+use Rattle.laws_calls.specs.States.{DoesNotWait, IsOfSession, State, page_slots}
 use Rattle.shore_txn.specs.ActiveTxns.{OneBecomes}
 use Rattle.shore_txn.specs.Transactions.{txns_in}
-use Rattle.shore_undo.specs.Txns.{IsBackAt, last_of}
+use Rattle.shore_txn.specs.Txns.{IsBackAt, last_of}
 use Rattle.shore_txn.specs.declared.transactions.Transactions.{Transactions}
-use Rattle.shore_undo.specs.declared.txn.Txn.{Txn}
+use Rattle.shore_txn.specs.declared.txn.Txn.{Txn}
 use Rattle.shore_txn.proofs.ActiveOthers.{each_becomes}
-use Rattle.shore_lives.specs.Views.{IsAmong}
+use Rattle.laws_lives.specs.Views.{IsAmong}
 use Rattle.shore_core.specs.declared.core_calls.Core.{Core}
-use Rattle.shore_core.specs.Cores.{ComesTo, IsSafe, geometry_of}
+use Rattle.shore_core.specs.Cores.{CoreComesTo, IsSafe, geometry_of}
 use Rattle.shore_core.specs.Replies.{Replied}
 use Rattle.shore_core.specs.Undoing.{IsDownTo, Unwinds}
 use Rattle.shore_core.proofs.Coming.{StaysRefused, comes_then}
@@ -114,7 +114,7 @@ module _ {T V : Type 0} {G : tail.Ghosts T} {H : disk.Ghosts V} (old new : Core 
   }
 
   -- all is put back, and then an allocation failed
-  pub unended_replied : (mid_core : Core T V G H) (res : Result Step Fault) (f : Fault) → IsErrAnd res (λ e. e ≡ f) → (mid : State) → IsDownTo s a r least mid → (one : ComesTo mid_core front before store mid)
-      → (f ≡ fault.Memory) → ComesTo new front before one.after mid → Replied session (call_of r) res old new front before s store
+  pub unended_replied : (mid_core : Core T V G H) (res : Result Step Fault) (f : Fault) → IsErrAnd res (λ e. e ≡ f) → (mid : State) → IsDownTo s a r least mid → (one : CoreComesTo mid_core front before store mid)
+      → (f ≡ fault.Memory) → CoreComesTo new front before one.after mid → Replied session (call_of r) res old new front before s store
   unended_replied mid_core res f same mid down one memory two =
       interrupted_replied res f same (mid, least, down, omega arith, inl memory, inr (comes_then mid_core new front before mid mid store one two))

@@ -3,7 +3,7 @@ use Rattle.std.proofs.Common.{◌≡◌, ◌≢◌, inl, inr, ◌++◌, ◌∷�
 use Rattle.std.specs.Prelude.{IsSome}
 use Rattle.std.specs.FinMap.{get}
 use Rattle.std.proofs.lemmas.List.Elements.{recursion_from_All}
-use Rattle.shore_types.specs.Images.{Image}
+use Rattle.shore_types.specs.Images.{Image, image_len}
 use Rattle.shore_types.specs.Layout.{HasPage}
 use Rattle.shore_types.specs.declared.faults.Fault.{Fault}
 use Rattle.shore_types.specs.declared.faults.Fault.TheVariants as fault
@@ -13,49 +13,48 @@ use Rattle.shore_model.specs.declared.calls.Call.{Call}
 use Rattle.shore_model.specs.declared.calls.Call.TheVariants as call
 use Rattle.shore_model.specs.Logs.{logged_writes}
 use Rattle.shore_page.specs.Room.{Fits}
-use Rattle.shore_page.specs.Slots.{image_len}
-use Rattle.shore_room.proofs.Pages.{undo_fits}
-use Rattle.shore_lives.specs.LogTells.{AreLogged}
-use Rattle.shore_lives.specs.Sessions.{SessionTxn, with_undo}
-use Rattle.shore_lives.proofs.Lists.{drop-whole}
-use Rattle.shore_lives.specs.UndoLists.{MayRoll, UndoList, images_since, least_kept, mark_of, rolled_back, undo_rolled}
-use Rattle.shore_lives.specs.Views.{IsAmong}
-use Rattle.shore_lives.specs.Logged.{and_compensations}
-use Rattle.shore_lives.specs.declared.rollbacks.Rollback.{Rollback}
-use Rattle.shore_lives.specs.declared.rollbacks.Rollback.TheVariants.{To, Whole}
-use Rattle.shore_lives.proofs.WholeLogs.{image_in_place}
-use Rattle.shore_calls.specs.declared.step.Step.TheVariants.{Done, Refused}
+use Rattle.laws_room.proofs.Pages.{undo_fits}
+use Rattle.laws_lives.specs.LogTells.{AreLogged}
+use Rattle.laws_lives.specs.Sessions.{SessionTxn, with_undo}
+use Rattle.laws_lives.proofs.Lists.{drop-whole}
+use Rattle.laws_lives.specs.UndoLists.{MayRoll, UndoList, images_since, least_kept, mark_of, rolled_back, undo_rolled}
+use Rattle.laws_lives.specs.Views.{IsAmong}
+use Rattle.laws_lives.specs.Logged.{and_compensations}
+use Rattle.shore_model.specs.declared.rollbacks.Rollback.{Rollback}
+use Rattle.shore_model.specs.declared.rollbacks.Rollback.TheVariants.{To, Whole}
+use Rattle.laws_lives.proofs.WholeLogs.{image_in_place}
+use Rattle.shore_model.specs.declared.step.Step.TheVariants.{Done, Refused}
 use Rattle.shore_model.specs.declared.calls.Answer.TheVariants.{Aborted, WentBack}
-use Rattle.shore_calls.specs.CallSteps.{CallStep, aborted}
-use Rattle.shore_calls.specs.StateChanges.{after_refusal, answered}
-use Rattle.shore_calls.specs.LockedStates.{entries_of_call}
-use Rattle.shore_calls.specs.Rollbacks.{Interrupts, IsUnwound, TakesCall, put_back, rolled}
-use Rattle.shore_calls.specs.States.{DoesNotWait, IsOfSession, State, page_slots}
-use Rattle.shore_calls.proofs.Comings.{session_call_comes}
-use Rattle.shore_calls.proofs.RollbackLinks.{one_logged}
-use Rattle.shore_calls.proofs.SessionRooms.{session_call_roomy}
-use Rattle.shore_calls.proofs.SessionStates.{session_call_stays}
-use Rattle.shore_calls.proofs.AlikeEnds.{abort_alike, back_alike}
-use Rattle.shore_calls.proofs.Unwinding.{its_list, list_twice, rolled_on, same_mark}
+use Rattle.laws_calls.specs.CallSteps.{CallStep, aborted}
+use Rattle.laws_calls.specs.StateChanges.{after_refusal, answered}
+use Rattle.laws_calls.specs.LockedStates.{entries_of_call}
+use Rattle.laws_calls.specs.Rollbacks.{Interrupts, IsUnwound, TakesCall, put_back, rolled}
+use Rattle.laws_calls.specs.States.{DoesNotWait, IsOfSession, State, page_slots}
+use Rattle.laws_calls.proofs.Comings.{session_call_comes}
+use Rattle.laws_calls.proofs.RollbackLinks.{one_logged}
+use Rattle.laws_calls.proofs.SessionRooms.{session_call_roomy}
+use Rattle.laws_calls.proofs.SessionStates.{session_call_stays}
+use Rattle.laws_calls.proofs.AlikeEnds.{abort_alike, back_alike}
+use Rattle.laws_calls.proofs.Unwinding.{its_list, list_twice, rolled_on, same_mark}
 use Rattle.shore_analysis.specs.Meant.{IsInBounds}
-use Rattle.shore_managers.proofs.LoggedIds.{logged_inside}
-use Rattle.shore_managers.proofs.Opens.{records_inside}
-use Rattle.shore_managers.proofs.Prefixes.{whole_roomy}
-use Rattle.shore_managers.proofs.Running.{comes_leaving}
+use Rattle.laws_runs.proofs.LoggedIds.{logged_inside}
+use Rattle.laws_runs.proofs.Opens.{records_inside}
+use Rattle.laws_runs.proofs.Prefixes.{whole_roomy}
+use Rattle.laws_runs.proofs.Running.{comes_leaving}
 use Rattle.shore_disk.specs.declared.device.Disk as disk
 use Rattle.shore_log.specs.declared.tail.Tail as tail
 use Rattle.shore_model.specs.declared.log_records.LogRecord.{LogRecord}
-use Rattle.shore_lives.specs.Recovery.{RecoveryState}
+use Rattle.laws_lives.specs.Recovery.{RecoveryState}
 use Rattle.shore_txn.specs.Transactions.{txns_in, undos_in}
-use Rattle.shore_undo.specs.Txns.{as_session_txn, entries_of}
-use Rattle.shore_undo.specs.UndoEntries.{image_of, images_of}
+use Rattle.shore_txn.specs.Txns.{as_session_txn, entries_of}
+use Rattle.shore_txn.specs.UndoEntries.{image_of, images_of}
 use Rattle.shore_txn.specs.declared.transactions.Transactions.{Transactions}
-use Rattle.shore_undo.specs.declared.txn.Txn.{Txn}
-use Rattle.shore_undo.specs.declared.undo.UndoEntry.{UndoEntry}
+use Rattle.shore_txn.specs.declared.txn.Txn.{Txn}
+use Rattle.shore_txn.specs.declared.undo.UndoEntry.{UndoEntry}
 use Rattle.shore_txn.proofs.OneOfMany.{among_map, map_join}
 use Rattle.shore_core.specs.declared.core_calls.Core.{Core}
 use Rattle.shore_core.specs.declared.rolling_back.Undo.{Undo}
-use Rattle.shore_core.specs.Cores.{ComesTo, IsSafe}
+use Rattle.shore_core.specs.Cores.{CoreComesTo, IsSafe}
 use Rattle.shore_core.specs.Undoing.{IsDownTo, IsNext, PutsBack}
 use Rattle.shore_core.proofs.Coming.{StaysRefused, comes_then, stays_behind}
 use Rattle.shore_core.proofs.Undoing.{last_same, own_is}
@@ -91,12 +90,6 @@ module _ (table : Transactions) (who : ℕ) (own : Txn) (less : List UndoEntry) 
       last_same (images_of less) kept (image_of entry) e
       (sym (ap images_of entries ∙ map_join image_of less (entry ∷ [])) ∙ ap (λ (b : SessionTxn). b.undo.images) (sym same) ∙ images)
 
-  -- .. and the one that is to be put back next
-  pub newest_next : (id : Rid) (bytes cost : ℕ) (r : LogRecord) (next : IsNext table who id bytes cost r) → image_of entry ≡ image_of next.entry
-  newest_next id bytes cost r next =
-      newest_image (as_session_txn next.own) (images_of next.kept) (image_of next.entry) next.there next.session
-      (ap images_of next.entries ∙ map_join image_of next.kept (next.entry ∷ []))
-
 -- what one step comes to behind a fetch
 module _ {T V : Type 0} {G : tail.Ghosts T} {H : disk.Ghosts V} (new : Core T V G H) (front : List ℕ) (before : List LogRecord) (s : State) (store : RecoveryState) (a : SessionTxn) (kept : List (Rid × Image)) (e : Rid × Image)
     (rollback : Rollback) where
@@ -104,7 +97,7 @@ module _ {T V : Type 0} {G : tail.Ghosts T} {H : disk.Ghosts V} (new : Core T V 
   puts_refused (Err x) f same why stays = (subst (Interrupts s) (sym same) why, subst (StaysRefused new front before s store) (sym same) stays)
   puts_refused (Ok x) f same why stays = absurd same
 
-  pub puts_behind : (mid : Core T V G H) (r : Result (Unit {0}) Fault) (one : ComesTo mid front before store s) → PutsBack new a kept e rollback r front before s one.after → PutsBack new a kept e rollback r front before s store
+  pub puts_behind : (mid : Core T V G H) (r : Result (Unit {0}) Fault) (one : CoreComesTo mid front before store s) → PutsBack new a kept e rollback r front before s one.after → PutsBack new a kept e rollback r front before s store
   puts_behind mid (Ok done) one h = (h.0, comes_then mid new front before s (put_back s a kept (e ∷ []) rollback) store one h.1)
   puts_behind mid (Err f) one h = (h.0, stays_behind mid new front before s s store f one h.1)
 

@@ -22,28 +22,28 @@ use Rattle.shore_path.specs.Acquires.{IsReached}
 use Rattle.shore_path.specs.declared.answers.Acquired.{Acquired}
 use Rattle.shore_path.specs.declared.answers.Acquired.TheVariants as acquire
 use Rattle.shore_path.specs.declared.answers.OnConflict.TheVariants.{Refuse}
-use Rattle.shore_held.specs.CallLocks.{Asked}
-use Rattle.shore_held.proofs.Held.{locked_of}
-use Rattle.shore_room.specs.Claims.{NoOthers}
-use Rattle.shore_lives.proofs.GranuleLocks.{permitted}
-use Rattle.shore_lives.specs.GranuleLocks.{HasLock}
-use Rattle.shore_lives.specs.Sessions.{SessionTxn}
-use Rattle.shore_lives.specs.Views.{IsAmong}
+use Rattle.laws_locks.specs.CallLocks.{Asked}
+use Rattle.laws_locks.proofs.Held.{locked_of}
+use Rattle.laws_room.specs.Claims.{NoOthers}
+use Rattle.laws_lives.proofs.GranuleLocks.{permitted}
+use Rattle.laws_lives.specs.GranuleLocks.{HasLock}
+use Rattle.laws_lives.specs.Sessions.{SessionTxn}
+use Rattle.laws_lives.specs.Views.{IsAmong}
 use Rattle.shore_heap.specs.Heaps as heaps
 use Rattle.shore_heap.specs.Heaps.{Shows}
-use Rattle.shore_lives.specs.Recovery.{RecoveryState}
+use Rattle.laws_lives.specs.Recovery.{RecoveryState}
 use Rattle.shore_txn.specs.Transactions.{kept_in}
-use Rattle.shore_managers.specs.RoomyStates.{LeavesRoomyLogs}
-use Rattle.shore_calls.proofs.TakenLocks.{leaves, locked_state}
-use Rattle.shore_calls.specs.CallHistories.{IsForced, IsRoomyState}
-use Rattle.shore_calls.specs.CallSteps.{behind_lock, behind_place, lock_outcome, on_conflict_of, place_outcome, with_requests}
-use Rattle.shore_calls.specs.LockedStates.{IsSessionsState}
-use Rattle.shore_calls.specs.SessionWaits.{IsCommitWait, IsLockWait, WaitsOfSessions}
-use Rattle.shore_calls.specs.States.{State, Waiting, page_slots}
-use Rattle.shore_control.proofs.Alone.{writer_alone}
-use Rattle.shore_control.specs.Standing.{HasControl}
+use Rattle.laws_runs.specs.RoomyStates.{LeavesRoomyLogs}
+use Rattle.laws_calls.proofs.TakenLocks.{leaves, locked_state}
+use Rattle.laws_calls.specs.CallHistories.{IsForced, IsRoomyState}
+use Rattle.laws_calls.specs.CallSteps.{behind_lock, behind_place, lock_outcome, on_conflict_of, place_outcome, with_requests}
+use Rattle.laws_calls.specs.LockedStates.{IsSessionsState}
+use Rattle.laws_calls.specs.SessionWaits.{IsCommitWait, IsLockWait, WaitsOfSessions}
+use Rattle.laws_calls.specs.States.{State, Waiting, page_slots}
+use Rattle.shore_sessions.proofs.Alone.{writer_alone}
+use Rattle.shore_sessions.specs.Standing.{HasControl}
 use Rattle.shore_core.specs.declared.core_calls.Core.{Core}
-use Rattle.shore_core.specs.Cores.{ComesTo, IsSafe, control_of, heap_of, txns_of}
+use Rattle.shore_core.specs.Cores.{CoreComesTo, IsSafe, control_of, heap_of, txns_of}
 use Rattle.shore_core.specs.Replies.{Keeps, OnlyLocks, acquire_as}
 use Rattle.shore_core.proofs.Coming.{over_as}
 
@@ -124,7 +124,7 @@ module _ (g : Geometry) (s : State) (safe : IsSafe g s) (a : SessionTxn) (mem : 
 -- a core has asked for a lock, and all but its locks is the same
 module _ {T V : Type 0} {G : tail.Ghosts T} {H : disk.Ghosts V} (mid new : Core T V G H) where
   pub comes_locked : OnlyLocks mid new → (front : List ℕ) (before : List LogRecord) (s : State) (store : RecoveryState) (rs : List Request)
-      → (HasControl (control_of mid) s → HasControl (control_of new) (with_requests s rs)) → ComesTo mid front before store s → ComesTo new front before store (with_requests s rs)
+      → (HasControl (control_of mid) s → HasControl (control_of new) (with_requests s rs)) → CoreComesTo mid front before store s → CoreComesTo new front before store (with_requests s rs)
   comes_locked same front before s store rs stands comes =
       let was = comes.is_in.beside in
       let shows = λ (works : s.failed ≡ false). subst (λ h. Shows (kept_in (txns_of mid)) h front comes.left (page_slots s)) (sym same.heap) (comes.is_in.pages works) in

@@ -14,26 +14,26 @@ use Rattle.shore_path.specs.declared.answers.Acquired.{Acquired}
 use Rattle.shore_path.specs.declared.answers.Acquired.TheVariants as acquire
 use Rattle.shore_cycles.specs.Blockers.{is_victim}
 use Rattle.shore_cycles.specs.declared.victims.Victim.{Victim}
-use Rattle.shore_held.specs.CallLocks.{Asked, asked_by}
-use Rattle.shore_room.proofs.Leaving.{marked_slots}
-use Rattle.shore_lives.specs.Sessions.{SessionTxn}
-use Rattle.shore_lives.specs.UndoLists.{undo_rolled}
-use Rattle.shore_lives.specs.declared.rollbacks.Rollback.TheVariants.{Whole}
-use Rattle.shore_lives.specs.Views.{IsAmong}
-use Rattle.shore_managers.proofs.Running.{comes_leaving}
-use Rattle.shore_calls.proofs.SessionRooms.{comes_roomy}
-use Rattle.shore_calls.specs.CallHistories.{IsRoomyState}
-use Rattle.shore_calls.specs.CallSteps.{MayAsk, lock_outcome}
-use Rattle.shore_calls.specs.LockRounds.{EndsLock, IsBroken, LetThrough, LocksTo, waits_at}
-use Rattle.shore_calls.specs.StateChanges.{wait_refused}
-use Rattle.shore_calls.specs.States.{DoesNotWait, State, Waiting, page_slots}
-use Rattle.shore_calls.specs.Victims.{TakesVictim, TakesVictims, with_cycle}
+use Rattle.laws_locks.specs.CallLocks.{Asked, lock_asked_by}
+use Rattle.laws_room.proofs.Leaving.{marked_slots}
+use Rattle.laws_lives.specs.Sessions.{SessionTxn}
+use Rattle.laws_lives.specs.UndoLists.{undo_rolled}
+use Rattle.shore_model.specs.declared.rollbacks.Rollback.TheVariants.{Whole}
+use Rattle.laws_lives.specs.Views.{IsAmong}
+use Rattle.laws_runs.proofs.Running.{comes_leaving}
+use Rattle.laws_calls.proofs.SessionRooms.{comes_roomy}
+use Rattle.laws_calls.specs.CallHistories.{IsRoomyState}
+use Rattle.laws_calls.specs.CallSteps.{MayAsk, lock_outcome}
+use Rattle.laws_calls.specs.LockRounds.{EndsLock, IsBroken, LetThrough, LocksTo, waits_at}
+use Rattle.laws_calls.specs.StateChanges.{wait_refused}
+use Rattle.laws_calls.specs.States.{DoesNotWait, State, Waiting, page_slots}
+use Rattle.laws_calls.specs.Victims.{TakesVictim, TakesVictims, with_cycle}
 use Rattle.shore_core.specs.Cores.{IsSafe}
 use Rattle.shore_core.proofs.Going.{safe_woken}
 use Rattle.shore_core.proofs.Safe.{safe_behind_lock}
 use Rattle.shore_core.proofs.Acquiring.{done_waits_not}
-use Rattle.shore_calls.proofs.LockRounds.{MayLock, round_stays, woken_after}
-use Rattle.shore_calls.proofs.VictimSteps.{victim_comes, victim_stays}
+use Rattle.laws_calls.proofs.LockRounds.{MayLock, round_stays, woken_after}
+use Rattle.laws_calls.proofs.VictimSteps.{victim_comes, victim_stays}
 
 -- ---- log and pages
 
@@ -122,7 +122,7 @@ module _ (g : Geometry) where
       let rest = victims_safe vs h.0 (safe_victim s safe t v h.0 h.1) t new h.2 in
       record { safe = rest.safe; same = pages_then s h.0 new (victim_pages s safe.roomy t v h.0 h.1) rest.same }
 
-  module _ (a : SessionTxn) (c : Call) (lock : Asked) (asks : asked_by c ≡ Some lock) (may : MayAsk g c) (whole : a.undo.rolling ≡ None) where
+  module _ (a : SessionTxn) (c : Call) (lock : Asked) (asks : lock_asked_by c ≡ Some lock) (may : MayAsk g c) (whole : a.undo.rolling ≡ None) where
     safe_waits : (s : State) (safe : IsSafe g s) → MayLock safe.found safe.entries a s → (at : Granule) → (lock_outcome s a c lock).answer ≡ Ok (acquire.Waiting at) → IsSafe g (waits_at s a c lock at)
     safe_waits s safe k at waits = record {
       found = safe.found;

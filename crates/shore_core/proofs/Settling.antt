@@ -7,17 +7,17 @@ use Rattle.shore_types.specs.declared.layout.Geometry.{Geometry}
 use Rattle.shore_types.specs.declared.locking.Granule.{Granule}
 use Rattle.shore_model.specs.declared.calls.Call.{Call}
 use Rattle.shore_model.specs.declared.log_records.LogRecord.{LogRecord}
-use Rattle.shore_lives.specs.Recovery.{RecoveryState}
-use Rattle.shore_held.specs.CallLocks.{Asked, asked_by}
-use Rattle.shore_calls.proofs.SessionInversions.{waits_in}
-use Rattle.shore_calls.specs.CallSteps.{CallStep, ResumeStep}
-use Rattle.shore_calls.specs.Settling.{SettledCall, SettledResume, WaitsForNoLock}
-use Rattle.shore_calls.specs.StateChanges.{after_refusal}
-use Rattle.shore_calls.specs.States.{State}
-use Rattle.shore_calls.specs.declared.step.Step.{Step}
-use Rattle.shore_calls.specs.declared.step.Step.TheVariants.{Done, Nothing, Refused, Waits}
-use Rattle.shore_calls.specs.declared.step.Wait.{Wait}
-use Rattle.shore_calls.specs.declared.step.Wait.TheVariants.{Durable, Lock}
+use Rattle.laws_lives.specs.Recovery.{RecoveryState}
+use Rattle.laws_locks.specs.CallLocks.{Asked, lock_asked_by}
+use Rattle.laws_calls.proofs.SessionInversions.{waits_in}
+use Rattle.laws_calls.specs.CallSteps.{CallStep, ResumeStep}
+use Rattle.laws_calls.specs.Settling.{SettledCall, SettledResume, WaitsForNoLock}
+use Rattle.laws_calls.specs.StateChanges.{after_refusal}
+use Rattle.laws_calls.specs.States.{State}
+use Rattle.shore_model.specs.declared.step.Step.{Step}
+use Rattle.shore_model.specs.declared.step.Step.TheVariants.{Done, Nothing, Refused, Waits}
+use Rattle.shore_model.specs.declared.step.Wait.{Wait}
+use Rattle.shore_model.specs.declared.step.Wait.TheVariants.{Durable, Lock}
 use Rattle.shore_core.specs.declared.core_calls.Core.{Core}
 use Rattle.shore_core.specs.Cores.{geometry_of}
 use Rattle.shore_core.specs.Replies.{Called, Replied, as_step, once_noted}
@@ -30,7 +30,7 @@ lock_is_durable at n e = cc
 
 module _ (g : Geometry) (s new : State) (session : ℕ) where
   -- a call that asks for no lock waits for none
-  pub asks_for_none : (c : Call) (step : Step) → asked_by c ≡ None → CallStep g s session c step new → WaitsForNoLock step
+  pub asks_for_none : (c : Call) (step : Step) → lock_asked_by c ≡ None → CallStep g s session c step new → WaitsForNoLock step
   asks_for_none c (Done answer) none h = tt
   asks_for_none c (Refused f) none h = tt
   asks_for_none c Nothing none h = tt
@@ -55,7 +55,7 @@ module _ (g : Geometry) (s new : State) (session : ℕ) where
 
 module _ {T V : Type 0} {G : tail.Ghosts T} {H : disk.Ghosts V} (old new : Core T V G H) (front : List ℕ) (before : List LogRecord) (s : State) (store : RecoveryState) (session : ℕ) (c : Call) where
   -- its call asks for no lock
-  pub replied_calls : (r : Result Step Fault) → asked_by c ≡ None → Replied session c r old new front before s store → Called session c r old new front before s store
+  pub replied_calls : (r : Result Step Fault) → lock_asked_by c ≡ None → Replied session c r old new front before s store → Called session c r old new front before s store
   replied_calls r none h = record {
     later = h.later;
     calls = called_at_once (geometry_of old) s (once_noted r h.later) session c (as_step r) (asks_for_none (geometry_of old) s (once_noted r h.later) session c (as_step r) none h.replies) h.replies;

@@ -5,13 +5,13 @@ use Rattle.std.specs.Option.{IfNone}
 use Rattle.std.proofs.lemmas.List.{append_assoc}
 use Rattle.shore_types.specs.declared.layout.TheConstants.{GREATEST_CHECKPOINT, LAST_LSN, LONGEST_FRAME}
 use Rattle.shore_model.specs.declared.log_records.LogRecord.{LogRecord}
-use Rattle.shore_lives.specs.Views.{IsAmong}
-use Rattle.shore_room.specs.LogRooms.{owed_by_all}
+use Rattle.laws_lives.specs.Views.{IsAmong}
+use Rattle.laws_room.specs.LogRooms.{owed_by_all}
 use Rattle.shore_txn.specs.Transactions.{room_in}
-use Rattle.shore_calls.specs.States.{HasRoomFor, State}
-use Rattle.shore_control.specs.declared.control.Control.{Control}
-use Rattle.shore_control.specs.Controls.{txns_in}
-use Rattle.shore_control.specs.Standing.{HasControl}
+use Rattle.laws_calls.specs.States.{HasRoomFor, State}
+use Rattle.shore_sessions.specs.declared.control.Control.{Control}
+use Rattle.shore_sessions.specs.Controls.{txns_in}
+use Rattle.shore_sessions.specs.Standing.{HasControl}
 use Rattle.shore_core.specs.Parts.{HasParts}
 
 pub none_some : {A : Type 0} (x : A) → None ≡ Some x → ⊥

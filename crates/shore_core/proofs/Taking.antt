@@ -12,39 +12,39 @@ use Rattle.shore_page.specs.Slots.{Slot, image_at_slot}
 use Rattle.shore_page.specs.Undo.{claiming}
 use Rattle.shore_pool.specs.declared.frame.Frame.{Frame}
 use Rattle.shore_heap.specs.Contents.{HasSlots}
-use Rattle.shore_lives.specs.Sessions.{SessionTxn}
-use Rattle.shore_room.specs.Claims.{Claimed, SlotCounts, rid_on, slots_of, undecided_at}
-use Rattle.shore_room.proofs.Leaving.{map_each}
-use Rattle.shore_room.proofs.Lists.{each_at}
-use Rattle.shore_room.proofs.Pages.{length-slots}
+use Rattle.laws_lives.specs.Sessions.{SessionTxn}
+use Rattle.laws_room.specs.Claims.{Claimed, SlotCounts, rid_on, slots_of, undecided_at}
+use Rattle.laws_room.proofs.Leaving.{map_each}
+use Rattle.laws_room.proofs.Lists.{each_at}
+use Rattle.laws_room.proofs.Pages.{length-slots}
 use Rattle.shore_types.specs.declared.faults.Fault.{Fault}
 use Rattle.shore_types.specs.declared.faults.Fault.TheVariants as fault
 use Rattle.shore_types.specs.declared.faults.Device.{Device}
 use Rattle.shore_model.specs.declared.log_records.LogRecord.{LogRecord}
-use Rattle.shore_calls.specs.StateChanges.{IsPageFault, after_refusal, with_durable, with_failure}
-use Rattle.shore_calls.specs.States.{State}
-use Rattle.shore_calls.specs.CallSteps.{RefusesRead, CallStep}
+use Rattle.laws_calls.specs.StateChanges.{IsPageFault, after_refusal, with_durable, with_failure}
+use Rattle.laws_calls.specs.States.{State}
+use Rattle.laws_calls.specs.CallSteps.{RefusesRead, CallStep}
 use Rattle.shore_disk.specs.Cause.{HasCause}
 use Rattle.shore_disk.specs.declared.device.Disk as disk
 use Rattle.shore_log.specs.declared.tail.Tail as tail
 use Rattle.shore_disk.specs.Device.{may_leave}
 use Rattle.shore_heap.specs.declared.heap.Heap.{Heap}
 use Rattle.shore_heap.specs.Heaps as heaps
-use Rattle.shore_stands.specs.LoggedHeaps.{LeavesStore}
-use Rattle.shore_stands.proofs.LoggedLeft.{left_settled}
-use Rattle.shore_lives.specs.Pages.{LoggedPages}
-use Rattle.shore_heap.proofs.Finding.{ok_same}
+use Rattle.laws_images.specs.LoggedHeaps.{LeavesStore}
+use Rattle.laws_images.proofs.LoggedLeft.{left_settled}
+use Rattle.laws_lives.specs.Pages.{LoggedPages}
+use Rattle.shore_heap.proofs.Going.{ok_same}
 use Rattle.shore_core.specs.declared.core_calls.Core.{Core}
-use Rattle.shore_core.specs.Cores.{ComesTo, FailsOver, IsBeside, IsIn, IsKept, IsKeptBehind, IsOver, control_of, durable_of, geometry_of, has_failed, heap_of, tail_of, waiting_of}
-use Rattle.shore_lives.specs.Recovery.{CrashMayLeave, RecoveryState}
-use Rattle.shore_calls.specs.declared.step.Step.{Step}
-use Rattle.shore_calls.specs.declared.step.Step.TheVariants.{Refused}
+use Rattle.shore_core.specs.Cores.{CoreComesTo, FailsOver, IsBeside, IsIn, IsKept, IsKeptBehind, IsOver, control_of, durable_of, geometry_of, has_failed, heap_of, tail_of, waiting_of}
+use Rattle.laws_lives.specs.Recovery.{CrashMayLeave, RecoveryState}
+use Rattle.shore_model.specs.declared.step.Step.{Step}
+use Rattle.shore_model.specs.declared.step.Step.TheVariants.{Refused}
 use Rattle.shore_model.specs.declared.calls.Call.{Call}
 use Rattle.shore_core.specs.Replies.{IsServedBehind, Replied, Served}
 use Rattle.shore_core.proofs.Coming.{StaysRefused, comes_failed}
 use Rattle.shore_core.specs.Parts.{HasParts}
-use Rattle.shore_control.specs.declared.control.Control.{Control}
-use Rattle.shore_control.specs.Standing.{HasControl}
+use Rattle.shore_sessions.specs.declared.control.Control.{Control}
+use Rattle.shore_sessions.specs.Standing.{HasControl}
 
 pub true_false : true ≡ false → ⊥
 true_false clash = cc
@@ -140,9 +140,9 @@ over_failed core disk s store kept = record { kept = kept_failed s store kept; p
 -- a device that failed, or a page that was damaged, is noted
 pub comes_noted : {T V : Type 0} {G : tail.Ghosts T} {H : disk.Ghosts V} (old new : Core T V G H) (front : List ℕ) (before : List LogRecord) (s : State) (store : RecoveryState) (f : Fault)
     → tail_of new ≡ tail_of old → control_of new ≡ control_of old → durable_of new ≡ durable_of old → has_failed new ≡ true
-    → (f ≡ fault.Device) ⊎ ((d : Device) × (offset : ℕ) × (f ≡ fault.Damaged d offset)) → StaysRefused old front before s store f → ComesTo new front before store (after_refusal f s)
+    → (f ≡ fault.Device) ⊎ ((d : Device) × (offset : ℕ) × (f ≡ fault.Damaged d offset)) → StaysRefused old front before s store f → CoreComesTo new front before store (after_refusal f s)
 comes_noted old new front before s store f tail control durable noted why stays =
-    let failed : ComesTo new front before store (with_failure s) = elim stays [
+    let failed : CoreComesTo new front before store (with_failure s) = elim stays [
       | inl device ↦ comes_failed new front before (with_failure s) store refl (beside_failed old new before s device.1 tail control durable noted) (behind_failed s store device.2.behind)
       | inr comes ↦ record {
         left = comes.left;
@@ -154,8 +154,8 @@ comes_noted old new front before s store f tail control durable noted why stays 
       }
     ] in
     elim why [
-      | inl device ↦ subst (λ (f : Fault). ComesTo new front before store (after_refusal f s)) (sym device) failed
-      | inr damaged ↦ subst (λ (f : Fault). ComesTo new front before store (after_refusal f s)) (sym damaged.2) failed
+      | inl device ↦ subst (λ (f : Fault). CoreComesTo new front before store (after_refusal f s)) (sym device) failed
+      | inr damaged ↦ subst (λ (f : Fault). CoreComesTo new front before store (after_refusal f s)) (sym damaged.2) failed
     ]
 
 -- no other fault is noted

@@ -12,43 +12,42 @@ use Rattle.shore_page.specs.Slots.{Slot, with_change, with_image}
 use Rattle.shore_pool.specs.Changes as pool
 use Rattle.shore_pool.specs.declared.frame.Frame.{Frame}
 use Rattle.shore_heap.specs.declared.heap.Heap.{Heap}
-use Rattle.shore_heap.specs.Contents.{Kept, with_slots}
+use Rattle.shore_heap.specs.Contents.{ClaimsOfPages, with_slots}
 use Rattle.shore_heap.specs.Heaps.{Shows}
 use Rattle.shore_heap.proofs.Bounds.{cases_page, slots_here, slots_other}
 use Rattle.shore_heap.proofs.Showing.{shows_same}
-use Rattle.shore_room.specs.Claims.{Claimed}
-use Rattle.shore_room.specs.Entries.{claim_before}
-use Rattle.shore_room.specs.LogRooms.{compensation_cost}
-use Rattle.shore_room.proofs.Entries.{unreserved}
-use Rattle.shore_room.proofs.Rooms.{undo_others}
-use Rattle.shore_lives.specs.Logged.{next_to_undo}
-use Rattle.shore_lives.specs.UndoLists.{marks_kept}
-use Rattle.shore_lives.specs.declared.rollbacks.Rollback.{Rollback}
-use Rattle.shore_calls.specs.Rollbacks.{put_back}
-use Rattle.shore_calls.specs.States.{State, page_slots}
-use Rattle.shore_control.proofs.RollbackSteps.{undo_next_logged}
-use Rattle.shore_control.specs.Standing.{IsLogged}
+use Rattle.laws_room.specs.Claims.{Claimed}
+use Rattle.laws_room.specs.Entries.{claim_before}
+use Rattle.laws_room.specs.LogRooms.{compensation_cost}
+use Rattle.laws_room.proofs.Entries.{unreserved}
+use Rattle.laws_room.proofs.Rooms.{undo_others}
+use Rattle.laws_lives.specs.Logged.{next_to_undo}
+use Rattle.laws_lives.specs.UndoLists.{marks_kept}
+use Rattle.shore_model.specs.declared.rollbacks.Rollback.{Rollback}
+use Rattle.laws_calls.specs.Rollbacks.{put_back}
+use Rattle.laws_calls.specs.States.{State, page_slots}
+use Rattle.shore_sessions.proofs.RollbackSteps.{undo_next_logged}
+use Rattle.shore_sessions.specs.Standing.{IsLogged}
 use Rattle.shore_txn.specs.ActiveTxns.{OneBecomes}
-use Rattle.shore_undo.specs.Txns.{IsAfterUndo, last_of, number_of}
+use Rattle.shore_txn.specs.Txns.{IsAfterUndo, last_of, number_of}
 use Rattle.shore_txn.proofs.ActiveOthers.{each_becomes}
 use Rattle.shore_txn.proofs.OneOfMany.{among_map, among_middle}
-use Rattle.shore_stands.proofs.SlotImages.{count-with_image}
+use Rattle.laws_images.proofs.SlotImages.{count-with_image}
 use Rattle.shore_logrec.specs.Text as text
 use Rattle.shore_logrec.specs.Text.{RidFits}
 use Rattle.shore_core.specs.Undoing.{IsNext}
 use Rattle.shore_core.proofs.Changed.{image_short}
-use Rattle.shore_types.specs.Images.{Image}
+use Rattle.shore_types.specs.Images.{Image, image_len}
 use Rattle.shore_types.specs.declared.ids.Rid.{Rid}
 use Rattle.shore_types.specs.declared.layout.TheConstants.{MAX_RECORD_BYTES}
-use Rattle.shore_page.specs.Slots.{image_len}
-use Rattle.shore_lives.specs.Sessions.{SessionTxn}
-use Rattle.shore_lives.specs.Views.{IsAmong}
+use Rattle.laws_lives.specs.Sessions.{SessionTxn}
+use Rattle.laws_lives.specs.Views.{IsAmong}
 use Rattle.shore_txn.specs.Transactions.{HasTxnOf, txns_in, undos_in}
-use Rattle.shore_undo.specs.Txns.{as_session_txn, entries_of}
-use Rattle.shore_undo.specs.UndoEntries.{AreShort, image_of, images_of, number_behind}
+use Rattle.shore_txn.specs.Txns.{as_session_txn, entries_of}
+use Rattle.shore_txn.specs.UndoEntries.{AreShort, image_of, images_of, number_behind}
 use Rattle.shore_txn.specs.declared.transactions.Transactions.{Transactions}
-use Rattle.shore_undo.specs.declared.txn.Txn.{Txn}
-use Rattle.shore_undo.specs.declared.undo.UndoEntry.{UndoEntry}
+use Rattle.shore_txn.specs.declared.txn.Txn.{Txn}
+use Rattle.shore_txn.specs.declared.undo.UndoEntry.{UndoEntry}
 use Rattle.shore_txn.proofs.OneOfMany.{map_join, once_same}
 
 false_true : ◌≡◌ {A = Bool} false true → ⊥
@@ -159,7 +158,7 @@ slot_there lsn i image None new is some = absurd (false_true some)
 
 module _ {V : Type 0} {H : disk.Ghosts V} where
   -- the image is put back, and the claim falls
-  pub pages_undone : (new : Heap V H) (K : Kept) (front : List ℕ) (disk : ℕ → List ℕ) (s : State) (a : SessionTxn) (kept : List (Rid × Image)) (e : Rid × Image) (rollback : Rollback)
+  pub pages_undone : (new : Heap V H) (K : ClaimsOfPages) (front : List ℕ) (disk : ℕ → List ℕ) (s : State) (a : SessionTxn) (kept : List (Rid × Image)) (e : Rid × Image) (rollback : Rollback)
       → Claimed s.sessions.records s.sessions.active s.counts → IsAmong a s.sessions.active → a.undo.images ≡ kept ++ e ∷ []
       → Shows K new front disk (with_slots (with_slots (page_slots s) e.0.page (λ slots. with_image slots e.0.slot e.1)) e.0.page (λ slots. with_change (lowered (claim_before kept e)) slots e.0.slot))
       → Shows K new front disk (page_slots (put_back s a kept (e ∷ []) rollback))

@@ -2,57 +2,41 @@
 use Rattle.std.proofs.Common.{◌≡◌, ◌++◌, ◌∷◌, ◌+◌, ◌-◌, ◌<◌, ◌≤◌, inl, ℕ, List, [], append-nil, Result, Ok, Err, IsErrAnd, length, false, refl, sym, ap, subst, ◌∙◌, arith}
 use Rattle.std.proofs.lemmas.List.{length-map}
 use Rattle.shore_disk.specs.declared.device.Disk as disk
-use Rattle.shore_disk.specs.Cause.{HasCause}
 use Rattle.shore_log.specs.declared.tail.Tail as tail
 use Rattle.shore_types.specs.Images.{Image}
 use Rattle.shore_types.specs.declared.faults.Fault.{Fault}
 use Rattle.shore_types.specs.declared.ids.Rid.{Rid}
 use Rattle.shore_types.specs.declared.layout.Geometry.{Geometry}
-use Rattle.shore_lives.specs.Sessions.{SessionTxn}
-use Rattle.shore_lives.specs.UndoLists.{MayRoll, least_kept}
-use Rattle.shore_lives.specs.Views.{IsAmong}
-use Rattle.shore_lives.specs.declared.rollbacks.Rollback.{Rollback}
-use Rattle.shore_calls.specs.Rollbacks.{put_back}
-use Rattle.shore_calls.specs.States.{DoesNotWait, IsOfSession, State}
-use Rattle.shore_control.specs.Standing.{HasControl}
+use Rattle.laws_lives.specs.Sessions.{SessionTxn}
+use Rattle.laws_lives.specs.UndoLists.{MayRoll, least_kept}
+use Rattle.laws_lives.specs.Views.{IsAmong}
+use Rattle.shore_model.specs.declared.rollbacks.Rollback.{Rollback}
+use Rattle.laws_calls.specs.Rollbacks.{put_back}
+use Rattle.laws_calls.specs.States.{DoesNotWait, IsOfSession, State}
+use Rattle.shore_sessions.specs.Standing.{HasControl}
 use Rattle.shore_txn.specs.Transactions.{HasTxnOf, undos_in}
-use Rattle.shore_undo.specs.Txns.{as_session_txn, entries_of}
-use Rattle.shore_undo.specs.UndoEntries.{image_of}
+use Rattle.shore_txn.specs.Txns.{as_session_txn, entries_of}
+use Rattle.shore_txn.specs.UndoEntries.{image_of}
 use Rattle.shore_txn.specs.declared.transactions.Transactions.{Transactions}
-use Rattle.shore_undo.specs.declared.txn.Txn.{Txn}
+use Rattle.shore_txn.specs.declared.txn.Txn.{Txn}
 use Rattle.shore_core.specs.declared.core_calls.Core.{Core}
-use Rattle.shore_core.specs.Cores.{ComesTo, IsSafe, control_of, durable_of, faults_of, geometry_of, has_failed, last_of, txns_of, waits_of}
-use Rattle.shore_core.specs.Replies.{InEach, Keeps, MayLeave}
+use Rattle.shore_core.specs.Cores.{CoreComesTo, IsSafe, control_of, durable_of, faults_of, geometry_of, has_failed, last_of, txns_of, waits_of}
+use Rattle.shore_core.specs.Replies.{InEach, Keeps, MayLeave, Serves}
 use Rattle.shore_core.specs.Undoing.{IsDownTo, PutsBack, Rewinds, Unwinds}
 use Rattle.shore_core.proofs.Coming.{comes_same, comes_then, stays_behind}
 use Rattle.shore_core.proofs.Keeping.{keeps_then, nothing_leaves}
-use Rattle.shore_core.proofs.Rewinding.{leaves_rewound, rewinds_none, rewinds_then}
+use Rattle.shore_core.proofs.Rewinding.{earned_rewound, forced_rewound, leaves_rewound, rewinds_none, rewinds_then}
 use Rattle.shore_core.proofs.Rolling.{goes_on_from, split_last}
+use Rattle.shore_core.proofs.Serving.{cause_aside, cause_then}
 use Rattle.shore_core.proofs.Undoing.{own_is}
 
 -- the entries of the session's transaction in the table are as many as its images
 pub count_own : (table : Transactions) (own : Txn) → IsAmong (as_session_txn own) (undos_in table) → (a : SessionTxn) → IsAmong a (undos_in table) → a.session ≡ own.session → length a.undo.images ≡ length (entries_of own)
 count_own table own there a among is = ap (λ (b : SessionTxn). length b.undo.images) (own_is table own there a among is) ∙ length-map (entries_of own) image_of
 
--- calls that report no failure of the device, and then one that may
-pub cause_then : {A : Type 0} (r : Result A Fault) (old mid new : ℕ) → mid ≡ old → HasCause r mid new → HasCause r old new
-cause_then r old mid new same cause = subst (λ n. HasCause r n new) same cause
-
 -- what is said of a transaction that may be rolled back so far
 abbrev pub ForRollback : ℕ → Rollback → ℕ → State → (SessionTxn → Type 0) → Type 0
 ForRollback session rollback least s P = (a : SessionTxn) → DoesNotWait s session → IsOfSession s session a → MayRoll a.undo rollback → least ≡ least_kept a.undo rollback → least ≤ length a.undo.images → P a
-
-err_is : {A : Type 0} {e d : Fault} → ◌≡◌ {A = Result A Fault} (Err e) (Err d) → e ≡ d
-err_is is = cc
-
--- a refusal that is handed on has the same cause
-pub cause_handed : {A B : Type 0} (r : Result B Fault) (f : Fault) (old new : ℕ) → IsErrAnd r (λ e. e ≡ f) → HasCause {T = A} (Err f) old new → HasCause r old new
-cause_handed (Err e) f old new same cause = record {
-  no_lower = cause.no_lower;
-  reported = λ is. cause.reported (ap Err (sym same ∙ err_is is));
-  unreported = λ other. cause.unreported (λ is. other (ap Err (same ∙ err_is is)));
-}
-cause_handed (Ok x) f old new same cause = absurd same
 
 module _ {T V : Type 0} {G : tail.Ghosts T} {H : disk.Ghosts V} where
   -- the session's transaction has so many images
@@ -62,7 +46,7 @@ module _ {T V : Type 0} {G : tail.Ghosts T} {H : disk.Ghosts V} where
   -- the steps so far: each transaction of a safe state has come down by one image a step, and what else they keep
   pub record IsRolling (old now : Core T V G H) (session : ℕ) (rollback : Rollback) (least counter : ℕ) : Type 0 where
     pub come : has_failed old ≡ false → InEach (λ front disk before s store. ForRollback session rollback least s (λ a.
-        (mid : State) × IsDownTo s a rollback (length a.undo.images + least - counter) mid × ComesTo now front before store mid)) old
+        (mid : State) × IsDownTo s a rollback (length a.undo.images + least - counter) mid × CoreComesTo now front before store mid)) old
     pub from : least ≤ counter
     pub rewinds : Rewinds old now
     pub longer : last_of old ≤ last_of now
@@ -102,7 +86,7 @@ module _ {T V : Type 0} {G : tail.Ghosts T} {H : disk.Ghosts V} where
 
   module _ (old now new : Core T V G H) (session : ℕ) (rollback : Rollback) (least counter count : ℕ) (rolls : IsRolling old now session rollback least counter) (counts : HasCount old session count) (less : counter < count) where
     on_come : StepPuts now new session rollback (Ok tt) → has_failed old ≡ false → InEach (λ front disk before s store. ForRollback session rollback least s (λ a.
-        (mid : State) × IsDownTo s a rollback (length a.undo.images + least - (counter + 1)) mid × ComesTo new front before store mid)) old
+        (mid : State) × IsDownTo s a rollback (length a.undo.images + least - (counter + 1)) mid × CoreComesTo new front before store mid)) old
     on_come puts running front disk before s store is safe over a idle of may at within =
         let many : length a.undo.images ≡ count = counts s is.beside.parts.stands a of in
         let from = rolls.from in
@@ -155,6 +139,38 @@ module _ {T V : Type 0} {G : tail.Ghosts T} {H : disk.Ghosts V} where
         here.its split.0 split.1 here.owned split.2 in
         subst (λ (x : Fault). Unwinds new a rollback least (Err x) front before s store) (sym same)
         (down.0, n, down.1, omega (arith, many, less, from), h.0, stays_behind now new front before down.0 down.0 store f comes h.1)
+
+  -- what stands beside the steps so far, and one that was refused
+  pub rolls_serves : (old now new : Core T V G H) (session : ℕ) (rollback : Rollback) (least counter : ℕ) → IsRolling old now session rollback least counter → (r : Result (Unit {0}) Fault)
+      → Serves (λ page. Unit {0}) new r now new → Serves (λ page. Unit {0}) new r old new
+  rolls_serves old now new session rollback least counter rolls r serves =
+      let longer = rolls.longer in
+      let told = rolls.told in
+      record {
+        volume = record {
+          geometry = serves.volume.geometry ∙ rolls.keeps.volume.geometry;
+          honest = serves.volume.honest ∙ rolls.keeps.volume.honest;
+          size = serves.volume.size ∙ rolls.keeps.volume.size;
+        };
+        durable = serves.durable ∙ rolls.keeps.durable;
+        first = serves.first ∙ rolls.keeps.first;
+        any_moment = leaves_rewound old now rolls.keeps.volume.geometry rolls.keeps.durable new rolls.leaves rolls.rewinds serves.any_moment;
+        damaged = earned_rewound old now rolls.keeps.volume.geometry rolls.keeps.durable longer (omega arith) (λ page. Unit {0}) r rolls.rewinds serves.damaged;
+        forced = forced_rewound old now new r rolls.rewinds serves.forced;
+        cause = cause_then r (faults_of old) (faults_of now) (faults_of new) rolls.faults serves.cause;
+      }
+
+  -- .. and beside all of them
+  pub rolled_serves : (old now : Core T V G H) (session : ℕ) (rollback : Rollback) (least counter : ℕ) → IsRolling old now session rollback least counter → Serves {A = Unit {0}} (λ page. Unit {0}) now (Ok tt) old now
+  rolled_serves old now session rollback least counter rolls = record {
+    volume = rolls.keeps.volume;
+    durable = rolls.keeps.durable;
+    first = rolls.keeps.first;
+    any_moment = rolls.leaves;
+    damaged = λ front disk holds. tt;
+    forced = λ front disk holds. tt;
+    cause = cause_aside (Ok tt) (faults_of old) (faults_of now) rolls.faults tt;
+  }
 
   -- all are put back
   pub rolls_done : (old now : Core T V G H) (session : ℕ) (rollback : Rollback) (least counter count : ℕ) → IsRolling old now session rollback least counter → HasCount old session count

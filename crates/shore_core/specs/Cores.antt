@@ -9,27 +9,27 @@ use Rattle.shore_heap.specs.declared.heap.Heap.{Heap}
 use Rattle.shore_heap.specs.Heaps as heaps
 use Rattle.shore_heap.specs.Heaps.{Shows}
 use Rattle.shore_dwrite.specs.Settled as settled_device
-use Rattle.shore_control.specs.declared.control.Control.{Control}
-use Rattle.shore_control.specs.Controls.{locks_in, txns_in, waits_in}
-use Rattle.shore_control.specs.declared.waits.WaitingCall.{WaitingCall}
+use Rattle.shore_sessions.specs.declared.control.Control.{Control}
+use Rattle.shore_sessions.specs.Controls.{locks_in, txns_in, waits_in}
+use Rattle.shore_sessions.specs.declared.waits.WaitingCall.{WaitingCall}
 use Rattle.shore_locks.specs.Tables.{Table}
 use Rattle.shore_txn.specs.Transactions.{kept_in}
 use Rattle.shore_txn.specs.declared.transactions.Transactions.{Transactions}
-use Rattle.shore_lives.specs.Pages.{LoggedPages}
-use Rattle.shore_lives.specs.Recovery.{CrashMayLeave, IsRecoverable, RecoveryEvent, RecoveryState}
-use Rattle.shore_lives.specs.ManagerSteps.{WorksTo}
-use Rattle.shore_managers.specs.StoredRuns.{IsStored}
-use Rattle.shore_managers.specs.RoomyStates.{LeavesRoomyLogs}
-use Rattle.shore_stands.specs.LoggedHeaps.{IsStoreOf, LeavesStore}
+use Rattle.laws_lives.specs.Pages.{LoggedPages}
+use Rattle.laws_lives.specs.Recovery.{CrashMayLeave, IsRecoverable, RecoveryEvent, RecoveryState}
+use Rattle.laws_lives.specs.ManagerSteps.{WorksTo}
+use Rattle.laws_runs.specs.StoredRuns.{IsStored}
+use Rattle.laws_runs.specs.RoomyStates.{LeavesRoomyLogs}
+use Rattle.laws_images.specs.LoggedHeaps.{IsStoreOf, LeavesStore}
 use Rattle.shore_model.specs.Records.{AreRecords}
 use Rattle.shore_types.specs.declared.locking.Granule.{Granule}
 use Rattle.shore_model.specs.declared.histories.Entry.{Entry}
-use Rattle.shore_lives.specs.Views.{IsAmong}
-use Rattle.shore_calls.specs.declared.step.Wait.TheVariants.{Lock}
-use Rattle.shore_calls.specs.CallHistories.{IsRoomyState}
-use Rattle.shore_calls.specs.CallSteps.{MayAsk}
-use Rattle.shore_calls.specs.Events.{IsStateAfter}
-use Rattle.shore_calls.specs.States.{State, Waiting, page_slots}
+use Rattle.laws_lives.specs.Views.{IsAmong}
+use Rattle.shore_model.specs.declared.step.Wait.TheVariants.{Lock}
+use Rattle.laws_calls.specs.CallHistories.{IsRoomyState}
+use Rattle.laws_calls.specs.CallSteps.{MayAsk}
+use Rattle.laws_calls.specs.Events.{IsStateAfter}
+use Rattle.laws_calls.specs.States.{State, Waiting, page_slots}
 use Rattle.shore_core.specs.declared.core_calls.Core.{Core}
 use Rattle.shore_core.specs.Parts.{HasParts}
 
@@ -117,7 +117,7 @@ module _ {T V : Type 0} {G : tail.Ghosts T} {H : disk.Ghosts V} where
     pub pages : s.failed ≡ false → IsStoreOf core.heap disk store
 
   -- From a state and a store to others: pages may have been written back, and a record appended and done on its page.
-  pub record ComesTo (new : Core T V G H) (front : List ℕ) (before : List LogRecord) (store : RecoveryState) (later : State) : Type 0 where
+  pub record CoreComesTo (new : Core T V G H) (front : List ℕ) (before : List LogRecord) (store : RecoveryState) (later : State) : Type 0 where
     pub left : ℕ → List ℕ
     pub is_in : IsIn front left before new later
     pub works : List RecoveryEvent

@@ -7,13 +7,13 @@ use Rattle.shore_disk.specs.declared.device.Disk as disk
 use Rattle.shore_log.specs.declared.tail.Tail as tail
 use Rattle.shore_flush.specs.Flushes.{Flushes, NoneDue}
 use Rattle.shore_heap.specs.Heaps.{bounds_of, frame_at, pool_of}
-use Rattle.shore_lives.specs.Recovery.{AppendRecord, FlushPage, ForceLog, LosePower, RecoveryEvent, RecoveryState, RedoRecord}
-use Rattle.shore_calls.specs.StateChanges.{with_failure}
-use Rattle.shore_calls.specs.States.{State}
-use Rattle.shore_calls.specs.declared.step.Step.{Step}
-use Rattle.shore_calls.specs.declared.step.Step.TheVariants.{Done, Waits, Refused, Nothing}
+use Rattle.laws_lives.specs.Recovery.{AppendRecord, FlushPage, ForceLog, LosePower, RecoveryEvent, RecoveryState, RedoRecord}
+use Rattle.laws_calls.specs.StateChanges.{with_failure}
+use Rattle.laws_calls.specs.States.{State}
+use Rattle.shore_model.specs.declared.step.Step.{Step}
+use Rattle.shore_model.specs.declared.step.Step.TheVariants.{Done, Waits, Refused, Nothing}
 use Rattle.shore_core.specs.declared.core_calls.Core.{Core}
-use Rattle.shore_core.specs.Cores.{ComesTo, durable_of, has_failed, heap_of}
+use Rattle.shore_core.specs.Cores.{CoreComesTo, durable_of, has_failed, heap_of}
 
 -- the state is what it was, but that a failure of the volume is noted; once a device has failed the step is refused
 abbrev pub FlushMoves : State → Step → State → Type 0
@@ -41,7 +41,7 @@ module _ {T V : Type 0} {G : tail.Ghosts T} {H : disk.Ghosts V} where
   pub record FlushSteps (step : Step) (new : Core T V G H) (front : List ℕ) (before : List LogRecord) (s : State) (store : RecoveryState) : Type 0 where
     pub later : State
     pub moves : FlushMoves s step later
-    pub comes : ComesTo new front before store later
+    pub comes : CoreComesTo new front before store later
     pub flushes : AreFlushes comes.works
 
   -- Pages with durable numbers were written, the first of the volume that are due, and are clean now: the answer counts them. Or none is due, and

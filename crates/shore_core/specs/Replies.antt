@@ -1,14 +1,15 @@
 -- What a call comes to behind the refusals that stand before every call.
-use Rattle.std.specs.Prelude.{◌≡◌, ◌≢◌, ◌⊎◌, ℕ, List, None, Result, Ok, Err, IfErr, true, false}
+use Rattle.std.specs.Prelude.{◌≡◌, ◌≢◌, ◌⊎◌, ℕ, List, None, Result, Ok, Err, IfErr, IfOk, true, false}
+use Rattle.shore_disk.specs.Cause.{HasCause}
 use Rattle.shore_disk.specs.declared.device.Disk as disk
 use Rattle.shore_log.specs.declared.tail.Tail as tail
 use Rattle.shore_dwrite.specs.Volumes.{HasNoPage, page_number, page_offset}
-use Rattle.shore_pool.specs.Pools.{Holds}
+use Rattle.shore_pool.specs.Pools.{PoolHolds}
 use Rattle.shore_heap.specs.Heaps as heaps
 use Rattle.shore_heap.specs.Heaps.{LeavesPages, pool_of}
 use Rattle.shore_disk.specs.Device.{LeavesOnly, size}
 use Rattle.shore_pool.specs.Pools as pools
-use Rattle.shore_lives.specs.Recovery.{RecoveryState}
+use Rattle.laws_lives.specs.Recovery.{RecoveryState}
 use Rattle.shore_types.specs.Layout.{HasPage}
 use Rattle.shore_types.specs.declared.faults.Device.{Device}
 use Rattle.shore_types.specs.declared.faults.Device.TheVariants.{Volume}
@@ -20,29 +21,29 @@ use Rattle.shore_types.specs.declared.layout.Geometry.{Geometry}
 use Rattle.shore_model.specs.declared.calls.Call.{Call}
 use Rattle.shore_model.specs.declared.calls.Call.TheVariants as call
 use Rattle.shore_model.specs.declared.log_records.LogRecord.{LogRecord}
-use Rattle.shore_calls.specs.declared.step.Step.{Step}
-use Rattle.shore_calls.specs.declared.step.Step.TheVariants.{Done, Waits, Refused, Nothing}
-use Rattle.shore_lives.specs.Sessions.{SessionTxn}
-use Rattle.shore_calls.specs.StateChanges.{CanLog, MayChange, after_refusal}
-use Rattle.shore_calls.specs.CallSteps.{AnswersBehind, HasPlace, MayAsk, RefusesBehind, RefusesEarly, CallStep, behind_place}
-use Rattle.shore_calls.specs.Settling.{GoesSettled, SettledCall, SettledResume}
+use Rattle.shore_model.specs.declared.step.Step.{Step}
+use Rattle.shore_model.specs.declared.step.Step.TheVariants.{Done, Waits, Refused, Nothing}
+use Rattle.laws_lives.specs.Sessions.{SessionTxn}
+use Rattle.laws_calls.specs.StateChanges.{CanLog, MayChange, after_refusal}
+use Rattle.laws_calls.specs.CallSteps.{AnswersBehind, HasPlace, MayAsk, RefusesBehind, RefusesEarly, CallStep, behind_place}
+use Rattle.laws_calls.specs.Settling.{GoesSettled, SettledCall, SettledResume}
 use Rattle.shore_types.specs.Images.{Image}
 use Rattle.shore_types.specs.declared.ids.Rid.{Rid}
-use Rattle.shore_room.specs.Claims.{SlotCounts}
-use Rattle.shore_control.specs.Standing.{changed}
+use Rattle.laws_room.specs.Claims.{SlotCounts}
+use Rattle.shore_sessions.specs.Standing.{changed}
 use Rattle.shore_txn.specs.Transactions.{HasNoTxnOf, undos_in}
-use Rattle.shore_control.specs.declared.waits.WaitingCall.{WaitingCall}
-use Rattle.shore_lives.specs.Views.{IsAmong}
-use Rattle.shore_calls.specs.States.{IsOfSession, State}
+use Rattle.shore_sessions.specs.declared.waits.WaitingCall.{WaitingCall}
+use Rattle.laws_lives.specs.Views.{IsAmong}
+use Rattle.laws_calls.specs.States.{IsOfSession, State}
 use Rattle.shore_types.specs.declared.locking.Granule.TheVariants.{Record}
 use Rattle.shore_types.specs.declared.locking.Mode.TheVariants.{EX}
 use Rattle.shore_model.specs.declared.requests.Request.{Request}
-use Rattle.shore_held.specs.CallLocks.{CanLockNow}
+use Rattle.laws_locks.specs.CallLocks.{CanLockNow}
 use Rattle.shore_path.specs.Acquires.{IsReached}
 use Rattle.shore_path.specs.declared.answers.Acquired.{Acquired}
 use Rattle.shore_path.specs.declared.answers.Acquired.TheVariants as acquire
 use Rattle.shore_core.specs.declared.core_calls.Core.{Core}
-use Rattle.shore_core.specs.Cores.{ComesTo, FailsOver, IsBeside, IsIn, IsOver, IsSafe, durable_of, first_of, geometry_of, has_failed, heap_of, history_of, last_of, control_of, tail_of, txns_of, waits_of}
+use Rattle.shore_core.specs.Cores.{CoreComesTo, FailsOver, IsBeside, IsIn, IsOver, IsSafe, durable_of, faults_of, first_of, geometry_of, has_failed, heap_of, history_of, last_of, control_of, tail_of, txns_of, waits_of}
 
 -- ---- faults of the volume
 
@@ -82,6 +83,13 @@ Reads call.InDoubt page = ⊥
 abbrev pub acquire_as : Result (Unit {0}) Fault → Result Acquired Fault
 acquire_as (Ok done) = Ok acquire.Done
 acquire_as (Err f) = Err f
+
+-- the fault of a step, if it is one
+abbrev pub fault_at : Step → Result (Unit {0}) Fault
+fault_at (Refused f) = Err f
+fault_at (Done answer) = Ok tt
+fault_at (Waits wait) = Ok tt
+fault_at Nothing = Ok tt
 
 -- what a call came to as a step, while its refusal is a fault
 abbrev pub as_step : Result Step Fault → Step
@@ -155,13 +163,13 @@ module _ {T V : Type 0} {G : tail.Ghosts T} {H : disk.Ghosts V} where
 
   -- What the volume may be left as at any moment of a call: each page as it was, or as it was in place with a durable number.
   abbrev pub MayLeave : Core T V G H → Core T V G H → Type 0
-  MayLeave old new = (front : List ℕ) (disk : ℕ → List ℕ) → Holds (pool_of (heap_of old)) front disk
+  MayLeave old new = (front : List ℕ) (disk : ℕ → List ℕ) → PoolHolds (pool_of (heap_of old)) front disk
       → LeavesOnly (history_of old) (history_of new) (LeavesPages (heap_of old) (durable_of old) front disk)
 
   -- it is in the state that it was in; but after a failure of the volume nothing is said of its pages
   abbrev pub Stays : {A : Type 0} → Core T V G H → Result A Fault → List ℕ → List LogRecord → State → RecoveryState → Type 0
-  Stays new (Ok done) front before s store = ComesTo new front before store s
-  Stays new (Err f) front before s store = ((f ≡ fault.Device) × IsBeside before new s × FailsOver new front s store) ⊎ ComesTo new front before store s
+  Stays new (Ok done) front before s store = CoreComesTo new front before store s
+  Stays new (Err f) front before s store = ((f ≡ fault.Device) × IsBeside before new s × FailsOver new front s store) ⊎ CoreComesTo new front before store s
 
   -- In whatever safe state the core was, it has come to another, which is a step of the manager over plain data once a failure is noted.
   pub record Replied (session : ℕ) (c : Call) (result : Result Step Fault) (old new : Core T V G H) (front : List ℕ) (before : List LogRecord) (s : State) (store : RecoveryState) : Type 0 where
@@ -191,7 +199,7 @@ module _ {T V : Type 0} {G : tail.Ghosts T} {H : disk.Ghosts V} where
   pub record Stepped (session : ℕ) (c : Call) (step : Step) (old new : Core T V G H) (front : List ℕ) (before : List LogRecord) (s : State) (store : RecoveryState) : Type 0 where
     pub later : State
     pub moves : SettledCall (geometry_of old) s session c step later
-    pub comes : ComesTo new front before store later
+    pub comes : CoreComesTo new front before store later
     -- if a call fails the core, a crash leaves of its volume what the store may lose power with, though its log has grown
     pub fails : has_failed old ≡ false → later.failed ≡ true → FailsOver new front later store
 
@@ -199,7 +207,7 @@ module _ {T V : Type 0} {G : tail.Ghosts T} {H : disk.Ghosts V} where
   pub record Resumed (session : ℕ) (step : Step) (old new : Core T V G H) (front : List ℕ) (before : List LogRecord) (s : State) (store : RecoveryState) : Type 0 where
     pub later : State
     pub moves : SettledResume (geometry_of old) s session step later
-    pub comes : ComesTo new front before store later
+    pub comes : CoreComesTo new front before store later
 
   -- the pages that going on with the call of a session may read
   abbrev pub ReadsWaiting : Core T V G H → ℕ → PageId → Type 0
@@ -207,12 +215,12 @@ module _ {T V : Type 0} {G : tail.Ghosts T} {H : disk.Ghosts V} where
 
   -- over a volume that holds whatever texts of its pages, an answer by `Damaged` is earned by one of these pages
   abbrev pub Earns : {A : Type 0} → Core T V G H → (PageId → Type 0) → Result A Fault → Type 0
-  Earns core IsRead r = (front : List ℕ) (disk : ℕ → List ℕ) → Holds (pool_of (heap_of core)) front disk → IfErr r (IsEarned (geometry_of core) disk (last_of core) IsRead)
+  Earns core IsRead r = (front : List ℕ) (disk : ℕ → List ℕ) → PoolHolds (pool_of (heap_of core)) front disk → IfErr r (IsEarned (geometry_of core) disk (last_of core) IsRead)
 
   -- .. and one by `NeedForce` by the pages in all frames, as this core has them: none is clean, and each has a number that is not durable. One has this
   -- number.
   abbrev pub NeedsForceIn : {A : Type 0} → Core T V G H → Core T V G H → Result A Fault → Type 0
-  NeedsForceIn old at r = (front : List ℕ) (disk : ℕ → List ℕ) → Holds (pool_of (heap_of old)) front disk
+  NeedsForceIn old at r = (front : List ℕ) (disk : ℕ → List ℕ) → PoolHolds (pool_of (heap_of old)) front disk
       → IfErr r (λ f. (number : ℕ) → f ≡ fault.NeedForce number → pools.NeedsForce (pool_of (heap_of at)) (durable_of at) number)
 
   -- .. as the call found them
@@ -238,6 +246,30 @@ module _ {T V : Type 0} {G : tail.Ghosts T} {H : disk.Ghosts V} where
   forced_at (call.Resolve global outcome) old new = old
   forced_at call.InDoubt old new = old
 
+  -- What stands beside each answer of a call that may read these pages: what no call changes is kept, at any moment each page of the volume is as it was or as it
+  -- was in place with a durable number, `Damaged` names one of the pages, `NeedForce` comes if no page may leave its frame, as this core has them, and
+  -- `Device` if the volume has failed.
+  pub record Serves {A : Type 0} (IsRead : PageId → Type 0) (at : Core T V G H) (result : Result A Fault) (old new : Core T V G H) : Type 0 where
+    pub volume : SameVolume old new
+    pub durable : durable_of new ≡ durable_of old
+    pub first : first_of new ≡ first_of old
+    pub any_moment : MayLeave old new
+    pub damaged : Earns old IsRead result
+    pub forced : NeedsForceIn old at result
+    pub cause : HasCause result (faults_of old) (faults_of new)
+
+  -- .. of a call whose refusal is a fault, which its caller notes if it is a failure: no answer is a refusal
+  pub record ServesCall (IsRead : PageId → Type 0) (at : Core T V G H) (result : Result Step Fault) (old new : Core T V G H) : Type 0 where
+    pub beside : Serves IsRead at result old new
+    pub failed : has_failed new ≡ has_failed old
+    pub plain : IfOk result (λ step. fault_at step ≡ Ok tt)
+
+  -- a call that makes no call of the volume's device
+  pub record MakesNoCall (old new : Core T V G H) : Type 0 where
+    pub keeps : Keeps old new
+    pub history : history_of new ≡ history_of old
+    pub faults : faults_of new ≡ faults_of old
+
   -- in each safe state, over each store that is its
   abbrev pub InEach : ((front : List ℕ) (disk : ℕ → List ℕ) (before : List LogRecord) (s : State) (store : RecoveryState) → Type 0) → Core T V G H → Type 0
   InEach P old = (front : List ℕ) (disk : ℕ → List ℕ) (before : List LogRecord) (s : State) (store : RecoveryState)
@@ -247,12 +279,5 @@ module _ {T V : Type 0} {G : tail.Ghosts T} {H : disk.Ghosts V} where
 -- log, or an allocation failed, and the state is as it was.
 abbrev pub Changes : {T V : Type 0} {G : tail.Ghosts T} {H : disk.Ghosts V} → Core T V G H → SessionTxn → Rid → Image → Result (Unit {0}) Fault
     → List ℕ → List LogRecord → State → RecoveryState → Type 0
-Changes new a id image (Ok done) front before s store = (counts : SlotCounts) × MayChange s id image counts × ComesTo new front before store (changed s a id image counts)
-Changes new a id image (Err f) front before s store = ((f ≡ Memory) ⊎ ((f ≡ LogFull) × ¬ CanLog s id image)) × ComesTo new front before store s
-
--- the fault of a step, if it is one
-abbrev pub fault_at : Step → Result (Unit {0}) Fault
-fault_at (Refused f) = Err f
-fault_at (Done answer) = Ok tt
-fault_at (Waits wait) = Ok tt
-fault_at Nothing = Ok tt
+Changes new a id image (Ok done) front before s store = (counts : SlotCounts) × MayChange s id image counts × CoreComesTo new front before store (changed s a id image counts)
+Changes new a id image (Err f) front before s store = ((f ≡ Memory) ⊎ ((f ≡ LogFull) × ¬ CanLog s id image)) × CoreComesTo new front before store s

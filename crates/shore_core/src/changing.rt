@@ -1,29 +1,28 @@
 //! Calls that change records, which have their locks.
-ghost use Rattle.std.specs.Prelude.{◌≡◌, ◌⊎◌, ◌≤◌, IfErr, IfOk, IsSomeAnd, IsTrue, Ok, is_some, false, length};
+ghost use Rattle.std.specs.Prelude.{◌≡◌, ◌⊎◌, ◌≤◌, IfErr, IsSomeAnd, IsTrue, Ok, is_some, false, length};
 ghost use Rattle.shore_types.specs.Layout.{HasSlot};
 ghost use Rattle.shore_types.specs.declared.faults.Fault.TheVariants as Fault;
 ghost use Rattle.shore_types.specs.declared.layout.TheConstants.{MAX_RECORD_BYTES};
 ghost use Rattle.shore_model.specs.declared.calls.Call.TheVariants as Call;
-ghost use Rattle.shore_disk.specs.Cause.{HasCause};
 ghost use Rattle.shore_page.specs.Room.{Fits};
-ghost use Rattle.shore_page.specs.Slots.{image_at_slot, image_len};
+ghost use Rattle.shore_page.specs.Slots.{image_at_slot};
+ghost use Rattle.shore_types.specs.Images.{image_len};
 ghost use Rattle.shore_heap.specs.Heaps.{frame_of};
 ghost use Rattle.shore_txn.specs.Transactions.{HasTxnOf};
 
 use crate::core_calls::Core;
-use crate::images::{bytes_of, copy_of, len_of};
-use shore_calls::Step;
 use shore_disk::Disk;
 use shore_log::Tail;
 use shore_logrec::{LogRecord, Payload, change_cost, compensation_cost};
-use shore_model::Answer;
+use shore_model::{Answer, Step};
 use shore_txn::UndoEntry;
+use shore_types::images::{bytes_of, copy_of, len_of};
 use shore_types::{Bytes, Fault, Lsn, Rid, Sequence, SessionId};
 use std::alloc::Global;
 
 impl<T: Tail, V: Disk> Core<T, V> {
-    ghost use Rattle.shore_core.specs.Cores.{faults_of, geometry_of, has_failed, heap_of, history_of, locks_of, txns_of};
-    ghost use Rattle.shore_core.specs.Replies.{Changes, Earns, ForWriter, InEach, Keeps, MayLeave, NeedsForce, Served, fault_at};
+    ghost use Rattle.shore_core.specs.Cores.{geometry_of, has_failed, heap_of, locks_of, txns_of};
+    ghost use Rattle.shore_core.specs.Replies.{Changes, ForWriter, InEach, MakesNoCall, Served, ServesCall};
 
     pub(crate) fn update(
         &mut self,
@@ -36,12 +35,7 @@ impl<T: Tail, V: Disk> Core<T, V> {
         requires short { length bytes ≤ MAX_RECORD_BYTES }
         requires owner { HasTxnOf session (txns_of self.old) }
         ensures served { has_failed self.old ≡ false → InEach (λ front disk before s store. ForWriter session (locks_of self.old).requests id s (λ a. Served a (Call.Update id bytes) result self.old self.new front before s store)) self.old }
-        ensures keeps { Keeps self.old self.new }
-        ensures any_moment { MayLeave self.old self.new }
-        ensures forced { NeedsForce self.old result }
-        ensures damaged { Earns self.old (λ page. page ≡ id.page) result }
-        ensures plain { IfOk result (λ step. fault_at step ≡ Ok tt) }
-        ensures cause { HasCause result (faults_of self.old) (faults_of self.new) }
+        ensures serves { ServesCall (λ page. page ≡ id.page) self.old result self.old self.new }
     {
         let before = Some(self.find(alloc, id)?);
         if !self.heap.fits(id, bytes.as_slice().len()) {
@@ -60,12 +54,7 @@ impl<T: Tail, V: Disk> Core<T, V> {
         requires there { HasSlot (geometry_of self.old) id }
         requires owner { HasTxnOf session (txns_of self.old) }
         ensures served { has_failed self.old ≡ false → InEach (λ front disk before s store. ForWriter session (locks_of self.old).requests id s (λ a. Served a (Call.Delete id) result self.old self.new front before s store)) self.old }
-        ensures keeps { Keeps self.old self.new }
-        ensures any_moment { MayLeave self.old self.new }
-        ensures forced { NeedsForce self.old result }
-        ensures damaged { Earns self.old (λ page. page ≡ id.page) result }
-        ensures plain { IfOk result (λ step. fault_at step ≡ Ok tt) }
-        ensures cause { HasCause result (faults_of self.old) (faults_of self.new) }
+        ensures serves { ServesCall (λ page. page ≡ id.page) self.old result self.old self.new }
     {
         let before = Some(self.find(alloc, id)?);
         self.change(alloc, session, id, before, None)?;
@@ -88,9 +77,7 @@ impl<T: Tail, V: Disk> Core<T, V> {
         requires some { IsTrue (is_some before) ⊎ IsTrue (is_some after) }
         requires owner { HasTxnOf session (txns_of self.old) }
         ensures changed { has_failed self.old ≡ false → InEach (λ front disk before s store. ForWriter session (locks_of self.old).requests id s (λ a. Changes self.new a id after result front before s store)) self.old }
-        ensures history { history_of self.new ≡ history_of self.old }
-        ensures keeps { Keeps self.old self.new }
-        ensures faults { faults_of self.new ≡ faults_of self.old }
+        ensures no_call { MakesNoCall self.old self.new }
         ensures refused { IfErr result (λ f. (f ≡ Fault.Memory) ⊎ (f ≡ Fault.LogFull)) }
     {
         let (txn, previous) = match self.control.txn(session) {

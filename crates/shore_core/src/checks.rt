@@ -5,9 +5,9 @@ ghost use Rattle.shore_types.specs.Locking.{level_of};
 ghost use Rattle.shore_types.specs.declared.faults.Fault.TheVariants as Fault;
 ghost use Rattle.shore_types.specs.declared.locking.Granule.TheVariants as Granule;
 ghost use Rattle.shore_model.specs.Modes.{is_allowed};
-ghost use Rattle.shore_held.specs.CallLocks as held;
-ghost use Rattle.shore_calls.specs.CallSteps.{HasGranule, IsTooLong, MayAsk, RefusesEarly, RefusesGranule, RefusesId, RefusesLock, on_conflict_of};
-ghost use Rattle.shore_calls.specs.StateChanges.{IsShort};
+ghost use Rattle.laws_locks.specs.CallLocks as held;
+ghost use Rattle.laws_calls.specs.CallSteps.{HasGranule, IsTooLong, MayAsk, RefusesEarly, RefusesGranule, RefusesId, RefusesLock, on_conflict_of};
+ghost use Rattle.laws_calls.specs.StateChanges.{IsShort};
 ghost use Rattle.shore_core.specs.declared.checks.Asked.{Asked};
 
 use shore_model::Call;
@@ -25,7 +25,7 @@ pub(crate) struct Asked {
 
 /// What refuses a call before it asks for its locks.
 pub(crate) fn check(geometry: &Geometry, call: &Call) -> Result<(), Fault>
-    ensures may { IsSome (held.asked_by call.now) → OnOk result (MayAsk geometry.now call.now) }
+    ensures may { IsSome (held.lock_asked_by call.now) → OnOk result (MayAsk geometry.now call.now) }
     ensures refused { IfErr result (RefusesEarly geometry.now call.now) }
 {
     match call {
@@ -42,7 +42,15 @@ pub(crate) fn check(geometry: &Geometry, call: &Call) -> Result<(), Fault>
         Call::Lock(granule, mode) | Call::TryLock(granule, mode) => check_lock(
             geometry, granule, *mode,
         ),
-        _ => Ok(()),
+        // These ask for no lock.
+        Call::Begin
+        | Call::Savepoint
+        | Call::BackTo(_)
+        | Call::Commit
+        | Call::Abort
+        | Call::Prepare(_)
+        | Call::Resolve(..)
+        | Call::InDoubt => Ok(()),
     }
 }
 
@@ -114,7 +122,7 @@ fn check_granule(geometry: &Geometry, granule: &Granule) -> Result<(), Fault>
 
 /// The lock that a call asks for before it looks at a record.
 pub(crate) fn asked_by(call: &Call) -> Option<Asked>
-    ensures { option_map (λ (it : Asked). record { granule = it.granule; mode = it.mode }) result ≡ held.asked_by call.now }
+    ensures { option_map (λ (it : Asked). record { granule = it.granule; mode = it.mode }) result ≡ held.lock_asked_by call.now }
 {
     let (granule, mode) = match call {
         Call::Get(id) => (Granule::Record(*id), Mode::SH),
@@ -123,7 +131,14 @@ pub(crate) fn asked_by(call: &Call) -> Option<Asked>
         Call::Update(id, _) | Call::Delete(id) => (Granule::Record(*id), Mode::EX),
         Call::Scan(store) => (Granule::Store(*store), Mode::SH),
         Call::Lock(granule, mode) | Call::TryLock(granule, mode) => (*granule, *mode),
-        _ => return None,
+        Call::Begin
+        | Call::Savepoint
+        | Call::BackTo(_)
+        | Call::Commit
+        | Call::Abort
+        | Call::Prepare(_)
+        | Call::Resolve(..)
+        | Call::InDoubt => return None,
     };
     Some(Asked { granule, mode })
 }

@@ -1,28 +1,26 @@
 //! The calls of the sessions, and what the log device tells.
-ghost use Rattle.std.specs.Prelude.{◌≡◌, ◌⊎◌, ◌↔◌, ◌+◌, ◌≤◌, ◌<◌, ℕ, List, IfOk, IfErr, IsTrue, Ok, Err, false, length};
+ghost use Rattle.std.specs.Prelude.{◌≡◌, ◌⊎◌, ◌↔◌, ◌+◌, ◌≤◌, ◌<◌, ℕ, List, IsTrue, Ok, Err, false, length};
 ghost use Rattle.shore_types.specs.declared.faults.Fault.TheVariants as Fault;
 ghost use Rattle.shore_types.specs.declared.layout.TheConstants.{GREATEST_CHECKPOINT, LAST_LSN, LAST_OPENED, LONGEST_FRAME};
 ghost use Rattle.shore_model.specs.declared.calls.Call.TheVariants as Call;
 ghost use Rattle.shore_model.specs.declared.log_records.LogRecord.{LogRecord};
-ghost use Rattle.shore_disk.specs.Cause.{HasCause};
-ghost use Rattle.shore_lives.specs.Recovery.{RecoveryState, after_force};
-ghost use Rattle.shore_calls.specs.declared.step.Step.TheVariants as Step;
-ghost use Rattle.shore_calls.specs.StateChanges.{after_refusal, with_durable, with_failure};
-ghost use Rattle.shore_calls.specs.Events.{IsServed};
-ghost use Rattle.shore_calls.specs.States.{DoesNotWait, State};
-ghost use Rattle.shore_control.specs.Controls.{IsFree, txns_in};
+ghost use Rattle.laws_lives.specs.Recovery.{RecoveryState, after_force};
+ghost use Rattle.shore_model.specs.declared.step.Step.TheVariants as Step;
+ghost use Rattle.laws_calls.specs.StateChanges.{after_refusal, with_durable, with_failure};
+ghost use Rattle.shore_model.specs.Calls.{IsServed};
+ghost use Rattle.laws_calls.specs.States.{DoesNotWait, State};
+ghost use Rattle.shore_sessions.specs.Controls.{HasNoWait, txns_in};
 ghost use Rattle.shore_txn.specs.Transactions.{room_in};
 ghost use Rattle.shore_txn.specs.Transactions as table;
-ghost use Rattle.shore_undo.specs.Txns.{last_of};
-ghost use Rattle.shore_undo.specs.declared.txn.Txn.{Txn};
-ghost use Rattle.shore_lives.specs.Views.{IsAmong};
+ghost use Rattle.shore_txn.specs.Txns.{last_of};
+ghost use Rattle.shore_txn.specs.declared.txn.Txn.{Txn};
+ghost use Rattle.laws_lives.specs.Views.{IsAmong};
 
-use shore_calls::{Step, Wait};
-use shore_control::Control;
 use shore_disk::Disk;
 use shore_heap::Heap;
 use shore_log::Tail;
-use shore_model::{Answer, Call};
+use shore_model::{Answer, Call, Step, Wait};
+use shore_sessions::Control;
 use shore_types::layout::{ENDING_COST, LAST_LSN, LAST_TXN, MAX_TRANSACTIONS};
 use shore_types::{Fault, Geometry, Lsn, SessionId};
 use std::alloc::Global;
@@ -30,10 +28,15 @@ use std::alloc::Global;
 /// The pages of a volume, the transactions of the sessions with their locks, and the log buffer that the records of changes go to.
 #[derive(Drop)]
 pub struct Core<T: Tail, V: Disk> {
+    /// The pages of the volume, some of them in frames.
     pub(crate) heap: Heap<V>,
+    /// The log buffer: the records that were not handed over yet, and the number of the next one (`some_number`, `numbers`).
     pub(crate) tail: T,
+    /// The transactions, their locks and the calls that wait; no transaction has a record with a number to come (`earlier`).
     pub(crate) control: Control,
+    /// The number up to which the log was forced, as `told`: below the next one (`forced`).
     pub(crate) durable: Lsn,
+    /// Whether a device has failed or a page was damaged. Then every call is refused; `fail` and `note_failure` set it.
     pub(crate) failed: bool,
     ghost some_number: { 1 ≤ T.Tail.first tail + length (T.Tail.records tail) },
     ghost forced: { durable < T.Tail.first tail + length (T.Tail.records tail) },
@@ -43,9 +46,9 @@ pub struct Core<T: Tail, V: Disk> {
 }
 
 impl<T: Tail, V: Disk> Core<T, V> {
-    ghost use Rattle.shore_core.specs.Cores.{ComesTo, IsIn, IsOver, control_of, durable_of, faults_of, first_of, geometry_of, has_failed, heap_of, tail_of, txns_of, waiting_of};
+    ghost use Rattle.shore_core.specs.Cores.{CoreComesTo, IsIn, IsOver, control_of, durable_of, first_of, geometry_of, has_failed, heap_of, tail_of, txns_of, waiting_of};
     ghost use Rattle.shore_core.specs.Cores as cores;
-    ghost use Rattle.shore_core.specs.Replies.{Called, Earns, Fails, InEach, Keeps, MayLeave, NeedsForce, NeedsForceIn, Reads, ReadsWaiting, Replied, Resumed, SameVolume, Stays, Stepped, fault_at, forced_at};
+    ghost use Rattle.shore_core.specs.Replies.{Called, Fails, InEach, Reads, Replied, Serves, ServesCall, Stays, Stepped, fault_at, forced_at};
 
     /// A call of a session. Refused in this order: `Failed` after a failure of a device or a damaged page, `Busy` while the session's earlier
     /// call waits, `AlreadyActive` or `NoTransaction`, `MustAbort` if the transaction is a victim or its rollback was interrupted, as the call says before
@@ -60,21 +63,13 @@ impl<T: Tail, V: Disk> Core<T, V> {
         // It is a step of the manager over plain data, in whatever state it was, and work of the store beside it.
         ensures step { InEach (λ front disk before s store. Stepped session call result self.old self.new front before s store) self.old }
 
-        // At any moment a page of the volume is as it was, or as it was in place with a durable number.
-        ensures any_moment { MayLeave self.old self.new }
-
-        // `Damaged` names the page that could not be read, of those that the call may read.
-        ensures damaged { Earns self.old (Reads call) (fault_at result) }
-
-        // `NeedForce` comes only if no page may leave its frame: its number is one that is not durable. A rollback has changed pages before it asks.
-        ensures forced { NeedsForceIn self.old (forced_at call self.old self.new) (fault_at result) }
+        // At any moment a page of the volume is as it was, or as it was in place with a durable number. `Damaged` names the page that could not be read, of
+        // those that the call may read. `NeedForce` comes only if no page may leave its frame: its number is one that is not durable. A rollback has
+        // changed pages before it asks.
+        ensures serves { Serves (Reads call) (forced_at call self.old self.new) (fault_at result) self.old self.new }
 
         // After a failure no page is touched.
         ensures still { IsTrue (has_failed self.old) → heap_of self.new ≡ heap_of self.old }
-        ensures volume { SameVolume self.old self.new }
-        ensures durable { durable_of self.new ≡ durable_of self.old }
-        ensures first { first_of self.new ≡ first_of self.old }
-        ensures cause { HasCause (fault_at result) (faults_of self.old) (faults_of self.new) }
     {
         if self.failed {
             return Step::Refused(Fault::Failed);
@@ -82,7 +77,7 @@ impl<T: Tail, V: Disk> Core<T, V> {
         if self.control.waiting(session).is_some() {
             return Step::Refused(Fault::Busy);
         }
-        match self.answer(alloc, session, call) {
+        match self.dispatch(alloc, session, call) {
             Ok(step) => step,
             Err(fault) => self.refuse(fault),
         }
@@ -92,7 +87,7 @@ impl<T: Tail, V: Disk> Core<T, V> {
     pub(crate) fn refuse(&mut self, fault: Fault) -> Step
         ensures refused { result ≡ Step.Refused fault }
         ensures left { (front : List ℕ) (before : List LogRecord) (s : State) (store : RecoveryState)
-            → Stays {A = Unit {0}} self.old (Err fault) front before s store → ComesTo self.new front before store (after_refusal fault s) }
+            → Stays {A = Unit {0}} self.old (Err fault) front before s store → CoreComesTo self.new front before store (after_refusal fault s) }
         ensures heap { heap_of self.new ≡ heap_of self.old }
         ensures durable { durable_of self.new ≡ durable_of self.old }
         ensures tail { tail_of self.new ≡ tail_of self.old }
@@ -104,7 +99,7 @@ impl<T: Tail, V: Disk> Core<T, V> {
     /// After a failure of a device, or a damaged page, every call is refused.
     pub(crate) fn note_failure(&mut self, fault: &Fault)
         ensures left { (front : List ℕ) (before : List LogRecord) (s : State) (store : RecoveryState)
-            → Stays {A = Unit {0}} self.old (Err fault.now) front before s store → ComesTo self.new front before store (after_refusal fault.now s) }
+            → Stays {A = Unit {0}} self.old (Err fault.now) front before s store → CoreComesTo self.new front before store (after_refusal fault.now s) }
         ensures fails { IsTrue (has_failed self.new) ↔ (IsTrue (has_failed self.old) ⊎ Fails fault.now) }
         ensures heap { heap_of self.new ≡ heap_of self.old }
         ensures durable { durable_of self.new ≡ durable_of self.old }
@@ -116,16 +111,11 @@ impl<T: Tail, V: Disk> Core<T, V> {
         }
     }
 
-    fn answer(&mut self, alloc: Global, session: SessionId, call: Call) -> Result<Step, Fault>
+    fn dispatch(&mut self, alloc: Global, session: SessionId, call: Call) -> Result<Step, Fault>
         requires served { IsServed call }
-        requires free { IsFree session (control_of self.old) }
+        requires free { HasNoWait session (control_of self.old) }
         ensures replied { has_failed self.old ≡ false → InEach (λ front disk before s store. DoesNotWait s session → Called session call result self.old self.new front before s store) self.old }
-        ensures keeps { Keeps self.old self.new }
-        ensures any_moment { MayLeave self.old self.new }
-        ensures forced { NeedsForceIn self.old (forced_at call self.old self.new) result }
-        ensures damaged { Earns self.old (Reads call) result }
-        ensures plain { IfOk result (λ step. fault_at step ≡ Ok tt) }
-        ensures cause { HasCause result (faults_of self.old) (faults_of self.new) }
+        ensures serves { ServesCall (Reads call) (forced_at call self.old self.new) result self.old self.new }
     {
         match call {
             Call::Begin => self.begin(alloc, session),
@@ -133,7 +123,7 @@ impl<T: Tail, V: Disk> Core<T, V> {
             Call::Savepoint => self.savepoint(session),
             Call::BackTo(index) => self.back_to(alloc, session, index),
             Call::Abort => self.abort(alloc, session),
-            call => self.serve(alloc, session, call),
+            call => self.with_txn(alloc, session, call),
         }
     }
 
@@ -147,13 +137,8 @@ impl<T: Tail, V: Disk> Core<T, V> {
 
     fn begin(&mut self, alloc: Global, session: SessionId) -> Result<Step, Fault>
         ensures replied { has_failed self.old ≡ false → InEach (λ front disk before s store. DoesNotWait s session → Replied session Call.Begin result self.old self.new front before s store) self.old }
-        ensures keeps { Keeps self.old self.new }
-        ensures any_moment { MayLeave self.old self.new }
-        ensures forced { NeedsForce self.old result }
-        ensures damaged { Earns self.old (Reads Call.Begin) result }
-        ensures plain { IfOk result (λ step. fault_at step ≡ Ok tt) }
+        ensures serves { ServesCall (Reads Call.Begin) self.old result self.old self.new }
         ensures heap { heap_of self.new ≡ heap_of self.old }
-        ensures cause { HasCause result (faults_of self.old) (faults_of self.new) }
     {
         if self.control.has_txn(session) {
             return Err(Fault::AlreadyActive);

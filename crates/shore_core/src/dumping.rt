@@ -3,40 +3,34 @@ ghost use Rattle.std.specs.Prelude.{◌≡◌, ◌⊎◌, ◌↔◌, false, IfEr
 ghost use Rattle.shore_types.specs.Layout.{HasStore};
 ghost use Rattle.shore_types.specs.declared.faults.Fault.TheVariants as Fault;
 ghost use Rattle.shore_model.specs.Records.{scan_of};
-ghost use Rattle.shore_disk.specs.Cause.{HasCause};
-ghost use Rattle.shore_calls.specs.StateChanges.{IsPageFault, after_refusal};
+ghost use Rattle.laws_calls.specs.StateChanges.{IsPageFault, after_refusal};
 ghost use Rattle.shore_core.specs.Replies.{Fails};
 
 use crate::core_calls::Core;
 use shore_disk::Disk;
 use shore_log::Tail;
-use shore_types::{Fault, Lsn, Pairs, StoreId};
+use shore_types::{Fault, LogEnds, Lsn, Pairs, StoreId};
 use std::alloc::Global;
 
 impl<T: Tail, V: Disk> Core<T, V> {
-    ghost use Rattle.shore_core.specs.Cores.{ComesTo, durable_of, faults_of, geometry_of, has_failed, heap_of, control_of, tail_of};
-    ghost use Rattle.shore_core.specs.Replies.{Earns, InEach, MayLeave, NeedsForce, OnlyReads, SameVolume, Stays};
+    ghost use Rattle.shore_core.specs.Cores.{CoreComesTo, geometry_of, has_failed, heap_of, control_of, tail_of};
+    ghost use Rattle.shore_core.specs.Replies.{InEach, OnlyReads, Serves, Stays};
 
     /// The records in place of a store, decided or not, in place order; no transaction is asked for. `Failed` if a device has failed, or a page was
     /// damaged; `NoStore`; and as its pages have to be read: `Device` and `Damaged`, after which every call is refused, `Memory`, and `NeedForce(n)` if
     /// a page needs a frame that is free once the log is forced up to number n.
     pub fn dump(&mut self, alloc: Global, store: StoreId) -> Result<Pairs, Fault>
         ensures shown { InEach (λ front disk before s plain. IfOk result (λ pairs. pairs ≡ scan_of store s.sessions.records)) self.old }
-        ensures left { InEach (λ front disk before s plain. MatchResult result (λ _. ComesTo self.new front before plain s) (λ f. ComesTo self.new front before plain (after_refusal f s))) self.old }
-        ensures any_moment { MayLeave self.old self.new }
+        ensures left { InEach (λ front disk before s plain. MatchResult result (λ _. CoreComesTo self.new front before plain s) (λ f. CoreComesTo self.new front before plain (after_refusal f s))) self.old }
+        ensures serves { Serves (λ page. page.store ≡ store) self.old result self.old self.new }
         ensures failed { IsTrue (has_failed self.old) → IfErr result (λ f. f ≡ Fault.Failed) }
         ensures still { IsTrue (has_failed self.old) → heap_of self.new ≡ heap_of self.old }
         ensures fails { IsTrue (has_failed self.new) ↔ (IsTrue (has_failed self.old) ⊎ IsErrAnd result Fails) }
-        ensures damaged { Earns self.old (λ page. page.store ≡ store) result }
-        ensures forced { NeedsForce self.old result }
-        ensures volume { SameVolume self.old self.new }
         ensures served { IfOk result (λ _. HasStore (geometry_of self.old) store) }
         ensures refused { InEach (λ front disk before s plain. IfErr result (λ f. (IsTrue (has_failed self.old) × (f ≡ Fault.Failed))
             ⊎ ((f ≡ Fault.NoStore) × ¬ HasStore (geometry_of self.old) store) ⊎ (f ≡ Fault.Memory) ⊎ IsPageFault s f)) self.old }
-        ensures durable { durable_of self.new ≡ durable_of self.old }
         ensures tail { tail_of self.new ≡ tail_of self.old }
         ensures control { control_of self.new ≡ control_of self.old }
-        ensures cause { HasCause result (faults_of self.old) (faults_of self.new) }
     {
         if self.failed {
             return Err(Fault::Failed);
@@ -57,14 +51,14 @@ impl<T: Tail, V: Disk> Core<T, V> {
         ensures pairs { has_failed self.old ≡ false → InEach (λ front disk before s plain. IfOk result (λ pairs. pairs ≡ scan_of store s.sessions.records)) self.old }
         ensures refused { has_failed self.old ≡ false → InEach (λ front disk before s plain. IfErr result (λ f. (f ≡ Fault.Memory) ⊎ IsPageFault s f)) self.old }
         ensures stays { InEach (λ front disk before s plain. Stays self.new result front before s plain) self.old }
-        ensures any_moment { MayLeave self.old self.new }
-        ensures forced { NeedsForce self.old result }
-        ensures damaged { Earns self.old (λ page. page.store ≡ store) result }
+        ensures serves { Serves (λ page. page.store ≡ store) self.old result self.old self.new }
         ensures reads { OnlyReads self.old self.new }
-        ensures cause { HasCause result (faults_of self.old) (faults_of self.new) }
     {
         let last = Lsn(self.tail.next().0 - 1);
-        self.heap
-            .scan(alloc, store, self.control.txns(), last, self.durable)
+        let ends = LogEnds {
+            last,
+            durable: self.durable,
+        };
+        self.heap.scan(alloc, store, self.control.txns(), &ends)
     }
 }

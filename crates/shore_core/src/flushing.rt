@@ -1,23 +1,21 @@
 //! The flush: dirty pages go back to the volume between the calls of sessions.
 ghost use Rattle.std.specs.Prelude.{◌≡◌, ◌⊎◌, ◌↔◌, ℕ, List, IsErrAnd, IsTrue, MatchResult};
 ghost use Rattle.shore_types.specs.declared.faults.Fault.TheVariants as Fault;
-ghost use Rattle.shore_disk.specs.Cause.{HasCause};
-ghost use Rattle.shore_pool.specs.Pools.{Holds};
+ghost use Rattle.shore_pool.specs.Pools.{PoolHolds};
 ghost use Rattle.shore_heap.specs.Heaps.{WroteBack, pool_of};
-ghost use Rattle.shore_calls.specs.declared.step.Step.TheVariants as Step;
+ghost use Rattle.shore_model.specs.declared.step.Step.TheVariants as Step;
 
 use crate::core_calls::Core;
-use shore_calls::Step;
 use shore_disk::Disk;
 use shore_log::Tail;
-use shore_model::Answer;
+use shore_model::{Answer, Step};
 use shore_types::Fault;
 use std::alloc::Global;
 
 impl<T: Tail, V: Disk> Core<T, V> {
-    ghost use Rattle.shore_core.specs.Cores.{durable_of, faults_of, first_of, has_failed, heap_of, tail_of, control_of};
+    ghost use Rattle.shore_core.specs.Cores.{durable_of, has_failed, heap_of, tail_of, control_of};
     ghost use Rattle.shore_core.specs.Flushing.{FlushAnswers, FlushSteps};
-    ghost use Rattle.shore_core.specs.Replies.{InEach, MayLeave, SameVolume, fault_at};
+    ghost use Rattle.shore_core.specs.Replies.{InEach, Serves, fault_at};
 
     /// A step of the flush: writes a batch of dirty pages with durable numbers back, the first of the volume, and answers how many. `Nothing` if no
     /// page is due: then nothing has changed. `Failed` after a failure of a device or a damaged page. `Memory` if an allocation failed: no frame has
@@ -29,22 +27,18 @@ impl<T: Tail, V: Disk> Core<T, V> {
         ensures failed { IsTrue (has_failed self.old) → result ≡ Step.Refused Fault.Failed }
 
         // What is clean is on the volume; so what was counted is, as long as the volume has not failed.
-        ensures written { (front : List ℕ) (disk : ℕ → List ℕ) → Holds (pool_of (heap_of self.old)) front disk
+        ensures written { (front : List ℕ) (disk : ℕ → List ℕ) → PoolHolds (pool_of (heap_of self.old)) front disk
             → MatchResult (fault_at result) (λ _. WroteBack (heap_of self.old) (heap_of self.new) (durable_of self.old) front disk)
             (λ f. (f ≡ Fault.Device) ⊎ WroteBack (heap_of self.old) (heap_of self.new) (durable_of self.old) front disk) }
 
-        // At any moment a page of the volume is as it was, or as it was in place with a durable number.
-        ensures any_moment { MayLeave self.old self.new }
+        // At any moment a page of the volume is as it was, or as it was in place with a durable number. No page is read, and no force is asked for.
+        ensures serves { Serves (λ page. ⊥) self.old (fault_at result) self.old self.new }
 
         // After a failure no page is touched.
         ensures still { IsTrue (has_failed self.old) → heap_of self.new ≡ heap_of self.old }
         ensures fails { IsTrue (has_failed self.new) ↔ (IsTrue (has_failed self.old) ⊎ IsErrAnd (fault_at result) (λ f. f ≡ Fault.Device)) }
-        ensures volume { SameVolume self.old self.new }
-        ensures durable { durable_of self.new ≡ durable_of self.old }
-        ensures first { first_of self.new ≡ first_of self.old }
         ensures tail { tail_of self.new ≡ tail_of self.old }
         ensures control { control_of self.new ≡ control_of self.old }
-        ensures cause { HasCause (fault_at result) (faults_of self.old) (faults_of self.new) }
     {
         if self.failed {
             return Step::Refused(Fault::Failed);

@@ -1,8 +1,8 @@
 //! A volume that is made to fail.
 ghost use Rattle.std.specs.Prelude.{◌≡◌, ℕ, List};
 ghost use Rattle.shore_heap.specs.Heaps.{KeepsVolume};
-ghost use Rattle.shore_calls.specs.States.{State};
-ghost use Rattle.shore_lives.specs.Recovery.{RecoveryState};
+ghost use Rattle.laws_calls.specs.States.{State};
+ghost use Rattle.laws_lives.specs.Recovery.{RecoveryState};
 ghost use Rattle.shore_model.specs.declared.log_records.LogRecord.{LogRecord};
 
 use crate::core_calls::Core;

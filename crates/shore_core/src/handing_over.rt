@@ -3,8 +3,8 @@ ghost use Rattle.std.specs.Prelude.{◌≡◌, ◌+◌, ◌++◌, [], ℕ, List,
 ghost use Rattle.shore_types.specs.declared.faults.Fault.TheVariants as Fault;
 ghost use Rattle.shore_log.specs.Settled.{IsSettled, records_of_log, stable};
 ghost use Rattle.shore_heap.specs.Heaps as heaps;
-ghost use Rattle.shore_calls.specs.States.{State};
-ghost use Rattle.shore_lives.specs.Recovery.{RecoveryState};
+ghost use Rattle.laws_calls.specs.States.{State};
+ghost use Rattle.laws_lives.specs.Recovery.{RecoveryState};
 
 use crate::core_calls::Core;
 use shore_disk::Disk;

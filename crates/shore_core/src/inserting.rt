@@ -3,13 +3,12 @@ ghost use Rattle.std.specs.Prelude.{◌≡◌, ◌⊎◌, ◌≤◌, IfErr, IfOk
 ghost use Rattle.shore_types.specs.Layout.{HasSlot, HasStore};
 ghost use Rattle.shore_types.specs.declared.faults.Fault.TheVariants as Fault;
 ghost use Rattle.shore_model.specs.declared.calls.Call.TheVariants as Call;
-ghost use Rattle.shore_disk.specs.Cause.{HasCause};
 ghost use Rattle.shore_heap.specs.Heaps.{frame_of};
-ghost use Rattle.shore_heap.specs.Places.{HasNoPlace, IsFree, IsPlace};
-ghost use Rattle.shore_calls.specs.StateChanges.{IsPageFault};
-ghost use Rattle.shore_calls.specs.CallSteps.{with_requests};
-ghost use Rattle.shore_calls.specs.States.{State, page_slots};
-ghost use Rattle.shore_control.specs.Standing.{HasControl};
+ghost use Rattle.shore_heap.specs.Places.{HasNoPlace, IsFreeSlot, IsPlace};
+ghost use Rattle.laws_calls.specs.StateChanges.{IsPageFault};
+ghost use Rattle.laws_calls.specs.CallSteps.{with_requests};
+ghost use Rattle.laws_calls.specs.States.{State, page_slots};
+ghost use Rattle.shore_sessions.specs.Standing.{HasControl};
 ghost use Rattle.shore_locks.specs.Tables.{is_waiting};
 ghost use Rattle.shore_path.specs.Intending.{IntendsToWrite};
 ghost use Rattle.shore_path.specs.Walks.{acquired};
@@ -22,17 +21,16 @@ ghost use Rattle.shore_types.specs.declared.locking.Mode.TheVariants as Mode;
 
 use crate::core_calls::Core;
 use crate::lockable::Lockable;
-use shore_calls::Step;
 use shore_disk::Disk;
 use shore_log::Tail;
-use shore_model::Answer;
+use shore_model::{Answer, Step};
 use shore_path::intends_to_write;
-use shore_types::{Bytes, Fault, Lsn, PageId, Rid, Sequence, SessionId, StoreId, TxnId};
+use shore_types::{Bytes, Fault, LogEnds, Lsn, PageId, Rid, Sequence, SessionId, StoreId, TxnId};
 use std::alloc::Global;
 
 impl<T: Tail, V: Disk> Core<T, V> {
-    ghost use Rattle.shore_core.specs.Cores.{control_of, faults_of, geometry_of, has_failed, heap_of, locks_of, txns_of};
-    ghost use Rattle.shore_core.specs.Replies.{Earns, ForTxn, InEach, Keeps, MayLeave, NeedsForce, OnlyLocks, OnlyReads, Served, Stays, fault_at};
+    ghost use Rattle.shore_core.specs.Cores.{control_of, geometry_of, has_failed, heap_of, locks_of, txns_of};
+    ghost use Rattle.shore_core.specs.Replies.{ForTxn, InEach, OnlyLocks, OnlyReads, Served, Serves, ServesCall, Stays};
 
     // The lowest place that can be locked now is chosen, and then locked.
     pub(crate) fn insert(
@@ -48,12 +46,7 @@ impl<T: Tail, V: Disk> Core<T, V> {
         requires quiet { is_waiting txn (locks_of self.old).requests ≡ false }
         requires owner { HasTxnOf session (txns_of self.old) }
         ensures served { has_failed self.old ≡ false → InEach (λ front disk before s plain. ForTxn session txn s (λ a. Served a (Call.Insert store bytes) result self.old self.new front before s plain)) self.old }
-        ensures keeps { Keeps self.old self.new }
-        ensures any_moment { MayLeave self.old self.new }
-        ensures forced { NeedsForce self.old result }
-        ensures damaged { Earns self.old (λ page. page.store ≡ store) result }
-        ensures plain { IfOk result (λ step. fault_at step ≡ Ok tt) }
-        ensures cause { HasCause result (faults_of self.old) (faults_of self.new) }
+        ensures serves { ServesCall (λ page. page.store ≡ store) self.old result self.old self.new }
     {
         // Mostly the volume and the store are held with the intention to write, and are not looked at again.
         let intends = intends_to_write(self.control.locks(), txn, store);
@@ -95,16 +88,13 @@ impl<T: Tail, V: Disk> Core<T, V> {
         requires intends { IsTrue intends → IntendsToWrite (locks_of self.old).requests txn store }
         ensures there { IfOk result (HasSlot (geometry_of self.old)) }
         ensures of_store { IfOk result (λ id. id.page.store ≡ store) }
-        ensures framed { IfOk result (λ id. IsSomeAnd (frame_of (heap_of self.new) id.page) (λ f. IsFree f.page.slots len id.slot)) }
+        ensures framed { IfOk result (λ id. IsSomeAnd (frame_of (heap_of self.new) id.page) (λ f. IsFreeSlot f.page.slots len id.slot)) }
         ensures found { has_failed self.old ≡ false → InEach (λ front disk before s plain. MatchResult result (IsPlace (geometry_of self.old) (page_slots s) store len (can_lock (locks_of self.old).requests txn))
             (λ f. ((f ≡ Fault.StoreFull) × HasNoPlace (geometry_of self.old) (page_slots s) store len (can_lock (locks_of self.old).requests txn)) ⊎ (f ≡ Fault.Memory) ⊎ IsPageFault s f)) self.old }
         ensures lockable { IfOk result (can_lock (locks_of self.old).requests txn) }
-        ensures damaged { Earns self.old (λ page. page.store ≡ store) result }
+        ensures serves { Serves (λ page. page.store ≡ store) self.old result self.old self.new }
         ensures stays { InEach (λ front disk before s plain. Stays self.new result front before s plain) self.old }
-        ensures any_moment { MayLeave self.old self.new }
-        ensures forced { NeedsForce self.old result }
         ensures reads { OnlyReads self.old self.new }
-        ensures cause { HasCause result (faults_of self.old) (faults_of self.new) }
     {
         let last = Lsn(self.tail.next().0 - 1);
         let places = Lockable {
@@ -113,15 +103,13 @@ impl<T: Tail, V: Disk> Core<T, V> {
             store,
             intends,
         };
-        let place = self.heap.place_for(
-            alloc,
-            store,
-            len,
-            &places,
-            self.control.txns(),
+        let ends = LogEnds {
             last,
-            self.durable,
-        )?;
+            durable: self.durable,
+        };
+        let place = self
+            .heap
+            .place_for(alloc, store, len, &places, self.control.txns(), &ends)?;
         match place {
             Some(id) => Ok(id),
             None => Err(Fault::StoreFull),

@@ -10,7 +10,6 @@ mod dumping;
 mod flushing;
 mod fusing;
 mod handing_over;
-mod images;
 mod inserting;
 mod lockable;
 mod locking;
@@ -21,5 +20,4 @@ mod resuming;
 mod rolling_back;
 
 pub use core_calls::Core;
-pub use shore_calls::{Step, Wait};
-pub use shore_model::{Answer, Call};
+pub use shore_model::{Answer, Call, Step, Wait};

@@ -15,10 +15,13 @@ use shore_types::{Granule, Mode, PageId, Rid, StoreId, TxnId};
 /// The places that a transaction could lock now.
 #[derive(Drop)]
 pub(crate) struct Lockable<'a> {
+    /// The lock table, as it is.
     pub(crate) locks: &'a LockTable,
+    /// The transaction that is to lock a place.
     pub(crate) txn: TxnId,
-    // The store that is searched, and whether the transaction is known to intend to write its records.
+    /// The store that is searched.
     pub(crate) store: StoreId,
+    /// Whether the transaction is known to intend to write its records (`intended`).
     pub(crate) intends: bool,
     ghost intended: { IsTrue intends → IntendsToWrite locks.now.requests txn store },
 }
@@ -29,6 +32,7 @@ impl<'a> Places for Lockable<'a> {
     ghost MayUse = { λ l page. CanLockNow l.locks.now.requests l.txn (Page page) IX };
 
     fn may_use(&self, page: &PageId) -> bool {
+        // This does nothing: it brings the fact that who can lock a record now could lock its page in IX now.
         records_need_their_page();
         if self.intends && page.store == self.store {
             return may_lock_in_store(self.locks, self.txn, page);

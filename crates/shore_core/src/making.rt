@@ -1,20 +1,20 @@
 //! Makes a core of what a restart has left.
 ghost use Rattle.std.specs.Prelude.{◌≡◌, ◌+◌, ◌≤◌, [], ℕ, List, false, length};
 ghost use Rattle.shore_types.specs.declared.layout.TheConstants.{LAST_OPENED};
-ghost use Rattle.shore_calls.specs.States.{State, page_slots};
+ghost use Rattle.laws_calls.specs.States.{State, page_slots};
 ghost use Rattle.shore_heap.specs.Contents.{unclaimed};
 ghost use Rattle.shore_heap.specs.Heaps.{Shows};
-ghost use Rattle.shore_control.specs.Controls.{txns_in};
-ghost use Rattle.shore_control.specs.Standing.{HasControl};
+ghost use Rattle.shore_sessions.specs.Controls.{txns_in};
+ghost use Rattle.shore_sessions.specs.Standing.{HasControl};
 ghost use Rattle.shore_txn.specs.Transactions as table;
-ghost use Rattle.shore_stands.specs.LoggedHeaps.{IsStoreOf};
-ghost use Rattle.shore_lives.specs.Recovery.{RecoveryState};
+ghost use Rattle.laws_images.specs.LoggedHeaps.{IsStoreOf};
+ghost use Rattle.laws_lives.specs.Recovery.{RecoveryState};
 
 use crate::core_calls::Core;
-use shore_control::Control;
 use shore_disk::Disk;
 use shore_heap::Heap;
 use shore_log::PlainTail;
+use shore_sessions::Control;
 use shore_types::Lsn;
 use std::alloc::Global;
 

@@ -5,38 +5,31 @@ ghost use Rattle.shore_types.specs.Layout.{HasPage, HasSlot, HasStore};
 ghost use Rattle.shore_types.specs.declared.faults.Fault.TheVariants as Fault;
 ghost use Rattle.shore_types.specs.declared.layout.TheConstants.{MAX_RECORD_BYTES};
 ghost use Rattle.shore_model.specs.declared.calls.Call.TheVariants as Call;
-ghost use Rattle.shore_disk.specs.Cause.{HasCause};
 ghost use Rattle.shore_page.specs.Slots.{image_at_slot};
 ghost use Rattle.shore_heap.specs.Heaps.{frame_of};
-ghost use Rattle.shore_lives.specs.Sessions.{SessionTxn};
-ghost use Rattle.shore_lives.specs.Views.{IsAmong};
-ghost use Rattle.shore_calls.specs.CallSteps.{RefusesRead};
-ghost use Rattle.shore_calls.specs.StateChanges.{IsPageFault};
+ghost use Rattle.laws_lives.specs.Sessions.{SessionTxn};
+ghost use Rattle.laws_lives.specs.Views.{IsAmong};
+ghost use Rattle.laws_calls.specs.CallSteps.{RefusesRead};
+ghost use Rattle.laws_calls.specs.StateChanges.{IsPageFault};
 
 use crate::core_calls::Core;
-use crate::images::copied;
-use shore_calls::Step;
 use shore_disk::Disk;
 use shore_log::Tail;
-use shore_model::Answer;
-use shore_types::{Bytes, Fault, Lsn, PageId, Rid, StoreId};
+use shore_model::{Answer, Step};
+use shore_types::images::copied;
+use shore_types::{Bytes, Fault, LogEnds, Lsn, PageId, Rid, StoreId};
 use std::alloc::Global;
 
 impl<T: Tail, V: Disk> Core<T, V> {
-    ghost use Rattle.shore_core.specs.Cores.{faults_of, geometry_of, has_failed, heap_of};
-    ghost use Rattle.shore_core.specs.Replies.{Earns, InEach, Keeps, MayLeave, NeedsForce, NeedsForceIn, OnlyReads, Served, Stays, fault_at};
+    ghost use Rattle.shore_core.specs.Cores.{geometry_of, has_failed, heap_of};
+    ghost use Rattle.shore_core.specs.Replies.{InEach, NeedsForceIn, OnlyReads, Served, Serves, ServesCall, Stays};
     ghost use Rattle.shore_core.specs.Undoing.{WritesBack};
 
     pub(crate) fn get(&mut self, alloc: Global, id: Rid) -> Result<Step, Fault>
         requires { HasSlot (geometry_of self.old) id }
         ensures served { has_failed self.old ≡ false → InEach (λ front disk before s store. (a : SessionTxn) → IsAmong a s.sessions.active
             → Served a (Call.Get id) result self.old self.new front before s store × Served a (Call.GetForUpdate id) result self.old self.new front before s store) self.old }
-        ensures keeps { Keeps self.old self.new }
-        ensures any_moment { MayLeave self.old self.new }
-        ensures forced { NeedsForce self.old result }
-        ensures damaged { Earns self.old (λ page. page ≡ id.page) result }
-        ensures plain { IfOk result (λ step. fault_at step ≡ Ok tt) }
-        ensures cause { HasCause result (faults_of self.old) (faults_of self.new) }
+        ensures serves { ServesCall (λ page. page ≡ id.page) self.old result self.old self.new }
     {
         let bytes = self.find(alloc, id)?;
         Ok(Step::Done(Answer::Got(bytes)))
@@ -49,12 +42,9 @@ impl<T: Tail, V: Disk> Core<T, V> {
         ensures short { IfOk result (λ bytes. length bytes ≤ MAX_RECORD_BYTES) }
         ensures found { has_failed self.old ≡ false → InEach (λ front disk before s store. IfOk result (λ bytes. get s.sessions.records id ≡ Some bytes)) self.old }
         ensures refused { has_failed self.old ≡ false → InEach (λ front disk before s store. IfErr result (λ f. (f ≡ Fault.Memory) ⊎ RefusesRead s id f)) self.old }
-        ensures damaged { Earns self.old (λ page. page ≡ id.page) result }
+        ensures serves { Serves (λ page. page ≡ id.page) self.old result self.old self.new }
         ensures stays { InEach (λ front disk before s store. Stays self.new result front before s store) self.old }
-        ensures any_moment { MayLeave self.old self.new }
-        ensures forced { NeedsForce self.old result }
         ensures reads { OnlyReads self.old self.new }
-        ensures cause { HasCause result (faults_of self.old) (faults_of self.new) }
     {
         self.fetch(alloc, id.page)?;
         match self.heap.record(id) {
@@ -67,29 +57,24 @@ impl<T: Tail, V: Disk> Core<T, V> {
         requires { HasPage (geometry_of self.old) page }
         ensures there { OnOk result (IsTrue (is_some (frame_of (heap_of self.new) page))) }
         ensures refused { has_failed self.old ≡ false → InEach (λ front disk before s store. IfErr result (λ f. (f ≡ Fault.Memory) ⊎ IsPageFault s f)) self.old }
-        ensures damaged { Earns self.old (λ id. id ≡ page) result }
+        ensures serves { Serves (λ id. id ≡ page) self.old result self.old self.new }
         ensures stays { InEach (λ front disk before s store. Stays self.new result front before s store) self.old }
-        ensures any_moment { MayLeave self.old self.new }
-        ensures forced { NeedsForce self.old result }
         ensures forced_now { NeedsForceIn self.old self.new result }
         ensures wrote { OnOk result (WritesBack self.old self.new) }
         ensures reads { OnlyReads self.old self.new }
-        ensures cause { HasCause result (faults_of self.old) (faults_of self.new) }
     {
         let last = Lsn(self.tail.next().0 - 1);
-        self.heap
-            .fetch(alloc, page, self.control.txns(), last, self.durable)
+        let ends = LogEnds {
+            last,
+            durable: self.durable,
+        };
+        self.heap.fetch(alloc, page, self.control.txns(), &ends)
     }
 
     pub(crate) fn scan(&mut self, alloc: Global, store: StoreId) -> Result<Step, Fault>
         requires { HasStore (geometry_of self.old) store }
         ensures served { has_failed self.old ≡ false → InEach (λ front disk before s plain. (a : SessionTxn) → IsAmong a s.sessions.active → Served a (Call.Scan store) result self.old self.new front before s plain) self.old }
-        ensures keeps { Keeps self.old self.new }
-        ensures any_moment { MayLeave self.old self.new }
-        ensures forced { NeedsForce self.old result }
-        ensures damaged { Earns self.old (λ page. page.store ≡ store) result }
-        ensures plain { IfOk result (λ step. fault_at step ≡ Ok tt) }
-        ensures cause { HasCause result (faults_of self.old) (faults_of self.new) }
+        ensures serves { ServesCall (λ page. page.store ≡ store) self.old result self.old self.new }
     {
         let pairs = self.pairs_of(alloc, store)?;
         Ok(Step::Done(Answer::Scanned(pairs)))

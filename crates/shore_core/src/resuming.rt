@@ -1,22 +1,20 @@
 //! Going on with calls that wait.
 ghost use Rattle.std.specs.Prelude.{◌≡◌, ◌≤◌, ◌<◌, IsFalse, IsTrue, Ok, false};
-ghost use Rattle.shore_disk.specs.Cause.{HasCause};
-ghost use Rattle.shore_lives.specs.Views.{IsAmong};
-ghost use Rattle.shore_calls.specs.declared.step.Wait.TheVariants as Wait;
-ghost use Rattle.shore_calls.specs.States.{Waiting};
+ghost use Rattle.laws_lives.specs.Views.{IsAmong};
+ghost use Rattle.shore_model.specs.declared.step.Wait.TheVariants as Wait;
+ghost use Rattle.laws_calls.specs.States.{Waiting};
 
 use crate::core_calls::Core;
-use shore_calls::{Step, Wait};
-use shore_control::WaitingCall;
 use shore_disk::Disk;
 use shore_log::Tail;
-use shore_model::Answer;
+use shore_model::{Answer, Step, Wait};
+use shore_sessions::WaitingCall;
 use shore_types::{Fault, Granule, Lsn, SessionId, TxnId};
 use std::alloc::Global;
 
 impl<T: Tail, V: Disk> Core<T, V> {
-    ghost use Rattle.shore_core.specs.Cores.{durable_of, faults_of, first_of, has_failed, heap_of};
-    ghost use Rattle.shore_core.specs.Replies.{Earns, ForTxn, InEach, MayLeave, NeedsForce, ReadsWaiting, Resumed, SameVolume, fault_at};
+    ghost use Rattle.shore_core.specs.Cores.{has_failed, heap_of};
+    ghost use Rattle.shore_core.specs.Replies.{ForTxn, InEach, MakesNoCall, ReadsWaiting, Resumed, Serves, fault_at};
 
     /// Goes on with the session's call that waits. A commit is answered once its record is durable; a call that waits for a lock goes on once its
     /// transaction waits no more, and may then be refused as any call, or wait for another granule of its path. Once a device has failed it is
@@ -24,14 +22,8 @@ impl<T: Tail, V: Disk> Core<T, V> {
     pub fn resume(&mut self, alloc: Global, session: SessionId) -> Step
         // A commit is answered only if the force of its record was told.
         ensures step { InEach (λ front disk before s store. Resumed session result self.old self.new front before s store) self.old }
-        ensures any_moment { MayLeave self.old self.new }
-        ensures damaged { Earns self.old (ReadsWaiting self.old session) (fault_at result) }
-        ensures forced { NeedsForce self.old (fault_at result) }
+        ensures serves { Serves (ReadsWaiting self.old session) self.old (fault_at result) self.old self.new }
         ensures still { IsTrue (has_failed self.old) → heap_of self.new ≡ heap_of self.old }
-        ensures volume { SameVolume self.old self.new }
-        ensures durable { durable_of self.new ≡ durable_of self.old }
-        ensures first { first_of self.new ≡ first_of self.old }
-        ensures cause { HasCause (fault_at result) (faults_of self.old) (faults_of self.new) }
     {
         let Some(waiting) = self.control.waiting(session) else {
             return Step::Nothing;
@@ -52,9 +44,8 @@ impl<T: Tail, V: Disk> Core<T, V> {
         ensures step { has_failed self.old ≡ false → InEach (λ front disk before s store. (w : Waiting) → IsAmong w s.waiting → w.session ≡ session → w.wait ≡ Wait.Durable number
             → Resumed session result self.old self.new front before s store) self.old }
         ensures plain { fault_at result ≡ Ok tt }
+        ensures no_call { MakesNoCall self.old self.new }
         ensures heap { heap_of self.new ≡ heap_of self.old }
-        ensures durable { durable_of self.new ≡ durable_of self.old }
-        ensures first { first_of self.new ≡ first_of self.old }
     {
         if awaits_force(number, self.durable) {
             return Step::Waits(Wait::Durable(number));
@@ -74,13 +65,7 @@ impl<T: Tail, V: Disk> Core<T, V> {
     ) -> Step
         ensures step { has_failed self.old ≡ false → InEach (λ front disk before s store. (w : Waiting) → IsAmong w s.waiting → w.session ≡ session → w.wait ≡ Wait.Lock granule
             → ForTxn session txn s (λ a. Resumed session result self.old self.new front before s store)) self.old }
-        ensures any_moment { MayLeave self.old self.new }
-        ensures damaged { Earns self.old (ReadsWaiting self.old session) (fault_at result) }
-        ensures forced { NeedsForce self.old (fault_at result) }
-        ensures volume { SameVolume self.old self.new }
-        ensures durable { durable_of self.new ≡ durable_of self.old }
-        ensures first { first_of self.new ≡ first_of self.old }
-        ensures cause { HasCause (fault_at result) (faults_of self.old) (faults_of self.new) }
+        ensures serves { Serves (ReadsWaiting self.old session) self.old (fault_at result) self.old self.new }
     {
         if self.control.is_waiting(txn) || !self.control.has_txn(session) {
             return Step::Waits(Wait::Lock(granule));
@@ -92,7 +77,7 @@ impl<T: Tail, V: Disk> Core<T, V> {
         if let Some(cycle) = cycle {
             return Step::Refused(Fault::Deadlock { cycle });
         }
-        match self.ask(alloc, session, txn, call) {
+        match self.take_locks(alloc, session, txn, call) {
             Ok(step) => step,
             Err(fault) => self.refuse(fault),
         }

@@ -1,55 +1,55 @@
 //! Savepoints and rollbacks.
-ghost use Rattle.std.specs.Prelude.{◌≡◌, ◌≢◌, ◌⊎◌, ◌↔◌, ◌≤◌, ◌++◌, ◌∷◌, [], ℕ, None, Some, List, IfErr, IfOk, IfSome, IfNone, IsSomeAnd, IsTrue, OnOk, Ok, false, is_some, length};
-ghost use Rattle.shore_types.specs.Images.{Image};
+ghost use Rattle.std.specs.Prelude.{◌≡◌, ◌⊎◌, ◌↔◌, ◌≤◌, ◌++◌, ◌∷◌, [], None, Some, List, IfErr, IfOk, IfSome, IfNone, IsSomeAnd, IsTrue, OnOk, Ok, false, is_some, length};
+ghost use Rattle.shore_types.specs.Images.{Image, image_len};
 ghost use Rattle.shore_types.specs.Layout.{HasPage};
 ghost use Rattle.shore_types.specs.declared.faults.Fault.TheVariants as Fault;
 ghost use Rattle.shore_types.specs.declared.ids.Rid.{Rid};
 ghost use Rattle.shore_model.specs.declared.calls.Call.TheVariants as Call;
 ghost use Rattle.shore_model.specs.declared.log_records.LogRecord.{LogRecord};
-ghost use Rattle.shore_disk.specs.Cause.{HasCause};
 ghost use Rattle.shore_page.specs.Room.{Fits};
-ghost use Rattle.shore_page.specs.Slots.{image_len};
 ghost use Rattle.shore_heap.specs.Heaps.{frame_of};
-ghost use Rattle.shore_lives.specs.Sessions.{SessionTxn};
-ghost use Rattle.shore_lives.specs.UndoLists.{MayRoll, least_kept};
-ghost use Rattle.shore_lives.specs.declared.rollbacks.Rollback.TheVariants as Rollback;
-ghost use Rattle.shore_calls.specs.Rollbacks.{Interrupts};
-ghost use Rattle.shore_calls.specs.States.{DoesNotWait, IsOfSession, State};
-ghost use Rattle.shore_control.specs.Controls.{IsFree};
-ghost use Rattle.shore_control.specs.Standing.{HasControl};
-ghost use Rattle.shore_lives.specs.Views.{IsAmong};
+ghost use Rattle.laws_lives.specs.Sessions.{SessionTxn};
+ghost use Rattle.laws_lives.specs.UndoLists.{MayRoll, least_kept};
+ghost use Rattle.shore_model.specs.declared.rollbacks.Rollback.TheVariants as Rollback;
+ghost use Rattle.laws_calls.specs.Rollbacks.{Interrupts};
+ghost use Rattle.laws_calls.specs.States.{DoesNotWait, IsOfSession, State};
+ghost use Rattle.shore_sessions.specs.Controls.{HasNoWait};
+ghost use Rattle.shore_sessions.specs.Standing.{HasControl};
+ghost use Rattle.laws_lives.specs.Views.{IsAmong};
 ghost use Rattle.shore_txn.specs.Transactions.{HasTxnOf, undos_in};
 ghost use Rattle.shore_txn.specs.Transactions as table;
-ghost use Rattle.shore_undo.specs.Txns.{as_session_txn, entries_of, rolling_of};
-ghost use Rattle.shore_undo.specs.declared.txn.Txn.{Txn};
-ghost use Rattle.shore_undo.specs.declared.undo.UndoEntry.{UndoEntry};
+ghost use Rattle.shore_txn.specs.Txns.{as_session_txn, entries_of, rolling_of};
+ghost use Rattle.shore_txn.specs.declared.txn.Txn.{Txn};
+ghost use Rattle.shore_txn.specs.declared.undo.UndoEntry.{UndoEntry};
 ghost use Rattle.shore_core.specs.Undoing.{IsNext};
 
 use crate::core_calls::Core;
-use crate::images::{bytes_of, copy_of, len_of};
-use shore_calls::Step;
 use shore_disk::Disk;
-use shore_lives::Rollback;
 use shore_log::Tail;
 use shore_logrec::{LogRecord, Payload, compensation_cost};
-use shore_model::Answer;
+use shore_model::{Answer, Rollback, Step};
 use shore_txn::{Txn, TxnState};
+use shore_types::images::{bytes_of, copy_of, len_of};
 use shore_types::layout::MAX_SAVEPOINTS;
-use shore_types::{Fault, Lsn, PageId, Rid, SessionId};
+use shore_types::{Fault, Lsn, Rid, SessionId};
 use std::alloc::Global;
 
-/// The newest change of a transaction, as it is put back.
+/// The newest change of a transaction, as it is put back: what `undo_of` reads of it, while it is in the undo list.
 #[derive(Drop)]
 struct Undo {
+    /// The record that it changed.
     id: Rid,
+    /// The length of the image before it, 0 for none.
     bytes: usize,
+    /// What its Compensation costs, which is reserved for it.
     cost: u64,
+    /// Its Compensation, with a copy of that image.
     logged: LogRecord,
 }
 
 impl<T: Tail, V: Disk> Core<T, V> {
-    ghost use Rattle.shore_core.specs.Cores.{control_of, faults_of, geometry_of, has_failed, heap_of, history_of, last_of, txns_of, waits_of};
-    ghost use Rattle.shore_core.specs.Replies.{Earns, InEach, IsNotOpen, Keeps, MayLeave, NeedsForce, NeedsForceIn, OnlyReads, Reads, Replied, Stays, fault_at};
+    ghost use Rattle.shore_core.specs.Cores.{control_of, geometry_of, has_failed, heap_of, last_of, txns_of, waits_of};
+    ghost use Rattle.shore_core.specs.Replies.{InEach, IsNotOpen, MakesNoCall, OnlyReads, Reads, Replied, Serves, ServesCall, Stays};
     ghost use Rattle.shore_core.specs.Undoing.{Ends, PutsBack, Rewinds, Unwinds, WritesBack};
 
     // The session's transaction, if it may do more than end a rollback.
@@ -71,12 +71,7 @@ impl<T: Tail, V: Disk> Core<T, V> {
 
     pub(crate) fn savepoint(&mut self, session: SessionId) -> Result<Step, Fault>
         ensures replied { has_failed self.old ≡ false → InEach (λ front disk before s store. DoesNotWait s session → Replied session Call.Savepoint result self.old self.new front before s store) self.old }
-        ensures keeps { Keeps self.old self.new }
-        ensures any_moment { MayLeave self.old self.new }
-        ensures forced { NeedsForce self.old result }
-        ensures damaged { Earns self.old (Reads Call.Savepoint) result }
-        ensures plain { IfOk result (λ step. fault_at step ≡ Ok tt) }
-        ensures cause { HasCause result (faults_of self.old) (faults_of self.new) }
+        ensures serves { ServesCall (Reads Call.Savepoint) self.old result self.old self.new }
         ensures heap { heap_of self.new ≡ heap_of self.old }
     {
         let own = self.active(session)?;
@@ -93,14 +88,9 @@ impl<T: Tail, V: Disk> Core<T, V> {
         session: SessionId,
         index: usize,
     ) -> Result<Step, Fault>
-        requires { IsFree session (control_of self.old) }
+        requires { HasNoWait session (control_of self.old) }
         ensures replied { has_failed self.old ≡ false → InEach (λ front disk before s store. DoesNotWait s session → Replied session (Call.BackTo index) result self.old self.new front before s store) self.old }
-        ensures keeps { Keeps self.old self.new }
-        ensures any_moment { MayLeave self.old self.new }
-        ensures forced { NeedsForceIn self.old self.new result }
-        ensures damaged { Earns self.old (Reads (Call.BackTo index)) result }
-        ensures plain { IfOk result (λ step. fault_at step ≡ Ok tt) }
-        ensures cause { HasCause result (faults_of self.old) (faults_of self.new) }
+        ensures serves { ServesCall (Reads (Call.BackTo index)) self.new result self.old self.new }
     {
         let Some(own) = self.control.txn(session) else {
             return Err(Fault::NoTransaction);
@@ -117,14 +107,9 @@ impl<T: Tail, V: Disk> Core<T, V> {
     }
 
     pub(crate) fn abort(&mut self, alloc: Global, session: SessionId) -> Result<Step, Fault>
-        requires { IsFree session (control_of self.old) }
+        requires { HasNoWait session (control_of self.old) }
         ensures replied { has_failed self.old ≡ false → InEach (λ front disk before s store. DoesNotWait s session → Replied session (Call.Abort) result self.old self.new front before s store) self.old }
-        ensures keeps { Keeps self.old self.new }
-        ensures any_moment { MayLeave self.old self.new }
-        ensures forced { NeedsForceIn self.old self.new result }
-        ensures damaged { Earns self.old (Reads (Call.Abort)) result }
-        ensures plain { IfOk result (λ step. fault_at step ≡ Ok tt) }
-        ensures cause { HasCause result (faults_of self.old) (faults_of self.new) }
+        ensures serves { ServesCall (Reads Call.Abort) self.new result self.old self.new }
     {
         if !self.control.has_txn(session) {
             return Err(Fault::NoTransaction);
@@ -147,11 +132,8 @@ impl<T: Tail, V: Disk> Core<T, V> {
             → least ≡ least_kept a.undo rollback → least ≤ length a.undo.images → Unwinds self.new a rollback least result front before s store) self.old }
         ensures there { HasTxnOf session (txns_of self.old) → HasTxnOf session (txns_of self.new) }
         ensures waits { waits_of self.new ≡ waits_of self.old }
-        ensures keeps { Keeps self.old self.new }
-        ensures any_moment { MayLeave self.old self.new }
-        ensures forced { NeedsForceIn self.old self.new result }
-        ensures damaged { Earns self.old (Reads Call.Abort) result }
-        ensures cause { HasCause result (faults_of self.old) (faults_of self.new) }
+        ensures serves { Serves (Reads Call.Abort) self.new result self.old self.new }
+        ensures failed { has_failed self.new ≡ has_failed self.old }
     {
         let count = match self.control.txn(session) {
             Some(own) => own.undo().len(),
@@ -163,7 +145,8 @@ impl<T: Tail, V: Disk> Core<T, V> {
         Ok(())
     }
 
-    // Puts the newest change of a session's transaction back. Its page is fetched while the image is still in the undo list, so that it comes with the claim.
+    // Puts the newest change of a session's transaction back. Its page is fetched while the image is still in the undo list, so that it comes with the
+    // claim: only `log_undo` takes the image out.
     fn put_back_newest(
         &mut self,
         alloc: Global,
@@ -176,97 +159,51 @@ impl<T: Tail, V: Disk> Core<T, V> {
         ensures longer { last_of self.old ≤ last_of self.new }
         ensures there { HasTxnOf session (txns_of self.old) → HasTxnOf session (txns_of self.new) }
         ensures waits { waits_of self.new ≡ waits_of self.old }
-        ensures keeps { Keeps self.old self.new }
-        ensures any_moment { MayLeave self.old self.new }
-        ensures forced { NeedsForceIn self.old self.new result }
-        ensures damaged { Earns self.old (Reads Call.Abort) result }
-        ensures cause { HasCause result (faults_of self.old) (faults_of self.new) }
+        ensures serves { Serves (Reads Call.Abort) self.new result self.old self.new }
+        ensures failed { has_failed self.new ≡ has_failed self.old }
     {
-        let Some(place) = self.newest_place(session) else {
-            return Ok(());
-        };
-        let (id, bytes) = place;
-        let Rid { page, slot } = id;
-        let PageId { store, page } = page;
-        let id = PageId { store, page };
-        self.reach(alloc, Rid { page: id, slot })?;
-        // What the slot claims is enough for what it held, so this is never so.
-        let id = PageId { store, page };
-        if !self.heap.fits(Rid { page: id, slot }, bytes) {
-            return Err(Fault::StoreFull);
-        }
         let Some(undo) = self.undo_of(alloc, session)? else {
             return Ok(());
         };
-        let Undo {
-            id,
-            bytes,
-            cost,
-            logged,
-        } = undo;
-        self.log_undo(session, rollback, id, bytes, cost, logged)
-    }
-
-    // Where the newest change of a session's transaction is, and how long its image is.
-    fn newest_place(&self, session: SessionId) -> Option<(Rid, usize)>
-        ensures some { IfSome result (λ p. (t : Txn) × (kept : List UndoEntry) × (e : UndoEntry) × IsAmong t (table.txns_in (txns_of self.now)) × (t.session ≡ session)
-            × (entries_of t ≡ kept ++ e ∷ []) × (p.0 ≡ e.id) × (p.1 ≡ image_len e.before)) }
-        ensures none { IfNone result ((a : SessionTxn) → IsAmong a (undos_in (txns_of self.now)) → a.session ≡ session → a.undo.images ≡ []) }
-    {
-        match self.control.txn(session) {
-            Some(own) => match own.newest() {
-                Some(newest) => Some((newest.id, newest.image_len())),
-                None => None,
-            },
-            None => None,
+        self.reach(alloc, undo.id)?;
+        // What the slot claims is enough for what it held, so this is never so.
+        if !self.heap.fits(undo.id, undo.bytes) {
+            return Err(Fault::StoreFull);
         }
+        self.log_undo(session, rollback, undo)
     }
 
     // Fetches the page of an id, if it is there.
     fn reach(&mut self, alloc: Global, id: Rid) -> Result<(), Fault>
         ensures there { OnOk result (HasPage (geometry_of self.old) id.page × IsTrue (is_some (frame_of (heap_of self.new) id.page))) }
         ensures refused { has_failed self.old ≡ false → InEach (λ front disk before s store. IfErr result (λ f. Interrupts s f ⊎ (HasPage (geometry_of self.old) id.page → ⊥))) self.old }
-        ensures damaged { Earns self.old (λ page. page ≡ id.page) result }
+        ensures serves { Serves (λ page. page ≡ id.page) self.new result self.old self.new }
         ensures stays { InEach (λ front disk before s store. Stays self.new result front before s store) self.old }
-        ensures any_moment { MayLeave self.old self.new }
-        ensures forced { NeedsForceIn self.old self.new result }
         ensures wrote { OnOk result (WritesBack self.old self.new) }
         ensures reads { OnlyReads self.old self.new }
-        ensures cause { HasCause result (faults_of self.old) (faults_of self.new) }
     {
-        let Rid { page, .. } = id;
-        let PageId { store, page } = page;
-        if !self.heap.geometry().has_page(PageId { store, page }) {
+        if !self.heap.geometry().has_page(id.page) {
             return Err(Fault::NoPage);
         }
-        self.fetch(alloc, PageId { store, page })
+        self.fetch(alloc, id.page)
     }
 
     // Logs the Compensation of the newest change of the session's transaction, and makes it on its page, which is in a frame and has room. All memory was
     // taken before, and behind the record nothing can fail.
-    fn log_undo(
-        &mut self,
-        session: SessionId,
-        rollback: Rollback,
-        id: Rid,
-        bytes: usize,
-        cost: u64,
-        logged: LogRecord,
-    ) -> Result<(), Fault>
-        requires next { IsNext (txns_of self.old) session id bytes cost logged }
-        requires there { HasPage (geometry_of self.old) id.page }
-        requires fits { IsSomeAnd (frame_of (heap_of self.old) id.page) (λ f. Fits f.page.slots id.slot bytes) }
+    fn log_undo(&mut self, session: SessionId, rollback: Rollback, undo: Undo) -> Result<(), Fault>
+        requires next { IsNext (txns_of self.old) session undo.id undo.bytes undo.cost undo.logged }
+        requires there { HasPage (geometry_of self.old) undo.id.page }
+        requires fits { IsSomeAnd (frame_of (heap_of self.old) undo.id.page) (λ f. Fits f.page.slots undo.id.slot undo.bytes) }
         ensures put_back { has_failed self.old ≡ false → InEach (λ front disk before s store. (a : SessionTxn) (kept : List (Rid × Image)) (e : Rid × Image) → IsOfSession s session a
             → a.undo.images ≡ kept ++ e ∷ [] → PutsBack self.new a kept e rollback result front before s store) self.old }
         ensures rewinds { OnOk result (Rewinds self.old self.new) }
         ensures longer { last_of self.old ≤ last_of self.new }
         ensures there { HasTxnOf session (txns_of self.old) → HasTxnOf session (txns_of self.new) }
         ensures waits { waits_of self.new ≡ waits_of self.old }
-        ensures history { history_of self.new ≡ history_of self.old }
-        ensures keeps { Keeps self.old self.new }
-        ensures faults { faults_of self.new ≡ faults_of self.old }
+        ensures no_call { MakesNoCall self.old self.new }
         ensures refused { IfErr result (λ f. f ≡ Fault.Memory) }
     {
+        let Undo { cost, logged, .. } = undo;
         let lsn = match self.tail.push(logged) {
             Ok(lsn) => lsn,
             Err((fault, _)) => return Err(fault),
@@ -309,12 +246,12 @@ impl<T: Tail, V: Disk> Core<T, V> {
     // Logs the End of a session's transaction, if it has logged anything, and ends it. Its room was reserved at the begin, and goes with it. All its changes
     // are put back by then; one that has any left is not ended.
     fn end(&mut self, session: SessionId) -> Result<(), Fault>
-        requires { IsFree session (control_of self.old) }
+        requires { HasNoWait session (control_of self.old) }
         ensures ended { has_failed self.old ≡ false → InEach (λ front disk before s store. (a : SessionTxn) → IsOfSession s session a → a.undo.images ≡ []
             → Ends self.new a result front before s store) self.old }
         ensures refused { IfErr result (λ f. (f ≡ Fault.NoTransaction) ⊎ (f ≡ Fault.MustAbort) ⊎ (f ≡ Fault.Memory)) }
+        ensures no_call { MakesNoCall self.old self.new }
         ensures heap { heap_of self.new ≡ heap_of self.old }
-        ensures keeps { Keeps self.old self.new }
     {
         let Some(own) = self.control.txn(session) else {
             return Err(Fault::NoTransaction);

@@ -11,7 +11,9 @@ const BUCKETS: usize = 256;
 /// A marked transaction, and the number of the one before it in its bucket: its index and 1, or 0 for none.
 #[derive(Clone, Copy)]
 pub(crate) struct Mark {
+    // The transaction that is marked.
     txn: TxnId,
+    // One above the index of the mark before it in its bucket, 0 if it is the first.
     earlier: usize,
 }
 
@@ -19,7 +21,9 @@ pub(crate) struct Mark {
 /// buckets of their own, so that a look reads one mark, as long as 256 are active at most.
 #[derive(Drop)]
 pub(crate) struct Marks {
+    // All marks, in the order in which they were set.
     marks: Vec<Mark>,
+    // For each bucket one above the index of its last mark, 0 if it has none: `add` keeps it so.
     newest: Vec<usize>,
 }
 

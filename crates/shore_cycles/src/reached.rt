@@ -13,14 +13,18 @@ use std::marker::Model;
 /// reached from nowhere.
 #[derive(Clone, Copy)]
 pub(crate) struct Step {
+    // The transaction that was reached.
     txn: TxnId,
+    // The index of the step that reached it.
     parent: usize,
 }
 
 /// What a search has reached, in its order. Those that it need not reach are marked: they are reached, or victims.
 #[derive(Drop)]
 pub(crate) struct Trail {
+    // The transactions that were reached, in the order of the search (a queue that is never shortened).
     steps: Vec<Step>,
+    // Those that the search need not reach: the transactions of `steps`, and the victims.
     marks: Marks,
 }
 

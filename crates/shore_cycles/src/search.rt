@@ -37,8 +37,11 @@ pub fn find_cycle(
 /// those that it waits for, and on from each of them.
 #[derive(Drop)]
 pub(crate) struct Search {
+    // The transaction that each cycle has to pass.
     txn: TxnId,
+    // The victims so far, whose waits no longer count.
     victims: Vec<Victim>,
+    // What this search has reached; it begins anew after each victim.
     trail: Trail,
     // The first of the trail from which the search has not gone on yet.
     index: usize,
@@ -71,6 +74,7 @@ impl Search {
             × AreNoVictims self.old.victims.items cycle.items × (self.new.index < length self.new.trail.steps))) }
         ensures none { IfOk result (λ found. IfNone found (IsOnNoCycleWithout self.old.victims.items table.now.requests self.old.txn)) }
     {
+        // For the proof: the requests of any table are orderly. Nothing runs.
         tables_are_orderly(table);
         let mut blockers = Vec::new(alloc);
         while self.index < self.trail.len() {

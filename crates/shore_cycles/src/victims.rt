@@ -16,7 +16,9 @@ use std::alloc::Global;
 /// and the last for the first.
 #[derive(Drop)]
 pub struct Victim {
+    /// The transaction that waits no more: the one of the cycle with the greatest number.
     pub txn: TxnId,
+    /// The cycle, the victim first.
     pub cycle: Sequence<TxnId>,
 }
 
@@ -32,6 +34,7 @@ pub fn break_cycles(alloc: Global, table: &mut LockTable, txn: TxnId) -> Result<
     ensures refused { OnErr result (table.new ≡ table.old) }
     ensures memory { IfErr result (λ fault. fault ≡ Memory) }
 {
+    // For the proof: the requests of any table are orderly. Nothing runs.
     tables_are_orderly(table);
     let victims = choose(alloc, table, txn)?;
     take_back(table, &victims);
@@ -61,6 +64,7 @@ pub fn choose(alloc: Global, table: &LockTable, txn: TxnId) -> Result<Vec<Victim
     ensures all { IfOk result (λ victims. IsOnNoCycleWithout victims.items table.now.requests txn) }
     ensures memory { IfErr result (λ fault. fault ≡ Memory) }
 {
+    // For the proof: the requests of any table are orderly. Nothing runs.
     tables_are_orderly(table);
     let mut search = Search::new(alloc, txn)?;
     while let Some(cycle) = search.next_cycle(alloc, table)? {

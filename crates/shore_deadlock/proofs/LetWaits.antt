@@ -13,7 +13,7 @@ use Rattle.shore_locks.specs.Orderly.{IsOrderly}
 use Rattle.shore_locks.specs.Tables.{Table, is_waiting}
 use Rattle.shore_path.specs.Acquires.{NoneWeaker, OthersOnlyGranted}
 use Rattle.shore_path.specs.Rooted.{AreRooted}
-use Rattle.shore_path.specs.Walks.{ComesTo, Outcome, acquired, walk}
+use Rattle.shore_path.specs.Walks.{HasOutcome, Outcome, acquired, walk}
 use Rattle.shore_path.specs.declared.answers.Acquired.{Acquired}
 use Rattle.shore_path.specs.declared.answers.Acquired.TheVariants as acquire
 use Rattle.shore_path.specs.declared.answers.OnConflict.TheVariants.{Wait}
@@ -30,7 +30,7 @@ use Rattle.shore_deadlock.proofs.SparedRounds.{settled_grants}
 -- ---- at once
 
 module _ (old : Table) (t : ℕ) (target : Granule) (mode : Mode) (result : Result Acquired Fault) (new : Table) (orderly : IsOrderly old.requests) (quiet : is_waiting t old.requests ≡ false)
-    (comes : ComesTo old (acquired Wait old t target mode) result new) where
+    (comes : HasOutcome old (acquired Wait old t target mode) result new) where
   pub lets_wait : (g : Granule) → result ≡ Ok (acquire.Waiting g) → IsLetWait old t target mode new
   lets_wait g waits = record {
     orderly = orderly;
@@ -54,7 +54,7 @@ module _ (old : Table) (t : ℕ) (target : Granule) (mode : Mode) (result : Resu
 -- ---- waiting
 
 module _ (before : Table) (t : ℕ) (target : Granule) (mode : Mode) (mid : Table) (waits : IsLetWait before t target mode mid) where
-  comes_to : ComesTo before (acquired Wait before t target mode) (Ok (acquire.Waiting waits.granule)) mid
+  comes_to : HasOutcome before (acquired Wait before t target mode) (Ok (acquire.Waiting waits.granule)) mid
   comes_to = (
     sym (ap (λ (o : Outcome). o.answer) waits.acquires),
     λ i. record { limit = waits.limit i; requests = (ap (λ (o : Outcome). o.requests) (sym waits.acquires)) i },
@@ -64,9 +64,9 @@ module _ (before : Table) (t : ℕ) (target : Granule) (mode : Mode) (mid : Tabl
   abbrev walked : Outcome
   walked = walk Wait t target mode before.limit (reverse (path target)) before.requests
 
-  came_by_walk : ComesTo before walked (Ok (acquire.Waiting waits.granule)) mid
+  came_by_walk : HasOutcome before walked (Ok (acquire.Waiting waits.granule)) mid
   came_by_walk =
-      allowed_case (λ out. ComesTo before out (Ok (acquire.Waiting waits.granule)) mid → ComesTo before walked (Ok (acquire.Waiting waits.granule)) mid)
+      allowed_case (λ out. HasOutcome before out (Ok (acquire.Waiting waits.granule)) mid → HasOutcome before walked (Ok (acquire.Waiting waits.granule)) mid)
       (is_allowed (level_of target) mode) walked (record { answer = Err fault.BadMode; requests = before.requests })
       (λ same. same) (λ comes. absurd (no_refusal waits.granule comes.0)) comes_to
     where

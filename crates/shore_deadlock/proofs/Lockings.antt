@@ -18,7 +18,7 @@ use Rattle.shore_locks.proofs.Outcomes.{nobody_wants, quiet_after_cancel}
 use Rattle.shore_locks.proofs.Tables.{fit_of, orderly_cancelled}
 use Rattle.shore_path.specs.Acquires.{NoneWeaker, OthersOnlyGranted}
 use Rattle.shore_path.specs.Rooted.{AreRooted}
-use Rattle.shore_path.specs.Walks.{ComesTo, acquired}
+use Rattle.shore_path.specs.Walks.{HasOutcome, acquired}
 use Rattle.shore_path.specs.declared.answers.Acquired.{Acquired}
 use Rattle.shore_path.specs.declared.answers.Acquired.TheVariants as acquire
 use Rattle.shore_path.specs.declared.answers.OnConflict.TheVariants.{Wait}
@@ -99,7 +99,7 @@ gentle_acquire t old new weaker rooted others = record {
 -- ---- cycles
 
 module _ (t : ℕ) (target : Granule) (mode : Mode) (old new : Table) (result : Result Acquired Fault) (orderly : IsOrderly old.requests) (quiet : is_waiting t old.requests ≡ false)
-    (asked : ComesTo old (acquired Wait old t target mode) result new) where
+    (asked : HasOutcome old (acquired Wait old t target mode) result new) where
   left : new.requests ≡ (acquired Wait old t target mode).requests
   left = ap (λ (x : Table). x.requests) asked.1
 

@@ -11,7 +11,7 @@ use Rattle.shore_model.specs.Requests.{HasNoCycle}
 use Rattle.shore_locks.specs.Grants.{cancelled}
 use Rattle.shore_locks.specs.Orderly.{IsOrderly}
 use Rattle.shore_locks.specs.Tables.{Table, is_waiting}
-use Rattle.shore_path.specs.Walks.{ComesTo, acquired}
+use Rattle.shore_path.specs.Walks.{HasOutcome, acquired}
 use Rattle.shore_path.specs.declared.answers.Acquired.{Acquired}
 use Rattle.shore_path.specs.declared.answers.Acquired.TheVariants as acquire
 use Rattle.shore_path.specs.declared.answers.OnConflict.TheVariants.{Wait}
@@ -78,7 +78,7 @@ settled old t target mode all now answer vs new told gone limit ends is = record
 
 -- what an acquire came to
 pub acquires_so : (table : Table) (t : ℕ) (target : Granule) (mode : Mode) (result answer : Result Acquired Fault) (new : Table) → result ≡ answer
-    → ComesTo table (acquired Wait table t target mode) result new → Acquires table t target mode answer new.requests
+    → HasOutcome table (acquired Wait table t target mode) result new → Acquires table t target mode answer new.requests
 acquires_so table t target mode result answer new is comes =
     λ i. record { answer = (sym comes.0 ∙ is) i; requests = (ap (λ (x : Table). x.requests) (sym comes.1)) i }
 

@@ -32,7 +32,9 @@ pub enum Locked {
 /// are told with a fault too, since they wait no more.
 #[derive(Drop)]
 pub struct Reply {
+    /// What the call itself is answered.
     pub answer: Result<Locked, Fault>,
+    /// The victims of its cycles, in their turn.
     pub victims: Vec<Victim>,
 }
 
@@ -48,6 +50,7 @@ pub fn lock(alloc: Global, table: &mut LockTable, txn: TxnId, target: Granule, m
     ensures keeps { Keeps txn table.old.requests table.new.requests }
     ensures others { OnlyGrantsOthers txn result.victims.items table.old.requests table.new.requests }
 {
+    // For the proof: the requests of any table are orderly. Nothing runs.
     tables_are_orderly(table);
     let target = &target;
     match acquire(table, txn, *target, mode, OnConflict::Wait) {
@@ -81,6 +84,7 @@ pub fn settle(
     ensures keeps { (before : Table) → IsLetWait before txn target mode table.old → Keeps txn before.requests table.new.requests }
     ensures others { (before : Table) → IsLetWait before txn target mode table.old → OnlyGrantsOthers txn result.victims.items before.requests table.new.requests }
 {
+    // For the proof: the requests of any table are orderly. Nothing runs.
     tables_are_orderly(table);
     let target = &target;
     let mut victims = Vec::new(alloc);
@@ -112,10 +116,12 @@ fn go_round(
     ensures fewer { IfNone result (others_waiting txn table.new.requests < others_waiting txn table.old.requests) }
     ensures keeps { Keeps txn table.old.requests table.new.requests }
 {
+    // For the proof: the requests of any table are orderly. Nothing runs.
     tables_are_orderly(table);
     match acquire(table, txn, *target, mode, OnConflict::Wait) {
         Ok(Acquired::Done) => Some(Ok(Locked::Done)),
         Ok(Acquired::Waiting(_)) => {
+            // For the proof: the requests of any table are orderly. Nothing runs.
             tables_are_orderly(table);
             break_wait(alloc, table, txn, victims)
         }
@@ -139,6 +145,7 @@ fn break_wait(
         × (is_waiting txn table.new.requests ≡ false) × (victims.new.items ≡ victims.old.items ++ vs)) }
     ensures quiet { IfSome result (λ answer. ((g : Granule) → answer ≡ Ok (Locked.Waiting g) → ⊥) → is_waiting txn table.new.requests ≡ false) }
 {
+    // For the proof: the requests of any table are orderly. Nothing runs.
     tables_are_orderly(table);
     match break_for(alloc, table, txn, victims) {
         Ok(true) => Some(Ok(Locked::Deadlock)),
@@ -166,6 +173,7 @@ fn break_for(
     ensures refused { OnErr result ((table.new ≡ table.old) × (victims.new.items ≡ victims.old.items)) }
     ensures memory { IfErr result (λ fault. fault ≡ Memory) }
 {
+    // For the proof: the requests of any table are orderly. Nothing runs.
     tables_are_orderly(table);
     let mut chosen = choose(alloc, table, txn)?;
     let own = is_victim(&chosen, txn);

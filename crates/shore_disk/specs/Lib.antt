@@ -5,6 +5,5 @@ pub mod FileDisk
 pub mod AnyDisk
 pub mod Fuse
 pub mod Once
-pub mod Pair
 pub mod Cause
 pub mod Counting

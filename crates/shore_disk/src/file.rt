@@ -13,8 +13,11 @@ use std::path::Path;
 /// A lock on the file goes as the device is dropped.
 #[derive(Drop)]
 pub struct FileDisk {
+    // The file, open for reads and writes, and locked.
     file: File,
+    // Its length as it was opened; no call of a device changes it.
     len: u64,
+    // How many calls have failed.
     failures: u64,
 }
 

@@ -8,8 +8,11 @@ use crate::{Disk, DiskFault};
 /// device inside.
 #[derive(Drop)]
 pub struct FuseDisk<D: Disk> {
+    // The device that the calls are passed on to.
     inner: D,
+    // How many writes and syncs still pass.
     calls_left: u64,
+    // How many calls were refused here.
     refused: u64,
 }
 

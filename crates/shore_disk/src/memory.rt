@@ -5,13 +5,15 @@ ghost use Rattle.shore_disk.specs.declared.memory.Pick.TheVariants.{Old, Noise};
 ghost use Rattle.shore_disk.specs.Memory.{copied, end_of, history_in, laid, picked_after, picked_from, with_noise};
 
 use crate::{Disk, DiskFault};
-use http_server::Log;
+use http_server::Log as GhostLog;
 use std::alloc::{AllocError, Global};
 
 // Where bytes were written.
 #[derive(Clone, Copy)]
 struct Place {
+    // The offset of the first byte.
     at: usize,
+    // How many bytes.
     len: usize,
 }
 
@@ -35,9 +37,10 @@ pub struct MemDisk {
     bytes: Vec<u8>,
     /// Where they were written since that sync, the oldest first.
     unsynced: Vec<Place>,
+    // How many calls have failed, since an allocation did.
     failures: u64,
     // The bytes at first, and then each call with the bytes that it left. It takes no memory: only clauses read it.
-    past: Log<Option<Place>, Vec<u8>>,
+    past: GhostLog<Option<Place>, Vec<u8>>,
     ghost begun: { 0 < length past.items },
     ghost seen: { bytes.items ≡ seen (history_in past.items) },
     ghost lost: { stable.items ≡ picked_after Old (history_in past.items).first (history_in past.items).calls },
@@ -58,7 +61,7 @@ impl MemDisk {
         ensures failures { IfOk result (λ d. failures_of d ≡ 0) }
     {
         let stable = bytes.to_vec(alloc)?;
-        let past = Log::new().and(&None, &bytes);
+        let past = GhostLog::new().and(&None, &bytes);
         Ok(MemDisk {
             stable,
             bytes,
@@ -85,7 +88,7 @@ impl MemDisk {
         pick_image(&mut self.stable, &self.bytes, &self.unsynced, pick);
         self.bytes.copy_from_slice(&self.stable);
         self.unsynced.clear();
-        self.past = Log::new().and(&None, &self.bytes);
+        self.past = GhostLog::new().and(&None, &self.bytes);
     }
 }
 

@@ -9,9 +9,11 @@ use crate::{Disk, DiskFault};
 /// A device of which one call alone fails, counted from 0, reads too. It is honest as the device inside.
 #[derive(Drop)]
 pub struct OnceDisk<D: Disk> {
+    // The device that the calls are passed on to.
     inner: D,
     /// How many calls pass before the one that fails; none after it.
     calls_before: Option<u64>,
+    // How many calls were refused here: one at most.
     refused: u64,
 }
 

@@ -1,7 +1,7 @@
 -- In which parts two images of a volume may differ, and what is new in these parts.
 use Rattle.std.specs.Prelude.{◌≡◌, ℕ, ◌*◌, List, length, take, drop, Contains, slice_get, Some}
-use Rattle.shore_types.specs.declared.layout.TheConstants.{PAGE_BYTES}
-use Rattle.shore_dwrite.specs.declared.places.TheConstants.{TABLE_AT, TABLE_BYTES, AREA_AT, PAGES_AT}
+use Rattle.shore_types.specs.declared.layout.TheConstants.{PAGE_BYTES, PAGES_AT}
+use Rattle.shore_dwrite.specs.declared.places.TheConstants.{TABLE_AT, TABLE_BYTES, AREA_AT}
 use Rattle.shore_dwrite.specs.Tables.{IsTable}
 use Rattle.shore_dwrite.specs.Volumes.{part, page_at}
 

@@ -1,12 +1,11 @@
 -- Where things are on a volume, and the number of each page there.
-use Rattle.std.specs.Prelude.{◌≡◌, ◌<◌, ℕ, ◌+◌, ◌*◌, List, [], take, drop, sum}
+use Rattle.std.specs.Prelude.{◌≡◌, ◌<◌, ℕ, ◌+◌, ◌*◌, List, [], drop, length, slice_index, sum, take}
 use Rattle.shore_types.specs.declared.ids.PageId.{PageId}
 use Rattle.shore_types.specs.declared.layout.Geometry.{Geometry}
-use Rattle.shore_types.specs.declared.layout.TheConstants.{PAGE_BYTES}
+use Rattle.shore_types.specs.declared.layout.TheConstants.{PAGE_BYTES, PAGES_AT}
 use Rattle.shore_types.specs.Images.{Image}
 use Rattle.shore_types.specs.Layout.{HasPage}
 use Rattle.shore_page.specs.Text.{IsPageText}
-use Rattle.shore_dwrite.specs.declared.places.TheConstants.{PAGES_AT}
 
 -- so many bytes at an offset
 abbrev pub part : ℕ → ℕ → List ℕ → List ℕ
@@ -23,6 +22,10 @@ page_at image k = part (page_offset k) PAGE_BYTES image
 -- the number of a page on the volume: the pages of all stores below its own come before it
 abbrev pub page_number : Geometry → PageId → ℕ
 page_number g id = sum (take id.store g.stores) + id.page
+
+-- for each store the number of its first page, behind which others may stand
+abbrev pub AreFirsts : List ℕ → List ℕ → Type 0
+AreFirsts stores firsts = (store : ℕ) → store < length stores → slice_index firsts store ≡ sum (take store stores)
 
 -- how many pages there are
 abbrev pub page_count : Geometry → ℕ

@@ -1,11 +1,12 @@
 //! The pages of a volume on its device.
 ghost use Rattle.std.specs.Prelude.{◌≡◌, [], ◌∷◌, ◌⊎◌, ◌+◌, ◌*◌, ◌<◌, ◌≤◌, ℕ, List, length, All, Contains, IsTrue, IfErr, IfOk, OnOk, slice_get, Some};
-ghost use Rattle.shore_types.specs.declared.layout.TheConstants.{PAGE_BYTES, MAX_PAGES, MAX_STORES};
+ghost use Rattle.std.proofs.Props.{props};
+ghost use Rattle.shore_types.specs.declared.layout.TheConstants.{PAGE_BYTES, MAX_PAGES, MAX_STORES, PAGES_AT};
 ghost use Rattle.shore_disk.specs.Device.{History, size, seen, may_leave, overwritten, CountsFault, LeavesOnly, Stands};
 ghost use Rattle.shore_gate.specs.declared.gates.TheConstants.{OPEN};
 ghost use Rattle.shore_dwrite.specs.Checks.{HasRead, RefusesArea};
 ghost use Rattle.shore_dwrite.specs.Differences.{DiffersInArea, DiffersInPages, HasImages, HasPages};
-ghost use Rattle.shore_dwrite.specs.declared.places.TheConstants.{GATE_AT, PAGES_AT};
+ghost use Rattle.shore_dwrite.specs.declared.places.TheConstants.{GATE_AT};
 ghost use Rattle.shore_dwrite.specs.Images.{numbers_of, texts_of};
 ghost use Rattle.shore_dwrite.specs.Shown.{IsBatch, IsShut, RiseFrom, overlaid, Shows, ShowsBehind, ShowsEither};
 ghost use Rattle.shore_disk.specs.Cause.{HasCause};
@@ -14,30 +15,20 @@ ghost use Rattle.shore_page.specs.Text.{IsPageText, images_of, settled_page};
 ghost use Rattle.shore_types.specs.Layout.{HasPage};
 ghost use Rattle.shore_types.specs.declared.faults.Device.TheVariants as Device;
 ghost use Rattle.shore_types.specs.declared.faults.Fault.TheVariants as Fault;
-ghost use Rattle.shore_dwrite.specs.Volumes.{HasNoPage, page_at, page_count, page_number, page_offset, part};
+ghost use Rattle.shore_dwrite.specs.Volumes.{AreFirsts, HasNoPage, page_at, page_count, page_number, page_offset, part};
 
 use crate::images::PageImages;
 use crate::places::{
-    AREA_AT, GATE_AT, TABLE_AT, TABLE_BYTES, page_count, page_number, page_offset,
+    AREA_AT, GATE_AT, TABLE_AT, TABLE_BYTES, first_numbers, page_count, page_offset,
 };
 use crate::replay::{check_images, read_table};
 use crate::table::table_of;
 use shore_disk::{Disk, DiskFault, FuseDisk};
 use shore_gate::{close_gate, is_open, open_gate};
 use shore_page::Page;
-use shore_types::layout::PAGE_BYTES;
+use shore_types::layout::{MAX_STORES, PAGE_BYTES};
 use shore_types::{Device, Fault, Geometry, Lsn, PageId};
 use std::alloc::Global;
-
-/// What a volume is refused with whose bytes at an offset are not what they have to be.
-pub fn damaged(place: u64) -> Fault
-    ensures { result ≡ Fault.Damaged Device.Volume place }
-{
-    Fault::Damaged {
-        device: Device::Volume,
-        place,
-    }
-}
 
 // The page whose text the bytes at an offset are, if its number is not above the last one of the log.
 fn find_page(alloc: Global, id: &PageId, bytes: &[u8], last: Lsn, at: u64) -> Result<Page, Fault>
@@ -47,10 +38,10 @@ fn find_page(alloc: Global, id: &PageId, bytes: &[u8], last: Lsn, at: u64) -> Re
         ⊎ ((fault ≡ Fault.Damaged Device.Volume at) × HasNoPage bytes.now id.now last)) }
 {
     let Some(page) = Page::from_bytes(alloc, *id, bytes)? else {
-        return Err(damaged(at));
+        return Err(Fault::damaged(Device::Volume, at));
     };
     if page.number().0 > last.0 {
-        return Err(damaged(at));
+        return Err(Fault::damaged(Device::Volume, at));
     }
     Ok(page)
 }
@@ -58,8 +49,13 @@ fn find_page(alloc: Global, id: &PageId, bytes: &[u8], last: Lsn, at: u64) -> Re
 /// The pages of a volume. It keeps none of them in memory.
 #[derive(Drop)]
 pub struct PageDev<D: Disk> {
+    // What holds the bytes. Its length stays what the geometry asks, as no disk changes its own.
     device: D,
+    // How the stores lie on it. It is not changed.
     geometry: Geometry,
+    // For each store the number of its first page, made once from the geometry.
+    firsts: [u32; MAX_STORES],
+    ghost firsts_are: { AreFirsts geometry.stores firsts } by { Prim.hlevel props },
     ghost as_long: { size (D.Disk.history device) ≡ PAGES_AT + PAGE_BYTES * page_count geometry },
     ghost few: { page_count geometry ≤ MAX_PAGES },
     ghost few_stores: { length geometry.stores ≤ MAX_STORES },
@@ -76,7 +72,12 @@ impl<D: Disk> PageDev<D> {
         ensures device { device_of result ≡ device }
         ensures geometry { geometry_of result ≡ geometry }
     {
-        PageDev { device, geometry }
+        let firsts = first_numbers(&geometry);
+        PageDev {
+            device,
+            geometry,
+            firsts,
+        }
     }
 
     /// The device, as it is.
@@ -106,7 +107,7 @@ impl<D: Disk> PageDev<D> {
         ensures number { result ≡ page_number (geometry_of self.now) id }
         ensures within { result < page_count (geometry_of self.now) }
     {
-        page_number(&self.geometry, id)
+        self.firsts[id.store.0 as usize] + id.page
     }
 
     /// Reads a page. `Damaged` at its first byte if the bytes there are no text of it, or if its number is above the last one of the log;
@@ -129,7 +130,7 @@ impl<D: Disk> PageDev<D> {
         ensures geometry { geometry_of self.new ≡ geometry_of self.old }
         ensures cause { HasCause result (D.faults self.old.device) (D.faults self.new.device) }
     {
-        let at = page_offset(page_number(&self.geometry, id));
+        let at = page_offset(self.number(id));
         let mut bytes = [0; PAGE_BYTES];
         self.device.read_at(at, &mut bytes)?;
         find_page(alloc, &id, &bytes, last, at)

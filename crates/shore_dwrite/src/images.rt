@@ -11,7 +11,9 @@ use std::alloc::{AllocError, Global};
 /// Page texts that are written as one batch, with the number of each page on the volume.
 #[derive(Drop)]
 pub struct PageImages {
+    // The number of each page on the volume. A batch has no more than 32, so that `new` takes room for all.
     numbers: Vec<u32>,
+    // The texts of these pages, in the same order. `push` and `clear` keep as many as there are numbers.
     bytes: Vec<u8>,
     ghost as_many: { length bytes.items ≡ PAGE_BYTES * length numbers.items },
 }

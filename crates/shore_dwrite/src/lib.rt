@@ -9,4 +9,4 @@ mod table;
 
 pub use device::PageDev;
 pub use images::PageImages;
-pub use places::{GATE_AT, PAGES_AT, page_count, page_of, page_offset};
+pub use places::{GATE_AT, page_count, page_of, page_offset};

@@ -2,9 +2,9 @@
 ghost use Rattle.std.specs.Prelude.{◌≡◌, ◌<◌, ◌≤◌, length};
 ghost use Rattle.shore_types.specs.Layout.{HasPage};
 ghost use Rattle.shore_types.specs.declared.layout.TheConstants.{MAX_PAGES, MAX_STORES};
-ghost use Rattle.shore_dwrite.specs.Volumes.{page_count, page_number, page_offset};
+ghost use Rattle.shore_dwrite.specs.Volumes.{AreFirsts, page_count, page_number, page_offset};
 
-use shore_types::layout::PAGE_BYTES;
+use shore_types::layout::{MAX_STORES, PAGE_BYTES, PAGES_AT};
 use shore_types::{Geometry, PageId, StoreId};
 
 /// The offset of the gate of the double-write area.
@@ -15,8 +15,6 @@ pub const TABLE_AT: u64 = 4100;
 pub const TABLE_BYTES: usize = 132;
 /// The offset of the images.
 pub const AREA_AT: u64 = 8192;
-/// The offset of the first page.
-pub const PAGES_AT: u64 = 270_336;
 
 /// The offset of the page of a number.
 pub fn page_offset(number: u32) -> u64
@@ -25,18 +23,20 @@ pub fn page_offset(number: u32) -> u64
     PAGES_AT + PAGE_BYTES as u64 * u64::from(number)
 }
 
-/// The number of a page on the volume: the pages of all stores below its own come before it.
-pub fn page_number(geometry: &Geometry, id: PageId) -> u32
-    requires there { HasPage geometry.now id }
+/// For each store the number of its first page on the volume: the pages of all stores before it come before that.
+pub fn first_numbers(geometry: &Geometry) -> [u32; MAX_STORES]
     requires few { page_count geometry.now ≤ MAX_PAGES }
-    ensures number { result ≡ page_number geometry.now id }
-    ensures within { result < page_count geometry.now }
+    requires few_stores { length geometry.now.stores ≤ MAX_STORES }
+    ensures { AreFirsts geometry.now.stores result }
 {
-    let mut number = id.page;
-    for pages in &geometry.stores.as_slice()[..id.store.0 as usize] {
-        number += *pages;
+    let stores = geometry.stores.as_slice();
+    let mut firsts = [0; MAX_STORES];
+    let mut number = 0;
+    for store in 0..stores.len() {
+        firsts[store] = number;
+        number += stores[store];
     }
-    number
+    firsts
 }
 
 /// How many pages a volume has.

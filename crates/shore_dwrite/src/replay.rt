@@ -9,12 +9,11 @@ ghost use Rattle.shore_dwrite.specs.Shown.{AreImages, RiseFrom};
 ghost use Rattle.shore_dwrite.specs.Volumes.{IsImageOf, page_count};
 ghost use Rattle.shore_dwrite.specs.Tables.{IsTable, cell};
 
-use crate::device::damaged;
 use crate::places::{AREA_AT, TABLE_AT, TABLE_BYTES, page_of};
 use byteorder::{ByteOrder, LittleEndian};
 use shore_page::Page;
 use shore_types::layout::{MAX_BATCH_PAGES, PAGE_BYTES};
-use shore_types::{Fault, Geometry};
+use shore_types::{Device, Fault, Geometry};
 use std::alloc::{AllocError, Global};
 
 // The number in a cell of four bytes.
@@ -40,7 +39,7 @@ pub fn read_table(alloc: Global, table: &[u8], pages: u32) -> Result<Vec<u32>, F
 {
     let count = cell_at(table, 0) as usize;
     if count == 0 || count > MAX_BATCH_PAGES {
-        return Err(damaged(TABLE_AT));
+        return Err(Fault::damaged(Device::Volume, TABLE_AT));
     }
     let numbers = read_entries(alloc, table, count, pages)?;
     check_unused(table, count)?;
@@ -61,7 +60,7 @@ fn read_entries(alloc: Global, table: &[u8], count: usize, pages: u32) -> Result
     for i in 0..count {
         let number = cell_at(table, i + 1);
         if u64::from(number) < low || number >= pages {
-            return Err(damaged(entry_at(i)));
+            return Err(Fault::damaged(Device::Volume, entry_at(i)));
         }
         numbers.push(number)?;
         low = u64::from(number) + 1;
@@ -78,7 +77,7 @@ fn check_unused(table: &[u8], count: usize) -> Result<(), Fault>
 {
     for i in count..MAX_BATCH_PAGES {
         if cell_at(table, i + 1) != 0 {
-            return Err(damaged(entry_at(i)));
+            return Err(Fault::damaged(Device::Volume, entry_at(i)));
         }
     }
     Ok(())
@@ -111,7 +110,7 @@ pub fn check_images(
     for i in 0..numbers.len() {
         let text = &bytes[PAGE_BYTES * i..PAGE_BYTES * (i + 1)];
         if !is_image(alloc, geometry, numbers[i], text)? {
-            return Err(damaged(AREA_AT + PAGE_BYTES as u64 * i as u64));
+            return Err(Fault::damaged(Device::Volume, AREA_AT + PAGE_BYTES as u64 * i as u64));
         }
     }
     Ok(())

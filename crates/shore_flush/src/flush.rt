@@ -6,7 +6,7 @@ ghost use Rattle.shore_dwrite.specs.Shown.{RiseFrom};
 ghost use Rattle.shore_types.specs.declared.faults.Fault.TheVariants as Fault;
 ghost use Rattle.shore_types.specs.declared.layout.TheConstants.{MAX_BATCH_PAGES};
 ghost use Rattle.shore_pool.specs.Batches.{AreDue};
-ghost use Rattle.shore_pool.specs.Pools.{Holds, LeavesPages, WroteBack, count_of, faults_of, frame_at, geometry_of, history_of, honesty_of, limit_of};
+ghost use Rattle.shore_pool.specs.Pools.{PoolHolds, LeavesPages, WroteBack, count_of, faults_of, frame_at, geometry_of, history_of, honesty_of, limit_of};
 ghost use Rattle.shore_flush.specs.Batches.{pages_of};
 ghost use Rattle.shore_flush.specs.Flushes.{AreFirst, Flushes, NoneDue};
 
@@ -18,6 +18,7 @@ use std::alloc::{AllocError, Global};
 /// Pages that are written together, by their numbers on the volume.
 #[derive(Drop)]
 pub struct Batch {
+    // They rise and are due, as `choose` says.
     pages: Vec<u32>,
 }
 
@@ -30,28 +31,28 @@ impl Batch {
 }
 
 /// The first dirty pages of the volume with numbers up to the durable one: all of them, or as many as a batch may have.
-pub fn choose<D: Disk>(alloc: Global, pool: &Pool<D>, seen: Lsn) -> Result<Batch, AllocError>
+pub fn choose<D: Disk>(alloc: Global, pool: &Pool<D>, durable: Lsn) -> Result<Batch, AllocError>
     ensures rise { IfOk result (λ batch. RiseFrom 0 (pages_of batch)) }
     ensures most { IfOk result (λ batch. length (pages_of batch) ≤ MAX_BATCH_PAGES) }
-    ensures due { IfOk result (λ batch. AreDue pool.now seen (pages_of batch)) }
-    ensures first { IfOk result (λ batch. AreFirst pool.now seen (pages_of batch)) }
-    ensures none { IfOk result (λ batch. pages_of batch ≡ [] → NoneDue pool.now seen) }
+    ensures due { IfOk result (λ batch. AreDue pool.now durable (pages_of batch)) }
+    ensures first { IfOk result (λ batch. AreFirst pool.now durable (pages_of batch)) }
+    ensures none { IfOk result (λ batch. pages_of batch ≡ [] → NoneDue pool.now durable) }
 {
     Ok(Batch {
-        pages: pool.due(alloc, 0, seen)?,
+        pages: pool.due(alloc, 0, durable)?,
     })
 }
 
 /// Writes a batch of pages back, and answers how many. `Memory` if an allocation failed; nothing has changed then.
-pub fn flush_step<D: Disk>(alloc: Global, pool: &mut Pool<D>, seen: Lsn) -> Result<usize, Fault>
-    ensures flushed { IfOk result (λ count. Flushes pool.old pool.new seen count) }
+pub fn flush_step<D: Disk>(alloc: Global, pool: &mut Pool<D>, durable: Lsn) -> Result<usize, Fault>
+    ensures flushed { IfOk result (λ count. Flushes pool.old pool.new durable count) }
     ensures refused { IfErr result (λ fault. ((fault ≡ Fault.Device) ⊎ (fault ≡ Fault.Memory)) × ((k : ℕ) → frame_at pool.new k ≡ frame_at pool.old k)) }
-    ensures kept { (front : List ℕ) (disk : ℕ → List ℕ) → Holds pool.old front disk
-        → MatchResult result (λ _. WroteBack pool.old pool.new seen front disk) (λ fault. (fault ≡ Fault.Device) ⊎ WroteBack pool.old pool.new seen front disk) }
+    ensures kept { (front : List ℕ) (disk : ℕ → List ℕ) → PoolHolds pool.old front disk
+        → MatchResult result (λ _. WroteBack pool.old pool.new durable front disk) (λ fault. (fault ≡ Fault.Device) ⊎ WroteBack pool.old pool.new durable front disk) }
 
     // A crash at any moment of the call leaves pages that are old, or those of their frames with durable numbers.
-    ensures any_moment { (front : List ℕ) (disk : ℕ → List ℕ) → Holds pool.old front disk
-        → LeavesOnly (history_of pool.old) (history_of pool.new) (LeavesPages pool.old seen front disk) }
+    ensures any_moment { (front : List ℕ) (disk : ℕ → List ℕ) → PoolHolds pool.old front disk
+        → LeavesOnly (history_of pool.old) (history_of pool.new) (LeavesPages pool.old durable front disk) }
 
     // An answer of 0 has changed nothing.
     ensures idle { IfOk result (λ count. count ≡ 0 → pool.new ≡ pool.old) }
@@ -62,7 +63,7 @@ pub fn flush_step<D: Disk>(alloc: Global, pool: &mut Pool<D>, seen: Lsn) -> Resu
     ensures geometry { geometry_of pool.new ≡ geometry_of pool.old }
     ensures cause { HasCause result (faults_of pool.old) (faults_of pool.new) }
 {
-    let batch = choose(alloc, pool, seen)?;
+    let batch = choose(alloc, pool, durable)?;
     let pages = batch.pages();
     if pages.is_empty() {
         return Ok(0);

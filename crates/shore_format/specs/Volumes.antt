@@ -4,7 +4,8 @@ use Rattle.shore_types.specs.declared.faults.Device.TheVariants.{Volume}
 use Rattle.shore_types.specs.declared.layout.Geometry.{Geometry}
 use Rattle.shore_gate.specs.declared.gates.TheConstants.{CLOSED}
 use Rattle.shore_gate.specs.Label.{HoldsLabel, label_bytes}
-use Rattle.shore_dwrite.specs.declared.places.TheConstants.{GATE_AT, PAGES_AT}
+use Rattle.shore_dwrite.specs.declared.places.TheConstants.{GATE_AT}
+use Rattle.shore_types.specs.declared.layout.TheConstants.{PAGES_AT}
 use Rattle.shore_dwrite.specs.Shown.{IsShut}
 use Rattle.shore_dwrite.specs.Volumes.{AreEmpty, page_at, part}
 use Rattle.shore_fronts.specs.Volumes.{volume_bytes, volume_label}

@@ -2,6 +2,7 @@
 use Rattle.std.specs.Prelude.{◌≡◌, ◌≢◌, ◌⊎◌, ◌↔◌, ℕ, ◌+◌, ◌<◌, ◌≤◌, Bool, IsTrue, List, ◌∷◌, ◌++◌, length, drop}
 use Rattle.shore_gate.specs.declared.gates.TheConstants.{OPEN}
 use Rattle.shore_types.specs.declared.faults.Device.TheVariants.{Log}
+use Rattle.shore_types.specs.declared.layout.TheConstants.{FRAME_SHARE}
 use Rattle.shore_types.specs.declared.faults.Fault.{Fault}
 use Rattle.shore_types.specs.declared.faults.Fault.TheVariants.{Device, Memory, Damaged}
 use Rattle.shore_model.specs.declared.log_records.LogRecord.{LogRecord}
@@ -15,11 +16,11 @@ GateAt image at is_open = (gate : ℕ) × (drop at image ≡ gate ∷ drop (at +
 
 -- this head, behind the gate at the byte
 abbrev pub HeadAt : List ℕ → ℕ → Head → Type 0
-HeadAt image at head = drop (at + 1) image ≡ frame_head head.len head.first ++ drop (at + 13) image
+HeadAt image at head = drop (at + 1) image ≡ frame_head head.len head.first ++ drop (at + FRAME_SHARE) image
 
 -- the head of a frame with this body and this first number, and the body, behind the gate at the byte
 abbrev pub BodyAt : List ℕ → ℕ → ℕ → List ℕ → Type 0
-BodyAt image at n body = drop (at + 1) image ≡ behind_gate n body ++ drop (at + 13 + length body) image
+BodyAt image at n body = drop (at + 1) image ≡ behind_gate n body ++ drop (at + FRAME_SHARE + length body) image
 
 -- a frame of these records and of no others, behind the gate at the byte
 pub record IsFrameAt (image : List ℕ) (at n : ℕ) (g : List LogRecord) : Type 0 where

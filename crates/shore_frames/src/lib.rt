@@ -3,4 +3,4 @@
 
 mod reading;
 
-pub use reading::{HEAD_BYTES, Stream, damaged, find_frame, read_stream};
+pub use reading::{HEAD_BYTES, Stream, find_frame, read_stream};

@@ -1,6 +1,6 @@
 //! Reading the frames of a log device, in one pass and a frame at a time.
 ghost use Rattle.std.specs.Prelude.{◌≡◌, ◌⊎◌, ◌↔◌, ◌+◌, ◌<◌, ◌≤◌, ◌^◌, IsTrue, ◌++◌, List, ℕ, length, take, drop, Ok, Err, None, IsSome, IfSome, IfOk, IfErr};
-ghost use Rattle.shore_types.specs.declared.layout.TheConstants.{MAX_FRAME_BYTES, MAX_LOG_BYTES};
+ghost use Rattle.shore_types.specs.declared.layout.TheConstants.{FRAME_SHARE, MAX_FRAME_BYTES, MAX_LOG_BYTES};
 ghost use Rattle.shore_disk.specs.Device.{size, seen};
 ghost use Rattle.shore_disk.specs.Cause.{HasCause};
 ghost use Rattle.shore_model.specs.declared.log_records.LogRecord.{LogRecord};
@@ -62,16 +62,6 @@ pub struct Head {
     pub first: u64,
 }
 
-/// The log device is damaged at this offset.
-pub fn damaged(offset: u64) -> Fault
-    ensures { result ≡ Fault.Damaged Device.Log offset }
-{
-    Fault::Damaged {
-        device: Device::Log,
-        place: offset,
-    }
-}
-
 /// Reads the frames of a device from a byte on; the first record has number 1. `Damaged` at the first offset where neither a closed
 /// gate nor a whole frame stands, `Device` if the device failed, `Memory` if an allocation failed.
 pub fn read_stream<D: Disk>(
@@ -112,7 +102,7 @@ pub fn read_stream<D: Disk>(
     while is_gate_open(device, at)? {
         let number = records.len() as u64 + 1;
         let Some((mut group, len)) = read_frame(alloc, device, device_bytes, at, number)? else {
-            return Err(damaged(at));
+            return Err(Fault::damaged(Device::Log, at));
         };
         records.append(&mut group)?;
         at += (1 + HEAD_BYTES + len) as u64;
@@ -138,9 +128,9 @@ fn is_gate_open<D: Disk>(device: &mut D, at: u64) -> Result<bool, Fault>
 pub fn read_head<D: Disk>(device: &mut D, device_bytes: u64, at: u64) -> Result<Option<Head>, Fault>
     requires short { at < MAX_LOG_BYTES }
     requires size { device_bytes ≤ size (D.history device.old) }
-    ensures inside { IfOk result (λ head. IsSome head → at + 13 ≤ device_bytes) }
+    ensures inside { IfOk result (λ head. IsSome head → at + FRAME_SHARE ≤ device_bytes) }
     ensures head { IsTrue (D.is_honest device.old) → IfOk result (λ found. IfSome found (HeadAt (seen (D.history device.old)) at)) }
-    ensures none { result ≡ Ok None → device_bytes < at + 13 }
+    ensures none { result ≡ Ok None → device_bytes < at + FRAME_SHARE }
     ensures only_device { IfErr result (λ fault. fault ≡ Fault.Device) }
     ensures same { IsTrue (D.is_honest device.old) → D.history device.new ≡ D.history device.old }
     ensures honest { D.is_honest device.new ≡ D.is_honest device.old }
@@ -218,7 +208,7 @@ fn read_body<D: Disk>(
     requires short { at < MAX_LOG_BYTES }
     requires size { device_bytes ≤ size (D.history device.old) }
     ensures inside { IfOk result (λ found. IfSome found (λ body.
-        (1 ≤ length body.items) × (length body.items ≤ MAX_FRAME_BYTES) × (at + 13 + length body.items < device_bytes))) }
+        (1 ≤ length body.items) × (length body.items ≤ MAX_FRAME_BYTES) × (at + FRAME_SHARE + length body.items < device_bytes))) }
     ensures body { IsTrue (D.is_honest device.old) → IfOk result (λ found. IfSome found (λ body.
         BodyAt (seen (D.history device.old)) at number body.items)) }
     ensures none { IsTrue (D.is_honest device.old) → length (seen (D.history device.old)) ≤ device_bytes → result ≡ Ok None
@@ -269,7 +259,7 @@ fn read_frame<D: Disk>(
     requires few { number ≤ 2 ^ 30 }
     requires size { device_bytes ≤ size (D.history device.old) }
     ensures group { IfOk result (λ found. IfSome found (λ x. IsGroup number x.0.items × (x.1 ≡ length (texts x.0.items)))) }
-    ensures inside { IfOk result (λ found. IfSome found (λ x. at + 13 + x.1 < device_bytes)) }
+    ensures inside { IfOk result (λ found. IfSome found (λ x. at + FRAME_SHARE + x.1 < device_bytes)) }
     ensures frame { IsTrue (D.is_honest device.old) → IfOk result (λ found. IfSome found (λ x.
         IsFrameAt (seen (D.history device.old)) at number x.0.items)) }
     ensures none { IsTrue (D.is_honest device.old) → length (seen (D.history device.old)) ≤ device_bytes → result ≡ Ok None

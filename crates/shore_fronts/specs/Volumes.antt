@@ -1,9 +1,8 @@
 -- How long a volume is, and its label.
 use Rattle.std.specs.Prelude.{ℕ, ◌+◌, ◌*◌}
 use Rattle.shore_types.specs.declared.layout.Geometry.{Geometry}
-use Rattle.shore_types.specs.declared.layout.TheConstants.{PAGE_BYTES}
+use Rattle.shore_types.specs.declared.layout.TheConstants.{PAGE_BYTES, PAGES_AT}
 use Rattle.shore_gate.specs.declared.labels.Label.{Label}
-use Rattle.shore_dwrite.specs.declared.places.TheConstants.{PAGES_AT}
 use Rattle.shore_dwrite.specs.Volumes.{page_count}
 
 -- how long a volume of this geometry is

@@ -21,6 +21,7 @@ use std::alloc::Global;
 /// What the fronts of a pair say.
 #[derive(Drop)]
 pub struct Fronts {
+    /// The pair's number, stores and lock nodes, as both labels have them.
     pub geometry: Geometry,
     /// The same, as the volume's label has it, for those who keep the pages.
     pub of_pages: Geometry,
@@ -131,10 +132,7 @@ fn read_anchor<D: Disk>(log: &mut D) -> Result<u64, Fault>
     let counting = Anchors::read(log)?;
     let anchor_offset = counting.slot.offset();
     if !is_first(&counting.anchor) {
-        return Err(Fault::Damaged {
-            device: Device::Log,
-            place: anchor_offset,
-        });
+        return Err(Fault::damaged(Device::Log, anchor_offset));
     }
     Ok(anchor_offset)
 }

@@ -4,7 +4,7 @@ use Rattle.byteorder.specs.Endian.{little_bytes}
 use Rattle.shore_types.specs.declared.faults.Device.TheVariants.{Log}
 use Rattle.shore_types.specs.declared.faults.Fault.{Fault}
 use Rattle.shore_types.specs.declared.faults.Fault.TheVariants.{Damaged}
-use Rattle.shore_types.specs.declared.layout.TheConstants.{LAST_OPENED, LONGEST_FRAME}
+use Rattle.shore_types.specs.declared.layout.TheConstants.{ANCHOR_A_AT, ANCHOR_B_AT, LAST_OPENED, LONGEST_FRAME}
 use Rattle.shore_gate.specs.declared.gates.TheConstants.{OPEN}
 use Rattle.shore_gate.specs.declared.anchors.Anchor.{Anchor}
 use Rattle.shore_gate.specs.declared.anchors.Anchors.{Anchors}
@@ -15,8 +15,8 @@ use Rattle.shore_gate.specs.Checks.{is_within}
 
 -- the byte of the log device at which the slot begins
 abbrev pub offset_of : Slot → ℕ
-offset_of A = 1024
-offset_of B = 2048
+offset_of A = ANCHOR_A_AT
+offset_of B = ANCHOR_B_AT
 
 abbrev pub other_of : Slot → Slot
 other_of A = B

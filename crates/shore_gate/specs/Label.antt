@@ -7,10 +7,10 @@ use Rattle.shore_types.specs.declared.faults.Device.{Device}
 use Rattle.shore_types.specs.declared.faults.Device.TheVariants.{Log, Volume}
 use Rattle.shore_types.specs.declared.faults.Fault.{Fault}
 use Rattle.shore_types.specs.declared.faults.Fault.TheVariants.{NotFormatted, WrongVersion, Damaged}
-use Rattle.shore_types.specs.declared.layout.TheConstants.{LEAST_MAX_LOCKS, MAX_LOG_BYTES, MAX_PAGES, MAX_STORES, MIN_LOG_BYTES, MOST_MAX_LOCKS, PAGE_BYTES, VERSION}
+use Rattle.shore_types.specs.declared.layout.TheConstants.{LEAST_MAX_LOCKS, MAX_LOG_BYTES, MAX_PAGES, MAX_STORES, MIN_LOG_BYTES, MOST_MAX_LOCKS, PAGE_BYTES, VERSION, LENGTH_AT, PAGES_AT}
 use Rattle.shore_gate.specs.declared.gates.TheConstants.{OPEN}
 use Rattle.shore_gate.specs.declared.labels.Label.{Label}
-use Rattle.shore_gate.specs.declared.labels.TheConstants.{LEAST_DEVICE_BYTES, VOLUME_HEAD_BYTES}
+use Rattle.shore_gate.specs.declared.labels.TheConstants.{LEAST_DEVICE_BYTES}
 use Rattle.shore_gate.specs.Numbers.{number_at, numbers_at, are_zero}
 use Rattle.shore_gate.specs.Checks.{Check, check, judged, is_within}
 
@@ -31,7 +31,7 @@ label_bytes device label = label_head device label ++ flat_map (little_bytes 4) 
 -- the lengths that a device with so many pages may have
 abbrev pub HasLength : Device → ℕ → ℕ → Type 0
 HasLength Log pages bytes = (MIN_LOG_BYTES ≤ bytes) × (bytes ≤ MAX_LOG_BYTES)
-HasLength Volume pages bytes = bytes ≡ VOLUME_HEAD_BYTES + PAGE_BYTES * pages
+HasLength Volume pages bytes = bytes ≡ PAGES_AT + PAGE_BYTES * pages
 
 -- within the limits, on a device of this length
 pub record IsLabel (device : Device) (bytes : ℕ) (label : Label) : Type 0 where
@@ -58,7 +58,7 @@ may_be_long Volume bytes = true
 -- whether a device of so many pages has this length
 abbrev pub is_filled : Device → ℕ → ℕ → Bool
 is_filled Log pages bytes = true
-is_filled Volume pages bytes = bytes == VOLUME_HEAD_BYTES + PAGE_BYTES * pages
+is_filled Volume pages bytes = bytes == PAGES_AT + PAGE_BYTES * pages
 
 -- what tells that it is a label of this version, and of this device
 abbrev pub kind_checks : Device → ℕ → List ℕ → List Check
@@ -73,7 +73,7 @@ kind_checks device size bytes =
 abbrev pub field_checks : Device → ℕ → List ℕ → List Check
 field_checks device size bytes =
     check (number_at bytes 4 4 == PAGE_BYTES) (Damaged device 4)
-    ∷ check (number_at bytes 16 8 == size && may_be_long device size) (Damaged device 16)
+    ∷ check (number_at bytes LENGTH_AT 8 == size && may_be_long device size) (Damaged device LENGTH_AT)
     ∷ check (is_within LEAST_MAX_LOCKS MOST_MAX_LOCKS (number_at bytes 24 4)) (Damaged device 24)
     ∷ check (is_within 1 MAX_STORES (number_at bytes 28 4)) (Damaged device 28)
     ∷ []
@@ -92,7 +92,7 @@ stores_of bytes = numbers_at bytes 32 (number_at bytes 28 4)
 abbrev pub end_checks : Device → ℕ → List ℕ → ℕ → ℕ → List Check
 end_checks device size bytes count pages =
     check (are_zero (drop (32 + 4 * count) bytes)) (Damaged device (32 + 4 * count))
-    ∷ check (is_filled device pages size) (Damaged device 16)
+    ∷ check (is_filled device pages size) (Damaged device LENGTH_AT)
     ∷ []
 
 -- what the first 512 bytes of a device of this length are refused with

@@ -7,14 +7,11 @@ ghost use Rattle.shore_gate.specs.Anchor.{offset_of, other_of, slot_bytes, damag
 use crate::is_open;
 use crate::numbers::{are_zero, u64_at};
 use shore_disk::{Disk, DiskFault};
-use shore_types::layout::LONGEST_FRAME;
+use shore_types::layout::{ANCHOR_A_AT, ANCHOR_B_AT, LAST_OPENED, LONGEST_FRAME};
 use shore_types::{Device, Fault, Lsn};
 
 /// The bytes of an anchor, its gate among them.
 pub const ANCHOR_BYTES: usize = 40;
-
-/// The greatest number that the first record of the kept log may have.
-const MAX_TAIL: u64 = (1 << 46) + (1 << 32);
 
 /// One of the two anchors.
 #[derive(Clone, Copy, PartialEq)]
@@ -41,8 +38,8 @@ impl Slot {
         ensures { result ≡ offset_of self }
     {
         match self {
-            Slot::A => 1024,
-            Slot::B => 2048,
+            Slot::A => ANCHOR_A_AT,
+            Slot::B => ANCHOR_B_AT,
         }
     }
 }
@@ -63,7 +60,9 @@ pub struct Anchor {
 /// The anchor of a log that counts, and its slot. The next one is written in the other slot.
 #[derive(Clone, Copy)]
 pub struct Anchors {
+    /// The slot of the anchor that counts.
     pub slot: Slot,
+    /// What that anchor says.
     pub anchor: Anchor,
 }
 
@@ -153,10 +152,7 @@ fn choose(a: Option<Anchor>, b: Option<Anchor>) -> Result<Anchors, Fault>
 fn damaged(slot: Slot) -> Fault
     ensures { result ≡ damaged slot }
 {
-    Fault::Damaged {
-        device: Device::Log,
-        place: slot.offset(),
-    }
+    Fault::damaged(Device::Log, slot.offset())
 }
 
 // The anchor of a slot, none behind a closed gate.
@@ -197,7 +193,7 @@ fn may_count(anchor: &Anchor) -> bool
         tail,
         tail_place,
     } = *anchor;
-    (1..=MAX_TAIL).contains(&tail.0)
+    (1..=LAST_OPENED).contains(&tail.0)
         && tail_place <= LONGEST_FRAME * (tail.0 - 1)
         && sequence >= 1
         && sequence - 1 <= checkpoint.0

@@ -12,8 +12,8 @@ use crate::is_open;
 use crate::numbers::{are_zero, u16_at, u32_at, u32s_at, u64_at};
 use shore_disk::Disk;
 use shore_types::layout::{
-    LEAST_MAX_LOCKS, MAX_LOG_BYTES, MAX_PAGES, MAX_STORES, MIN_LOG_BYTES, MOST_MAX_LOCKS,
-    PAGE_BYTES, VERSION,
+    LEAST_MAX_LOCKS, LENGTH_AT, MAX_LOG_BYTES, MAX_PAGES, MAX_STORES, MIN_LOG_BYTES,
+    MOST_MAX_LOCKS, PAGE_BYTES, PAGES_AT, VERSION,
 };
 use shore_types::{Device, Fault, Sequence};
 use std::alloc::{AllocError, Global};
@@ -26,9 +26,6 @@ const LEAST_DEVICE_BYTES: u64 = 4096;
 
 /// Where the pages of the stores begin.
 const STORES_AT: usize = 32;
-
-/// The bytes of a volume before its pages.
-const VOLUME_HEAD_BYTES: u64 = 270_336;
 
 /// What the label of a device says, in version 1.
 #[derive(Drop, PartialEq)]
@@ -198,17 +195,17 @@ fn check_fields(device: Device, len: u64, bytes: &[u8]) -> Result<usize, Fault>
     ensures refused { IfErr result (λ fault. judged (field_checks device len bytes.now) ≡ Err fault) }
 {
     if u32_at(bytes, 4) != PAGE_BYTES as u32 {
-        return Err(Fault::Damaged { device, place: 4 });
+        return Err(Fault::damaged(device, 4));
     }
-    if u64_at(bytes, 16) != len || !has_limits(device, len) {
-        return Err(Fault::Damaged { device, place: 16 });
+    if u64_at(bytes, LENGTH_AT as usize) != len || !has_limits(device, len) {
+        return Err(Fault::damaged(device, LENGTH_AT));
     }
     if !(LEAST_MAX_LOCKS..=MOST_MAX_LOCKS).contains(&u32_at(bytes, 24)) {
-        return Err(Fault::Damaged { device, place: 24 });
+        return Err(Fault::damaged(device, 24));
     }
     let count = u32_at(bytes, 28) as usize;
     if !(1..=MAX_STORES).contains(&count) {
-        return Err(Fault::Damaged { device, place: 28 });
+        return Err(Fault::damaged(device, 28));
     }
     Ok(count)
 }
@@ -234,10 +231,7 @@ fn check_stores(device: Device, stores: &[u32]) -> Result<u64, Fault>
     for pages in stores {
         total += u64::from(*pages);
         if *pages == 0 || total > u64::from(MAX_PAGES) {
-            return Err(Fault::Damaged {
-                device,
-                place: offset,
-            });
+            return Err(Fault::damaged(device, offset));
         }
         offset += 4;
     }
@@ -253,13 +247,10 @@ fn check_end(device: Device, len: u64, bytes: &[u8], count: usize, pages: u64) -
 {
     let end = STORES_AT + 4 * count;
     if !are_zero(&bytes[end..]) {
-        return Err(Fault::Damaged {
-            device,
-            place: end as u64,
-        });
+        return Err(Fault::damaged(device, end as u64));
     }
     if !is_filled(device, pages, len) {
-        return Err(Fault::Damaged { device, place: 16 });
+        return Err(Fault::damaged(device, LENGTH_AT));
     }
     Ok(())
 }
@@ -271,6 +262,6 @@ fn is_filled(device: Device, pages: u64, len: u64) -> bool
 {
     match device {
         Device::Log => true,
-        Device::Volume => len == VOLUME_HEAD_BYTES + PAGE_BYTES as u64 * pages,
+        Device::Volume => len == PAGES_AT + PAGE_BYTES as u64 * pages,
     }
 }

@@ -4,9 +4,9 @@ use Rattle.std.proofs.lemmas.Bool.{cases_eq, cases_lt, eq-eqb, ne_eqb}
 use Rattle.std.proofs.lemmas.List.{get_or_default, get_or-set_same, get_or-set_other, length-replicate, length-set}
 use Rattle.shore_types.specs.declared.ids.PageId.{PageId}
 use Rattle.shore_types.specs.declared.layout.Geometry.{Geometry}
-use Rattle.shore_types.specs.Images.{Image}
+use Rattle.shore_types.specs.Images.{Image, image_len}
 use Rattle.shore_page.specs.Room.{Fits}
-use Rattle.shore_page.specs.Slots.{Slot, image_len, with_image}
+use Rattle.shore_page.specs.Slots.{Slot, with_image}
 use Rattle.shore_heap.specs.Contents.{AreBounds, TakesNone, bound_of, same_page, with_slots}
 use Rattle.shore_heap.proofs.Rooms.{put_refuses, refuses_longest, refuses_more}
 

@@ -16,12 +16,12 @@ use Rattle.shore_pool.specs.declared.pool.Pool.{Pool}
 use Rattle.shore_pool.specs.Changes as changes
 use Rattle.shore_pool.specs.Pages.{SamePages}
 use Rattle.shore_pool.specs.Pools as pools
-use Rattle.shore_pool.specs.Pools.{Holds, NeedsForce, ReadsOnly}
+use Rattle.shore_pool.specs.Pools.{PoolHolds, NeedsForce}
 use Rattle.shore_pool.proofs.Same.{pages_on}
 use Rattle.shore_heap.specs.declared.heap.Heap.{Heap}
-use Rattle.shore_heap.specs.Contents.{AreBounds, AreKept, FitIn, Kept, claimed_frame}
-use Rattle.shore_heap.specs.Heaps.{KeepsSlots, LeavesPages, OnlyReads, Shows, StayInPlace, WroteBack, bounds_of, frame_at, frame_of, geometry_of, history_of}
-use Rattle.shore_heap.proofs.Frames.{Came, IsRead, have_come, have_fetched}
+use Rattle.shore_heap.specs.Contents.{AreBounds, AreKept, FitIn, ClaimsOfPages, claimed_frame}
+use Rattle.shore_heap.specs.Heaps.{KeepsSlots, LeavesPages, Shows, StayInPlace, WroteBack, bounds_of, faults_of, frame_at, frame_of, geometry_of, history_of, honesty_of}
+use Rattle.shore_heap.proofs.Frames.{Came, IsRead, have_fetched}
 use Rattle.shore_heap.proofs.Going.{may_be}
 use Rattle.shore_heap.proofs.Showing.{shows_by}
 
@@ -33,6 +33,12 @@ module _ {D : Type 0} {G : Ghosts D} (new : Heap D G) (mid : Pool D G) (device :
 
   pub history_by : history_of new ≡ pools.history_of mid
   history_by = ap (λ (d : PageDev D G). G.history (settled_device.device_of d)) device
+
+  pub honest_by : honesty_of new ≡ pools.honesty_of mid
+  honest_by = ap (λ (d : PageDev D G). G.is_honest (settled_device.device_of d)) device
+
+  pub faults_by : faults_of new ≡ pools.faults_of mid
+  faults_by = ap (λ (d : PageDev D G). G.faults (settled_device.device_of d)) device
 
 pub number_is : {D : Type 0} {G : Ghosts D} {g : Geometry} (mid : Pool D G) (id : PageId) → pools.geometry_of mid ≡ g → page_number (pools.geometry_of mid) id ≡ page_number g id
 number_is mid id geometry = ap (λ (it : Geometry). page_number it id) geometry
@@ -49,7 +55,7 @@ module _ {D : Type 0} {G : Ghosts D} (old : Heap D G) (mid : Pool D G) (id : Pag
       each None is = is
       each (Some f) is = is.2
 
-pub came_by : {D : Type 0} {G : Ghosts D} (old : Heap D G) (mid : Pool D G) (new : Heap D G) (id : PageId) (K : Kept) (last : ℕ) (number : page_number (pools.geometry_of mid) id ≡ page_number (geometry_of old) id)
+pub came_by : {D : Type 0} {G : Ghosts D} (old : Heap D G) (mid : Pool D G) (new : Heap D G) (id : PageId) (K : ClaimsOfPages) (last : ℕ) (number : page_number (pools.geometry_of mid) id ≡ page_number (geometry_of old) id)
     → (frame_of old id ≡ None) × IsSomeAnd (pools.frame_of mid id) (IsRead id last) → ((f : Frame) → pools.frame_of mid id ≡ Some f → FitIn (K id) f.page.slots → frame_of new id ≡ Some (claimed_frame (K id) f))
     → geometry_of new ≡ pools.geometry_of mid → Came (frame_at old) (pools.frame_at mid) (frame_at new) (page_number (geometry_of old) id) id (K id) last
 came_by old mid new id K last number read here geometry = record {
@@ -77,23 +83,23 @@ there_before was now f (inr (inr gone)) is dirty = let clash : None ≡ Some f =
 
 -- ---- a call
 
-module _ {D : Type 0} {G : Ghosts D} (old : Heap D G) (mid : Pool D G) (seen : ℕ) where
-  stay_of : (new : Heap D G) (front : List ℕ) (disk : ℕ → List ℕ) (w : pools.WroteBack old.pool mid seen front disk) → SamePages (pools.frame_at mid) w.left (frame_at new) w.left → StayInPlace old new seen disk w.left
+module _ {D : Type 0} {G : Ghosts D} (old : Heap D G) (mid : Pool D G) (durable : ℕ) where
+  stay_of : (new : Heap D G) (front : List ℕ) (disk : ℕ → List ℕ) (w : pools.WroteBack old.pool mid durable front disk) → SamePages (pools.frame_at mid) w.left (frame_at new) w.left → StayInPlace old new durable disk w.left
   stay_of new front disk w more = record {
-    may = may_be (geometry_of old) (frame_at old) seen disk old.pool.in_order w.left w.may;
+    may = may_be (geometry_of old) (frame_at old) durable disk old.pool.in_order w.left w.may;
     same = pages_on (frame_at old) (pools.frame_at mid) (frame_at new) disk w.left w.left w.same more;
   }
 
   -- the volume, and what is in place
-  pub wrote_of : (new : Heap D G) (front : List ℕ) (disk : ℕ → List ℕ) (w : pools.WroteBack old.pool mid seen front disk) → Holds new.pool front w.left × SamePages (pools.frame_at mid) w.left (frame_at new) w.left
-      → WroteBack old new seen front disk
+  pub wrote_of : (new : Heap D G) (front : List ℕ) (disk : ℕ → List ℕ) (w : pools.WroteBack old.pool mid durable front disk) → PoolHolds new.pool front w.left × SamePages (pools.frame_at mid) w.left (frame_at new) w.left
+      → WroteBack old new durable front disk
   wrote_of new front disk w more = (w.left, more.0, stay_of new front disk w more.1)
 
-  pub moment_of : (later : History) (front : List ℕ) (disk : ℕ → List ℕ) → LeavesOnly (history_of old) later (pools.LeavesPages old.pool seen front disk) → LeavesOnly (history_of old) later (LeavesPages old seen front disk)
-  moment_of later front disk leaves = widened (history_of old) later (pools.LeavesPages old.pool seen front disk) (LeavesPages old seen front disk) leaves
-      (λ image l. (l.0, l.1, may_be (geometry_of old) (frame_at old) seen disk old.pool.in_order l.0 l.2))
+  pub moment_of : (later : History) (front : List ℕ) (disk : ℕ → List ℕ) → LeavesOnly (history_of old) later (pools.LeavesPages old.pool durable front disk) → LeavesOnly (history_of old) later (LeavesPages old durable front disk)
+  moment_of later front disk leaves = widened (history_of old) later (pools.LeavesPages old.pool durable front disk) (LeavesPages old durable front disk) leaves
+      (λ image l. (l.0, l.1, may_be (geometry_of old) (frame_at old) durable disk old.pool.in_order l.0 l.2))
 
-  module _ (id : PageId) (K : Kept) (last : ℕ) (there : HasPage (geometry_of old) id) (new : Heap D G) (geometry : geometry_of new ≡ geometry_of old) (bounds : bounds_of new ≡ bounds_of old) where
+  module _ (id : PageId) (K : ClaimsOfPages) (last : ℕ) (there : HasPage (geometry_of old) id) (new : Heap D G) (geometry : geometry_of new ≡ geometry_of old) (bounds : bounds_of new ≡ bounds_of old) where
     n : ℕ
     n = page_number (geometry_of old) id
 
@@ -104,34 +110,15 @@ module _ {D : Type 0} {G : Ghosts D} (old : Heap D G) (mid : Pool D G) (seen : �
     pub kept_of : ((k : ℕ) → k ≢ page_number (geometry_of old) id → pools.StaysOrGoes (frame_at old k) (frame_at new k))
         → pools.StaysOrGoes (frame_at old (page_number (geometry_of old) id)) (frame_at new (page_number (geometry_of old) id)) ⊎ Came (frame_at old) (pools.frame_at mid) (frame_at new) (page_number (geometry_of old) id) id (K id) last
         → (front : List ℕ) (disk : ℕ → List ℕ) (S : PageId → List Slot) → Shows K old front disk S → AreKept (geometry_of old) K S
-        → (w : pools.WroteBack old.pool mid seen front disk) → Holds new.pool front w.left × SamePages (pools.frame_at mid) w.left (frame_at new) w.left → KeepsSlots K old new seen front disk S
+        → (w : pools.WroteBack old.pool mid durable front disk) → PoolHolds new.pool front w.left × SamePages (pools.frame_at mid) w.left (frame_at new) w.left → KeepsSlots K old new durable front disk S
     kept_of others come front disk S shows are w more =
         let stay = stay_of new front disk w more.1 in
         let have = have_fetched (geometry_of old) (frame_at old) (frame_at new) disk w.left K S old.pool.in_order stay.same shows.pages are (pools.frame_at mid) id last there w.same others come in
         (w.left, shows_by new.pool new (geometry_of old) K front w.left S refl geometry more.0 have (bounds_stay S shows.bounds), stay)
 
-    -- with a frame for each page
-    pub still_of : ((k : ℕ) → k ≢ page_number (geometry_of old) id → frame_at new k ≡ pools.frame_at mid k) → history_of new ≡ pools.history_of mid
-        → (frame_at new (page_number (geometry_of old) id) ≡ frame_at old (page_number (geometry_of old) id)) ⊎ Came (frame_at old) (pools.frame_at mid) (frame_at new) (page_number (geometry_of old) id) id (K id) last
-        → (front : List ℕ) (disk : ℕ → List ℕ) (S : PageId → List Slot) → Shows K old front disk S → ReadsOnly old.pool mid id front disk → Holds new.pool front disk → OnlyReads K old new front disk S
-    still_of others history come front disk S shows still holds = record {
-      shows = shows_by new.pool new (geometry_of old) K front disk S refl geometry holds
-          (have_come (geometry_of old) (frame_at old) (frame_at new) disk K S id there (λ k apart. others k apart ∙ still.others k apart) shows.pages (pools.frame_at mid) last still.holds.written come) (bounds_stay S shows.bounds);
-      history = history ∙ still.history;
-      stay = λ k f is. elim (cases_eq k (page_number (geometry_of old) id)) [
-        | inl same ↦ its k f same is come
-        | inr apart ↦ others k apart ∙ still.stay k f is
-      ];
-    }
-      where
-        its : (k : ℕ) (f : Frame) → k ≡ page_number (geometry_of old) id → frame_at old k ≡ Some f
-            → (frame_at new (page_number (geometry_of old) id) ≡ frame_at old (page_number (geometry_of old) id)) ⊎ Came (frame_at old) (pools.frame_at mid) (frame_at new) (page_number (geometry_of old) id) id (K id) last → frame_at new k ≡ Some f
-        its k f same is (inl stays) = ap (frame_at new) same ∙ stays ∙ ap (frame_at old) (sym same) ∙ is
-        its k f same is (inr came) = let clash : None ≡ Some f = sym came.none ∙ ap (frame_at old) (sym same) ∙ is in absurd cc
-
     -- a frame that came clean may go again
     pub forced_of : IsSomeAnd (pools.frame_at mid (page_number (geometry_of old) id)) (λ f. f.recovery ≡ None)
-        → option_map (λ f. f.recovery) (frame_at new (page_number (geometry_of old) id)) ≡ option_map (λ f. f.recovery) (pools.frame_at mid (page_number (geometry_of old) id)) → (number : ℕ) → NeedsForce new.pool seen number → ⊥
+        → option_map (λ f. f.recovery) (frame_at new (page_number (geometry_of old) id)) ≡ option_map (λ f. f.recovery) (pools.frame_at mid (page_number (geometry_of old) id)) → (number : ℕ) → NeedsForce new.pool durable number → ⊥
     forced_of clean dirt number needs = each (pools.frame_at mid (page_number (geometry_of old) id)) (frame_at new (page_number (geometry_of old) id)) refl clean dirt
       where
         each : (o e : Option Frame) → frame_at new (page_number (geometry_of old) id) ≡ e → IsSomeAnd o (λ f. f.recovery ≡ None) → option_map (λ f. f.recovery) e ≡ option_map (λ f. f.recovery) o → ⊥

@@ -1,8 +1,6 @@
 -- The first place of a store, by what is known of its pages.
-use Rattle.std.proofs.Common.{◌≡◌, ◌+◌, ◌<◌, ◌≤◌, ℕ, List, Option, None, Some, Ok, Err, IfNone, IfSome, IsSomeAnd, refl, sym, ap, subst, ◌∙◌, inl, inr, arith}
+use Rattle.std.proofs.Common.{◌≡◌, ◌+◌, ◌<◌, ◌≤◌, ℕ, List, Option, None, Some, IfNone, IfSome, IsSomeAnd, refl, sym, ap, subst, ◌∙◌, inl, inr, arith}
 use Rattle.std.proofs.lemmas.Bool.{cases_eq, cases_lt}
-use Rattle.shore_disk.specs.Cause.{HasCause}
-use Rattle.shore_types.specs.declared.faults.Fault.TheVariants.{Device}
 use Rattle.shore_types.specs.declared.ids.PageId.{PageId}
 use Rattle.shore_types.specs.declared.ids.Rid.{Rid}
 use Rattle.shore_types.specs.declared.layout.Geometry.{Geometry}
@@ -10,7 +8,7 @@ use Rattle.shore_types.specs.Layout.{HasPage, HasSlot}
 use Rattle.shore_page.specs.Slots.{Slot}
 use Rattle.shore_heap.specs.Contents.{AreBounds, bound_of}
 use Rattle.shore_pool.specs.declared.frame.Frame.{Frame}
-use Rattle.shore_heap.specs.Places.{HasNoPlace, HasNoSlot, IsFirstSlot, IsFree, IsPlace, Takes, slots_of}
+use Rattle.shore_heap.specs.Places.{HasNoPlace, HasNoSlot, IsFirstSlot, IsFreeSlot, IsPlace, Takes, slots_of}
 
 abbrev the_page : ℕ → ℕ → PageId
 the_page store page = record { store = store; page = page }
@@ -25,9 +23,6 @@ if_some_at P (Some y) x is p = let same : y ≡ x = cc in subst P same p
 pub if_none_at : {A : Type 0} (P : Type 0) (o : Option A) → o ≡ None → IfNone o P → P
 if_none_at P None is p = p
 if_none_at P (Some y) is p = let clash : Some y ≡ None = is in absurd cc
-
-pub ok_same : {T : Type 0} (x : T) (old new : ℕ) → HasCause (Ok x) old new → new ≡ old
-ok_same x old new cause = cause.unreported (λ is. let clash : Ok x ≡ Err Device = is in cc)
 
 module _ (g : Geometry) (S : PageId → List Slot) (store bytes : ℕ) (MayTake : Rid → Type 0) where
   -- no slot of a page takes so many bytes and may be taken
@@ -52,7 +47,7 @@ module _ (g : Geometry) (S : PageId → List Slot) (store bytes : ℕ) (MayTake 
       elim (cases_lt other.page.page page) [ inl less ↦ absurd (refused other takes (below other.page.page less)) | inr more ↦ more ],
       λ same.
           let here : other.page ≡ the_page store page = sym (page_is other.page takes.of_store) ∙ ap (λ (n : ℕ). the_page store n) same in
-          first.first other.slot (subst (λ (p : PageId). IsFree (S p) bytes other.slot) here (takes.empty, takes.fits)) (subst (λ (p : PageId). slots_of MayTake p other.slot) here takes.allowed),
+          first.first other.slot (subst (λ (p : PageId). IsFreeSlot (S p) bytes other.slot) here (takes.empty, takes.fits)) (subst (λ (p : PageId). slots_of MayTake p other.slot) here takes.allowed),
     );
   }
 
@@ -72,6 +67,6 @@ module _ (g : Geometry) (S : PageId → List Slot) (store bytes : ℕ) (MayTake 
   ]
 
 -- a slot that takes bytes in a frame is one that a record may have
-pub slot_there : (g : Geometry) (id : Rid) (o : Option Frame) (bytes : ℕ) → HasPage g id.page → IsSomeAnd o (λ f. IsFree f.page.slots bytes id.slot) → HasSlot g id
+pub slot_there : (g : Geometry) (id : Rid) (o : Option Frame) (bytes : ℕ) → HasPage g id.page → IsSomeAnd o (λ f. IsFreeSlot f.page.slots bytes id.slot) → HasSlot g id
 slot_there g id (Some f) bytes there free = (there, free.1.there)
 slot_there g id None bytes there free = absurd free

@@ -16,7 +16,7 @@ use Rattle.shore_pool.specs.Pools as pools
 use Rattle.shore_pool.proofs.Same.{pages_stay}
 use Rattle.shore_flush.specs.Flushes.{Flushes}
 use Rattle.shore_heap.specs.declared.heap.Heap.{Heap}
-use Rattle.shore_heap.specs.Contents.{AreBounds, HasSlots, Kept}
+use Rattle.shore_heap.specs.Contents.{AreBounds, HasSlots, ClaimsOfPages}
 use Rattle.shore_heap.specs.Heaps.{KeepsSlots, Shows, WroteBack, bounds_of, frame_at, geometry_of}
 use Rattle.shore_heap.proofs.Fetched.{wrote_of}
 use Rattle.shore_heap.proofs.Frames.{Have}
@@ -48,7 +48,7 @@ module _ (at now : ℕ → Option Frame) where
   may_settle pages clean others k = elim (is_among pages k) [ inl among ↦ inr (clean k among) | inr none ↦ inl (others k none) ]
 
   -- so each page has the slots that it had
-  have_settled : (g : Geometry) (disk left : ℕ → List ℕ) (K : Kept) (S : PageId → List Slot) → MaySettle → SamePages at disk now left → Have g at disk K S → Have g now left K S
+  have_settled : (g : Geometry) (disk left : ℕ → List ℕ) (K : ClaimsOfPages) (S : PageId → List Slot) → MaySettle → SamePages at disk now left → Have g at disk K S → Have g now left K S
   have_settled g disk left K S may same have id there = each (at (page_number g id)) refl (have id there)
     where
       each : (o : Option Frame) → at (page_number g id) ≡ o → HasSlots o (disk (page_number g id)) id (K id) (S id) → HasSlots (now (page_number g id)) (left (page_number g id)) id (K id) (S id)
@@ -65,32 +65,32 @@ module _ (at now : ℕ → Option Frame) where
 
 -- ---- the call
 
-module _ {D : Type 0} {G : Ghosts D} (old new : Heap D G) (seen : ℕ) where
-  wrote_by : (front : List ℕ) (disk : ℕ → List ℕ) → pools.WroteBack old.pool new.pool seen front disk → WroteBack old new seen front disk
-  wrote_by front disk w = wrote_of old new.pool seen new front disk w (w.holds, pages_stay (frame_at new) (frame_at new) w.left (λ k. refl))
+module _ {D : Type 0} {G : Ghosts D} (old new : Heap D G) (durable : ℕ) where
+  wrote_by : (front : List ℕ) (disk : ℕ → List ℕ) → pools.WroteBack old.pool new.pool durable front disk → WroteBack old new durable front disk
+  wrote_by front disk w = wrote_of old new.pool durable new front disk w (w.holds, pages_stay (frame_at new) (frame_at new) w.left (λ k. refl))
 
   -- the volume, and what is in place
   pub flush_wrote : (r : Result ℕ Fault) (front : List ℕ) (disk : ℕ → List ℕ)
-      → MatchResult r (λ _. pools.WroteBack old.pool new.pool seen front disk) (λ f. (f ≡ fault.Device) ⊎ pools.WroteBack old.pool new.pool seen front disk)
-      → MatchResult r (λ _. WroteBack old new seen front disk) (λ f. (f ≡ fault.Device) ⊎ WroteBack old new seen front disk)
+      → MatchResult r (λ _. pools.WroteBack old.pool new.pool durable front disk) (λ f. (f ≡ fault.Device) ⊎ pools.WroteBack old.pool new.pool durable front disk)
+      → MatchResult r (λ _. WroteBack old new durable front disk) (λ f. (f ≡ fault.Device) ⊎ WroteBack old new durable front disk)
   flush_wrote (Ok count) front disk w = wrote_by front disk w
   flush_wrote (Err f) front disk (inl device) = inl device
   flush_wrote (Err f) front disk (inr w) = inr (wrote_by front disk w)
 
   -- .. and the slots
   kept_by : geometry_of new ≡ geometry_of old → bounds_of new ≡ bounds_of old → MaySettle (frame_at old) (frame_at new)
-      → (K : Kept) (front : List ℕ) (disk : ℕ → List ℕ) (S : PageId → List Slot) → Shows K old front disk S → pools.WroteBack old.pool new.pool seen front disk → KeepsSlots K old new seen front disk S
+      → (K : ClaimsOfPages) (front : List ℕ) (disk : ℕ → List ℕ) (S : PageId → List Slot) → Shows K old front disk S → pools.WroteBack old.pool new.pool durable front disk → KeepsSlots K old new durable front disk S
   kept_by geometry bounds may K front disk S shows w =
       let wrote = wrote_by front disk w in
       let have = have_settled (frame_at old) (frame_at new) (geometry_of old) disk wrote.0 K S may wrote.2.same shows.pages in
       let refused : AreBounds (geometry_of old) new.free.items S = subst (λ (free : List (List ℕ)). AreBounds (geometry_of old) free S) (sym bounds) shows.bounds in
       (wrote.0, shows_by new.pool new (geometry_of old) K front wrote.0 S refl geometry wrote.1 have refused, wrote.2)
 
-  pub flush_kept : (r : Result ℕ Fault) → geometry_of new ≡ geometry_of old → bounds_of new ≡ bounds_of old → IfOk r (λ count. Flushes old.pool new.pool seen count)
+  pub flush_kept : (r : Result ℕ Fault) → geometry_of new ≡ geometry_of old → bounds_of new ≡ bounds_of old → IfOk r (λ count. Flushes old.pool new.pool durable count)
       → IfErr r (λ f. ((f ≡ fault.Device) ⊎ (f ≡ fault.Memory)) × ((k : ℕ) → frame_at new k ≡ frame_at old k))
-      → (K : Kept) (front : List ℕ) (disk : ℕ → List ℕ) (S : PageId → List Slot) → Shows K old front disk S
-      → MatchResult r (λ _. pools.WroteBack old.pool new.pool seen front disk) (λ f. (f ≡ fault.Device) ⊎ pools.WroteBack old.pool new.pool seen front disk)
-      → MatchResult r (λ _. KeepsSlots K old new seen front disk S) (λ f. (f ≡ fault.Device) ⊎ KeepsSlots K old new seen front disk S)
+      → (K : ClaimsOfPages) (front : List ℕ) (disk : ℕ → List ℕ) (S : PageId → List Slot) → Shows K old front disk S
+      → MatchResult r (λ _. pools.WroteBack old.pool new.pool durable front disk) (λ f. (f ≡ fault.Device) ⊎ pools.WroteBack old.pool new.pool durable front disk)
+      → MatchResult r (λ _. KeepsSlots K old new durable front disk S) (λ f. (f ≡ fault.Device) ⊎ KeepsSlots K old new durable front disk S)
   flush_kept (Ok count) geometry bounds flushed refused K front disk S shows w =
       kept_by geometry bounds (may_settle (frame_at old) (frame_at new) flushed.pages flushed.clean flushed.others) K front disk S shows w
   flush_kept (Err f) geometry bounds flushed refused K front disk S shows (inl device) = inl device

@@ -11,10 +11,9 @@ use Rattle.shore_page.specs.Text.{IsPageText, images_of, settled_page}
 use Rattle.shore_pool.specs.declared.frame.Frame.{Frame}
 use Rattle.shore_pool.specs.declared.pool.Fetched.{Fetched}
 use Rattle.shore_pool.specs.Changes as changes
-use Rattle.shore_pool.specs.Pages.{AreInOrder, AreWritten, IsPage, SamePages}
+use Rattle.shore_pool.specs.Pages.{AreInOrder, IsPage, SamePages}
 use Rattle.shore_pool.specs.Pools.{StaysOrGoes}
-use Rattle.shore_pool.proofs.Same.{one_text}
-use Rattle.shore_heap.specs.Contents.{AreKept, FitIn, HasSlots, Kept, claimed_by, claimed_frame, with_slots}
+use Rattle.shore_heap.specs.Contents.{AreKept, FitIn, HasSlots, ClaimsOfPages, claimed_by, claimed_frame, with_slots}
 use Rattle.shore_heap.proofs.Bounds.{cases_page, slots_here, slots_other}
 
 -- a fetch found a page, or read it
@@ -46,7 +45,7 @@ abbrev pub IsRead : PageId → ℕ → Frame → Type 0
 IsRead id last f = (f.page ≡ settled_page id f.page.number (images_of f.page.slots)) × (f.page.number ≤ last) × (f.recovery ≡ None)
 
 -- each page has these slots, by these frames
-abbrev pub Have : Geometry → (ℕ → Option Frame) → (ℕ → List ℕ) → Kept → (PageId → List Slot) → Type 0
+abbrev pub Have : Geometry → (ℕ → Option Frame) → (ℕ → List ℕ) → ClaimsOfPages → (PageId → List Slot) → Type 0
 Have g frames disk K S = (id : PageId) → HasPage g id → HasSlots (frames (page_number g id)) (disk (page_number g id)) id (K id) (S id)
 
 -- a page that was read has its slots when so much is kept for them
@@ -73,23 +72,9 @@ came_slots at mid now n id kept last was text slots came has images = each (mid 
         let both = read_slots id last was kept slots f read old (images f old.1 is read old.0 old.2) in
         subst (λ (o : Option Frame). HasSlots o text id kept slots) (sym (came.then_kept f is both.0)) both.1
 
-module _ (g : Geometry) (at now : ℕ → Option Frame) (disk : ℕ → List ℕ) (K : Kept) (S : PageId → List Slot) (id : PageId) (there : HasPage g id) (others : (k : ℕ) → k ≢ page_number g id → now k ≡ at k) (have : Have g at disk K S) where
+module _ (g : Geometry) (at now : ℕ → Option Frame) (disk : ℕ → List ℕ) (K : ClaimsOfPages) (S : PageId → List Slot) (id : PageId) (there : HasPage g id) (others : (k : ℕ) → k ≢ page_number g id → now k ≡ at k) (have : Have g at disk K S) where
   elsewhere : (p : PageId) → HasPage g p → p ≢ id → HasSlots (now (page_number g p)) (disk (page_number g p)) p (K p) (S p)
   elsewhere p has apart = subst (λ (o : Option Frame). HasSlots o (disk (page_number g p)) p (K p) (S p)) (sym (others (page_number g p) (λ same. apart (one_page g p id has there same)))) (have p has)
-
-  -- a page came into a frame, or was there
-  pub have_come : (mid : ℕ → Option Frame) (last : ℕ) → AreWritten mid disk → (now (page_number g id) ≡ at (page_number g id)) ⊎ Came at mid now (page_number g id) id (K id) last → Have g now disk K S
-  have_come mid last written come p has = elim (cases_page p id) [
-    | inl same ↦ subst (λ (q : PageId). HasSlots (now (page_number g q)) (disk (page_number g q)) q (K q) (S q)) (sym same) here
-    | inr other ↦ elsewhere p has other
-  ]
-    where
-      here : HasSlots (now (page_number g id)) (disk (page_number g id)) id (K id) (S id)
-      here = elim come [
-        | inl same ↦ subst (λ (o : Option Frame). HasSlots o (disk (page_number g id)) id (K id) (S id)) (sym same) (have id there)
-        | inr came ↦ came_slots at mid now (page_number g id) id (K id) last (disk (page_number g id)) (disk (page_number g id)) (S id) came (have id there)
-            (λ f images is read number text. (one_text (disk (page_number g id)) f.page.id id f.page.number number (images_of f.page.slots) images (written (page_number g id) f is read.2) text).2)
-      ]
 
   -- the slots of a page in a frame are changed
   pub have_changed : (change : Frame → Frame) (f : List Slot → List Slot) → ((e : Frame) → (change e).page.slots ≡ f e.page.slots) → now (page_number g id) ≡ option_map change (at (page_number g id))
@@ -106,7 +91,7 @@ module _ (g : Geometry) (at now : ℕ → Option Frame) (disk : ℕ → List ℕ
 
 -- ---- pages that may have left their frames
 
-module _ (g : Geometry) (at now : ℕ → Option Frame) (disk left : ℕ → List ℕ) (K : Kept) (S : PageId → List Slot) (order : AreInOrder at g) (same : SamePages at disk now left) (have : Have g at disk K S) (are : AreKept g K S) where
+module _ (g : Geometry) (at now : ℕ → Option Frame) (disk left : ℕ → List ℕ) (K : ClaimsOfPages) (S : PageId → List Slot) (order : AreInOrder at g) (same : SamePages at disk now left) (have : Have g at disk K S) (are : AreKept g K S) where
   -- a page that has no frame now, whether it had one or not
   have_gone : (p : PageId) → HasPage g p → now (page_number g p) ≡ None → HasSlots None (left (page_number g p)) p (K p) (S p)
   have_gone p has none = each (at (page_number g p)) refl (have p has)

@@ -8,7 +8,7 @@ use Rattle.shore_dwrite.specs.Volumes.{page_number}
 use Rattle.shore_page.specs.Room.{Fits, raised}
 use Rattle.shore_pool.specs.Changes.{reclaimed}
 use Rattle.shore_pool.specs.Pages.{SamePages}
-use Rattle.shore_pool.specs.Pools.{Holds}
+use Rattle.shore_pool.specs.Pools.{PoolHolds}
 use Rattle.shore_pool.specs.declared.frame.Frame.{Frame}
 use Rattle.shore_pool.proofs.Same.{pages_on, pages_stay}
 use Rattle.shore_heap.specs.declared.heap.Heap.{Heap}
@@ -23,7 +23,7 @@ module _ {D : Type 0} {G : Ghosts D} (id : PageId) where
     pub here : (f : Frame) → frame_of old id ≡ Some f → FitIn kept f.page.slots → frame_of new id ≡ Some (claimed_frame kept f)
     pub dirt : (k : ℕ) → option_map (λ f. f.recovery) (frame_at new k) ≡ option_map (λ f. f.recovery) (frame_at old k)
     pub others : (k : ℕ) → k ≢ page_number (geometry_of old) id → frame_at new k ≡ frame_at old k
-    pub pages : (front : List ℕ) (disk : ℕ → List ℕ) → Holds old.pool front disk → Holds new.pool front disk × SamePages (frame_at old) disk (frame_at new) disk
+    pub pages : (front : List ℕ) (disk : ℕ → List ℕ) → PoolHolds old.pool front disk → PoolHolds new.pool front disk × SamePages (frame_at old) disk (frame_at new) disk
 
   -- no claim as yet
   pub keeps_none : (old : Heap D G) → Keeps [] old old
@@ -42,7 +42,7 @@ module _ {D : Type 0} {G : Ghosts D} (id : PageId) where
       → device_of new ≡ device_of mid → limit_of new ≡ limit_of mid → bounds_of new ≡ bounds_of mid
       → ((f : Frame) → frame_of mid id ≡ Some f → slot < length f.page.slots → Fits f.page.slots slot bytes → frame_of new id ≡ Some (reclaimed (raised bytes) slot f))
       → ((k : ℕ) → option_map (λ f. f.recovery) (frame_at new k) ≡ option_map (λ f. f.recovery) (frame_at mid k)) → ((k : ℕ) → k ≢ page_number (geometry_of mid) id → frame_at new k ≡ frame_at mid k)
-      → ((front : List ℕ) (disk : ℕ → List ℕ) → Holds mid.pool front disk → Holds new.pool front disk × SamePages (frame_at mid) disk (frame_at new) disk)
+      → ((front : List ℕ) (disk : ℕ → List ℕ) → PoolHolds mid.pool front disk → PoolHolds new.pool front disk × SamePages (frame_at mid) disk (frame_at new) disk)
       → Keeps ((slot, bytes) ∷ kept) old new
   keeps_one kept slot bytes old mid new keeps device limit bounds here dirt others pages = record {
     device = device ∙ keeps.device;

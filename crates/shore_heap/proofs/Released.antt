@@ -2,14 +2,14 @@
 use Rattle.std.proofs.Common.{◌≡◌, ◌≢◌, ◌≤◌, ℕ, zero, suc, List, [], ◌∷◌, Option, Some, None, IfSome, length, map, max, min, refl, sym, ap, subst, ◌∙◌, inl, inr, arith}
 use Rattle.shore_types.specs.declared.ids.PageId.{PageId}
 use Rattle.shore_types.specs.declared.layout.Geometry.{Geometry}
-use Rattle.shore_types.specs.Images.{Image}
+use Rattle.shore_types.specs.Images.{Image, image_len}
 use Rattle.shore_types.specs.Layout.{HasPage}
 use Rattle.shore_dwrite.specs.Volumes.{page_number}
 use Rattle.shore_page.specs.Room.{lowered, raised}
-use Rattle.shore_page.specs.Slots.{Slot, image_len, settled, with_change}
+use Rattle.shore_page.specs.Slots.{Slot, settled, with_change}
 use Rattle.shore_page.specs.Text.{IsPageText, images_of}
 use Rattle.shore_pool.specs.declared.frame.Frame.{Frame}
-use Rattle.shore_heap.specs.Contents.{FitIn, HasSlots, Kept, claimed_by, with_slots}
+use Rattle.shore_heap.specs.Contents.{FitIn, HasSlots, ClaimsOfPages, claimed_by, with_slots}
 use Rattle.shore_heap.proofs.Frames.{Have}
 use Rattle.shore_heap.proofs.Bounds.{cases_page, slots_here, slots_other}
 
@@ -56,7 +56,7 @@ told_slots None text id kept later slots none has fit =
 told_slots (Some f) text id kept later slots none has fit = let clash : Some f ≡ None = none in absurd cc
 
 -- no frame changes, and of one page other claims are told
-pub have_told : (g : Geometry) (at : ℕ → Option Frame) (disk : ℕ → List ℕ) (K L : Kept) (S : PageId → List Slot) (id : PageId) (change : List Slot → List Slot) → Have g at disk K S → ((p : PageId) → p ≢ id → L p ≡ K p)
+pub have_told : (g : Geometry) (at : ℕ → Option Frame) (disk : ℕ → List ℕ) (K L : ClaimsOfPages) (S : PageId → List Slot) (id : PageId) (change : List Slot → List Slot) → Have g at disk K S → ((p : PageId) → p ≢ id → L p ≡ K p)
     → (HasPage g id → HasSlots (at (page_number g id)) (disk (page_number g id)) id (L id) (change (S id))) → Have g at disk L (with_slots S id change)
 have_told g at disk K L S id change have others here p has = elim (cases_page p id) [
   | inl same ↦ subst (λ (q : PageId). HasSlots (at (page_number g q)) (disk (page_number g q)) q (L q) (with_slots S id change q)) (sym same)

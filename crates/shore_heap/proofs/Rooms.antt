@@ -1,8 +1,8 @@
 -- What takes a record after a change has taken it before.
 use Rattle.std.proofs.Common.{◌≡◌, ◌≢◌, ℕ, zero, suc, ◌+◌, ◌-◌, ◌<◌, ◌≤◌, max, List, [], ◌∷◌, ◌++◌, length, replicate, Some, None, refl, sym, ap, ◌∙◌, inl, inr, arith}
 use Rattle.std.proofs.lemmas.Bool.{cases_lt}
-use Rattle.shore_types.specs.Images.{Image}
-use Rattle.shore_page.specs.Slots.{Slot, image_len, image_at_slot, with_change, with_slot, with_image, holding, settled}
+use Rattle.shore_types.specs.Images.{Image, image_len}
+use Rattle.shore_page.specs.Slots.{Slot, image_at_slot, with_change, with_slot, with_image, holding, settled}
 use Rattle.shore_page.specs.Room.{claims, claim_at, Fits, IsCandidate, IsFirstCandidate}
 use Rattle.shore_page.proofs.Fitting.{IsSame, claims_changed, others_changed}
 use Rattle.shore_page.proofs.RoomLemmas.{claims-with_slot, length-with_slot}

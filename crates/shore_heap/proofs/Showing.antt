@@ -9,20 +9,20 @@ use Rattle.shore_page.specs.Slots.{Slot}
 use Rattle.shore_pool.specs.declared.frame.Frame.{Frame}
 use Rattle.shore_pool.specs.declared.pool.Pool.{Pool}
 use Rattle.shore_pool.specs.Pools as pools
-use Rattle.shore_pool.specs.Pools.{Holds}
+use Rattle.shore_pool.specs.Pools.{PoolHolds}
 use Rattle.shore_heap.specs.declared.heap.Heap.{Heap}
-use Rattle.shore_heap.specs.Contents.{AreBounds, HasSlots, Kept, TakesNone}
-use Rattle.shore_heap.specs.Heaps.{KeepsVolume, OnlyReads, Shows, frame_of, geometry_of}
+use Rattle.shore_heap.specs.Contents.{AreBounds, HasSlots, ClaimsOfPages, TakesNone}
+use Rattle.shore_heap.specs.Heaps.{Shows, frame_of, geometry_of}
 use Rattle.shore_heap.proofs.Frames.{Have}
 
 module _ {D : Type 0} {G : Ghosts D} where
-  pub shows_by : (pool : Pool D G) (heap : Heap D G) (g : Geometry) (K : Kept) (front : List ℕ) (disk : ℕ → List ℕ) (S : PageId → List Slot) → heap.pool ≡ pool → pools.geometry_of pool ≡ g → Holds pool front disk
+  pub shows_by : (pool : Pool D G) (heap : Heap D G) (g : Geometry) (K : ClaimsOfPages) (front : List ℕ) (disk : ℕ → List ℕ) (S : PageId → List Slot) → heap.pool ≡ pool → pools.geometry_of pool ≡ g → PoolHolds pool front disk
       → Have g (pools.frame_at pool) disk K S → AreBounds g heap.free.items S → Shows K heap front disk S
   shows_by pool heap g K front disk S same geometry holds have bounds =
       let pool_is : pool ≡ heap.pool = sym same in
       let g_is : g ≡ geometry_of heap = sym geometry ∙ ap pools.geometry_of pool_is in
       record {
-        holds = subst (λ (p : Pool D G). Holds p front disk) pool_is holds;
+        holds = subst (λ (p : Pool D G). PoolHolds p front disk) pool_is holds;
         pages = subst (λ (it : Geometry). Have it (pools.frame_at heap.pool) disk K S) g_is (subst (λ (p : Pool D G). Have g (pools.frame_at p) disk K S) pool_is have);
         bounds = subst (λ (it : Geometry). AreBounds it heap.free.items S) g_is bounds;
       }
@@ -31,23 +31,8 @@ module _ {D : Type 0} {G : Ghosts D} where
   pub frame_is : (pool : Pool D G) (g : Geometry) (id : PageId) (o : Option Frame) → pools.geometry_of pool ≡ g → pools.frame_of pool id ≡ o → pools.frame_at pool (page_number g id) ≡ o
   frame_is pool g id o geometry is = ap (λ (it : Geometry). pools.frame_at pool (page_number it id)) (sym geometry) ∙ is
 
-  -- one call that only reads after another
-  pub reads_then : (old mid new : Heap D G) (K : Kept) (front : List ℕ) (disk : ℕ → List ℕ) (S : PageId → List Slot) → OnlyReads K old mid front disk S → OnlyReads K mid new front disk S → OnlyReads K old new front disk S
-  reads_then old mid new K front disk S one two = record { shows = two.shows; history = two.history ∙ one.history; stay = λ k f is. two.stay k f (one.stay k f is) }
-
-  -- .. and one after another that keeps the volume
-  pub keeps_then : (old mid new : Heap D G) → KeepsVolume old mid → KeepsVolume mid new → KeepsVolume old new
-  keeps_then old mid new one two front disk holds =
-      let first = one front disk holds in
-      let second = two front disk first.0 in
-      (second.0, second.1 ∙ first.1)
-
-  -- nothing was called
-  pub same_reads : (heap : Heap D G) (K : Kept) (front : List ℕ) (disk : ℕ → List ℕ) (S : PageId → List Slot) → Shows K heap front disk S → OnlyReads K heap heap front disk S
-  same_reads heap K front disk S shows = record { shows = shows; history = refl; stay = λ k f is. is }
-
   -- the slots of the volume's pages are the same
-  pub shows_same : (heap : Heap D G) (K : Kept) (front : List ℕ) (disk : ℕ → List ℕ) (S T : PageId → List Slot) → ((id : PageId) → HasPage (geometry_of heap) id → T id ≡ S id) → Shows K heap front disk S → Shows K heap front disk T
+  pub shows_same : (heap : Heap D G) (K : ClaimsOfPages) (front : List ℕ) (disk : ℕ → List ℕ) (S T : PageId → List Slot) → ((id : PageId) → HasPage (geometry_of heap) id → T id ≡ S id) → Shows K heap front disk S → Shows K heap front disk T
   shows_same heap K front disk S T same shows = record {
     holds = shows.holds;
     pages = λ id has. subst (HasSlots (frame_of heap id) (disk (page_number (geometry_of heap) id)) id (K id)) (sym (same id has)) (shows.pages id has);
@@ -55,7 +40,7 @@ module _ {D : Type 0} {G : Ghosts D} where
   }
 
   -- other claims are told of pages in frames
-  pub shows_told : (heap : Heap D G) (K L : Kept) (front : List ℕ) (disk : ℕ → List ℕ) (S : PageId → List Slot) → ((id : PageId) → HasPage (geometry_of heap) id → frame_of heap id ≡ None → L id ≡ K id)
+  pub shows_told : (heap : Heap D G) (K L : ClaimsOfPages) (front : List ℕ) (disk : ℕ → List ℕ) (S : PageId → List Slot) → ((id : PageId) → HasPage (geometry_of heap) id → frame_of heap id ≡ None → L id ≡ K id)
       → Shows K heap front disk S → Shows L heap front disk S
   shows_told heap K L front disk S same shows = record {
     holds = shows.holds;

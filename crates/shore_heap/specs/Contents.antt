@@ -4,7 +4,7 @@ use Rattle.shore_types.specs.declared.ids.PageId.{PageId}
 use Rattle.shore_types.specs.declared.layout.Geometry.{Geometry}
 use Rattle.shore_types.specs.Images.{Image}
 use Rattle.shore_types.specs.Layout.{HasPage}
-pub use Rattle.shore_page.specs.Claims.{FitIn, Kept, claimed_by, unclaimed}
+pub use Rattle.shore_page.specs.Claims.{FitIn, ClaimsOfPages, claimed_by, unclaimed}
 use Rattle.shore_page.specs.Room.{Fits}
 use Rattle.shore_page.specs.Slots.{Slot, image_at_slot, settled}
 use Rattle.shore_page.specs.Text.{IsPageText, images_of}
@@ -21,7 +21,7 @@ HasSlots (Some f) text id kept slots = f.page.slots ≡ slots
 HasSlots None text id kept slots = (number : ℕ) × (images : List Image) × IsPageText text id number images × (slots ≡ claimed_by kept (map settled images)) × FitIn kept (map settled images)
 
 -- Each page claims what its records take, and what may come back to it, and no more: so it may leave its frame.
-abbrev pub AreKept : Geometry → Kept → (PageId → List Slot) → Type 0
+abbrev pub AreKept : Geometry → ClaimsOfPages → (PageId → List Slot) → Type 0
 AreKept g K S = (id : PageId) → HasPage g id → (S id ≡ claimed_by (K id) (map settled (images_of (S id)))) × FitIn (K id) (map settled (images_of (S id)))
 
 abbrev pub same_page : PageId → PageId → Bool

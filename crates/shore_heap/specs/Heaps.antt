@@ -1,28 +1,31 @@
--- What a heap shows over a volume, and what a call that only reads leaves of it.
-use Rattle.std.specs.Prelude.{◌≡◌, ◌⊎◌, ◌≤◌, Bool, ℕ, List, Option, Some}
-use Rattle.shore_disk.specs.Device.{History}
+-- What a heap shows over a volume, and what a call leaves of it.
+use Rattle.std.specs.Prelude.{◌≡◌, ◌≢◌, ◌⊎◌, ◌≤◌, Bool, ℕ, List, MatchResult, None, OnOk, Option, Result, Some}
+use Rattle.shore_disk.specs.Cause.{HasCause}
+use Rattle.shore_disk.specs.Device.{History, LeavesOnly, size}
 use Rattle.shore_disk.specs.declared.device.Disk.{Ghosts}
+use Rattle.shore_types.specs.declared.faults.Device.TheVariants as device
 use Rattle.shore_types.specs.declared.faults.Fault.{Fault}
 use Rattle.shore_types.specs.declared.faults.Fault.TheVariants as fault
 use Rattle.shore_types.specs.declared.ids.PageId.{PageId}
 use Rattle.shore_types.specs.declared.ids.Rid.{Rid}
 use Rattle.shore_types.specs.declared.layout.Geometry.{Geometry}
+use Rattle.shore_types.specs.declared.log_ends.LogEnds.{LogEnds}
 use Rattle.shore_types.specs.Images.{Image}
 use Rattle.shore_types.specs.Layout.{HasPage}
 use Rattle.shore_dwrite.specs.declared.device.PageDev.{PageDev}
 use Rattle.shore_dwrite.specs.Shown.{ShowsBehind}
-use Rattle.shore_dwrite.specs.Volumes.{page_count, page_number}
+use Rattle.shore_dwrite.specs.Volumes.{HasNoPage, page_number, page_offset}
 use Rattle.shore_page.specs.Slots.{Slot}
 use Rattle.shore_page.specs.Text.{IsPageText}
 use Rattle.shore_pool.specs.declared.frame.Frame.{Frame}
 use Rattle.shore_pool.specs.declared.pool.Pool.{Pool}
 use Rattle.shore_pool.specs.Pools as pools
 use Rattle.shore_pool.specs.Pages.{SamePages}
-use Rattle.shore_pool.specs.Pools.{HasInPlace, Holds, NeedsForce}
+use Rattle.shore_pool.specs.Pools.{HasInPlace, PoolHolds, NeedsForce}
 use Rattle.shore_page.specs.declared.undecided.Claims as claims
 use Rattle.shore_heap.specs.declared.choices.Places as choices
 use Rattle.shore_heap.specs.declared.heap.Heap.{Heap}
-use Rattle.shore_heap.specs.Contents.{AreBounds, AreKept, HasSlots, Kept}
+use Rattle.shore_heap.specs.Contents.{AreBounds, AreKept, HasSlots, ClaimsOfPages}
 
 abbrev pub pool_of : {D : Type 0} {G : Ghosts D} → Heap D G → Pool D G
 pool_of heap = heap.pool
@@ -59,12 +62,8 @@ frame_of heap id = pools.frame_of heap.pool id
 abbrev pub limit_of : {D : Type 0} {G : Ghosts D} → Heap D G → ℕ
 limit_of heap = pools.limit_of heap.pool
 
--- there is a frame for each page of the volume
-abbrev pub IsWhole : {D : Type 0} {G : Ghosts D} → Heap D G → Type 0
-IsWhole heap = page_count (geometry_of heap) ≤ limit_of heap
-
 -- what undecided changes may put back on each page
-abbrev pub claims_in : {C : Type 0} (G : claims.Ghosts C) → C → Kept
+abbrev pub claims_in : {C : Type 0} (G : claims.Ghosts C) → C → ClaimsOfPages
 claims_in G undecided = G.kept undecided
 
 -- the places that may be taken
@@ -73,49 +72,66 @@ allowed_by G places = G.MayTake places
 
 -- The volume is settled with these texts behind this front, what is clean in a frame is there, and each page has these slots, if so much may come
 -- back to it.
-pub record Shows {D : Type 0} {G : Ghosts D} (K : Kept) (heap : Heap D G) (front : List ℕ) (disk : ℕ → List ℕ) (S : PageId → List Slot) : Type 0 where
-  pub holds : Holds heap.pool front disk
+pub record Shows {D : Type 0} {G : Ghosts D} (K : ClaimsOfPages) (heap : Heap D G) (front : List ℕ) (disk : ℕ → List ℕ) (S : PageId → List Slot) : Type 0 where
+  pub holds : PoolHolds heap.pool front disk
   pub pages : (id : PageId) → HasPage (geometry_of heap) id → HasSlots (frame_of heap id) (disk (page_number (geometry_of heap) id)) id (K id) (S id)
   pub bounds : AreBounds (geometry_of heap) heap.free.items S
 
--- no page has to leave its frame, or each may
-abbrev pub MayFetch : {D : Type 0} {G : Ghosts D} → Kept → Heap D G → (PageId → List Slot) → Type 0
-MayFetch K heap S = IsWhole heap ⊎ AreKept (geometry_of heap) K S
+-- ---- what a call leaves
 
--- ---- what a call leaves that reads pages
-
--- With a frame for each page: all pages have the slots that they had, each frame is as it was, and so is the device.
-pub record OnlyReads {D : Type 0} {G : Ghosts D} (K : Kept) (old new : Heap D G) (front : List ℕ) (disk : ℕ → List ℕ) (S : PageId → List Slot) : Type 0 where
-  pub shows : Shows K new front disk S
-  pub history : history_of new ≡ history_of old
-  pub stay : (k : ℕ) (f : Frame) → frame_at old k ≡ Some f → frame_at new k ≡ Some f
-
--- .. and whatever the pages hold, the volume is settled as it was, and so is what is clean in a frame.
+-- Whatever the pages hold, the volume is settled as it was, and so is what is clean in a frame.
 abbrev pub KeepsVolume : {D : Type 0} {G : Ghosts D} → Heap D G → Heap D G → Type 0
-KeepsVolume old new = (front : List ℕ) (disk : ℕ → List ℕ) → Holds old.pool front disk → Holds new.pool front disk × (history_of new ≡ history_of old)
+KeepsVolume old new = (front : List ℕ) (disk : ℕ → List ℕ) → PoolHolds old.pool front disk → PoolHolds new.pool front disk × (history_of new ≡ history_of old)
 
 -- Each page of the volume is as it was, or as it was in place, with a number up to this one.
 abbrev pub MayBeLeft : {D : Type 0} {G : Ghosts D} → Heap D G → ℕ → (ℕ → List ℕ) → (ℕ → List ℕ) → Type 0
-MayBeLeft heap seen disk left = (id : PageId) → HasPage (geometry_of heap) id → (left (page_number (geometry_of heap) id) ≡ disk (page_number (geometry_of heap) id))
-    ⊎ ((number : ℕ) × (images : List Image) × HasInPlace heap.pool disk id number images × (number ≤ seen) × IsPageText (left (page_number (geometry_of heap) id)) id number images)
+MayBeLeft heap durable disk left = (id : PageId) → HasPage (geometry_of heap) id → (left (page_number (geometry_of heap) id) ≡ disk (page_number (geometry_of heap) id))
+    ⊎ ((number : ℕ) × (images : List Image) × HasInPlace heap.pool disk id number images × (number ≤ durable) × IsPageText (left (page_number (geometry_of heap) id)) id number images)
 
 -- Pages may have been written back, one after another, and all are in place as they were.
-pub record StayInPlace {D : Type 0} {G : Ghosts D} (old new : Heap D G) (seen : ℕ) (disk left : ℕ → List ℕ) : Type 0 where
-  pub may : MayBeLeft old seen disk left
+pub record StayInPlace {D : Type 0} {G : Ghosts D} (old new : Heap D G) (durable : ℕ) (disk left : ℕ → List ℕ) : Type 0 where
+  pub may : MayBeLeft old durable disk left
   pub same : SamePages (frame_at old) disk (frame_at new) left
 
 -- .. over a volume that is settled with the texts that this leaves
 abbrev pub WroteBack : {D : Type 0} {G : Ghosts D} → Heap D G → Heap D G → ℕ → List ℕ → (ℕ → List ℕ) → Type 0
-WroteBack old new seen front disk = (left : ℕ → List ℕ) × Holds new.pool front left × StayInPlace old new seen disk left
+WroteBack old new durable front disk = (left : ℕ → List ℕ) × PoolHolds new.pool front left × StayInPlace old new durable disk left
 
 -- .. and has the same slots
-abbrev pub KeepsSlots : {D : Type 0} {G : Ghosts D} → Kept → Heap D G → Heap D G → ℕ → List ℕ → (ℕ → List ℕ) → (PageId → List Slot) → Type 0
-KeepsSlots K old new seen front disk S = (left : ℕ → List ℕ) × Shows K new front left S × StayInPlace old new seen disk left
+abbrev pub KeepsSlots : {D : Type 0} {G : Ghosts D} → ClaimsOfPages → Heap D G → Heap D G → ℕ → List ℕ → (ℕ → List ℕ) → (PageId → List Slot) → Type 0
+KeepsSlots K old new durable front disk S = (left : ℕ → List ℕ) × Shows K new front left S × StayInPlace old new durable disk left
 
 -- An image of the volume that a crash leaves in the midst of it: it shows such pages behind the same front.
 abbrev pub LeavesPages : {D : Type 0} {G : Ghosts D} → Heap D G → ℕ → List ℕ → (ℕ → List ℕ) → List ℕ → Type 0
-LeavesPages heap seen front disk image = (left : ℕ → List ℕ) × ShowsBehind (geometry_of heap) front left image × MayBeLeft heap seen disk left
+LeavesPages heap durable front disk image = (left : ℕ → List ℕ) × ShowsBehind (geometry_of heap) front left image × MayBeLeft heap durable disk left
 
 -- the call was refused since a force is needed: no page may leave its frame
 abbrev pub AsksForForce : {D : Type 0} {G : Ghosts D} → Heap D G → ℕ → Fault → Type 0
-AsksForForce heap seen it = (number : ℕ) × (it ≡ fault.NeedForce number) × NeedsForce heap.pool seen number
+AsksForForce heap durable it = (number : ℕ) × (it ≡ fault.NeedForce number) × NeedsForce heap.pool durable number
+
+-- what a call is refused with that fetches one page: the device failed, an allocation did, the page has no text with a number up to the last, or a
+-- force is needed
+abbrev pub RefusesPage : {D : Type 0} {G : Ghosts D} → Heap D G → (ℕ → List ℕ) → PageId → LogEnds → Fault → Type 0
+RefusesPage heap disk id ends it = (it ≡ fault.Device) ⊎ (it ≡ fault.Memory)
+    ⊎ ((it ≡ fault.Damaged device.Volume (page_offset (page_number (geometry_of heap) id))) × HasNoPage (disk (page_number (geometry_of heap) id)) id ends.last) ⊎ AsksForForce heap ends.durable it
+
+-- What a call leaves that fetches pages, whatever it answers. These claims were told, and pages with numbers up to the durable one may have been
+-- written back for it.
+pub record ReadsPages {D : Type 0} {G : Ghosts D} {T : Type 0} (K : ClaimsOfPages) (old new : Heap D G) (durable : ℕ) (result : Result T Fault) : Type 0 where
+  -- if the slots claim what is told, they are the same
+  pub kept : (front : List ℕ) (disk : ℕ → List ℕ) (S : PageId → List Slot) → Shows K old front disk S → AreKept (geometry_of old) K S
+      → MatchResult result (λ _. KeepsSlots K old new durable front disk S) (λ it. (it ≡ fault.Device) ⊎ KeepsSlots K old new durable front disk S)
+  -- whatever the pages hold, what is in place stays
+  pub wrote : (front : List ℕ) (disk : ℕ → List ℕ) → PoolHolds old.pool front disk
+      → MatchResult result (λ _. WroteBack old new durable front disk) (λ it. (it ≡ fault.Device) ⊎ WroteBack old new durable front disk)
+  -- .. and a crash leaves pages that are old, or those that were in place with durable numbers
+  pub any_moment : (front : List ℕ) (disk : ℕ → List ℕ) → PoolHolds old.pool front disk → LeavesOnly (history_of old) (history_of new) (LeavesPages old durable front disk)
+  -- a page with a change that the volume does not have was in its frame before
+  pub dirty : (front : List ℕ) (disk : ℕ → List ℕ) → PoolHolds old.pool front disk → (k : ℕ) (f : Frame) → frame_at new k ≡ Some f → f.recovery ≢ None → frame_at old k ≡ Some f
+  -- a page that was read may go again, so no force is needed then that was not needed before
+  pub forced : (front : List ℕ) (disk : ℕ → List ℕ) → PoolHolds old.pool front disk → OnOk result ((number : ℕ) → NeedsForce new.pool durable number → NeedsForce old.pool durable number)
+  pub honest : honesty_of new ≡ honesty_of old
+  pub size : size (history_of new) ≡ size (history_of old)
+  pub geometry : geometry_of new ≡ geometry_of old
+  pub limit : limit_of new ≡ limit_of old
+  pub cause : HasCause result (faults_of old) (faults_of new)

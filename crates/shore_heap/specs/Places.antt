@@ -20,28 +20,28 @@ abbrev pub slots_of : (Rid → Type 0) → PageId → ℕ → Type 0
 slots_of MayTake page slot = MayTake (record { page = page; slot = slot })
 
 -- an empty slot that takes so many bytes
-abbrev pub IsFree : List Slot → ℕ → ℕ → Type 0
-IsFree slots bytes slot = (image_at_slot slots slot ≡ None) × Fits slots slot bytes
+abbrev pub IsFreeSlot : List Slot → ℕ → ℕ → Type 0
+IsFreeSlot slots bytes slot = (image_at_slot slots slot ≡ None) × Fits slots slot bytes
 
 -- the lowest one from a slot on
 pub record IsNextFree (slots : List Slot) (from bytes slot : ℕ) : Type 0 where
   pub behind : from ≤ slot
-  pub free : IsFree slots bytes slot
-  pub passed : (other : ℕ) → from ≤ other → other < slot → IsFree slots bytes other → ⊥
+  pub free : IsFreeSlot slots bytes slot
+  pub passed : (other : ℕ) → from ≤ other → other < slot → IsFreeSlot slots bytes other → ⊥
 
 -- no slot from one on is empty and takes so many bytes
 abbrev pub TakesNoneFrom : List Slot → ℕ → ℕ → Type 0
-TakesNoneFrom slots from bytes = (other : ℕ) → from ≤ other → IsFree slots bytes other → ⊥
+TakesNoneFrom slots from bytes = (other : ℕ) → from ≤ other → IsFreeSlot slots bytes other → ⊥
 
 -- of all empty slots of a page that take so many bytes, and may be taken, the first
 pub record IsFirstSlot (slots : List Slot) (bytes : ℕ) (MayTake : ℕ → Type 0) (slot : ℕ) : Type 0 where
-  pub free : IsFree slots bytes slot
+  pub free : IsFreeSlot slots bytes slot
   pub allowed : MayTake slot
-  pub first : (other : ℕ) → IsFree slots bytes other → MayTake other → slot ≤ other
+  pub first : (other : ℕ) → IsFreeSlot slots bytes other → MayTake other → slot ≤ other
 
 -- there is none
 abbrev pub HasNoSlot : List Slot → ℕ → (ℕ → Type 0) → Type 0
-HasNoSlot slots bytes MayTake = (slot : ℕ) → IsFree slots bytes slot → MayTake slot → ⊥
+HasNoSlot slots bytes MayTake = (slot : ℕ) → IsFreeSlot slots bytes slot → MayTake slot → ⊥
 
 module _ (g : Geometry) (S : PageId → List Slot) (store bytes : ℕ) (MayTake : Rid → Type 0) where
   -- an empty slot of the store that takes so many bytes, and may be taken

@@ -4,10 +4,10 @@ ghost use Rattle.shore_disk.specs.Cause.{HasCause};
 ghost use Rattle.shore_disk.specs.Device.{LeavesOnly, size};
 ghost use Rattle.shore_flush.specs.Flushes.{Flushes};
 ghost use Rattle.shore_page.specs.Slots.{Slot};
-ghost use Rattle.shore_pool.specs.Pools.{Holds};
+ghost use Rattle.shore_pool.specs.Pools.{PoolHolds};
 ghost use Rattle.shore_types.specs.declared.faults.Fault.TheVariants as Fault;
 ghost use Rattle.shore_types.specs.declared.ids.PageId.{PageId};
-ghost use Rattle.shore_heap.specs.Contents.{Kept};
+ghost use Rattle.shore_heap.specs.Contents.{ClaimsOfPages};
 
 use crate::heap::Heap;
 use shore_disk::Disk;
@@ -18,23 +18,23 @@ use std::alloc::Global;
 impl<D: Disk> Heap<D> {
     ghost use Rattle.shore_heap.specs.Heaps.{KeepsSlots, LeavesPages, Shows, WroteBack, bounds_of, faults_of, frame_at, geometry_of, history_of, honesty_of, limit_of, pool_of};
 
-    /// Writes a batch of dirty pages back, the first of the volume, and answers how many: 0 only if no page is due. `seen` is the number up to
+    /// Writes a batch of dirty pages back, the first of the volume, and answers how many: 0 only if no page is due. `durable` is the number up to
     /// which the log is durable; no page with a number above it is written. Pages stay in their frames, whatever is told of claims. `Memory` if an
     /// allocation failed: nothing has changed then. After `Device` the frames are as they were, and nothing is said of the volume but what a crash
     /// leaves of it.
-    pub fn flush(&mut self, alloc: Global, seen: Lsn) -> Result<usize, Fault>
+    pub fn flush(&mut self, alloc: Global, durable: Lsn) -> Result<usize, Fault>
         // What was written is clean, and all other frames are as they were.
-        ensures flushed { IfOk result (λ count. Flushes (pool_of self.old) (pool_of self.new) seen count) }
+        ensures flushed { IfOk result (λ count. Flushes (pool_of self.old) (pool_of self.new) durable count) }
         ensures idle { IfOk result (λ count. count ≡ 0 → pool_of self.new ≡ pool_of self.old) }
         ensures refused { IfErr result (λ fault. ((fault ≡ Fault.Device) ⊎ (fault ≡ Fault.Memory)) × ((k : ℕ) → frame_at self.new k ≡ frame_at self.old k)) }
-        ensures kept { (K : Kept) (front : List ℕ) (disk : ℕ → List ℕ) (S : PageId → List Slot) → Shows K self.old front disk S
-            → MatchResult result (λ _. KeepsSlots K self.old self.new seen front disk S) (λ fault. (fault ≡ Fault.Device) ⊎ KeepsSlots K self.old self.new seen front disk S) }
+        ensures kept { (K : ClaimsOfPages) (front : List ℕ) (disk : ℕ → List ℕ) (S : PageId → List Slot) → Shows K self.old front disk S
+            → MatchResult result (λ _. KeepsSlots K self.old self.new durable front disk S) (λ fault. (fault ≡ Fault.Device) ⊎ KeepsSlots K self.old self.new durable front disk S) }
 
         // Whatever the pages hold: what is in place stays, and a crash leaves pages that are old, or those that were in place with durable numbers.
-        ensures wrote { (front : List ℕ) (disk : ℕ → List ℕ) → Holds (pool_of self.old) front disk
-            → MatchResult result (λ _. WroteBack self.old self.new seen front disk) (λ fault. (fault ≡ Fault.Device) ⊎ WroteBack self.old self.new seen front disk) }
-        ensures any_moment { (front : List ℕ) (disk : ℕ → List ℕ) → Holds (pool_of self.old) front disk
-            → LeavesOnly (history_of self.old) (history_of self.new) (LeavesPages self.old seen front disk) }
+        ensures wrote { (front : List ℕ) (disk : ℕ → List ℕ) → PoolHolds (pool_of self.old) front disk
+            → MatchResult result (λ _. WroteBack self.old self.new durable front disk) (λ fault. (fault ≡ Fault.Device) ⊎ WroteBack self.old self.new durable front disk) }
+        ensures any_moment { (front : List ℕ) (disk : ℕ → List ℕ) → PoolHolds (pool_of self.old) front disk
+            → LeavesOnly (history_of self.old) (history_of self.new) (LeavesPages self.old durable front disk) }
         ensures bounds { bounds_of self.new ≡ bounds_of self.old }
         ensures honest { honesty_of self.new ≡ honesty_of self.old }
         ensures size { size (history_of self.new) ≡ size (history_of self.old) }
@@ -42,6 +42,6 @@ impl<D: Disk> Heap<D> {
         ensures limit { limit_of self.new ≡ limit_of self.old }
         ensures cause { HasCause result (faults_of self.old) (faults_of self.new) }
     {
-        flush_step(alloc, &mut self.pool, seen)
+        flush_step(alloc, &mut self.pool, durable)
     }
 }

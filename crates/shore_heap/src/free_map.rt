@@ -17,8 +17,9 @@ const GUARD: u16 = u16::MAX;
 /// caller's to keep. Only `new` takes memory; each call looks at a few nodes of a tree of maxima over the bounds.
 #[derive(Drop)]
 pub struct FreeMap {
-    // The bounds are in the leaves, with a guard behind them.
+    // A tree of maxima. The bounds are in the leaves, with a guard behind them; `put` keeps it so.
     tree: Vec<u16>,
+    // How many pages the store has, and so how many leaves come before the guard. It is not changed.
     pages: usize,
 }
 

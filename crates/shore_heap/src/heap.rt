@@ -1,19 +1,18 @@
 //! The heap: records in the pages of a pool.
 ghost use Rattle.std.specs.Prelude.{[], ◌≡◌, ◌≢◌, ◌↔◌, ◌+◌, ◌<◌, ◌≤◌, ℕ, List, IfErr, IfOk, IfSome, IsFalse, IsSomeAnd, IsTrue, None, Some, is_some, length, map, option_map};
-ghost use Rattle.shore_disk.specs.Device.{size};
 ghost use Rattle.shore_dwrite.specs.Settled as settled_device;
 ghost use Rattle.shore_dwrite.specs.Volumes.{page_number};
 ghost use Rattle.shore_page.specs.Room.{Fits, claim_at, lowered};
-ghost use Rattle.shore_page.specs.Slots.{Slot, image_at_slot, image_len, settled, with_change, with_image};
+ghost use Rattle.shore_page.specs.Slots.{Slot, image_at_slot, settled, with_change, with_image};
+ghost use Rattle.shore_types.specs.Images.{image_len, Image};
 ghost use Rattle.shore_page.specs.Text.{IsPageText, images_of};
 ghost use Rattle.shore_pool.specs.Changes.{changed, reclaimed};
 ghost use Rattle.shore_pool.specs.Pages.{SamePages};
 ghost use Rattle.shore_pool.specs.Pools as pools;
-ghost use Rattle.shore_types.specs.Images.{Image};
 ghost use Rattle.shore_types.specs.Layout.{HasPage};
 ghost use Rattle.shore_types.specs.declared.ids.PageId.{PageId};
 ghost use Rattle.shore_types.specs.declared.layout.TheConstants.{MAX_PAGES, MAX_RECORD_BYTES, MIN_POOL_FRAMES};
-ghost use Rattle.shore_heap.specs.Contents.{FitIn, Kept, bound_of, claimed_by, unclaimed, with_slots};
+ghost use Rattle.shore_heap.specs.Contents.{FitIn, ClaimsOfPages, bound_of, claimed_by, unclaimed, with_slots};
 
 use crate::free_map::FreeMap;
 use crate::maps::unknown_maps;
@@ -27,14 +26,15 @@ use std::alloc::Global;
 /// The records of a volume's stores, in the slots of their pages.
 #[derive(Drop)]
 pub struct Heap<D: Disk> {
+    // The pages, in frames and on the volume.
     pub(crate) pool: Pool<D>,
-    // For each store, which lengths its pages are known to refuse.
+    // For each store its free space map: which lengths find no room in its pages. `maps` says that each page has a bound; that the bounds are right is
+    // part of `Shows`, and `forget` and `refuse` keep it so.
     pub(crate) free: Vec<FreeMap>,
     ghost maps: { map length free.items ≡ (pools.geometry_of pool).stores },
 }
 
 impl<D: Disk> Heap<D> {
-    ghost use Rattle.shore_pool.specs.declared.frame.Frame.{Frame};
     ghost use Rattle.shore_heap.specs.Heaps.{KeepsVolume, Shows, device_of, frame_at, frame_of, geometry_of, limit_of};
 
     /// The heap of a volume, with no page in a frame, over a pool of so many frames. All memory is taken but that of pages. The device is handed
@@ -76,7 +76,7 @@ impl<D: Disk> Heap<D> {
     pub fn record(&self, id: Rid) -> Option<&[u8]>
         requires there { HasPage (geometry_of self.now) id.page }
         requires held { IsTrue (is_some (frame_of self.now id.page)) }
-        ensures shown { (K : Kept) (front : List ℕ) (disk : ℕ → List ℕ) (S : PageId → List Slot) → Shows K self.now front disk S
+        ensures shown { (K : ClaimsOfPages) (front : List ℕ) (disk : ℕ → List ℕ) (S : PageId → List Slot) → Shows K self.now front disk S
             → option_map (λ bytes. bytes.now) result ≡ image_at_slot (S id.page) id.slot }
         ensures framed { IsSomeAnd (frame_of self.now id.page) (λ f. option_map (λ bytes. bytes.now) result ≡ image_at_slot f.page.slots id.slot) }
         ensures short { IfSome result (λ bytes. length bytes.now ≤ MAX_RECORD_BYTES) }
@@ -103,7 +103,7 @@ impl<D: Disk> Heap<D> {
     pub fn fits(&self, id: Rid, bytes: usize) -> bool
         requires there { HasPage (geometry_of self.now) id.page }
         requires held { IsTrue (is_some (frame_of self.now id.page)) }
-        ensures shown { (K : Kept) (front : List ℕ) (disk : ℕ → List ℕ) (S : PageId → List Slot) → Shows K self.now front disk S → IsTrue result ↔ Fits (S id.page) id.slot bytes }
+        ensures shown { (K : ClaimsOfPages) (front : List ℕ) (disk : ℕ → List ℕ) (S : PageId → List Slot) → Shows K self.now front disk S → IsTrue result ↔ Fits (S id.page) id.slot bytes }
         ensures framed { IsTrue result ↔ IsSomeAnd (frame_of self.now id.page) (λ f. Fits f.page.slots id.slot bytes) }
     {
         match self.pool.page(id.page) {
@@ -116,7 +116,7 @@ impl<D: Disk> Heap<D> {
     pub fn claim(&self, id: Rid) -> u16
         requires there { HasPage (geometry_of self.now) id.page }
         requires held { IsTrue (is_some (frame_of self.now id.page)) }
-        ensures { (K : Kept) (front : List ℕ) (disk : ℕ → List ℕ) (S : PageId → List Slot) → Shows K self.now front disk S → result ≡ claim_at (S id.page) id.slot }
+        ensures { (K : ClaimsOfPages) (front : List ℕ) (disk : ℕ → List ℕ) (S : PageId → List Slot) → Shows K self.now front disk S → result ≡ claim_at (S id.page) id.slot }
     {
         match self.pool.page(id.page) {
             Some(page) => page.claim(id.slot),
@@ -128,7 +128,7 @@ impl<D: Disk> Heap<D> {
     pub fn change(&mut self, id: Rid, lsn: Lsn, after: Option<&[u8]>)
         requires there { HasPage (geometry_of self.old) id.page }
         requires fits { IsSomeAnd (frame_of self.old id.page) (λ f. Fits f.page.slots id.slot (image_len (option_map (λ bytes. bytes.now) after))) }
-        ensures shows { (K : Kept) (front : List ℕ) (disk : ℕ → List ℕ) (S : PageId → List Slot) → Shows K self.old front disk S
+        ensures shows { (K : ClaimsOfPages) (front : List ℕ) (disk : ℕ → List ℕ) (S : PageId → List Slot) → Shows K self.old front disk S
             → Shows K self.new front disk (with_slots S id.page (λ slots. with_image slots id.slot (option_map (λ bytes. bytes.now) after.entry))) }
         ensures frames { (frame_at self.new (page_number (geometry_of self.old) id.page) ≡ option_map (changed lsn id.slot (option_map (λ bytes. bytes.now) after.entry)) (frame_of self.old id.page))
             × ((k : ℕ) → k ≢ page_number (geometry_of self.old) id.page → frame_at self.new k ≡ frame_at self.old k) }
@@ -144,12 +144,11 @@ impl<D: Disk> Heap<D> {
         }
     }
 
-    /// Nothing comes back any more to an id: its slot keeps what its record takes. Of a page that is in no frame the caller tells no more that it
-    /// does.
+    /// Nothing comes back any more to an id: its slot keeps what its record takes. For a page not in the pool the caller no longer reports the claim.
     pub fn release(&mut self, id: Rid)
-        ensures shows { (K : Kept) (front : List ℕ) (disk : ℕ → List ℕ) (S : PageId → List Slot) → Shows K self.old front disk S
+        ensures shows { (K : ClaimsOfPages) (front : List ℕ) (disk : ℕ → List ℕ) (S : PageId → List Slot) → Shows K self.old front disk S
             → (frame_of self.old id.page ≡ None → K id.page ≡ []) → Shows K self.new front disk (with_slots S id.page (λ slots. with_change (lowered 0) slots id.slot)) }
-        ensures told { (K L : Kept) (front : List ℕ) (disk : ℕ → List ℕ) (S : PageId → List Slot) → Shows K self.old front disk S
+        ensures told { (K L : ClaimsOfPages) (front : List ℕ) (disk : ℕ → List ℕ) (S : PageId → List Slot) → Shows K self.old front disk S
             → frame_of self.old id.page ≡ None → ((p : PageId) → p ≢ id.page → L p ≡ K p) → FitIn (L id.page) (map settled (images_of (S id.page)))
             → Shows L self.new front disk (with_slots S id.page (λ slots. claimed_by (L id.page) (map settled (images_of slots)))) }
         ensures same { (disk : ℕ → List ℕ) → SamePages (frame_at self.old) disk (frame_at self.new) disk }
@@ -172,7 +171,7 @@ impl<D: Disk> Heap<D> {
     pub fn release_to(&mut self, id: Rid, bytes: usize)
         requires there { HasPage (geometry_of self.old) id.page }
         requires slot { IsSomeAnd (frame_of self.old id.page) (λ f. id.slot < length f.page.slots) }
-        ensures shows { (K : Kept) (front : List ℕ) (disk : ℕ → List ℕ) (S : PageId → List Slot) → Shows K self.old front disk S
+        ensures shows { (K : ClaimsOfPages) (front : List ℕ) (disk : ℕ → List ℕ) (S : PageId → List Slot) → Shows K self.old front disk S
             → Shows K self.new front disk (with_slots S id.page (λ slots. with_change (lowered bytes) slots id.slot)) }
         ensures frames { (frame_at self.new (page_number (geometry_of self.old) id.page) ≡ option_map (reclaimed (lowered bytes) id.slot) (frame_of self.old id.page))
             × ((k : ℕ) → k ≢ page_number (geometry_of self.old) id.page → frame_at self.new k ≡ frame_at self.old k) }
@@ -218,7 +217,7 @@ impl<D: Disk> Heap<FuseDisk<D>> {
         ensures inner { fuse_inner (settled_device.device_of (device_of self.new)) ≡ fuse_inner (settled_device.device_of (device_of self.old)) }
         ensures calls { fuse_calls (settled_device.device_of (device_of self.new)) ≡ calls }
         ensures frames { (k : ℕ) → frame_at self.new k ≡ frame_at self.old k }
-        ensures shows { (K : Kept) (front : List ℕ) (disk : ℕ → List ℕ) (S : PageId → List Slot) → Shows K self.old front disk S → Shows K self.new front disk S }
+        ensures shows { (K : ClaimsOfPages) (front : List ℕ) (disk : ℕ → List ℕ) (S : PageId → List Slot) → Shows K self.old front disk S → Shows K self.new front disk S }
         ensures untouched { KeepsVolume self.old self.new }
         ensures limit { limit_of self.new ≡ limit_of self.old }
         ensures geometry { geometry_of self.new ≡ geometry_of self.old }

@@ -1,29 +1,22 @@
 //! Where a new record of a store goes.
-ghost use Rattle.std.specs.Prelude.{◌≡◌, ◌≢◌, ◌⊎◌, ◌<◌, ◌≤◌, ℕ, List, IfErr, IfNone, IfOk, IfSome, IsSomeAnd, IsTrue, MatchOption, MatchResult, None, OnOk, Some, is_some, min, slice_get};
-ghost use Rattle.shore_disk.specs.Cause.{HasCause};
-ghost use Rattle.shore_disk.specs.Device.{LeavesOnly, size};
-ghost use Rattle.shore_dwrite.specs.Volumes.{HasNoPage, page_number, page_offset};
+ghost use Rattle.std.specs.Prelude.{◌≡◌, ◌≢◌, ◌⊎◌, ◌<◌, ◌≤◌, ℕ, List, IfErr, IfNone, IfOk, IfSome, IsSomeAnd, IsTrue, MatchOption, None, Some, is_some, min, slice_get};
 ghost use Rattle.shore_page.specs.Slots.{Slot};
-ghost use Rattle.shore_pool.specs.Pools.{Holds, NeedsForce};
+ghost use Rattle.shore_pool.specs.Pools.{PoolHolds};
 ghost use Rattle.shore_types.specs.Layout.{HasPage, HasSlot, HasStore};
-ghost use Rattle.shore_types.specs.declared.faults.Device.TheVariants as Device;
-ghost use Rattle.shore_types.specs.declared.faults.Fault.TheVariants as Fault;
 ghost use Rattle.shore_types.specs.declared.ids.PageId.{PageId};
-ghost use Rattle.shore_types.specs.declared.layout.Geometry.{Geometry};
-ghost use Rattle.shore_heap.specs.Contents.{AreBounds, AreKept, Kept, TakesNone, bound_of};
-ghost use Rattle.shore_heap.specs.Places.{HasNoPlace, HasNoSlot, IsFirstSlot, IsFree, IsPlace, IsRefused, slots_of};
+ghost use Rattle.shore_heap.specs.Contents.{AreBounds, AreKept, ClaimsOfPages, TakesNone, bound_of};
+ghost use Rattle.shore_heap.specs.Places.{HasNoPlace, HasNoSlot, IsFirstSlot, IsFreeSlot, IsPlace, IsRefused, slots_of};
 
 use crate::choices::Places;
 use crate::heap::Heap;
 use crate::slots::first_allowed;
 use shore_disk::Disk;
 use shore_page::Claims;
-use shore_types::{Fault, Lsn, PageId, Rid, StoreId};
+use shore_types::{Fault, LogEnds, PageId, Rid, StoreId};
 use std::alloc::Global;
 
 impl<D: Disk> Heap<D> {
-    ghost use Rattle.shore_pool.specs.declared.frame.Frame.{Frame};
-    ghost use Rattle.shore_heap.specs.Heaps.{AsksForForce, IsWhole, KeepsSlots, KeepsVolume, LeavesPages, MayFetch, OnlyReads, Shows, WroteBack, allowed_by, claims_in, faults_of, frame_of, geometry_of, history_of, honesty_of, limit_of, pool_of};
+    ghost use Rattle.shore_heap.specs.Heaps.{AsksForForce, ReadsPages, RefusesPage, Shows, allowed_by, claims_in, frame_of, geometry_of, pool_of};
 
     /// Of all empty slots of a store that take a record of so many bytes, and may be taken, the first, by page and slot, with its page in a frame.
     /// A page that is known to refuse as many bytes is not looked at, and one of which no place may be taken is not fetched.
@@ -34,39 +27,21 @@ impl<D: Disk> Heap<D> {
         bytes: usize,
         places: &P,
         claims: &C,
-        last: Lsn,
-        seen: Lsn,
+        ends: &LogEnds,
     ) -> Result<Option<Rid>, Fault>
         requires { HasStore (geometry_of self.old) store }
         ensures found { (front : List ℕ) (disk : ℕ → List ℕ) (S : PageId → List Slot) → Shows (claims_in C.Claims claims.now) self.old front disk S
-            → MayFetch (claims_in C.Claims claims.now) self.old S → IfOk result (λ found. IfSome found (IsPlace (geometry_of self.old) S store bytes (allowed_by P.Places places.now))) }
+            → AreKept (geometry_of self.old) (claims_in C.Claims claims.now) S → IfOk result (λ found. IfSome found (IsPlace (geometry_of self.old) S store bytes (allowed_by P.Places places.now))) }
         ensures none { (front : List ℕ) (disk : ℕ → List ℕ) (S : PageId → List Slot) → Shows (claims_in C.Claims claims.now) self.old front disk S
-            → MayFetch (claims_in C.Claims claims.now) self.old S → IfOk result (λ found. IfNone found (HasNoPlace (geometry_of self.old) S store bytes (allowed_by P.Places places.now))) }
+            → AreKept (geometry_of self.old) (claims_in C.Claims claims.now) S → IfOk result (λ found. IfNone found (HasNoPlace (geometry_of self.old) S store bytes (allowed_by P.Places places.now))) }
         ensures there { IfOk result (λ found. IfSome found (HasSlot (geometry_of self.old))) }
         ensures of_store { IfOk result (λ found. IfSome found (λ id. id.page.store ≡ store)) }
         ensures held { IfOk result (λ found. IfSome found (λ id. IsTrue (is_some (frame_of self.new id.page)))) }
-        ensures framed { IfOk result (λ found. IfSome found (λ id. IsSomeAnd (frame_of self.new id.page) (λ f. IsFree f.page.slots bytes id.slot))) }
+        ensures framed { IfOk result (λ found. IfSome found (λ id. IsSomeAnd (frame_of self.new id.page) (λ f. IsFreeSlot f.page.slots bytes id.slot))) }
         ensures allowed { IfOk result (λ found. IfSome found (allowed_by P.Places places.now)) }
-        ensures kept { (front : List ℕ) (disk : ℕ → List ℕ) (S : PageId → List Slot) → Shows (claims_in C.Claims claims.now) self.old front disk S
-            → AreKept (geometry_of self.old) (claims_in C.Claims claims.now) S
-            → MatchResult result (λ _. KeepsSlots (claims_in C.Claims claims.now) self.old self.new seen front disk S)
-            (λ fault. (fault ≡ Fault.Device) ⊎ KeepsSlots (claims_in C.Claims claims.now) self.old self.new seen front disk S) }
-        ensures refused { (front : List ℕ) (disk : ℕ → List ℕ) → Holds (pool_of self.old) front disk
-            → seen ≤ last → IfErr result (λ fault. IsRefused (geometry_of self.old) disk store last fault ⊎ AsksForForce self.old seen fault) }
-        ensures still { IsWhole self.old → (front : List ℕ) (disk : ℕ → List ℕ) (S : PageId → List Slot) → Shows (claims_in C.Claims claims.now) self.old front disk S
-            → OnlyReads (claims_in C.Claims claims.now) self.old self.new front disk S }
-        ensures unforced { IsWhole self.old → (front : List ℕ) (disk : ℕ → List ℕ) → Holds (pool_of self.old) front disk
-            → IfErr result (IsRefused (geometry_of self.old) disk store last) }
-        ensures untouched { IsWhole self.old → KeepsVolume self.old self.new }
-        ensures wrote { (front : List ℕ) (disk : ℕ → List ℕ) → Holds (pool_of self.old) front disk
-            → MatchResult result (λ _. WroteBack self.old self.new seen front disk) (λ fault. (fault ≡ Fault.Device) ⊎ WroteBack self.old self.new seen front disk) }
-        ensures any_moment { (front : List ℕ) (disk : ℕ → List ℕ) → Holds (pool_of self.old) front disk
-            → LeavesOnly (history_of self.old) (history_of self.new) (LeavesPages self.old seen front disk) }
-        ensures honest { honesty_of self.new ≡ honesty_of self.old }
-        ensures size { size (history_of self.new) ≡ size (history_of self.old) }
-        ensures geometry { geometry_of self.new ≡ geometry_of self.old }
-        ensures limit { limit_of self.new ≡ limit_of self.old }
-        ensures cause { HasCause result (faults_of self.old) (faults_of self.new) }
+        ensures reads { ReadsPages (claims_in C.Claims claims.now) self.old self.new ends.now.durable result }
+        ensures refused { (front : List ℕ) (disk : ℕ → List ℕ) → PoolHolds (pool_of self.old) front disk
+            → ends.now.durable ≤ ends.now.last → IfErr result (λ fault. IsRefused (geometry_of self.old) disk store ends.now.last fault ⊎ AsksForForce self.old ends.now.durable fault) }
     {
         let end = self.pages_in(store);
         let mut from = 0;
@@ -76,7 +51,7 @@ impl<D: Disk> Heap<D> {
             };
             let id = PageId { store, page };
             if places.may_use(&id) {
-                let tried = self.try_page(alloc, id, bytes, places, claims, last, seen)?;
+                let tried = self.try_page(alloc, id, bytes, places, claims, ends)?;
                 if let Some(slot) = tried {
                     let page = PageId { store, page };
                     return Ok(Some(Rid { page, slot }));
@@ -106,7 +81,7 @@ impl<D: Disk> Heap<D> {
         self.free[store.0 as usize].first_from(from, bytes)
     }
 
-    // The first slot of a page that takes so many bytes and may be taken. If none takes them, the page is known to refuse as many.
+    // The first slot of a page that takes so many bytes and may be taken. If none has room, the free space map learns it.
     fn try_page<C: Claims, P: Places>(
         &mut self,
         alloc: Global,
@@ -114,50 +89,22 @@ impl<D: Disk> Heap<D> {
         bytes: usize,
         places: &P,
         claims: &C,
-        last: Lsn,
-        seen: Lsn,
+        ends: &LogEnds,
     ) -> Result<Option<u16>, Fault>
         requires there { HasPage (geometry_of self.old) id }
         requires usable { P.Places.MayUse places.now id }
         ensures found { (front : List ℕ) (disk : ℕ → List ℕ) (S : PageId → List Slot) → Shows (claims_in C.Claims claims.now) self.old front disk S
-            → MayFetch (claims_in C.Claims claims.now) self.old S → IfOk result (λ found. IfSome found (IsFirstSlot (S id) bytes (slots_of (allowed_by P.Places places.now) id))) }
+            → AreKept (geometry_of self.old) (claims_in C.Claims claims.now) S → IfOk result (λ found. IfSome found (IsFirstSlot (S id) bytes (slots_of (allowed_by P.Places places.now) id))) }
         ensures none { (front : List ℕ) (disk : ℕ → List ℕ) (S : PageId → List Slot) → Shows (claims_in C.Claims claims.now) self.old front disk S
-            → MayFetch (claims_in C.Claims claims.now) self.old S → IfOk result (λ found. IfNone found (HasNoSlot (S id) bytes (slots_of (allowed_by P.Places places.now) id))) }
+            → AreKept (geometry_of self.old) (claims_in C.Claims claims.now) S → IfOk result (λ found. IfNone found (HasNoSlot (S id) bytes (slots_of (allowed_by P.Places places.now) id))) }
         ensures held { IfOk result (λ found. IsTrue (is_some (frame_of self.new id))) }
-        ensures framed { IfOk result (λ found. IfSome found (λ slot. IsSomeAnd (frame_of self.new id) (λ f. IsFree f.page.slots bytes slot))) }
+        ensures framed { IfOk result (λ found. IfSome found (λ slot. IsSomeAnd (frame_of self.new id) (λ f. IsFreeSlot f.page.slots bytes slot))) }
         ensures allowed { IfOk result (λ found. IfSome found (slots_of (allowed_by P.Places places.now) id)) }
-        ensures kept { (front : List ℕ) (disk : ℕ → List ℕ) (S : PageId → List Slot) → Shows (claims_in C.Claims claims.now) self.old front disk S
-            → AreKept (geometry_of self.old) (claims_in C.Claims claims.now) S
-            → MatchResult result (λ _. KeepsSlots (claims_in C.Claims claims.now) self.old self.new seen front disk S)
-            (λ fault. (fault ≡ Fault.Device) ⊎ KeepsSlots (claims_in C.Claims claims.now) self.old self.new seen front disk S) }
-        ensures refused { (front : List ℕ) (disk : ℕ → List ℕ) → Holds (pool_of self.old) front disk
-            → IfErr result (λ fault. (fault ≡ Fault.Device) ⊎ (fault ≡ Fault.Memory)
-            ⊎ ((fault ≡ Fault.Damaged Device.Volume (page_offset (page_number (geometry_of self.old) id)))
-            × HasNoPage (disk (page_number (geometry_of self.old) id)) id last) ⊎ AsksForForce self.old seen fault) }
-        ensures still { IsWhole self.old → (front : List ℕ) (disk : ℕ → List ℕ) (S : PageId → List Slot) → Shows (claims_in C.Claims claims.now) self.old front disk S
-            → OnlyReads (claims_in C.Claims claims.now) self.old self.new front disk S }
-        ensures unforced { IsWhole self.old → (front : List ℕ) (disk : ℕ → List ℕ) → Holds (pool_of self.old) front disk
-            → IfErr result (λ fault. (fault ≡ Fault.Device) ⊎ (fault ≡ Fault.Memory)
-            ⊎ ((fault ≡ Fault.Damaged Device.Volume (page_offset (page_number (geometry_of self.old) id)))
-            × HasNoPage (disk (page_number (geometry_of self.old) id)) id last)) }
-        ensures untouched { IsWhole self.old → KeepsVolume self.old self.new }
-        ensures wrote { (front : List ℕ) (disk : ℕ → List ℕ) → Holds (pool_of self.old) front disk
-            → MatchResult result (λ _. WroteBack self.old self.new seen front disk) (λ fault. (fault ≡ Fault.Device) ⊎ WroteBack self.old self.new seen front disk) }
-        ensures any_moment { (front : List ℕ) (disk : ℕ → List ℕ) → Holds (pool_of self.old) front disk
-            → LeavesOnly (history_of self.old) (history_of self.new) (LeavesPages self.old seen front disk) }
-        ensures forced { (front : List ℕ) (disk : ℕ → List ℕ) → Holds (pool_of self.old) front disk
-            → OnOk result ((number : ℕ) → NeedsForce (pool_of self.new) seen number → NeedsForce (pool_of self.old) seen number) }
-        ensures honest { honesty_of self.new ≡ honesty_of self.old }
-        ensures size { size (history_of self.new) ≡ size (history_of self.old) }
-        ensures geometry { geometry_of self.new ≡ geometry_of self.old }
-        ensures limit { limit_of self.new ≡ limit_of self.old }
-        ensures cause { HasCause result (faults_of self.old) (faults_of self.new) }
+        ensures reads { ReadsPages (claims_in C.Claims claims.now) self.old self.new ends.now.durable result }
+        ensures refused { (front : List ℕ) (disk : ℕ → List ℕ) → PoolHolds (pool_of self.old) front disk
+            → IfErr result (RefusesPage self.old disk id ends.now) }
     {
-        let page = PageId {
-            store: id.store,
-            page: id.page,
-        };
-        self.fetch(alloc, page, claims, last, seen)?;
+        self.fetch(alloc, id, claims, ends)?;
         match self.allowed_on(&id, bytes, places) {
             Some(slot) => Ok(Some(slot)),
             None => {
@@ -192,11 +139,11 @@ impl<D: Disk> Heap<D> {
         }
     }
 
-    // If no slot of a page in a frame takes so many bytes, be they locked or not, the page is known to refuse as many.
+    // If no slot of a page in a frame has room for so many bytes, be they locked or not, the free space map learns it.
     fn refuse_if_full(&mut self, id: PageId, bytes: usize)
         requires { HasPage (geometry_of self.old) id }
         ensures pool { self.new.pool ≡ self.old.pool }
-        ensures bounds { (K : Kept) (front : List ℕ) (disk : ℕ → List ℕ) (S : PageId → List Slot) → Shows K self.old front disk S
+        ensures bounds { (K : ClaimsOfPages) (front : List ℕ) (disk : ℕ → List ℕ) (S : PageId → List Slot) → Shows K self.old front disk S
             → AreBounds (geometry_of self.old) self.new.free.items S }
     {
         if self.takes_none(&id, bytes) {
@@ -204,7 +151,7 @@ impl<D: Disk> Heap<D> {
         }
     }
 
-    // A page is known to refuse so many bytes.
+    // The free space map learns that a page has no room for so many bytes.
     fn refuse(&mut self, id: PageId, bytes: usize)
         requires { HasPage (geometry_of self.old) id }
         ensures pool { self.new.pool ≡ self.old.pool }

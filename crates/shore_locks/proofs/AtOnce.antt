@@ -10,7 +10,7 @@ use Rattle.shore_types.specs.Locking.{same_granule}
 use Rattle.shore_model.specs.declared.requests.Request.{Request}
 use Rattle.shore_model.specs.Modes.{grants, is_at_most}
 use Rattle.shore_model.specs.Requests.{are_alike, requests_at}
-use Rattle.shore_locks.specs.Findings.{IsFree}
+use Rattle.shore_locks.specs.Findings.{IsGrantable}
 use Rattle.shore_nodes.specs.Tables.{is_waiting, mode_held, Table, request_for, is_for, waiters_at}
 use Rattle.shore_locks.specs.Grants.{asking, can_be_granted, obstacle, granted, is_ahead, is_refused, is_stopped_by, passed, put, refuses, replaced}
 use Rattle.shore_nodes.specs.Orderly.{IsOrderly, IsStopped, Rises}
@@ -120,7 +120,7 @@ in_replaced : (r q : Request) (rs : List Request) → In q rs → In (in_place r
 in_replaced r q [] h = absurd h
 in_replaced r q (x ∷ rs) h = ⊎_elim (λ e. inl (ap (in_place r) e)) (λ t. inr (in_replaced r q rs t)) h
 
-module _ (table : Table) (r : Request) (free : IsFree table r) (other : r.held ≡ Some IS → ⊥) where
+module _ (table : Table) (r : Request) (free : IsGrantable table r) (other : r.held ≡ Some IS → ⊥) where
   -- who waits at the granule is another, and the asker holds it
   waits_with_holder : (w : Request) → In w table.requests → w.granule ≡ r.granule → is_some w.wanted ≡ true → (m : Mode) × (r.held ≡ Some m)
   waits_with_holder w in_w at wants =

@@ -9,7 +9,7 @@ use Rattle.shore_model.specs.declared.requests.Request.{Request}
 use Rattle.shore_model.specs.Modes.{coexist}
 use Rattle.shore_model.specs.Locks.{Agree, StandTogether}
 use Rattle.shore_model.specs.Requests.{are_alike, requests_by, placed_last, held_by_all, hold_in}
-use Rattle.shore_locks.specs.Findings.{FindsNode, IsFree, MayAsk}
+use Rattle.shore_locks.specs.Findings.{FindsNode, IsGrantable, MayAsk}
 use Rattle.shore_nodes.specs.Tables.{Table, mode_held, is_waiting, request_for, waiting_request}
 use Rattle.shore_locks.specs.Grants.{removed, replaced, put, granted, withdrawn, asking, obstacle, passed, taken_back, taken_back_if, cancelled, given_up, released, is_full, after_grant}
 use Rattle.shore_nodes.specs.Orderly.{IsOrderlyWithin, IsOrderly, IsOfUse, Rises, WaitsLast}
@@ -204,9 +204,9 @@ kept_as old new rs limit requests kept = subst (λ xs. IsOrderlyWithin new.limit
 
 -- a request for which nobody is in the way
 pub free_of : (table : Table) (t : ℕ) (g : Granule) (mode : Mode) (r : Request) → IsOrderlyWithin table.limit table.requests → is_waiting t table.requests ≡ false → MayAsk table t g mode → r ≡ asking t g mode table.requests
-    → obstacle (asking t g mode table.requests) table.requests ≡ None → IsFree table r
+    → obstacle (asking t g mode table.requests) table.requests ≡ None → IsGrantable table r
 free_of table t g mode r kept quiet may is free =
-    subst (IsFree table) (sym is) (record {
+    subst (IsGrantable table) (sym is) (record {
       orderly = kept.orderly;
       quiet = quiet;
       finds_node = node_found table (asking t g mode table.requests) kept.within may.1;

@@ -32,7 +32,7 @@ abbrev pub FindsNode : Table → Request → Type 0
 FindsNode table r = list_any (λ q. are_alike q r) table.requests ≡ false → length table.requests < table.limit
 
 -- a transaction that does not wait asks for no less than it holds, and nobody is in its way
-pub record IsFree (table : Table) (r : Request) : Type 0 where
+pub record IsGrantable (table : Table) (r : Request) : Type 0 where
   pub orderly : IsOrderly table.requests
   pub quiet : is_waiting r.txn table.requests ≡ false
   pub finds_node : FindsNode table r

@@ -3,7 +3,7 @@ ghost use Rattle.std.specs.Prelude.{◌≡◌, IsFalse, IsSomeAnd, IsTrue, cond,
 ghost use Rattle.std.specs.List.{list_any};
 ghost use Rattle.shore_model.specs.Requests as asked;
 ghost use Rattle.shore_model.specs.Requests.{AreRequests};
-ghost use Rattle.shore_locks.specs.Findings.{FindsNode, IsFree};
+ghost use Rattle.shore_locks.specs.Findings.{FindsNode, IsGrantable};
 ghost use Rattle.shore_locks.specs.Grants as steps;
 ghost use Rattle.shore_nodes.specs.Tables.{waiters_at};
 
@@ -103,7 +103,7 @@ pub fn place_last(nodes: &mut Counted, request: &Request)
 /// Grants a request at once, in the place of the one of its transaction for its granule if that is known, else last. What is held
 /// refuses no less than before, so a grant pass would grant nobody; but IS refuses UD, and SH does not.
 pub fn grant(nodes: &mut Counted, request: &Request, known: bool)
-    requires free { IsFree nodes.old request.now }
+    requires free { IsGrantable nodes.old request.now }
     requires known { known ≡ list_any (λ q. asked.are_alike q request.now) nodes.old.requests }
     ensures items { nodes.new.requests ≡ steps.passed request.now.granule (steps.put (steps.granted request.now) nodes.old.requests) }
     ensures limit { nodes.new.limit ≡ nodes.old.limit }

@@ -33,7 +33,9 @@ pub enum Popped {
 /// A list of requests, and how many there may be.
 #[derive(Drop)]
 pub struct Counted {
+    // The requests, in their queues and lists.
     nodes: Nodes,
+    // For each head the tally of the requests in its queue, kept by each call that changes one: so no queue is walked to judge a request.
     tallies: Vec<Tally>,
 }
 
@@ -121,6 +123,7 @@ impl Counted {
     {
         let head = queue_head(&request.granule, self.nodes.heads());
         self.nodes.push(request, head);
+        // For the proof: what a list of requests keeps true of itself.
         self.nodes.len();
         self.tallies[head].add(request);
     }
@@ -144,6 +147,7 @@ impl Counted {
             wanted: None,
         };
         self.nodes.push(&request, head);
+        // For the proof: what a list of requests keeps true of itself.
         self.nodes.len();
         self.tallies[head].add(&request);
         true
@@ -157,6 +161,7 @@ impl Counted {
     {
         if let Some(old) = request_for(&self.nodes, request.txn, &request.granule) {
             let head = queue_head(&request.granule, self.nodes.heads());
+            // For the proof: what a list of requests keeps true of itself.
             self.nodes.len();
             self.nodes.replace(request);
             let tally = &mut self.tallies[head];
@@ -211,6 +216,7 @@ impl Counted {
             return false;
         };
         let head = queue_head(&request.granule, self.nodes.heads());
+        // For the proof: what a list of requests keeps true of itself.
         self.nodes.len();
         let was_there = self.nodes.move_last(request);
         let tally = &mut self.tallies[head];
@@ -257,6 +263,7 @@ fn recount(nodes: &Nodes, head: usize) -> Tally
     requires { head < nodes.now.heads }
     ensures { Counts result (crowd nodes.now.heads head nodes.now.requests) }
 {
+    // For the proof: what a list of requests keeps true of itself.
     nodes.len();
     tally_of(nodes.crowd(head))
 }

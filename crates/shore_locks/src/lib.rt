@@ -12,7 +12,6 @@ mod searches;
 pub mod table;
 
 pub use answers::{Requested, Tried};
-pub use listings::Requests;
 pub use queues::{Holders, Waiters};
 pub use shore_nodes::judgements::refuses;
 pub use table::LockTable;

@@ -18,8 +18,11 @@ use std::marker::Model;
 /// The requests of one group of a granule's queue that are left.
 #[derive(Drop)]
 struct InGroup<'a> {
+    // What is left of the queue, which other granules may share.
     walk: Walk<'a>,
+    // The granule whose requests are given.
     granule: Granule,
+    // The group of requests that is given.
     group: Group,
 }
 
@@ -76,6 +79,7 @@ fn is_for_group(request: &Request, granule: &Granule, group: Group) -> bool
 /// Those that hold a granule and want nothing, in the order of its queue.
 #[derive(Drop)]
 pub struct Holders<'a> {
+    // The holders that are left.
     left: InGroup<'a>,
 }
 
@@ -113,7 +117,9 @@ impl<'a> Iterator for Holders<'a> {
 /// Those that wait for a granule, in the order of its queue: conversions, then new waiters.
 #[derive(Drop)]
 pub struct Waiters<'a> {
+    // The conversions that are left, which come first.
     conversions: InGroup<'a>,
+    // The new waiters that are left.
     new: InGroup<'a>,
 }
 

@@ -11,7 +11,7 @@ ghost use Rattle.shore_nodes.specs.Orderly.{IsOrderly};
 use crate::answers::{Requested, Tried};
 use crate::counted::Counted;
 use crate::findings::{Finding, check_request};
-use crate::listings::{Requests, put_in_order};
+use crate::listings::put_in_order;
 use crate::queues::{Holders, Waiters};
 use crate::{changes, findings, searches};
 use shore_model::Request;
@@ -22,6 +22,7 @@ use std::marker::Model;
 /// What each transaction holds and wants of each granule. There is one node (lock request block) for each pair of the two.
 #[derive(Drop)]
 pub struct LockTable {
+    // The requests with their queues, and a tally for each queue.
     nodes: Counted,
 }
 
@@ -204,13 +205,6 @@ impl LockTable {
         let mut requests = self.nodes.all(alloc)?;
         put_in_order(&mut requests);
         Ok(requests)
-    }
-
-    /// The requests of a transaction, in the order in which they came.
-    pub fn requests_of(&self, txn: TxnId) -> Requests<'_>
-        ensures { result ≡ requests_by txn self.now.requests }
-    {
-        Requests::new(self.nodes.nodes(), txn)
     }
 
     /// A transaction waits no more: what it waited for is given up, and what it holds stays. Those behind it may be granted.

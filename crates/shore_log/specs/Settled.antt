@@ -4,7 +4,7 @@ use Rattle.shore_disk.specs.Device.{Stands}
 use Rattle.shore_disk.specs.declared.device.Disk.{Ghosts}
 use Rattle.shore_gate.specs.declared.gates.TheConstants.{OPEN}
 use Rattle.shore_types.specs.declared.faults.Fault.{Fault}
-use Rattle.shore_types.specs.declared.layout.TheConstants.{LOG_FRONT_BYTES}
+use Rattle.shore_types.specs.declared.layout.TheConstants.{FRAME_SHARE, LOG_FRONT_BYTES}
 use Rattle.shore_model.specs.declared.log_records.LogRecord.{LogRecord}
 use Rattle.shore_logrec.specs.Text.{texts}
 use Rattle.shore_frames.specs.Frames.{behind_gate, text, AreGroups, IsLongest, joined}
@@ -56,7 +56,7 @@ pub record HasNoFrameRoom {D : Type 0} {G : Ghosts D} (log : LogDev D G) : Type 
   pub count : ℕ
   pub some : 1 ≤ count
   pub longest : IsLongest (waiting log) count
-  pub full : log.device_bytes ≤ LOG_FRONT_BYTES + log.offset + (13 + length (texts (take count (waiting log))))
+  pub full : log.device_bytes ≤ LOG_FRONT_BYTES + log.offset + (FRAME_SHARE + length (texts (take count (waiting log))))
 
 -- so many records more need no memory
 abbrev pub HasRecordRoom : {D : Type 0} {G : Ghosts D} → LogDev D G → ℕ → Type 0

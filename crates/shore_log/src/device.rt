@@ -2,7 +2,7 @@
 ghost use Rattle.std.specs.Prelude.{ℕ, ◌≡◌, ◌⊎◌, ◌↔◌, ◌+◌, ◌-◌, ◌^◌, ◌<◌, ◌≤◌, [], ◌∷◌, ◌++◌, All, List, IsTrue, IsSome, IfSome, IfOk, IfErr, IsOk, OnOk, OnErr, length, take, drop, None, Some, Ok, Err};
 ghost use Rattle.std.specs.Option.{ForSome};
 ghost use Rattle.shore_types.specs.declared.faults.Device.TheVariants as Device;
-ghost use Rattle.shore_types.specs.declared.layout.TheConstants.{LOG_FRONT_BYTES, MAX_FRAME_BYTES, MAX_LOG_BYTES};
+ghost use Rattle.shore_types.specs.declared.layout.TheConstants.{FRAME_SHARE, LENGTH_AT, LOG_FRONT_BYTES, MAX_FRAME_BYTES, MAX_LOG_BYTES};
 ghost use Rattle.shore_disk.specs.Device.{size, seen, LeavesOnly, Stands};
 ghost use Rattle.shore_disk.specs.Cause.{HasCause};
 ghost use Rattle.shore_model.specs.declared.log_records.LogRecord.{LogRecord};
@@ -14,22 +14,20 @@ ghost use Rattle.shore_frames.specs.Offsets.{IsBadAt, IsFrameOf, RefusesReading}
 use crate::group::{frame_bytes, longest_group};
 use crate::{PlainTail, Tail};
 use shore_disk::{Disk, FuseDisk, write_synced};
-use shore_frames::{HEAD_BYTES, Stream, damaged, find_frame, read_stream};
+use shore_frames::{HEAD_BYTES, Stream, find_frame, read_stream};
 use shore_gate::open_gate;
 use shore_logrec::LogRecord;
-use shore_types::layout::{LOG_FRONT_BYTES, MAX_LOG_BYTES};
-use shore_types::{Fault, Lsn};
+use shore_types::layout::{LENGTH_AT, LOG_FRONT_BYTES, MAX_LOG_BYTES};
+use shore_types::{Device, Fault, Lsn};
 use std::alloc::Global;
 
 /// The offset at which the stream of frames begins.
 pub const STREAM: u64 = LOG_FRONT_BYTES;
 
-// The offset of the length in a device's label.
-const LENGTH_OFFSET: u64 = 16;
-
 /// The number of the last durable record. Only the log makes one, so none is told before its force.
 #[derive(Clone, Copy)]
 pub struct Durable {
+    // The number.
     lsn: Lsn,
 }
 
@@ -44,28 +42,32 @@ impl Durable {
 // A frame that stands behind a closed gate.
 #[derive(Clone, Copy)]
 struct Staged {
-    // How many records it has, and their bytes.
+    // How many records it has: the first of those that wait.
     count: usize,
+    // How many bytes these have on the device.
     len: usize,
 }
 
 /// The log on its device. Records are numbered from 1; the first of them are forced, the others wait.
 #[derive(Drop)]
 pub struct LogDev<D: Disk> {
+    // The device. Its label, its anchors and the frames behind open gates are as they were found or forced.
     device: D,
     // The device's length.
     device_bytes: u64,
+    // All records, from number 1 on: what was found, and what was taken in since.
     records: Vec<LogRecord>,
-    // How many records are forced.
+    // How many of them are forced, the first ones.
     forced: usize,
     // The offset of the next frame in the stream.
     offset: u64,
+    // The frame that stands behind a closed gate at the offset, if one does; `open_staged` makes its records forced.
     staged: Option<Staged>,
     ghost numbered: { IsTrue (are_numbered 1 records.items) },
     ghost is_short: { device_bytes ≤ MAX_LOG_BYTES },
     ghost gate_inside: { LOG_FRONT_BYTES + offset < device_bytes },
     ghost forced_inside: { forced ≤ length records.items },
-    ghost staged_inside: { ForSome staged (λ s. LOG_FRONT_BYTES + offset + s.len + 13 < device_bytes) },
+    ghost staged_inside: { ForSome staged (λ s. LOG_FRONT_BYTES + offset + s.len + FRAME_SHARE < device_bytes) },
     ghost staged_waits: { ForSome staged (λ s. forced + s.count ≤ length records.items) },
     ghost staged_short: { ForSome staged (λ s. s.len ≤ MAX_FRAME_BYTES) },
     ghost staged_some: { ForSome staged (λ s. 1 ≤ s.count) },
@@ -286,7 +288,7 @@ impl<D: Disk> LogDev<D> {
             → LOG_FRONT_BYTES < size (D.history device) → size (D.history device) ≤ MAX_LOG_BYTES
             → (offset : ℕ) → IfErr result (λ e. e.0 ≡ Fault.Damaged Device.Log offset → IsBadAt LOG_FRONT_BYTES (seen (D.history device)) offset) }
         ensures outside { (size (D.history device) ≤ LOG_FRONT_BYTES) ⊎ (MAX_LOG_BYTES < size (D.history device))
-            → result ≡ Err (Fault.Damaged Device.Log 16, device) }
+            → result ≡ Err (Fault.Damaged Device.Log LENGTH_AT, device) }
         ensures refused { IfErr result (λ e. RefusesReading e.0) }
 
         // The device that is opened or handed back is as it was.
@@ -298,7 +300,7 @@ impl<D: Disk> LogDev<D> {
         let mut device = device;
         let device_bytes = device.len();
         if !has_stream(device_bytes) {
-            return Err((damaged(LENGTH_OFFSET), device));
+            return Err((Fault::damaged(Device::Log, LENGTH_AT), device));
         }
         match read_stream(alloc, &mut device, device_bytes, STREAM) {
             Ok(Stream { records, end }) => Ok(LogDev {

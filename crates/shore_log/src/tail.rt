@@ -38,7 +38,9 @@ pub trait Tail {
 /// A log buffer for one caller: the records wait in memory until the log device takes them.
 #[derive(Drop)]
 pub struct PlainTail {
+    // The number of the first record that waits, or that the next push will have.
     first: u64,
+    // The records that wait, numbered from there on.
     waiting: Vec<LogRecord>,
     ghost numbered: { IsTrue (are_numbered first waiting.items) },
     ghost few: { first + length waiting.items ≤ 2 ^ 62 },

@@ -5,9 +5,10 @@ ghost use Rattle.shore_types.specs.declared.ids.Rid.{Rid};
 ghost use Rattle.shore_types.specs.declared.layout.TheConstants.{MAX_RECORD_BYTES};
 ghost use Rattle.shore_types.specs.Images.{Image};
 ghost use Rattle.shore_model.specs.declared.log_records.Payload.TheVariants.{Change, Compensation};
-ghost use Rattle.shore_logrec.specs.Text.{cost_of, image_text_len};
+ghost use Rattle.shore_logrec.specs.Text as spec;
+ghost use Rattle.shore_logrec.specs.Text.{cost_of};
 
-use crate::lengths::{LSN_BYTES, RID_BYTES, image_len};
+use crate::lengths::{LSN_BYTES, RID_BYTES, image_text_len};
 use shore_types::layout::ENDING_COST;
 
 /// The cost of a Change whose images have these lengths, None for an absent one.
@@ -15,19 +16,19 @@ use shore_types::layout::ENDING_COST;
 pub fn change_cost(before: Option<usize>, after: Option<usize>) -> u64
     requires before { ForSome before (λ n. n ≤ MAX_RECORD_BYTES) }
     requires after { ForSome after (λ n. n ≤ MAX_RECORD_BYTES) }
-    ensures sum { result ≡ 44 + image_text_len before + image_text_len after }
+    ensures sum { result ≡ 44 + spec.image_text_len before + spec.image_text_len after }
     ensures cost { (id : Rid) (b a : Image) → option_map length b ≡ before → option_map length a ≡ after
         → result ≡ cost_of (Change id b a) }
 {
-    ENDING_COST + (RID_BYTES + image_len(before) + image_len(after)) as u64
+    ENDING_COST + (RID_BYTES + image_text_len(before) + image_text_len(after)) as u64
 }
 
 /// The cost of a Compensation whose image has this length, None for an absent one.
 #[tactic(auto, using(crate::proofs::TextLengths::lengths))]
 pub fn compensation_cost(image: Option<usize>) -> u64
     requires { ForSome image (λ n. n ≤ MAX_RECORD_BYTES) }
-    ensures sum { result ≡ 52 + image_text_len image }
+    ensures sum { result ≡ 52 + spec.image_text_len image }
     ensures cost { (id : Rid) (i : Image) (undo_next : ℕ) → option_map length i ≡ image → result ≡ cost_of (Compensation id i undo_next) }
 {
-    ENDING_COST + (RID_BYTES + image_len(image) + LSN_BYTES) as u64
+    ENDING_COST + (RID_BYTES + image_text_len(image) + LSN_BYTES) as u64
 }

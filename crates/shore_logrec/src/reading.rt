@@ -7,7 +7,7 @@ ghost use Rattle.shore_logrec.specs.Reading as spec;
 use byteorder::{ByteOrder, LittleEndian};
 use shore_model::{LogRecord, Payload};
 use shore_types::layout::MAX_RECORD_BYTES;
-use shore_types::{Bytes, Lsn, PageId, Rid, Sequence, StoreId, TxnId};
+use shore_types::{Lsn, PageId, Rid, Sequence, StoreId, TxnId, images};
 use std::alloc::{AllocError, Global};
 
 // Two bytes as a number, and the bytes behind them; None if there are fewer.
@@ -96,8 +96,11 @@ fn rid_at(bytes: &[u8]) -> Option<(Rid, &[u8])>
 // What the head says of the record itself.
 #[derive(Clone, Copy)]
 struct Head {
+    // The kind of the record, from 1 to 9.
     kind: u8,
+    // Its transaction.
     txn: TxnId,
+    // The number of that transaction's record before it.
     previous: Lsn,
 }
 
@@ -118,15 +121,6 @@ fn front_at(bytes: &[u8]) -> Option<(Head, &[u8], &[u8])>
     Some((head, payload, rest))
 }
 
-fn copy_image(alloc: Global, image: Option<&[u8]>) -> Result<Option<Bytes>, AllocError>
-    ensures { IfOk result (λ copy. copy ≡ option_map (λ bytes. bytes.now) image.entry) }
-{
-    match image {
-        None => Ok(None),
-        Some(bytes) => Ok(Some(Sequence::from_vec(Vec::from_slice(alloc, bytes)?))),
-    }
-}
-
 #[tactic(auto, unfolding(crate::specs::Reading::change_at, crate::specs::Reading::change_fields_at))]
 fn read_change(alloc: Global, bytes: &[u8]) -> Result<Option<Payload>, AllocError>
     ensures { IfOk result (λ found. found ≡ spec.change_at bytes.now) }
@@ -143,8 +137,8 @@ fn read_change(alloc: Global, bytes: &[u8]) -> Result<Option<Payload>, AllocErro
     if !rest.is_empty() || (before.is_none() && after.is_none()) {
         return Ok(None);
     }
-    let before = copy_image(alloc, before)?;
-    let after = copy_image(alloc, after)?;
+    let before = images::owned(alloc, before)?;
+    let after = images::owned(alloc, after)?;
     Ok(Some(Payload::Change { id, before, after }))
 }
 
@@ -164,7 +158,7 @@ fn read_compensation(alloc: Global, bytes: &[u8]) -> Result<Option<Payload>, All
     if !rest.is_empty() {
         return Ok(None);
     }
-    let after = copy_image(alloc, after)?;
+    let after = images::owned(alloc, after)?;
     let undo_next = Lsn(undo_next);
     Ok(Some(Payload::Compensation {
         id,

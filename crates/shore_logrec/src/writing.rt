@@ -108,7 +108,13 @@ fn put_payload(out: &mut Vec<u8>, payload: &Payload)
             after,
             undo_next,
         } => put_compensation(out, *id, after, *undo_next),
-        _ => {}
+        Payload::Commit
+        | Payload::End
+        | Payload::Prepare { .. }
+        | Payload::RollbackDecided
+        | Payload::CheckpointBegin
+        | Payload::CheckpointEnd { .. }
+        | Payload::Anchor { .. } => {}
     }
 }
 

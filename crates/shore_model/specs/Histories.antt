@@ -160,28 +160,28 @@ abbrev pub IsHistory : History → Type 0
 IsHistory h = (n : ℕ) (e : Entry) → slice_get h.entries n ≡ Some e → MayStand h.opening (take n h.entries) e
 
 -- the decision that a call asks for
-abbrev pub asked_by : ℕ → Call → Option Decision
-asked_by t call.Commit = Some (Commit t)
-asked_by t (call.Prepare global) = Some (Prepare t global)
-asked_by t (call.Resolve global outcome.Commit) = Some (Commit t)
-asked_by t (call.Resolve global outcome.Abort) = Some (RollBack t)
-asked_by t call.Begin = None
-asked_by t (call.Get id) = None
-asked_by t (call.GetForUpdate id) = None
-asked_by t (call.Insert s bytes) = None
-asked_by t (call.Update id bytes) = None
-asked_by t (call.Delete id) = None
-asked_by t (call.Scan s) = None
-asked_by t (call.Lock g mode) = None
-asked_by t (call.TryLock g mode) = None
-asked_by t call.Savepoint = None
-asked_by t (call.BackTo k) = None
-asked_by t call.Abort = None
-asked_by t call.InDoubt = None
+abbrev pub decision_asked_by : ℕ → Call → Option Decision
+decision_asked_by t call.Commit = Some (Commit t)
+decision_asked_by t (call.Prepare global) = Some (Prepare t global)
+decision_asked_by t (call.Resolve global outcome.Commit) = Some (Commit t)
+decision_asked_by t (call.Resolve global outcome.Abort) = Some (RollBack t)
+decision_asked_by t call.Begin = None
+decision_asked_by t (call.Get id) = None
+decision_asked_by t (call.GetForUpdate id) = None
+decision_asked_by t (call.Insert s bytes) = None
+decision_asked_by t (call.Update id bytes) = None
+decision_asked_by t (call.Delete id) = None
+decision_asked_by t (call.Scan s) = None
+decision_asked_by t (call.Lock g mode) = None
+decision_asked_by t (call.TryLock g mode) = None
+decision_asked_by t call.Savepoint = None
+decision_asked_by t (call.BackTo k) = None
+decision_asked_by t call.Abort = None
+decision_asked_by t call.InDoubt = None
 
 -- the decision that an entry acknowledges: the one that its call asks for, if the answer is Ok
 abbrev pub acknowledged_by : Entry → Option Decision
-acknowledged_by (Exchanged session txn exchange) = if is_ok exchange.reply then asked_by txn exchange.call else None
+acknowledged_by (Exchanged session txn exchange) = if is_ok exchange.reply then decision_asked_by txn exchange.call else None
 acknowledged_by (Decided d) = None
 
 -- the acknowledged decisions

@@ -90,6 +90,8 @@ pub enum Answer {
 /// A call with its answer, or the fault that it was refused with.
 #[derive(Drop)]
 pub struct Exchange {
+    /// What was asked.
     pub call: Call,
+    /// What it was answered.
     pub reply: Result<Answer, Fault>,
 }

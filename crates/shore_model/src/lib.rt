@@ -10,7 +10,9 @@ pub mod log_records;
 pub mod progress;
 pub mod requests;
 pub mod rid_map;
+pub mod rollbacks;
 pub mod sessions;
+pub mod step;
 pub mod unanswered_changes;
 
 pub use calls::{Answer, Call, Exchange, Outcome};
@@ -20,5 +22,7 @@ pub use log_records::{DirtyPage, LogRecord, LogTxn, Payload, TxnState};
 pub use progress::Progress;
 pub use requests::{Group, Request};
 pub use rid_map::RidMap;
+pub use rollbacks::Rollback;
 pub use sessions::SessionState;
+pub use step::{Step, Wait};
 pub use unanswered_changes::UnansweredChange;

@@ -24,10 +24,15 @@ impl TxnState {
 /// A transaction in the table of a checkpoint: an entry of the transaction table (first, LastLSN, UndoNxtLSN, state).
 #[derive(Clone, Copy, PartialEq)]
 pub struct LogTxn {
+    /// Its number.
     pub txn: TxnId,
+    /// How far it has come.
     pub state: TxnState,
+    /// The number of its first record.
     pub first: Lsn,
+    /// The number of its last record (LastLSN).
     pub last: Lsn,
+    /// The number of its Change to be undone next (UndoNxtLSN), 0 for none.
     pub undo_next: Lsn,
     /// The number of its Prepare, 0 if none.
     pub prepare: Lsn,
@@ -36,7 +41,9 @@ pub struct LogTxn {
 /// A page in the table of a checkpoint: an entry of the dirty page table. Redo of it begins at this number (RecLSN).
 #[derive(Clone, Copy, PartialEq)]
 pub struct DirtyPage {
+    /// The page.
     pub page: PageId,
+    /// The number of the first record that the volume may lack of it (RecLSN).
     pub recovery: Lsn,
 }
 
@@ -129,7 +136,10 @@ impl Payload {
 /// what it says. A Change is an update record with its undo and redo images, a Compensation a CLR with its UndoNxtLSN.
 #[derive(Drop, PartialEq)]
 pub struct LogRecord {
+    /// The transaction's number, 0 for a record of a checkpoint.
     pub txn: TxnId,
+    /// The number of that transaction's record before it (PrevLSN), 0 if it is the first.
     pub previous: Lsn,
+    /// What the record says.
     pub payload: Payload,
 }

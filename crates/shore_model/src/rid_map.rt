@@ -5,7 +5,7 @@ ghost use Rattle.std.specs.FinMap as map;
 ghost use Rattle.shore_model.specs.Records.{AreRecords, IsRecord, overlay, put_image, scan_of};
 
 use shore_types::layout::MAX_RECORD_BYTES;
-use shore_types::{Bytes, Geometry, Pairs, Rid, StoreId};
+use shore_types::{Bytes, Geometry, Pairs, Rid, StoreId, images};
 use std::alloc::{AllocError, Global};
 use std::collections::BTreeMap;
 use std::collections::btree_map::Iter;
@@ -14,6 +14,7 @@ use std::marker::Model;
 /// A finite map from record ids, kept in place order.
 #[derive(Drop)]
 pub struct RidMap<V> {
+    // What is at each id.
     entries: BTreeMap<Rid, V>,
 }
 
@@ -119,19 +120,9 @@ pub fn copy_writes(
 {
     let mut copy = RidMap::new(alloc);
     for (id, image) in writes.entries.iter().rev() {
-        copy.insert(*id, copy_image(alloc, image)?)?;
+        copy.insert(*id, images::copy_of(alloc, image)?)?;
     }
     Ok(copy)
-}
-
-/// A second image of the same bytes.
-pub fn copy_image(alloc: Global, image: &Option<Bytes>) -> Result<Option<Bytes>, AllocError>
-    ensures { IfOk result (λ copy. copy ≡ image.now) }
-{
-    match image {
-        Some(bytes) => Ok(Some(bytes.try_clone(alloc)?)),
-        None => Ok(None),
-    }
 }
 
 impl RidMap<Bytes> {

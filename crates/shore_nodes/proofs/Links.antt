@@ -6,7 +6,7 @@ use Rattle.std.proofs.lemmas.List.Elements.{filter-append}
 use Rattle.std.proofs.lemmas.Bool.Decides.{Decides-eqb}
 use Rattle.shore_rings.specs.declared.ring.Link.{Link}
 use Rattle.shore_rings.specs.Rings.{Apart, Distinct, In, IsRing}
-use Rattle.shore_nodes.specs.Nodes.{Holds, LinksIn, LinksOut, in_bucket, nodes_of, without}
+use Rattle.shore_nodes.specs.Nodes.{RingsHold, LinksIn, LinksOut, in_bucket, nodes_of, without}
 use Rattle.shore_nodes.proofs.Members as members
 use Rattle.shore_nodes.proofs.Members.{either, filter-all, filter-no, filter-none, filter-swap, filter-yes}
 
@@ -116,7 +116,7 @@ module _ (heads : ℕ) (bucket : ℕ → ℕ) (keys : List ℕ) where
       in_b
 
   -- a key comes
-  pub holds_more : (links new : List Link) (key : ℕ) → Holds links heads bucket keys → (In key keys → ⊥) → bucket key < heads → LinksIn links new (bucket key) (heads + key) → Holds new heads bucket (keys ++ key ∷ [])
+  pub holds_more : (links new : List Link) (key : ℕ) → RingsHold links heads bucket keys → (In key keys → ⊥) → bucket key < heads → LinksIn links new (bucket key) (heads + key) → RingsHold new heads bucket (keys ++ key ∷ [])
   holds_more links new key holds fresh small links_in b small_b =
       ⊎_elim
       (λ yes.
@@ -135,7 +135,7 @@ module _ (heads : ℕ) (bucket : ℕ → ℕ) (keys : List ℕ) where
       (either (bucket key == b))
 
   -- a key goes
-  pub holds_less : (links new : List Link) (key : ℕ) → Holds links heads bucket keys → Distinct keys → In key keys → bucket key < heads → LinksOut links new (heads + key) → Holds new heads bucket (without key keys)
+  pub holds_less : (links new : List Link) (key : ℕ) → RingsHold links heads bucket keys → Distinct keys → In key keys → bucket key < heads → LinksOut links new (heads + key) → RingsHold new heads bucket (without key keys)
   holds_less links new key holds apart there small links_out b small_b =
       let mine = parted key (in_bucket bucket (bucket key) keys) (distinct_filter (λ k. bucket k == bucket key) keys apart) (filter_in (λ k. bucket k == bucket key) keys key there (same_number (bucket key) (bucket key) refl)) in
       let ring = subst (IsRing links (bucket key)) (ap (nodes_of heads) mine.are ∙ map-append (λ k. heads + k) mine.front (key ∷ mine.back)) (holds (bucket key) small) in
@@ -167,5 +167,5 @@ bucket_agree p q b (k ∷ ks) same =
     (λ no. filter-no (λ x. p x == b) k ks no ∙ bucket_agree p q b ks (λ x h. same x (inr h)) ∙ sym (filter-no (λ x. q x == b) k ks (ap (λ n. n == b) (sym (same k (inl refl))) ∙ no)))
     (either (p k == b))
 
-pub holds_same : (links : List Link) (heads : ℕ) (p q : ℕ → ℕ) (keys : List ℕ) → ((k : ℕ) → In k keys → p k ≡ q k) → Holds links heads p keys → Holds links heads q keys
+pub holds_same : (links : List Link) (heads : ℕ) (p q : ℕ → ℕ) (keys : List ℕ) → ((k : ℕ) → In k keys → p k ≡ q k) → RingsHold links heads p keys → RingsHold links heads q keys
 holds_same links heads p q keys same holds b small = subst (λ xs. IsRing links b (nodes_of heads xs)) (bucket_agree p q b keys same) (holds b small)

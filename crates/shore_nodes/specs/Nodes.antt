@@ -70,8 +70,8 @@ abbrev pub nodes_of : ℕ → List ℕ → List ℕ
 nodes_of heads keys = map (λ k. heads + k) keys
 
 -- the ring of each head has the keys of its bucket
-abbrev pub Holds : List Link → ℕ → (ℕ → ℕ) → List ℕ → Type 0
-Holds links heads bucket keys = (b : ℕ) → b < heads → IsRing links b (nodes_of heads (in_bucket bucket b keys))
+abbrev pub RingsHold : List Link → ℕ → (ℕ → ℕ) → List ℕ → Type 0
+RingsHold links heads bucket keys = (b : ℕ) → b < heads → IsRing links b (nodes_of heads (in_bucket bucket b keys))
 
 -- the nodes are those of the keys, each in its three rings
 pub record IsLinked (heads : ℕ) (slots : Slab Request) (queues lists owners : List Link) (keys : List ℕ) : Type 0 where
@@ -79,9 +79,9 @@ pub record IsLinked (heads : ℕ) (slots : Slab Request) (queues lists owners : 
   pub distinct : Distinct keys
   pub there : (k : ℕ) → In k keys → is_some (get slots k) ≡ true
   pub count : slab_len slots ≡ length keys
-  pub queues_hold : Holds queues heads (queue_of heads slots) keys
-  pub lists_hold : Holds lists heads (list_of heads slots) keys
-  pub owners_hold : Holds owners heads (owner_of heads slots) keys
+  pub queues_hold : RingsHold queues heads (queue_of heads slots) keys
+  pub lists_hold : RingsHold lists heads (list_of heads slots) keys
+  pub owners_hold : RingsHold owners heads (owner_of heads slots) keys
   pub queue_heads : heads ≤ length queues
   pub list_heads : heads ≤ length lists
   pub owner_heads : heads ≤ length owners

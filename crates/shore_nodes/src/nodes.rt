@@ -18,7 +18,7 @@ use crate::granting::grant_waiters;
 use crate::heads::{heads_for, list_head, owner_head, queue_head};
 use crate::tallies::tally_at;
 use crate::walks::Walk;
-use http_server::Log;
+use http_server::Log as GhostLog;
 use shore_model::Request;
 use shore_rings::Rings;
 use shore_types::{Granule, TxnId};
@@ -29,14 +29,20 @@ use std::marker::Model;
 /// A list of requests, in the order in which they came, and how many there may be.
 #[derive(Drop)]
 pub struct Nodes {
+    // How many requests there may be; memory for as many is taken at the start.
     limit: usize,
+    // The requests, each under the key that `insert` gave it.
     slots: Slab<Request>,
+    // Rings of nodes, one for each head: head h has the requests of the granules that hash to it, in the order in which they came.
     queues: Rings,
+    // As many rings by transaction: the requests of those that hash to one head, so that a release searches no queue.
     lists: Rings,
+    // As many rings by transaction and granule: few requests each, so that one is found at once.
     owners: Rings,
+    // How many heads each of the three has: the nodes below this number. The request of a key is the node of that number and the key together.
     heads: usize,
     // Which keys came and went. It takes no memory: only proofs read it, and it says nothing but the order of the list.
-    history: Log<usize, bool>,
+    history: GhostLog<usize, bool>,
 }
 
 impl Model for Nodes {
@@ -76,7 +82,7 @@ impl Nodes {
             lists,
             owners,
             heads,
-            history: Log::new(),
+            history: GhostLog::new(),
         })
     }
 
@@ -292,6 +298,7 @@ impl Nodes {
         ensures limit { self.new.limit ≡ self.old.limit }
         ensures heads { self.new.heads ≡ self.old.heads }
     {
+        // For the proof: what a list of requests keeps true of itself.
         self.len();
         let head = queue_head(granule, self.heads);
         let tally = tally_at(self.queue(granule), granule);

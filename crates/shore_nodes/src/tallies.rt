@@ -17,13 +17,21 @@ use shore_types::{Granule, Mode};
 /// How many requests hold in each mode, how many want something, and how many of these hold something too.
 #[derive(Clone, Copy)]
 pub struct Tally {
+    // How many hold IS.
     is: usize,
+    // How many hold IX.
     ix: usize,
+    // How many hold SH.
     sh: usize,
+    // How many hold SIX.
     six: usize,
+    // How many hold EX.
     ex: usize,
+    // How many hold UD.
     ud: usize,
+    // How many want a mode.
     waiting: usize,
+    // How many of those that want one hold another: a part of `waiting`.
     converting: usize,
 }
 

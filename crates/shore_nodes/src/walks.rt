@@ -12,10 +12,15 @@ use std::marker::Model;
 /// The nodes of a ring that are left, each with its number.
 #[derive(Drop)]
 pub struct Walk<'a> {
+    // The requests by their keys.
     slots: &'a Slab<Request>,
+    // The rings that are walked along.
     rings: &'a Rings,
+    // How many heads these have; the node of a key comes after them.
     heads: usize,
+    // The head at which the walk ends.
     head: usize,
+    // The node that comes next.
     node: usize,
     // No more than so many are left: no ring has more nodes than there are.
     left: usize,

@@ -10,7 +10,7 @@ use Rattle.shore_types.specs.Images.{Image}
 use Rattle.shore_page.specs.Text.{table_of, offset_at, length_at, Covers}
 use Rattle.shore_page.specs.Reading.{Lies, IsEntry, slot_image, images_in}
 use Rattle.shore_page.specs.Writing.{PutsRecord, KeepsBeside, KeepsHeader}
-use Rattle.shore_page.specs.Layout.{PageImages, IsLaidOut, IsFree, KeepsOthers, record_bytes}
+use Rattle.shore_page.specs.Layout.{PageImages, IsLaidOut, IsFreeSpace, KeepsOthers, record_bytes}
 use Rattle.shore_page.proofs.WritingLemmas.{between_same, number_same, number_above}
 
 pub same_or_not : (a b : ℕ) → (a ≡ b) ⊎ (a ≢ b)
@@ -187,7 +187,7 @@ put_laid_out old new slots slot offset end end' bytes laid_out there puts free e
 -- ---- where a record may go
 
 -- where a slot's longer record is
-pub free_in_place : (bytes : List ℕ) (slots slot end len : ℕ) → IsLaidOut bytes slots end → slot < slots → offset_at bytes slot ≢ 0 → len ≤ length_at bytes slot → IsFree bytes slots slot (offset_at bytes slot) len
+pub free_in_place : (bytes : List ℕ) (slots slot end len : ℕ) → IsLaidOut bytes slots end → slot < slots → offset_at bytes slot ≢ 0 → len ≤ length_at bytes slot → IsFreeSpace bytes slots slot (offset_at bytes slot) len
 free_in_place bytes slots slot end len laid_out there full short =
     let lies = entry_lies (table_of slots) (offset_at bytes slot) (length_at bytes slot) (laid_out.table.each slot there) full in
     record {
@@ -203,7 +203,7 @@ free_in_place bytes slots slot end len laid_out there full short =
     }
 
 -- the gap below the slot table
-pub free_in_gap : (bytes : List ℕ) (slots slot end len : ℕ) → IsLaidOut bytes slots end → end + len ≤ table_of slots → IsFree bytes slots slot end len
+pub free_in_gap : (bytes : List ℕ) (slots slot end len : ℕ) → IsLaidOut bytes slots end → end + len ≤ table_of slots → IsFreeSpace bytes slots slot end len
 free_in_gap bytes slots slot end len laid_out room = record {
   front = laid_out.front;
   back = room;
@@ -237,7 +237,7 @@ puts_header old new slots slot offset bytes few puts side = record {
 -- ---- what there is when a record was given up and the others were moved together
 
 pub record CompactedFor (old new : List ℕ) (slots slot end len : ℕ) : Type 0 where
-  pub free : IsFree new slots slot end len
+  pub free : IsFreeSpace new slots slot end len
   pub others : KeepsOthers old new slots slot
   pub header : KeepsHeader old new
 
@@ -265,7 +265,7 @@ pub record PutDone (old new : List ℕ) (slots slot end : ℕ) (bytes : List ℕ
   pub images : images_in new slots ≡ set (images_in old slots) slot (Some bytes)
   pub header : KeepsHeader old new
 
-pub put_done : (old mid new : List ℕ) (slots slot offset end : ℕ) (bytes : List ℕ) → IsLaidOut mid slots end → IsFree mid slots slot offset (length bytes) → KeepsOthers old mid slots slot → KeepsHeader old mid
+pub put_done : (old mid new : List ℕ) (slots slot offset end : ℕ) (bytes : List ℕ) → IsLaidOut mid slots end → IsFreeSpace mid slots slot offset (length bytes) → KeepsOthers old mid slots slot → KeepsHeader old mid
     → PutsRecord mid new slots slot offset bytes → slot < slots → length bytes ≤ 4000 → PutDone old new slots slot (max end (offset + length bytes)) bytes
 put_done old mid new slots slot offset end bytes laid_out place others header puts there short =
     let kept = puts_header mid new slots slot offset bytes laid_out.few puts (inl place.front) in

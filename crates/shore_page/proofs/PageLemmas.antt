@@ -9,8 +9,8 @@ use Rattle.std.specs.Prelude.{IsTrue, ◌↔◌}
 use Rattle.std.specs.Option.{option_and_then}
 use Rattle.std.specs.List.{slice_get, All}
 use Rattle.shore_types.specs.declared.ids.PageId.{PageId}
-use Rattle.shore_types.specs.Images.{Image}
-use Rattle.shore_page.specs.Slots.{Slot, PageState, image_len, image_at_slot, with_change, with_slot, with_image, holding, settled}
+use Rattle.shore_types.specs.Images.{Image, image_len}
+use Rattle.shore_page.specs.Slots.{Slot, PageState, image_at_slot, with_change, with_slot, with_image, holding, settled}
 use Rattle.shore_page.specs.Room.{claims, claim_at, free_bytes, need, Fits, HasRoom, HoldsItsImage, KeepsClaims, ChangesOne, raised, lowered}
 use Rattle.std.proofs.lemmas.Option.{slice_get-get_or}
 use Rattle.shore_page.specs.Text.{images_of, table_of, HasSlot, IsPageText}

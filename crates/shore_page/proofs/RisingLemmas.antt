@@ -2,7 +2,7 @@
 use Rattle.std.proofs.Common.{◌≡◌, ℕ, ◌+◌, ◌*◌, ◌<◌, ◌≤◌, inl, inr, List, length, sym, subst, arith}
 use Rattle.std.proofs.lemmas.List.FromFn.{sum_by-map-range_with_len_more}
 use Rattle.std.proofs.lemmas.Bool.{cases_lt}
-use Rattle.shore_page.specs.Slots.{image_len}
+use Rattle.shore_types.specs.Images.{image_len}
 use Rattle.shore_page.specs.Text.{table_of, offset_at, length_at, Covers}
 use Rattle.shore_page.specs.Reading.{Follows, IsEntry, slot_image, images_in}
 use Rattle.shore_page.specs.Layout.{IsLaidOut, record_bytes}

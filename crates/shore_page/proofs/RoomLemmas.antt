@@ -8,8 +8,8 @@ use Rattle.std.proofs.lemmas.List.Sums.{sum_by-set, sum_by-append}
 use Rattle.std.proofs.lemmas.Option.{slice_get_cases, slice_get_past, slice_get_read, slice_get-get_or}
 use Rattle.std.specs.Option.{option_and_then, option_map_or}
 use Rattle.std.specs.List.{slice_get, All}
-use Rattle.shore_page.specs.Slots.{Slot, image_len, image_at_slot, with_change, with_slot, with_image, holding, settled}
-use Rattle.shore_types.specs.Images.{Image}
+use Rattle.shore_page.specs.Slots.{Slot, image_at_slot, with_change, with_slot, with_image, holding, settled}
+use Rattle.shore_types.specs.Images.{image_len, Image}
 use Rattle.shore_types.specs.declared.layout.TheConstants.{MAX_RECORD_BYTES}
 use Rattle.shore_page.specs.Room.{claims, claim_at, free_bytes, need, Fits, HasRoom, HoldsItsImage, KeepsClaims, ChangesOne, raised, lowered}
 

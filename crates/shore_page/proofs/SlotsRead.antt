@@ -11,8 +11,7 @@ use Rattle.std.proofs.lemmas.Option.{slice_get-get_or, slice_get_within, get_or_
 use Rattle.std.specs.Prelude.{unwrap_or}
 use Rattle.std.specs.List.{between}
 use Rattle.shore_types.specs.declared.ids.PageId.{PageId}
-use Rattle.shore_page.specs.Slots.{image_len}
-use Rattle.shore_types.specs.Images.{Image}
+use Rattle.shore_types.specs.Images.{image_len, Image}
 use Rattle.shore_page.specs.Text.{table_of, offset_at, length_at, HasHeader, HasSlot, Covers, IsPageText}
 use Rattle.shore_page.specs.Reading.{IsEntry, IsTable, slot_image, images_in, marked, Marks, IsTaken}
 use Rattle.shore_page.specs.Layout.{IsLaidOut, record_bytes}

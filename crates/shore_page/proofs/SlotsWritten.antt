@@ -3,8 +3,7 @@ use Rattle.std.proofs.Common.{◌≡◌, ◌≢◌, ℕ, ◌+◌, ◌<◌, ◌�
 use Rattle.std.proofs.lemmas.List.{drop_more}
 use Rattle.std.proofs.lemmas.List.Sums.{sum_by-cons}
 use Rattle.std.proofs.lemmas.Bool.{cases_lt}
-use Rattle.shore_page.specs.Slots.{image_len}
-use Rattle.shore_types.specs.Images.{Image}
+use Rattle.shore_types.specs.Images.{image_len, Image}
 use Rattle.shore_page.specs.Text.{table_of, offset_at, length_at, HasRecord, HasSlot, Covers}
 use Rattle.shore_page.specs.Reading.{slot_image, images_in}
 use Rattle.shore_page.specs.Layout.{IsLaidOut, record_bytes}

@@ -7,8 +7,8 @@ use Rattle.std.proofs.lemmas.List.{length-map, map-append}
 use Rattle.std.proofs.lemmas.List.Sums.{sum_by-cons}
 use Rattle.std.proofs.lemmas.List.Elements.{All-cons, All-head, All-tail, All-nil, All-get_or}
 use Rattle.std.proofs.lemmas.Option.{slice_get-map, slice_get_within, get_or_from_slice_get}
-use Rattle.shore_page.specs.Slots.{Slot, image_len, with_change, with_slot, with_image, holding, settled}
-use Rattle.shore_types.specs.Images.{Image}
+use Rattle.shore_page.specs.Slots.{Slot, with_change, with_slot, with_image, holding, settled}
+use Rattle.shore_types.specs.Images.{image_len, Image}
 use Rattle.shore_page.specs.Room.{claims, Fits, HasRoom, HoldsItsImage, lowered}
 use Rattle.shore_page.specs.Undo.{Undecided, longest, claiming, claiming_all, changing, untouched, with_undecided, undone, undoing, deciding, undo_image, UndoFits}
 use Rattle.shore_page.proofs.RoomLemmas.{with_image_room, with_slot_inside, need_inside}

@@ -5,11 +5,11 @@ use Rattle.shore_page.specs.Room.{Fits, raised}
 use Rattle.shore_page.specs.Slots.{Slot, with_change}
 
 -- for each page what may come back to its slots
-abbrev pub Kept : Type 0
-Kept = PageId → List (ℕ × ℕ)
+abbrev pub ClaimsOfPages : Type 0
+ClaimsOfPages = PageId → List (ℕ × ℕ)
 
 -- nothing comes back to any page
-abbrev pub unclaimed : Kept
+abbrev pub unclaimed : ClaimsOfPages
 unclaimed id = []
 
 -- The slots, of which some keep more: the last pair of the list is reserved first.

@@ -3,8 +3,8 @@ use Rattle.std.specs.Prelude.{◌≡◌, ◌≢◌, ◌⊎◌, ℕ, ◌+◌, ◌
 use Rattle.std.specs.List.{sum_by}
 use Rattle.shore_types.specs.declared.ids.PageId.{PageId}
 use Rattle.shore_types.specs.declared.layout.TheConstants.{PAGE_BYTES, MAX_SLOTS}
-use Rattle.shore_types.specs.Images.{Image}
-use Rattle.shore_page.specs.Slots.{Slot, image_len}
+use Rattle.shore_types.specs.Images.{Image, image_len}
+use Rattle.shore_page.specs.Slots.{Slot}
 use Rattle.shore_page.specs.Room.{KeepsClaims}
 use Rattle.shore_page.specs.Text.{HasHeader, table_of, offset_at, length_at, Covers}
 use Rattle.shore_page.specs.Reading.{IsTable, slot_image}
@@ -34,7 +34,7 @@ pub record IsPageBytes (bytes : List ℕ) (id : PageId) (number slots end : ℕ)
   pub laid_out : IsLaidOut bytes slots end
 
 -- so many bytes at an offset lie between the header and the slot table, and belong to no other slot's record
-pub record IsFree (bytes : List ℕ) (slots slot offset len : ℕ) : Type 0 where
+pub record IsFreeSpace (bytes : List ℕ) (slots slot offset len : ℕ) : Type 0 where
   pub front : 24 ≤ offset
   pub back : offset + len ≤ table_of slots
   pub free : (other position : ℕ) → other < slots → other ≢ slot → Covers bytes other position → (position < offset) ⊎ (offset + len ≤ position)

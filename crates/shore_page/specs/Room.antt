@@ -3,8 +3,8 @@ use Rattle.std.specs.Prelude.{◌≡◌, ◌≢◌, ℕ, ◌+◌, ◌-◌, ◌*�
 use Rattle.std.specs.List.{sum_by}
 use Rattle.std.specs.Option.{option_map_or}
 use Rattle.shore_types.specs.declared.layout.TheConstants.{MAX_RECORD_BYTES, MAX_SLOTS}
-use Rattle.shore_page.specs.Slots.{Slot, image_len, image_at_slot}
-use Rattle.shore_types.specs.Images.{Image}
+use Rattle.shore_page.specs.Slots.{Slot, image_at_slot}
+use Rattle.shore_types.specs.Images.{image_len, Image}
 
 -- the bytes that the slots keep together
 abbrev pub claims : List Slot → ℕ

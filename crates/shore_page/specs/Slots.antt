@@ -2,7 +2,7 @@
 use Rattle.std.specs.Prelude.{ℕ, zero, suc, ◌+◌, ◌-◌, max, List, [], ◌∷◌, ◌++◌, length, replicate, slice_get, Option, Some, None}
 use Rattle.std.specs.Option.{option_and_then}
 use Rattle.shore_types.specs.declared.ids.PageId.{PageId}
-use Rattle.shore_types.specs.Images.{Image}
+use Rattle.shore_types.specs.Images.{Image, image_len}
 
 -- what is in a slot, and how many bytes of the page are kept for it
 pub record Slot : Type 0 where
@@ -14,11 +14,6 @@ pub record PageState : Type 0 where
   pub id : PageId
   pub number : ℕ
   pub slots : List Slot
-
--- no record has no bytes
-abbrev pub image_len : Image → ℕ
-image_len None = 0
-image_len (Some bytes) = length bytes
 
 -- what is in a slot; nothing in one that is not there
 abbrev pub image_at_slot : List Slot → ℕ → Image

@@ -1,8 +1,8 @@
 -- Changes that are not decided yet: what undoing them puts back, and the room that it takes.
 use Rattle.std.specs.Prelude.{ℕ, ◌+◌, ◌-◌, max, List, [], ◌∷◌, ◌++◌, length, map, replicate, slice_get, Option, None, IfSome}
 use Rattle.std.specs.Option.{option_and_then}
-use Rattle.shore_page.specs.Slots.{Slot, image_len, with_change}
-use Rattle.shore_types.specs.Images.{Image}
+use Rattle.shore_page.specs.Slots.{Slot, with_change}
+use Rattle.shore_types.specs.Images.{image_len, Image}
 use Rattle.shore_page.specs.Room.{Fits}
 
 -- a slot, and the images before its undecided changes, the newest first: its transaction could still put each back

@@ -1,7 +1,7 @@
 //! The claims of a page's slots, one beside another.
 ghost use Rattle.std.specs.Prelude.{◌≡◌, ◌+◌, ◌-◌, ◌*◌, ◌≤◌, ◌++◌, [], length, map, replicate, vec_capacity};
 ghost use Rattle.shore_types.specs.declared.layout.TheConstants.{MAX_SLOTS};
-ghost use Rattle.shore_page.specs.Slots.{image_len};
+ghost use Rattle.shore_types.specs.Images.{image_len};
 ghost use Rattle.shore_page.specs.Layout.{record_bytes};
 
 use crate::text::PageBytes;

@@ -1,7 +1,7 @@
 //! The records of a page moved together, so that the room between them comes to the gap below the slot table.
 ghost use Rattle.std.specs.Prelude.{◌≡◌, ◌+◌, ◌<◌, ◌≤◌, ℕ, length, option_map};
 ghost use Rattle.shore_types.specs.declared.layout.TheConstants.{MAX_RECORD_BYTES, MAX_SLOTS};
-ghost use Rattle.shore_page.specs.Slots.{image_len};
+ghost use Rattle.shore_types.specs.Images.{image_len};
 ghost use Rattle.shore_page.specs.Text.{table_of, offset_at, length_at, HasSlot, Covers};
 ghost use Rattle.shore_page.specs.Reading.{IsTable, images_in};
 ghost use Rattle.shore_page.specs.Layout.{IsLaidOut, record_bytes};

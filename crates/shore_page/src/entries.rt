@@ -31,7 +31,9 @@ pub fn u64_at(bytes: &[u8], position: usize) -> u64
 /// The entry of a slot: where its record begins, and how long it is.
 #[derive(Clone, Copy)]
 pub struct Entry {
+    /// The offset of its first byte in the page.
     pub offset: usize,
+    /// How many bytes it has.
     pub bytes: usize,
 }
 

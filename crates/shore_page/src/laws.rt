@@ -1,8 +1,8 @@
 //! Laws, as functions that do nothing: why no undo lacks room on its page, which claims fit again, and that bytes are read in one way.
 ghost use Rattle.std.specs.Prelude.{◌≡◌, ◌≤◌, List, ℕ, ◌∷◌, Some, length, map, slice_get};
 ghost use Rattle.shore_page.specs.Claims.{AreThere, FitIn, claimed_by};
-ghost use Rattle.shore_page.specs.Slots.{image_len, settled, with_change, with_image};
-ghost use Rattle.shore_types.specs.Images.{Image};
+ghost use Rattle.shore_page.specs.Slots.{settled, with_change, with_image};
+ghost use Rattle.shore_types.specs.Images.{image_len, Image};
 ghost use Rattle.shore_page.specs.Room.{Fits, HasRoom, lowered};
 ghost use Rattle.shore_types.specs.declared.ids.PageId.{PageId};
 ghost use Rattle.shore_types.specs.declared.layout.TheConstants.{MAX_SLOTS};

@@ -1,7 +1,7 @@
 //! A page as a map of its slots.
 ghost use Rattle.std.specs.Prelude.{◌≡◌, ◌≢◌, ◌+◌, ◌-◌, ◌*◌, ◌<◌, ◌≤◌, ◌++◌, ◌∷◌, ◌↔◌, ℕ, [], length, replicate, slice_get, Some, None, option_map, IsTrue, IfOk, IfSome, List, vec_capacity};
-ghost use Rattle.shore_page.specs.Slots.{image_len, image_at_slot, with_change, with_slot, with_image};
-ghost use Rattle.shore_types.specs.Images.{Image};
+ghost use Rattle.shore_page.specs.Slots.{image_at_slot, with_change, with_slot, with_image};
+ghost use Rattle.shore_types.specs.Images.{image_len, Image};
 ghost use Rattle.shore_page.specs.Room.{claim_at, free_bytes, need, Fits, HasRoom, IsCandidate, IsFirstCandidate, ChangesOne, raised, lowered};
 ghost use Rattle.shore_types.specs.declared.layout.TheConstants.{PAGE_BYTES, MAX_RECORD_BYTES, MAX_SLOTS};
 ghost use Rattle.shore_page.specs.Text.{IsPageText, images_of, settled_page};
@@ -18,6 +18,7 @@ use std::marker::Model;
 /// decided yet may be undone. A slot number never goes away.
 #[derive(Drop)]
 pub struct Page {
+    // The bytes of the page as the volume gets them, with its id, its number and its records.
     text: PageBytes,
     // The claim of each slot.
     claims: Vec<u16>,

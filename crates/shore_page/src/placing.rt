@@ -4,7 +4,7 @@ ghost use Rattle.shore_types.specs.declared.ids.PageId.{PageId};
 ghost use Rattle.shore_types.specs.declared.layout.TheConstants.{MAX_RECORD_BYTES, MAX_SLOTS};
 ghost use Rattle.shore_page.specs.Text.{HasHeader, table_of};
 ghost use Rattle.shore_page.specs.Reading.{images_in};
-ghost use Rattle.shore_page.specs.Layout.{IsLaidOut, IsFree, KeepsOthers, record_bytes};
+ghost use Rattle.shore_page.specs.Layout.{IsLaidOut, IsFreeSpace, KeepsOthers, record_bytes};
 ghost use Rattle.shore_page.specs.Writing.{KeepsHeader};
 
 use crate::compaction::compact;
@@ -15,7 +15,9 @@ use shore_types::layout::{PAGE_BYTES, SLOT_ENTRY_BYTES};
 // Where a record goes, and where the last record ends then.
 #[derive(Clone, Copy)]
 struct Place {
+    // The offset of its first byte.
     offset: usize,
+    // The offset after the last byte of any record.
     end: usize,
 }
 
@@ -26,7 +28,7 @@ fn place_for(bytes: &mut [u8], slots: usize, end: usize, slot: usize, len: usize
     requires there { slot < slots }
     requires room { 24 + record_bytes (set (images_in bytes.old slots) slot None) + len ≤ table_of slots }
     ensures laid_out { IsLaidOut bytes.new slots result.end }
-    ensures free { IsFree bytes.new slots slot result.offset len }
+    ensures free { IsFreeSpace bytes.new slots slot result.offset len }
     ensures others { KeepsOthers bytes.old bytes.new slots slot }
     ensures header { KeepsHeader bytes.old bytes.new }
 {

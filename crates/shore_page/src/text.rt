@@ -1,9 +1,8 @@
 //! A page's text with its records: the bytes are a text at all times, and only they are kept.
 ghost use Rattle.std.specs.Prelude.{◌≡◌, ◌≢◌, ◌↔◌, ◌+◌, ◌-◌, ◌*◌, ◌<◌, ◌≤◌, ◌++◌, ◌∷◌, ℕ, [], length, replicate, set, slice_get, slice_index_or, Some, None, option_map, IsTrue, IfOk, IfSome, List};
 ghost use Rattle.std.specs.Option.{option_and_then};
-ghost use Rattle.shore_types.specs.Images.{Image};
+ghost use Rattle.shore_types.specs.Images.{Image, image_len};
 ghost use Rattle.shore_types.specs.declared.layout.TheConstants.{PAGE_BYTES, MAX_RECORD_BYTES, MAX_SLOTS};
-ghost use Rattle.shore_page.specs.Slots.{image_len};
 ghost use Rattle.shore_page.specs.Text.{IsPageText};
 ghost use Rattle.shore_page.specs.Layout.{record_bytes};
 
@@ -19,9 +18,13 @@ use std::marker::Model;
 /// The text of a page.
 #[derive(Drop)]
 pub struct PageBytes {
+    // The id, as the header has it.
     id: PageId,
+    // The number of the last logged change (page_LSN), as the header has it.
     number: Lsn,
+    // The page, byte by byte: the header, records from the front on, and the slot table at the back.
     bytes: Vec<u8>,
+    // How many entries the slot table has, as the header says; a slot is never given up.
     slots: usize,
     // No record ends behind it. What is between it and the slot table is free; so are holes below it.
     end: usize,

@@ -19,7 +19,7 @@ use Rattle.shore_path.specs.declared.answers.OnConflict.{OnConflict}
 use Rattle.shore_path.specs.declared.answers.OnConflict.TheVariants.{Wait}
 use Rattle.shore_path.specs.Acquires.{GrowsAsAsked, IsReached, MayRefuse, NoneWeaker, OthersOnlyGranted, WaitsAt}
 use Rattle.shore_path.specs.Rooted.{AreRooted}
-use Rattle.shore_path.specs.Walks.{ComesTo, Outcome, asked_of, walk}
+use Rattle.shore_path.specs.Walks.{HasOutcome, Outcome, asked_of, walk}
 use Rattle.shore_path.proofs.Bystanders.{others_after}
 use Rattle.shore_path.proofs.Intentions.{are_rooted, rooted_of}
 use Rattle.shore_path.proofs.Kept.{Each, fit_after, grows_after, quiet_after, rooted_after_walk, stays_after, still_enough}
@@ -31,7 +31,7 @@ never_empty : (target : Granule) → reverse (path target) ≡ [] → ⊥
 never_empty target none = let last : In target [] = subst (In target) none (on_way target) in last
 
 module _ (c : OnConflict) (t : ℕ) (target : Granule) (mode : Mode) (old new : Table) (result : Result Acquired Fault) (orderly : IsOrderly old.requests) (quiet : is_waiting t old.requests ≡ false)
-    (asked : ComesTo old (walk c t target mode old.limit (reverse (path target)) old.requests) result new) where
+    (asked : HasOutcome old (walk c t target mode old.limit (reverse (path target)) old.requests) result new) where
   abbrev way : List Granule
   way = reverse (path target)
 

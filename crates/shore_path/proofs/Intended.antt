@@ -21,7 +21,7 @@ use Rattle.shore_path.specs.Intending.{IntendsToWrite, is_intention}
 use Rattle.shore_path.specs.Judging.{CanLockNow}
 use Rattle.shore_path.specs.declared.answers.Acquired.{Acquired}
 use Rattle.shore_path.specs.Needs.{EndsAt, Passes}
-use Rattle.shore_path.specs.Walks.{ComesTo, Outcome, acquired, after_at, answer_at, is_covered}
+use Rattle.shore_path.specs.Walks.{HasOutcome, Outcome, acquired, after_at, answer_at, is_covered}
 use Rattle.shore_path.proofs.JudgedWays.{differ_path}
 use Rattle.shore_path.proofs.Lockable.{LetThrough, through}
 use Rattle.shore_path.proofs.Passing.{comes_last, ends_walk, passes_walk}
@@ -96,14 +96,14 @@ module _ (t : ℕ) (id : Rid) (old : Table) (has : IntendsToWrite old.requests t
       passes_walk Refuse t target EX Volume old old (passes_volume t id old has) (Store id.page.store ∷ below)
       ∙ passes_walk Refuse t target EX (Store id.page.store) old old (passes_store t id old has) below
 
-  comes : (new : Table) (answer : Result Acquired Fault) → ComesTo old (walk_on Refuse t target EX old.limit (Page id.page ∷ target ∷ []) old.requests) answer new → ComesTo old (acquired Refuse old t target EX) answer new
-  comes new answer from = subst (λ (o : Outcome). ComesTo old o answer new) (sym (behind (Page id.page ∷ target ∷ []))) from
+  comes : (new : Table) (answer : Result Acquired Fault) → HasOutcome old (walk_on Refuse t target EX old.limit (Page id.page ∷ target ∷ []) old.requests) answer new → HasOutcome old (acquired Refuse old t target EX) answer new
+  comes new answer from = subst (λ (o : Outcome). HasOutcome old o answer new) (sym (behind (Page id.page ∷ target ∷ []))) from
 
   -- an acquire that ends at the page
-  pub ends_in_store : (new : Table) (answer : Result Acquired Fault) → EndsAt Refuse t target EX (Page id.page) old new answer → ComesTo old (acquired Refuse old t target EX) answer new
+  pub ends_in_store : (new : Table) (answer : Result Acquired Fault) → EndsAt Refuse t target EX (Page id.page) old new answer → HasOutcome old (acquired Refuse old t target EX) answer new
   ends_in_store new answer ends = comes new answer (ends_walk Refuse t target EX (Page id.page) old new answer ends (target ∷ []))
 
   -- .. and one that comes to the record
   pub comes_in_store : (mid new : Table) (answer : Result Acquired Fault) → Passes Refuse t target EX (Page id.page) old mid → answer ≡ answer_at Refuse mid t target EX
-      → new ≡ record { limit = mid.limit; requests = after_at Refuse mid t target EX } → ComesTo old (acquired Refuse old t target EX) answer new
+      → new ≡ record { limit = mid.limit; requests = after_at Refuse mid t target EX } → HasOutcome old (acquired Refuse old t target EX) answer new
   comes_in_store mid new answer p told left = comes new answer (comes_last Refuse t target EX (Page id.page) old mid new answer p told left)

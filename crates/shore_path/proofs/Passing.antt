@@ -15,7 +15,7 @@ use Rattle.shore_path.specs.declared.answers.Acquired.{Acquired}
 use Rattle.shore_path.specs.declared.answers.Acquired.TheVariants as acquire
 use Rattle.shore_path.specs.declared.answers.OnConflict.{OnConflict}
 use Rattle.shore_path.specs.Needs.{EndsAt, HasPassed, Passes}
-use Rattle.shore_path.specs.Walks.{ComesTo, Outcome, after_at, answer_at, asked_of}
+use Rattle.shore_path.specs.Walks.{HasOutcome, Outcome, after_at, answer_at, asked_of}
 use Rattle.shore_path.proofs.Kept.{quiet_after}
 use Rattle.shore_path.proofs.Walking.{done, stop, stops_at, table_of, walk_on}
 
@@ -29,7 +29,7 @@ module _ (c : OnConflict) (t : ℕ) (target : Granule) (mode : Mode) (g : Granul
   passes_walk p below =
       rw (p.needed, p.done) refl ∙ ap (λ (x : Table). walk_on c t target mode x.limit below x.requests) (sym p.left)
 
-  pub ends_walk : (answer : Result Acquired Fault) → EndsAt c t target mode g old new answer → (below : List Granule) → ComesTo old (walk_on c t target mode old.limit (g ∷ below) old.requests) answer new
+  pub ends_walk : (answer : Result Acquired Fault) → EndsAt c t target mode g old new answer → (below : List Granule) → HasOutcome old (walk_on c t target mode old.limit (g ∷ below) old.requests) answer new
   ends_walk answer (inl spared) below = rw spared.0 (spared.1, spared.2)
   ends_walk answer (inr told) below =
       let out : walk_on c t target mode old.limit (g ∷ below) old.requests ≡ stop answer (after_at c old t g (asked_of target mode g)) =
@@ -45,7 +45,7 @@ module _ (c : OnConflict) (t : ℕ) (target : Granule) (mode : Mode) (g : Granul
   asked_last (Err f) is = rw (same_self target, is) refl
 
   pub comes_last : Passes c t target mode g old mid → answer ≡ answer_at c mid t target mode
-      → new ≡ record { limit = mid.limit; requests = after_at c mid t target mode } → ComesTo old (walk_on c t target mode old.limit (g ∷ target ∷ []) old.requests) answer new
+      → new ≡ record { limit = mid.limit; requests = after_at c mid t target mode } → HasOutcome old (walk_on c t target mode old.limit (g ∷ target ∷ []) old.requests) answer new
   comes_last p told left =
       let out = passes_walk c t target mode g old mid p (target ∷ []) ∙ asked_last answer (sym told) in
       (sym (ap (λ (o : Outcome). o.answer) out), left ∙ (λ k. record { limit = (p.left k).limit; requests = (sym out k).requests }))
@@ -69,7 +69,7 @@ module _ (c : OnConflict) (t : ℕ) (target : Granule) (mode : Mode) (old : Tabl
   asked_alone (Err f) is = rw (same_self target, is) refl
 
   pub comes_to_target : (new : Table) (answer : Result Acquired Fault) → HasPassed c t target mode (reverse (ancestors target)) old → answer ≡ answer_at c old t target mode
-      → new ≡ record { limit = old.limit; requests = after_at c old t target mode } → ComesTo old (walk_on c t target mode old.limit (reverse (path target)) old.requests) answer new
+      → new ≡ record { limit = old.limit; requests = after_at c old t target mode } → HasOutcome old (walk_on c t target mode old.limit (reverse (path target)) old.requests) answer new
   comes_to_target new answer has told left =
       let out : walk_on c t target mode old.limit (reverse (path target)) old.requests ≡ stop answer (after_at c old t target mode) =
       ap (λ way. walk_on c t target mode old.limit way old.requests) (path_split target) ∙ passed_walk (reverse (ancestors target)) (target ∷ []) has ∙ asked_alone answer (sym told) in

@@ -12,7 +12,7 @@ use Rattle.shore_path.specs.declared.answers.Acquired.{Acquired}
 use Rattle.shore_path.specs.declared.answers.Acquired.TheVariants as acquire
 use Rattle.shore_path.specs.declared.answers.OnConflict.{OnConflict}
 use Rattle.shore_path.specs.Needs.{Passes}
-use Rattle.shore_path.specs.Walks.{ComesTo, after_at, answer_at, asked_of, is_spared}
+use Rattle.shore_path.specs.Walks.{HasOutcome, after_at, answer_at, asked_of, is_spared}
 use Rattle.shore_path.proofs.Walking.{Through, done, stop, stops_at, table_of, through_more, through_walk, walk_on}
 
 parted : {A : Type 0} (xs : List A) (i : ℕ) (x : A) → i < length xs → x ≡ get_or xs i x → xs ≡ take i xs ++ (x ∷ drop (suc i) xs)
@@ -39,7 +39,7 @@ module _ (c : OnConflict) (t : ℕ) (target : Granule) (mode : Mode) (old table 
       ∙ through_walk c t target mode old.limit (take i path) (g ∷ drop (suc i) path) old.requests table.requests through
 
   pub ends_spared : (g : Granule) → i < length path → g ≡ get_or path i g → is_spared t target mode g table.requests ≡ true
-      → ComesTo old (walk_on c t target mode old.limit path old.requests) (Ok acquire.Done) table
+      → HasOutcome old (walk_on c t target mode old.limit path old.requests) (Ok acquire.Done) table
   ends_spared g within is spared =
       let out : walk_on c t target mode old.limit path old.requests ≡ done table.requests = ahead g within is ∙ rw spared refl in
       (sym (ap (λ o. o.answer) out), same_table ∙ ap (λ xs. table_of c t target mode old.limit xs) (sym (ap (λ o. o.requests) out)))
@@ -47,7 +47,7 @@ module _ (c : OnConflict) (t : ℕ) (target : Granule) (mode : Mode) (old table 
   pub ends_told : (g : Granule) (answer : Result Acquired Fault) (new : Table) → i < length path → g ≡ get_or path i g → is_spared t target mode g table.requests ≡ false
       → answer ≡ answer_at c table t g (step g) → (answer ≡ Ok acquire.Done → ⊥)
       → new ≡ record { limit = table.limit; requests = after_at c table t g (step g) }
-      → ComesTo old (walk_on c t target mode old.limit path old.requests) answer new
+      → HasOutcome old (walk_on c t target mode old.limit path old.requests) answer new
   ends_told g answer new within is free told other left =
       let out : walk_on c t target mode old.limit path old.requests ≡ stop answer (after_at c (table_of c t target mode old.limit table.requests) t g (step g)) =
       ahead g within is
@@ -67,7 +67,7 @@ module _ (c : OnConflict) (t : ℕ) (target : Granule) (mode : Mode) (old table 
         ap (λ x. x.limit) passes.left ∙ limit,
       )
 
-  pub ends_whole : length path ≤ i → ComesTo old (walk_on c t target mode old.limit path old.requests) (Ok acquire.Done) table
+  pub ends_whole : length path ≤ i → HasOutcome old (walk_on c t target mode old.limit path old.requests) (Ok acquire.Done) table
   ends_whole past =
       let out : walk_on c t target mode old.limit path old.requests ≡ done table.requests = ap (λ way. walk_on c t target mode old.limit way old.requests) (sym (whole path i past)) ∙ come in
       (sym (ap (λ o. o.answer) out), same_table ∙ ap (λ xs. table_of c t target mode old.limit xs) (sym (ap (λ o. o.requests) out)))

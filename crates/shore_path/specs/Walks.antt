@@ -82,5 +82,5 @@ acquired c table t target mode =
     (record { answer = Err fault.BadMode; requests = table.requests })
 
 -- the answer and the table are those of an outcome
-abbrev pub ComesTo : Table → Outcome → Result Acquired Fault → Table → Type 0
-ComesTo old out answer new = (answer ≡ out.answer) × (new ≡ record { limit = old.limit; requests = out.requests })
+abbrev pub HasOutcome : Table → Outcome → Result Acquired Fault → Table → Type 0
+HasOutcome old out answer new = (answer ≡ out.answer) × (new ≡ record { limit = old.limit; requests = out.requests })

@@ -26,6 +26,7 @@ pub fn may_lock_in_store(table: &LockTable, txn: TxnId, page: &PageId) -> bool
     requires { IntendsToWrite table.now.requests txn page.now.store }
     ensures { IsTrue result ↔ CanLockNow table.now.requests txn (Granule.Page page.now) Mode.IX }
 {
+    // For the proof: the requests of any table are orderly. Nothing runs.
     tables_are_orderly(table);
     let page = &Granule::Page(*page);
     let held = table.held(txn, *page);
@@ -37,11 +38,12 @@ pub fn may_lock_in_store(table: &LockTable, txn: TxnId, page: &PageId) -> bool
 pub fn acquire_in_store(table: &mut LockTable, txn: TxnId, id: &Rid) -> Result<Acquired, Fault>
     requires quiet { is_waiting txn table.old.requests ≡ false }
     requires intends { IntendsToWrite table.old.requests txn id.now.page.store }
-    ensures as_asked { walks.ComesTo table.old (walks.acquired Refuse table.old txn (Granule.Record id.now) Mode.EX) result table.new }
+    ensures as_asked { walks.HasOutcome table.old (walks.acquired Refuse table.old txn (Granule.Record id.now) Mode.EX) result table.new }
     ensures done { result ≡ Ok Acquired.Done → IsReached table.new.requests txn (Granule.Record id.now) Mode.EX }
     ensures quiet { ((g : Granule) → result ≢ Ok (Acquired.Waiting g)) → is_waiting txn table.new.requests ≡ false }
     ensures refused { IfErr result (MayRefuse Refuse table.new txn (Granule.Record id.now) Mode.EX) }
 {
+    // For the proof: the requests of any table are orderly. Nothing runs.
     tables_are_orderly(table);
     let page = &Granule::Page(id.page);
     if has_intention(table, txn, Mode::EX, page) {

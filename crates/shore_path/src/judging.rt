@@ -22,20 +22,12 @@ use shore_model::Request;
 use shore_modes::{allowed, covers, parent_mode};
 use shore_types::{Fault, Granule, Mode, Rid, TxnId};
 
-/// What `acquire` would be answered if it may not wait. Nothing changes. If the answer is Done, an acquire that follows is Done
-/// too, also one that may wait.
-pub fn judge(table: &LockTable, txn: TxnId, target: Granule, mode: Mode) -> Result<Acquired, Fault>
-    ensures { result ≡ (walks.acquired Refuse table.now txn target mode).answer }
-{
-    judge_with(table, txn, &target, mode, table.nodes_left())
-}
-
 /// Whether a transaction could lock a granule in a mode now: nobody is in the way on its path. How many nodes are left is not looked at.
 /// Of each granule of the path one request is looked for.
 pub fn may_lock(table: &LockTable, txn: TxnId, target: Granule, mode: Mode) -> bool
     ensures { IsTrue result ↔ CanLockNow table.now.requests txn target mode }
 {
-    is_done(&judge_with(table, txn, &target, mode, LONGEST_PATH))
+    is_done(&judge(table, txn, &target, mode, LONGEST_PATH))
 }
 
 /// As `may_lock`, for a record in EX whose page the transaction could lock in IX. Mostly the record has no requests, and then nothing
@@ -44,6 +36,7 @@ pub fn may_lock_in_page(table: &LockTable, txn: TxnId, id: &Rid) -> bool
     requires { CanLockNow table.now.requests txn (Granule.Page id.now.page) Mode.IX }
     ensures { IsTrue result ↔ CanLockNow table.now.requests txn (Granule.Record id.now) Mode.EX }
 {
+    // For the proof: the requests of any table are orderly. Nothing runs.
     tables_are_orderly(table);
     let record = &Granule::Record(*id);
     if !table.may_have_requests(*record) {
@@ -65,7 +58,7 @@ fn is_covered_above(table: &LockTable, txn: TxnId, id: &Rid) -> bool
 }
 
 // What an acquire that may not wait would be answered in a table with so many nodes left.
-fn judge_with(
+fn judge(
     table: &LockTable,
     txn: TxnId,
     target: &Granule,
@@ -77,6 +70,7 @@ fn judge_with(
     if !allowed(target.level(), mode) {
         return Err(Fault::BadMode);
     }
+    // For the proof: the requests of any table are orderly. Nothing runs.
     tables_are_orderly(table);
     let path = path_to(*target);
     judge_along(table, txn, target, mode, path.as_slice(), left)

@@ -40,7 +40,7 @@ pub fn empty_table_is_rooted()
     ensures { AreRooted [] }
 {}
 
-/// An acquire that is Done if it may not wait is Done if it may, and leaves the same requests. So what `judge` calls Done will be.
+/// An acquire that is Done if it may not wait is Done if it may, and leaves the same requests.
 pub fn done_without_waiting()
     ensures { (table : Table) (t : ℕ) (target : Granule) (mode : Mode) → (acquired Refuse table t target mode).answer ≡ Ok Done →
         acquired Wait table t target mode ≡ acquired Refuse table t target mode }

@@ -10,6 +10,5 @@ pub mod walk;
 
 pub use answers::{Acquired, OnConflict};
 pub use intending::{acquire_in_store, intends_to_write, may_lock_in_store};
-pub use judging::{judge, may_lock, may_lock_in_page};
-pub use paths::{LONGEST_PATH, Path, path_to};
+pub use judging::{may_lock, may_lock_in_page};
 pub use walk::acquire;

@@ -33,7 +33,7 @@ pub fn acquire(
     on_conflict: OnConflict,
 ) -> Result<Acquired, Fault>
     requires { is_waiting txn table.old.requests ≡ false }
-    ensures as_asked { walks.ComesTo table.old (walks.acquired on_conflict table.old txn target mode) result table.new }
+    ensures as_asked { walks.HasOutcome table.old (walks.acquired on_conflict table.old txn target mode) result table.new }
     ensures done { result ≡ Ok Acquired.Done → IsReached table.new.requests txn target mode }
     ensures waiting { (g : Granule) → result ≡ Ok (Acquired.Waiting g) →
         (on_conflict ≡ OnConflict.Wait) × Contains (path target) g × WaitsAt table.new.requests txn g (walks.asked_of target mode g) }
@@ -49,6 +49,7 @@ pub fn acquire(
     if !allowed(target.level(), mode) {
         return Err(Fault::BadMode);
     }
+    // For the proof: the requests of any table are orderly. Nothing runs.
     tables_are_orderly(table);
     walk(table, txn, target, mode, on_conflict)
 }
@@ -62,7 +63,7 @@ fn walk(
     on_conflict: OnConflict,
 ) -> Result<Acquired, Fault>
     requires { is_waiting txn table.old.requests ≡ false }
-    ensures { walks.ComesTo table.old (walks.walk on_conflict txn target.now mode table.old.limit (reverse (path target.now)) table.old.requests) result table.new }
+    ensures { walks.HasOutcome table.old (walks.walk on_conflict txn target.now mode table.old.limit (reverse (path target.now)) table.old.requests) result table.new }
 {
     if has_intentions(table, txn, target, mode) {
         return ask(table, txn, target, mode, on_conflict);
@@ -119,7 +120,7 @@ fn go_down(
     on_conflict: OnConflict,
 ) -> Result<Acquired, Fault>
     requires { is_waiting txn table.old.requests ≡ false }
-    ensures { walks.ComesTo table.old (walks.walk on_conflict txn target.now mode table.old.limit (reverse (path target.now)) table.old.requests) result table.new }
+    ensures { walks.HasOutcome table.old (walks.walk on_conflict txn target.now mode table.old.limit (reverse (path target.now)) table.old.requests) result table.new }
 {
     let ended = match target {
         Granule::Volume => None,
@@ -236,6 +237,7 @@ pub(crate) fn ask(
     ensures table { table.new ≡ record { limit = table.old.limit; requests = walks.after_at on_conflict table.old txn granule.now mode } }
     ensures quiet { result ≡ Ok Acquired.Done → is_waiting txn table.new.requests ≡ false }
 {
+    // For the proof: the requests of any table are orderly. Nothing runs.
     tables_are_orderly(table);
     match on_conflict {
         OnConflict::Wait => {

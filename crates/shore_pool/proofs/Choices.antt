@@ -13,9 +13,9 @@ use Rattle.shore_pool.specs.Batches.{AreDue, AreFirstFrom, IsChosen}
 use Rattle.shore_pool.specs.Pages.{AreUpTo}
 use Rattle.shore_pool.specs.Pools.{frame_at}
 
-module _ {D : Type 0} {G : Ghosts D} (pool : Pool D G) (start seen : ℕ) where
-  pub chosen_more : (pages : List ℕ) (from count n : ℕ) → IsChosen pool start seen pages from count → from ≤ n → IsSomeAnd (frame_at pool n) (IsDue seen)
-      → ((j : ℕ) (f : Frame) → frame_at pool j ≡ Some f → from ≤ j → j < n → IsDue seen f → ⊥) → IsChosen pool start seen (pages ++ n ∷ []) (n + 1) (count + 1)
+module _ {D : Type 0} {G : Ghosts D} (pool : Pool D G) (start durable : ℕ) where
+  pub chosen_more : (pages : List ℕ) (from count n : ℕ) → IsChosen pool start durable pages from count → from ≤ n → IsSomeAnd (frame_at pool n) (IsDue durable)
+      → ((j : ℕ) (f : Frame) → frame_at pool j ≡ Some f → from ≤ j → j < n → IsDue durable f → ⊥) → IsChosen pool start durable (pages ++ n ∷ []) (n + 1) (count + 1)
   chosen_more pages from count n chosen low due least = record {
     rise = rise_on 0 pages n chosen.rise (All-weaker (λ k. k < from) (λ k. k < n) (λ k less. omega (arith, less, low)) pages chosen.below) (omega arith);
     least = All-push (λ k. start ≤ k) pages n chosen.least (let low_is = chosen.low in omega (arith, low_is, low));
@@ -27,35 +27,35 @@ module _ {D : Type 0} {G : Ghosts D} (pool : Pool D G) (start seen : ℕ) where
         | inr other ↦ absurd (least k f is after (omega (arith, below, other)) due_k)
       ]
     ];
-    due = All-push (λ k. IsSomeAnd (frame_at pool k) (IsDue seen)) pages n chosen.due due;
+    due = All-push (λ k. IsSomeAnd (frame_at pool k) (IsDue durable)) pages n chosen.due due;
     count_is = omega (arith, length-append pages (n ∷ []), chosen.count_is);
     low = (let low_is = chosen.low in omega (arith, low_is, low));
   }
 
   -- if none is due from a number on, these are all
-  pub whole_batch : (pages : List ℕ) (from count : ℕ) → IsChosen pool start seen pages from count
-      → ((k : ℕ) (f : Frame) → frame_at pool k ≡ Some f → from ≤ k → IsDue seen f → ⊥) → AreFirstFrom pool start seen pages
+  pub whole_batch : (pages : List ℕ) (from count : ℕ) → IsChosen pool start durable pages from count
+      → ((k : ℕ) (f : Frame) → frame_at pool k ≡ Some f → from ≤ k → IsDue durable f → ⊥) → AreFirstFrom pool start durable pages
   whole_batch pages from count chosen none k f is due from_start = elim (cases_lt k from) [
     | inl before ↦ inl (chosen.all k f is due from_start before)
     | inr after ↦ absurd (none k f is after due)
   ]
 
   -- as many as a batch may have
-  pub cut_batch : (pages : List ℕ) (from count : ℕ) → IsChosen pool start seen pages from count → count ≡ 32 → AreFirstFrom pool start seen pages
+  pub cut_batch : (pages : List ℕ) (from count : ℕ) → IsChosen pool start durable pages from count → count ≡ 32 → AreFirstFrom pool start durable pages
   cut_batch pages from count chosen full k f is due from_start = elim (cases_lt k from) [
     | inl before ↦ inl (chosen.all k f is due from_start before)
     | inr after ↦ inr (omega (arith, chosen.count_is, full), All-weaker (λ n. n < from) (λ n. n < k) (λ n less. omega (arith, less, after)) pages chosen.below)
   ]
 
   -- the page that the search begins with is one of them, if it is due
-  pub has_first : (pages : List ℕ) → AreFirstFrom pool start seen pages → All (λ k. start ≤ k) pages → IsSomeAnd (frame_at pool start) (IsDue seen) → Contains pages start
+  pub has_first : (pages : List ℕ) → AreFirstFrom pool start durable pages → All (λ k. start ≤ k) pages → IsSomeAnd (frame_at pool start) (IsDue durable) → Contains pages start
   has_first pages first least due = each (frame_at pool start) refl due
     where
       before_none : (l : List ℕ) → length l ≡ 32 → All (λ k. start ≤ k) l → All (λ n. n < start) l → ⊥
       before_none [] long above below = absurd (omega arith)
       before_none (k ∷ l) long above below = omega (arith, All-head (λ k. start ≤ k) k l above, All-head (λ n. n < start) k l below)
 
-      each : (slot : Option Frame) → frame_at pool start ≡ slot → IsSomeAnd slot (IsDue seen) → Contains pages start
+      each : (slot : Option Frame) → frame_at pool start ≡ slot → IsSomeAnd slot (IsDue durable) → Contains pages start
       each None is due = absurd due
       each (Some f) is due = elim (first start f is due (omega arith)) [
         | inl one ↦ one
@@ -63,18 +63,18 @@ module _ {D : Type 0} {G : Ghosts D} (pool : Pool D G) (start seen : ℕ) where
       ]
 
 -- what is due has a number that is durable
-pub up_to : {D : Type 0} {G : Ghosts D} (pool : Pool D G) (seen : ℕ) (pages : List ℕ) → AreDue pool seen pages → AreUpTo (frame_at pool) seen pages
-up_to pool seen pages due = All-weaker (λ k. IsSomeAnd (frame_at pool k) (IsDue seen)) (λ k. IsSomeAnd (frame_at pool k) (λ f. f.page.number ≤ seen)) (λ k is. each (frame_at pool k) is) pages due
+pub up_to : {D : Type 0} {G : Ghosts D} (pool : Pool D G) (durable : ℕ) (pages : List ℕ) → AreDue pool durable pages → AreUpTo (frame_at pool) durable pages
+up_to pool durable pages due = All-weaker (λ k. IsSomeAnd (frame_at pool k) (IsDue durable)) (λ k. IsSomeAnd (frame_at pool k) (λ f. f.page.number ≤ durable)) (λ k is. each (frame_at pool k) is) pages due
   where
-    each : (slot : Option Frame) → IsSomeAnd slot (IsDue seen) → IsSomeAnd slot (λ f. f.page.number ≤ seen)
+    each : (slot : Option Frame) → IsSomeAnd slot (IsDue durable) → IsSomeAnd slot (λ f. f.page.number ≤ durable)
     each None is = absurd is
     each (Some f) is = is.1
 
 -- pages that are due are in frames
-pub are_there : {D : Type 0} {G : Ghosts D} (pool : Pool D G) (seen : ℕ) (pages : List ℕ) → AreDue pool seen pages → All (λ k. IsTrue (is_some (frame_at pool k))) pages
-are_there pool seen pages due = All-weaker (λ k. IsSomeAnd (frame_at pool k) (IsDue seen)) (λ k. IsTrue (is_some (frame_at pool k))) (λ k is. each (frame_at pool k) is) pages due
+pub are_there : {D : Type 0} {G : Ghosts D} (pool : Pool D G) (durable : ℕ) (pages : List ℕ) → AreDue pool durable pages → All (λ k. IsTrue (is_some (frame_at pool k))) pages
+are_there pool durable pages due = All-weaker (λ k. IsSomeAnd (frame_at pool k) (IsDue durable)) (λ k. IsTrue (is_some (frame_at pool k))) (λ k is. each (frame_at pool k) is) pages due
   where
-    each : (slot : Option Frame) → IsSomeAnd slot (IsDue seen) → IsTrue (is_some slot)
+    each : (slot : Option Frame) → IsSomeAnd slot (IsDue durable) → IsTrue (is_some slot)
     each None is = absurd is
     each (Some f) is = refl
 

@@ -1,8 +1,8 @@
 -- The table of frames, as frames come, go and change.
-use Rattle.std.proofs.Common.{◌≡◌, ◌≢◌, ◌<◌, ◌+◌, ℕ, zero, suc, List, [], ◌∷◌, Option, Some, None, OnSome, cond, count_by, length, slice_index_or, slice_set, option_map, is_some, true, refl, sym, ap, subst, ◌∙◌, inl, inr, arith}
+use Rattle.std.proofs.Common.{◌≡◌, ◌≢◌, ◌<◌, ◌+◌, ℕ, zero, suc, List, [], ◌∷◌, Option, Some, None, cond, count_by, length, slice_index_or, slice_set, option_map, is_some, true, refl, sym, ap, subst, ◌∙◌, inl, inr, arith}
 use Rattle.std.proofs.lemmas.Bool.{cases_eq, cases_lt}
-use Rattle.std.proofs.lemmas.List.{get_or_past, get_or-set_same, get_or-set_other, length-set}
-use Rattle.std.proofs.lemmas.List.Sums.{count_by-le-length, sum_by-cons}
+use Rattle.std.proofs.lemmas.List.{get_or_past, get_or-set_same, get_or-set_other}
+use Rattle.std.proofs.lemmas.List.Sums.{sum_by-cons}
 use Rattle.std.specs.Option.{option_and_then}
 use Rattle.slab.specs.Slab.{Slab, Updates, get}
 use Rattle.slab.proofs.SlabLemmas.{ContainsKey-within}
@@ -202,39 +202,3 @@ none_kept (x ∷ slots) none =
   where
     weight : Option Frame → ℕ
     weight slot = cond (is_some slot) 1 0
-
--- ---- how many places of the table are taken
-
-abbrev taken : Option ℕ → ℕ
-taken e = cond (is_some e) 1 0
-
--- a place that changes
-pub count_set : (table : List (Option ℕ)) (n : ℕ) (e : Option ℕ) → n < length table
-    → count_by is_some (slice_set table n e) + cond (is_some (key_at table n)) 1 0 ≡ count_by is_some table + cond (is_some e) 1 0
-count_set [] n e inside = absurd (omega arith)
-count_set (x ∷ table) zero e inside =
-    let one : count_by is_some (e ∷ table) ≡ taken e + count_by is_some table = sum_by-cons taken e table in
-    let two : count_by is_some (x ∷ table) ≡ taken x + count_by is_some table = sum_by-cons taken x table in
-    omega arith
-count_set (x ∷ table) (suc n) e inside =
-    let one : count_by is_some (x ∷ slice_set table n e) ≡ taken x + count_by is_some (slice_set table n e) = sum_by-cons taken x (slice_set table n e) in
-    let two : count_by is_some (x ∷ table) ≡ taken x + count_by is_some table = sum_by-cons taken x table in
-    omega (arith, count_set table n e (omega arith))
-
-pub count_added : (table : List (Option ℕ)) (n key : ℕ) → n < length table → key_at table n ≡ None → count_by is_some (slice_set table n (Some key)) ≡ count_by is_some table + 1
-count_added table n key inside none = omega (arith, count_set table n (Some key) inside, ap taken none)
-
-pub count_removed : (table : List (Option ℕ)) (n key : ℕ) → n < length table → key_at table n ≡ Some key → count_by is_some (slice_set table n None) + 1 ≡ count_by is_some table
-count_removed table n key inside there = omega (arith, count_set table n None inside, ap taken there)
-
--- a place that is not taken leaves fewer than all
-pub count_below : (table : List (Option ℕ)) (n : ℕ) → n < length table → key_at table n ≡ None → count_by is_some table < length table
-count_below table n inside none = omega (arith, count_added table n 0 inside none, count_by-le-length is_some (slice_set table n (Some 0)), length-set table n (Some 0))
-
--- what goes from under its key was there
-pub kept_there : (slots : Slab Frame) (table : List (Option ℕ)) → IsIndexed slots table → (n key : ℕ) → key_at table n ≡ Some key → (P : Type 0) (o : Option Frame) → o ≡ get slots key → OnSome o P → P
-kept_there slots table indexed n key at P o is = each o (ap number_of is ∙ indexed.there key n at)
-  where
-    each : (o : Option Frame) → number_of o ≡ Some n → OnSome o P → P
-    each None is p = absurd cc
-    each (Some f) is p = p

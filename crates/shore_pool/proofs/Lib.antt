@@ -6,5 +6,4 @@ pub mod Written
 pub mod Moments
 pub mod Same
 pub mod Steps
-mod Still
 pub mod Choices

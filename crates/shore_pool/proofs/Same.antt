@@ -1,7 +1,6 @@
 -- Pages that stay what they are, in a frame or out of it.
-use Rattle.std.proofs.Common.{◌≡◌, ◌≢◌, ◌⊎◌, ◌↔◌, ◌<◌, ◌≤◌, ℕ, zero, suc, Contains, option_map, [], ◌∷◌, arith, List, Option, Some, None, IsSomeAnd, is_some, true, length, refl, sym, ap, subst, ◌∙◌, inl, inr}
+use Rattle.std.proofs.Common.{◌≡◌, ◌≢◌, ◌⊎◌, ◌↔◌, ◌<◌, ℕ, zero, suc, Contains, option_map, [], ◌∷◌, arith, List, Option, Some, None, IsSomeAnd, is_some, true, length, refl, sym, ap, subst, ◌∙◌, inl, inr}
 use Rattle.std.proofs.lemmas.Bool.{cases_eq, cases_lt}
-use Rattle.std.proofs.lemmas.List.Elements.{All-cons, All-nil}
 use Rattle.shore_types.specs.declared.ids.PageId.{PageId}
 use Rattle.shore_types.specs.Images.{Image}
 use Rattle.shore_page.specs.Reading.{images_in}
@@ -11,7 +10,7 @@ use Rattle.shore_pool.specs.declared.frame.Frame.{Frame}
 use Rattle.shore_pool.specs.Changes.{changed, first_of, reclaimed, settled}
 use Rattle.shore_page.specs.Slots.{Slot, with_change}
 use Rattle.shore_pool.specs.FrameMaps.{IsDue}
-use Rattle.shore_pool.specs.Pages.{AreUpTo, AreWritten, IsPage, IsTextOf, SamePages}
+use Rattle.shore_pool.specs.Pages.{AreWritten, IsPage, IsTextOf, SamePages}
 
 page_id : ℕ → ℕ → PageId
 page_id store page = record { store = store; page = page }
@@ -97,21 +96,21 @@ settled_clean None now P is same = absurd is
 settled_clean (Some f) now P is same = subst (λ (o : Option Frame). IsSomeAnd o (λ e. e.recovery ≡ None)) (sym same) refl
 
 -- all pages are dirty, and none may be written: each has a number above
-pub all_above : (at : ℕ → Option Frame) (seen : ℕ) → ((k : ℕ) (f : Frame) → at k ≡ Some f → f.recovery ≢ None) → ((k : ℕ) (f : Frame) → at k ≡ Some f → IsDue seen f → ⊥) → (k : ℕ) (f : Frame) → at k ≡ Some f → (f.recovery ≢ None) × (seen < f.page.number)
-all_above at seen dirty none k f is = (
+pub all_above : (at : ℕ → Option Frame) (durable : ℕ) → ((k : ℕ) (f : Frame) → at k ≡ Some f → f.recovery ≢ None) → ((k : ℕ) (f : Frame) → at k ≡ Some f → IsDue durable f → ⊥) → (k : ℕ) (f : Frame) → at k ≡ Some f → (f.recovery ≢ None) × (durable < f.page.number)
+all_above at durable dirty none k f is = (
   dirty k f is,
-  elim (cases_lt seen f.page.number) [
+  elim (cases_lt durable f.page.number) [
     | inl above ↦ above
     | inr up_to ↦ absurd (none k f is (dirty k f is, up_to))
   ],
 )
 
-pub one_above : (at : ℕ → Option Frame) (seen number : ℕ) (one : (k : ℕ) × IsSomeAnd (at k) (λ f. f.page.number ≡ number)) → ((k : ℕ) (f : Frame) → at k ≡ Some f → (f.recovery ≢ None) × (seen < f.page.number)) → seen < number
-one_above at seen number one all = each (at one.0) (all one.0) one.1
+pub one_above : (at : ℕ → Option Frame) (durable number : ℕ) (one : (k : ℕ) × IsSomeAnd (at k) (λ f. f.page.number ≡ number)) → ((k : ℕ) (f : Frame) → at k ≡ Some f → (f.recovery ≢ None) × (durable < f.page.number)) → durable < number
+one_above at durable number one all = each (at one.0) (all one.0) one.1
   where
-    each : (slot : Option Frame) → ((f : Frame) → slot ≡ Some f → (f.recovery ≢ None) × (seen < f.page.number)) → IsSomeAnd slot (λ f. f.page.number ≡ number) → seen < number
+    each : (slot : Option Frame) → ((f : Frame) → slot ≡ Some f → (f.recovery ≢ None) × (durable < f.page.number)) → IsSomeAnd slot (λ f. f.page.number ≡ number) → durable < number
     each None is has = absurd has
-    each (Some f) is has = subst (λ (n : ℕ). seen < n) has (is f refl).1
+    each (Some f) is has = subst (λ (n : ℕ). durable < n) has (is f refl).1
 
 -- claims change, and no image with them
 images_stay : (claim : Slot → Slot) → ((s : Slot) → (claim s).image ≡ s.image) → (slots : List Slot) (slot : ℕ) → images_of (with_change claim slots slot) ≡ images_of slots

@@ -1,52 +1,53 @@
 -- What one step after another leaves of a pool.
-use Rattle.std.proofs.Common.{◌≡◌, ◌⊎◌, ◌≢◌, ◌<◌, ◌≤◌, ℕ, List, Option, Result, Ok, Err, MatchResult, IfErr, IsErrAnd, is_some, false, refl, None, Some, IsSomeAnd, inl, inr, subst}
+use Rattle.std.proofs.Common.{◌≡◌, ◌⊎◌, ◌≢◌, ◌<◌, ◌≤◌, ℕ, List, Option, Result, Ok, Err, MatchResult, IfErr, IsErrAnd, is_some, false, refl, None, Some, IsSomeAnd, inl, inr, sym, subst, ◌∙◌}
 use Rattle.shore_disk.specs.declared.device.Disk.{Ghosts}
+use Rattle.shore_types.specs.declared.faults.Device.TheVariants as Device
 use Rattle.shore_types.specs.declared.faults.Fault.{Fault}
 use Rattle.shore_pool.specs.declared.frame.Frame.{Frame}
 use Rattle.shore_pool.specs.declared.pool.Pool.{Pool}
 use Rattle.shore_pool.specs.Pages.{IsTextOf, MayBeLeft, SamePages}
-use Rattle.shore_pool.specs.Pools.{Holds, NeedsForce, WroteBack, frame_at}
+use Rattle.shore_pool.specs.Pools.{PoolHolds, NeedsForce, WroteBack, frame_at}
 use Rattle.shore_pool.proofs.Same.{pages_on}
 
 -- what a map of frames says, as one equation
 pub alike : (at now : ℕ → Option Frame) → ((k : ℕ) → now k ≡ at k) → now ≡ at
 alike at now same = λ i k. same k i
 
-module _ {D : Type 0} {G : Ghosts D} (old mid new : Pool D G) (same : frame_at mid ≡ frame_at old) (seen : ℕ) (front : List ℕ) (disk : ℕ → List ℕ) where
+module _ {D : Type 0} {G : Ghosts D} (old mid new : Pool D G) (same : frame_at mid ≡ frame_at old) (durable : ℕ) (front : List ℕ) (disk : ℕ → List ℕ) where
   -- a call that writes back after one that only looks
-  pub wrote_from : WroteBack mid new seen front disk → WroteBack old new seen front disk
+  pub wrote_from : WroteBack mid new durable front disk → WroteBack old new durable front disk
   wrote_from w = record {
     left = w.left;
     holds = w.holds;
-    may = subst (λ at. MayBeLeft at seen disk w.left) same w.may;
+    may = subst (λ at. MayBeLeft at durable disk w.left) same w.may;
     same = subst (λ at. SamePages at disk (frame_at new) w.left) same w.same;
   }
 
-  pub kept_from : {T : Type 0} (r : Result T Fault) → MatchResult r (λ _. WroteBack mid new seen front disk) (λ fault. (fault ≡ Fault.Device) ⊎ WroteBack mid new seen front disk)
-      → MatchResult r (λ _. WroteBack old new seen front disk) (λ fault. (fault ≡ Fault.Device) ⊎ WroteBack old new seen front disk)
+  pub kept_from : {T : Type 0} (r : Result T Fault) → MatchResult r (λ _. WroteBack mid new durable front disk) (λ fault. (fault ≡ Fault.Device) ⊎ WroteBack mid new durable front disk)
+      → MatchResult r (λ _. WroteBack old new durable front disk) (λ fault. (fault ≡ Fault.Device) ⊎ WroteBack old new durable front disk)
   kept_from (Ok x) w = wrote_from w
   kept_from (Err fault) (inl device) = inl device
   kept_from (Err fault) (inr w) = inr (wrote_from w)
 
-module _ {D : Type 0} {G : Ghosts D} (old mid : Pool D G) (same : frame_at mid ≡ frame_at old) (seen : ℕ) where
-  pub force_from : (number : ℕ) → NeedsForce mid seen number → NeedsForce old seen number
+module _ {D : Type 0} {G : Ghosts D} (old mid : Pool D G) (same : frame_at mid ≡ frame_at old) (durable : ℕ) where
+  pub force_from : (number : ℕ) → NeedsForce mid durable number → NeedsForce old durable number
   force_from number n = record {
     above = n.above;
     one = subst (λ (at : ℕ → Option Frame). (k : ℕ) × IsSomeAnd (at k) (λ f. f.page.number ≡ number)) same n.one;
-    all = subst (λ (at : ℕ → Option Frame). (k : ℕ) (f : Frame) → at k ≡ Some f → (f.recovery ≢ None) × (seen < f.page.number)) same n.all;
+    all = subst (λ (at : ℕ → Option Frame). (k : ℕ) (f : Frame) → at k ≡ Some f → (f.recovery ≢ None) × (durable < f.page.number)) same n.all;
   }
 
-  pub refused_from : {T : Type 0} (r : Result T Fault) → IfErr r (λ fault. (fault ≡ Fault.Device) ⊎ (fault ≡ Fault.Memory) ⊎ ((number : ℕ) × (fault ≡ Fault.NeedForce number) × NeedsForce mid seen number))
-      → IfErr r (λ fault. (fault ≡ Fault.Device) ⊎ (fault ≡ Fault.Memory) ⊎ ((number : ℕ) × (fault ≡ Fault.NeedForce number) × NeedsForce old seen number))
+  pub refused_from : {T : Type 0} (r : Result T Fault) → IfErr r (λ fault. (fault ≡ Fault.Device) ⊎ (fault ≡ Fault.Memory) ⊎ ((number : ℕ) × (fault ≡ Fault.NeedForce number) × NeedsForce mid durable number))
+      → IfErr r (λ fault. (fault ≡ Fault.Device) ⊎ (fault ≡ Fault.Memory) ⊎ ((number : ℕ) × (fault ≡ Fault.NeedForce number) × NeedsForce old durable number))
   refused_from (Ok x) is = is
   refused_from (Err fault) (inl device) = inl device
   refused_from (Err fault) (inr (inl memory)) = inr (inl memory)
   refused_from (Err fault) (inr (inr n)) = inr (inr (n.0, n.1, force_from n.0 n.2))
 
 -- one more page comes behind a call that wrote back
-pub wrote_then : {D : Type 0} {G : Ghosts D} (old mid new : Pool D G) (seen : ℕ) (front : List ℕ) (disk : ℕ → List ℕ) (w : WroteBack old mid seen front disk)
-    → Holds new front w.left × SamePages (frame_at mid) w.left (frame_at new) w.left → WroteBack old new seen front disk
-wrote_then old mid new seen front disk w more = record {
+pub wrote_then : {D : Type 0} {G : Ghosts D} (old mid new : Pool D G) (durable : ℕ) (front : List ℕ) (disk : ℕ → List ℕ) (w : WroteBack old mid durable front disk)
+    → PoolHolds new front w.left × SamePages (frame_at mid) w.left (frame_at new) w.left → WroteBack old new durable front disk
+wrote_then old mid new durable front disk w more = record {
   left = w.left;
   holds = more.0;
   may = w.may;
@@ -57,19 +58,26 @@ pub match_err : {T E : Type 0} {B P : E → Type 0} (C : Type 0) (r : Result T E
 match_err C (Ok x) is to = absurd is
 match_err C (Err e) is to = to e is
 
+-- what is no want of a log force
+pub no_force : (A : Type 0) (place number : ℕ) (fault given : Fault) → given ≡ fault
+    → (fault ≡ Fault.Device) ⊎ (fault ≡ Fault.Memory) ⊎ ((fault ≡ Fault.Damaged Device.Volume place) × A) → given ≢ Fault.NeedForce number
+no_force A place number fault given is (inl device) force = let clash : Fault.Device ≡ Fault.NeedForce number = sym device ∙ sym is ∙ force in cc
+no_force A place number fault given is (inr (inl memory)) force = let clash : Fault.Memory ≡ Fault.NeedForce number = sym memory ∙ sym is ∙ force in cc
+no_force A place number fault given is (inr (inr damaged)) force = let clash : Fault.Damaged Device.Volume place ≡ Fault.NeedForce number = sym damaged.0 ∙ sym is ∙ force in cc
+
 -- what is said of a refusal says another thing of it
 pub refusal_says : {T E : Type 0} {P Q : E → Type 0} (r : Result T E) → ((e : E) → P e → Q e) → IfErr r P → IfErr r Q
 refusal_says (Ok x) to says = tt
 refusal_says (Err e) to says = to e says
 
 -- a page with no frame is left as it was
-pub left_alone : (at : ℕ → Option Frame) (seen : ℕ) (disk left : ℕ → List ℕ) (n : ℕ) → MayBeLeft at seen disk left → at n ≡ None → left n ≡ disk n
-left_alone at seen disk left n may none = elim (may n) [
+pub left_alone : (at : ℕ → Option Frame) (durable : ℕ) (disk left : ℕ → List ℕ) (n : ℕ) → MayBeLeft at durable disk left → at n ≡ None → left n ≡ disk n
+left_alone at durable disk left n may none = elim (may n) [
   | inl same ↦ same
   | inr has ↦ absurd (no_frame (at n) none has)
 ]
   where
-    no_frame : (slot : Option Frame) → slot ≡ None → IsSomeAnd slot (λ f. (f.page.number ≤ seen) × IsTextOf f (left n)) → ⊥
+    no_frame : (slot : Option Frame) → slot ≡ None → IsSomeAnd slot (λ f. (f.page.number ≤ durable) × IsTextOf f (left n)) → ⊥
     no_frame None none is = is
     no_frame (Some f) none is = cc
 

@@ -86,10 +86,10 @@ module _ (at : ℕ → Option Frame) where
   both (Some f) P Q p q = (p, q)
 
   -- what is left where the pages of a batch are as their frames have them
-  pub may_be_left : (seen : ℕ) (ns texts : List ℕ) (disk : ℕ → List ℕ) → AreTexts (HasText at) ns texts → AreUpTo at seen ns → MayBeLeft at seen disk (overlaid ns texts disk)
-  may_be_left seen ns texts disk are up_to k = elim (each_page ns texts disk are k) [
+  pub may_be_left : (durable : ℕ) (ns texts : List ℕ) (disk : ℕ → List ℕ) → AreTexts (HasText at) ns texts → AreUpTo at durable ns → MayBeLeft at durable disk (overlaid ns texts disk)
+  may_be_left durable ns texts disk are up_to k = elim (each_page ns texts disk are k) [
     | inl old ↦ inl old.text
-    | inr new ↦ inr (both (at k) (λ f. f.page.number ≤ seen) (λ f. IsTextOf f (overlaid ns texts disk k)) (All-contains (λ i. IsSomeAnd (at i) (λ f. f.page.number ≤ seen)) ns k up_to new.among) new.text)
+    | inr new ↦ inr (both (at k) (λ f. f.page.number ≤ durable) (λ f. IsTextOf f (overlaid ns texts disk k)) (All-contains (λ i. IsSomeAnd (at i) (λ f. f.page.number ≤ durable)) ns k up_to new.among) new.text)
   ]
 
   module _ (now : ℕ → Option Frame) (ns texts : List ℕ) (disk : ℕ → List ℕ) (are : AreTexts (HasText at) ns texts) (is : (k : ℕ) → now k ≡ settled_at ns at k) where

@@ -44,19 +44,19 @@ IsNotClean frames key = (f : Frame) → get frames.slots key ≡ Some f → f.re
 
 -- a dirty page with a number up to this one
 abbrev pub IsDue : ℕ → Frame → Type 0
-IsDue seen f = (f.recovery ≢ None) × (f.page.number ≤ seen)
+IsDue durable f = (f.recovery ≢ None) × (f.page.number ≤ durable)
 
 -- no frame has such a page
 abbrev pub NoneDue : Frames → ℕ → Type 0
-NoneDue frames seen = (k : ℕ) (f : Frame) → frame_at frames k ≡ Some f → IsDue seen f → ⊥
+NoneDue frames durable = (k : ℕ) (f : Frame) → frame_at frames k ≡ Some f → IsDue durable f → ⊥
 
 -- .. nor has that of a key
 abbrev pub IsNotDue : Frames → ℕ → ℕ → Type 0
-IsNotDue frames seen key = (f : Frame) → get frames.slots key ≡ Some f → IsDue seen f → ⊥
+IsNotDue frames durable key = (f : Frame) → get frames.slots key ≡ Some f → IsDue durable f → ⊥
 
 -- .. nor has one of the pages from a number up to another
 abbrev pub NoneDueIn : Frames → ℕ → ℕ → ℕ → Type 0
-NoneDueIn frames seen from to = (k : ℕ) (f : Frame) → frame_at frames k ≡ Some f → from ≤ k → k < to → IsDue seen f → ⊥
+NoneDueIn frames durable from to = (k : ℕ) (f : Frame) → frame_at frames k ≡ Some f → from ≤ k → k < to → IsDue durable f → ⊥
 
 -- the frame of a key is that of this page
 abbrev pub IsOfNumber : Frames → ℕ → ℕ → Type 0

@@ -32,11 +32,11 @@ module _ (at : ℕ → Option Frame) where
 
   -- Each page of the volume is as it was, or as it is in its frame, with a number up to this one.
   abbrev pub MayBeLeft : ℕ → (ℕ → List ℕ) → (ℕ → List ℕ) → Type 0
-  MayBeLeft seen disk left = (k : ℕ) → (left k ≡ disk k) ⊎ IsSomeAnd (at k) (λ f. (f.page.number ≤ seen) × IsTextOf f (left k))
+  MayBeLeft durable disk left = (k : ℕ) → (left k ≡ disk k) ⊎ IsSomeAnd (at k) (λ f. (f.page.number ≤ durable) × IsTextOf f (left k))
 
   -- these pages have frames, with numbers up to this one
   abbrev pub AreUpTo : ℕ → List ℕ → Type 0
-  AreUpTo seen numbers = All (λ k. IsSomeAnd (at k) (λ f. f.page.number ≤ seen)) numbers
+  AreUpTo durable numbers = All (λ k. IsSomeAnd (at k) (λ f. f.page.number ≤ durable)) numbers
 
 -- The pages are the same, wherever each of them is: those that have a frame now and those that had one.
 abbrev pub SamePages : (ℕ → Option Frame) → (ℕ → List ℕ) → (ℕ → Option Frame) → (ℕ → List ℕ) → Type 0

@@ -48,7 +48,7 @@ abbrev pub limit_of : {D : Type 0} {G : Ghosts D} → Pool D G → ℕ
 limit_of pool = frames.limit_of pool.frames
 
 -- The volume is settled with these texts of its pages behind this front, and what is clean in the pool is there.
-pub record Holds {D : Type 0} {G : Ghosts D} (pool : Pool D G) (front : List ℕ) (disk : ℕ → List ℕ) : Type 0 where
+pub record PoolHolds {D : Type 0} {G : Ghosts D} (pool : Pool D G) (front : List ℕ) (disk : ℕ → List ℕ) : Type 0 where
   pub settled : IsSettled pool.device front disk
   pub written : AreWritten (frame_at pool) disk
 
@@ -60,21 +60,21 @@ HasInPlace pool disk id number images =
 
 -- What a call leaves that may have written pages back: all pages in place are what they were, and on the volume each is as it was, or
 -- as it was in its frame, with a number up to this one.
-pub record WroteBack {D : Type 0} {G : Ghosts D} (old new : Pool D G) (seen : ℕ) (front : List ℕ) (disk : ℕ → List ℕ) : Type 0 where
+pub record WroteBack {D : Type 0} {G : Ghosts D} (old new : Pool D G) (durable : ℕ) (front : List ℕ) (disk : ℕ → List ℕ) : Type 0 where
   pub left : ℕ → List ℕ
-  pub holds : Holds new front left
-  pub may : MayBeLeft (frame_at old) seen disk left
+  pub holds : PoolHolds new front left
+  pub may : MayBeLeft (frame_at old) durable disk left
   pub same : SamePages (frame_at old) disk (frame_at new) left
 
 -- .. and an image of the volume that a crash leaves in the midst of it: it shows such pages behind the same front
 abbrev pub LeavesPages : {D : Type 0} {G : Ghosts D} → Pool D G → ℕ → List ℕ → (ℕ → List ℕ) → List ℕ → Type 0
-LeavesPages pool seen front disk image = (left : ℕ → List ℕ) × ShowsBehind (geometry_of pool) front left image × MayBeLeft (frame_at pool) seen disk left
+LeavesPages pool durable front disk image = (left : ℕ → List ℕ) × ShowsBehind (geometry_of pool) front left image × MayBeLeft (frame_at pool) durable disk left
 
 -- A frame is needed, and no page may leave its own: there is no clean one, and each has a number above this one. One has this number.
-pub record NeedsForce {D : Type 0} {G : Ghosts D} (pool : Pool D G) (seen number : ℕ) : Type 0 where
-  pub above : seen < number
+pub record NeedsForce {D : Type 0} {G : Ghosts D} (pool : Pool D G) (durable number : ℕ) : Type 0 where
+  pub above : durable < number
   pub one : (k : ℕ) × IsSomeAnd (frame_at pool k) (λ f. f.page.number ≡ number)
-  pub all : (k : ℕ) (f : Frame) → frame_at pool k ≡ Some f → (f.recovery ≢ None) × (seen < f.page.number)
+  pub all : (k : ℕ) (f : Frame) → frame_at pool k ≡ Some f → (f.recovery ≢ None) × (durable < f.page.number)
 
 -- a frame keeps its page and its claims, though it may have become clean, or it went
 abbrev pub StaysOrGoes : Option Frame → Option Frame → Type 0
@@ -83,10 +83,3 @@ StaysOrGoes at now = (now ≡ at) ⊎ (now ≡ option_map settled at) ⊎ (now �
 -- so does each
 abbrev pub StayOrGo : {D : Type 0} {G : Ghosts D} → Pool D G → Pool D G → Type 0
 StayOrGo old new = (k : ℕ) → StaysOrGoes (frame_at old k) (frame_at new k)
-
--- What a fetch leaves that wrote nothing back: the page may have come into a frame, each other is where it was, and the device is as it was.
-pub record ReadsOnly {D : Type 0} {G : Ghosts D} (old new : Pool D G) (id : PageId) (front : List ℕ) (disk : ℕ → List ℕ) : Type 0 where
-  pub holds : Holds new front disk
-  pub history : history_of new ≡ history_of old
-  pub stay : (k : ℕ) (f : Frame) → frame_at old k ≡ Some f → frame_at new k ≡ Some f
-  pub others : (k : ℕ) → k ≢ page_number (geometry_of old) id → frame_at new k ≡ frame_at old k

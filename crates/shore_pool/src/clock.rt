@@ -7,7 +7,9 @@ use std::alloc::{AllocError, Global};
 /// Places in a circle, each with a mark that it was used, and a hand.
 #[derive(Drop)]
 pub struct Clock {
+    // Whether each place was used since the hand came by.
     used: Vec<bool>,
+    // The place to look at next; the first, if it is behind the last.
     hand: usize,
 }
 

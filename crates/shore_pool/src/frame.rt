@@ -2,18 +2,20 @@
 ghost use Rattle.std.specs.Prelude.{◌≡◌, Some, None, length, option_map};
 ghost use Rattle.std.specs.Prelude.{◌<◌};
 ghost use Rattle.shore_page.specs.Room.{Fits, raised, lowered};
-ghost use Rattle.shore_page.specs.Slots.{image_len};
+ghost use Rattle.shore_types.specs.Images.{image_len};
 ghost use Rattle.shore_pool.specs.Changes.{changed, reclaimed, settled};
 
 use shore_page::Page;
 use shore_types::Lsn;
 
-/// A page in memory, with its number on the volume. It is dirty if it was changed since it was read or written, and has then
-/// its recovery number (RecLSN): that of the first such change.
+/// A page in memory. It is dirty if it was changed since it was read or written.
 #[derive(Drop)]
 pub struct Frame {
+    /// The page's number on the volume.
     pub number: u32,
+    /// The page as it is now. A clean one is on the volume, claims aside (`AreWritten`).
     pub page: Page,
+    /// The recovery number (RecLSN) of a dirty page: that of the first change since it was read or written. None if it is clean.
     pub recovery: Option<Lsn>,
 }
 

@@ -3,9 +3,9 @@
 ghost use Rattle.std.specs.Prelude.{◌≡◌, ◌≢◌, ◌⊎◌, ◌+◌, ◌^◌, ◌<◌, ◌≤◌, ◌↔◌, ℕ, None, Some, All, Contains, IfOk, OnOk, IfSome, IfNone, IsSomeAnd, IsTrue, length, nat_le, count_by, is_some, option_copied, option_map};
 ghost use Rattle.slab.specs.Slab.{slab_len};
 ghost use Rattle.shore_model.specs.declared.log_records.DirtyPage.{DirtyPage};
-ghost use Rattle.shore_types.specs.Images.{Image};
+ghost use Rattle.shore_types.specs.Images.{Image, image_len};
 ghost use Rattle.shore_page.specs.Room.{Fits, lowered, raised};
-ghost use Rattle.shore_page.specs.Slots.{image_len, PageState};
+ghost use Rattle.shore_page.specs.Slots.{PageState};
 ghost use Rattle.shore_pool.specs.Changes.{changed, reclaimed, settled, settled_at};
 ghost use Rattle.shore_pool.specs.Clocks.{places_of};
 ghost use Rattle.shore_pool.specs.Frames.{IsIndexed};
@@ -21,22 +21,26 @@ use std::alloc::{AllocError, Global};
 /// Frames for pages of a volume, up to a limit.
 #[derive(Drop)]
 pub struct Frames {
+    // The frames, each under a key. `new` takes room for as many as the limit, so that no other call allocates.
     slots: Slab<Frame>,
-    // The key of each page's frame, by the page's number.
+    // The key of each page's frame, by the page's number. `indexed` ties the two.
     table: Vec<Option<u16>>,
+    // How many frames there may be. It is not changed; `add` is called only below it.
     limit: usize,
+    // A place for each key that the limit leaves: which frames were used of late.
     clock: Clock,
     ghost indexed: { IsIndexed slots table.items },
     ghost room: { limit ≤ slots.capacity },
     ghost few: { slots.capacity ≤ 2 ^ 16 },
     ghost within: { slab_len slots ≤ limit },
-    ghost counted: { slab_len slots ≡ count_by is_some table.items },
 }
 
 // A page that may be written, with its recovery number.
 #[derive(Clone, Copy)]
 struct Due {
+    // The page's number on the volume.
     number: u32,
+    // That of its first change since it was clean.
     recovery: Lsn,
 }
 
@@ -254,13 +258,13 @@ impl Frames {
     }
 
     /// The dirty page that was changed first since it was clean, of those with numbers up to this one.
-    pub fn oldest_due(&self, seen: Lsn) -> Option<u32>
-        ensures due { IfSome result (λ k. IsSomeAnd (frame_at self.now k) (IsDue seen)) }
-        ensures none { IfNone result (NoneDue self.now seen) }
+    pub fn oldest_due(&self, durable: Lsn) -> Option<u32>
+        ensures due { IfSome result (λ k. IsSomeAnd (frame_at self.now k) (IsDue durable)) }
+        ensures none { IfNone result (NoneDue self.now durable) }
     {
         let mut oldest = None;
         for key in 0..self.slots.capacity() {
-            if let Some(due) = self.due_at(key, seen) {
+            if let Some(due) = self.due_at(key, durable) {
                 oldest = Some(older(oldest, due));
             }
         }
@@ -271,14 +275,14 @@ impl Frames {
     }
 
     /// The dirty page with the least number on the volume from one on, of those with numbers up to this one.
-    pub fn next_due(&self, from: u32, seen: Lsn) -> Option<u32>
-        ensures due { IfSome result (λ k. IsSomeAnd (frame_at self.now k) (IsDue seen)) }
+    pub fn next_due(&self, from: u32, durable: Lsn) -> Option<u32>
+        ensures due { IfSome result (λ k. IsSomeAnd (frame_at self.now k) (IsDue durable)) }
         ensures rises { IfSome result (λ k. from ≤ k) }
-        ensures least { IfSome result (λ k. NoneDueIn self.now seen from k) }
-        ensures none { IfNone result ((k : ℕ) (f : Frame) → frame_at self.now k ≡ Some f → from ≤ k → IsDue seen f → ⊥) }
+        ensures least { IfSome result (λ k. NoneDueIn self.now durable from k) }
+        ensures none { IfNone result ((k : ℕ) (f : Frame) → frame_at self.now k ≡ Some f → from ≤ k → IsDue durable f → ⊥) }
     {
         for place in from as usize..self.table.len() {
-            let due = self.due_in(place, seen);
+            let due = self.due_in(place, durable);
             if due.is_some() {
                 return due;
             }
@@ -287,24 +291,24 @@ impl Frames {
     }
 
     // The page at a place of the table, if it is due.
-    fn due_in(&self, place: usize, seen: Lsn) -> Option<u32>
-        ensures due { IfSome result (λ k. (k ≡ place) × IsSomeAnd (frame_at self.now k) (IsDue seen)) }
-        ensures none { IfNone result ((f : Frame) → frame_at self.now place ≡ Some f → IsDue seen f → ⊥) }
+    fn due_in(&self, place: usize, durable: Lsn) -> Option<u32>
+        ensures due { IfSome result (λ k. (k ≡ place) × IsSomeAnd (frame_at self.now k) (IsDue durable)) }
+        ensures none { IfNone result ((f : Frame) → frame_at self.now place ≡ Some f → IsDue durable f → ⊥) }
     {
         let key = self.key_in(place)?;
-        let due = self.due_at(key, seen)?;
+        let due = self.due_at(key, durable)?;
         Some(due.number)
     }
 
     // The page of the frame of a key, if it is dirty and has a number up to this one.
-    fn due_at(&self, key: usize, seen: Lsn) -> Option<Due>
-        ensures due { IfSome result (λ due. IsSomeAnd (frame_at self.now due.number) (IsDue seen)) }
+    fn due_at(&self, key: usize, durable: Lsn) -> Option<Due>
+        ensures due { IfSome result (λ due. IsSomeAnd (frame_at self.now due.number) (IsDue durable)) }
         ensures number { IfSome result (λ due. IsOfNumber self.now key due.number) }
-        ensures none { IfNone result (IsNotDue self.now seen key) }
+        ensures none { IfNone result (IsNotDue self.now durable key) }
     {
         let frame = self.slots.get(key)?;
         let recovery = frame.recovery?;
-        if frame.page.number().0 > seen.0 {
+        if frame.page.number().0 > durable.0 {
             return None;
         }
         Some(Due {

@@ -1,5 +1,5 @@
 //! The pool: pages of a volume, of which as many as there are frames are in memory.
-ghost use Rattle.std.specs.Prelude.{◌≡◌, ◌≢◌, ◌⊎◌, ◌+◌, ◌-◌, ◌*◌, ◌<◌, ◌≤◌, ℕ, [], List, All, Contains, IfErr, IfNone, IfOk, IfSome, IsErrAnd, IsOk, IsSomeAnd, IsTrue, MatchResult, None, OnErr, OnOk, Some, is_some, length, option_copied, option_map};
+ghost use Rattle.std.specs.Prelude.{◌≡◌, ◌≢◌, ◌⊎◌, ◌+◌, ◌-◌, ◌*◌, ◌<◌, ◌≤◌, ℕ, [], List, All, Contains, IfErr, IfNone, IfOk, IfSome, IsErrAnd, IsSomeAnd, IsTrue, MatchResult, None, OnErr, OnOk, Some, is_some, length, option_copied, option_map};
 ghost use Rattle.std.proofs.Props.{props};
 ghost use Rattle.shore_disk.specs.Cause.{HasCause};
 ghost use Rattle.shore_disk.specs.Device.{CountsFault, LeavesOnly, size};
@@ -7,9 +7,9 @@ ghost use Rattle.shore_dwrite.specs.Settled as settled_device;
 ghost use Rattle.shore_dwrite.specs.Shown.{RiseFrom};
 ghost use Rattle.shore_dwrite.specs.Volumes.{HasNoPage, page_count, page_number, page_offset};
 ghost use Rattle.shore_page.specs.Room.{Fits, lowered, raised};
-ghost use Rattle.shore_page.specs.Slots.{image_len, with_change};
+ghost use Rattle.shore_page.specs.Slots.{with_change};
+ghost use Rattle.shore_types.specs.Images.{image_len, Image};
 ghost use Rattle.shore_page.specs.Text.{images_of, settled_page};
-ghost use Rattle.shore_types.specs.Images.{Image};
 ghost use Rattle.shore_types.specs.Layout.{HasPage};
 ghost use Rattle.shore_types.specs.declared.faults.Device.TheVariants as Device;
 ghost use Rattle.shore_types.specs.declared.faults.Fault.TheVariants as Fault;
@@ -29,7 +29,7 @@ use shore_dwrite::{PageDev, PageImages};
 use shore_model::DirtyPage;
 use shore_page::Page;
 use shore_types::layout::MAX_BATCH_PAGES;
-use shore_types::{Fault, Geometry, Lsn, PageId};
+use shore_types::{Fault, Geometry, LogEnds, Lsn, PageId};
 use std::alloc::{AllocError, Global};
 
 /// How a page came into its frame.
@@ -45,9 +45,11 @@ pub enum Fetched {
 /// has.
 #[derive(Drop)]
 pub struct Pool<D: Disk> {
+    // The volume. `fetch` reads from it; `write` alone writes to it.
     device: PageDev<D>,
+    // The pages in memory. `in_order` says that each is the page of its number, `pages` that the table has a place for each page of the volume.
     frames: Frames,
-    // Room for a batch, taken once.
+    // Room for a batch, taken once. `gather` fills it anew for each `write`; between calls it says nothing.
     batch: PageImages,
     ghost in_order: { AreInOrder (maps.frame_at frames) (settled_device.geometry_of device) } by { Prim.hlevel props },
     ghost some: { MIN_POOL_FRAMES ≤ maps.limit_of frames },
@@ -56,7 +58,7 @@ pub struct Pool<D: Disk> {
 
 impl<D: Disk> Pool<D> {
     ghost use Rattle.shore_pool.specs.Batches.{AreDue, AreFirstFrom};
-    ghost use Rattle.shore_pool.specs.Pools.{HasInPlace, Holds, LeavesPages, NeedsForce, ReadsOnly, StayOrGo, StaysOrGoes, WroteBack, count_of, device_of, faults_of, frame_at, frame_of, geometry_of, history_of, honesty_of, limit_of};
+    ghost use Rattle.shore_pool.specs.Pools.{HasInPlace, PoolHolds, LeavesPages, NeedsForce, StayOrGo, StaysOrGoes, WroteBack, count_of, device_of, faults_of, frame_at, frame_of, geometry_of, history_of, honesty_of, limit_of};
 
     /// A pool of so many frames, with all its memory but that of pages. The device is handed back if an allocation failed.
     pub fn new(alloc: Global, device: PageDev<D>, frames: usize) -> Result<Pool<D>, PageDev<D>>
@@ -105,45 +107,33 @@ impl<D: Disk> Pool<D> {
         Some(&frame.page)
     }
 
-    /// Brings a page into a frame, if it is in none. `last` is the number of the log's last record, and `seen` that up to which it is
-    /// durable. A refused fetch leaves all pages as they were, though some may have been written back to make room.
-    pub fn fetch(
-        &mut self,
-        alloc: Global,
-        id: PageId,
-        last: Lsn,
-        seen: Lsn,
-    ) -> Result<Fetched, Fault>
+    /// Brings a page into a frame, if it is in none. A refused fetch leaves all pages as they were, though some may have been written back to make
+    /// room.
+    pub fn fetch(&mut self, alloc: Global, id: PageId, ends: &LogEnds) -> Result<Fetched, Fault>
         requires { HasPage (geometry_of self.old) id }
         ensures there { OnOk result (IsTrue (is_some (frame_of self.new id))) }
         ensures held { IfOk result (λ how. how ≡ Fetched.Held → (frame_of self.new id ≡ frame_of self.old id) × IsTrue (is_some (frame_of self.old id))) }
-        ensures read { (front : List ℕ) (disk : ℕ → List ℕ) → Holds self.old front disk → IfOk result (λ how. how ≡ Fetched.Read → (frame_of self.old id ≡ None)
-            × IsSomeAnd (frame_of self.new id) (λ f. (f.page ≡ settled_page id f.page.number (images_of f.page.slots)) × (f.page.number ≤ last) × (f.recovery ≡ None))) }
+        ensures read { (front : List ℕ) (disk : ℕ → List ℕ) → PoolHolds self.old front disk → IfOk result (λ how. how ≡ Fetched.Read → (frame_of self.old id ≡ None)
+            × IsSomeAnd (frame_of self.new id) (λ f. (f.page ≡ settled_page id f.page.number (images_of f.page.slots)) × (f.page.number ≤ ends.now.last) × (f.recovery ≡ None))) }
         ensures others { (k : ℕ) → k ≢ page_number (geometry_of self.old) id → StaysOrGoes (frame_at self.old k) (frame_at self.new k) }
         ensures all { IfOk result (λ how. how ≡ Fetched.Held → (k : ℕ) → frame_at self.new k ≡ frame_at self.old k) }
         ensures stay { OnErr result (StayOrGo self.old self.new) }
-        ensures kept { (front : List ℕ) (disk : ℕ → List ℕ) → Holds self.old front disk
-            → MatchResult result (λ _. WroteBack self.old self.new seen front disk) (λ fault. (fault ≡ Fault.Device) ⊎ WroteBack self.old self.new seen front disk) }
+        ensures kept { (front : List ℕ) (disk : ℕ → List ℕ) → PoolHolds self.old front disk
+            → MatchResult result (λ _. WroteBack self.old self.new ends.now.durable front disk) (λ fault. (fault ≡ Fault.Device) ⊎ WroteBack self.old self.new ends.now.durable front disk) }
 
         // What it is refused with.
-        ensures refused { (front : List ℕ) (disk : ℕ → List ℕ) → Holds self.old front disk → IfErr result (λ fault. (fault ≡ Fault.Device) ⊎ (fault ≡ Fault.Memory)
+        ensures refused { (front : List ℕ) (disk : ℕ → List ℕ) → PoolHolds self.old front disk → IfErr result (λ fault. (fault ≡ Fault.Device) ⊎ (fault ≡ Fault.Memory)
             ⊎ ((fault ≡ Fault.Damaged Device.Volume (page_offset (page_number (geometry_of self.old) id)))
-            × HasNoPage (disk (page_number (geometry_of self.old) id)) id last × (frame_of self.old id ≡ None))
-            ⊎ ((number : ℕ) × (fault ≡ Fault.NeedForce number) × NeedsForce self.old seen number)) }
+            × HasNoPage (disk (page_number (geometry_of self.old) id)) id ends.now.last × (frame_of self.old id ≡ None))
+            ⊎ ((number : ℕ) × (fault ≡ Fault.NeedForce number) × NeedsForce self.old ends.now.durable number)) }
 
         // Where a force is needed nothing has changed: each frame is as it was.
-        ensures unmoved { (front : List ℕ) (disk : ℕ → List ℕ) → Holds self.old front disk
+        ensures unmoved { (front : List ℕ) (disk : ℕ → List ℕ) → PoolHolds self.old front disk
             → IfErr result (λ fault. (number : ℕ) → fault ≡ Fault.NeedForce number → (k : ℕ) → frame_at self.new k ≡ frame_at self.old k) }
 
-        // With a frame for each page of the volume nothing leaves its frame, and nothing is written.
-        ensures still { page_count (geometry_of self.old) ≤ limit_of self.old → (front : List ℕ) (disk : ℕ → List ℕ) → Holds self.old front disk
-            → ReadsOnly self.old self.new id front disk }
-        ensures none_came { page_count (geometry_of self.old) ≤ limit_of self.old → (front : List ℕ) (disk : ℕ → List ℕ) → Holds self.old front disk
-            → IfErr result (λ fault. ((number : ℕ) → fault ≢ Fault.NeedForce number) × ((k : ℕ) → frame_at self.new k ≡ frame_at self.old k)) }
-
         // A crash at any moment of the call leaves pages that are old, or those of their frames with durable numbers.
-        ensures any_moment { (front : List ℕ) (disk : ℕ → List ℕ) → Holds self.old front disk
-            → LeavesOnly (history_of self.old) (history_of self.new) (LeavesPages self.old seen front disk) }
+        ensures any_moment { (front : List ℕ) (disk : ℕ → List ℕ) → PoolHolds self.old front disk
+            → LeavesOnly (history_of self.old) (history_of self.new) (LeavesPages self.old ends.now.durable front disk) }
 
         ensures honest { honesty_of self.new ≡ honesty_of self.old }
         ensures size { size (history_of self.new) ≡ size (history_of self.old) }
@@ -159,23 +149,22 @@ impl<D: Disk> Pool<D> {
         if self.frames.touch(number) {
             return Ok(Fetched::Held);
         }
-        self.make_room(alloc, seen)?;
-        self.read(alloc, id, last)?;
+        self.make_room(alloc, ends.durable)?;
+        self.read(alloc, id, ends.last)?;
         Ok(Fetched::Read)
     }
 
     // Sees to it that a frame is free.
-    fn make_room(&mut self, alloc: Global, seen: Lsn) -> Result<(), Fault>
+    fn make_room(&mut self, alloc: Global, durable: Lsn) -> Result<(), Fault>
         ensures room { OnOk result (count_of self.new < limit_of self.new) }
-        ensures idle { count_of self.old < limit_of self.old → IsOk result × (self.new ≡ self.old) }
         ensures frames { StayOrGo self.old self.new }
-        ensures kept { (front : List ℕ) (disk : ℕ → List ℕ) → Holds self.old front disk
-            → MatchResult result (λ _. WroteBack self.old self.new seen front disk) (λ fault. (fault ≡ Fault.Device) ⊎ WroteBack self.old self.new seen front disk) }
+        ensures kept { (front : List ℕ) (disk : ℕ → List ℕ) → PoolHolds self.old front disk
+            → MatchResult result (λ _. WroteBack self.old self.new durable front disk) (λ fault. (fault ≡ Fault.Device) ⊎ WroteBack self.old self.new durable front disk) }
         ensures refused { IfErr result (λ fault. (fault ≡ Fault.Device) ⊎ (fault ≡ Fault.Memory)
-            ⊎ ((number : ℕ) × (fault ≡ Fault.NeedForce number) × NeedsForce self.old seen number)) }
+            ⊎ ((number : ℕ) × (fault ≡ Fault.NeedForce number) × NeedsForce self.old durable number)) }
         ensures unmoved { IfErr result (λ fault. (number : ℕ) → fault ≡ Fault.NeedForce number → (k : ℕ) → frame_at self.new k ≡ frame_at self.old k) }
-        ensures any_moment { (front : List ℕ) (disk : ℕ → List ℕ) → Holds self.old front disk
-            → LeavesOnly (history_of self.old) (history_of self.new) (LeavesPages self.old seen front disk) }
+        ensures any_moment { (front : List ℕ) (disk : ℕ → List ℕ) → PoolHolds self.old front disk
+            → LeavesOnly (history_of self.old) (history_of self.new) (LeavesPages self.old durable front disk) }
         ensures honest { honesty_of self.new ≡ honesty_of self.old }
         ensures size { size (history_of self.new) ≡ size (history_of self.old) }
         ensures geometry { geometry_of self.new ≡ geometry_of self.old }
@@ -183,7 +172,7 @@ impl<D: Disk> Pool<D> {
         ensures cause { HasCause result (faults_of self.old) (faults_of self.new) }
     {
         if self.frames.is_full() {
-            return self.evict(alloc, seen);
+            return self.evict(alloc, durable);
         }
         Ok(())
     }
@@ -194,14 +183,14 @@ impl<D: Disk> Pool<D> {
         requires none { frame_of self.old id ≡ None }
         requires room { count_of self.old < limit_of self.old }
         ensures there { OnOk result (IsTrue (is_some (frame_of self.new id))) }
-        ensures read { (front : List ℕ) (disk : ℕ → List ℕ) → Holds self.old front disk → OnOk result (IsSomeAnd (frame_of self.new id)
+        ensures read { (front : List ℕ) (disk : ℕ → List ℕ) → PoolHolds self.old front disk → OnOk result (IsSomeAnd (frame_of self.new id)
             (λ f. (f.page ≡ settled_page id f.page.number (images_of f.page.slots)) × (f.page.number ≤ last) × (f.recovery ≡ None))) }
         ensures others { (k : ℕ) → k ≢ page_number (geometry_of self.old) id → frame_at self.new k ≡ frame_at self.old k }
-        ensures kept { (front : List ℕ) (disk : ℕ → List ℕ) → Holds self.old front disk → Holds self.new front disk × SamePages (frame_at self.old) disk (frame_at self.new) disk }
-        ensures refused { (front : List ℕ) (disk : ℕ → List ℕ) → Holds self.old front disk → IfErr result (λ fault. (fault ≡ Fault.Device) ⊎ (fault ≡ Fault.Memory)
+        ensures kept { (front : List ℕ) (disk : ℕ → List ℕ) → PoolHolds self.old front disk → PoolHolds self.new front disk × SamePages (frame_at self.old) disk (frame_at self.new) disk }
+        ensures refused { (front : List ℕ) (disk : ℕ → List ℕ) → PoolHolds self.old front disk → IfErr result (λ fault. (fault ≡ Fault.Device) ⊎ (fault ≡ Fault.Memory)
             ⊎ ((fault ≡ Fault.Damaged Device.Volume (page_offset (page_number (geometry_of self.old) id))) × HasNoPage (disk (page_number (geometry_of self.old) id)) id last)) }
         ensures none_came { OnErr result ((k : ℕ) → frame_at self.new k ≡ frame_at self.old k) }
-        ensures history { (front : List ℕ) (disk : ℕ → List ℕ) → Holds self.old front disk → history_of self.new ≡ history_of self.old }
+        ensures history { (front : List ℕ) (disk : ℕ → List ℕ) → PoolHolds self.old front disk → history_of self.new ≡ history_of self.old }
         ensures honest { honesty_of self.new ≡ honesty_of self.old }
         ensures size { size (history_of self.new) ≡ size (history_of self.old) }
         ensures geometry { geometry_of self.new ≡ geometry_of self.old }
@@ -223,7 +212,7 @@ impl<D: Disk> Pool<D> {
         requires fits { IsSomeAnd (frame_of self.old id) (λ f. Fits f.page.slots slot (image_len (option_map (λ bytes. bytes.now) after))) }
         ensures here { frame_of self.new id ≡ option_map (changed lsn slot (option_map (λ bytes. bytes.now) after.entry)) (frame_of self.old id) }
         ensures others { (k : ℕ) → k ≢ page_number (geometry_of self.old) id → frame_at self.new k ≡ frame_at self.old k }
-        ensures kept { (front : List ℕ) (disk : ℕ → List ℕ) → Holds self.old front disk → Holds self.new front disk }
+        ensures kept { (front : List ℕ) (disk : ℕ → List ℕ) → PoolHolds self.old front disk → PoolHolds self.new front disk }
         ensures count { count_of self.new ≡ count_of self.old }
         ensures limit { limit_of self.new ≡ limit_of self.old }
         ensures device { device_of self.new ≡ device_of self.old }
@@ -239,8 +228,8 @@ impl<D: Disk> Pool<D> {
         requires fits { IsSomeAnd (frame_of self.old id) (λ f. (slot < length f.page.slots) × Fits f.page.slots slot bytes) }
         ensures here { frame_of self.new id ≡ option_map (reclaimed (raised bytes) slot) (frame_of self.old id) }
         ensures others { (k : ℕ) → k ≢ page_number (geometry_of self.old) id → frame_at self.new k ≡ frame_at self.old k }
-        ensures kept { (front : List ℕ) (disk : ℕ → List ℕ) → Holds self.old front disk
-            → Holds self.new front disk × SamePages (frame_at self.old) disk (frame_at self.new) disk }
+        ensures kept { (front : List ℕ) (disk : ℕ → List ℕ) → PoolHolds self.old front disk
+            → PoolHolds self.new front disk × SamePages (frame_at self.old) disk (frame_at self.new) disk }
         ensures count { count_of self.new ≡ count_of self.old }
         ensures limit { limit_of self.new ≡ limit_of self.old }
         ensures device { device_of self.new ≡ device_of self.old }
@@ -256,8 +245,8 @@ impl<D: Disk> Pool<D> {
         requires slot { IsSomeAnd (frame_of self.old id) (λ f. slot < length f.page.slots) }
         ensures here { frame_of self.new id ≡ option_map (reclaimed (lowered bytes) slot) (frame_of self.old id) }
         ensures others { (k : ℕ) → k ≢ page_number (geometry_of self.old) id → frame_at self.new k ≡ frame_at self.old k }
-        ensures kept { (front : List ℕ) (disk : ℕ → List ℕ) → Holds self.old front disk
-            → Holds self.new front disk × SamePages (frame_at self.old) disk (frame_at self.new) disk }
+        ensures kept { (front : List ℕ) (disk : ℕ → List ℕ) → PoolHolds self.old front disk
+            → PoolHolds self.new front disk × SamePages (frame_at self.old) disk (frame_at self.new) disk }
         ensures count { count_of self.new ≡ count_of self.old }
         ensures limit { limit_of self.new ≡ limit_of self.old }
         ensures device { device_of self.new ≡ device_of self.old }
@@ -275,28 +264,28 @@ impl<D: Disk> Pool<D> {
     }
 
     /// The dirty page that comes next on the volume from a number on, of those with numbers up to the durable one.
-    pub fn next_due(&self, from: u32, seen: Lsn) -> Option<u32>
-        ensures due { IfSome result (λ k. IsSomeAnd (frame_at self.now k) (IsDue seen)) }
+    pub fn next_due(&self, from: u32, durable: Lsn) -> Option<u32>
+        ensures due { IfSome result (λ k. IsSomeAnd (frame_at self.now k) (IsDue durable)) }
         ensures rises { IfSome result (λ k. from ≤ k) }
-        ensures least { IfSome result (λ k. (j : ℕ) (f : Frame) → frame_at self.now j ≡ Some f → from ≤ j → j < k → IsDue seen f → ⊥) }
+        ensures least { IfSome result (λ k. (j : ℕ) (f : Frame) → frame_at self.now j ≡ Some f → from ≤ j → j < k → IsDue durable f → ⊥) }
         ensures within { IfSome result (λ k. k < MAX_PAGES) }
-        ensures none { IfNone result ((k : ℕ) (f : Frame) → frame_at self.now k ≡ Some f → from ≤ k → IsDue seen f → ⊥) }
+        ensures none { IfNone result ((k : ℕ) (f : Frame) → frame_at self.now k ≡ Some f → from ≤ k → IsDue durable f → ⊥) }
     {
-        self.frames.next_due(from, seen)
+        self.frames.next_due(from, durable)
     }
 
     /// The first dirty pages of the volume from one on, of those with numbers up to this one: all of them, or as many as a batch may have.
-    pub fn due(&self, alloc: Global, from: u32, seen: Lsn) -> Result<Vec<u32>, AllocError>
+    pub fn due(&self, alloc: Global, from: u32, durable: Lsn) -> Result<Vec<u32>, AllocError>
         ensures rise { IfOk result (λ pages. RiseFrom 0 pages.items) }
         ensures most { IfOk result (λ pages. length pages.items ≤ MAX_BATCH_PAGES) }
         ensures least { IfOk result (λ pages. All (λ k. from ≤ k) pages.items) }
-        ensures due { IfOk result (λ pages. AreDue self.now seen pages.items) }
-        ensures first { IfOk result (λ pages. AreFirstFrom self.now from seen pages.items) }
+        ensures due { IfOk result (λ pages. AreDue self.now durable pages.items) }
+        ensures first { IfOk result (λ pages. AreFirstFrom self.now from durable pages.items) }
     {
         let mut pages = Vec::with_capacity(alloc, MAX_BATCH_PAGES)?;
         let mut next = from;
         for _ in 0..MAX_BATCH_PAGES {
-            let Some(number) = self.next_due(next, seen) else {
+            let Some(number) = self.next_due(next, durable) else {
                 return Ok(pages);
             };
             pages.push_reserved(number);
@@ -308,18 +297,18 @@ impl<D: Disk> Pool<D> {
     /// Frees a frame: one of a clean page that was not used for a while, if there is a clean page; else that of the page whose changes are
     /// oldest among those with numbers up to the durable one. That page is written first, and with it, for a batch costs as many syncs as a page, those
     /// behind it on the volume that may be. `NeedForce` with the number of a page if none has such a number. A pool with no page in a frame stays as it is.
-    pub fn evict(&mut self, alloc: Global, seen: Lsn) -> Result<(), Fault>
+    pub fn evict(&mut self, alloc: Global, durable: Lsn) -> Result<(), Fault>
         ensures freed { OnOk result (count_of self.new ≡ count_of self.old - 1) }
         ensures frames { StayOrGo self.old self.new }
-        ensures kept { (front : List ℕ) (disk : ℕ → List ℕ) → Holds self.old front disk
-            → MatchResult result (λ _. WroteBack self.old self.new seen front disk) (λ fault. (fault ≡ Fault.Device) ⊎ WroteBack self.old self.new seen front disk) }
+        ensures kept { (front : List ℕ) (disk : ℕ → List ℕ) → PoolHolds self.old front disk
+            → MatchResult result (λ _. WroteBack self.old self.new durable front disk) (λ fault. (fault ≡ Fault.Device) ⊎ WroteBack self.old self.new durable front disk) }
         ensures refused { IfErr result (λ fault. (fault ≡ Fault.Device) ⊎ (fault ≡ Fault.Memory)
-            ⊎ ((number : ℕ) × (fault ≡ Fault.NeedForce number) × NeedsForce self.old seen number)) }
+            ⊎ ((number : ℕ) × (fault ≡ Fault.NeedForce number) × NeedsForce self.old durable number)) }
         ensures unmoved { IfErr result (λ fault. (number : ℕ) → fault ≡ Fault.NeedForce number → (k : ℕ) → frame_at self.new k ≡ frame_at self.old k) }
 
         // A crash at any moment of the call leaves pages that are old, or those of their frames with durable numbers.
-        ensures any_moment { (front : List ℕ) (disk : ℕ → List ℕ) → Holds self.old front disk
-            → LeavesOnly (history_of self.old) (history_of self.new) (LeavesPages self.old seen front disk) }
+        ensures any_moment { (front : List ℕ) (disk : ℕ → List ℕ) → PoolHolds self.old front disk
+            → LeavesOnly (history_of self.old) (history_of self.new) (LeavesPages self.old durable front disk) }
 
         ensures honest { honesty_of self.new ≡ honesty_of self.old }
         ensures size { size (history_of self.new) ≡ size (history_of self.old) }
@@ -331,28 +320,28 @@ impl<D: Disk> Pool<D> {
             self.free(number);
             return Ok(());
         }
-        self.steal(alloc, seen)
+        self.steal(alloc, durable)
     }
 
     // Frees the frame of the page whose changes are oldest among those with numbers up to this one. The page is written first, and others with it.
-    fn steal(&mut self, alloc: Global, seen: Lsn) -> Result<(), Fault>
+    fn steal(&mut self, alloc: Global, durable: Lsn) -> Result<(), Fault>
         ensures freed { OnOk result (count_of self.new ≡ count_of self.old - 1) }
         ensures frames { StayOrGo self.old self.new }
-        ensures kept { (front : List ℕ) (disk : ℕ → List ℕ) → Holds self.old front disk
-            → MatchResult result (λ _. WroteBack self.old self.new seen front disk) (λ fault. (fault ≡ Fault.Device) ⊎ WroteBack self.old self.new seen front disk) }
+        ensures kept { (front : List ℕ) (disk : ℕ → List ℕ) → PoolHolds self.old front disk
+            → MatchResult result (λ _. WroteBack self.old self.new durable front disk) (λ fault. (fault ≡ Fault.Device) ⊎ WroteBack self.old self.new durable front disk) }
         ensures refused { maps.AllDirty self.old.frames → IfErr result (λ fault. (fault ≡ Fault.Device) ⊎ (fault ≡ Fault.Memory)
-            ⊎ ((number : ℕ) × (fault ≡ Fault.NeedForce number) × NeedsForce self.old seen number)) }
+            ⊎ ((number : ℕ) × (fault ≡ Fault.NeedForce number) × NeedsForce self.old durable number)) }
         ensures unmoved { IfErr result (λ fault. (number : ℕ) → fault ≡ Fault.NeedForce number → (k : ℕ) → frame_at self.new k ≡ frame_at self.old k) }
-        ensures any_moment { (front : List ℕ) (disk : ℕ → List ℕ) → Holds self.old front disk
-            → LeavesOnly (history_of self.old) (history_of self.new) (LeavesPages self.old seen front disk) }
+        ensures any_moment { (front : List ℕ) (disk : ℕ → List ℕ) → PoolHolds self.old front disk
+            → LeavesOnly (history_of self.old) (history_of self.new) (LeavesPages self.old durable front disk) }
         ensures honest { honesty_of self.new ≡ honesty_of self.old }
         ensures size { size (history_of self.new) ≡ size (history_of self.old) }
         ensures geometry { geometry_of self.new ≡ geometry_of self.old }
         ensures limit { limit_of self.new ≡ limit_of self.old }
         ensures cause { HasCause result (faults_of self.old) (faults_of self.new) }
     {
-        if let Some(number) = self.frames.oldest_due(seen) {
-            let pages = self.due(alloc, number, seen)?;
+        if let Some(number) = self.frames.oldest_due(durable) {
+            let pages = self.due(alloc, number, durable)?;
             self.write(&pages)?;
             self.free(number);
             return Ok(());
@@ -368,8 +357,8 @@ impl<D: Disk> Pool<D> {
         requires { IsSomeAnd (frame_at self.old number) (λ f. f.recovery ≡ None) }
         ensures gone { frame_at self.new number ≡ None }
         ensures others { (k : ℕ) → k ≢ number → frame_at self.new k ≡ frame_at self.old k }
-        ensures kept { (front : List ℕ) (disk : ℕ → List ℕ) → Holds self.old front disk
-            → Holds self.new front disk × SamePages (frame_at self.old) disk (frame_at self.new) disk }
+        ensures kept { (front : List ℕ) (disk : ℕ → List ℕ) → PoolHolds self.old front disk
+            → PoolHolds self.new front disk × SamePages (frame_at self.old) disk (frame_at self.new) disk }
         ensures count { count_of self.new + 1 ≡ count_of self.old }
         ensures limit { limit_of self.new ≡ limit_of self.old }
         ensures device { device_of self.new ≡ device_of self.old }
@@ -386,10 +375,10 @@ impl<D: Disk> Pool<D> {
         ensures clean { OnOk result ((k : ℕ) → Contains numbers.now k → frame_at self.new k ≡ option_map settled (frame_at self.old k)) }
         ensures others { OnOk result ((k : ℕ) → (Contains numbers.now k → ⊥) → frame_at self.new k ≡ frame_at self.old k) }
         ensures refused { IfErr result (λ fault. ((fault ≡ Fault.Device) ⊎ (fault ≡ Fault.Memory)) × ((k : ℕ) → frame_at self.new k ≡ frame_at self.old k)) }
-        ensures kept { (front : List ℕ) (disk : ℕ → List ℕ) (seen : ℕ) → Holds self.old front disk → AreUpTo (frame_at self.old) seen numbers.now
-            → MatchResult result (λ _. WroteBack self.old self.new seen front disk) (λ fault. (fault ≡ Fault.Device) ⊎ WroteBack self.old self.new seen front disk) }
-        ensures any_moment { (front : List ℕ) (disk : ℕ → List ℕ) (seen : ℕ) → Holds self.old front disk → AreUpTo (frame_at self.old) seen numbers.now
-            → LeavesOnly (history_of self.old) (history_of self.new) (LeavesPages self.old seen front disk) }
+        ensures kept { (front : List ℕ) (disk : ℕ → List ℕ) (durable : ℕ) → PoolHolds self.old front disk → AreUpTo (frame_at self.old) durable numbers.now
+            → MatchResult result (λ _. WroteBack self.old self.new durable front disk) (λ fault. (fault ≡ Fault.Device) ⊎ WroteBack self.old self.new durable front disk) }
+        ensures any_moment { (front : List ℕ) (disk : ℕ → List ℕ) (durable : ℕ) → PoolHolds self.old front disk → AreUpTo (frame_at self.old) durable numbers.now
+            → LeavesOnly (history_of self.old) (history_of self.new) (LeavesPages self.old durable front disk) }
         ensures count { count_of self.new ≡ count_of self.old }
         ensures honest { honesty_of self.new ≡ honesty_of self.old }
         ensures size { size (history_of self.new) ≡ size (history_of self.old) }
@@ -406,13 +395,13 @@ impl<D: Disk> Pool<D> {
 
 impl<D: Disk> Pool<FuseDisk<D>> {
     ghost use Rattle.shore_disk.specs.Fuse.{fuse_calls, fuse_inner};
-    ghost use Rattle.shore_pool.specs.Pools.{Holds, device_of, faults_of, frame_at, geometry_of, history_of, limit_of};
+    ghost use Rattle.shore_pool.specs.Pools.{PoolHolds, device_of, faults_of, frame_at, geometry_of, history_of, limit_of};
 
     /// Lets so many more writes and syncs of the device pass; then every call of it fails.
     pub fn set_fuse(&mut self, calls: u64)
         ensures inner { fuse_inner (settled_device.device_of (device_of self.new)) ≡ fuse_inner (settled_device.device_of (device_of self.old)) }
         ensures calls { fuse_calls (settled_device.device_of (device_of self.new)) ≡ calls }
-        ensures holds { (front : List ℕ) (disk : ℕ → List ℕ) → Holds self.old front disk → Holds self.new front disk }
+        ensures holds { (front : List ℕ) (disk : ℕ → List ℕ) → PoolHolds self.old front disk → PoolHolds self.new front disk }
         ensures frames { (k : ℕ) → frame_at self.new k ≡ frame_at self.old k }
         ensures limit { limit_of self.new ≡ limit_of self.old }
         ensures geometry { geometry_of self.new ≡ geometry_of self.old }

@@ -2,7 +2,7 @@
 ghost use Rattle.std.specs.Prelude.{◌≡◌, ◌≤◌, ◌↔◌, ℕ, IsTrue, IfOk};
 ghost use Rattle.shore_types.specs.declared.faults.Fault.TheVariants.{NeedForce};
 ghost use Rattle.shore_types.specs.declared.layout.TheConstants.{MAX_PAGES, MIN_POOL_FRAMES};
-ghost use Rattle.shore_calls.specs.Events.{IsServed};
+ghost use Rattle.shore_model.specs.Calls.{IsServed};
 ghost use Rattle.shore_script.specs.Commands.{IsServedCommand};
 ghost use Rattle.shore_script.specs.Limits.{AreInLimits};
 ghost use Rattle.shore_prog.specs.Commands.{IsTaken};
@@ -11,9 +11,8 @@ ghost use Rattle.shore_prog.specs.declared.manager.Progress.TheVariants.{Again};
 use crate::devices::{ScriptDisk, first_pair, pair_after_crash};
 use crate::forcing::force;
 use crate::rounds::{WaitingLines, go_round};
-use shore_calls::Wait;
 use shore_disk::Pick;
-use shore_model::{Answer, Call};
+use shore_model::{Answer, Call, Wait};
 use shore_script::{Command, Devices, Fuse, Fuses, Settings, render};
 use shore_types::layout::MAX_STORES;
 use shore_types::{Device, Fault, Pairs, SessionId, StoreId};
@@ -29,9 +28,13 @@ pub type ScriptWorld = World<ScriptDisk, ScriptDisk>;
 /// The manager, where its devices are, how many frames for pages an open asks for, and which fuses the next crash sets.
 #[derive(Drop)]
 pub struct Manager {
+    // Where the devices are, so that a crash can open them again.
     devices: Devices,
+    // How many frames for pages an open asks for.
     frames: usize,
+    // The fuses that the next crash sets.
     next_fuses: Fuses,
+    // The manager itself, or the devices that it left.
     access: Access,
     ghost some: { MIN_POOL_FRAMES ≤ frames },
     ghost few: { frames ≤ MAX_PAGES },
@@ -58,7 +61,9 @@ pub enum Progress {
 /// A world that is open, and the lines whose calls wait. The world is in a box, since each function that moves what is not would be dear to prove.
 #[derive(Drop)]
 struct Opened {
+    // The manager.
     world: Box<ScriptWorld>,
+    // The lines whose calls wait, by session.
     waiting: WaitingLines,
 }
 

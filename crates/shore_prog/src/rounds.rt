@@ -3,7 +3,7 @@ ghost use Rattle.std.specs.Prelude.{◌≤◌, vec_len};
 
 use crate::forcing::force;
 use crate::manager::ScriptWorld;
-use shore_calls::Wait;
+use shore_model::Wait;
 use shore_script::{Command, read_line, render};
 use shore_types::{Fault, SessionId};
 use shore_world::{Event, Step};
@@ -13,7 +13,9 @@ use std::io::{self, Write};
 /// A session's line whose call waits.
 #[derive(Drop)]
 struct WaitingLine {
+    // The session that waits.
     session: SessionId,
+    // What it waits for.
     wait: Wait,
     /// The text of a line that waits for a lock: its call may need a force when it goes on, and is made again then.
     line: Vec<u8>,
@@ -22,6 +24,7 @@ struct WaitingLine {
 /// The lines whose calls wait, by session.
 #[derive(Drop)]
 pub struct WaitingLines {
+    // One line a session at most, in the order of the sessions.
     lines: Vec<WaitingLine>,
 }
 

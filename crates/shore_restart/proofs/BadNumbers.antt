@@ -10,10 +10,10 @@ use Rattle.shore_model.specs.declared.log_records.LogRecord.{LogRecord}
 use Rattle.shore_model.specs.declared.log_records.Payload.{Payload}
 use Rattle.shore_model.specs.declared.log_records.Payload.TheVariants.{Change}
 use Rattle.shore_model.specs.Logs.{id_in, unanswered, undo_next_of}
-use Rattle.shore_lives.specs.Undo.{IsUndoneTo, undo_payload, undo_record}
-use Rattle.shore_lives.specs.UndoChains.{IsUndoChain}
-use Rattle.shore_lives.proofs.UndoChains.{unanswered_chain}
-use Rattle.shore_analysis.specs.Meant.{GoesOn, IsFirstUnmeant}
+use Rattle.laws_lives.specs.Undo.{IsUndoneTo, undo_payload, undo_record}
+use Rattle.laws_lives.specs.UndoChains.{IsUndoChain}
+use Rattle.laws_lives.proofs.UndoChains.{unanswered_chain}
+use Rattle.shore_analysis.specs.Meant.{MayBeNext, IsFirstUnmeant}
 use Rattle.shore_analysis.proofs.MeantLogs.{own_or_last}
 use Rattle.shore_restart.specs.declared.errors.RestartError.TheVariants.{BadRecord}
 use Rattle.shore_restart.specs.Turns.{IsUndoneSoFar}
@@ -59,6 +59,6 @@ one_number n m is = cc
 pub unmeant_within : (g : Geometry) (log : List LogRecord) (n : ℕ) → IsFirstUnmeant g log n → (0 < n) × (n ≤ length log)
 unmeant_within g log n of = (of.some, at (slice_get log (n - 1)) refl of.here)
   where
-    at : (o : Option LogRecord) → slice_get log (n - 1) ≡ o → IsSomeAnd o (λ r. GoesOn g (take (n - 1) log) r → ⊥) → n ≤ length log
+    at : (o : Option LogRecord) → slice_get log (n - 1) ≡ o → IsSomeAnd o (λ r. MayBeNext g (take (n - 1) log) r → ⊥) → n ≤ length log
     at None is none = absurd none
     at (Some r) is here = let within = slice_get_within log (n - 1) r is in let some = of.some in omega (arith, within, some)

@@ -51,22 +51,22 @@ passed_log_cause A B r error old between new same is cause = subst (λ (result :
 
 -- what a fetch may tell of: the device, or a force that it needs
 abbrev pub IsDeviceOrForce : ℕ → ℕ → Fault → Type 0
-IsDeviceOrForce seen last f = (f ≡ fault.Device) ⊎ ((n : ℕ) × (f ≡ fault.NeedForce n) × (seen < n) × (n ≤ last))
+IsDeviceOrForce durable last f = (f ≡ fault.Device) ⊎ ((n : ℕ) × (f ≡ fault.NeedForce n) × (durable < n) × (n ≤ last))
 
 -- .. and the device alone if it is no force
-pub device_alone : (r : Result (Unit {0}) RestartError) (seen last : ℕ) → (((n : ℕ) × (r ≡ Err (Page (fault.NeedForce n)))) → ⊥)
-    → IfErr r (λ e. (f : Fault) → e ≡ Page f → IsDeviceOrForce seen last f) → IfErr r (λ e. (f : Fault) → e ≡ Page f → f ≡ fault.Device)
-device_alone (Ok u) seen last other is = tt
-device_alone (Err e) seen last other is = λ f page. elim (is f page) [
+pub device_alone : (r : Result (Unit {0}) RestartError) (durable last : ℕ) → (((n : ℕ) × (r ≡ Err (Page (fault.NeedForce n)))) → ⊥)
+    → IfErr r (λ e. (f : Fault) → e ≡ Page f → IsDeviceOrForce durable last f) → IfErr r (λ e. (f : Fault) → e ≡ Page f → f ≡ fault.Device)
+device_alone (Ok u) durable last other is = tt
+device_alone (Err e) durable last other is = λ f page. elim (is f page) [
   | inl device ↦ device
   | inr force ↦ absurd (other (force.0, ap Err (page ∙ ap Page force.1)))
 ]
 
--- .. or if all is seen
-pub none_above : (r : Result (Unit {0}) RestartError) (seen last : ℕ) → last ≤ seen → IfErr r (λ e. (f : Fault) → e ≡ Page f → IsDeviceOrForce seen last f)
+-- .. or if all is durable
+pub none_above : (r : Result (Unit {0}) RestartError) (durable last : ℕ) → last ≤ durable → IfErr r (λ e. (f : Fault) → e ≡ Page f → IsDeviceOrForce durable last f)
     → IfErr r (λ e. (f : Fault) → e ≡ Page f → f ≡ fault.Device)
-none_above (Ok u) seen last all is = tt
-none_above (Err e) seen last all is = λ f page. elim (is f page) [
+none_above (Ok u) durable last all is = tt
+none_above (Err e) durable last all is = λ f page. elim (is f page) [
   | inl device ↦ device
   | inr force ↦ let above = force.2 in let within = force.3 in absurd (omega (arith, all, above, within))
 ]

@@ -11,13 +11,13 @@ use Rattle.shore_log.specs.declared.device.LogDev.{LogDev}
 use Rattle.shore_log.proofs.ForceLemmas.{settled_gives}
 use Rattle.shore_heap.specs.declared.heap.Heap.{Heap}
 use Rattle.shore_heap.specs.Heaps.{geometry_of, history_of}
-use Rattle.shore_lives.specs.Recovery.{ForceLog, IsRecoverable, RecoveryState, after_force}
-use Rattle.shore_lives.proofs.Invariant.{event_kept}
-use Rattle.shore_stands.proofs.Stores.{forced_is}
+use Rattle.laws_lives.specs.Recovery.{ForceLog, IsRecoverable, RecoveryState, after_force}
+use Rattle.laws_lives.proofs.Invariant.{event_kept}
+use Rattle.laws_images.proofs.Stores.{forced_is}
 use Rattle.shore_restart.specs.declared.errors.RestartError.{RestartError}
 use Rattle.shore_restart.specs.declared.errors.RestartError.TheVariants.{Page}
-use Rattle.shore_stands.specs.Moments.{GivesPrefix, Moment, Path, ShowsLeft}
-use Rattle.shore_restart.specs.Standing.{Fetches, Forces, IsAtRest, IsReady, Moves, Stands, Worked, log_history, moment_of}
+use Rattle.laws_images.specs.Moments.{GivesPrefix, Moment, Path, ShowsLeft}
+use Rattle.shore_restart.specs.Standing.{Fetches, Forces, IsAtRest, IsReady, RestartMoves, Stands, Worked, log_history, moment_of}
 use Rattle.shore_restart.proofs.Paths.{path_and, path_covered, path_on, prefix_same, step_volume}
 use Rattle.shore_restart.proofs.Standing.{stands_left}
 
@@ -131,17 +131,17 @@ module _ {L V : Type 0} {G : Ghosts L} {H : Ghosts V} (log_front front : List �
 
     -- moves have come to where they have led
     pub came_of : {A : Type 0} (x : A) (log : LogDev L G) (heap : Heap V H) (Done : RecoveryState → Type 0) → geometry_of heap ≡ geometry_of first
-        → (m : Moves (Ok x) log_front front first_log log first heap s Done) → CameFrom log heap m.later
+        → (m : RestartMoves (Ok x) log_front front first_log log first heap s Done) → CameFrom log heap m.later
     came_of x log heap Done geometry m = record { moments = m.moments; path = m.path; geometry = geometry; disk = m.done.1; ready = m.done.2 }
 
     -- .. and are what has come there
     pub moves_of : {A : Type 0} (x : A) (log : LogDev L G) (heap : Heap V H) (later : RecoveryState) (Done : RecoveryState → Type 0) → CameFrom log heap later → Done later
-        → Moves (Ok x) log_front front first_log log first heap s Done
+        → RestartMoves (Ok x) log_front front first_log log first heap s Done
     moves_of x log heap later Done came is = record { later = later; moments = came.moments; path = came.path; done = (is, came.disk, came.ready) }
 
     -- stopped at a force
     pub force_stops : {A : Type 0} (e other : RestartError) (old new : LogDev L G) (heap : Heap V H) (later : RecoveryState) (Done : RecoveryState → Type 0) → (came : CameFrom old heap later)
-        → Forces {A = Unit {0}} (Err other) (geometry_of first) log_front front (history_of heap) old new later → Moves {A = A} (Err e) log_front front first_log new first heap s Done
+        → Forces {A = Unit {0}} (Err other) (geometry_of first) log_front front (history_of heap) old new later → RestartMoves {A = A} (Err e) log_front front first_log new first heap s Done
     force_stops e other old new heap later Done came f = record {
       later = after_force later f.durable;
       moments = came.moments ++ f.moments;
@@ -151,7 +151,7 @@ module _ {L V : Type 0} {G : Ghosts L} {H : Ghosts V} (log_front front : List �
 
     -- a fetch, whatever it answers
     pub fetch_moves : (r : Result (Unit {0}) RestartError) (log : LogDev L G) (old new : Heap V H) (now : RecoveryState) (came : CameFrom log old now) → Fetches r front old new now → geometry_of new ≡ geometry_of old
-        → now.log ≡ s.log → now.in_place ≡ s.in_place → Moves r log_front front first_log log first new s (λ later. (later.log ≡ s.log) × (later.in_place ≡ s.in_place))
+        → now.log ≡ s.log → now.in_place ≡ s.in_place → RestartMoves r log_front front first_log log first new s (λ later. (later.log ≡ s.log) × (later.in_place ≡ s.in_place))
     fetch_moves (Ok u) log old new now came f geometry log_is in_place =
         let c = came_fetched (geometry_of first) log_front front (moment_of (log_history first_log) first s) log old new now (Ok u) came f (λ is. cc) geometry in
         moves_of u log new f.later (λ later. (later.log ≡ s.log) × (later.in_place ≡ s.in_place)) c (f.same.log ∙ log_is, f.same.in_place ∙ in_place)
@@ -170,7 +170,7 @@ module _ {L V : Type 0} {G : Ghosts L} {H : Ghosts V} (log_front front : List �
           path_on (geometry_of first) log_front front (moment_of (log_history first_log) first s) came.moments (moment_of (log_history log) heap now) moments (moment_of (log_history new_log) new later) came.path
           (subst (λ (g : Geometry). Path g log_front front (moment_of (log_history log) heap now) moments (moment_of (log_history new_log) new later)) came.geometry path)
 
-      pub came_moved : {A : Type 0} (x : A) (Done : RecoveryState → Type 0) → (m : Moves (Ok x) log_front front log new_log heap new now Done) → geometry_of new ≡ geometry_of heap → CameFrom new_log new m.later
+      pub came_moved : {A : Type 0} (x : A) (Done : RecoveryState → Type 0) → (m : RestartMoves (Ok x) log_front front log new_log heap new now Done) → geometry_of new ≡ geometry_of heap → CameFrom new_log new m.later
       came_moved x Done m geometry = record {
         moments = came.moments ++ m.moments;
         path = path_moved m.moments m.later m.path;
@@ -179,6 +179,6 @@ module _ {L V : Type 0} {G : Ghosts L} {H : Ghosts V} (log_front front : List �
         ready = m.done.2;
       }
 
-      pub moves_stop : {A B : Type 0} (e other : RestartError) (Done Then : RecoveryState → Type 0) → Moves {A = A} (Err e) log_front front log new_log heap new now Done
-          → Moves {A = B} (Err other) log_front front first_log new_log first new s Then
+      pub moves_stop : {A B : Type 0} (e other : RestartError) (Done Then : RecoveryState → Type 0) → RestartMoves {A = A} (Err e) log_front front log new_log heap new now Done
+          → RestartMoves {A = B} (Err other) log_front front first_log new_log first new s Then
       moves_stop e other Done Then m = record { later = m.later; moments = came.moments ++ m.moments; path = path_moved m.moments m.later m.path; done = tt }

@@ -5,10 +5,10 @@ use Rattle.shore_disk.specs.declared.device.Disk.{Ghosts}
 use Rattle.shore_log.specs.declared.device.LogDev.{LogDev}
 use Rattle.shore_heap.specs.declared.heap.Heap.{Heap}
 use Rattle.shore_heap.specs.Heaps.{geometry_of}
-use Rattle.shore_lives.specs.Recovery.{RecoveryState}
+use Rattle.laws_lives.specs.Recovery.{RecoveryState}
 use Rattle.shore_restart.specs.declared.errors.RestartError.{RestartError}
-use Rattle.shore_stands.specs.Moments.{GivesPrefix}
-use Rattle.shore_restart.specs.Standing.{IsFound, Moves, RedoesAll, log_history}
+use Rattle.laws_images.specs.Moments.{GivesPrefix}
+use Rattle.shore_restart.specs.Standing.{IsFound, RestartMoves, RedoesAll, log_history}
 use Rattle.shore_restart.proofs.Coming.{came_moved, rest_covered, rest_same}
 use Rattle.shore_restart.proofs.Standing.{stands_left}
 use Rattle.shore_restart.proofs.Undoing.{HasCome}
@@ -19,17 +19,17 @@ module _ {L V : Type 0} {G : Ghosts L} {H : Ghosts V} (log_front front : List �
   found_covered = rest_covered log_front log s found.at_rest found.stands.recoverable
 
   -- refused before a device was called
-  pub nothing_moved : {A : Type 0} (r : Result A RestartError) (e : RestartError) (Done : RecoveryState → Type 0) → r ≡ Err e → Moves r log_front front log log heap heap s Done
+  pub nothing_moved : {A : Type 0} (r : Result A RestartError) (e : RestartError) (Done : RecoveryState → Type 0) → r ≡ Err e → RestartMoves r log_front front log log heap heap s Done
   nothing_moved {A = A} r e Done is =
-      subst (λ (r : Result A RestartError). Moves r log_front front log log heap heap s Done) (sym is)
+      subst (λ (r : Result A RestartError). RestartMoves r log_front front log log heap heap s Done) (sym is)
       (record { later = s; moments = []; path = (refl, record { log = found_covered; volume = stands_left front disk heap s found.stands }); done = tt })
 
   module _ (new : Heap V H) where
     -- refused in redo
     pub redo_stopped : {A B : Type 0} (r : Result B RestartError) (e : RestartError) (Done : RecoveryState → Type 0) → r ≡ Err e → RedoesAll {A = A} (Err e) (log_history log) log_front front heap new s
-        → Moves r log_front front log log heap new s Done
+        → RestartMoves r log_front front log log heap new s Done
     redo_stopped {B = B} r e Done is redoes =
-        subst (λ (r : Result B RestartError). Moves r log_front front log log heap new s Done) (sym is)
+        subst (λ (r : Result B RestartError). RestartMoves r log_front front log log heap new s Done) (sym is)
         (record { later = redoes.later; moments = redoes.moments; path = redoes.path; done = tt })
 
     -- all records are redone, and undo may begin
@@ -52,15 +52,15 @@ module _ {L V : Type 0} {G : Ghosts L} {H : Ghosts V} (log_front front : List �
 module _ {L V : Type 0} {G : Ghosts L} {H : Ghosts V} (log_front front : List ℕ) (first_log : LogDev L G) (first : Heap V H) (s : RecoveryState) (log new_log : LogDev L G) (heap new : Heap V H)
     (come : HasCome log_front front first_log first s log heap) (Done : RecoveryState → Type 0) where
   -- it has moved from there
-  pub come_done : {A B : Type 0} (x : A) (y : B) → Moves (Ok x) log_front front log new_log heap new come.0 Done → geometry_of new ≡ geometry_of heap → Moves (Ok y) log_front front first_log new_log first new s Done
+  pub come_done : {A B : Type 0} (x : A) (y : B) → RestartMoves (Ok x) log_front front log new_log heap new come.0 Done → geometry_of new ≡ geometry_of heap → RestartMoves (Ok y) log_front front first_log new_log first new s Done
   come_done x y m geometry =
       let came = came_moved log_front front first_log first s log new_log heap new come.0 come.1 x Done m geometry in
       record { later = m.later; moments = came.moments; path = came.path; done = (m.done.0, came.disk, came.ready) }
 
   -- .. and was refused behind it
-  pub come_refused : {A B : Type 0} (x : A) (r : Result B RestartError) (e : RestartError) → r ≡ Err e → Moves (Ok x) log_front front log new_log heap new come.0 Done → geometry_of new ≡ geometry_of heap
-      → Moves r log_front front first_log new_log first new s Done
+  pub come_refused : {A B : Type 0} (x : A) (r : Result B RestartError) (e : RestartError) → r ≡ Err e → RestartMoves (Ok x) log_front front log new_log heap new come.0 Done → geometry_of new ≡ geometry_of heap
+      → RestartMoves r log_front front first_log new_log first new s Done
   come_refused {B = B} x r e is m geometry =
       let came = came_moved log_front front first_log first s log new_log heap new come.0 come.1 x Done m geometry in
-      subst (λ (r : Result B RestartError). Moves r log_front front first_log new_log first new s Done) (sym is)
+      subst (λ (r : Result B RestartError). RestartMoves r log_front front first_log new_log first new s Done) (sym is)
       (record { later = m.later; moments = came.moments; path = came.path; done = tt })

@@ -11,9 +11,9 @@ use Rattle.shore_log.specs.Settled.{IsSettled, records_of_log, stable, waiting}
 use Rattle.shore_log.specs.declared.device.LogDev.{LogDev}
 use Rattle.shore_log.proofs.ForceLemmas.{settled_gives}
 use Rattle.shore_frames.proofs.LoggedLemmas.{has_longest}
-use Rattle.shore_lives.specs.Recovery.{ForceLog, RecoveryState, after_force}
+use Rattle.laws_lives.specs.Recovery.{ForceLog, RecoveryState, after_force}
 use Rattle.shore_restart.specs.declared.errors.RestartError.{RestartError}
-use Rattle.shore_stands.specs.Moments.{GivesPrefix, GoesOn, Moment, Path, ShowsLeft}
+use Rattle.laws_images.specs.Moments.{GivesPrefix, RestartGoesOn, Moment, Path, ShowsLeft}
 use Rattle.shore_restart.specs.Standing.{Forces, ForcesFrame, IsAtRest, SameLog, log_history}
 use Rattle.shore_restart.proofs.Paths.{path_and, path_covered, step_log}
 
@@ -76,7 +76,7 @@ module _ {L : Type 0} {G : Ghosts L} where
         )
 
     goes_on : (durable : ℕ) → s.durable ≤ durable → durable ≤ length s.log → FrameLeaves
-        → GoesOn g log_front front (record { log = log_history old; volume = volume; store = s }) (record { log = log_history new; volume = volume; store = after_force s durable })
+        → RestartGoesOn g log_front front (record { log = log_history old; volume = volume; store = s }) (record { log = log_history new; volume = volume; store = after_force s durable })
     goes_on durable more within leaves =
         step_log g log_front front volume (log_history old) (log_history new) s (after_force s durable) (ForceLog durable ∷ []) covered
         (tt, after_force s durable, (more, within, refl), refl) (leaves_prefix leaves)

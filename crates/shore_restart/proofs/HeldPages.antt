@@ -10,6 +10,7 @@ use Rattle.shore_types.specs.declared.faults.Fault.TheVariants as fault
 use Rattle.shore_types.specs.declared.ids.PageId.{PageId}
 use Rattle.shore_types.specs.declared.ids.Rid.{Rid}
 use Rattle.shore_types.specs.declared.layout.Geometry.{Geometry}
+use Rattle.shore_types.specs.declared.log_ends.LogEnds.{LogEnds}
 use Rattle.shore_disk.specs.declared.device.Disk.{Ghosts}
 use Rattle.shore_dwrite.specs.Volumes.{HasNoPage, page_number}
 use Rattle.shore_log.specs.Settled.{records_of_log, stable}
@@ -19,13 +20,13 @@ use Rattle.shore_page.specs.Room.{lowered}
 use Rattle.shore_pool.specs.Changes.{changed, reclaimed}
 use Rattle.shore_pool.specs.declared.frame.Frame.{Frame}
 use Rattle.shore_heap.specs.declared.heap.Heap.{Heap}
-use Rattle.shore_heap.specs.Heaps.{KeepsVolume, WroteBack, frame_at, geometry_of}
-use Rattle.shore_stands.specs.LoggedHeaps.{IsMade, IsReleased}
+use Rattle.shore_heap.specs.Heaps.{KeepsVolume, RefusesPage, WroteBack, frame_at, geometry_of}
+use Rattle.laws_images.specs.LoggedHeaps.{IsMade, IsReleased}
 use Rattle.shore_restart.specs.declared.errors.RestartError.{RestartError}
 use Rattle.shore_restart.specs.declared.errors.RestartError.TheVariants.{Page}
 use Rattle.shore_restart.specs.Errors.{IsPageError}
 use Rattle.shore_restart.specs.Held.{FetchesHeld, IsHeld, IsPageFault, StaysHeld, WorksHeld}
-use Rattle.shore_restart.proofs.PageErrors.{Refuses, page_is}
+use Rattle.shore_restart.proofs.PageErrors.{page_is}
 
 -- the error is of no page
 abbrev pub IsNoPage : RestartError → Type 0
@@ -124,9 +125,9 @@ module _ {V : Type 0} {H : Ghosts V} where
 
   -- ---- a fetch
 
-  pub fetch_leaves : (front : List ℕ) (disk : ℕ → List ℕ) (old new : Heap V H) (last seen : ℕ) → IsHeld front disk old last → seen ≤ last → WroteBack old new seen front disk
+  pub fetch_leaves : (front : List ℕ) (disk : ℕ → List ℕ) (old new : Heap V H) (last durable : ℕ) → IsHeld front disk old last → durable ≤ last → WroteBack old new durable front disk
       → ((k : ℕ) (f : Frame) → frame_at new k ≡ Some f → f.recovery ≢ None → frame_at old k ≡ Some f) → StaysHeld front disk old new last last
-  fetch_leaves front disk old new last seen held low (left, holds, stay) was = record {
+  fetch_leaves front disk old new last durable held low (left, holds, stay) was = record {
     left = left;
     held = record { holds = holds; low = λ k f is dirty. held.low k f (was k f is dirty) dirty };
     bad = λ id there none. elim (stay.may id there) [
@@ -135,34 +136,34 @@ module _ {V : Type 0} {H : Ghosts V} where
     ];
   }
 
-  pub fetch_names : (front : List ℕ) (disk : ℕ → List ℕ) (heap : Heap V H) (page : PageId) (last seen : ℕ) (f h : Fault) (error : RestartError) → HasPage (geometry_of heap) page → IsHeld front disk heap last
-      → Refuses heap disk page last seen f → IsPageError f error → error ≡ Page h → IsPageFault (geometry_of heap) disk last h ⊎ ((n : ℕ) × (h ≡ fault.NeedForce n) × (seen < n) × (n ≤ last))
-  fetch_names front disk heap page last seen f h error there held refuses of is = by_kind refuses
+  pub fetch_names : (front : List ℕ) (disk : ℕ → List ℕ) (heap : Heap V H) (page : PageId) (ends : LogEnds) (f h : Fault) (error : RestartError) → HasPage (geometry_of heap) page → IsHeld front disk heap ends.last
+      → RefusesPage heap disk page ends f → IsPageError f error → error ≡ Page h → IsPageFault (geometry_of heap) disk ends.last h ⊎ ((n : ℕ) × (h ≡ fault.NeedForce n) × (ends.durable < n) × (n ≤ ends.last))
+  fetch_names front disk heap page ends f h error there held refuses of is = by_kind refuses
     where
       same : h ≡ f
       same = sym (page_is f h error of is).0
 
-      by_kind : Refuses heap disk page last seen f → IsPageFault (geometry_of heap) disk last h ⊎ ((n : ℕ) × (h ≡ fault.NeedForce n) × (seen < n) × (n ≤ last))
+      by_kind : RefusesPage heap disk page ends f → IsPageFault (geometry_of heap) disk ends.last h ⊎ ((n : ℕ) × (h ≡ fault.NeedForce n) × (ends.durable < n) × (n ≤ ends.last))
       by_kind (inl device) = inl (inl (same ∙ device))
       by_kind (inr (inl memory)) = absurd ((page_is f h error of is).1 memory)
       by_kind (inr (inr (inl damaged))) = inl (inr (page, there, same ∙ damaged.0, damaged.1))
       by_kind (inr (inr (inr (n, asks, needs)))) = inr (n, same ∙ asks, needs.above, at (frame_at heap needs.one.0) refl needs.one.1)
         where
-          at : (o : Option Frame) → frame_at heap needs.one.0 ≡ o → IsSomeAnd o (λ f. f.page.number ≡ n) → n ≤ last
+          at : (o : Option Frame) → frame_at heap needs.one.0 ≡ o → IsSomeAnd o (λ f. f.page.number ≡ n) → n ≤ ends.last
           at None is none = absurd none
           at (Some it) is number = let low = held.low needs.one.0 it is (needs.all needs.one.0 it is).0 in omega (arith, number, low)
 
-  pub fetch_done : (front : List ℕ) (disk : ℕ → List ℕ) (old new : Heap V H) (last seen : ℕ) (u : Unit {0}) → FetchesHeld (Ok u) front disk old new last seen → StaysHeld front disk old new last last
-  fetch_done front disk old new last seen u f = elim f.stays [
+  pub fetch_done : (front : List ℕ) (disk : ℕ → List ℕ) (old new : Heap V H) (last durable : ℕ) (u : Unit {0}) → FetchesHeld (Ok u) front disk old new last durable → StaysHeld front disk old new last last
+  fetch_done front disk old new last durable u f = elim f.stays [
     | inl device ↦ let clash = device in absurd cc
     | inr stays ↦ stays
   ]
 
   -- .. that needs no force
-  pub fetch_alone : (front : List ℕ) (disk : ℕ → List ℕ) (old new : Heap V H) (last seen : ℕ) (r : Result (Unit {0}) RestartError) → (((n : ℕ) × (r ≡ Err (Page (fault.NeedForce n)))) → ⊥)
-      → FetchesHeld r front disk old new last seen → WorksHeld r front disk old new last last
-  fetch_alone front disk old new last seen (Ok u) unforced f = record { named = tt; stays = fetch_done front disk old new last seen u f }
-  fetch_alone front disk old new last seen (Err e) unforced f = record {
+  pub fetch_alone : (front : List ℕ) (disk : ℕ → List ℕ) (old new : Heap V H) (last durable : ℕ) (r : Result (Unit {0}) RestartError) → (((n : ℕ) × (r ≡ Err (Page (fault.NeedForce n)))) → ⊥)
+      → FetchesHeld r front disk old new last durable → WorksHeld r front disk old new last last
+  fetch_alone front disk old new last durable (Ok u) unforced f = record { named = tt; stays = fetch_done front disk old new last durable u f }
+  fetch_alone front disk old new last durable (Err e) unforced f = record {
     named = λ h is. elim (f.named h is) [
       | inl of ↦ of
       | inr force ↦ absurd (unforced (force.0, ap Err (is ∙ ap Page force.1)))
@@ -170,7 +171,7 @@ module _ {V : Type 0} {H : Ghosts V} where
     stays = tt;
   }
 
-  -- .. since all is seen
+  -- .. since all is durable
   pub fetch_seen : (front : List ℕ) (disk : ℕ → List ℕ) (old new : Heap V H) (last : ℕ) (r : Result (Unit {0}) RestartError) → FetchesHeld r front disk old new last last
       → WorksHeld r front disk old new last last
   fetch_seen front disk old new last (Ok u) f = record { named = tt; stays = fetch_done front disk old new last last u f }
@@ -183,9 +184,9 @@ module _ {V : Type 0} {H : Ghosts V} where
   }
 
   -- .. or that needs one, and leaves the heap
-  pub fetch_forced : (front : List ℕ) (disk : ℕ → List ℕ) (old new : Heap V H) (last seen : ℕ) (r : Result (Unit {0}) RestartError) (n : ℕ) → r ≡ Err (Page (fault.NeedForce n))
-      → FetchesHeld r front disk old new last seen → StaysHeld front disk old new last last
-  fetch_forced front disk old new last seen r n is f = elim f.stays [
+  pub fetch_forced : (front : List ℕ) (disk : ℕ → List ℕ) (old new : Heap V H) (last durable : ℕ) (r : Result (Unit {0}) RestartError) (n : ℕ) → r ≡ Err (Page (fault.NeedForce n))
+      → FetchesHeld r front disk old new last durable → StaysHeld front disk old new last last
+  fetch_forced front disk old new last durable r n is f = elim f.stays [
     | inl device ↦ let clash = sym is ∙ device in absurd cc
     | inr stays ↦ stays
   ]

@@ -8,9 +8,9 @@ use Rattle.shore_model.specs.declared.log_records.LogRecord.{LogRecord}
 use Rattle.shore_model.specs.Logs.{id_in, last_of, unanswered, undo_next_of}
 use Rattle.shore_logrec.specs.Text.{Fits}
 use Rattle.shore_txn.specs.declared.log_room.LogRoom.{LogRoom}
-use Rattle.shore_lives.specs.Undo.{IsLoser, IsUndoneTo, undo_payload, undo_record}
+use Rattle.laws_lives.specs.Undo.{IsLoser, IsUndoneTo, undo_payload, undo_record}
 use Rattle.shore_analysis.specs.Meant.{AreMeant}
-use Rattle.shore_managers.specs.SlotCounts.{FitsBehind}
+use Rattle.laws_runs.specs.SlotCounts.{FitsBehind}
 use Rattle.shore_analysis.specs.Losers.{HasLosers, IsNextToUndo, turns_left}
 use Rattle.shore_restart.specs.declared.turns.Undo.{Undo}
 use Rattle.shore_restart.specs.Room.{IsRoomBehind, LeavesRoom}

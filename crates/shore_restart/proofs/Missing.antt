@@ -11,8 +11,8 @@ use Rattle.shore_types.specs.declared.ids.PageId.{PageId}
 use Rattle.shore_types.specs.declared.ids.Rid.{Rid}
 use Rattle.shore_model.specs.declared.log_records.LogRecord.{LogRecord}
 use Rattle.shore_model.specs.Logs.{image_in}
-use Rattle.shore_lives.specs.Pages.{LoggedPage, LoggedPages, needs_redo, redone_on, redone_on_all, slots_with}
-use Rattle.shore_lives.proofs.Booleans.{and_true}
+use Rattle.laws_lives.specs.Pages.{LoggedPage, LoggedPages, needs_redo, redone_on, redone_on_all, slots_with}
+use Rattle.laws_lives.proofs.Booleans.{and_true}
 use Rattle.shore_restart.specs.Missing.{is_missing, missing_behind}
 
 -- a page below a later number stays below it

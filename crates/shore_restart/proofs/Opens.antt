@@ -7,34 +7,34 @@ use Rattle.shore_disk.specs.declared.device.Disk as disk
 use Rattle.shore_types.specs.declared.ids.PageId.{PageId}
 use Rattle.shore_model.specs.declared.log_records.LogRecord.{LogRecord}
 use Rattle.shore_model.specs.Logs.{Lawful, image_of_record, records_told}
-use Rattle.shore_lives.proofs.Lists.{recursion-at, recursion-push}
+use Rattle.laws_lives.proofs.Lists.{recursion-at, recursion-push}
 use Rattle.shore_locks.specs.Tables.{Table}
 use Rattle.shore_page.specs.Slots.{settled}
-use Rattle.shore_room.specs.Claims.{rid_on}
-use Rattle.shore_room.proofs.Lists.{each_alike}
-use Rattle.shore_room.proofs.Settled.{claims_settled}
-use Rattle.shore_calls.specs.States.{State, page_slots}
-use Rattle.shore_lives.specs.Recovery.{IsRecoverable, RecoveryState}
-use Rattle.shore_lives.specs.Undo.{HasNoLosers, IsUndoneTo, undo_record}
-use Rattle.shore_lives.proofs.Invariant.{redone_whole}
-use Rattle.shore_lives.proofs.UndoRecords.{undone_lawful}
-use Rattle.shore_lives.proofs.WritersTold.{leaves_told}
-use Rattle.shore_managers.specs.StoredRuns.{IsOpenedOver}
+use Rattle.laws_room.specs.Claims.{rid_on}
+use Rattle.laws_room.proofs.Lists.{each_alike}
+use Rattle.laws_room.proofs.Settled.{claims_settled}
+use Rattle.laws_calls.specs.States.{State, page_slots}
+use Rattle.laws_lives.specs.Recovery.{IsRecoverable, RecoveryState}
+use Rattle.laws_lives.specs.Undo.{HasNoLosers, IsUndoneTo, undo_record}
+use Rattle.laws_lives.proofs.Invariant.{redone_whole}
+use Rattle.laws_lives.proofs.UndoRecords.{undone_lawful}
+use Rattle.laws_lives.proofs.WritersTold.{leaves_told}
+use Rattle.laws_runs.specs.StoredRuns.{IsOpenedOver}
 use Rattle.shore_analysis.specs.Tables.{IsNext}
 use Rattle.shore_analysis.proofs.Counted.{last_is_one}
-use Rattle.shore_managers.specs.SlotCounts.{slot_count, slots_left}
+use Rattle.laws_runs.specs.SlotCounts.{slot_count, slots_left}
 use Rattle.shore_txn.specs.ActiveTxns.{session_txns}
 use Rattle.shore_txn.specs.Transactions.{next_in, room_in}
-use Rattle.shore_control.specs.declared.control.Control.{Control}
-use Rattle.shore_control.specs.declared.waits.WaitingCall.{WaitingCall}
-use Rattle.shore_control.specs.Controls.{locks_in, txns_in, waits_in}
-use Rattle.shore_control.specs.Standing.{HasControl, HasTxns, HasWaits, IsLogged}
+use Rattle.shore_sessions.specs.declared.control.Control.{Control}
+use Rattle.shore_sessions.specs.declared.waits.WaitingCall.{WaitingCall}
+use Rattle.shore_sessions.specs.Controls.{locks_in, txns_in, waits_in}
+use Rattle.shore_sessions.specs.Standing.{HasControl, HasTxns, HasWaits, IsLogged}
 use Rattle.shore_heap.specs.declared.heap.Heap.{Heap}
 use Rattle.shore_heap.specs.Contents.{unclaimed}
 use Rattle.shore_heap.specs.Heaps.{Shows}
 use Rattle.shore_heap.proofs.Showing.{shows_same}
-use Rattle.shore_stands.proofs.SettledSlots.{shows_only, slots_done}
-use Rattle.shore_stands.specs.LoggedHeaps.{IsStoreOf}
+use Rattle.laws_images.proofs.SettledSlots.{shows_only, slots_done}
+use Rattle.laws_images.specs.LoggedHeaps.{IsStoreOf}
 use Rattle.shore_log.specs.declared.tail.Tail as tail
 use Rattle.shore_core.specs.declared.core_calls.Core.{Core}
 use Rattle.shore_core.specs.Cores.{IsIn, IsKept, IsOver}

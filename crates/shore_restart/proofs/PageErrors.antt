@@ -6,11 +6,12 @@ use Rattle.shore_types.specs.declared.faults.Device.TheVariants as device
 use Rattle.shore_types.specs.declared.faults.Fault.{Fault}
 use Rattle.shore_types.specs.declared.faults.Fault.TheVariants as fault
 use Rattle.shore_types.specs.declared.ids.PageId.{PageId}
+use Rattle.shore_types.specs.declared.log_ends.LogEnds.{LogEnds}
 use Rattle.shore_disk.specs.declared.device.Disk.{Ghosts}
 use Rattle.shore_dwrite.specs.Volumes.{HasNoPage, page_number, page_offset}
 use Rattle.shore_heap.specs.declared.heap.Heap.{Heap}
-use Rattle.shore_heap.specs.Heaps.{AsksForForce, geometry_of}
-use Rattle.shore_lives.specs.Recovery.{RecoveryState}
+use Rattle.shore_heap.specs.Heaps.{RefusesPage, geometry_of}
+use Rattle.laws_lives.specs.Recovery.{RecoveryState}
 use Rattle.shore_disk.specs.Cause.{HasCause}
 use Rattle.shore_restart.specs.declared.errors.RestartError.{RestartError}
 use Rattle.shore_restart.specs.declared.errors.RestartError.TheVariants.{BadRecord, Log, Memory, NoRoom, Page}
@@ -36,35 +37,30 @@ pub device_error : (f : Fault) (error : RestartError) → IsPageError f error �
 device_error f error (inl memory) is = absurd (no_memory f is memory.0)
 device_error f error (inr other) is = other.1 ∙ ap Page is
 
--- what a fetch is refused for
-abbrev pub Refuses : {V : Type 0} {H : Ghosts V} → Heap V H → (ℕ → List ℕ) → PageId → ℕ → ℕ → Fault → Type 0
-Refuses heap disk page last seen f =
-    (f ≡ fault.Device) ⊎ (f ≡ fault.Memory) ⊎ ((f ≡ fault.Damaged device.Volume (page_offset (page_number (geometry_of heap) page))) × HasNoPage (disk (page_number (geometry_of heap) page)) page last) ⊎ AsksForForce heap seen f
-
 module _ {V : Type 0} {H : Ghosts V} where
   -- under a store no page is damaged
-  pub refused_page : (front : List ℕ) (disk : ℕ → List ℕ) (heap : Heap V H) (s : RecoveryState) (page : PageId) (last seen : ℕ) (f h : Fault) (error : RestartError) → Stands front disk heap s
-      → HasPage (geometry_of heap) page → length s.log ≤ last → Refuses heap disk page last seen f → IsPageError f error → error ≡ Page h
-      → (h ≡ fault.Device) ⊎ ((n : ℕ) × (h ≡ fault.NeedForce n) × (seen < n) × (n ≤ length s.log))
-  refused_page front disk heap s page last seen f h error stands there low (inl dev) of is = inl (sym (page_is f h error of is).0 ∙ dev)
-  refused_page front disk heap s page last seen f h error stands there low (inr (inl memory)) of is = absurd ((page_is f h error of is).1 memory)
-  refused_page front disk heap s page last seen f h error stands there low (inr (inr (inl damaged))) of is =
+  pub refused_page : (front : List ℕ) (disk : ℕ → List ℕ) (heap : Heap V H) (s : RecoveryState) (page : PageId) (ends : LogEnds) (f h : Fault) (error : RestartError) → Stands front disk heap s
+      → HasPage (geometry_of heap) page → length s.log ≤ ends.last → RefusesPage heap disk page ends f → IsPageError f error → error ≡ Page h
+      → (h ≡ fault.Device) ⊎ ((n : ℕ) × (h ≡ fault.NeedForce n) × (ends.durable < n) × (n ≤ length s.log))
+  refused_page front disk heap s page ends f h error stands there low (inl dev) of is = inl (sym (page_is f h error of is).0 ∙ dev)
+  refused_page front disk heap s page ends f h error stands there low (inr (inl memory)) of is = absurd ((page_is f h error of is).1 memory)
+  refused_page front disk heap s page ends f h error stands there low (inr (inr (inl damaged))) of is =
       let text = stands.store.volume.each page there in
       let high = damaged.1 (s.volume page).number text.images text.text in
       let most = stands.recoverable.ahead page in
-      let durable = stands.recoverable.durable in
+      let logged = stands.recoverable.durable in
       absurd (omega arith)
-  refused_page front disk heap s page last seen f h error stands there low (inr (inr (inr asks))) of is =
-      inr (asks.0, sym (page_is f h error of is).0 ∙ asks.1, asks.2.above, force_within front disk heap s seen asks.0 stands asks.2)
+  refused_page front disk heap s page ends f h error stands there low (inr (inr (inr asks))) of is =
+      inr (asks.0, sym (page_is f h error of is).0 ∙ asks.1, asks.2.above, force_within front disk heap s ends.durable asks.0 stands asks.2)
 
-  pub earned_page : (disk : ℕ → List ℕ) (heap : Heap V H) (page : PageId) (last seen : ℕ) (f : Fault) (error : RestartError) → HasPage (geometry_of heap) page
-      → Refuses heap disk page last seen f → IsPageError f error → IsEarned (geometry_of heap) disk last error
-  earned_page disk heap page last seen f error there refuses of offset is = by_kind refuses
+  pub earned_page : (disk : ℕ → List ℕ) (heap : Heap V H) (page : PageId) (ends : LogEnds) (f : Fault) (error : RestartError) → HasPage (geometry_of heap) page
+      → RefusesPage heap disk page ends f → IsPageError f error → IsEarned (geometry_of heap) disk ends.last error
+  earned_page disk heap page ends f error there refuses of offset is = by_kind refuses
     where
       same : f ≡ fault.Damaged device.Volume offset
       same = (page_is f (fault.Damaged device.Volume offset) error of is).0
 
-      by_kind : Refuses heap disk page last seen f → (id : PageId) × HasPage (geometry_of heap) id × (offset ≡ page_offset (page_number (geometry_of heap) id)) × HasNoPage (disk (page_number (geometry_of heap) id)) id last
+      by_kind : RefusesPage heap disk page ends f → (id : PageId) × HasPage (geometry_of heap) id × (offset ≡ page_offset (page_number (geometry_of heap) id)) × HasNoPage (disk (page_number (geometry_of heap) id)) id ends.last
       by_kind (inl dev) = let clash = sym same ∙ dev in absurd cc
       by_kind (inr (inl memory)) = let clash = sym same ∙ memory in absurd cc
       by_kind (inr (inr (inl damaged))) = let one = sym same ∙ damaged.0 in (page, there, cc, damaged.1)

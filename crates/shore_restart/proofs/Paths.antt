@@ -3,12 +3,12 @@ use Rattle.std.proofs.Common.{◌≡◌, ◌≤◌, ℕ, List, [], ◌∷◌, �
 use Rattle.shore_types.specs.declared.layout.Geometry.{Geometry}
 use Rattle.shore_disk.specs.Device.{History, LeavesOnly, may_leave}
 use Rattle.shore_disk.proofs.Moments.{started}
-use Rattle.shore_lives.specs.Recovery.{RecoveryEvent, RecoveryState, IsRecoverable, LeadsTo}
-use Rattle.shore_lives.specs.Restarts.{IsRestartStep, RestartsTo}
-use Rattle.shore_lives.proofs.Invariant.{event_kept}
+use Rattle.laws_lives.specs.Recovery.{RecoveryEvent, RecoveryState, IsRecoverable, LeadsTo}
+use Rattle.laws_lives.specs.Restarts.{IsRestartStep, RestartsTo}
+use Rattle.laws_lives.proofs.Invariant.{event_kept}
 use Rattle.shore_model.specs.declared.log_records.LogRecord.{LogRecord}
 use Rattle.shore_frames.specs.Frames.{GivesBehind}
-use Rattle.shore_stands.specs.Moments.{GivesPrefix, GoesOn, IsCovered, Moment, Path, ShowsLeft}
+use Rattle.laws_images.specs.Moments.{GivesPrefix, RestartGoesOn, IsCovered, Moment, Path, ShowsLeft}
 
 -- ---- work
 
@@ -38,20 +38,20 @@ module _ (g : Geometry) (log_front front : List ℕ) where
   path_on first [] mid more last one two = subst (λ (m : Moment). Path g log_front front m more last) one.0 two
   path_on first (next ∷ moments) mid more last one two = (one.0, path_on next moments mid more last one.1 two)
 
-  pub path_and : (first : Moment) (moments : List Moment) (mid last : Moment) → Path g log_front front first moments mid → GoesOn g log_front front mid last
+  pub path_and : (first : Moment) (moments : List Moment) (mid last : Moment) → Path g log_front front first moments mid → RestartGoesOn g log_front front mid last
       → IsCovered g log_front front last → Path g log_front front first (moments ++ last ∷ []) last
   path_and first moments mid last one step covered = path_on first moments mid (last ∷ []) last one (step, (refl, covered))
 
   -- work on the volume
   pub step_volume : (log old new : History) (s later : RecoveryState) (works : List RecoveryEvent) → ((c : List ℕ) → may_leave log c → GivesPrefix log_front s c)
       → RestartsTo s works later → LeavesOnly old new (ShowsLeft g front s)
-      → GoesOn g log_front front (record { log = log; volume = old; store = s }) (record { log = log; volume = new; store = later })
+      → RestartGoesOn g log_front front (record { log = log; volume = old; store = s }) (record { log = log; volume = new; store = later })
   step_volume log old new s later works covered work leaves = record { works = works; work = work; log = started log (GivesPrefix log_front s) covered; volume = leaves; one = inl refl }
 
   -- .. and on the log device
   pub step_log : (volume old new : History) (s later : RecoveryState) (works : List RecoveryEvent) → ((c : List ℕ) → may_leave volume c → ShowsLeft g front s c)
       → RestartsTo s works later → LeavesOnly old new (GivesPrefix log_front s)
-      → GoesOn g log_front front (record { log = old; volume = volume; store = s }) (record { log = new; volume = volume; store = later })
+      → RestartGoesOn g log_front front (record { log = old; volume = volume; store = s }) (record { log = new; volume = volume; store = later })
   step_log volume old new s later works covered work leaves = record { works = works; work = work; log = leaves; volume = started volume (ShowsLeft g front s) covered; one = inr refl }
 
 -- a prefix of the log is one of the same log with as much durable

@@ -2,7 +2,7 @@
 use Rattle.std.proofs.Common.{◌≡◌, ◌≤◌, ◌<◌, ◌+◌, ℕ, List, Option, Some, None, refl, sym, ap, subst, ◌∙◌, length, option_map, arith}
 use Rattle.std.specs.Prelude.{IsSomeAnd, IsTrue, is_some, slice_get}
 use Rattle.std.proofs.lemmas.List.{length-map}
-use Rattle.shore_types.specs.Images.{Image}
+use Rattle.shore_types.specs.Images.{Image, image_len}
 use Rattle.shore_types.specs.Layout.{HasPage}
 use Rattle.shore_types.specs.declared.ids.PageId.{PageId}
 use Rattle.shore_types.specs.declared.ids.Rid.{Rid}
@@ -14,20 +14,20 @@ use Rattle.shore_dwrite.specs.Volumes.{page_number}
 use Rattle.shore_model.specs.declared.log_records.LogRecord.{LogRecord}
 use Rattle.shore_model.specs.Logs.{image_in}
 use Rattle.shore_page.specs.Room.{Fits}
-use Rattle.shore_page.specs.Slots.{Slot, image_len, with_image}
+use Rattle.shore_page.specs.Slots.{Slot, with_image}
 use Rattle.shore_pool.specs.declared.frame.Frame.{Frame}
 use Rattle.shore_pool.specs.Changes.{changed}
 use Rattle.shore_pool.specs.Pages.{SamePages}
 use Rattle.shore_heap.specs.declared.heap.Heap.{Heap}
 use Rattle.shore_heap.specs.Contents.{unclaimed}
 use Rattle.shore_heap.specs.Heaps.{Shows, device_of, frame_at, frame_of, geometry_of}
-use Rattle.shore_lives.specs.Recovery.{AppendRecord, LeadsTo, RecoveryEvent, RecoveryState, RedoRecord, after_append, after_redo}
-use Rattle.shore_lives.proofs.Invariant.{event_kept}
-use Rattle.shore_stands.specs.LoggedHeaps.{IsMade, IsReleased, IsStoreOf}
-use Rattle.shore_stands.proofs.Made.{appended_is, redone_is}
-use Rattle.shore_stands.proofs.SlotImages.{count-with_image}
-use Rattle.shore_stands.proofs.StaySettled.{settled_after}
-use Rattle.shore_stands.proofs.Stores.{store_unwritten}
+use Rattle.laws_lives.specs.Recovery.{AppendRecord, LeadsTo, RecoveryEvent, RecoveryState, RedoRecord, after_append, after_redo}
+use Rattle.laws_lives.proofs.Invariant.{event_kept}
+use Rattle.laws_images.specs.LoggedHeaps.{IsMade, IsReleased, IsStoreOf}
+use Rattle.laws_images.proofs.Made.{appended_is, redone_is}
+use Rattle.laws_images.proofs.SlotImages.{count-with_image}
+use Rattle.laws_images.proofs.StaySettled.{settled_after}
+use Rattle.laws_images.proofs.Stores.{store_unwritten}
 use Rattle.shore_restart.specs.Standing.{Stands}
 
 pub some_held : {A : Type 0} (o : Option A) (P : A → Type 0) → IsSomeAnd o P → IsTrue (is_some o)

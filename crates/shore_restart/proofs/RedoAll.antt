@@ -8,10 +8,10 @@ use Rattle.shore_model.specs.declared.log_records.LogRecord.{LogRecord}
 use Rattle.shore_heap.specs.declared.heap.Heap.{Heap}
 use Rattle.shore_heap.specs.Heaps.{geometry_of, history_of}
 use Rattle.shore_model.specs.Logs.{image_in}
-use Rattle.shore_lives.specs.Pages.{redone_on_all}
-use Rattle.shore_lives.specs.Recovery.{RecoveryState}
+use Rattle.laws_lives.specs.Pages.{redone_on_all}
+use Rattle.laws_lives.specs.Recovery.{RecoveryState}
 use Rattle.shore_restart.specs.declared.errors.RestartError.{RestartError}
-use Rattle.shore_stands.specs.Moments.{GivesPrefix, Moment, Path, ShowsLeft}
+use Rattle.laws_images.specs.Moments.{GivesPrefix, Moment, Path, ShowsLeft}
 use Rattle.shore_restart.specs.Missing.{is_missing, missing_behind, missing_on}
 use Rattle.shore_restart.specs.Standing.{Redoes, RedoesAll, SameVolume, Stands, Worked, moment_of}
 use Rattle.shore_restart.proofs.Missing.{count_next}

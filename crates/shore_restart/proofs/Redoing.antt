@@ -1,7 +1,7 @@
 -- Redo of one record: a page that is fetched, and the record done on it if it is missing there.
 use Rattle.std.proofs.Common.{◌≡◌, ◌≤◌, ◌<◌, ◌+◌, ◌-◌, ◌⊎◌, ℕ, List, [], ◌∷◌, ◌++◌, Bool, Option, Some, None, Result, Ok, Err, inl, inr, refl, sym, ap, subst, ◌∙◌, take, arith}
 use Rattle.std.specs.Prelude.{IsSomeAnd, slice_get}
-use Rattle.shore_types.specs.Images.{Image}
+use Rattle.shore_types.specs.Images.{Image, image_len}
 use Rattle.shore_types.specs.Layout.{HasPage, HasSlot}
 use Rattle.shore_types.specs.declared.layout.Geometry.{Geometry}
 use Rattle.shore_analysis.specs.Meant.{AreMeant, Means}
@@ -14,19 +14,19 @@ use Rattle.shore_model.specs.declared.log_records.Payload.{Payload}
 use Rattle.shore_model.specs.declared.log_records.Payload.TheVariants as payload
 use Rattle.shore_model.specs.Logs.{id_in, image_in}
 use Rattle.shore_page.specs.Room.{Fits}
-use Rattle.shore_page.specs.Slots.{Slot, image_len}
+use Rattle.shore_page.specs.Slots.{Slot}
 use Rattle.shore_pool.specs.declared.frame.Frame.{Frame}
 use Rattle.shore_heap.specs.declared.heap.Heap.{Heap}
 use Rattle.shore_heap.specs.Heaps.{frame_of, geometry_of, history_of}
-use Rattle.shore_lives.specs.Pages.{redone_on_all}
-use Rattle.shore_lives.specs.Recovery.{LeadsTo, RecoveryState, RedoRecord, after_redo}
-use Rattle.shore_lives.proofs.Invariant.{event_kept}
-use Rattle.shore_managers.specs.SlotCounts.{FitsBehind, slots_left}
-use Rattle.shore_stands.proofs.Made.{passed_is, without_is}
-use Rattle.shore_stands.proofs.SettledSlots.{frame_number, framed_due}
+use Rattle.laws_lives.specs.Pages.{redone_on_all}
+use Rattle.laws_lives.specs.Recovery.{LeadsTo, RecoveryState, RedoRecord, after_redo}
+use Rattle.laws_lives.proofs.Invariant.{event_kept}
+use Rattle.laws_runs.specs.SlotCounts.{FitsBehind, slots_left}
+use Rattle.laws_images.proofs.Made.{passed_is, without_is}
+use Rattle.laws_images.proofs.SettledSlots.{frame_number, framed_due}
 use Rattle.shore_restart.specs.declared.errors.RestartError.{RestartError}
 use Rattle.shore_restart.specs.Errors.{DoesNotFit}
-use Rattle.shore_stands.specs.Moments.{ShowsLeft}
+use Rattle.laws_images.specs.Moments.{ShowsLeft}
 use Rattle.shore_restart.specs.Standing.{Fetches, Redoes, Stands}
 use Rattle.shore_disk.proofs.Moments.{started}
 use Rattle.shore_restart.proofs.Paths.{work_and}
@@ -35,18 +35,29 @@ use Rattle.shore_restart.proofs.Standing.{left_by, stands_left}
 some_same : {A : Type 0} {o : Option A} {x y : A} → o ≡ Some x → o ≡ Some y → x ≡ y
 some_same one two = cc
 
--- a record that is neither a Change nor a Compensation has no image
-pub no_image : (p : Payload) → ((id : Rid) (before after : Image) → p ≡ payload.Change id before after → ⊥) → ((id : Rid) (after : Image) (undo_next : ℕ) → p ≡ payload.Compensation id after undo_next → ⊥)
-    → image_in p ≡ None
-no_image (payload.Change id before after) change compensation = absurd (change id before after refl)
-no_image (payload.Compensation id after undo_next) change compensation = absurd (compensation id after undo_next refl)
-no_image payload.Commit change compensation = refl
-no_image payload.End change compensation = refl
-no_image (payload.Prepare global granules) change compensation = refl
-no_image payload.RollbackDecided change compensation = refl
-no_image payload.CheckpointBegin change compensation = refl
-no_image (payload.CheckpointEnd begin next txns dirty) change compensation = refl
-no_image (payload.Anchor checkpoint tail) change compensation = refl
+-- a record that is neither a Change nor a Compensation
+abbrev pub IsOfNoImage : Payload → Type 0
+IsOfNoImage (payload.Change id before after) = ⊥
+IsOfNoImage (payload.Compensation id after undo_next) = ⊥
+IsOfNoImage payload.Commit = Unit {0}
+IsOfNoImage payload.End = Unit {0}
+IsOfNoImage (payload.Prepare global granules) = Unit {0}
+IsOfNoImage payload.RollbackDecided = Unit {0}
+IsOfNoImage payload.CheckpointBegin = Unit {0}
+IsOfNoImage (payload.CheckpointEnd begin next txns dirty) = Unit {0}
+IsOfNoImage (payload.Anchor checkpoint tail) = Unit {0}
+
+-- .. has no image
+pub no_image : (p : Payload) → IsOfNoImage p → image_in p ≡ None
+no_image (payload.Change id before after) none = absurd none
+no_image (payload.Compensation id after undo_next) none = absurd none
+no_image payload.Commit none = refl
+no_image payload.End none = refl
+no_image (payload.Prepare global granules) none = refl
+no_image payload.RollbackDecided none = refl
+no_image payload.CheckpointBegin none = refl
+no_image (payload.CheckpointEnd begin next txns dirty) none = refl
+no_image (payload.Anchor checkpoint tail) none = refl
 
 -- .. and one that is either has the image behind it
 pub has_image : (p : Payload) (id : Rid) (after : Image) → ((before : Image) × (p ≡ payload.Change id before after)) ⊎ ((undo_next : ℕ) × (p ≡ payload.Compensation id after undo_next)) → image_in p ≡ Some (id, after)

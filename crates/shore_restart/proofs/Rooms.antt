@@ -10,11 +10,11 @@ use Rattle.shore_frames.proofs.FrameLemmas.{length-behind_gate}
 use Rattle.shore_log.specs.Settled.{HasNoFrameRoom, IsSettled, records_of_log, waiting}
 use Rattle.shore_log.specs.declared.device.LogDev.{LogDev}
 use Rattle.shore_disk.specs.declared.device.Disk.{Ghosts}
-use Rattle.shore_calls.specs.States.{cost_of_log}
+use Rattle.laws_calls.specs.States.{cost_of_log}
 use Rattle.shore_restart.specs.Room.{LeavesRoom}
 use Rattle.shore_restart.specs.Standing.{stream_bytes_of}
 
-cost_append : (rs more : List LogRecord) → cost_of_log (rs ++ more) ≡ cost_of_log rs + cost_of_log more
+pub cost_append : (rs more : List LogRecord) → cost_of_log (rs ++ more) ≡ cost_of_log rs + cost_of_log more
 cost_append rs more = sum_by-append (λ r. cost_of r.payload) rs more
 
 -- a record costs its text and a frame's share

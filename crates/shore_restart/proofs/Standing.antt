@@ -13,14 +13,14 @@ use Rattle.shore_pool.specs.Pools.{NeedsForce}
 use Rattle.shore_heap.specs.declared.heap.Heap.{Heap}
 use Rattle.shore_heap.specs.Contents.{AreKept, unclaimed}
 use Rattle.shore_heap.specs.Heaps.{KeepsSlots, LeavesPages, frame_at, frame_of, geometry_of, history_of, pool_of}
-use Rattle.shore_lives.specs.Recovery.{IsRecoverable, RecoveryState}
-use Rattle.shore_lives.proofs.Redo.{own_number}
-use Rattle.shore_stands.proofs.Flushes.{left_amid, work_of}
-use Rattle.shore_stands.proofs.LoggedLeft.{left_settled}
-use Rattle.shore_stands.proofs.SettledSlots.{frame_number, settled_kept, shows_only}
-use Rattle.shore_stands.proofs.StaySettled.{settled_shown}
+use Rattle.laws_lives.specs.Recovery.{IsRecoverable, RecoveryState}
+use Rattle.laws_lives.proofs.Redo.{own_number}
+use Rattle.laws_images.proofs.Flushes.{left_amid, work_of}
+use Rattle.laws_images.proofs.LoggedLeft.{left_settled}
+use Rattle.laws_images.proofs.SettledSlots.{frame_number, settled_kept, shows_only}
+use Rattle.laws_images.proofs.StaySettled.{settled_shown}
 use Rattle.shore_restart.specs.declared.errors.RestartError.{RestartError}
-use Rattle.shore_stands.specs.Moments.{ShowsLeft}
+use Rattle.laws_images.specs.Moments.{ShowsLeft}
 use Rattle.shore_restart.specs.Standing.{Fetches, SameInPlace, Stands, Worked}
 use Rattle.shore_restart.proofs.Paths.{work_kept}
 
@@ -41,9 +41,9 @@ module _ {V : Type 0} {H : Ghosts V} where
   stands_left front disk heap s stands c left = (s.volume, λ p. inl refl, left_settled heap front disk s c stands.store stands.shows.holds left)
 
   -- so a force of all leaves none that needs one
-  pub force_within : (front : List ℕ) (disk : ℕ → List ℕ) (heap : Heap V H) (s : RecoveryState) (seen n : ℕ) → Stands front disk heap s → NeedsForce (pool_of heap) seen n
+  pub force_within : (front : List ℕ) (disk : ℕ → List ℕ) (heap : Heap V H) (s : RecoveryState) (durable n : ℕ) → Stands front disk heap s → NeedsForce (pool_of heap) durable n
       → n ≤ length s.log
-  force_within front disk heap s seen n stands needs = at (frame_at heap needs.one.0) refl needs.one.1
+  force_within front disk heap s durable n stands needs = at (frame_at heap needs.one.0) refl needs.one.1
     where
       at : (o : Option Frame) → frame_at heap needs.one.0 ≡ o → IsSomeAnd o (λ f. f.page.number ≡ n) → n ≤ length s.log
       at None is none = absurd none
@@ -58,18 +58,18 @@ module _ {V : Type 0} {H : Ghosts V} where
       → (c : List ℕ) → may_leave (history_of new) c → ShowsLeft (geometry_of old) front s c
   left_by front disk old new s same stands c left = subst (λ (g : Geometry). ShowsLeft g front s c) same (stands_left front disk new s stands c left)
 
-  leaves_pages : (front : List ℕ) (disk : ℕ → List ℕ) (old new : Heap V H) (s : RecoveryState) (seen : ℕ) → Stands front disk old s → seen ≤ s.durable
-      → LeavesOnly (history_of old) (history_of new) (LeavesPages old seen front disk) → LeavesOnly (history_of old) (history_of new) (ShowsLeft (geometry_of old) front s)
-  leaves_pages front disk old new s seen stands low leaves =
-      widened (history_of old) (history_of new) (LeavesPages old seen front disk) (ShowsLeft (geometry_of old) front s) leaves (λ c shown. left_amid old seen front disk s c stands.store shown low)
+  leaves_pages : (front : List ℕ) (disk : ℕ → List ℕ) (old new : Heap V H) (s : RecoveryState) (durable : ℕ) → Stands front disk old s → durable ≤ s.durable
+      → LeavesOnly (history_of old) (history_of new) (LeavesPages old durable front disk) → LeavesOnly (history_of old) (history_of new) (ShowsLeft (geometry_of old) front s)
+  leaves_pages front disk old new s durable stands low leaves =
+      widened (history_of old) (history_of new) (LeavesPages old durable front disk) (ShowsLeft (geometry_of old) front s) leaves (λ c shown. left_amid old durable front disk s c stands.store shown low)
 
   -- Pages were written back at most, which is work of the store.
-  pub stays : (front : List ℕ) (disk : ℕ → List ℕ) (old new : Heap V H) (s : RecoveryState) (seen : ℕ) → (stands : Stands front disk old s) → seen ≤ s.durable
-      → geometry_of new ≡ geometry_of old → KeepsSlots unclaimed old new seen front disk stands.slots
-      → LeavesOnly (history_of old) (history_of new) (LeavesPages old seen front disk)
+  pub stays : (front : List ℕ) (disk : ℕ → List ℕ) (old new : Heap V H) (s : RecoveryState) (durable : ℕ) → (stands : Stands front disk old s) → durable ≤ s.durable
+      → geometry_of new ≡ geometry_of old → KeepsSlots unclaimed old new durable front disk stands.slots
+      → LeavesOnly (history_of old) (history_of new) (LeavesPages old durable front disk)
       → (later : RecoveryState) × Worked front old new s later × SameInPlace s later × ((left : ℕ → List ℕ) × Stands front left new later)
-  stays front disk old new s seen stands low same kept leaves =
-      let work = work_of old new seen disk kept.0 s stands.store kept.2 low same in
+  stays front disk old new s durable stands low same kept leaves =
+      let work = work_of old new durable disk kept.0 s stands.store kept.2 low same in
       let now : Stands front kept.0 new work.1 = record {
         store = work.4;
         settled = settled_shown new front kept.0 stands.slots kept.1 (subst (λ (g : Geometry). AreKept g unclaimed stands.slots) (sym same) (stands_kept front disk old s stands));
@@ -78,21 +78,21 @@ module _ {V : Type 0} {H : Ghosts V} where
         shows = kept.1;
       } in (
         work.1,
-        record { works = work.0; work = work.3; volume = leaves_pages front disk old new s seen stands low leaves; left = left_by front kept.0 old new work.1 same now },
+        record { works = work.0; work = work.3; volume = leaves_pages front disk old new s durable stands low leaves; left = left_by front kept.0 old new work.1 same now },
         record { log = work.5; durable = work.6; redone = work.7; in_place = work.8 },
         (kept.0, now),
       )
 
   -- nothing is known of what the call left, but what a crash leaves
-  pub stops : (front : List ℕ) (disk : ℕ → List ℕ) (old new : Heap V H) (s : RecoveryState) (seen : ℕ) → Stands front disk old s → seen ≤ s.durable
-      → LeavesOnly (history_of old) (history_of new) (LeavesPages old seen front disk) → Worked front old new s s
-  stops front disk old new s seen stands low leaves =
-      let volume = leaves_pages front disk old new s seen stands low leaves in
+  pub stops : (front : List ℕ) (disk : ℕ → List ℕ) (old new : Heap V H) (s : RecoveryState) (durable : ℕ) → Stands front disk old s → durable ≤ s.durable
+      → LeavesOnly (history_of old) (history_of new) (LeavesPages old durable front disk) → Worked front old new s s
+  stops front disk old new s durable stands low leaves =
+      let volume = leaves_pages front disk old new s durable stands low leaves in
       record { works = []; work = refl; volume = volume; left = at_end (history_of old) (history_of new) (ShowsLeft (geometry_of old) front s) volume }
 
-  pub fetched : (front : List ℕ) (disk : ℕ → List ℕ) (old new : Heap V H) (s : RecoveryState) (seen : ℕ) (result : Result (Unit {0}) RestartError) → (stands : Stands front disk old s)
-      → seen ≤ s.durable → geometry_of new ≡ geometry_of old → KeepsSlots unclaimed old new seen front disk stands.slots
-      → LeavesOnly (history_of old) (history_of new) (LeavesPages old seen front disk) → Fetches result front old new s
-  fetched front disk old new s seen result stands low same kept leaves =
-      let t = stays front disk old new s seen stands low same kept leaves in
+  pub fetched : (front : List ℕ) (disk : ℕ → List ℕ) (old new : Heap V H) (s : RecoveryState) (durable : ℕ) (result : Result (Unit {0}) RestartError) → (stands : Stands front disk old s)
+      → durable ≤ s.durable → geometry_of new ≡ geometry_of old → KeepsSlots unclaimed old new durable front disk stands.slots
+      → LeavesOnly (history_of old) (history_of new) (LeavesPages old durable front disk) → Fetches result front old new s
+  fetched front disk old new s durable result stands low same kept leaves =
+      let t = stays front disk old new s durable stands low same kept leaves in
       record { later = t.0; work = t.1; same = t.2; stands = inr t.3 }

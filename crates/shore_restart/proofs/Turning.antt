@@ -2,7 +2,6 @@
 use Rattle.std.proofs.Common.{◌≡◌, ◌≤◌, ℕ, List, [], ◌∷◌, ◌++◌, Option, Some, None, true, Result, Ok, Err, refl, sym, ap, subst, ◌∙◌, length, arith}
 use Rattle.std.specs.Prelude.{IsSomeAnd, is_some, IsTrue}
 use Rattle.std.proofs.lemmas.List.{length-append, take-append-le}
-use Rattle.shore_types.specs.Images.{Image}
 use Rattle.shore_types.specs.Layout.{HasPage}
 use Rattle.shore_types.specs.declared.ids.Rid.{Rid}
 use Rattle.shore_disk.specs.Device.{History}
@@ -10,9 +9,9 @@ use Rattle.shore_disk.specs.declared.device.Disk.{Ghosts}
 use Rattle.shore_disk.proofs.Moments.{started}
 use Rattle.shore_model.specs.declared.log_records.LogRecord.{LogRecord}
 use Rattle.shore_model.specs.declared.log_records.Payload.{Payload}
-use Rattle.shore_model.specs.declared.log_records.Payload.TheVariants.{Compensation}
+use Rattle.shore_model.specs.declared.log_records.Payload.TheVariants as payload
 use Rattle.shore_model.specs.declared.unanswered_changes.UnansweredChange.{UnansweredChange}
-use Rattle.shore_model.specs.Logs.{image_in, undo_next_of}
+use Rattle.shore_model.specs.Logs.{image_in}
 use Rattle.shore_frames.specs.Frames.{GivesBehind}
 use Rattle.shore_log.specs.Settled.{KeepsFrames, records_of_log}
 use Rattle.shore_log.specs.declared.device.LogDev.{LogDev}
@@ -21,15 +20,15 @@ use Rattle.shore_page.specs.Slots.{Slot}
 use Rattle.shore_pool.specs.declared.frame.Frame.{Frame}
 use Rattle.shore_heap.specs.declared.heap.Heap.{Heap}
 use Rattle.shore_heap.specs.Heaps.{frame_of, geometry_of, history_of}
-use Rattle.shore_lives.specs.Recovery.{AppendRecord, LeadsTo, RecoveryState, after_append}
-use Rattle.shore_lives.specs.Undo.{IsLoser, undo_payload, undo_record}
-use Rattle.shore_lives.proofs.Invariant.{event_kept}
-use Rattle.shore_managers.specs.SlotCounts.{slots_left}
-use Rattle.shore_stands.proofs.Made.{appended_without}
-use Rattle.shore_stands.proofs.SettledSlots.{framed_whole}
+use Rattle.laws_lives.specs.Recovery.{AppendRecord, LeadsTo, RecoveryState, after_append}
+use Rattle.laws_lives.specs.Undo.{IsLoser, undo_payload, undo_record}
+use Rattle.laws_lives.proofs.Invariant.{event_kept}
+use Rattle.laws_runs.specs.SlotCounts.{slots_left}
+use Rattle.laws_images.proofs.Made.{appended_without}
+use Rattle.laws_images.proofs.SettledSlots.{framed_whole}
 use Rattle.shore_restart.specs.declared.errors.RestartError.{RestartError}
-use Rattle.shore_stands.specs.Moments.{GivesPrefix, Path, ShowsLeft}
-use Rattle.shore_restart.specs.Standing.{Appends, IsAtRest, IsReady, Moves, Stands, log_history, moment_of}
+use Rattle.laws_images.specs.Moments.{GivesPrefix, Path, ShowsLeft}
+use Rattle.shore_restart.specs.Standing.{Appends, IsAtRest, IsReady, RestartMoves, Stands, log_history, moment_of}
 use Rattle.shore_restart.proofs.Coming.{CameFrom, came_here, moves_of}
 use Rattle.shore_restart.proofs.Paths.{path_and, path_covered, step_volume}
 use Rattle.shore_restart.proofs.Standing.{left_by}
@@ -41,10 +40,22 @@ prefix_longer log_front s r c gives =
     let long = length-append s.log (r ∷ []) in
     (gives.0, gives.1, omega (arith, within, long), subst (λ (rs : List LogRecord). GivesBehind log_front rs c) (sym (take-append-le gives.0 s.log (r ∷ []) within)) gives.3)
 
--- a record of undo that puts nothing back has no image
-pub undo_without : (cs : List UnansweredChange) (p : Payload) → p ≡ undo_payload cs → ((id : Rid) (after : Image) (undo_next : ℕ) → p ≡ Compensation id after undo_next → ⊥) → image_in (undo_payload cs) ≡ None
+-- a record that puts nothing back
+abbrev pub IsNoCompensation : Payload → Type 0
+IsNoCompensation (payload.Change id before after) = Unit {0}
+IsNoCompensation (payload.Compensation id after undo_next) = ⊥
+IsNoCompensation payload.Commit = Unit {0}
+IsNoCompensation payload.End = Unit {0}
+IsNoCompensation (payload.Prepare global granules) = Unit {0}
+IsNoCompensation payload.RollbackDecided = Unit {0}
+IsNoCompensation payload.CheckpointBegin = Unit {0}
+IsNoCompensation (payload.CheckpointEnd begin next txns dirty) = Unit {0}
+IsNoCompensation (payload.Anchor checkpoint tail) = Unit {0}
+
+-- .. has no image, if it is a record of undo
+pub undo_without : (cs : List UnansweredChange) (p : Payload) → p ≡ undo_payload cs → IsNoCompensation p → image_in (undo_payload cs) ≡ None
 undo_without [] p is other = refl
-undo_without (c ∷ cs) p is other = absurd (other c.id c.before (undo_next_of cs) is)
+undo_without (c ∷ cs) p is other = absurd (subst IsNoCompensation is other)
 
 module _ {L : Type 0} {G : Ghosts L} where
   -- the log device has one record more, which waits
@@ -78,7 +89,7 @@ module _ {V : Type 0} {H : Ghosts V} where
 module _ {L V : Type 0} {G : Ghosts L} {H : Ghosts V} (log_front front : List ℕ) (first_log : LogDev L G) (first : Heap V H) (s : RecoveryState) where
   -- stopped before the record was done
   pub append_stops : {A B : Type 0} (result : Result A RestartError) (error : RestartError) (log new : LogDev L G) (heap : Heap V H) (r : LogRecord) (Done : RecoveryState → Type 0) → log_history new ≡ log_history log
-      → Moves result log_front front first_log log first heap s Done → Appends {A = B} (Err error) log_front front first_log new first heap s r
+      → RestartMoves result log_front front first_log log first heap s Done → Appends {A = B} (Err error) log_front front first_log new first heap s r
   append_stops result error log new heap r Done same m = record {
     later = m.later;
     moments = m.moments;
@@ -111,12 +122,12 @@ module _ {L V : Type 0} {G : Ghosts L} {H : Ghosts V} (log_front front : List �
 
   -- stopped as its record was
   pub turn_stops : {A B : Type 0} (e other : RestartError) (new : LogDev L G) (heap : Heap V H) (r : LogRecord) (Done : RecoveryState → Type 0)
-      → Appends {A = A} (Err e) log_front front first_log new first heap s r → Moves {A = B} (Err other) log_front front first_log new first heap s Done
+      → Appends {A = A} (Err e) log_front front first_log new first heap s r → RestartMoves {A = B} (Err other) log_front front first_log new first heap s Done
   turn_stops e other new heap r Done a = record { later = a.later; moments = a.moments; path = a.path; done = tt }
 
   -- neither device was called
   pub moves_none : {A : Type 0} (result : Result A RestartError) (disk : ℕ → List ℕ) (Done : RecoveryState → Type 0) → IsReady log_front front disk first_log first s → Done s
-      → Moves result log_front front first_log first_log first first s Done
+      → RestartMoves result log_front front first_log first_log first first s Done
   moves_none (Ok x) disk Done ready is = moves_of log_front front first_log first s x first_log first s Done (came_here log_front front disk first_log first s ready) is
   moves_none (Err e) disk Done ready is =
       let came = came_here log_front front disk first_log first s ready in
@@ -137,7 +148,7 @@ module _ {L V : Type 0} {G : Ghosts L} {H : Ghosts V} (log_front front : List �
         (started (history_of heap) (ShowsLeft (geometry_of first) front a.later) covered.volume))
         (record { log = λ c left. prefix_longer log_front a.later r c (covered.log c left); volume = left_by front a.done.4 first heap (after_append a.later r) geometry a.done.5 })
 
-    pub turned : Moves (Ok true) log_front front first_log new_log first heap s (λ later. later.log ≡ records_of_log new_log)
+    pub turned : RestartMoves (Ok true) log_front front first_log new_log first heap s (λ later. later.log ≡ records_of_log new_log)
     turned =
         let rest = rest_taken log_front mid new_log a.later r frames taken a.done.2 in
         let long = length-append a.later.log (r ∷ []) in

@@ -12,12 +12,12 @@ use Rattle.shore_model.specs.declared.log_records.LogRecord.{LogRecord}
 use Rattle.shore_model.specs.declared.log_records.Payload.TheVariants.{Change}
 use Rattle.shore_model.specs.Logs.{first_number, id_in, last_of, unanswered, undo_next_of}
 use Rattle.shore_logrec.specs.Text.{Fits, PayloadFits}
-use Rattle.shore_lives.specs.Undo.{IsLoser, undo_payload, undo_record}
-use Rattle.shore_lives.specs.UndoChains.{IsUndoChain}
-use Rattle.shore_lives.proofs.Numbers.{last_own, newest_other}
-use Rattle.shore_lives.proofs.OneMore.{by_push}
-use Rattle.shore_lives.proofs.UndoChains.{unanswered_chain}
-use Rattle.shore_lives.proofs.Writers.{same_or_not}
+use Rattle.laws_lives.specs.Undo.{IsLoser, undo_payload, undo_record}
+use Rattle.laws_lives.specs.UndoChains.{IsUndoChain}
+use Rattle.laws_lives.proofs.Numbers.{last_own, newest_other}
+use Rattle.laws_lives.proofs.OneMore.{by_push}
+use Rattle.laws_lives.proofs.UndoChains.{unanswered_chain}
+use Rattle.laws_lives.proofs.Writers.{same_or_not}
 use Rattle.shore_analysis.specs.Meant.{AreMeant}
 use Rattle.shore_analysis.proofs.Counted.{last_is_one}
 use Rattle.shore_analysis.proofs.MeantLogs.{AreMeant-push}

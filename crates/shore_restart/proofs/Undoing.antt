@@ -8,11 +8,11 @@ use Rattle.shore_model.specs.Logs.{Lawful}
 use Rattle.shore_log.specs.declared.device.LogDev.{LogDev}
 use Rattle.shore_heap.specs.declared.heap.Heap.{Heap}
 use Rattle.shore_heap.specs.Heaps.{geometry_of, history_of}
-use Rattle.shore_lives.specs.Recovery.{RecoveryState, after_force}
-use Rattle.shore_lives.specs.Undo.{IsLoser, undo_record}
-use Rattle.shore_lives.proofs.UndoRecords.{undone_lawful, undone_more}
+use Rattle.laws_lives.specs.Recovery.{RecoveryState, after_force}
+use Rattle.laws_lives.specs.Undo.{IsLoser, undo_record}
+use Rattle.laws_lives.proofs.UndoRecords.{undone_lawful, undone_more}
 use Rattle.shore_restart.specs.declared.errors.RestartError.{RestartError}
-use Rattle.shore_restart.specs.Standing.{Forces, Moves, SameLog, log_history, moment_of, stream_bytes_of}
+use Rattle.shore_restart.specs.Standing.{Forces, RestartMoves, SameLog, log_history, moment_of, stream_bytes_of}
 use Rattle.shore_restart.specs.Turns.{IsUndoneSoFar}
 use Rattle.shore_restart.proofs.Coming.{CameFrom, came_forced, came_moved, force_stops, moves_of, moves_stop}
 
@@ -47,20 +47,20 @@ module _ {L V : Type 0} {G : Ghosts L} {H : Ghosts V} (log_front front : List �
   HasCome log heap = (later : RecoveryState) × CameFrom log_front front first_log first s log heap later
 
   -- .. and one step more
-  pub come_on : {A : Type 0} (x : A) (log new_log : LogDev L G) (heap new : Heap V H) (Done : RecoveryState → Type 0) → (come : HasCome log heap) → Moves (Ok x) log_front front log new_log heap new come.0 Done
+  pub come_on : {A : Type 0} (x : A) (log new_log : LogDev L G) (heap new : Heap V H) (Done : RecoveryState → Type 0) → (come : HasCome log heap) → RestartMoves (Ok x) log_front front log new_log heap new come.0 Done
       → geometry_of new ≡ geometry_of heap → HasCome new_log new
   come_on x log new_log heap new Done come m geometry = (m.later, came_moved log_front front first_log first s log new_log heap new come.0 come.1 x Done m geometry)
 
   -- .. at which it was stopped
   pub come_stop : {A B : Type 0} (e : RestartError) (r : Result B RestartError) (log new_log : LogDev L G) (heap new : Heap V H) (Done Then : RecoveryState → Type 0) → (come : HasCome log heap) → r ≡ Err e
-      → Moves {A = A} (Err e) log_front front log new_log heap new come.0 Done → Moves r log_front front first_log new_log first new s Then
+      → RestartMoves {A = A} (Err e) log_front front log new_log heap new come.0 Done → RestartMoves r log_front front first_log new_log first new s Then
   come_stop {A = A} {B = B} e r log new_log heap new Done Then come is m =
-      subst (λ (r : Result B RestartError). Moves r log_front front first_log new_log first new s Then) (sym is)
+      subst (λ (r : Result B RestartError). RestartMoves r log_front front first_log new_log first new s Then) (sym is)
       (moves_stop log_front front first_log first s log new_log heap new come.0 come.1 {A = A} {B = B} e e Done Then m)
 
   -- the force behind the last turn, whatever it answers
   pub force_last : (r : Result (Unit {0}) RestartError) (old new : LogDev L G) (heap : Heap V H) (later : RecoveryState) → (came : CameFrom log_front front first_log first s old heap later)
-      → Forces r (geometry_of first) log_front front (history_of heap) old new later → Moves r log_front front first_log new first heap s (λ later. later.durable ≡ length later.log)
+      → Forces r (geometry_of first) log_front front (history_of heap) old new later → RestartMoves r log_front front first_log new first heap s (λ later. later.durable ≡ length later.log)
   force_last (Ok u) old new heap later came f =
       moves_of log_front front first_log first s {A = Unit {0}} tt new heap (after_force later f.durable) (λ later. later.durable ≡ length later.log)
       (came_forced (geometry_of first) log_front front (moment_of (log_history first_log) first s) old new heap later came f) f.done.0

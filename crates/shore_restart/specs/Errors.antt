@@ -8,7 +8,7 @@ use Rattle.shore_types.specs.declared.ids.PageId.{PageId}
 use Rattle.shore_types.specs.declared.layout.Geometry.{Geometry}
 use Rattle.shore_model.specs.declared.log_records.LogRecord.{LogRecord}
 use Rattle.shore_dwrite.specs.Volumes.{HasNoPage, page_number, page_offset}
-use Rattle.shore_managers.specs.SlotCounts.{FitsBehind}
+use Rattle.laws_runs.specs.SlotCounts.{FitsBehind}
 use Rattle.shore_restart.specs.declared.errors.RestartError.{RestartError}
 use Rattle.shore_restart.specs.declared.errors.RestartError.TheVariants.{BadRecord, Log, Memory, NoRoom, Page}
 

@@ -9,7 +9,7 @@ use Rattle.shore_types.specs.declared.layout.Geometry.{Geometry}
 use Rattle.shore_disk.specs.declared.device.Disk.{Ghosts}
 use Rattle.shore_dwrite.specs.Volumes.{HasNoPage, page_number, page_offset}
 use Rattle.shore_pool.specs.declared.frame.Frame.{Frame}
-use Rattle.shore_pool.specs.Pools.{Holds}
+use Rattle.shore_pool.specs.Pools.{PoolHolds}
 use Rattle.shore_heap.specs.declared.heap.Heap.{Heap}
 use Rattle.shore_heap.specs.Heaps as heaps
 use Rattle.shore_restart.specs.declared.errors.RestartError.{RestartError}
@@ -24,7 +24,7 @@ module _ {V : Type 0} {H : Ghosts V} where
   -- The volume is settled with these texts of its pages behind this front, what is clean in a frame is there, and what is not has a number up to
   -- this one.
   pub record IsHeld (front : List ℕ) (disk : ℕ → List ℕ) (heap : Heap V H) (last : ℕ) : Type 0 where
-    pub holds : Holds heap.pool front disk
+    pub holds : PoolHolds heap.pool front disk
     pub low : (k : ℕ) (f : Frame) → heaps.frame_at heap k ≡ Some f → f.recovery ≢ None → f.page.number ≤ last
 
   -- It is so over other texts, up to a later number: a page with no text of it up to that one had none up to the first.
@@ -34,9 +34,9 @@ module _ {V : Type 0} {H : Ghosts V} where
     pub bad : (id : PageId) → HasPage (heaps.geometry_of old) id → HasNoPage (left (page_number (heaps.geometry_of old) id)) id later
         → HasNoPage (disk (page_number (heaps.geometry_of old) id)) id last
 
-  -- A fetch tells such a fault, or that a force is needed up to a number that is not seen. Unless the volume failed the heap is held so still.
-  pub record FetchesHeld (result : Result (Unit {0}) RestartError) (front : List ℕ) (disk : ℕ → List ℕ) (old new : Heap V H) (last seen : ℕ) : Type 0 where
-    pub named : IfErr result (λ error. (f : Fault) → error ≡ Page f → IsPageFault (heaps.geometry_of old) disk last f ⊎ ((n : ℕ) × (f ≡ fault.NeedForce n) × (seen < n) × (n ≤ last)))
+  -- A fetch tells such a fault, or that a force is needed up to a number that is not durable. Unless the volume failed the heap is held so still.
+  pub record FetchesHeld (result : Result (Unit {0}) RestartError) (front : List ℕ) (disk : ℕ → List ℕ) (old new : Heap V H) (last durable : ℕ) : Type 0 where
+    pub named : IfErr result (λ error. (f : Fault) → error ≡ Page f → IsPageFault (heaps.geometry_of old) disk last f ⊎ ((n : ℕ) × (f ≡ fault.NeedForce n) × (durable < n) × (n ≤ last)))
     pub stays : (result ≡ Err (Page fault.Device)) ⊎ StaysHeld front disk old new last last
 
   -- Work of a restart tells such a fault and no other of the volume, and if it was not refused the heap is held so still.

@@ -4,7 +4,7 @@ use Rattle.shore_types.specs.Images.{Image}
 use Rattle.shore_types.specs.declared.ids.Rid.{Rid}
 use Rattle.shore_model.specs.declared.log_records.LogRecord.{LogRecord}
 use Rattle.shore_model.specs.Logs.{image_in}
-use Rattle.shore_lives.specs.Pages.{LoggedPages}
+use Rattle.laws_lives.specs.Pages.{LoggedPages}
 
 -- record n, if it has this image, changes a page with a lower number
 abbrev pub is_missing : LoggedPages → ℕ → Option (Rid × Image) → Bool

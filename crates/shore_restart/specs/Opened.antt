@@ -11,17 +11,17 @@ use Rattle.shore_log.specs.Settled.{records_of_log}
 use Rattle.shore_heap.specs.declared.heap.Heap.{Heap}
 use Rattle.shore_heap.specs.Heaps as heaps
 use Rattle.shore_analysis.specs.Tables.{IsNext}
-use Rattle.shore_lives.specs.Recovery.{RecoveryState}
-use Rattle.shore_lives.specs.Undo.{HasNoLosers}
-use Rattle.shore_calls.specs.States.{State}
-use Rattle.shore_managers.specs.StoredRuns.{IsOpenedOver}
-use Rattle.shore_managers.specs.SlotCounts.{slot_count}
+use Rattle.laws_lives.specs.Recovery.{RecoveryState}
+use Rattle.laws_lives.specs.Undo.{HasNoLosers}
+use Rattle.laws_calls.specs.States.{State}
+use Rattle.laws_runs.specs.StoredRuns.{IsOpenedOver}
+use Rattle.laws_runs.specs.SlotCounts.{slot_count}
 use Rattle.shore_core.specs.declared.core_calls.Core.{Core}
 use Rattle.shore_core.specs.Cores.{IsIn, IsOver, heap_of}
 use Rattle.shore_restart.specs.declared.errors.RestartError.{RestartError}
-use Rattle.shore_restart.specs.declared.recovering.Report.{Report}
+use Rattle.shore_restart.specs.declared.passes.Report.{Report}
 use Rattle.shore_restart.specs.Errors.{log_answer, volume_answer}
-use Rattle.shore_stands.specs.Moments.{Moment, Path}
+use Rattle.laws_images.specs.Moments.{Moment, Path}
 use Rattle.shore_restart.specs.Standing.{IsAtRest, log_history, moment_of, stream_bytes_of}
 
 module _ {T V : Type 0} {G : tail.Ghosts T} {H : Ghosts V} where

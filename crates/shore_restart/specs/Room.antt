@@ -2,7 +2,7 @@
 use Rattle.std.specs.Prelude.{◌≡◌, ◌<◌, ◌≤◌, ◌+◌, ℕ, List, length}
 use Rattle.shore_types.specs.declared.layout.TheConstants.{LAST_OPENED, LONGEST_FRAME, MAX_LOG_BYTES}
 use Rattle.shore_model.specs.declared.log_records.LogRecord.{LogRecord}
-use Rattle.shore_calls.specs.States.{cost_of_log}
+use Rattle.laws_calls.specs.States.{cost_of_log}
 use Rattle.shore_txn.specs.declared.log_room.LogRoom.{LogRoom}
 
 -- The records leave room for the longest frame in a stream of this length, and numbers for more records.

@@ -13,14 +13,14 @@ use Rattle.shore_heap.specs.declared.heap.Heap.{Heap}
 use Rattle.shore_heap.specs.Contents.{unclaimed}
 use Rattle.shore_heap.specs.Heaps as heaps
 use Rattle.shore_heap.specs.Heaps.{Shows}
-use Rattle.shore_lives.specs.Pages.{redone_on_all}
-use Rattle.shore_lives.specs.Recovery.{AppendRecord, IsRecoverable, LeadsTo, RecoveryEvent, RecoveryState, after_append, after_force}
+use Rattle.laws_lives.specs.Pages.{redone_on_all}
+use Rattle.laws_lives.specs.Recovery.{AppendRecord, IsRecoverable, LeadsTo, RecoveryEvent, RecoveryState, after_append, after_force}
 use Rattle.shore_model.specs.declared.log_records.LogRecord.{LogRecord}
-use Rattle.shore_lives.specs.Restarts.{RestartsTo}
-use Rattle.shore_stands.specs.LoggedHeaps.{AreSettled, IsStoreOf}
+use Rattle.laws_lives.specs.Restarts.{RestartsTo}
+use Rattle.laws_images.specs.LoggedHeaps.{AreSettled, IsStoreOf}
 use Rattle.shore_restart.specs.declared.errors.RestartError.{RestartError}
 use Rattle.shore_restart.specs.declared.errors.RestartError.TheVariants.{Page}
-use Rattle.shore_stands.specs.Moments.{GoesOn, IsCovered, Moment, Path, ShowsLeft}
+use Rattle.laws_images.specs.Moments.{RestartGoesOn, IsCovered, Moment, Path, ShowsLeft}
 
 -- ---- the log device
 
@@ -58,7 +58,7 @@ pub record Forces {L : Type 0} {G : Ghosts L} {A : Type 0} (result : Result A Re
 pub record ForcesFrame {L : Type 0} {G : Ghosts L} (result : Result Bool RestartError) (g : Geometry) (log_front front : List ℕ) (volume : History) (old new : LogDev L G) (s : RecoveryState) : Type 0 where
   pub durable : ℕ
   pub no_lower : s.durable ≤ durable
-  pub goes_on : GoesOn g log_front front (record { log = log_history old; volume = volume; store = s }) (record { log = log_history new; volume = volume; store = after_force s durable })
+  pub goes_on : RestartGoesOn g log_front front (record { log = log_history old; volume = volume; store = s }) (record { log = log_history new; volume = volume; store = after_force s durable })
   pub covered : IsCovered g log_front front (record { log = log_history new; volume = volume; store = after_force s durable })
   pub done : OnOk result (IsAtRest log_front new (after_force s durable))
 
@@ -132,7 +132,7 @@ module _ {V : Type 0} {H : Ghosts V} where
     pub redone : s.redone ≡ length s.log
 
   -- Both devices may have been called, one after another. If it was not refused they are so again, over a store of which this holds.
-  pub record Moves {L : Type 0} {G : Ghosts L} {A : Type 0} (result : Result A RestartError) (log_front front : List ℕ) (old_log new_log : LogDev L G) (old new : Heap V H) (s : RecoveryState) (Done : RecoveryState → Type 0) : Type 0 where
+  pub record RestartMoves {L : Type 0} {G : Ghosts L} {A : Type 0} (result : Result A RestartError) (log_front front : List ℕ) (old_log new_log : LogDev L G) (old new : Heap V H) (s : RecoveryState) (Done : RecoveryState → Type 0) : Type 0 where
     pub later : RecoveryState
     pub moments : List Moment
     pub path : Path (heaps.geometry_of old) log_front front (moment_of (log_history old_log) old s) moments (moment_of (log_history new_log) new later)

@@ -3,9 +3,9 @@ use Rattle.std.specs.Prelude.{◌≡◌, ◌⊎◌, ◌<◌, ◌++◌, ◌∷◌
 use Rattle.shore_types.specs.declared.layout.Geometry.{Geometry}
 use Rattle.shore_model.specs.declared.log_records.LogRecord.{LogRecord}
 use Rattle.shore_model.specs.Logs.{unanswered, undo_next_of}
-use Rattle.shore_lives.specs.Undo.{IsLoser, IsUndoneTo, undo_record}
+use Rattle.laws_lives.specs.Undo.{IsLoser, IsUndoneTo, undo_record}
 use Rattle.shore_analysis.specs.Meant.{AreMeant, IsFirstUnmeant}
-use Rattle.shore_managers.specs.SlotCounts.{FitsBehind}
+use Rattle.laws_runs.specs.SlotCounts.{FitsBehind}
 use Rattle.shore_analysis.specs.Losers.{HasLosers, IsNextToUndo, turns_left}
 use Rattle.shore_restart.specs.declared.turns.Undo.{Undo}
 use Rattle.shore_restart.specs.Errors.{DoesNotFit}

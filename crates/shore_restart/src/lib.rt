@@ -4,14 +4,13 @@
 
 mod errors;
 mod forcing;
-mod images;
 mod log_sums;
 mod pages;
-mod recovering;
+mod passes;
 mod redo;
 mod restarting;
 mod turns;
 
 pub use errors::RestartError;
-pub use recovering::Report;
+pub use passes::Report;
 pub use restarting::restart;

@@ -2,15 +2,12 @@
 ghost use Rattle.std.specs.Prelude.{◌≡◌, ◌↔◌, ◌++◌, ◌∷◌, ◌^◌, ◌-◌, [], ℕ, List, All, IsSome, IfSome, min, length};
 ghost use Rattle.shore_model.specs.declared.log_records.LogRecord.{LogRecord};
 ghost use Rattle.shore_logrec.specs.Text.{Fits, cost_of};
-ghost use Rattle.shore_calls.specs.States.{cost_of_log};
+ghost use Rattle.laws_calls.specs.States.{cost_of_log};
 ghost use Rattle.shore_restart.specs.Room.{IsRoomBehind, LeavesRoom};
 
 use shore_logrec::{LogRecord, encoded_len};
 use shore_txn::LogRoom;
-use shore_types::layout::LAST_OPENED;
-
-// What a record costs beside its text: the gate, the length and the first number of a frame of its own.
-const FRAME_SHARE: u64 = 13;
+use shore_types::layout::{FRAME_SHARE, LAST_OPENED};
 
 /// What the records cost together, each its text and its share of a frame. Saturates at
 /// `u64::MAX`.

@@ -8,10 +8,10 @@ ghost use Rattle.shore_types.specs.declared.ids.PageId.{PageId};
 ghost use Rattle.shore_model.specs.declared.log_records.LogRecord.{LogRecord};
 ghost use Rattle.shore_model.specs.Logs.{image_in};
 ghost use Rattle.shore_page.specs.Room.{Fits};
-ghost use Rattle.shore_page.specs.Slots.{image_len};
-ghost use Rattle.shore_pool.specs.Pools.{Holds};
+ghost use Rattle.shore_types.specs.Images.{image_len};
+ghost use Rattle.shore_pool.specs.Pools.{PoolHolds};
 ghost use Rattle.shore_heap.specs.Heaps.{faults_of, frame_of, geometry_of, history_of, pool_of};
-ghost use Rattle.shore_lives.specs.Recovery.{AppendRecord, LeadsTo, RecoveryState, RedoRecord, after_append, after_redo};
+ghost use Rattle.laws_lives.specs.Recovery.{AppendRecord, LeadsTo, RecoveryState, RedoRecord, after_append, after_redo};
 ghost use Rattle.shore_restart.specs.declared.errors.RestartError.{RestartError};
 ghost use Rattle.shore_restart.specs.declared.errors.RestartError.TheVariants as RestartError;
 ghost use Rattle.shore_restart.specs.Errors.{IsEarned, volume_answer};
@@ -19,33 +19,32 @@ ghost use Rattle.shore_restart.specs.Held.{FetchesHeld, IsHeld};
 ghost use Rattle.shore_restart.specs.Standing.{Fetches, SameVolume, Stands};
 
 use crate::errors::{RestartError, page_error};
-use crate::images::bytes_of;
 use shore_disk::Disk;
 use shore_heap::{Heap, NoClaims};
-use shore_types::{Bytes, Lsn, PageId, Rid};
+use shore_types::images::bytes_of;
+use shore_types::{Bytes, LogEnds, Lsn, PageId, Rid};
 use std::alloc::Global;
 
-/// Brings a page into a frame, if it is in none; others may be written back for it. `last` is the number of the log's last record, and `seen` that
-/// up to which it is durable. `Page(NeedForce)` if each page that could leave its frame has a number above that; nothing has changed then.
+/// Brings a page into a frame, if it is in none; others may be written back for it. `Page(NeedForce)` if each page that could leave its frame has a
+/// number above the durable one; nothing has changed then.
 pub fn fetch<V: Disk>(
     alloc: Global,
     heap: &mut Heap<V>,
     page: PageId,
-    last: Lsn,
-    seen: Lsn,
+    ends: &LogEnds,
 ) -> Result<(), RestartError>
     requires { HasPage (geometry_of heap.old) page }
     ensures held { OnOk result (IsTrue (is_some (frame_of heap.new page))) }
-    ensures fetches { (front : List ℕ) (disk : ℕ → List ℕ) (s : RecoveryState) → Stands front disk heap.old s → seen ≤ s.durable → Fetches result front heap.old heap.new s }
-    ensures device { (front : List ℕ) (disk : ℕ → List ℕ) (s : RecoveryState) → Stands front disk heap.old s → length s.log ≤ last
-        → IfErr result (λ error. (f : Fault) → error ≡ RestartError.Page f → (f ≡ Fault.Device) ⊎ ((n : ℕ) × (f ≡ Fault.NeedForce n) × (seen < n) × (n ≤ length s.log))) }
-    ensures earned { (front : List ℕ) (disk : ℕ → List ℕ) → Holds (pool_of heap.old) front disk → IfErr result (IsEarned (geometry_of heap.old) disk last) }
-    ensures any_pages { (front : List ℕ) (disk : ℕ → List ℕ) → IsHeld front disk heap.old last → seen ≤ last → FetchesHeld result front disk heap.old heap.new last seen }
+    ensures fetches { (front : List ℕ) (disk : ℕ → List ℕ) (s : RecoveryState) → Stands front disk heap.old s → ends.now.durable ≤ s.durable → Fetches result front heap.old heap.new s }
+    ensures device { (front : List ℕ) (disk : ℕ → List ℕ) (s : RecoveryState) → Stands front disk heap.old s → length s.log ≤ ends.now.last
+        → IfErr result (λ error. (f : Fault) → error ≡ RestartError.Page f → (f ≡ Fault.Device) ⊎ ((n : ℕ) × (f ≡ Fault.NeedForce n) × (ends.now.durable < n) × (n ≤ length s.log))) }
+    ensures earned { (front : List ℕ) (disk : ℕ → List ℕ) → PoolHolds (pool_of heap.old) front disk → IfErr result (IsEarned (geometry_of heap.old) disk ends.now.last) }
+    ensures any_pages { (front : List ℕ) (disk : ℕ → List ℕ) → IsHeld front disk heap.old ends.now.last → ends.now.durable ≤ ends.now.last → FetchesHeld result front disk heap.old heap.new ends.now.last ends.now.durable }
     ensures others { IfErr result (λ error. (error ≢ RestartError.NoRoom) × ((n : ℕ) → error ≢ RestartError.BadRecord n) × ((f : Fault) → error ≢ RestartError.Log f)) }
     ensures volume { SameVolume heap.old heap.new }
     ensures cause { HasCause (volume_answer result) (faults_of heap.old) (faults_of heap.new) }
 {
-    match heap.fetch(alloc, page, &NoClaims, last, seen) {
+    match heap.fetch(alloc, page, &NoClaims, ends) {
         Ok(()) => Ok(()),
         Err(fault) => Err(page_error(fault)),
     }

@@ -9,23 +9,23 @@ ghost use Rattle.shore_types.specs.declared.ids.Rid.{Rid};
 ghost use Rattle.shore_model.specs.declared.log_records.LogRecord.{LogRecord};
 ghost use Rattle.shore_model.specs.Logs.{id_in, image_in};
 ghost use Rattle.shore_heap.specs.Heaps.{faults_of, geometry_of};
-ghost use Rattle.shore_lives.specs.Recovery.{RecoveryState};
+ghost use Rattle.laws_lives.specs.Recovery.{RecoveryState};
 ghost use Rattle.shore_analysis.specs.Meant.{AreMeant};
 ghost use Rattle.shore_restart.specs.declared.errors.RestartError.{RestartError};
 ghost use Rattle.shore_restart.specs.declared.errors.RestartError.TheVariants as RestartError;
 ghost use Rattle.shore_restart.specs.Errors.{DoesNotFit, volume_answer};
-ghost use Rattle.shore_stands.specs.Moments.{GivesPrefix};
+ghost use Rattle.laws_images.specs.Moments.{GivesPrefix};
 ghost use Rattle.shore_restart.specs.Held.{IsHeld, WorksHeld};
 ghost use Rattle.shore_restart.specs.Missing.{is_missing, missing_on};
 ghost use Rattle.shore_restart.specs.Standing.{Redoes, RedoesAll, SameVolume, Stands};
 
 use crate::errors::RestartError;
-use crate::images::len_of;
 use crate::pages::{fetch, put};
 use shore_disk::Disk;
 use shore_heap::Heap;
 use shore_logrec::{LogRecord, Payload};
-use shore_types::{Bytes, Lsn, PageId, Rid};
+use shore_types::images::bytes_in;
+use shore_types::{Bytes, LogEnds, Lsn, PageId, Rid};
 use std::alloc::Global;
 
 /// Redoes each record of a log whose records are all durable, first to last, and answers how many were missing on their pages.
@@ -87,7 +87,13 @@ fn redo_record<V: Disk>(
         Payload::Change { id, after, .. } | Payload::Compensation { id, after, .. } => {
             redo_image(alloc, heap, *id, after, number, last)
         }
-        _ => Ok(false),
+        Payload::Commit
+        | Payload::End
+        | Payload::Prepare { .. }
+        | Payload::RollbackDecided
+        | Payload::CheckpointBegin
+        | Payload::CheckpointEnd { .. }
+        | Payload::Anchor { .. } => Ok(false),
     }
 }
 
@@ -118,7 +124,11 @@ fn redo_image<V: Disk>(
 {
     let Rid { page, slot } = id;
     let PageId { store, page } = page;
-    fetch(alloc, heap, PageId { store, page }, last, last)?;
+    let ends = LogEnds {
+        last,
+        durable: last,
+    };
+    fetch(alloc, heap, PageId { store, page }, &ends)?;
     let found = heap.number(PageId { store, page });
     if found.0 >= number.0 {
         return Ok(false);
@@ -127,7 +137,7 @@ fn redo_image<V: Disk>(
         page: PageId { store, page },
         slot,
     };
-    if !heap.fits(there, len_of(image)) {
+    if !heap.fits(there, bytes_in(image)) {
         return Err(RestartError::BadRecord(number));
     }
     let there = Rid {

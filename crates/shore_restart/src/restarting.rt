@@ -6,7 +6,7 @@ ghost use Rattle.shore_types.specs.declared.faults.Fault.TheVariants as Fault;
 ghost use Rattle.shore_log.specs.Settled.{records_of_log, stable};
 ghost use Rattle.shore_heap.specs.Heaps.{faults_of, geometry_of};
 ghost use Rattle.shore_core.specs.Cores.{durable_of, first_of, locks_of};
-ghost use Rattle.shore_lives.specs.Recovery.{RecoveryState};
+ghost use Rattle.laws_lives.specs.Recovery.{RecoveryState};
 ghost use Rattle.shore_analysis.specs.declared.analysis.Tables.{Tables};
 ghost use Rattle.shore_analysis.specs.Tables.{AreTables};
 ghost use Rattle.shore_restart.specs.declared.errors.RestartError.{RestartError};
@@ -19,7 +19,7 @@ ghost use Rattle.shore_restart.specs.Standing.{IsFound, SameLog, SameVolume, log
 ghost use Rattle.shore_restart.specs.Turns.{IsBadRecord, LacksRoom};
 
 use crate::errors::RestartError;
-use crate::recovering::{Recovered, Report, recover};
+use crate::passes::{Passed, Report, run_passes};
 use shore_core::Core;
 use shore_disk::Disk;
 use shore_heap::Heap;
@@ -66,8 +66,8 @@ pub fn restart<L: Disk, V: Disk>(
     ensures log_cause { HasCause (log_fault_left result) (log_faults log.old) (log_faults log.new) }
 {
     let mut heap = heap;
-    match recover(alloc, log, &mut heap) {
-        Ok(Recovered { control, report }) => {
+    match run_passes(alloc, log, &mut heap) {
+        Ok(Passed { control, report }) => {
             let last = Lsn(log.records().len() as u64);
             let durable = log.durable().number();
             Ok((Core::over(alloc, heap, control, last, durable), report))

@@ -7,25 +7,24 @@ ghost use Rattle.shore_types.specs.declared.faults.Fault.TheVariants as Fault;
 ghost use Rattle.shore_model.specs.declared.log_records.LogRecord.{LogRecord};
 ghost use Rattle.shore_model.specs.Logs.{Lawful, id_in, image_in, unanswered};
 ghost use Rattle.shore_page.specs.Room.{Fits};
-ghost use Rattle.shore_page.specs.Slots.{image_len};
+ghost use Rattle.shore_types.specs.Images.{image_len};
 ghost use Rattle.shore_heap.specs.Heaps.{faults_of, frame_of, geometry_of};
 ghost use Rattle.shore_log.specs.Settled.{HasRecordRoom, records_of_log};
-ghost use Rattle.shore_lives.specs.Recovery.{RecoveryState};
-ghost use Rattle.shore_lives.specs.Undo.{HasNoLosers, IsLoser, undo_payload, undo_record};
-ghost use Rattle.shore_managers.specs.SlotCounts.{FitsBehind, slots_left};
+ghost use Rattle.laws_lives.specs.Recovery.{RecoveryState};
+ghost use Rattle.laws_lives.specs.Undo.{HasNoLosers, IsLoser, undo_payload, undo_record};
+ghost use Rattle.laws_runs.specs.SlotCounts.{FitsBehind, slots_left};
 ghost use Rattle.shore_types.specs.declared.ids.Rid.{Rid};
 ghost use Rattle.shore_restart.specs.declared.errors.RestartError.{RestartError};
 ghost use Rattle.shore_restart.specs.declared.errors.RestartError.TheVariants as RestartError;
 ghost use Rattle.shore_restart.specs.Errors.{log_answer, volume_answer};
 ghost use Rattle.shore_restart.specs.Held.{IsHeld, WorksHeld};
-ghost use Rattle.shore_restart.specs.Standing.{Appends, IsAtRest, IsReady, Moves, SameLog, SameVolume, log_faults, log_history, stream_bytes_of};
+ghost use Rattle.shore_restart.specs.Standing.{Appends, IsAtRest, IsReady, RestartMoves, SameLog, SameVolume, log_faults, log_history, stream_bytes_of};
 ghost use Rattle.shore_restart.specs.Quiet.{IsQuiet, StaysQuiet};
 ghost use Rattle.shore_restart.specs.Room.{LeavesRoom};
 ghost use Rattle.shore_restart.specs.Turns.{CannotUndo, HasNoTurnRoom, IsUndoOf, IsUndoneSoFar, TakesTurn};
 
 use crate::errors::RestartError;
 use crate::forcing::force;
-use crate::images::len_of;
 use crate::log_sums::room_with;
 use crate::pages::{fetch, put};
 use shore_analysis::Losers;
@@ -34,13 +33,16 @@ use shore_heap::Heap;
 use shore_log::LogDev;
 use shore_logrec::{LogRecord, Payload};
 use shore_txn::LogRoom;
-use shore_types::{Bytes, Fault, Lsn, PageId, Rid};
+use shore_types::images::bytes_in;
+use shore_types::{Bytes, Fault, LogEnds, Lsn, PageId, Rid};
 use std::alloc::Global;
 
 /// What undo works with: the losers that are left, and the room of the log with the records of undo so far.
 #[derive(Drop)]
 pub struct Undo {
+    /// The losers that are left, after the records of undo so far.
     pub losers: Losers,
+    /// The room of the log with these records in it.
     pub room: LogRoom,
 }
 
@@ -58,7 +60,7 @@ impl Undo {
         ensures done { Lawful (records_of_log log.old) → OnOk result (HasNoLosers (records_of_log log.new)) }
         ensures undo { OnOk result (IsUndoOf (geometry_of heap.new) (records_of_log log.new) (stream_bytes_of log.new) self.new) }
         ensures moves { (log_front front : List ℕ) (disk : ℕ → List ℕ) (s : RecoveryState) → IsReady log_front front disk log.old heap.old s
-            → Moves result log_front front log.old log.new heap.old heap.new s (λ later. later.durable ≡ length later.log) }
+            → RestartMoves result log_front front log.old log.new heap.old heap.new s (λ later. later.durable ≡ length later.log) }
         ensures no_room { IfErr result (λ error. error ≡ RestartError.NoRoom → (so_far : List LogRecord) × IsUndoneSoFar (records_of_log log.old) so_far × HasNoTurnRoom so_far (stream_bytes_of log.old)) }
         ensures bad { (log_front front : List ℕ) (disk : ℕ → List ℕ) (s : RecoveryState) → IsReady log_front front disk log.old heap.old s
             → IfErr result (λ error. (n : ℕ) → error ≡ RestartError.BadRecord n → (so_far : List LogRecord) × IsUndoneSoFar (records_of_log log.old) so_far × CannotUndo so_far n) }
@@ -89,7 +91,7 @@ impl Undo {
         ensures none { IfOk result (λ more. IsFalse more → (records_of_log log.new ≡ records_of_log log.old) × ((t : ℕ) → IsLoser (records_of_log log.new) t → ⊥)
             × (Lawful (records_of_log log.old) → HasNoLosers (records_of_log log.new))) }
         ensures moves { (log_front front : List ℕ) (disk : ℕ → List ℕ) (s : RecoveryState) → IsReady log_front front disk log.old heap.old s
-            → Moves result log_front front log.old log.new heap.old heap.new s (λ later. later.log ≡ records_of_log log.new) }
+            → RestartMoves result log_front front log.old log.new heap.old heap.new s (λ later. later.log ≡ records_of_log log.new) }
         ensures no_room { IfErr result (λ error. error ≡ RestartError.NoRoom → HasNoTurnRoom (records_of_log log.old) (stream_bytes_of log.old)) }
         ensures bad { (log_front front : List ℕ) (disk : ℕ → List ℕ) (s : RecoveryState) → IsReady log_front front disk log.old heap.old s
             → IfErr result (λ error. (n : ℕ) → error ≡ RestartError.BadRecord n → CannotUndo (records_of_log log.old) n) }
@@ -160,7 +162,15 @@ fn append<L: Disk, V: Disk>(
         Payload::Compensation { id, after, .. } => {
             put_back(alloc, log, heap, *id, after, number, undone)
         }
-        _ => reserve(log),
+        // An End changes no page, and undo logs no record of another kind.
+        Payload::End
+        | Payload::Change { .. }
+        | Payload::Commit
+        | Payload::Prepare { .. }
+        | Payload::RollbackDecided
+        | Payload::CheckpointBegin
+        | Payload::CheckpointEnd { .. }
+        | Payload::Anchor { .. } => reserve(log),
     }
 }
 
@@ -201,7 +211,7 @@ fn put_back<L: Disk, V: Disk>(
         page: PageId { store, page },
         slot,
     };
-    if !heap.fits(there, len_of(image)) {
+    if !heap.fits(there, bytes_in(image)) {
         return Err(RestartError::BadRecord(undone));
     }
     reserve(log)?;
@@ -224,7 +234,7 @@ fn bring<L: Disk, V: Disk>(
     requires room { LeavesRoom (records_of_log log.old) (stream_bytes_of log.old) }
     ensures held { OnOk result (IsTrue (is_some (frame_of heap.new page))) }
     ensures moves { (log_front front : List ℕ) (disk : ℕ → List ℕ) (s : RecoveryState) → IsReady log_front front disk log.old heap.old s
-        → Moves result log_front front log.old log.new heap.old heap.new s (λ later. (later.log ≡ s.log) × (later.in_place ≡ s.in_place)) }
+        → RestartMoves result log_front front log.old log.new heap.old heap.new s (λ later. (later.log ≡ s.log) × (later.in_place ≡ s.in_place)) }
     ensures no_record { IfErr result (λ error. (n : ℕ) → error ≢ RestartError.BadRecord n) }
     ensures device { (log_front front : List ℕ) (disk : ℕ → List ℕ) (s : RecoveryState) → IsReady log_front front disk log.old heap.old s
         → IfErr result (λ error. (f : Fault) → error ≡ RestartError.Page f → f ≡ Fault.Device) }
@@ -238,14 +248,19 @@ fn bring<L: Disk, V: Disk>(
     ensures log_cause { HasCause (log_answer result) (log_faults log.old) (log_faults log.new) }
 {
     let last = Lsn(log.records().len() as u64);
-    let seen = log.durable().number();
+    let durable = log.durable().number();
     let PageId { store, page } = page;
-    let fetched = fetch(alloc, heap, PageId { store, page }, last, seen);
+    let ends = LogEnds { last, durable };
+    let fetched = fetch(alloc, heap, PageId { store, page }, &ends);
     if !needs_force(&fetched) {
         return fetched;
     }
     force(alloc, log)?;
-    fetch(alloc, heap, PageId { store, page }, last, last)
+    let all = LogEnds {
+        last,
+        durable: last,
+    };
+    fetch(alloc, heap, PageId { store, page }, &all)
 }
 
 // Whether a page was refused since the log has to be forced first.

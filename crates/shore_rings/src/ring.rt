@@ -10,13 +10,16 @@ use std::marker::Model;
 /// The nodes before and behind a node.
 #[derive(Clone, Copy)]
 pub struct Link {
+    // The node before it in its ring.
     before: usize,
+    // The node after it.
     after: usize,
 }
 
 /// Rings of nodes.
 #[derive(Drop)]
 pub struct Rings {
+    // The neighbours of each node. Each one's after has it as its before, so that all nodes are in rings.
     links: Vec<Link>,
 }
 

@@ -1,5 +1,5 @@
 -- The lines of the script whose calls are served.
-use Rattle.shore_calls.specs.Events.{IsServed}
+use Rattle.shore_model.specs.Calls.{IsServed}
 use Rattle.shore_script.specs.declared.command.Command.{Command}
 use Rattle.shore_script.specs.declared.command.Command.TheVariants as command
 

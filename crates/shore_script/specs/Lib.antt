@@ -1,3 +1,4 @@
+pub mod Bytes
 pub mod Commands
 pub mod Limits
 pub mod Words

@@ -1,6 +1,6 @@
 //! A line of the script.
 ghost use Rattle.std.specs.Prelude.{◌≡◌, ◌≢◌, IfNone, IfOk, IfSome, codes};
-ghost use Rattle.shore_calls.specs.Events.{IsServed};
+ghost use Rattle.shore_model.specs.Calls.{IsServed};
 ghost use Rattle.shore_script.specs.Commands.{IsServedCommand};
 ghost use Rattle.shore_script.specs.Words.{Asks, AsksCall, AsksPlain, FirstAsksCall, FirstAsksPlain, pick_word};
 ghost use Rattle.shore_disk.specs.declared.memory.Pick.{Pick as PickData};

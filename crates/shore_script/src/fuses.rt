@@ -7,14 +7,18 @@ use shore_types::Device;
 /// A fuse of a device: so many more writes and syncs of it pass, then every call of it fails.
 #[derive(Clone, Copy)]
 pub struct Fuse {
+    /// The device that it is set for.
     pub device: Device,
+    /// How many writes and syncs pass.
     pub calls: u64,
 }
 
 /// How many writes and syncs of each device pass.
 #[derive(Clone, Copy)]
 pub struct Fuses {
+    /// How many of the log device pass.
     pub log: u64,
+    /// How many of the volume pass.
     pub volume: u64,
 }
 

@@ -11,7 +11,9 @@ const BORDER: &[u8] = b"---";
 /// An input, and the line that was read last.
 #[derive(Drop)]
 pub struct Lines<R> {
+    // The input, from the byte after that line on.
     input: BufReader<R>,
+    // The line that was read last, without its end.
     line: Vec<u8>,
 }
 

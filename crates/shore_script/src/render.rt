@@ -1,12 +1,11 @@
 //! Answers as the script prints them.
 ghost use Rattle.std.specs.Prelude.{◌≡◌, ◌≤◌, ◌+◌, ◌^◌, ◌-◌, IfOk, length, min};
+ghost use Rattle.hex.specs.Hex.{encode_lower};
 ghost use Rattle.shore_script.specs.declared.render.TheConstants.{PART};
 
 use shore_model::{Answer, LogRecord, Payload, Request};
 use shore_types::{Fault, Granule, Pairs, Rid, SessionId};
 use std::io::{self, Write};
-
-const DIGITS: [u8; 16] = *b"0123456789abcdef";
 
 /// So many bytes of a record are written at a time.
 const PART: usize = 64;
@@ -144,11 +143,10 @@ fn bytes<W: Write>(out: &mut W, found: &[u8]) -> io::Result<()> {
 // The digits of a part, in this place.
 fn digits_of<'a>(part: &[u8], digits: &'a mut [u8; 2 * PART]) -> &'a [u8]
     requires { length part.now ≤ PART }
+    ensures { result.now ≡ encode_lower part.now }
 {
-    for i in 0..part.len() {
-        let byte = part[i];
-        digits[2 * i] = DIGITS[usize::from(byte >> 4)];
-        digits[2 * i + 1] = DIGITS[usize::from(byte & 15)];
-    }
-    &digits[..2 * part.len()]
+    let room = &mut digits[..2 * part.len()];
+    // The room is as long as it has to be, so this cannot fail.
+    let _ = hex::encode_to_slice(part, room);
+    room
 }

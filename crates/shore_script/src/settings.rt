@@ -31,14 +31,18 @@ pub enum Devices {
 pub struct FilePair {
     /// They are made anew and formatted at the start; otherwise they are opened as they are.
     pub is_made_anew: bool,
+    /// The path of the log.
     pub log: Text,
+    /// The path of the volume.
     pub volume: Text,
 }
 
 /// How the manager is made.
 #[derive(Drop)]
 pub struct Settings {
+    /// Memory, or two files.
     pub devices: Devices,
+    /// The pair's number, stores and lock nodes.
     pub geometry: Geometry,
     /// The length of the log device.
     pub log_bytes: u64,

@@ -1,8 +1,12 @@
 //! The words of a script line: numbers, ids and bytes.
-ghost use Rattle.std.specs.Prelude.{◌≡◌, ◌≢◌, ◌<◌, ◌≤◌, IfNone, IfSome};
+ghost use Rattle.std.specs.Prelude.{◌≡◌, ◌≢◌, ◌≤◌, ◌⊎◌, ◌∷◌, [], ℕ, IfNone, IfOk, IfSome, IsErr, MatchOption, Ok, false, replicate};
+ghost use Rattle.std.specs.List.{list_any};
+ghost use Rattle.hex.specs.Hex.{decode_of};
+ghost use Rattle.shore_script.specs.Bytes.{HasUpper, is_upper};
 ghost use Rattle.shore_types.specs.Names.{mode_name};
 ghost use Rattle.shore_types.specs.declared.locking.Mode.{Mode};
 
+use hex::FromHexError;
 use shore_types::{Bytes, Granule, Mode, PageId, Rid, Sequence, SessionId, StoreId};
 use std::alloc::{AllocError, Global};
 
@@ -109,8 +113,11 @@ pub fn bytes(alloc: Global, word: &str) -> Result<Option<Bytes>, AllocError> {
     }
 }
 
-fn copies(alloc: Global, pair: &str, count: &str) -> Result<Option<Bytes>, AllocError> {
-    let (Some(byte), Some(count)) = (one_byte(pair), number(count)) else {
+// A byte by its pair of digits, as often as a number says.
+fn copies(alloc: Global, pair: &str, count: &str) -> Result<Option<Bytes>, AllocError>
+    ensures { IfOk result (λ found. IfSome found (λ copies. (byte : ℕ) × (n : ℕ) × (decode_of pair.now ≡ Ok (byte ∷ [])) × (copies ≡ replicate n byte))) }
+{
+    let (Some(byte), Some(count)) = (one_byte(alloc, pair)?, number(count)) else {
         return Ok(None);
     };
     if count == 0 || count > MOST_COPIES {
@@ -120,41 +127,41 @@ fn copies(alloc: Global, pair: &str, count: &str) -> Result<Option<Bytes>, Alloc
     Ok(Some(Sequence::from_vec(copies)))
 }
 
-fn one_byte(pair: &str) -> Option<u8> {
-    match pair.as_bytes() {
-        [high, low] => byte_of(*high, *low),
-        _ => None,
-    }
+fn one_byte(alloc: Global, pair: &str) -> Result<Option<u8>, AllocError>
+    ensures { IfOk result (λ found. IfSome found (λ byte. decode_of pair.now ≡ Ok (byte ∷ []))) }
+{
+    Ok(match pairs(alloc, pair)? {
+        Some(found) => match found.as_slice() {
+            [byte] => Some(*byte),
+            _ => None,
+        },
+        None => None,
+    })
 }
 
-fn pairs(alloc: Global, word: &str) -> Result<Option<Bytes>, AllocError> {
-    let digits = word.as_bytes();
-    if digits.is_empty() || digits.len() % 2 != 0 {
+// The bytes of some pairs of lower-case digits: "aa" is the byte 0xAA. None if the word is no such text.
+fn pairs(alloc: Global, word: &str) -> Result<Option<Bytes>, AllocError>
+    ensures { IfOk result (λ found. MatchOption found ((word.now ≡ []) ⊎ HasUpper word.now ⊎ IsErr (decode_of word.now)) (λ bytes. (word.now ≢ []) × (list_any is_upper word.now ≡ false) × (decode_of word.now ≡ Ok bytes))) }
+{
+    if word.is_empty() || has_upper(word.as_bytes()) {
         return Ok(None);
     }
-    let mut found = Vec::with_capacity(alloc, digits.len() / 2)?;
-    for pair in digits.chunks(2) {
-        match pair {
-            [high, low] => match byte_of(*high, *low) {
-                Some(byte) => found.push(byte)?,
-                None => return Ok(None),
-            },
-            _ => return Ok(None),
-        }
+    match hex::decode(alloc, word.as_bytes()) {
+        Ok(bytes) => Ok(Some(Sequence::from_vec(bytes))),
+        Err(FromHexError::OutOfMemory) => Err(AllocError),
+        Err(_) => Ok(None),
     }
-    Ok(Some(Sequence::from_vec(found)))
 }
 
-fn byte_of(high: u8, low: u8) -> Option<u8> {
-    Some(digit(high)? * 16 + digit(low)?)
-}
-
-fn digit(byte: u8) -> Option<u8>
-    ensures { IfSome result (λ d. d < 16) }
+// Digits in upper case, which are none of the script's.
+fn has_upper(word: &[u8]) -> bool
+    ensures { result ≡ list_any is_upper word.now }
 {
-    match byte {
-        b'0'..=b'9' => Some(byte - b'0'),
-        b'a'..=b'f' => Some(byte - b'a' + 10),
-        _ => None,
-    }
+    word.iter().any(|byte| is_upper(*byte))
+}
+
+fn is_upper(byte: u8) -> bool
+    ensures { result ≡ is_upper byte }
+{
+    (b'A'..=b'F').contains(&byte)
 }

@@ -9,17 +9,17 @@ use Rattle.shore_page.specs.Room.{HasRoom, raised}
 use Rattle.shore_page.specs.Slots.{Slot, settled, with_change}
 use Rattle.shore_page.specs.Text as text
 use Rattle.shore_page.proofs.Fitting.{fit_in_room}
-use Rattle.shore_lives.specs.Sessions.{SessionTxn, without_txn}
-use Rattle.shore_lives.specs.Views.{IsAmong}
-use Rattle.shore_room.specs.Claims.{Claimed, SlotCounts, slots_of}
-use Rattle.shore_room.specs.Settling.{let_go, reserved_for, reserved_for_all, settled_slots}
-use Rattle.shore_room.proofs.Fetching.{fetched}
-use Rattle.shore_room.proofs.Leaving.{left_keeps, left_slots}
-use Rattle.shore_room.proofs.Pages.{length-slots}
+use Rattle.laws_lives.specs.Sessions.{SessionTxn, without_txn}
+use Rattle.laws_lives.specs.Views.{IsAmong}
+use Rattle.laws_room.specs.Claims.{Claimed, SlotCounts, slots_of}
+use Rattle.laws_room.specs.Settling.{let_go, reserved_for, reserved_for_all, settled_slots}
+use Rattle.laws_room.proofs.Fetching.{fetched}
+use Rattle.laws_room.proofs.Leaving.{left_keeps, left_slots}
+use Rattle.laws_room.proofs.Pages.{length-slots}
 use Rattle.shore_txn.specs.ActiveTxns.{HasMore, all_changes, session_txns}
-use Rattle.shore_undo.specs.Txns.{as_session_txn, entries_of}
-use Rattle.shore_undo.specs.UndoEntries.{claims_on, images_of}
-use Rattle.shore_undo.specs.declared.txn.Txn.{Txn}
+use Rattle.shore_txn.specs.Txns.{as_session_txn, entries_of}
+use Rattle.shore_txn.specs.UndoEntries.{claims_on, images_of}
+use Rattle.shore_txn.specs.declared.txn.Txn.{Txn}
 use Rattle.shore_txn.proofs.ClaimLemmas.{claims_append}
 use Rattle.shore_txn.proofs.KeptLemmas.{read_slots, told_reserved, told_there}
 

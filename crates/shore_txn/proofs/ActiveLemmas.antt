@@ -4,13 +4,13 @@ use Rattle.std.specs.List.{All, HoldsAt, slice_get, slice_index_or}
 use Rattle.std.specs.Option.{unwrap_or}
 use Rattle.std.proofs.lemmas.List.{append_assoc, map-append, reverse-append, reverse-reverse}
 use Rattle.std.proofs.lemmas.Option.{get_or_from_slice_get, none-some, slice_get_cases}
-use Rattle.shore_lives.specs.Sessions.{EachOnce, SessionTxn}
-use Rattle.shore_lives.specs.Views.{IsAmong}
+use Rattle.laws_lives.specs.Sessions.{EachOnce, SessionTxn}
+use Rattle.laws_lives.specs.Views.{IsAmong}
 use Rattle.shore_txn.specs.ActiveTxns as active
 use Rattle.shore_txn.specs.ActiveTxns.{CanNote, session_txns, sessions_of, undos_of}
-use Rattle.shore_undo.specs.Txns.{as_session_txn}
+use Rattle.shore_txn.specs.Txns.{as_session_txn}
 use Rattle.shore_txn.specs.declared.active.ActiveTxn.{ActiveTxn}
-use Rattle.shore_undo.specs.declared.txn.Txn.{Txn}
+use Rattle.shore_txn.specs.declared.txn.Txn.{Txn}
 use Rattle.shore_txn.proofs.OneOfMany.{among_map, among_middle, among_parts, map_among, map_join, map_parts, once_apart}
 
 -- ---- a list that has the oldest first, and the transactions of it, the newest first

@@ -1,11 +1,11 @@
 -- What holds of each transaction of a list, once one of them has become another or has left.
 use Rattle.std.proofs.Common.{◌≡◌, ◌≢◌, inl, inr, ◌++◌, ◌∷◌, ℕ, List, map, sym, ap, subst, ◌∙◌}
-use Rattle.shore_lives.specs.Sessions.{EachOnce, SessionTxn, txns_of}
-use Rattle.shore_lives.specs.Views.{IsAmong}
+use Rattle.laws_lives.specs.Sessions.{EachOnce, SessionTxn, txns_of}
+use Rattle.laws_lives.specs.Views.{IsAmong}
 use Rattle.shore_txn.specs.ActiveTxns.{OneBecomes, OneLeaves, session_txns, sessions_of}
-use Rattle.shore_undo.specs.Txns.{as_session_txn, number_of}
-use Rattle.shore_undo.specs.declared.txn.Txn.{Txn}
-use Rattle.shore_undo.specs.declared.undo.UndoEntry.{UndoEntry}
+use Rattle.shore_txn.specs.Txns.{as_session_txn, number_of}
+use Rattle.shore_txn.specs.declared.txn.Txn.{Txn}
+use Rattle.shore_txn.specs.declared.undo.UndoEntry.{UndoEntry}
 use Rattle.shore_txn.proofs.OneOfMany.{among_map, among_middle, among_more, among_parts, map_join, map_parts, once_apart}
 
 -- the numbers and the sessions are each once

@@ -6,18 +6,18 @@ use Rattle.std.proofs.lemmas.List.{append_assoc, append-nil, length-map, length-
 use Rattle.std.proofs.lemmas.Nat.{div-add-mod', div-mul-add, mod-mul-add, mod_below}
 use Rattle.std.proofs.lemmas.Option.{none-some, slice_get_within}
 use Rattle.shore_types.specs.declared.ids.PageId.{PageId}
-use Rattle.shore_room.specs.LogRooms.{compensation_costs, owed_by_all}
+use Rattle.laws_room.specs.LogRooms.{compensation_costs, owed_by_all}
 use Rattle.shore_txn.specs.ActiveTxns as active
 use Rattle.shore_txn.specs.ActiveTxns.{IsPlace, all_changes, changes_to, entries_if, own_place, places_if, txn_index, undos_of}
 use Rattle.shore_txn.specs.Chains.{IsOfBucket, bucket_of, newest_in}
 use Rattle.shore_txn.specs.Places.{buckets_if}
-use Rattle.shore_undo.specs.Txns.{as_session_txn, entries_of}
-use Rattle.shore_undo.specs.UndoEntries.{claims_on, images_of}
+use Rattle.shore_txn.specs.Txns.{as_session_txn, entries_of}
+use Rattle.shore_txn.specs.UndoEntries.{claims_on, images_of}
 use Rattle.shore_txn.specs.declared.active.ActiveTxn.{ActiveTxn}
 use Rattle.shore_txn.specs.declared.claims.TheConstants.{OWN_PLACES}
 use Rattle.shore_txn.specs.declared.transactions.Transactions.{Transactions}
-use Rattle.shore_undo.specs.declared.txn.Txn.{Txn}
-use Rattle.shore_undo.specs.declared.undo.UndoEntry.{UndoEntry}
+use Rattle.shore_txn.specs.declared.txn.Txn.{Txn}
+use Rattle.shore_txn.specs.declared.undo.UndoEntry.{UndoEntry}
 use Rattle.shore_txn.proofs.ActiveLemmas.{IsAt, is_at, one_at, read_at, session_txn_there, txns_parts}
 use Rattle.shore_txn.proofs.ChainLemmas.{newest_is, newest_within}
 use Rattle.shore_txn.proofs.ClaimLemmas.{Tells, claims_append, newest_tells, place_tells}

@@ -2,28 +2,27 @@
 use Rattle.std.proofs.Common.{◌≡◌, ◌≢◌, ◌+◌, ◌<◌, ℕ, List, Option, None, Some, [], ◌∷◌, ◌++◌, suc, drop, length, set, take, refl, sym, ap, subst, ◌∙◌, arith}
 use Rattle.std.specs.List.{AllByRecursion}
 use Rattle.std.proofs.lemmas.List.{append_assoc, append-nil, length-map, map-append}
-use Rattle.shore_types.specs.Images.{Image}
+use Rattle.shore_types.specs.Images.{Image, image_len}
 use Rattle.shore_types.specs.declared.ids.PageId.{PageId}
 use Rattle.shore_types.specs.declared.ids.Rid.{Rid}
 use Rattle.shore_types.specs.declared.layout.TheConstants.{ENDING_COST}
-use Rattle.shore_page.specs.Slots.{image_len}
-use Rattle.shore_room.specs.LogRooms.{compensation_cost, compensation_costs, owed, owed_by_all}
-use Rattle.shore_lives.specs.Sessions.{EachOnce, SessionTxn, txns_of, with_undo, without_txn}
-use Rattle.shore_lives.specs.UndoLists.{UndoList, marks_kept, undo_rolled}
-use Rattle.shore_lives.specs.Views.{IsAmong}
+use Rattle.laws_room.specs.LogRooms.{compensation_cost, compensation_costs, owed, owed_by_all}
+use Rattle.laws_lives.specs.Sessions.{EachOnce, SessionTxn, txns_of, with_undo, without_txn}
+use Rattle.laws_lives.specs.UndoLists.{UndoList, marks_kept, undo_rolled}
+use Rattle.laws_lives.specs.Views.{IsAmong}
 use Rattle.shore_txn.specs.ActiveTxns as active
 use Rattle.shore_txn.specs.ActiveTxns.{HasMore, OneBecomes, OneLeaves, all_changes, back_at, session_txns, sessions_of, with_entry, with_mark}
-use Rattle.shore_undo.specs.Txns.{IsAfterChange, IsAfterSavepoint, IsAfterUndo, IsBackAt, IsDoomed, SameTxn, as_session_txn, entries_of, marks_of, number_of, rolling_of, state_of}
-use Rattle.shore_undo.specs.UndoEntries.{claims_on, image_of, images_of}
+use Rattle.shore_txn.specs.Txns.{IsAfterChange, IsAfterSavepoint, IsAfterUndo, IsBackAt, IsDoomed, SameTxn, as_session_txn, entries_of, marks_of, number_of, rolling_of, state_of}
+use Rattle.shore_txn.specs.UndoEntries.{claims_on, image_of, images_of}
 use Rattle.shore_txn.specs.declared.active.ActiveTxn.{ActiveTxn}
-use Rattle.shore_lives.specs.declared.rollbacks.Rollback.{Rollback}
-use Rattle.shore_lives.specs.declared.rollbacks.Rollback.TheVariants.{Whole}
-use Rattle.shore_undo.specs.declared.txn.Txn.{Txn}
-use Rattle.shore_undo.specs.declared.undo.UndoEntry.{UndoEntry}
+use Rattle.shore_model.specs.declared.rollbacks.Rollback.{Rollback}
+use Rattle.shore_model.specs.declared.rollbacks.Rollback.TheVariants.{Whole}
+use Rattle.shore_txn.specs.declared.txn.Txn.{Txn}
+use Rattle.shore_txn.specs.declared.undo.UndoEntry.{UndoEntry}
 use Rattle.shore_txn.proofs.ActiveLemmas.{IsAt, txns_join, txns_parts}
 use Rattle.shore_txn.proofs.ClaimLemmas.{claims_append, claims_other, claims_push}
 use Rattle.shore_txn.proofs.OneOfMany.{all_among, all_less, all_with, among_middle, map_among, map_join, map_parts, map_with, once_less, once_same, owed_parts, with_its, with_one, without_one}
-use Rattle.shore_undo.proofs.UndoLemmas.{costs_push}
+use Rattle.shore_txn.proofs.UndoLemmas.{costs_push}
 
 -- what holds of the transactions of a table
 pub record AreKept (undos : List SessionTxn) (reserved next : ℕ) : Type 0 where

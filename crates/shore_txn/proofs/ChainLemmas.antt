@@ -7,6 +7,7 @@ use Rattle.std.proofs.lemmas.Bool.{cases_eq}
 use Rattle.std.proofs.lemmas.Bool.Decides.{Decides-eqb}
 use Rattle.std.proofs.lemmas.List.{get_or-replicate, length-replicate, length-map, length-set, length_push, map-append, get_or-set_same, get_or-set_other, take-append-le}
 use Rattle.shore_txn.specs.declared.chains.Link.{Link}
+use Rattle.shore_txn.specs.declared.chains.TheConstants.{BUCKETS}
 use Rattle.shore_txn.specs.Chains.{IsChained, IsLink, IsOfBucket, buckets_of, link_at, newest_in, place_behind}
 
 -- a test of two numbers that are one, and of two that are not
@@ -55,7 +56,7 @@ newest_is (x ∷ buckets) b = each (x == b) (Decides-eqb x b).0 (newest_in b buc
 
 -- ---- one place more
 
-module _ (links : List Link) (heads : List ℕ) (link : Link) (chained : IsChained links heads) (inside : link.bucket < 1024) (leads : link.older ≡ get_or heads link.bucket 0) where
+module _ (links : List Link) (heads : List ℕ) (link : Link) (chained : IsChained links heads) (inside : link.bucket < BUCKETS) (leads : link.older ≡ get_or heads link.bucket 0) where
   abbrev longer : List Link
   longer = links ++ link ∷ []
 
@@ -68,7 +69,7 @@ module _ (links : List Link) (heads : List ℕ) (link : Link) (chained : IsChain
   count : length (buckets_of links) ≡ length links
   count = length-map links (λ (l : Link). l.bucket)
 
-  newest_more : (b : ℕ) → b < 1024 → get_or (set heads link.bucket (length longer)) b 0 ≡ newest_in b (buckets_of longer)
+  newest_more : (b : ℕ) → b < BUCKETS → get_or (set heads link.bucket (length longer)) b 0 ≡ newest_in b (buckets_of longer)
   newest_more b below = elim (cases_eq link.bucket b) [
     | inl same ↦ subst (λ (n : ℕ). get_or (set heads link.bucket (length longer)) n 0 ≡ newest_in n (buckets_of longer)) same
         (get_or-set_same heads link.bucket (length longer) 0 (let c = chained.count in omega (arith, c, inside)) ∙ length_push links link ∙ ap (λ n. n + 1) (sym count) ∙ sym (ap (newest_in link.bucket) buckets_more ∙ newest_push (buckets_of links) link.bucket))
@@ -107,7 +108,7 @@ module _ (links : List Link) (heads : List ℕ) (link : Link) (chained : IsChain
       (ap (take (length links)) buckets_were ∙ ap (λ n. take n (buckets_of links ++ link.bucket ∷ [])) (sym few) ∙ take-append_seam (buckets_of links) (link.bucket ∷ []))
       (chained.older (length links) (let long = length_push links link in omega (arith, long))))
 
-  newest_less : (b : ℕ) → b < 1024 → get_or (set heads link.bucket link.older) b 0 ≡ newest_in b (buckets_of links)
+  newest_less : (b : ℕ) → b < BUCKETS → get_or (set heads link.bucket link.older) b 0 ≡ newest_in b (buckets_of links)
   newest_less b below = elim (cases_eq link.bucket b) [
     | inl same ↦ subst (λ (n : ℕ). get_or (set heads link.bucket link.older) n 0 ≡ newest_in n (buckets_of links)) same
         (get_or-set_same heads link.bucket link.older 0 (let c = chained.count in let inside = newest_leads.inside in omega (arith, c, inside)) ∙ newest_leads.leads)
@@ -124,11 +125,11 @@ module _ (links : List Link) (heads : List ℕ) (link : Link) (chained : IsChain
   chained_less = record { count = length-set heads link.bucket link.older ∙ chained.count; newest = newest_less; older = older_less }
 
 -- no place is chained
-pub fresh_chained : (heads : List ℕ) → heads ≡ replicate 1024 0 → IsChained [] heads
+pub fresh_chained : (heads : List ℕ) → heads ≡ replicate BUCKETS 0 → IsChained [] heads
 fresh_chained heads is =
-    let long : length (replicate {A = ℕ} 1024 0) ≡ 1024 = length-replicate {A = ℕ} 1024 0 in
+    let long : length (replicate {A = ℕ} BUCKETS 0) ≡ BUCKETS = length-replicate {A = ℕ} BUCKETS 0 in
     record {
       count = ap length is ∙ long;
-      newest = λ b below. ap (λ (l : List ℕ). get_or l b 0) is ∙ get_or-replicate {A = ℕ} 1024 b 0 0 below;
+      newest = λ b below. ap (λ (l : List ℕ). get_or l b 0) is ∙ get_or-replicate {A = ℕ} BUCKETS b 0 0 below;
       older = λ k below. absurd (omega (arith, below));
     }

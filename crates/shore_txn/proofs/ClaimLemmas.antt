@@ -8,11 +8,11 @@ use Rattle.std.proofs.lemmas.Option.{get_or_from_slice_get}
 use Rattle.std.proofs.lemmas.Map.Views.{tells_apart}
 use Rattle.shore_types.specs.Ids.{exact_pages, page_cmp}
 use Rattle.shore_types.specs.declared.ids.PageId.{PageId}
-use Rattle.shore_page.specs.Slots.{image_len}
-use Rattle.shore_room.proofs.Leaving.{same_page}
+use Rattle.shore_types.specs.Images.{image_len}
+use Rattle.laws_room.proofs.Leaving.{same_page}
 use Rattle.shore_txn.specs.Chains.{IsOfBucket, bucket_of, newest_in, page_buckets, place_behind}
-use Rattle.shore_undo.specs.UndoEntries.{claims_on}
-use Rattle.shore_undo.specs.declared.undo.UndoEntry.{UndoEntry}
+use Rattle.shore_txn.specs.UndoEntries.{claims_on}
+use Rattle.shore_txn.specs.declared.undo.UndoEntry.{UndoEntry}
 use Rattle.shore_txn.proofs.ChainLemmas.{newest_is, newest_within}
 
 -- what an entry tells, and those behind it

@@ -5,20 +5,20 @@ use Rattle.std.specs.List.{AllByRecursion}
 use Rattle.std.specs.Ordering.{eq_by_cmp}
 use Rattle.std.proofs.lemmas.Map.Views.{tells_apart}
 use Rattle.shore_types.specs.Ids.{exact_pages, page_cmp}
-use Rattle.shore_types.specs.Images.{Image}
+use Rattle.shore_types.specs.Images.{Image, image_len}
 use Rattle.shore_types.specs.declared.ids.PageId.{PageId}
 use Rattle.shore_model.specs.Records.{Records}
 use Rattle.shore_page.specs.Claims.{AreThere, claimed_by}
 use Rattle.shore_page.specs.Room.{raised}
-use Rattle.shore_page.specs.Slots.{Slot, image_len, settled, with_change}
+use Rattle.shore_page.specs.Slots.{Slot, settled, with_change}
 use Rattle.shore_page.specs.Text as text
 use Rattle.shore_page.specs.Undo.{claiming}
-use Rattle.shore_lives.specs.Sessions.{SessionTxn}
-use Rattle.shore_room.specs.Claims.{SlotCounts, rid_on, slots_of, undecided_at}
-use Rattle.shore_room.specs.Settling.{reserved_for, settled_slots}
-use Rattle.shore_room.proofs.Leaving.{map_each}
-use Rattle.shore_undo.specs.UndoEntries.{claims_on, images_of}
-use Rattle.shore_undo.specs.declared.undo.UndoEntry.{UndoEntry}
+use Rattle.laws_lives.specs.Sessions.{SessionTxn}
+use Rattle.laws_room.specs.Claims.{SlotCounts, rid_on, slots_of, undecided_at}
+use Rattle.laws_room.specs.Settling.{reserved_for, settled_slots}
+use Rattle.laws_room.proofs.Leaving.{map_each}
+use Rattle.shore_txn.specs.UndoEntries.{claims_on, images_of}
+use Rattle.shore_txn.specs.declared.undo.UndoEntry.{UndoEntry}
 
 -- ---- claims rise in any order
 

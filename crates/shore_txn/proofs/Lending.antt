@@ -1,14 +1,14 @@
 -- A transaction of the table that is lent, and what the table is once it has become another.
 use Rattle.std.proofs.Common.{◌≡◌, ◌<◌, ℕ, length, set, sym, ap, subst, ◌∙◌}
 use Rattle.std.specs.List.{HoldsAt, slice_index_or}
-use Rattle.shore_lives.specs.Views.{IsAmong}
+use Rattle.laws_lives.specs.Views.{IsAmong}
 use Rattle.shore_txn.specs.ActiveTxns.{OneBecomes, undos_of}
 use Rattle.shore_txn.specs.Transactions.{txns_in, undos_in}
 use Rattle.shore_txn.specs.ActiveTxns as active
-use Rattle.shore_undo.specs.Txns.{as_session_txn}
+use Rattle.shore_txn.specs.Txns.{as_session_txn}
 use Rattle.shore_txn.specs.declared.active.ActiveTxn.{ActiveTxn}
 use Rattle.shore_txn.specs.declared.transactions.Transactions.{Transactions}
-use Rattle.shore_undo.specs.declared.txn.Txn.{Txn}
+use Rattle.shore_txn.specs.declared.txn.Txn.{Txn}
 use Rattle.shore_txn.proofs.ActiveLemmas.{holds_at, one_at, read_at, session_txn_there}
 use Rattle.shore_txn.proofs.ActiveSteps.{AreKept, becomes_at}
 

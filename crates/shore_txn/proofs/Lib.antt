@@ -1,3 +1,4 @@
+pub mod UndoLemmas
 pub mod ChainLemmas
 pub mod ClaimLemmas
 pub mod KeptLemmas

@@ -3,10 +3,10 @@ use Rattle.std.proofs.Common.{◌≡◌, ◌⊎◌, inl, inr, ◌+◌, ◌≤◌
 use Rattle.std.specs.Prelude.{◌==◌, not}
 use Rattle.std.specs.List.{AllByRecursion}
 use Rattle.std.proofs.lemmas.Bool.{eqb-true, eq-eqb}
-use Rattle.shore_room.specs.LogRooms.{owed, owed_by_all}
-use Rattle.shore_lives.specs.Sessions.{EachOnce, SessionTxn, txns_of, with_undo, without_txn}
-use Rattle.shore_lives.specs.UndoLists.{UndoList}
-use Rattle.shore_lives.specs.Views.{IsAmong}
+use Rattle.laws_room.specs.LogRooms.{owed, owed_by_all}
+use Rattle.laws_lives.specs.Sessions.{EachOnce, SessionTxn, txns_of, with_undo, without_txn}
+use Rattle.laws_lives.specs.UndoLists.{UndoList}
+use Rattle.laws_lives.specs.Views.{IsAmong}
 
 -- ---- elements
 

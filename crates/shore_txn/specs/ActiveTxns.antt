@@ -1,17 +1,17 @@
 -- Transactions under way, as a list that has the newest first, and the places of their changes.
 use Rattle.std.specs.Prelude.{◌≡◌, ◌/◌, ◌%◌, ◌+◌, ◌++◌, ◌∷◌, [], ℕ, List, Option, None, Some, length, map, reverse, slice_get, take}
 use Rattle.std.specs.Coded.{×_prop, →_prop, Unit-prop}
-use Rattle.shore_lives.specs.Sessions.{EachOnce, SessionTxn}
-use Rattle.shore_lives.specs.UndoLists.{UndoList}
+use Rattle.laws_lives.specs.Sessions.{EachOnce, SessionTxn}
+use Rattle.laws_lives.specs.UndoLists.{UndoList}
 use Rattle.shore_txn.specs.declared.active.ActiveTxn.{ActiveTxn}
 use Rattle.shore_txn.specs.declared.claims.TheConstants.{OWN_PLACES}
-use Rattle.shore_undo.specs.declared.txn.Txn.{Txn}
-use Rattle.shore_undo.specs.declared.txn_state.TxnState.TheVariants as state
-use Rattle.shore_undo.specs.declared.undo.UndoEntry.{UndoEntry}
+use Rattle.shore_txn.specs.declared.txn.Txn.{Txn}
+use Rattle.shore_txn.specs.declared.txn_state.TxnState.TheVariants as state
+use Rattle.shore_txn.specs.declared.undo.UndoEntry.{UndoEntry}
 use Rattle.shore_txn.specs.Chains.{IsOfBucket}
 use Rattle.shore_txn.specs.Places.{HasLinkRoomIf, buckets_if}
-use Rattle.shore_undo.specs.Txns.{HasEntryRoom, as_session_txn, entries_of, last_of, marks_of, number_of, state_of}
-use Rattle.shore_undo.specs.UndoEntries.{image_of}
+use Rattle.shore_txn.specs.Txns.{HasEntryRoom, as_session_txn, entries_of, last_of, marks_of, number_of, state_of}
+use Rattle.shore_txn.specs.UndoEntries.{image_of}
 
 -- the transactions of a list that has the oldest first: the newest first
 abbrev pub txns_of : List ActiveTxn → List Txn

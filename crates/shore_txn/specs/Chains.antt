@@ -2,11 +2,12 @@
 use Rattle.std.specs.Prelude.{◌≡◌, ◌==◌, ◌<◌, ◌+◌, ◌*◌, ◌%◌, ℕ, zero, suc, Bool, List, [], ◌∷◌, Some, length, map, take, get_or, slice_get, slice_index_or, if◌then◌else◌}
 use Rattle.shore_types.specs.declared.ids.PageId.{PageId}
 use Rattle.shore_txn.specs.declared.chains.Link.{Link}
-use Rattle.shore_undo.specs.declared.undo.UndoEntry.{UndoEntry}
+use Rattle.shore_txn.specs.declared.chains.TheConstants.{BUCKETS}
+use Rattle.shore_txn.specs.declared.undo.UndoEntry.{UndoEntry}
 
 -- the bucket of a page
 abbrev pub bucket_of : PageId → ℕ
-bucket_of page = (page.store * 61 + page.page) % 1024
+bucket_of page = (page.store * 61 + page.page) % BUCKETS
 
 -- .. the buckets of the pages of changes
 abbrev pub page_buckets : List UndoEntry → List ℕ
@@ -35,11 +36,11 @@ link_at links index = slice_index_or links index (record { bucket = 0; older = 0
 
 -- behind places of these buckets a link leads to the newest of its own
 pub record IsLink (earlier : List ℕ) (link : Link) : Type 0 where
-  pub inside : link.bucket < 1024
+  pub inside : link.bucket < BUCKETS
   pub leads : link.older ≡ newest_in link.bucket earlier
 
 -- each bucket leads to its newest place, and each place to the next older one
 pub record IsChained (links : List Link) (heads : List ℕ) : Type 0 where
-  pub count : length heads ≡ 1024
-  pub newest : (bucket : ℕ) → bucket < 1024 → get_or heads bucket 0 ≡ newest_in bucket (buckets_of links)
+  pub count : length heads ≡ BUCKETS
+  pub newest : (bucket : ℕ) → bucket < BUCKETS → get_or heads bucket 0 ≡ newest_in bucket (buckets_of links)
   pub older : (index : ℕ) → index < length links → IsLink (take index (buckets_of links)) (link_at links index)

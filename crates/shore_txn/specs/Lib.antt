@@ -1,3 +1,5 @@
+pub mod UndoEntries
+pub mod Txns
 pub mod Chains
 pub mod Places
 pub mod ActiveTxns

@@ -1,15 +1,15 @@
 -- What the table of transactions has.
 use Rattle.std.specs.Prelude.{◌≡◌, ◌≢◌, ℕ, List}
 use Rattle.shore_types.specs.declared.ids.PageId.{PageId}
-use Rattle.shore_lives.specs.Sessions.{SessionTxn}
-use Rattle.shore_lives.specs.Views.{IsAmong}
+use Rattle.laws_lives.specs.Sessions.{SessionTxn}
+use Rattle.laws_lives.specs.Views.{IsAmong}
 use Rattle.shore_txn.specs.declared.active.ActiveTxn.{ActiveTxn}
 use Rattle.shore_txn.specs.declared.log_room.LogRoom.{LogRoom}
 use Rattle.shore_txn.specs.declared.transactions.Transactions.{Transactions}
-use Rattle.shore_undo.specs.declared.txn.Txn.{Txn}
+use Rattle.shore_txn.specs.declared.txn.Txn.{Txn}
 use Rattle.shore_txn.specs.ActiveTxns.{CanNote, IsPlace, all_changes, changes_to, own_place, session_txns, txn_index, txns_of}
 use Rattle.shore_txn.specs.Chains.{bucket_of}
-use Rattle.shore_undo.specs.UndoEntries.{claims_on}
+use Rattle.shore_txn.specs.UndoEntries.{claims_on}
 
 -- the transactions under way, the newest first
 abbrev pub txns_in : Transactions → List Txn

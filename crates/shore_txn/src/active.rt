@@ -1,24 +1,27 @@
 //! A transaction of the table, with the places of its changes.
 ghost use Rattle.std.specs.Prelude.{◌≡◌, ◌-◌, ◌+◌, ◌<◌, ◌≤◌, ◌++◌, ◌∷◌, [], List, IfOk, IsSome, OnErr, OnOk, Some, get_or, length, option_to_list, slice_get, take};
 ghost use Rattle.shore_types.specs.declared.layout.TheConstants.{LAST_TXN, MAX_LOG_BYTES, MAX_RECORD_BYTES, MAX_SAVEPOINTS};
-ghost use Rattle.shore_page.specs.Slots.{image_len};
-ghost use Rattle.shore_room.specs.LogRooms.{compensation_cost};
+ghost use Rattle.shore_types.specs.Images.{image_len};
+ghost use Rattle.laws_room.specs.LogRooms.{compensation_cost};
 ghost use Rattle.shore_txn.specs.Chains.{bucket_of, newest_in, page_buckets};
 ghost use Rattle.shore_txn.specs.Places.{buckets_if};
-ghost use Rattle.shore_undo.specs.Txns.{IsAfterChange, IsAfterSavepoint, IsAfterUndo, IsBackAt, IsDoomed, SameTxn, entries_of, marks_of};
-ghost use Rattle.shore_undo.specs.UndoEntries.{claims_on};
-ghost use Rattle.shore_undo.specs.declared.undo.UndoEntry.{UndoEntry};
+ghost use Rattle.shore_txn.specs.Txns.{IsAfterChange, IsAfterSavepoint, IsAfterUndo, IsBackAt, IsDoomed, SameTxn, entries_of, marks_of};
+ghost use Rattle.shore_txn.specs.UndoEntries.{claims_on};
+ghost use Rattle.shore_txn.specs.declared.undo.UndoEntry.{UndoEntry};
 
 use crate::chains::PageChains;
-use shore_lives::Rollback;
+use crate::txn::Txn;
+use crate::undo::UndoEntry;
+use shore_model::Rollback;
 use shore_types::{Lsn, PageId, SessionId, TxnId};
-use shore_undo::{Txn, UndoEntry};
 use std::alloc::{AllocError, Global};
 
 /// A transaction under way. It has chains of its own from its first change on, so that a begin makes none.
 #[derive(Drop)]
 pub(crate) struct ActiveTxn {
+    /// Its number, its undo list, and what it may do.
     txn: Txn,
+    /// A place for each entry of the undo list (`chained`): who adds or takes an entry does so in both.
     chains: Option<PageChains>,
     ghost chained: { buckets_if chains ≡ page_buckets (entries_of txn) },
 }

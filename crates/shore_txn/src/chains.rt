@@ -3,16 +3,20 @@ ghost use Rattle.std.specs.Prelude.{◌≡◌, ◌+◌, ◌-◌, ◌<◌, ◌≤
 ghost use Rattle.shore_types.specs.declared.ids.PageId.{PageId};
 ghost use Rattle.shore_txn.specs.Chains as chains;
 ghost use Rattle.shore_txn.specs.Chains.{IsChained, newest_in};
+ghost use Rattle.shore_txn.specs.declared.chains.TheConstants.{BUCKETS};
 
 use shore_types::PageId;
 use std::alloc::{AllocError, Global};
 
+/// How many buckets there are, whatever the number of pages.
 const BUCKETS: usize = 1_024;
 
-/// A place of a chain: its bucket, and the next older place of that bucket, 0 for none.
+/// A place of a chain.
 #[derive(Clone, Copy)]
 pub(crate) struct Link {
+    /// The bucket of its page.
     bucket: usize,
+    /// The next older place of that bucket, 0 for none.
     older: usize,
 }
 
@@ -20,7 +24,9 @@ pub(crate) struct Link {
 /// place is the index of a change and 1.
 #[derive(Drop)]
 pub(crate) struct PageChains {
+    /// For each bucket its newest place, 0 for none. `push` and `pop` keep it the newest (`chained`).
     newest: Vec<usize>,
+    /// The link of each place, the oldest first.
     links: Vec<Link>,
     ghost chained: { IsChained links.items newest.items },
 }
@@ -87,7 +93,7 @@ impl PageChains {
 // Pages of one store that follow one another have buckets of their own.
 fn bucket_of(page: &PageId) -> usize
     ensures is { result ≡ chains.bucket_of page.now }
-    ensures inside { result < 1024 }
+    ensures inside { result < BUCKETS }
 {
     (page.store.0 as usize * 61 + page.page as usize) % BUCKETS
 }

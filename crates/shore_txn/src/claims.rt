@@ -3,7 +3,7 @@ ghost use Rattle.std.specs.Prelude.{◌≡◌, ◌*◌, ◌≤◌, length, take}
 ghost use Rattle.shore_txn.specs.ActiveTxns.{IsPlace, all_changes, txns_of};
 ghost use Rattle.shore_txn.specs.Chains.{bucket_of};
 ghost use Rattle.shore_txn.specs.Transactions as transactions;
-ghost use Rattle.shore_undo.specs.UndoEntries.{claims_on};
+ghost use Rattle.shore_txn.specs.UndoEntries.{claims_on};
 ghost use Rattle.shore_txn.specs.declared.claims.TheConstants.{OWN_PLACES};
 
 use crate::transactions::Transactions;

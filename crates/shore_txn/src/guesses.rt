@@ -8,6 +8,7 @@ const GUESSES: usize = 1_024;
 /// For each session an index, by the low bits of its number: a guess, which nothing is said of. Who takes it looks.
 #[derive(Drop)]
 pub(crate) struct Guesses {
+    /// The low bits of an index, by the low bits of a session's number.
     indices: [u8; GUESSES],
 }
 

@@ -7,11 +7,11 @@ ghost use Rattle.shore_model.specs.Records.{Records};
 ghost use Rattle.shore_page.specs.Claims.{FitIn, claimed_by};
 ghost use Rattle.shore_page.specs.Slots.{Slot, settled};
 ghost use Rattle.shore_page.specs.Text.{images_of};
-ghost use Rattle.shore_room.specs.Claims.{Claimed, SlotCounts, slots_of};
-ghost use Rattle.shore_room.specs.Settling.{let_go, reserved_for_all, settled_slots};
-ghost use Rattle.shore_room.specs.LogRooms.{owed_by_all};
-ghost use Rattle.shore_lives.specs.Sessions.{EachOnce, SessionTxn, txns_of, without_txn};
-ghost use Rattle.shore_lives.specs.Views.{IsAmong};
+ghost use Rattle.laws_room.specs.Claims.{Claimed, SlotCounts, slots_of};
+ghost use Rattle.laws_room.specs.Settling.{let_go, reserved_for_all, settled_slots};
+ghost use Rattle.laws_room.specs.LogRooms.{owed_by_all};
+ghost use Rattle.laws_lives.specs.Sessions.{EachOnce, SessionTxn, txns_of, without_txn};
+ghost use Rattle.laws_lives.specs.Views.{IsAmong};
 ghost use Rattle.shore_txn.specs.ActiveTxns.{sessions_of};
 ghost use Rattle.shore_txn.specs.Transactions.{kept_in, next_in, room_in, undos_in};
 

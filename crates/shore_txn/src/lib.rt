@@ -1,4 +1,5 @@
-//! The transactions under way of many sessions, and the room of the log that they share.
+//! Transactions under way: one with its last record, its undo list, its savepoints, and what is reserved for its undo and its ending; those of many sessions,
+//! and the room of the log that they share.
 #![tactic(auto)]
 
 mod active;
@@ -7,9 +8,14 @@ mod claims;
 mod guesses;
 pub mod laws;
 mod log_room;
-mod rolling_back;
+mod savepoints;
 mod transactions;
+mod txn;
+mod txn_state;
+mod undo;
 
 pub use log_room::LogRoom;
-pub use shore_undo::{Txn, TxnState, UndoEntry};
 pub use transactions::Transactions;
+pub use txn::Txn;
+pub use txn_state::TxnState;
+pub use undo::UndoEntry;

@@ -9,9 +9,9 @@ use shore_types::layout::{GREATEST_CHECKPOINT, LONGEST_FRAME, MAX_LOG_BYTES};
 pub struct LogRoom {
     /// The length of the log's stream.
     pub stream_bytes: u64,
-    /// The costs of all records from the oldest kept number on.
+    /// The costs of all records from the oldest kept number on: `append` adds that of a record.
     pub kept: u64,
-    /// What the endings and rollbacks of the transactions in the table would cost.
+    /// What the endings and rollbacks of the transactions in the table would cost: `reserve` adds to it, `release` takes from it.
     pub reserved: u64,
     ghost short: { stream_bytes ≤ MAX_LOG_BYTES },
     ghost within: { kept + reserved ≤ stream_bytes },

@@ -4,31 +4,35 @@ ghost use Rattle.std.proofs.Props.{props};
 ghost use Rattle.std.specs.List.{AllByRecursion, HoldsAt};
 ghost use Rattle.shore_types.specs.declared.ids.PageId.{PageId};
 ghost use Rattle.shore_types.specs.declared.layout.TheConstants.{ENDING_COST, GREATEST_CHECKPOINT, LAST_TXN, LONGEST_FRAME, MAX_RECORD_BYTES};
-ghost use Rattle.shore_page.specs.Slots.{image_len};
-ghost use Rattle.shore_room.specs.LogRooms.{compensation_cost, compensation_costs, owed_by_all};
-ghost use Rattle.shore_lives.specs.Sessions.{EachOnce, SessionTxn, txns_of, with_undo, without_txn};
-ghost use Rattle.shore_lives.specs.UndoLists.{nothing_to_undo};
-ghost use Rattle.shore_lives.specs.Views.{IsAmong};
+ghost use Rattle.shore_types.specs.Images.{image_len};
+ghost use Rattle.laws_room.specs.LogRooms.{compensation_cost, compensation_costs, owed_by_all};
+ghost use Rattle.laws_lives.specs.Sessions.{EachOnce, SessionTxn, txns_of, with_undo, without_txn};
+ghost use Rattle.laws_lives.specs.UndoLists.{nothing_to_undo};
+ghost use Rattle.laws_lives.specs.Views.{IsAmong};
 ghost use Rattle.shore_txn.specs.ActiveTxns.{EachOnce-prop, HasMore, IsBegun, OneBecomes, OneLeaves, sessions_of, undos_of, with_entry};
-ghost use Rattle.shore_undo.specs.Txns.{IsAfterChange, SameTxn, as_session_txn, entries_of};
-ghost use Rattle.shore_undo.specs.UndoEntries.{claims_on, images_of};
-ghost use Rattle.shore_undo.specs.declared.txn.Txn.{Txn};
+ghost use Rattle.shore_txn.specs.Txns.{IsAfterChange, SameTxn, as_session_txn, entries_of, number_of};
+ghost use Rattle.shore_txn.specs.UndoEntries.{claims_on, images_of};
+ghost use Rattle.shore_txn.specs.declared.txn.Txn.{Txn};
 
 use crate::active::ActiveTxn;
 use crate::guesses::Guesses;
 use crate::log_room::LogRoom;
+use crate::txn::Txn;
+use crate::undo::UndoEntry;
 use shore_types::layout::{ENDING_COST, LAST_TXN};
 use shore_types::{SessionId, TxnId};
-use shore_undo::{Txn, UndoEntry};
 use std::alloc::{AllocError, Global};
 
 /// The transactions under way, and the room of the log that they share with all records. A session has one at most.
 #[derive(Drop)]
 pub struct Transactions {
+    /// The number of the next transaction: those under way have lower ones (`below`).
     next: u64,
-    // The oldest first.
+    /// The transactions under way, the oldest first: no two of a number (`numbers`) or of a session (`sessions`).
     pub(crate) active: Vec<ActiveTxn>,
+    /// Where the transaction of a session may be among them.
     pub(crate) guesses: Guesses,
+    /// The room of the log: what is reserved in it is what those under way owe (`sum`).
     pub(crate) room: LogRoom,
     ghost some: { 1 ≤ next },
     ghost sum: { room.reserved ≡ owed_by_all (undos_of active.items) },
@@ -148,26 +152,28 @@ impl Transactions {
         self.room.reserve(undo);
     }
 
-    /// The Commit of a session's transaction was logged: what was reserved for it is free. Answers its changes, the oldest first, whose claims go
-    /// now.
-    pub fn note_commit(&mut self, session: SessionId) -> Vec<UndoEntry>
+    /// The Commit of a session's transaction was logged: what was reserved for it is free. Answers its number, and its changes, the oldest first,
+    /// whose claims go now.
+    pub fn note_commit(&mut self, session: SessionId) -> (TxnId, Vec<UndoEntry>)
         requires there { HasTxnOf session self.old }
-        ensures left { OneLeaves session result.items (txns_in self.old) (txns_in self.new) }
+        ensures number { (a : SessionTxn) → IsAmong a (undos_in self.old) → a.session ≡ session → result.0 ≡ a.txn }
+        ensures left { OneLeaves session result.1.items (txns_in self.old) (txns_in self.new) }
         ensures undos { (a : SessionTxn) → IsAmong a (undos_in self.old) → a.session ≡ session → undos_in self.new ≡ without_txn a.txn (undos_in self.old) }
-        ensures claims { (p : PageId) → HasMore (claims_on p result.items) (kept_in self.new p) (kept_in self.old p) }
+        ensures claims { (p : PageId) → HasMore (claims_on p result.1.items) (kept_in self.new p) (kept_in self.old p) }
         ensures next { next_in self.new ≡ next_in self.old }
         ensures kept { (room_in self.new).kept ≡ (room_in self.old).kept + ENDING_COST }
-        ensures reserved { (room_in self.new).reserved + ENDING_COST + compensation_costs (images_of result.items) ≡ (room_in self.old).reserved }
+        ensures reserved { (room_in self.new).reserved + ENDING_COST + compensation_costs (images_of result.1.items) ≡ (room_in self.old).reserved }
         ensures stream { (room_in self.new).stream_bytes ≡ (room_in self.old).stream_bytes }
     {
         let decided = self.take_out(session);
         self.room.append(ENDING_COST);
-        decided.into_undo()
+        (decided.txn().id(), decided.into_undo())
     }
 
     // Takes a session's transaction out: what was reserved for it is free.
     pub(crate) fn take_out(&mut self, session: SessionId) -> ActiveTxn
         requires there { HasTxnOf session self.old }
+        ensures number { (a : SessionTxn) → IsAmong a (undos_in self.old) → a.session ≡ session → number_of result.txn ≡ a.txn }
         ensures left { OneLeaves session (entries_of result.txn) (txns_in self.old) (txns_in self.new) }
         ensures next { next_in self.new ≡ next_in self.old }
         ensures reserved { (room_in self.new).reserved + ENDING_COST + compensation_costs (images_of (entries_of result.txn)) ≡ (room_in self.old).reserved }

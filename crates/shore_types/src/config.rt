@@ -63,6 +63,7 @@ impl fmt::Display for Setting {
 /// A text. A contract sees it as its bytes.
 #[derive(Drop)]
 pub struct Text {
+    // The text.
     text: String,
 }
 

@@ -1,6 +1,7 @@
 //! What a call is refused with.
 ghost use Rattle.std.specs.Prelude.{◌≡◌, Some};
 ghost use Rattle.std.specs.Fmt.{DisplaysOnOk};
+ghost use Rattle.shore_types.specs.declared.faults.Fault.TheVariants as FaultData;
 ghost use Rattle.shore_types.specs.Faults.{number_of, name_of, cycle_text, text_of};
 ghost use Rattle.shore_types.specs.Names.{device_name};
 
@@ -95,6 +96,13 @@ pub enum Fault {
 }
 
 impl Fault {
+    /// A device breaks its format at this offset.
+    pub fn damaged(device: Device, place: u64) -> Fault
+        ensures { result ≡ FaultData.Damaged device place }
+    {
+        Fault::Damaged { device, place }
+    }
+
     /// From 1 to 31, as the script prints it.
     pub fn number(&self) -> u8
         ensures { result ≡ number_of self.now }

@@ -34,7 +34,9 @@ impl fmt::Display for StoreId {
 /// A page: a store, and the page's place in it.
 #[derive(Clone, Copy, PartialEq, Eq, PartialOrd, Ord)]
 pub struct PageId {
+    /// The store.
     pub store: StoreId,
+    /// The place of the page in it, from 0.
     pub page: u32,
 }
 
@@ -51,7 +53,9 @@ impl fmt::Display for PageId {
 /// A record id: a page, and a slot of its table. Ids are ordered by store, page and slot, the place order (RID order).
 #[derive(Clone, Copy, PartialEq, Eq, PartialOrd, Ord)]
 pub struct Rid {
+    /// The page.
     pub page: PageId,
+    /// The place of the record in the page's slot table, from 0.
     pub slot: u16,
 }
 
@@ -137,6 +141,7 @@ impl fmt::Display for SessionId {
 /// What a lazy commit answers: the number of its Commit record, past every commit that it read from.
 #[derive(Clone, Copy, PartialEq)]
 pub struct Ticket {
+    // The number of the Commit record.
     lsn: Lsn,
 }
 

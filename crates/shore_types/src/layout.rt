@@ -46,7 +46,9 @@ pub const MAX_BATCH_PAGES: usize = 32;
 
 /// The most bytes of the records of one frame.
 pub const MAX_FRAME_BYTES: usize = 65_536;
-/// The bytes of the longest frame: its gate, length and first number, the most bytes of records.
+/// The bytes of a frame beside its records: its gate, its length and its first number. Each record's cost has them once, as if it had a frame of its own.
+pub const FRAME_SHARE: u64 = 13;
+/// The bytes of the longest frame: its share, and the most bytes of records.
 pub const LONGEST_FRAME: u64 = 65_549;
 /// The most that a whole checkpoint costs: its begin, its end with full tables, and the anchor.
 pub const GREATEST_CHECKPOINT: u64 = 27_018;
@@ -60,10 +62,18 @@ pub const LAST_OPENED: u64 = LAST_LSN + (1 << 32);
 pub const LAST_TXN: u64 = 1 << 62;
 /// The bytes of a log device before its stream of frames: the label and the anchors, and what is between them.
 pub const LOG_FRONT_BYTES: u64 = 4096;
+/// The offset of the first anchor on a log device.
+pub const ANCHOR_A_AT: u64 = 1024;
+/// The offset of the second anchor on a log device.
+pub const ANCHOR_B_AT: u64 = 2048;
 /// The fewest bytes of a log device.
 pub const MIN_LOG_BYTES: u64 = 135_168;
 /// The most bytes of a log device.
 pub const MAX_LOG_BYTES: u64 = 1_073_741_824;
+/// The offset at which the pages of the stores begin on a volume, behind the label, the gate of the double write, its table and its area.
+pub const PAGES_AT: u64 = 270_336;
+/// The offset of a device's length in its label.
+pub const LENGTH_AT: u64 = 16;
 
 /// Each limit has the number that version 1 gives it; a definition cites it by its name.
 pub fn limits_are_those_of_version_1()
@@ -72,8 +82,9 @@ pub fn limits_are_those_of_version_1()
     ensures volume { (MAX_STORES ≡ 64) × (MAX_PAGES ≡ 65536) × (MAX_BATCH_PAGES ≡ 32) × (MIN_POOL_FRAMES ≡ 8) × (MAX_POOL_FRAMES ≡ 1024) }
     ensures table { (LEAST_MAX_LOCKS ≡ 16) × (MOST_MAX_LOCKS ≡ 4096) × (MAX_TRANSACTIONS ≡ 256) × (MAX_SAVEPOINTS ≡ 64)
         × (MAX_GLOBAL_ID_BYTES ≡ 64) }
-    ensures log { (MAX_FRAME_BYTES ≡ 65536) × (LONGEST_FRAME ≡ 65549) × (GREATEST_CHECKPOINT ≡ 27018) × (ENDING_COST ≡ 34)
+    ensures log { (MAX_FRAME_BYTES ≡ 65536) × (FRAME_SHARE ≡ 13) × (LONGEST_FRAME ≡ 65549) × (GREATEST_CHECKPOINT ≡ 27018) × (ENDING_COST ≡ 34)
         × (LOG_FRONT_BYTES ≡ 4096) × (MIN_LOG_BYTES ≡ 135168) × (MAX_LOG_BYTES ≡ 2 ^ 30) }
+    ensures offsets { (ANCHOR_A_AT ≡ 1024) × (ANCHOR_B_AT ≡ 2048) × (LENGTH_AT ≡ 16) × (PAGES_AT ≡ 270336) }
     ensures numbers { (VERSION ≡ 1) × (LAST_LSN ≡ 2 ^ 46) × (LAST_OPENED ≡ 2 ^ 46 + 2 ^ 32) × (LAST_TXN ≡ 2 ^ 62) }
 {}
 

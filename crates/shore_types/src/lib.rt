@@ -5,8 +5,10 @@ pub mod config;
 pub mod faults;
 mod growths;
 pub mod ids;
+pub mod images;
 pub mod layout;
 pub mod locking;
+pub mod log_ends;
 pub mod pairs;
 pub mod sequences;
 
@@ -15,5 +17,6 @@ pub use faults::{Device, Fault};
 pub use ids::{GlobalId, Lsn, PageId, Rid, SessionId, StoreId, Ticket, TxnId};
 pub use layout::Geometry;
 pub use locking::{Granule, Level, Mode};
+pub use log_ends::LogEnds;
 pub use pairs::Pairs;
 pub use sequences::{Bytes, Sequence};

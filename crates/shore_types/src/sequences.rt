@@ -10,6 +10,7 @@ use std::marker::Model;
 /// A list of values. It is made from a `Vec` and gives it back.
 #[derive(Drop)]
 pub struct Sequence<T> {
+    // The values, in their order.
     items: Vec<T>,
 }
 

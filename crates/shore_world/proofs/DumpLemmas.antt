@@ -5,15 +5,15 @@ use Rattle.shore_types.specs.declared.faults.Fault.TheVariants as fault
 use Rattle.shore_disk.specs.declared.device.Disk.{Ghosts}
 use Rattle.shore_log.specs.Settled.{records_of_log}
 use Rattle.shore_log.specs.declared.device.LogDev.{LogDev}
-use Rattle.shore_calls.specs.StateChanges.{after_refusal, with_failure}
-use Rattle.shore_calls.specs.States.{State}
-use Rattle.shore_lives.specs.Recovery.{RecoveryState}
+use Rattle.laws_calls.specs.StateChanges.{after_refusal, with_failure}
+use Rattle.laws_calls.specs.States.{State}
+use Rattle.laws_lives.specs.Recovery.{RecoveryState}
 use Rattle.shore_core.specs.Cores as cores
 use Rattle.shore_core.specs.Cores.{heap_of}
 use Rattle.shore_core.specs.Replies.{Fails, InEach, MayLeave, SameVolume}
 use Rattle.shore_core.proofs.Taking.{stays_after}
 use Rattle.shore_world.specs.declared.world.World.{World}
-use Rattle.shore_world.specs.Worlds.{ComesTo, HasFailedToRead, IsAt, IsLike, SurvivesCrashes, durable_in, failed_in, list_in, report_in}
+use Rattle.shore_world.specs.Worlds.{WorldComesTo, HasFailedToRead, IsAt, IsLike, SurvivesCrashes, durable_in, failed_in, list_in, report_in}
 use Rattle.shore_world.proofs.GrowLemmas.{HasSameLog, kept_same}
 use Rattle.shore_world.proofs.VolumeLemmas.{comes_written, volume_alone, volume_written}
 use Rattle.shore_world.proofs.WorldLemmas.{kept_as_before, ready_same}
@@ -54,7 +54,7 @@ module _ {A : Type 0} where
       pub log : new.log ≡ old.log
       pub report : report_in new ≡ report_in old
       pub same : SameVolume old.core new.core
-      pub left : InEach (λ front disk before s store. MatchResult r (λ _. cores.ComesTo new.core front before store s) (λ f. cores.ComesTo new.core front before store (after_refusal f s))) old.core
+      pub left : InEach (λ front disk before s store. MatchResult r (λ _. cores.CoreComesTo new.core front before store s) (λ f. cores.CoreComesTo new.core front before store (after_refusal f s))) old.core
       pub any_moment : MayLeave old.core new.core
       pub still : IsTrue (failed_in old) → heap_of new.core ≡ heap_of old.core
       pub list : list_in new ≡ list_in old
@@ -67,10 +67,10 @@ module _ {A : Type 0} where
 
       -- the state behind it, over its own store
       comes : (log_front front : List ℕ) (disk : ℕ → List ℕ) (s : State) (store : RecoveryState) → IsAt old log_front front disk s store → SurvivesCrashes new log_front
-          → (later : State) → HasSameLog s later → cores.ComesTo new.core front (records_of_log old.log) store later → ComesTo new log_front front store later
+          → (later : State) → HasSameLog s later → cores.CoreComesTo new.core front (records_of_log old.log) store later → WorldComesTo new log_front front store later
       comes log_front front disk s store at kept later same left =
           comes_written old new it.same.geometry log_front front store (volume_written old new it.any_moment it.still log_front front disk s store at) kept later
-          (subst (λ (l : LogDev L G). cores.ComesTo new.core front (records_of_log l) store later) (sym it.log) left) (λ fails. kept_same s later store same at.over.kept)
+          (subst (λ (l : LogDev L G). cores.CoreComesTo new.core front (records_of_log l) store later) (sym it.log) left) (λ fails. kept_same s later store same at.over.kept)
 
       pub dumped_like : (IsErrAnd r Fails → ⊥) → failed_in new ≡ failed_in old → IsLike old new
       dumped_like none failed =
@@ -79,7 +79,7 @@ module _ {A : Type 0} where
           record {
             geometry = it.same.geometry;
             state = λ log_front front disk s store at safe. comes log_front front disk s store at (kept log_front at.log) s (refl, refl)
-                (stays_so (λ x. cores.ComesTo new.core front (records_of_log old.log) store x) r s none (it.left front disk (records_of_log old.log) s store at.is_in safe at.over));
+                (stays_so (λ x. cores.CoreComesTo new.core front (records_of_log old.log) store x) r s none (it.left front disk (records_of_log old.log) s store at.is_in safe at.over));
             any_moment = volume_alone old new history it.any_moment it.still;
             list = it.list;
             durable = it.durable;
@@ -100,7 +100,7 @@ module _ {A : Type 0} where
           record {
             geometry = it.same.geometry;
             state = λ log_front front disk s store at safe. comes log_front front disk s store at (kept log_front at.log) (with_failure s) (refl, refl)
-                (fails_then (λ x. cores.ComesTo new.core front (records_of_log old.log) store x) r s fails (it.left front disk (records_of_log old.log) s store at.is_in safe at.over));
+                (fails_then (λ x. cores.CoreComesTo new.core front (records_of_log old.log) store x) r s fails (it.left front disk (records_of_log old.log) s store at.is_in safe at.over));
             any_moment = volume_alone old new history it.any_moment it.still;
             list = it.list;
             durable = it.durable;

@@ -1,8 +1,8 @@
 -- What a world is of which a device was told something that changes none of its bytes.
 use Rattle.std.proofs.Common.{◌≡◌, ℕ, List}
 use Rattle.shore_disk.specs.declared.device.Disk.{Ghosts}
-use Rattle.shore_calls.specs.States.{State}
-use Rattle.shore_lives.specs.Recovery.{RecoveryState}
+use Rattle.laws_calls.specs.States.{State}
+use Rattle.laws_lives.specs.Recovery.{RecoveryState}
 use Rattle.shore_core.specs.Cores as cores
 use Rattle.shore_core.specs.Replies.{SameVolume}
 use Rattle.shore_world.specs.declared.world.World.{World}

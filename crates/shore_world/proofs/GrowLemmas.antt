@@ -8,23 +8,23 @@ use Rattle.shore_model.specs.declared.calls.Answer.{Answer}
 use Rattle.shore_model.specs.declared.calls.Call.{Call}
 use Rattle.shore_model.specs.declared.calls.Call.TheVariants as call
 use Rattle.shore_model.specs.declared.log_records.LogRecord.{LogRecord}
-use Rattle.shore_lives.specs.Sessions.{SessionTxn}
-use Rattle.shore_calls.specs.declared.step.Step.{Step}
-use Rattle.shore_calls.specs.declared.step.Step.TheVariants.{Done, Waits, Refused, Nothing}
-use Rattle.shore_calls.specs.declared.step.Wait.{Wait}
-use Rattle.shore_calls.specs.declared.step.Wait.TheVariants.{Durable, Lock}
-use Rattle.shore_calls.proofs.AfterRefusals.{goes_leaves}
-use Rattle.shore_calls.proofs.LongerLogs.{further_on, settled_call_further, settled_resume_further}
-use Rattle.shore_calls.proofs.LockRounds.{same_failed}
-use Rattle.shore_calls.proofs.SessionInversions.{answered_from, waits_in}
-use Rattle.shore_calls.specs.StateChanges.{wait_refused, with_failure}
-use Rattle.shore_calls.specs.CallSteps.{AnswersBehind, GoesOn, ResumesWait, CallStep, ResumeStep, behind_lock}
-use Rattle.shore_calls.specs.Settling.{SettledCall, SettledResume, Settles, WaitsOn}
-use Rattle.shore_calls.specs.Shapes.{with_locks_of}
-use Rattle.shore_calls.specs.States.{State, Waiting}
-use Rattle.shore_calls.specs.Victims.{TakesVictims, TellsVictim, Withdraws}
+use Rattle.laws_lives.specs.Sessions.{SessionTxn}
+use Rattle.shore_model.specs.declared.step.Step.{Step}
+use Rattle.shore_model.specs.declared.step.Step.TheVariants.{Done, Waits, Refused, Nothing}
+use Rattle.shore_model.specs.declared.step.Wait.{Wait}
+use Rattle.shore_model.specs.declared.step.Wait.TheVariants.{Durable, Lock}
+use Rattle.laws_calls.proofs.AfterRefusals.{goes_leaves}
+use Rattle.laws_calls.proofs.LongerLogs.{further_on, settled_call_further, settled_resume_further}
+use Rattle.laws_calls.proofs.LockRounds.{same_failed}
+use Rattle.laws_calls.proofs.SessionInversions.{answered_from, waits_in}
+use Rattle.laws_calls.specs.StateChanges.{wait_refused, with_failure}
+use Rattle.laws_calls.specs.CallSteps.{AnswersBehind, CallGoesOn, ResumesWait, CallStep, ResumeStep, behind_lock}
+use Rattle.laws_calls.specs.Settling.{SettledCall, SettledResume, Settles, WaitsOn}
+use Rattle.laws_calls.specs.Shapes.{with_locks_of}
+use Rattle.laws_calls.specs.States.{State, Waiting}
+use Rattle.laws_calls.specs.Victims.{TakesVictims, TellsVictim, Withdraws}
 use Rattle.shore_cycles.specs.declared.victims.Victim.{Victim}
-use Rattle.shore_lives.specs.Recovery.{RecoveryState}
+use Rattle.laws_lives.specs.Recovery.{RecoveryState}
 use Rattle.shore_core.specs.Cores.{IsKept}
 use Rattle.shore_core.specs.Flushing.{FlushMoves}
 use Rattle.shore_world.specs.declared.world.World.{World}
@@ -105,7 +105,7 @@ module _ (g : Geometry) (s new : State) (running : s.failed ≡ false) (failed :
   behind_keeps locked same a _ answer moves = absurd moves
 
 -- a call from its locks on
-goes_keeps : (g : Geometry) (s new : State) → s.failed ≡ false → new.failed ≡ true → (a : SessionTxn) (c : Call) (step : Step) → GoesOn g s a c step new → HasSameLog s new
+goes_keeps : (g : Geometry) (s new : State) → s.failed ≡ false → new.failed ≡ true → (a : SessionTxn) (c : Call) (step : Step) → CallGoesOn g s a c step new → HasSameLog s new
 goes_keeps g s new running failed a c (Done answer) moves =
     let from = answered_from g s a c new answer moves in behind_keeps g s new running failed (behind_lock s a c from.lock) refl a c answer from.behind
 goes_keeps g s new running failed a c (Waits wait) moves = runs_on s new _ running moves.5 refl failed

@@ -1,7 +1,7 @@
 pub mod WorldLemmas
 pub mod VolumeLemmas
 pub mod RunLemmas
-pub mod RoomLemmas
+pub mod ForceLemmas
 pub mod GrowLemmas
 pub mod CallLemmas
 pub mod DumpLemmas

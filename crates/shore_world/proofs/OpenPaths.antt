@@ -25,19 +25,19 @@ use Rattle.shore_dwrite.specs.declared.places.TheConstants.{GATE_AT}
 use Rattle.shore_heap.specs.Contents.{unclaimed}
 use Rattle.shore_heap.specs.declared.heap.Heap.{Heap}
 use Rattle.shore_heap.specs.Heaps as heaps
-use Rattle.shore_room.specs.Claims.{each_from}
-use Rattle.shore_managers.specs.SlotCounts.{slot_count}
-use Rattle.shore_lives.specs.Pages.{LoggedPages}
-use Rattle.shore_lives.specs.Recovery.{RecoveryState}
-use Rattle.shore_managers.proofs.SoundStores.{found_sound}
-use Rattle.shore_managers.specs.SoundStores.{found_state}
-use Rattle.shore_stands.specs.LoggedHeaps.{AreTextsOf, HasImages}
-use Rattle.shore_stands.proofs.LoggedLeft.{opened_is}
+use Rattle.laws_room.specs.Claims.{each_from}
+use Rattle.laws_runs.specs.SlotCounts.{slot_count}
+use Rattle.laws_lives.specs.Pages.{LoggedPages}
+use Rattle.laws_lives.specs.Recovery.{RecoveryState}
+use Rattle.laws_runs.proofs.SoundStores.{found_sound}
+use Rattle.laws_runs.specs.SoundStores.{found_state}
+use Rattle.laws_images.specs.LoggedHeaps.{AreTextsOf, HasImages}
+use Rattle.laws_images.proofs.LoggedLeft.{opened_is}
 use Rattle.shore_fronts.specs.Fronts.{HasFront}
 use Rattle.shore_fronts.specs.Pairs.{HaveFronts}
 use Rattle.shore_fronts.specs.Volumes.{volume_label}
-use Rattle.shore_stands.specs.Moments.{GivesPrefix, Moment, Path, ShowsLeft}
-use Rattle.shore_stands.specs.StandsFor.{StandsFor, begun_on}
+use Rattle.laws_images.specs.Moments.{GivesPrefix, Moment, Path, ShowsLeft}
+use Rattle.laws_images.specs.StandsFor.{StandsFor, begun_on}
 use Rattle.shore_gate.specs.Checks.{IsFromOutside}
 use Rattle.shore_types.specs.declared.faults.Fault.TheVariants as fault
 use Rattle.shore_restart.specs.declared.errors.RestartError.{RestartError}

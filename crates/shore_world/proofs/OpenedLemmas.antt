@@ -6,14 +6,14 @@ use Rattle.shore_disk.specs.Device.{size}
 use Rattle.shore_disk.specs.declared.device.Disk.{Ghosts}
 use Rattle.shore_model.specs.declared.log_records.LogRecord.{LogRecord}
 use Rattle.shore_log.specs.Settled.{records_of_log}
-use Rattle.shore_lives.specs.Recovery.{IsRecoverable, RecoveryState}
-use Rattle.shore_lives.specs.Restarts.{IsRestartOf}
-use Rattle.shore_lives.specs.Undo.{HasNoLosers}
-use Rattle.shore_lives.proofs.Restarts.{events_restart}
-use Rattle.shore_managers.proofs.ManagerLogs.{opened_over}
-use Rattle.shore_stands.proofs.LoggedLeft.{left_settled}
-use Rattle.shore_stands.specs.Moments.{Moment, Path}
-use Rattle.shore_stands.proofs.Paths.{path_restarts}
+use Rattle.laws_lives.specs.Recovery.{IsRecoverable, RecoveryState}
+use Rattle.laws_lives.specs.Restarts.{IsRestartOf}
+use Rattle.laws_lives.specs.Undo.{HasNoLosers}
+use Rattle.laws_lives.proofs.Restarts.{events_restart}
+use Rattle.laws_runs.proofs.ManagerLogs.{opened_over}
+use Rattle.laws_images.proofs.LoggedLeft.{left_settled}
+use Rattle.laws_images.specs.Moments.{Moment, Path}
+use Rattle.laws_images.proofs.Paths.{path_restarts}
 use Rattle.shore_restart.specs.Opened.{OpensIn}
 use Rattle.shore_restart.specs.Standing.{IsAtRest}
 use Rattle.shore_core.specs.Cores.{heap_of}

@@ -7,14 +7,14 @@ use Rattle.shore_types.specs.declared.layout.Geometry.{Geometry}
 use Rattle.shore_types.specs.declared.layout.TheConstants.{MAX_LOG_BYTES}
 use Rattle.shore_model.specs.declared.log_records.LogRecord.{LogRecord}
 use Rattle.shore_model.specs.Logs.{Lawful}
-use Rattle.shore_lives.specs.Undo.{undo_record}
+use Rattle.laws_lives.specs.Undo.{undo_record}
 use Rattle.shore_gate.specs.Checks.{IsFromOutside}
-use Rattle.shore_managers.specs.RoomyLogs.{AreRoomy}
-use Rattle.shore_managers.proofs.Opens.{fits_stream, has_numbers, meant, undo_fits}
-use Rattle.shore_managers.proofs.Prefixes.{whole_roomy}
-use Rattle.shore_managers.proofs.Redoing.{each_fits}
-use Rattle.shore_managers.proofs.Undoing.{turns_are_roomy, undone_are_roomy}
-use Rattle.shore_analysis.specs.Meant.{GoesOn}
+use Rattle.laws_runs.specs.RoomyLogs.{AreRoomy}
+use Rattle.laws_runs.proofs.Opens.{fits_stream, has_numbers, meant, undo_fits}
+use Rattle.laws_runs.proofs.Prefixes.{whole_roomy}
+use Rattle.laws_runs.proofs.Redoing.{each_fits}
+use Rattle.laws_runs.proofs.Undoing.{turns_are_roomy, undone_are_roomy}
+use Rattle.shore_analysis.specs.Meant.{MayBeNext}
 use Rattle.shore_restart.specs.declared.errors.RestartError.{RestartError}
 use Rattle.shore_restart.specs.declared.errors.RestartError.TheVariants as error
 use Rattle.shore_restart.specs.Room.{LeavesRoom}
@@ -42,7 +42,7 @@ module _ (g : Geometry) (stream_bytes : ℕ) (short : stream_bytes ≤ MAX_LOG_B
   -- each record means what it has to, and fits its page, as does what its undo brings back
   pub none_is_bad : (log : List LogRecord) (n : ℕ) → AreRoomy g stream_bytes log → Lawful log → IsBadRecord g log n → ⊥
   none_is_bad log n k lawful (inl unmeant) =
-      some_bad (slice_get log (n - 1)) (λ r. GoesOn g (take (n - 1) log) r) unmeant.here (λ r at. meant g stream_bytes log k lawful (n - 1) r at)
+      some_bad (slice_get log (n - 1)) (λ r. MayBeNext g (take (n - 1) log) r) unmeant.here (λ r at. meant g stream_bytes log k lawful (n - 1) r at)
   none_is_bad log n k lawful (inr (inl (some, (r, at, misfit)))) = misfit (each_fits g stream_bytes log k (n - 1) r at)
   none_is_bad log n k lawful (inr (inr (so_far, undone, (t, loser, next, is, misfit)))) =
       misfit (undo_fits g stream_bytes so_far t (whole_roomy g stream_bytes so_far (turns_are_roomy g stream_bytes log undone.0 so_far k undone.1)) loser)

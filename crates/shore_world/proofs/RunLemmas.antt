@@ -6,13 +6,13 @@ use Rattle.shore_types.specs.declared.layout.Geometry.{Geometry}
 use Rattle.shore_disk.specs.Device.{size}
 use Rattle.shore_disk.specs.Cause.{HasCause}
 use Rattle.shore_disk.specs.declared.device.Disk.{Ghosts}
-use Rattle.shore_calls.proofs.SettledAtOnce.{at_once}
-use Rattle.shore_calls.specs.declared.step.Step.{Step}
-use Rattle.shore_calls.specs.declared.step.Step.TheVariants.{Done, Waits, Refused, Nothing}
+use Rattle.laws_calls.proofs.SettledAtOnce.{at_once}
+use Rattle.shore_model.specs.declared.step.Step.{Step}
+use Rattle.shore_model.specs.declared.step.Step.TheVariants.{Done, Waits, Refused, Nothing}
 use Rattle.shore_types.specs.declared.faults.Fault.{Fault}
 use Rattle.shore_types.specs.declared.faults.Fault.TheVariants as fault
-use Rattle.shore_calls.specs.Events.{ManagerEvent}
-use Rattle.shore_calls.specs.States.{State}
+use Rattle.laws_calls.specs.Events.{ManagerEvent}
+use Rattle.laws_calls.specs.States.{State}
 use Rattle.shore_heap.specs.Heaps as heaps
 use Rattle.shore_log.specs.declared.tail.Tail as tail
 use Rattle.shore_core.specs.declared.core_calls.Core.{Core}
@@ -25,7 +25,7 @@ use Rattle.shore_world.specs.declared.event.Event.TheVariants as event
 use Rattle.shore_world.specs.declared.world.World.{World}
 use Rattle.shore_world.specs.Events.{IsCall, IsOfForce, IsOfPages, ReadBy, force_needed_at}
 use Rattle.shore_world.specs.EventMoves.{all_moves, moves_by}
-use Rattle.shore_world.specs.Worlds.{EventStep, HasFlushed, IsLike, Moves, Runs, Steps, report_in}
+use Rattle.shore_world.specs.Worlds.{EventStep, HasFlushed, IsLike, EventMovesWorld, Runs, Steps, report_in}
 use Rattle.shore_world.proofs.VolumeLemmas.{both_still, comes_unworked}
 
 -- ---- a run of events
@@ -134,7 +134,7 @@ log_cause step log log_now volume volume_now same cause = record {
 
 -- one for which the log device stands still
 pub no_force : {L V : Type 0} {G : Ghosts L} {H : Ghosts V} (old new : World L V G H) (e : Event) (step : Step) → IsOfPages e → new.log.device ≡ old.log.device
-    → report_in new ≡ report_in old → Moves old e step new → SameVolume old.core new.core → (e ≡ event.FlushStep → HasFlushed old step new)
+    → report_in new ≡ report_in old → EventMovesWorld old e step new → SameVolume old.core new.core → (e ≡ event.FlushStep → HasFlushed old step new)
     → Earns old.core (ReadBy old.core e) (fault_at step) → NeedsForceIn old.core (force_needed_at e old.core new.core) (fault_at step)
     → HasCause (fault_at step) (faults_of old.core) (faults_of new.core) → Steps old e step new
 no_force {G = G} old new e step other device report moves same flushed earned unforced cause = record {

@@ -9,19 +9,19 @@ use Rattle.shore_disk.specs.Device.{History, size}
 use Rattle.shore_disk.specs.declared.device.Disk.{Ghosts}
 use Rattle.shore_dwrite.specs.declared.places.TheConstants.{GATE_AT}
 use Rattle.shore_model.specs.declared.log_records.LogRecord.{LogRecord}
-use Rattle.shore_lives.specs.Pages.{LoggedPages}
-use Rattle.shore_lives.specs.Recovery.{RecoveryEvent}
-use Rattle.shore_managers.specs.StoredRuns.{StoredRun, StoredState}
-use Rattle.shore_managers.specs.RoomyStates.{IsOpenedFrom}
-use Rattle.shore_managers.proofs.SoundStores.{found_may_be_found}
-use Rattle.shore_managers.proofs.UnderWay.{opens_under_way, under_way_sound}
-use Rattle.shore_managers.specs.SoundStores.{found_state}
-use Rattle.shore_managers.specs.Stays.{AreStoredStays, IsStoredUp, StoredStay, runs_of, work_cut_off}
-use Rattle.shore_managers.specs.Stays as stored
-use Rattle.shore_stands.proofs.Left.{StandLost, left_stand}
-use Rattle.shore_stands.proofs.Paths.{HasReached, cut_off_as, path_long, path_restarts}
-use Rattle.shore_stands.specs.Moments.{Moment, Path}
-use Rattle.shore_stands.specs.StandsFor.{StandsFor, begun_on}
+use Rattle.laws_lives.specs.Pages.{LoggedPages}
+use Rattle.laws_lives.specs.Recovery.{RecoveryEvent}
+use Rattle.laws_runs.specs.StoredRuns.{StoredRun, StoredState}
+use Rattle.laws_runs.specs.RoomyStates.{IsOpenedFrom}
+use Rattle.laws_runs.proofs.SoundStores.{found_may_be_found}
+use Rattle.laws_runs.proofs.UnderWay.{opens_under_way, under_way_sound}
+use Rattle.laws_runs.specs.SoundStores.{found_state}
+use Rattle.laws_runs.specs.Stays.{AreStoredStays, IsStoredUp, StoredStay, runs_of, work_cut_off}
+use Rattle.laws_runs.specs.Stays as stored
+use Rattle.laws_images.proofs.Left.{StandLost, left_stand}
+use Rattle.laws_images.proofs.Paths.{HasReached, cut_off_as, path_long, path_restarts}
+use Rattle.laws_images.specs.Moments.{Moment, Path}
+use Rattle.laws_images.specs.StandsFor.{StandsFor, begun_on}
 use Rattle.shore_world.specs.declared.event.Event.{Event}
 use Rattle.shore_world.specs.Events.{IsServedEvent}
 use Rattle.shore_world.specs.Managers.{AreRunsOf, AreStays, Cut, IsManager, IsRunOf, Manager, NoForceIsFull, Stay, Up}

@@ -9,20 +9,20 @@ use Rattle.shore_disk.specs.declared.device.Disk.{Ghosts}
 use Rattle.shore_model.specs.declared.calls.Answer.TheVariants.{Staged, Forced}
 use Rattle.shore_model.specs.declared.histories.Entry.{Entry}
 use Rattle.shore_model.specs.declared.log_records.LogRecord.{LogRecord}
-use Rattle.shore_lives.specs.Recovery.{RecoveryEvent, RecoveryState}
-use Rattle.shore_lives.specs.ManagerSteps.{WorksTo}
-use Rattle.shore_calls.specs.declared.step.Step.{Step}
-use Rattle.shore_calls.specs.declared.step.Step.TheVariants.{Done, Waits, Refused, Nothing}
-use Rattle.shore_calls.specs.Events.{Called, HasFailed, ManagerEvent, Resumed, EventMoves}
-use Rattle.shore_calls.specs.StateChanges.{with_failure}
-use Rattle.shore_calls.specs.Events as calls
-use Rattle.shore_calls.specs.States.{State, cost_of_log}
-use Rattle.shore_managers.specs.StoredRuns.{IsStored, Manage, StoredEvent, StoredMoves, StoredState, StoredSteps, Tend, entries_made}
-use Rattle.shore_managers.proofs.Opens.{fits_stream}
-use Rattle.shore_managers.proofs.Prefixes.{whole_roomy}
-use Rattle.shore_managers.proofs.UnderWay.{managed_join, moves_join, step_under_way, under_way_inside}
-use Rattle.shore_managers.specs.SoundStores.{IsUnderWay, managed}
-use Rattle.shore_stands.specs.Moments.{GivesPrefix, ShowsLeft}
+use Rattle.laws_lives.specs.Recovery.{RecoveryEvent, RecoveryState}
+use Rattle.laws_lives.specs.ManagerSteps.{WorksTo}
+use Rattle.shore_model.specs.declared.step.Step.{Step}
+use Rattle.shore_model.specs.declared.step.Step.TheVariants.{Done, Waits, Refused, Nothing}
+use Rattle.laws_calls.specs.Events.{Called, HasFailed, ManagerEvent, Resumed, EventMoves}
+use Rattle.laws_calls.specs.StateChanges.{with_failure}
+use Rattle.laws_calls.specs.Events as calls
+use Rattle.laws_calls.specs.States.{State, cost_of_log}
+use Rattle.laws_runs.specs.StoredRuns.{IsStored, Manage, StoredEvent, StoredMoves, StoredState, StoredSteps, Tend, entries_made}
+use Rattle.laws_runs.proofs.Opens.{fits_stream}
+use Rattle.laws_runs.proofs.Prefixes.{whole_roomy}
+use Rattle.laws_runs.proofs.UnderWay.{managed_join, moves_join, step_under_way, under_way_inside}
+use Rattle.laws_runs.specs.SoundStores.{IsUnderWay, managed}
+use Rattle.laws_images.specs.Moments.{GivesPrefix, ShowsLeft}
 use Rattle.shore_core.specs.Cores.{IsSafe}
 use Rattle.shore_core.specs.Flushing.{FlushMoves}
 use Rattle.shore_world.specs.declared.event.Event.{Event}
@@ -32,7 +32,7 @@ use Rattle.shore_world.specs.Crashes.{AreLeft, AreLeftBetween}
 use Rattle.shore_world.specs.Events.{IsServedEvent}
 use Rattle.shore_world.specs.EventMoves.{failure_by, moves_by}
 use Rattle.shore_world.specs.Managers.{NoForceIsFull}
-use Rattle.shore_world.specs.Worlds.{Between, ComesTo, EventStep, ForceRefused, GivesBeginning, HasFailedToRead, IsAt, IsLike, LeavesAtAnyMoment, OpenRefused, Runs, Steps, SurvivesCrashes, durable_in, geometry_in, list_in, stream_bytes_in}
+use Rattle.shore_world.specs.Worlds.{Between, WorldComesTo, EventStep, ForceRefused, GivesBeginning, HasFailedToRead, IsAt, IsLike, LeavesAtAnyMoment, OpenRefused, Runs, Steps, SurvivesCrashes, durable_in, geometry_in, list_in, stream_bytes_in}
 
 -- ---- one event
 
@@ -118,7 +118,7 @@ module _ {L V : Type 0} {G : Ghosts L} {H : Ghosts V} (g : Geometry) (stream_byt
   still_long old new moment k = ap (λ (h : History). size h - LOG_FRONT_BYTES) (moment.log log_front k).later.1
 
   module _ (es : List Entry) (old : World L V G H) (m : StoredState) (up : IsUpAt es old m) where
-    one_run : (new : World L V G H) → geometry_in new ≡ geometry_in old → LeavesAtAnyMoment old new → (later : State) (comes : ComesTo new log_front front m.store later)
+    one_run : (new : World L V G H) → geometry_in new ≡ geometry_in old → LeavesAtAnyMoment old new → (later : State) (comes : WorldComesTo new log_front front m.store later)
         (moves : List ManagerEvent) → StoredAs g m later comes.after moves → HasRun es m moves new
     one_run new geometry moment later comes moves is = record {
       events = is.stored ∷ [];

@@ -8,19 +8,19 @@ use Rattle.shore_heap.specs.Heaps as heaps
 use Rattle.shore_heap.specs.Heaps.{LeavesPages}
 use Rattle.shore_model.specs.declared.log_records.LogRecord.{LogRecord}
 use Rattle.shore_log.specs.Settled.{records_of_log}
-use Rattle.shore_calls.specs.States.{State}
-use Rattle.shore_lives.specs.Pages.{LoggedPages}
-use Rattle.shore_lives.specs.Recovery.{CrashMayLeave, ForceLog, RecoveryEvent, RecoveryState, after_force}
-use Rattle.shore_lives.specs.ManagerSteps.{WorksTo}
-use Rattle.shore_stands.specs.LoggedHeaps.{LeavesStore}
-use Rattle.shore_stands.proofs.Flushes.{left_amid}
-use Rattle.shore_stands.proofs.LoggedLeft.{left_settled}
+use Rattle.laws_calls.specs.States.{State}
+use Rattle.laws_lives.specs.Pages.{LoggedPages}
+use Rattle.laws_lives.specs.Recovery.{CrashMayLeave, ForceLog, RecoveryEvent, RecoveryState, after_force}
+use Rattle.laws_lives.specs.ManagerSteps.{WorksTo}
+use Rattle.laws_images.specs.LoggedHeaps.{LeavesStore}
+use Rattle.laws_images.proofs.Flushes.{left_amid}
+use Rattle.laws_images.proofs.LoggedLeft.{left_settled}
 use Rattle.shore_core.specs.Cores as cores
 use Rattle.shore_core.specs.Cores.{FailsOver, IsKept, IsSafe, durable_of, heap_of}
 use Rattle.shore_core.specs.Flushing.{AreFlushes}
 use Rattle.shore_core.specs.Replies.{MayLeave}
 use Rattle.shore_world.specs.declared.world.World.{World}
-use Rattle.shore_world.specs.Worlds.{ComesTo, GivesBeginning, IsAt, IsInState, IsOverStore, LeavesAtAnyMoment, ShowsLeft, SurvivesCrashes, durable_in, failed_in, geometry_in, history_in, list_in, volume_history_in}
+use Rattle.shore_world.specs.Worlds.{WorldComesTo, GivesBeginning, IsAt, IsInState, IsOverStore, LeavesAtAnyMoment, ShowsLeft, SurvivesCrashes, durable_in, failed_in, geometry_in, history_in, list_in, volume_history_in}
 
 pub runs_or_failed : (b : Bool) → (b ≡ false) ⊎ (b ≡ true)
 runs_or_failed false = inl refl
@@ -93,7 +93,7 @@ module _ {L V : Type 0} {G : Ghosts L} {H : Ghosts V} where
       → (log_front front : List ℕ) (disk : ℕ → List ℕ) (s : State) (store : RecoveryState) → IsAt old log_front front disk s store
       → (later : State) (works : List RecoveryEvent) (after : RecoveryState) → WorksTo store works after → after.log ≡ store.log
       → ((left : LoggedPages) → CrashMayLeave store left → CrashMayLeave after left)
-      → IsInState new front disk later → IsOverStore new disk later after → SurvivesCrashes new log_front → ComesTo new log_front front store later
+      → IsInState new front disk later → IsOverStore new disk later after → SurvivesCrashes new log_front → WorldComesTo new log_front front store later
   comes_still old new same geometry log_front front disk s store at later works after work log covers is_in over kept = record {
     left = disk;
     works = works;
@@ -111,7 +111,7 @@ module _ {L V : Type 0} {G : Ghosts L} {H : Ghosts V} where
   -- .. by no work
   pub comes_unworked : (old new : World L V G H) → volume_history_in new ≡ volume_history_in old → geometry_in new ≡ geometry_in old
       → (log_front front : List ℕ) (disk : ℕ → List ℕ) (s : State) (store : RecoveryState) → IsAt old log_front front disk s store
-      → (later : State) → IsInState new front disk later → IsOverStore new disk later store → SurvivesCrashes new log_front → ComesTo new log_front front store later
+      → (later : State) → IsInState new front disk later → IsOverStore new disk later store → SurvivesCrashes new log_front → WorldComesTo new log_front front store later
   comes_unworked old new same geometry log_front front disk s store at later is_in over kept =
       comes_still old new same geometry log_front front disk s store at later [] store refl refl (λ left may. may) is_in over kept
 
@@ -119,7 +119,7 @@ module _ {L V : Type 0} {G : Ghosts L} {H : Ghosts V} where
   pub comes_forced : (old new : World L V G H) → volume_history_in new ≡ volume_history_in old → geometry_in new ≡ geometry_in old
       → (log_front front : List ℕ) (disk : ℕ → List ℕ) (s : State) (store : RecoveryState) → IsAt old log_front front disk s store
       → (later : State) (n : ℕ) → store.durable ≤ n → n ≤ length store.log → IsInState new front disk later → IsOverStore new disk later (after_force store n)
-      → SurvivesCrashes new log_front → ComesTo new log_front front store later
+      → SurvivesCrashes new log_front → WorldComesTo new log_front front store later
   comes_forced old new same geometry log_front front disk s store at later n more within is_in over kept =
       comes_still old new same geometry log_front front disk s store at later (ForceLog n ∷ []) (after_force store n) (tt, after_force store n, (more, within, refl), refl) refl
       (left_after_force store n more) is_in over kept
@@ -128,8 +128,8 @@ module _ {L V : Type 0} {G : Ghosts L} {H : Ghosts V} where
   -- left of the pages is what a crash may have left in the midst.
   module _ (old new : World L V G H) (geometry : geometry_in new ≡ geometry_in old) (log_front front : List ℕ) (store : RecoveryState)
       (leaves : LeavesOnly (volume_history_in old) (volume_history_in new) (ShowsLeft (geometry_in old) front store)) (kept : SurvivesCrashes new log_front)
-      (later : State) (comes : cores.ComesTo new.core front (records_of_log new.log) store later) where
-    written_running : later.failed ≡ false → ComesTo new log_front front store later
+      (later : State) (comes : cores.CoreComesTo new.core front (records_of_log new.log) store later) where
+    written_running : later.failed ≡ false → WorldComesTo new log_front front store later
     written_running runs = record {
       left = comes.left;
       works = comes.works;
@@ -144,7 +144,7 @@ module _ {L V : Type 0} {G : Ghosts L} {H : Ghosts V} where
     }
 
     -- a call may have worked before the volume failed
-    worked_failed : later.failed ≡ true → FailsOver new.core front later store → ComesTo new log_front front store later
+    worked_failed : later.failed ≡ true → FailsOver new.core front later store → WorldComesTo new log_front front store later
     worked_failed failed over = record {
       left = comes.left;
       works = over.behind.works;
@@ -158,11 +158,11 @@ module _ {L V : Type 0} {G : Ghosts L} {H : Ghosts V} where
       };
     }
 
-    pub comes_worked : (later.failed ≡ true → FailsOver new.core front later store) → ComesTo new log_front front store later
+    pub comes_worked : (later.failed ≡ true → FailsOver new.core front later store) → WorldComesTo new log_front front store later
     comes_worked fails = elim (runs_or_failed later.failed) [ inl runs ↦ written_running runs | inr failed ↦ worked_failed failed (fails failed) ]
 
     module _ (fails : later.failed ≡ true → IsKept later store) where
-      written_so : (later.failed ≡ false) ⊎ (later.failed ≡ true) → ComesTo new log_front front store later
+      written_so : (later.failed ≡ false) ⊎ (later.failed ≡ true) → WorldComesTo new log_front front store later
       written_so (inl runs) = written_running runs
       written_so (inr failed) = record {
         left = comes.left;
@@ -183,7 +183,7 @@ module _ {L V : Type 0} {G : Ghosts L} {H : Ghosts V} where
       flushes_so flushes (inl runs) = flushes
       flushes_so flushes (inr failed) = tt
 
-      pub comes_written : ComesTo new log_front front store later
+      pub comes_written : WorldComesTo new log_front front store later
       comes_written = written_so (runs_or_failed later.failed)
 
       pub written_flushes : AreFlushes comes.works → AreFlushes comes_written.works

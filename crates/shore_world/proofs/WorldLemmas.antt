@@ -6,21 +6,21 @@ use Rattle.shore_disk.specs.Device.{History, noted, synced, seen, Stands, may_le
 use Rattle.shore_disk.specs.declared.device.Disk.{Ghosts}
 use Rattle.shore_disk.proofs.Moments.{started, widened, at_end, sync_leaves}
 use Rattle.shore_model.specs.declared.log_records.LogRecord.{LogRecord}
-use Rattle.shore_calls.specs.declared.step.Step.{Step}
+use Rattle.shore_model.specs.declared.step.Step.{Step}
 use Rattle.shore_frames.specs.Frames.{GivesBehind, GivesWithOrWithout, IsLongest}
 use Rattle.shore_log.specs.Settled.{records_of_log, stable, waiting, IsSettled, IsStaged, KeepsFrames}
 use Rattle.shore_log.specs.declared.device.LogDev.{LogDev}
 use Rattle.shore_log.proofs.ForceLemmas.{settled_gives}
 use Rattle.shore_frames.proofs.LoggedLemmas.{take-more_group}
-use Rattle.shore_calls.specs.States.{State}
-use Rattle.shore_lives.specs.Recovery.{RecoveryState, after_force}
+use Rattle.laws_calls.specs.States.{State}
+use Rattle.laws_lives.specs.Recovery.{RecoveryState, after_force}
 use Rattle.shore_log.specs.declared.tail.Tail as tail
 use Rattle.shore_core.specs.declared.core_calls.Core.{Core}
 use Rattle.shore_core.specs.Cores.{IsBeside, IsSafe, tail_of, waiting_of}
 use Rattle.shore_world.specs.declared.event.Event.{Event}
 use Rattle.shore_world.specs.declared.event.Event.TheVariants.{FlushStep}
 use Rattle.shore_world.specs.declared.world.World.{World}
-use Rattle.shore_world.specs.Worlds.{HasStaged, IsAt, IsInState, IsOverStore, Comes, EventStep, durable_in, failed_in, geometry_in, history_in, list_in, volume_history_in, GivesBeginning, IsReady, SurvivesCrashes, Moves}
+use Rattle.shore_world.specs.Worlds.{HasStaged, IsAt, IsInState, IsOverStore, Comes, EventStep, durable_in, failed_in, geometry_in, history_in, list_in, volume_history_in, GivesBeginning, IsReady, SurvivesCrashes, EventMovesWorld}
 use Rattle.shore_world.proofs.VolumeLemmas.{comes_forced, comes_unworked, log_still, volume_still}
 
 -- ---- what gives a prefix of the list
@@ -242,7 +242,7 @@ module _ {L V : Type 0} {G : Ghosts L} {H : Ghosts V} where
       → ((front : List ℕ) → SurvivesCrashes old front → LeavesOnly (history_in old) (history_in new) (GivesBeginning front (durable_in old) (list_in old)))
       → ((s later : State) → IsBesideOf old s → IsBesideOf new later → EventStep (geometry_in old) s e step later → (front : List ℕ) → SurvivesCrashes old front → SurvivesCrashes new front)
       → ((front : List ℕ) (disk : ℕ → List ℕ) (s : State) (store : RecoveryState) → IsInState old front disk s → IsOverStore old disk s store → IsSafe (geometry_in old) s
-      → ComesOver old e step new front disk s store) → Moves old e step new
+      → ComesOver old e step new front disk s store) → EventMovesWorld old e step new
   still_moves old new e step other geometry volume log kept comes = record {
     geometry = geometry;
     state = λ log_front front disk s store at safe.
@@ -263,11 +263,11 @@ module _ {L V : Type 0} {G : Ghosts L} {H : Ghosts V} where
   -- a step of a force
   pub force_moves : (old new : World L V G H) (e : Event) (step : Step) → (e ≡ FlushStep → ⊥) → geometry_in new ≡ geometry_in old → volume_history_in new ≡ volume_history_in old → LogMoves old new
       → ((front : List ℕ) (disk : ℕ → List ℕ) (s : State) (store : RecoveryState) → IsInState old front disk s → IsOverStore old disk s store → IsSafe (geometry_in old) s
-      → ComesOver old e step new front disk s store) → Moves old e step new
+      → ComesOver old e step new front disk s store) → EventMovesWorld old e step new
   force_moves old new e step other geometry volume log comes = still_moves old new e step other geometry volume log.any_moment (λ s later is now moves. log.kept) comes
 
   -- an event that leaves the world as it is
-  pub nothing_done : (w : World L V G H) (e : Event) (step : Step) → (e ≡ FlushStep → ⊥) → ((s : State) → IsBesideOf w s → EventStep (geometry_in w) s e step s) → Moves w e step w
+  pub nothing_done : (w : World L V G H) (e : Event) (step : Step) → (e ≡ FlushStep → ⊥) → ((s : State) → IsBesideOf w s → EventStep (geometry_in w) s e step s) → EventMovesWorld w e step w
   nothing_done w e step other moves = force_moves w w e step other refl refl (record { kept = λ front k. k; any_moment = log_still w w refl })
       (λ front disk s store is over safe. record { later = s; moves = moves s is.beside; is_in = is; told = inl over })
 

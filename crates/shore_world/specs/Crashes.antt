@@ -2,7 +2,7 @@
 use Rattle.std.specs.Prelude.{◌⊎◌, ℕ, List}
 use Rattle.shore_disk.specs.Device.{left_since, may_leave, moment}
 use Rattle.shore_disk.specs.declared.device.Disk.{Ghosts}
-use Rattle.shore_calls.specs.declared.step.Step.{Step}
+use Rattle.shore_model.specs.declared.step.Step.{Step}
 use Rattle.shore_world.specs.declared.event.Event.{Event}
 use Rattle.shore_world.specs.declared.world.World.{World}
 use Rattle.shore_world.specs.Worlds.{HasFailedToRead, IsLike, Steps, history_in, volume_history_in}

@@ -4,10 +4,10 @@ use Rattle.shore_types.specs.declared.faults.Fault.{Fault}
 use Rattle.shore_types.specs.declared.faults.Fault.TheVariants.{Device}
 use Rattle.shore_model.specs.declared.calls.Answer.{Answer}
 use Rattle.shore_model.specs.declared.calls.Answer.TheVariants.{Began, Got, Inserted, Updated, Deleted, Scanned, Locked, Saved, WentBack, Committed, Aborted, Prepared, Resolved, AreInDoubt, Staged, Forced, Flushed, Begun, Ended, Anchored, Moved, Cut}
-use Rattle.shore_calls.specs.declared.step.Step.{Step}
-use Rattle.shore_calls.specs.declared.step.Step.TheVariants.{Done, Waits, Refused, Nothing}
-use Rattle.shore_calls.specs.Events as calls
-use Rattle.shore_calls.specs.Events.{ManagerEvent}
+use Rattle.shore_model.specs.declared.step.Step.{Step}
+use Rattle.shore_model.specs.declared.step.Step.TheVariants.{Done, Waits, Refused, Nothing}
+use Rattle.laws_calls.specs.Events as calls
+use Rattle.laws_calls.specs.Events.{ManagerEvent}
 use Rattle.shore_world.specs.declared.event.Event.{Event}
 use Rattle.shore_world.specs.declared.event.Event.TheVariants as event
 

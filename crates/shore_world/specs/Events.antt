@@ -2,7 +2,7 @@
 use Rattle.shore_types.specs.declared.ids.PageId.{PageId}
 use Rattle.shore_disk.specs.declared.device.Disk as disk
 use Rattle.shore_log.specs.declared.tail.Tail as tail
-use Rattle.shore_calls.specs.Events.{IsServed}
+use Rattle.shore_model.specs.Calls.{IsServed}
 use Rattle.shore_core.specs.declared.core_calls.Core.{Core}
 use Rattle.shore_core.specs.Replies.{Reads, ReadsWaiting, forced_at}
 use Rattle.shore_world.specs.declared.event.Event.{Event}

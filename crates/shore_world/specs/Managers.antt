@@ -8,14 +8,14 @@ use Rattle.shore_disk.specs.Device.{History}
 use Rattle.shore_disk.specs.declared.device.Disk.{Ghosts}
 use Rattle.shore_dwrite.specs.declared.places.TheConstants.{GATE_AT}
 use Rattle.shore_model.specs.declared.log_records.LogRecord.{LogRecord}
-use Rattle.shore_lives.specs.Pages.{LoggedPages}
-use Rattle.shore_managers.specs.StoredRuns.{StoredRun}
-use Rattle.shore_calls.specs.declared.step.Step.{Step}
-use Rattle.shore_calls.specs.declared.step.Step.TheVariants.{Refused}
-use Rattle.shore_calls.specs.Events.{ManagerEvent}
-use Rattle.shore_managers.specs.SoundStores.{managed}
-use Rattle.shore_stands.specs.Moments.{IsLostAlong, Moment, Path}
-use Rattle.shore_stands.specs.StandsFor.{StandsFor, begun_on}
+use Rattle.laws_lives.specs.Pages.{LoggedPages}
+use Rattle.laws_runs.specs.StoredRuns.{StoredRun}
+use Rattle.shore_model.specs.declared.step.Step.{Step}
+use Rattle.shore_model.specs.declared.step.Step.TheVariants.{Refused}
+use Rattle.laws_calls.specs.Events.{ManagerEvent}
+use Rattle.laws_runs.specs.SoundStores.{managed}
+use Rattle.laws_images.specs.Moments.{IsLostAlong, Moment, Path}
+use Rattle.laws_images.specs.StandsFor.{StandsFor, begun_on}
 use Rattle.shore_world.specs.declared.event.Event.{Event}
 use Rattle.shore_world.specs.declared.event.Event.TheVariants as event
 use Rattle.shore_world.specs.declared.world.World.{World}

@@ -9,14 +9,14 @@ use Rattle.shore_dwrite.specs.declared.places.TheConstants.{GATE_AT}
 use Rattle.shore_model.specs.declared.log_records.LogRecord.{LogRecord}
 use Rattle.shore_analysis.specs.declared.analysis.Tables.{Tables}
 use Rattle.shore_analysis.specs.Tables.{AreTables}
-use Rattle.shore_lives.specs.Pages.{LoggedPages}
-use Rattle.shore_lives.specs.Undo.{HasNoLosers}
-use Rattle.shore_managers.specs.StoredRuns.{IsOpenedOver}
-use Rattle.shore_managers.specs.RoomyStates.{IsOpenedFrom}
-use Rattle.shore_calls.specs.States.{State}
-use Rattle.shore_stands.specs.Moments.{Moment, Path}
-use Rattle.shore_stands.specs.StandsFor.{begun_on}
-use Rattle.shore_restart.specs.declared.recovering.Report.{Report}
+use Rattle.laws_lives.specs.Pages.{LoggedPages}
+use Rattle.laws_lives.specs.Undo.{HasNoLosers}
+use Rattle.laws_runs.specs.StoredRuns.{IsOpenedOver}
+use Rattle.laws_runs.specs.RoomyStates.{IsOpenedFrom}
+use Rattle.laws_calls.specs.States.{State}
+use Rattle.laws_images.specs.Moments.{Moment, Path}
+use Rattle.laws_images.specs.StandsFor.{begun_on}
+use Rattle.shore_restart.specs.declared.passes.Report.{Report}
 use Rattle.shore_world.specs.declared.world.World.{World}
 use Rattle.shore_world.specs.Worlds.{IsAt, geometry_in, history_in, log_in, volume_history_in, volume_in}
 

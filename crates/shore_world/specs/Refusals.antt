@@ -18,9 +18,9 @@ use Rattle.shore_dwrite.specs.Shown.{Shows}
 use Rattle.shore_dwrite.specs.Volumes.{HasNoPage, page_number, page_offset, part}
 use Rattle.shore_dwrite.specs.declared.places.TheConstants.{GATE_AT}
 use Rattle.shore_fronts.specs.Pairs.{HaveFronts, RefusesFronts}
-use Rattle.shore_lives.specs.Pages.{LoggedPages}
+use Rattle.laws_lives.specs.Pages.{LoggedPages}
 use Rattle.shore_restart.specs.Turns.{LacksRoom}
-use Rattle.shore_stands.specs.StandsFor.{StandsFor}
+use Rattle.laws_images.specs.StandsFor.{StandsFor}
 
 -- by a record of the log: its frame is at the offset, on the log device as it is handed back
 abbrev pub NamesRecord : List LogRecord → History → Fault → Type 0

@@ -8,27 +8,27 @@ use Rattle.shore_disk.specs.Device.{History, size, may_leave, LeavesOnly}
 use Rattle.shore_disk.specs.declared.device.Disk.{Ghosts}
 use Rattle.shore_model.specs.declared.calls.Answer.TheVariants.{Staged, Forced}
 use Rattle.shore_model.specs.declared.log_records.LogRecord.{LogRecord}
-use Rattle.shore_calls.specs.declared.step.Step.{Step}
-use Rattle.shore_calls.specs.declared.step.Step.TheVariants.{Done, Refused, Nothing}
-use Rattle.shore_calls.specs.Events.{Called, HasFailed, ManagerEvent, Resumed}
-use Rattle.shore_calls.specs.StateChanges.{with_durable, with_failure}
-use Rattle.shore_calls.specs.Events as calls
-use Rattle.shore_calls.specs.Settling.{SettledCall, SettledResume}
-use Rattle.shore_calls.specs.States.{State, cost_of_log}
+use Rattle.shore_model.specs.declared.step.Step.{Step}
+use Rattle.shore_model.specs.declared.step.Step.TheVariants.{Done, Refused, Nothing}
+use Rattle.laws_calls.specs.Events.{Called, HasFailed, ManagerEvent, Resumed}
+use Rattle.laws_calls.specs.StateChanges.{with_durable, with_failure}
+use Rattle.laws_calls.specs.Events as calls
+use Rattle.laws_calls.specs.Settling.{SettledCall, SettledResume}
+use Rattle.laws_calls.specs.States.{State, cost_of_log}
 use Rattle.shore_frames.specs.Frames.{GivesBehind, IsLongest}
 use Rattle.shore_log.specs.Settled.{records_of_log, IsSettled, IsStaged}
 use Rattle.shore_fronts.specs.Causes.{HasCauseOfPair}
-use Rattle.shore_pool.specs.Pools.{Holds}
+use Rattle.shore_pool.specs.Pools.{PoolHolds}
 use Rattle.shore_heap.specs.Heaps.{WroteBack, limit_of, pool_of}
-use Rattle.shore_lives.specs.Pages.{LoggedPages}
-use Rattle.shore_lives.specs.Recovery.{CrashMayLeave, RecoveryEvent, RecoveryState}
-use Rattle.shore_lives.specs.ManagerSteps.{WorksTo}
-use Rattle.shore_stands.specs.LoggedHeaps.{LeavesStore}
+use Rattle.laws_lives.specs.Pages.{LoggedPages}
+use Rattle.laws_lives.specs.Recovery.{CrashMayLeave, RecoveryEvent, RecoveryState}
+use Rattle.laws_lives.specs.ManagerSteps.{WorksTo}
+use Rattle.laws_images.specs.LoggedHeaps.{LeavesStore}
 use Rattle.shore_core.specs.Cores as cores
 use Rattle.shore_core.specs.Cores.{IsIn, IsOver, IsSafe}
 use Rattle.shore_core.specs.Flushing.{AreFlushes, FlushAnswers, FlushMoves}
 use Rattle.shore_core.specs.Replies.{Earns, NeedsForceIn, SameVolume, fault_at}
-use Rattle.shore_restart.specs.declared.recovering.Report.{Report}
+use Rattle.shore_restart.specs.declared.passes.Report.{Report}
 use Rattle.shore_world.specs.declared.event.Event.{Event}
 use Rattle.shore_world.specs.declared.event.Event.TheVariants as event
 use Rattle.shore_world.specs.declared.world.World.{World}
@@ -142,7 +142,7 @@ module _ {L V : Type 0} {G : Ghosts L} {H : Ghosts V} where
   IsIdle w = IsSome w.log.staged ⊎ (durable_in w ≡ length (list_in w))
 
   -- From a state and a store the world has come to others: pages may have been written back, a record appended and done on its page, or a force told.
-  pub record ComesTo (new : World L V G H) (log_front front : List ℕ) (store : RecoveryState) (later : State) : Type 0 where
+  pub record WorldComesTo (new : World L V G H) (log_front front : List ℕ) (store : RecoveryState) (later : State) : Type 0 where
     pub left : ℕ → List ℕ
     pub works : List RecoveryEvent
     pub after : RecoveryState
@@ -164,11 +164,11 @@ module _ {L V : Type 0} {G : Ghosts L} {H : Ghosts V} where
   pub record Comes (old : World L V G H) (e : Event) (step : Step) (new : World L V G H) (log_front front : List ℕ) (s : State) (store : RecoveryState) : Type 0 where
     pub later : State
     pub moves : EventStep (geometry_in old) s e step later
-    pub comes : ComesTo new log_front front store later
+    pub comes : WorldComesTo new log_front front store later
     pub flushes : e ≡ event.FlushStep → AreFlushes comes.works
 
   -- What an event moves: from whatever safe state and store the world is at it comes to others.
-  pub record Moves (old : World L V G H) (e : Event) (step : Step) (new : World L V G H) : Type 0 where
+  pub record EventMovesWorld (old : World L V G H) (e : Event) (step : Step) (new : World L V G H) : Type 0 where
     pub geometry : geometry_in new ≡ geometry_in old
     pub state : (log_front front : List ℕ) (disk : ℕ → List ℕ) (s : State) (store : RecoveryState) → IsAt old log_front front disk s store → IsSafe (geometry_in old) s
         → Comes old e step new log_front front s store
@@ -195,13 +195,13 @@ module _ {L V : Type 0} {G : Ghosts L} {H : Ghosts V} where
   -- nothing has changed. What is clean is on the volume as long as it has not failed.
   pub record HasFlushed (old : World L V G H) (step : Step) (new : World L V G H) : Type 0 where
     pub answers : FlushAnswers old.core step new.core
-    pub written : (front : List ℕ) (disk : ℕ → List ℕ) → Holds (pool_of (cores.heap_of old.core)) front disk
+    pub written : (front : List ℕ) (disk : ℕ → List ℕ) → PoolHolds (pool_of (cores.heap_of old.core)) front disk
         → MatchResult (fault_at step) (λ _. WroteBack (cores.heap_of old.core) (cores.heap_of new.core) (durable_in old) front disk)
         (λ f. (f ≡ Device) ⊎ WroteBack (cores.heap_of old.core) (cores.heap_of new.core) (durable_in old) front disk)
 
   -- One event: what it moves, what a step of a force or of the flush has done, when it may come to nothing, and who tells of a failure.
   pub record Steps (old : World L V G H) (e : Event) (step : Step) (new : World L V G H) : Type 0 where
-    pub moves : Moves old e step new
+    pub moves : EventMovesWorld old e step new
     -- a call, a resume and a step of the flush make no call of the log device, and a step of a force none of the volume
     pub still : IsOfPages e → new.log.device ≡ old.log.device
     pub volume : IsOfForce e → cores.heap_of new.core ≡ cores.heap_of old.core
@@ -227,7 +227,7 @@ module _ {L V : Type 0} {G : Ghosts L} {H : Ghosts V} where
   pub record IsLike (old new : World L V G H) : Type 0 where
     pub geometry : geometry_in new ≡ geometry_in old
     pub state : (log_front front : List ℕ) (disk : ℕ → List ℕ) (s : State) (store : RecoveryState) → IsAt old log_front front disk s store → IsSafe (geometry_in old) s
-        → ComesTo new log_front front store s
+        → WorldComesTo new log_front front store s
     pub any_moment : LeavesAtAnyMoment old new
     pub list : list_in new ≡ list_in old
     pub durable : durable_in new ≡ durable_in old
@@ -244,7 +244,7 @@ module _ {L V : Type 0} {G : Ghosts L} {H : Ghosts V} where
   pub record HasFailedToRead (old new : World L V G H) : Type 0 where
     pub geometry : geometry_in new ≡ geometry_in old
     pub state : (log_front front : List ℕ) (disk : ℕ → List ℕ) (s : State) (store : RecoveryState) → IsAt old log_front front disk s store → IsSafe (geometry_in old) s
-        → ComesTo new log_front front store (with_failure s)
+        → WorldComesTo new log_front front store (with_failure s)
     pub any_moment : LeavesAtAnyMoment old new
     pub list : list_in new ≡ list_in old
     pub durable : durable_in new ≡ durable_in old

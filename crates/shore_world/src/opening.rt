@@ -28,11 +28,10 @@ ghost use Rattle.shore_world.specs.OpenedVolumes.{fault_of_volume, volume_of};
 
 use shore_disk::Disk;
 use shore_dwrite::PageDev;
-use shore_frames::damaged;
 use shore_heap::Heap;
 use shore_log::LogDev;
 use shore_restart::RestartError;
-use shore_types::{Fault, Geometry};
+use shore_types::{Device, Fault, Geometry};
 use std::alloc::Global;
 
 /// The heap of a volume, behind the replay of its double-write area, over so many frames and with no page in any. A crash at any moment leaves a
@@ -94,9 +93,9 @@ pub fn fault_of<D: Disk>(error: RestartError, anchor_offset: u64, log: &mut LogD
     match error {
         RestartError::Page(fault) | RestartError::Log(fault) => fault,
         RestartError::Memory => Fault::Memory,
-        RestartError::NoRoom => damaged(anchor_offset),
+        RestartError::NoRoom => Fault::damaged(Device::Log, anchor_offset),
         RestartError::BadRecord(number) => match log.frame_of(number) {
-            Ok(offset) => damaged(offset),
+            Ok(offset) => Fault::damaged(Device::Log, offset),
             Err(fault) => fault,
         },
     }

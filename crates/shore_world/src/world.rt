@@ -10,9 +10,9 @@ ghost use Rattle.shore_disk.specs.Fuse.{fuse_inner};
 ghost use Rattle.shore_disk.specs.AnyDisk.{any_history, is_in_memory};
 ghost use Rattle.shore_disk.specs.Memory.{picked_after};
 ghost use Rattle.shore_log.specs.Settled.{records_of_log, stable};
-ghost use Rattle.shore_calls.specs.StateChanges.{IsPageFault, with_failure};
-ghost use Rattle.shore_calls.specs.States.{State};
-ghost use Rattle.shore_lives.specs.Recovery.{RecoveryState};
+ghost use Rattle.laws_calls.specs.StateChanges.{IsPageFault, with_failure};
+ghost use Rattle.laws_calls.specs.States.{State};
+ghost use Rattle.laws_lives.specs.Recovery.{RecoveryState};
 ghost use Rattle.shore_core.specs.Cores.{IsSafe, durable_of, first_of, heap_of, waiting_of};
 ghost use Rattle.shore_world.specs.Events.{IsServedEvent, ReadBy};
 
@@ -30,7 +30,9 @@ use std::alloc::{AllocError, Global};
 /// A manager over its log device and its volume.
 #[derive(Drop)]
 pub struct World<L: Disk, V: Disk> {
+    // The calls of the sessions, their transactions and locks, the pages, and the log buffer.
     core: Core<PlainTail, V>,
+    // The log device, with all records but those in the log buffer.
     log: LogDev<L>,
     // What the restart did that opened it.
     report: Report,
@@ -39,18 +41,18 @@ pub struct World<L: Disk, V: Disk> {
 }
 
 impl<L: Disk, V: Disk> World<L, V> {
-    ghost use Rattle.shore_world.specs.Worlds.{IsInState, IsOverStore, Moves, HasForced, HasStaged, HasFailedToRead, IsLike, Steps, Runs, HasForceRoom, IsIdle, durable_in, failed_in, frames_in, geometry_in, list_in, report_in, fault_in, log_in, volume_in};
+    ghost use Rattle.shore_world.specs.Worlds.{IsInState, IsOverStore, EventMovesWorld, HasForced, HasStaged, HasFailedToRead, IsLike, Steps, Runs, HasForceRoom, IsIdle, durable_in, failed_in, frames_in, geometry_in, list_in, report_in, fault_in, log_in, volume_in};
     ghost use Rattle.shore_world.specs.Opens.{IsReportOf, OpensAlong};
     ghost use Rattle.shore_frames.specs.Frames.{Gives};
     ghost use Rattle.shore_world.specs.Refusals.{RefusesOpen};
     ghost use Rattle.shore_restart.specs.Missing.{missing_on};
-    ghost use Rattle.shore_stands.specs.StandsFor.{StandsFor};
+    ghost use Rattle.laws_images.specs.StandsFor.{StandsFor};
     ghost use Rattle.shore_fronts.specs.Causes.{HasCauseOfPair};
     ghost use Rattle.shore_fronts.specs.Pairs.{HaveFronts};
     ghost use Rattle.shore_gate.specs.Checks.{IsFromOutside};
     ghost use Rattle.shore_disk.specs.Device.{Stands};
     ghost use Rattle.shore_dwrite.specs.Shown.{Shows};
-    ghost use Rattle.shore_lives.specs.Pages.{LoggedPages};
+    ghost use Rattle.laws_lives.specs.Pages.{LoggedPages};
     ghost use Rattle.shore_model.specs.declared.log_records.LogRecord.{LogRecord};
     ghost use Rattle.shore_types.specs.declared.layout.Geometry.{Geometry};
     ghost use Rattle.shore_types.specs.declared.layout.TheConstants.{MAX_PAGES, MIN_POOL_FRAMES};
@@ -232,7 +234,7 @@ impl<L: Disk, V: Disk> World<L, V> {
     }
 
     fn force_stage(&mut self, alloc: Global) -> Step
-        ensures moves { Moves self.old Event.ForceStage result self.new }
+        ensures moves { EventMovesWorld self.old Event.ForceStage result self.new }
         ensures staged { (n : ℕ) → result ≡ Step.Done (Answer.Staged n) → HasStaged self.old self.new n }
         ensures volume { heap_of self.new.core ≡ heap_of self.old.core }
         ensures report { report_in self.new ≡ report_in self.old }
@@ -259,7 +261,7 @@ impl<L: Disk, V: Disk> World<L, V> {
     }
 
     fn force_open(&mut self) -> Step
-        ensures moves { Moves self.old Event.ForceOpen result self.new }
+        ensures moves { EventMovesWorld self.old Event.ForceOpen result self.new }
         ensures forced { (n : ℕ) → result ≡ Step.Done (Answer.Forced n) → HasForced self.old self.new n }
         ensures volume { heap_of self.new.core ≡ heap_of self.old.core }
         ensures report { report_in self.new ≡ report_in self.old }

@@ -3,7 +3,7 @@ ghost use Rattle.std.specs.Prelude.{◌≡◌, ◌==◌, ◌∷◌, ◌++◌, �
 ghost use Rattle.std.specs.List.{cons_option, filter_map, list_any};
 ghost use Rattle.shore_model.specs.declared.histories.InDoubt.{InDoubt};
 ghost use Rattle.shore_model.specs.Histories as histories;
-ghost use Rattle.shore_model.specs.Histories.{Kept, is_ended_by, is_prepare_of, is_undecided, decision_of, acknowledged_by, asked_by, prepared_by};
+ghost use Rattle.shore_model.specs.Histories.{Kept, is_ended_by, is_prepare_of, is_undecided, decision_of, acknowledged_by, decision_asked_by, prepared_by};
 
 use shore_model::{Call, Decision, Entry, InDoubt, Opening, Outcome};
 use shore_types::{GlobalId, Sequence, TxnId};
@@ -69,7 +69,7 @@ fn answered(alloc: Global, entry: &Entry) -> Result<Option<Decision>, AllocError
 }
 
 fn asked(alloc: Global, txn: TxnId, call: &Call) -> Result<Option<Decision>, AllocError>
-    ensures { IfOk result (λ decision. decision ≡ asked_by txn call.now) }
+    ensures { IfOk result (λ decision. decision ≡ decision_asked_by txn call.now) }
 {
     match call {
         Call::Commit => Ok(Some(Decision::Commit(txn))),

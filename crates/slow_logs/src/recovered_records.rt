@@ -5,8 +5,9 @@ ghost use Rattle.shore_model.specs.Logs as logs;
 ghost use Rattle.shore_model.specs.Records.{overlays};
 
 use crate::transaction_records::is_in_doubt;
-use shore_model::rid_map::{copy_image, overlaid};
+use shore_model::rid_map::overlaid;
 use shore_model::{LogRecord, Payload, RidMap};
+use shore_types::images::copy_of;
 use shore_types::{Bytes, TxnId};
 use std::alloc::{AllocError, Global};
 
@@ -100,7 +101,7 @@ fn put_image(
 {
     match payload {
         Payload::Change { id, after, .. } | Payload::Compensation { id, after, .. } => {
-            images.insert(*id, copy_image(alloc, after)?)?;
+            images.insert(*id, copy_of(alloc, after)?)?;
         }
         _ => {}
     }

@@ -2,8 +2,8 @@
 ghost use Rattle.std.specs.Prelude.{◌≡◌, reverse, IfOk, OnOk};
 ghost use Rattle.shore_model.specs.Logs as logs;
 
-use shore_model::rid_map::copy_image;
 use shore_model::{LogRecord, Payload, UnansweredChange};
+use shore_types::images::copy_of;
 use shore_types::{Lsn, TxnId};
 use std::alloc::{AllocError, Global};
 
@@ -132,7 +132,7 @@ fn answer(
 {
     match payload {
         Payload::Change { id, before, .. } => {
-            let before = copy_image(alloc, before)?;
+            let before = copy_of(alloc, before)?;
             changes.push(UnansweredChange {
                 number,
                 id: *id,

@@ -40,10 +40,15 @@ pub enum Work {
 /// How long records are, how many calls are made, and where the files are.
 #[derive(Clone, Copy)]
 pub struct Plan<'a> {
+    /// Memory and clock.
     pub host: Host<'a>,
+    /// What is measured.
     pub work: Work,
+    /// How many bytes each record has.
     pub size: usize,
+    /// How many calls are made.
     pub count: u64,
+    /// Where the files lie.
     pub folder: &'a str,
 }
 

@@ -10,6 +10,7 @@ mod cuts;
 mod deadlocks;
 mod devices;
 mod doings;
+mod failures;
 mod interleaved;
 mod judged_locks;
 mod lists;
@@ -23,7 +24,9 @@ mod together;
 mod trouble;
 
 use doings::{DELETE, Doing, INSERT, Turn};
+use failures::check_failures;
 use lists::{Counts, Plan, check_lists};
+use shore_disk::Pick;
 use std::test::Fail;
 
 const A_TRANSACTION: [Turn; 1] = [(1, Doing::Begin)];
@@ -244,4 +247,41 @@ fn with_an_abort_begun(rt: HostRuntime) -> Result<(), Fail> {
             },
         },
     )
+}
+
+/// A committed record and its update, a change that is written back and then aborted, and a commit behind that.
+const COMMITS_AND_AN_ABORT: [Turn; 19] = [
+    (1, Doing::Begin),
+    (1, INSERT),
+    (1, Doing::Commit),
+    (1, Doing::ForceStage),
+    (1, Doing::ForceOpen),
+    (1, Doing::Resume),
+    (1, Doing::Begin),
+    (1, Doing::Update),
+    (1, Doing::InsertOf(1, 0xdd, 1)),
+    (1, Doing::ForceStage),
+    (1, Doing::ForceOpen),
+    (1, Doing::FlushStep),
+    (1, Doing::Abort),
+    (1, Doing::Begin),
+    (1, Doing::Update),
+    (1, Doing::Commit),
+    (1, Doing::ForceStage),
+    (1, Doing::ForceOpen),
+    (1, Doing::Resume),
+];
+
+#[test]
+fn each_call_fails_alone(rt: HostRuntime) -> Result<(), Fail> {
+    let mut met = 0u64;
+    for pick in [Pick::Old, Pick::New, Pick::Noise] {
+        let more = check_failures(rt.alloc(), &COMMITS_AND_AN_ABORT, pick)?;
+        met = met.saturating_add(more);
+    }
+    println!(rt; "each call fails alone: {met} failures met")?;
+    if met != 96 {
+        return Err(Fail::new(format_args!("another number of failures is wanted")));
+    }
+    Ok(())
 }

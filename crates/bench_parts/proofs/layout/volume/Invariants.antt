@@ -1,6 +1,5 @@
 use Rattle.std.proofs.Common.{◌≡◌, ◌+◌, ◌*◌, length}
-use Rattle.shore_dwrite.specs.declared.places.TheConstants.{PAGES_AT}
-use Rattle.shore_types.specs.declared.layout.TheConstants.{PAGE_BYTES}
+use Rattle.shore_types.specs.declared.layout.TheConstants.{PAGES_AT, PAGE_BYTES}
 use Rattle.bench_parts.proofs.layout.volume.Given as goal
 
 abbrev pub invariant-loop-page : goal.invariant-loop-page

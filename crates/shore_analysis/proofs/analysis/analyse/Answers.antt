@@ -1,10 +1,10 @@
 use Rattle.std.proofs.Common.{◌≡◌, ◌<◌, ℕ, Some, length, take, take_all, sym, ap, subst, refl, arith}
 use Rattle.std.specs.Prelude.{slice_get}
 use Rattle.std.proofs.lemmas.Option.{slice_get_read}
-use Rattle.shore_lives.proofs.Redo.{take_next}
+use Rattle.laws_lives.proofs.Redo.{take_next}
 use Rattle.shore_analysis.specs.declared.analysis.NotAnalysed.{NotAnalysed}
 use Rattle.shore_analysis.specs.declared.analysis.NotAnalysed.TheVariants.{Memory, Unlawful}
-use Rattle.shore_analysis.specs.Meant.{AreMeant, GoesOn}
+use Rattle.shore_analysis.specs.Meant.{AreMeant, MayBeNext}
 use Rattle.shore_analysis.specs.Passes.{Knows}
 use Rattle.shore_analysis.proofs.MeantLogs.{AreMeant-push, first_unmeant}
 use Rattle.shore_analysis.proofs.analysis.analyse.Goals as goal
@@ -30,7 +30,7 @@ loop-index-preserved c =
     let within : i < length rs = omega arith in
     let r = c.index-records-index.result in
     let at : slice_get rs i ≡ Some r = slice_get_read rs (length rs) i r refl within c.index-records-index.is in
-    let goes : GoesOn g (take i rs) r = c.in_ok-goes_on.ensures.test.0 c.if-not-branch.false in
+    let goes : MayBeNext g (take i rs) r = c.in_ok-goes_on.ensures.test.0 c.if-not-branch.false in
     let next = sym (take_next rs i r at) in (
       subst (λ xs. Knows xs c.goes_on.new.self) next (c.in_ok-goes_on.ensures.knows c.if-not-branch.false),
       subst (AreMeant g) next (AreMeant-push g (take i rs) r c.loop-index.invariant.1 goes),

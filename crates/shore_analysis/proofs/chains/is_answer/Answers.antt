@@ -1,7 +1,7 @@
 use Rattle.std.proofs.Common.{sym, ◌∙◌}
 use Rattle.std.proofs.lemmas.Bool.{eqb-true, eq-eqb}
 use Rattle.shore_model.specs.Logs.{unanswered}
-use Rattle.shore_lives.proofs.UndoChains.{unanswered_chain}
+use Rattle.laws_lives.proofs.UndoChains.{unanswered_chain}
 use Rattle.shore_analysis.proofs.Answered.{answer_told, gone, no_answer}
 use Rattle.shore_analysis.proofs.chains.is_answer.Goals as goal
 

@@ -2,7 +2,7 @@ use Rattle.std.proofs.Common.{◌≡◌, [], sym, ap, subst, ◌∙◌}
 use Rattle.std.proofs.lemmas.Bool.{eqb-true, eq-eqb}
 use Rattle.shore_model.specs.Logs.{unanswered, undo_next_of}
 use Rattle.shore_analysis.specs.Meant.{Means, MeansChange, MeansCompensation}
-use Rattle.shore_lives.proofs.UndoChains.{unanswered_chain}
+use Rattle.laws_lives.proofs.UndoChains.{unanswered_chain}
 use Rattle.shore_analysis.proofs.Answered.{none_next}
 use Rattle.shore_analysis.proofs.MeantLogs.{all_unprepared}
 use Rattle.shore_analysis.proofs.passes.means.Goals as goal

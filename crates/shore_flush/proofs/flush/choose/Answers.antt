@@ -1,4 +1,4 @@
-use Rattle.std.proofs.Common.{ℕ, List, inl, inr, length, ap, ◌∙◌, arith}
+use Rattle.std.proofs.Common.{ℕ, List, inl, inr, length, ap, arith}
 use Rattle.shore_flush.proofs.flush.choose.Goals as goal
 
 pub returns-clause-first : goal.returns-clause-first

@@ -8,10 +8,10 @@ use Rattle.shore_flush.specs.Batches.{pages_of}
 use Rattle.shore_flush.proofs.flush.flush_step.Goals as goal
 
 pub returns-in_err-batch-clause-any_moment : goal.returns-in_err-batch-clause-any_moment
-returns-in_err-batch-clause-any_moment g c front disk holds = while_still (device_of c.args.pool.now) (frame_at c.args.pool.now) c.args.seen front disk holds.settled
+returns-in_err-batch-clause-any_moment g c front disk holds = while_still (device_of c.args.pool.now) (frame_at c.args.pool.now) c.args.durable front disk holds.settled
 
 pub returns-then-is_empty-clause-any_moment : goal.returns-then-is_empty-clause-any_moment
-returns-then-is_empty-clause-any_moment g c front disk holds = while_still (device_of c.args.pool.now) (frame_at c.args.pool.now) c.args.seen front disk holds.settled
+returns-then-is_empty-clause-any_moment g c front disk holds = while_still (device_of c.args.pool.now) (frame_at c.args.pool.now) c.args.durable front disk holds.settled
 
 is_zero : (n : ℕ) → (n == 0) ≡ true → n ≡ 0
 is_zero n is = elim (cases_eq n 0) [
@@ -41,14 +41,14 @@ returns-then-is_empty-clause-flushed g c =
 pub returns-in_err-write-clause-any_moment : goal.returns-in_err-write-clause-any_moment
 returns-in_err-write-clause-any_moment g c front disk holds =
     let pool = c.args.pool.now in
-    c.write.ensures.any_moment front disk c.args.seen holds (subst (AreUpTo (frame_at pool) c.args.seen) (sym c.pages-pages.ensures) (up_to pool c.args.seen (pages_of c.in_ok-batch.batch) c.in_ok-batch.ensures.due))
+    c.write.ensures.any_moment front disk c.args.durable holds (subst (AreUpTo (frame_at pool) c.args.durable) (sym c.pages-pages.ensures) (up_to pool c.args.durable (pages_of c.in_ok-batch.batch) c.in_ok-batch.ensures.due))
 
 pub returns-clause-any_moment : goal.returns-clause-any_moment
 returns-clause-any_moment g c front disk holds =
     let pool = c.args.pool.now in
-    c.write.ensures.any_moment front disk c.args.seen holds (subst (AreUpTo (frame_at pool) c.args.seen) (sym c.pages-pages.ensures) (up_to pool c.args.seen (pages_of c.in_ok-batch.batch) c.in_ok-batch.ensures.due))
+    c.write.ensures.any_moment front disk c.args.durable holds (subst (AreUpTo (frame_at pool) c.args.durable) (sym c.pages-pages.ensures) (up_to pool c.args.durable (pages_of c.in_ok-batch.batch) c.in_ok-batch.ensures.due))
 
 pub returns-clause-kept : goal.returns-clause-kept
 returns-clause-kept g c front disk holds =
     let pool = c.args.pool.now in
-    c.in_ok-write.ensures.kept front disk c.args.seen holds (subst (AreUpTo (frame_at pool) c.args.seen) (sym c.pages-pages.ensures) (up_to pool c.args.seen (pages_of c.in_ok-batch.batch) c.in_ok-batch.ensures.due))
+    c.in_ok-write.ensures.kept front disk c.args.durable holds (subst (AreUpTo (frame_at pool) c.args.durable) (sym c.pages-pages.ensures) (up_to pool c.args.durable (pages_of c.in_ok-batch.batch) c.in_ok-batch.ensures.due))

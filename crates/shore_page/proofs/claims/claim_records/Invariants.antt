@@ -1,5 +1,5 @@
 use Rattle.std.proofs.Common.{◌≡◌, ◌≤◌, ◌*◌, map, take, vec_capacity}
-use Rattle.shore_page.specs.Slots.{image_len}
+use Rattle.shore_types.specs.Images.{image_len}
 use Rattle.shore_page.specs.Layout.{record_bytes}
 use Rattle.shore_page.proofs.claims.claim_records.Given as goal
 

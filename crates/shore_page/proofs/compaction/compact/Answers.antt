@@ -4,8 +4,7 @@ use Rattle.std.specs.List.{between}
 use Rattle.std.proofs.lemmas.Slice.{between_to_end}
 use Rattle.std.proofs.lemmas.List.Edits.{length-between}
 use Rattle.std.proofs.lemmas.List.{length-take-le}
-use Rattle.shore_types.specs.Images.{Image}
-use Rattle.shore_page.specs.Slots.{image_len}
+use Rattle.shore_types.specs.Images.{Image, image_len}
 use Rattle.shore_page.specs.Text.{table_of, offset_at, length_at, HasSlot}
 use Rattle.shore_page.specs.Reading.{IsTable, images_in}
 use Rattle.shore_page.specs.Layout.{record_bytes}

@@ -1,6 +1,6 @@
 use Rattle.std.proofs.Common.{◌≡◌, ℕ, ◌∙◌, sym, subst, arith}
 use Rattle.shore_page.specs.Text.{offset_at}
-use Rattle.shore_page.specs.Layout.{IsFree}
+use Rattle.shore_page.specs.Layout.{IsFreeSpace}
 use Rattle.shore_page.proofs.WritingLemmas.{puts_nothing}
 use Rattle.shore_page.proofs.LayoutLemmas.{free_in_place, none_laid_out, given_up_room, compacted_for}
 use Rattle.shore_page.proofs.placing.place_for.Goals as goal
@@ -9,7 +9,7 @@ pub returns-then-len-entry-clause-free : goal.returns-then-len-entry-clause-free
 returns-then-len-entry-clause-free c =
     let bytes = c.args.bytes.now in
     let is : c.entry_at-entry.result.offset ≡ offset_at bytes c.args.slot = c.entry_at-entry.ensures.offset in
-    subst (λ (o : ℕ). IsFree bytes c.args.slots c.args.slot o c.args.len) (sym is)
+    subst (λ (o : ℕ). IsFreeSpace bytes c.args.slots c.args.slot o c.args.len) (sym is)
     (free_in_place bytes c.args.slots c.args.slot c.args.end c.args.len c.requires.laid_out c.requires.there (λ (e : offset_at bytes c.args.slot ≡ 0). c.if-entry-ne0.true (is ∙ e)) (omega (arith, c.entry_at-entry.ensures.bytes)))
 
 pub compact-end-requires : goal.compact-end-requires

@@ -2,13 +2,13 @@ use Rattle.std.proofs.Common.{refl}
 use Rattle.shore_types.specs.declared.locking.Granule.TheVariants.{Record}
 use Rattle.shore_types.specs.declared.locking.Mode.TheVariants.{EX}
 use Rattle.shore_path.specs.declared.answers.OnConflict.TheVariants.{Refuse}
-use Rattle.shore_path.specs.Walks.{ComesTo, acquired}
+use Rattle.shore_path.specs.Walks.{HasOutcome, acquired}
 use Rattle.shore_path.proofs.Acquiring.{told_done, told_quiet, told_refused}
 use Rattle.shore_path.proofs.Intended.{comes_in_store, ends_in_store}
 use Rattle.shore_path.proofs.intending.acquire_in_store.Goals as goal
 use Rattle.shore_path.proofs.intending.acquire_in_store.Goals.{After-lock_alone-in-None}
 
-came : (c : After-lock_alone-in-None) → ComesTo c.args.table.now (acquired Refuse c.args.table.now c.args.txn (Record c.args.id.now) EX) c.lock_alone-in-None.result c.lock_alone-in-None.new.table
+came : (c : After-lock_alone-in-None) → HasOutcome c.args.table.now (acquired Refuse c.args.table.now c.args.txn (Record c.args.id.now) EX) c.lock_alone-in-None.result c.lock_alone-in-None.new.table
 came c =
     comes_in_store c.args.txn c.args.id.now c.args.table.now c.requires.intends c.pass.new.table c.lock_alone-in-None.new.table c.lock_alone-in-None.result (c.in-None.ensures.walk (Record c.args.id.now) refl)
     c.lock_alone-in-None.ensures.answer c.lock_alone-in-None.ensures.table

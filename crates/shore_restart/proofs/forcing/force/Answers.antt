@@ -3,7 +3,7 @@ use Rattle.shore_types.specs.declared.layout.TheConstants.{LOG_FRONT_BYTES}
 use Rattle.shore_model.specs.declared.log_records.LogRecord.{LogRecord}
 use Rattle.shore_log.specs.Settled.{records_of_log, waiting}
 use Rattle.shore_log.specs.declared.device.LogDev.{LogDev}
-use Rattle.shore_lives.specs.Recovery.{after_force}
+use Rattle.laws_lives.specs.Recovery.{after_force}
 use Rattle.shore_restart.specs.declared.errors.RestartError.{RestartError}
 use Rattle.shore_restart.specs.Room.{LeavesRoom}
 use Rattle.shore_restart.specs.Standing.{Forces, log_faults, stream_bytes_of}

@@ -2,8 +2,8 @@ use Rattle.std.proofs.Common.{◌≡◌, ◌≤◌, ℕ, List, length}
 use Rattle.shore_types.specs.declared.layout.Geometry.{Geometry}
 use Rattle.shore_disk.specs.Device.{History, may_leave}
 use Rattle.shore_log.specs.Settled.{records_of_log, stable, waiting}
-use Rattle.shore_lives.specs.Recovery.{RecoveryState}
-use Rattle.shore_stands.specs.Moments.{ShowsLeft}
+use Rattle.laws_lives.specs.Recovery.{RecoveryState}
+use Rattle.laws_images.specs.Moments.{ShowsLeft}
 use Rattle.shore_restart.specs.Quiet.{IsQuiet}
 use Rattle.shore_restart.specs.Standing.{IsAtRest, SameLog, log_faults}
 use Rattle.shore_restart.proofs.Frames.{SoFar}

@@ -1,5 +1,5 @@
 use Rattle.std.proofs.Common.{◌≡◌, ◌-◌, ◌^◌, min, take}
-use Rattle.shore_calls.specs.States.{cost_of_log}
+use Rattle.laws_calls.specs.States.{cost_of_log}
 use Rattle.shore_restart.proofs.log_sums.cost_of_all.Given as goal
 
 abbrev pub invariant-loop-logged : goal.invariant-loop-logged

@@ -1,8 +1,8 @@
 use Rattle.std.proofs.Common.{◌≡◌, ◌≤◌, ℕ, List, length}
 use Rattle.shore_disk.specs.Device.{History, may_leave}
 use Rattle.shore_heap.specs.Heaps.{faults_of}
-use Rattle.shore_lives.specs.Recovery.{RecoveryState}
-use Rattle.shore_stands.specs.Moments.{GivesPrefix}
+use Rattle.laws_lives.specs.Recovery.{RecoveryState}
+use Rattle.laws_images.specs.Moments.{GivesPrefix}
 use Rattle.shore_restart.specs.Held.{IsHeld, StaysHeld}
 use Rattle.shore_restart.specs.Standing.{SameVolume, Stands}
 use Rattle.shore_restart.proofs.RedoAll.{Now, SoFar}

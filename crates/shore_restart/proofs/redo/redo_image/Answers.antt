@@ -7,7 +7,7 @@ use Rattle.shore_dwrite.proofs.Moves.{if_err}
 use Rattle.shore_model.specs.declared.log_records.LogRecord.{LogRecord}
 use Rattle.shore_types.specs.Layout.{HasPage}
 use Rattle.shore_types.specs.declared.layout.Geometry.{Geometry}
-use Rattle.shore_lives.specs.Pages.{LoggedPages}
+use Rattle.laws_lives.specs.Pages.{LoggedPages}
 use Rattle.shore_restart.specs.declared.errors.RestartError.{RestartError}
 use Rattle.shore_restart.specs.declared.errors.RestartError.TheVariants.{BadRecord}
 use Rattle.shore_restart.specs.Standing.{Redoes}
@@ -60,7 +60,7 @@ returns-then-not-fits-clause-bad g c front disk s r stands next says number last
     let same : c.args.number ≡ n = cc in
     does_not_fit front old mid s r f c.args.id c.args.image.now c.number-found.result n (sym same ∙ number) next says stood_there there c.number-found.ensures (omega (arith, lt, page, number))
     (λ fits.
-    let yes = c.fits.ensures.framed.1 (subst (λ (b : ℕ). IsSomeAnd (frame_of mid c.args.id.page) (λ f. Fits f.page.slots c.args.id.slot b)) (sym c.len_of.ensures) fits) in
+    let yes = c.fits.ensures.framed.1 (subst (λ (b : ℕ). IsSomeAnd (frame_of mid c.args.id.page) (λ f. Fits f.page.slots c.args.id.slot b)) (sym c.bytes_in.ensures) fits) in
     let no : c.fits.result ≡ false = c.if-not-fits.true in
     let clash : true ≡ false = sym yes ∙ no in
     cc)

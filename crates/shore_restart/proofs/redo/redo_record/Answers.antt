@@ -1,15 +1,16 @@
-use Rattle.std.proofs.Common.{◌≡◌, Option, false, sym, ap, subst, arith}
+use Rattle.std.proofs.Common.{◌≡◌, Option, false, sym, ap, subst, arith, rules}
 use Rattle.std.specs.Prelude.{IfOk}
 use Rattle.shore_types.specs.Images.{Image}
 use Rattle.shore_types.specs.declared.ids.Rid.{Rid}
-use Rattle.shore_restart.proofs.Redoing.{has_image, no_image, redone_without}
+use Rattle.shore_restart.proofs.Redoing.{IsOfNoImage, has_image, no_image, redone_without}
 use Rattle.shore_restart.specs.Missing.{is_missing}
 use Rattle.shore_restart.proofs.HeldPages.{held_here}
 use Rattle.shore_restart.proofs.redo.redo_record.Goals as goal
 
-pub returns-in_default-clause-redone : goal.returns-in_default-clause-redone
-returns-in_default-clause-redone g c front disk s stands next number last durable =
-    redone_without front disk c.args.heap.now s c.args.logged.now false stands next (no_image c.args.logged.now.payload c.in_default.not-Change c.in_default.not-Compensation)
+pub returns-in-Commit-clause-redone : goal.returns-in-Commit-clause-redone
+returns-in-Commit-clause-redone g c front disk s stands next number last durable =
+    let none : IsOfNoImage c.args.logged.now.payload = search rules in
+    redone_without front disk c.args.heap.now s c.args.logged.now false stands next (no_image c.args.logged.now.payload none)
 
 pub returns-in-Change-clause-redone : goal.returns-in-Change-clause-redone
 returns-in-Change-clause-redone g c front disk s stands next number last durable =
@@ -19,15 +20,16 @@ pub returns-in-Change-clause-bad : goal.returns-in-Change-clause-bad
 returns-in-Change-clause-bad g c front disk s stands next number last durable =
     c.redo_image.ensures.bad front disk s c.args.logged.now stands next (has_image c.args.logged.now.payload c.in-Change.id c.in-Change.after c.in-Change.is) number last durable
 
-pub returns-in_default-clause-any_pages : goal.returns-in_default-clause-any_pages
-returns-in_default-clause-any_pages g c front disk held low = record { named = tt; stays = held_here front disk c.args.heap.now c.args.last c.args.last (omega arith) held }
+pub returns-in-Commit-clause-any_pages : goal.returns-in-Commit-clause-any_pages
+returns-in-Commit-clause-any_pages g c front disk held low = record { named = tt; stays = held_here front disk c.args.heap.now c.args.last c.args.last (omega arith) held }
 
 pub returns-in-Change-clause-any_pages : goal.returns-in-Change-clause-any_pages
 returns-in-Change-clause-any_pages g c front disk held low = c.redo_image.ensures.any_pages front disk held low
 
-pub returns-in_default-clause-missing : goal.returns-in_default-clause-missing
-returns-in_default-clause-missing g c front disk s stands next number last durable =
-    sym (ap (is_missing s.in_place c.args.number) (no_image c.args.logged.now.payload c.in_default.not-Change c.in_default.not-Compensation))
+pub returns-in-Commit-clause-missing : goal.returns-in-Commit-clause-missing
+returns-in-Commit-clause-missing g c front disk s stands next number last durable =
+    let none : IsOfNoImage c.args.logged.now.payload = search rules in
+    sym (ap (is_missing s.in_place c.args.number) (no_image c.args.logged.now.payload none))
 
 pub returns-in-Change-clause-missing : goal.returns-in-Change-clause-missing
 returns-in-Change-clause-missing g c front disk s stands next number last durable =

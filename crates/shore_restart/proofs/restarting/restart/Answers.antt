@@ -2,9 +2,9 @@ use Rattle.std.proofs.Common.{Err, arith, refl, sym, ap, subst, ◌∙◌, lengt
 use Rattle.shore_heap.specs.declared.heap.Heap.{Heap}
 use Rattle.shore_heap.specs.Heaps.{geometry_of}
 use Rattle.shore_model.specs.Logs.{Lawful}
-use Rattle.shore_lives.specs.Undo.{HasNoLosers}
+use Rattle.laws_lives.specs.Undo.{HasNoLosers}
 use Rattle.shore_log.specs.Settled.{records_of_log}
-use Rattle.shore_stands.specs.Moments.{Path}
+use Rattle.laws_images.specs.Moments.{Path}
 use Rattle.shore_restart.specs.Standing.{log_history, moment_of, stream_bytes_of}
 use Rattle.shore_restart.proofs.Opens.{opens_in}
 use Rattle.shore_restart.proofs.QuietLogs.{quiet_beside, quiet_err, quiet_of}
@@ -13,7 +13,7 @@ use Rattle.shore_restart.proofs.restarting.restart.Goals as goal
 pub returns-in-Ok-clause-restarts : goal.returns-in-Ok-clause-restarts
 returns-in-Ok-clause-restarts g c log_front front disk s found =
     let m = c.in-Ok.ensures.moves log_front front disk s found in
-    let new = c.recover.new.log in
+    let new = c.run_passes.new.log in
     record {
       ready = m.later;
       moments = m.moments;
@@ -29,7 +29,7 @@ returns-in-Ok-clause-restarts g c log_front front disk s found =
             m.done.0,
             ready.at_rest,
             m.done.1,
-            opens_in c.over.result c.recover.new.heap c.in-Ok.field-0.control front m.done.1 (records_of_log c.args.log.now) (records_of_log new) (stream_bytes_of new) m.later
+            opens_in c.over.result c.run_passes.new.heap c.in-Ok.field-0.control front m.done.1 (records_of_log c.args.log.now) (records_of_log new) (stream_bytes_of new) m.later
                 same was c.in-Ok.ensures.undone quiet ready.redone ready.stands (geometry_of c.args.heap).max_locks c.in-Ok.ensures.idle c.in-Ok.ensures.next c.in-Ok.ensures.room
                 (λ st log durable running control shows. c.over.ensures.state front m.done.1 st
                 (ap length (log ∙ same ∙ sym c.records.ensures.log)) (durable ∙ ready.at_rest.durable ∙ sym c.durable.ensures ∙ sym c.number-durable.ensures) running control shows)
@@ -47,9 +47,9 @@ returns-in-Err-clause-any_pages g c front disk held = c.in-Err.ensures.any_pages
 
 pub returns-in-Ok-clause-log_device : goal.returns-in-Ok-clause-log_device
 returns-in-Ok-clause-log_device g c log_front quiet =
-    let on = quiet_of log_front c.args.log.now c.recover.new.log c.in-Ok.field-0 (c.in-Ok.ensures.log_device log_front quiet) in
-    quiet_beside log_front {A = Unit {0}} c.args.log.now c.recover.new.log _ tt on.0 on.1
+    let on = quiet_of log_front c.args.log.now c.run_passes.new.log c.in-Ok.field-0 (c.in-Ok.ensures.log_device log_front quiet) in
+    quiet_beside log_front {A = Unit {0}} c.args.log.now c.run_passes.new.log _ tt on.0 on.1
 
 pub returns-in-Err-clause-log_device : goal.returns-in-Err-clause-log_device
 returns-in-Err-clause-log_device g c log_front quiet =
-    quiet_err log_front c.args.log.now c.args.log.now c.recover.new.log (omega arith) (Err c.in-Err.error) c.in-Err.error refl (c.in-Err.ensures.log_device log_front quiet)
+    quiet_err log_front c.args.log.now c.args.log.now c.run_passes.new.log (omega arith) (Err c.in-Err.error) c.in-Err.error refl (c.in-Err.ensures.log_device log_front quiet)

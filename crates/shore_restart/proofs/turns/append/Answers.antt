@@ -1,11 +1,11 @@
-use Rattle.std.proofs.Common.{refl, subst, ◌+◌, length, arith, sym, ap, ◌∙◌}
+use Rattle.std.proofs.Common.{refl, subst, ◌+◌, length, arith, sym, ap, ◌∙◌, rules}
 use Rattle.shore_log.specs.Settled.{records_of_log}
 use Rattle.std.specs.Prelude.{IsSome}
 use Rattle.shore_model.specs.declared.log_records.Payload.{Payload}
 use Rattle.shore_model.specs.Logs.{id_in, image_in, unanswered}
-use Rattle.shore_lives.specs.Undo.{undo_record}
+use Rattle.laws_lives.specs.Undo.{undo_record}
 use Rattle.shore_restart.proofs.Causes.{err_to}
-use Rattle.shore_restart.proofs.Turning.{append_without, undo_without}
+use Rattle.shore_restart.proofs.Turning.{IsNoCompensation, append_without, undo_without}
 use Rattle.shore_restart.proofs.HeldPages.{held_beside, held_here}
 use Rattle.shore_restart.proofs.turns.append.Goals as goal
 
@@ -18,16 +18,17 @@ returns-in-Compensation-clause-bad g c log_front front disk s ready =
     err_to c.put_back.result (c.put_back.ensures.bad log_front front disk s ready) (λ error is n same.
     let b = is n same in (b.0, λ fits. b.1 (fits (c.in-Compensation.id, c.in-Compensation.after) (ap image_in c.in-Compensation.is))))
 
-pub returns-in_default-clause-appends : goal.returns-in_default-clause-appends
-returns-in_default-clause-appends g c log_front front disk s t ready is number =
+pub returns-in-End-clause-appends : goal.returns-in-End-clause-appends
+returns-in-End-clause-appends g c log_front front disk s t ready is number =
+    let none : IsNoCompensation c.args.payload.now = search rules in
     append_without log_front front c.args.log.now c.args.heap.now s c.reserve.result c.reserve.new.log (undo_record s.log t) disk ready
-    (undo_without (unanswered t s.log) c.args.payload.now is c.in_default.not-Compensation) c.reserve.ensures.same.1 (c.reserve.ensures.at_rest log_front s ready.at_rest)
+    (undo_without (unanswered t s.log) c.args.payload.now is none) c.reserve.ensures.same.1 (c.reserve.ensures.at_rest log_front s ready.at_rest)
 
 pub returns-in-Compensation-clause-any_pages : goal.returns-in-Compensation-clause-any_pages
 returns-in-Compensation-clause-any_pages g c front disk held number = c.put_back.ensures.any_pages front disk held number
 
-pub returns-in_default-clause-any_pages : goal.returns-in_default-clause-any_pages
-returns-in_default-clause-any_pages g c front disk held number =
+pub returns-in-End-clause-any_pages : goal.returns-in-End-clause-any_pages
+returns-in-End-clause-any_pages g c front disk held number =
     let n = length (records_of_log c.args.log.now) in
     let heap = c.args.heap.now in
     held_beside front disk heap heap n (n + 1) c.reserve.result (err_to c.reserve.result c.reserve.ensures.refused (λ error is f page. let clash = sym is ∙ page in cc))
@@ -40,8 +41,8 @@ pub returns-in-Compensation-clause-bad_number : goal.returns-in-Compensation-cla
 returns-in-Compensation-clause-bad_number g c =
     err_to c.put_back.result c.put_back.ensures.bad_number (λ error is n same. (is n same, subst (λ (p : Payload). IsSome (id_in p)) (sym c.in-Compensation.is) refl))
 
-pub returns-in_default-clause-log_device : goal.returns-in_default-clause-log_device
-returns-in_default-clause-log_device g c log_front quiet = c.reserve.ensures.log_device log_front quiet
+pub returns-in-End-clause-log_device : goal.returns-in-End-clause-log_device
+returns-in-End-clause-log_device g c log_front quiet = c.reserve.ensures.log_device log_front quiet
 
-pub returns-in_default-clause-bad_number : goal.returns-in_default-clause-bad_number
-returns-in_default-clause-bad_number g c = err_to c.reserve.result c.reserve.ensures.refused (λ error is n bad. let clash = sym is ∙ bad in absurd cc)
+pub returns-in-End-clause-bad_number : goal.returns-in-End-clause-bad_number
+returns-in-End-clause-bad_number g c = err_to c.reserve.result c.reserve.ensures.refused (λ error is n bad. let clash = sym is ∙ bad in absurd cc)

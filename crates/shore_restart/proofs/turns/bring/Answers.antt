@@ -1,9 +1,9 @@
 use Rattle.std.proofs.Common.{◌≡◌, ℕ, inl, inr, Result, false, true, refl, sym, ap, subst, ◌∙◌, length, arith}
 use Rattle.shore_log.specs.Settled.{records_of_log}
 use Rattle.shore_heap.specs.Heaps.{geometry_of, history_of}
-use Rattle.shore_lives.specs.Recovery.{after_force}
+use Rattle.laws_lives.specs.Recovery.{after_force}
 use Rattle.shore_restart.specs.declared.errors.RestartError.{RestartError}
-use Rattle.shore_restart.specs.Standing.{Moves, log_history, moment_of}
+use Rattle.shore_restart.specs.Standing.{RestartMoves, log_history, moment_of}
 use Rattle.shore_restart.proofs.Causes.{device_alone, err_to, force_runs, none_above}
 use Rattle.shore_restart.proofs.Coming.{came_fetched, came_forced, came_here, fetch_moves, force_stops}
 use Rattle.shore_restart.proofs.PageErrors.{err_with}
@@ -17,16 +17,16 @@ returns-then-not-needs_force-clause-moves g c log_front front disk s ready =
     let log = c.args.log.now in
     let heap = c.args.heap.now in
     let durable = ready.at_rest.durable in
-    let seen = c.number-seen.ensures ∙ c.durable.ensures in
+    let told = c.number-durable.ensures ∙ c.durable.ensures in
     fetch_moves log_front front log heap s c.fetch-fetched.result log heap c.fetch-fetched.new.heap s (came_here log_front front disk log heap s ready)
-    (c.fetch-fetched.ensures.fetches front disk s ready.stands (omega (arith, durable, seen))) c.fetch-fetched.ensures.volume.geometry refl refl
+    (c.fetch-fetched.ensures.fetches front disk s ready.stands (omega (arith, durable, told))) c.fetch-fetched.ensures.volume.geometry refl refl
 
 pub returns-then-not-needs_force-clause-device : goal.returns-then-not-needs_force-clause-device
 returns-then-not-needs_force-clause-device g c log_front front disk s ready =
     let no : c.needs_force.result ≡ false = c.if-not-needs_force.true in
     let records : length s.log ≡ length (records_of_log c.args.log.now) = ap length ready.at_rest.records in
     let found : length c.records.result.now ≡ length (records_of_log c.args.log.now) = ap length c.records.ensures.log in
-    device_alone c.fetch-fetched.result c.number-seen.result (length s.log) (λ force. let yes : c.needs_force.result ≡ true = c.needs_force.ensures.1 force in let clash : true ≡ false = sym yes ∙ no in cc)
+    device_alone c.fetch-fetched.result c.number-durable.result (length s.log) (λ force. let yes : c.needs_force.result ≡ true = c.needs_force.ensures.1 force in let clash : true ≡ false = sym yes ∙ no in cc)
     (c.fetch-fetched.ensures.device front disk s ready.stands (omega (arith, records, found)))
 
 pub returns-in_err-force-clause-moves : goal.returns-in_err-force-clause-moves
@@ -35,14 +35,14 @@ returns-in_err-force-clause-moves g c log_front front disk s ready =
     let heap = c.args.heap.now in
     let mid = c.fetch-fetched.new.heap in
     let durable = ready.at_rest.durable in
-    let seen = c.number-seen.ensures ∙ c.durable.ensures in
+    let told = c.number-durable.ensures ∙ c.durable.ensures in
     let needed = c.needs_force.ensures.0 c.if-not-needs_force.false in
     let first = moment_of (log_history log) heap s in
-    let f = c.fetch-fetched.ensures.fetches front disk s ready.stands (omega (arith, durable, seen)) in
+    let f = c.fetch-fetched.ensures.fetches front disk s ready.stands (omega (arith, durable, told)) in
     let came = came_fetched (geometry_of heap) log_front front first log heap mid s c.fetch-fetched.result (came_here log_front front disk log heap s ready) f
     (force_runs c.fetch-fetched.result needed.0 needed.1) c.fetch-fetched.ensures.volume.geometry in
     let e = c.in_err-force.field-0.0 in
-    subst (λ (result : Result (Unit {0}) RestartError). Moves result log_front front log c.force.new.log heap mid s (λ later. (later.log ≡ s.log) × (later.in_place ≡ s.in_place)))
+    subst (λ (result : Result (Unit {0}) RestartError). RestartMoves result log_front front log c.force.new.log heap mid s (λ later. (later.log ≡ s.log) × (later.in_place ≡ s.in_place)))
     (sym (err_with c.from_residual.result e c.from_residual.ensures.1))
     (force_stops log_front front log heap s e e log c.force.new.log mid f.later (λ later. (later.log ≡ s.log) × (later.in_place ≡ s.in_place)) came
     (c.in_err-force.ensures.forces log_front f.later came.ready.at_rest came.ready.redone (geometry_of heap) front (history_of mid) f.work.left))
@@ -53,10 +53,10 @@ returns-clause-moves g c log_front front disk s ready =
     let heap = c.args.heap.now in
     let mid = c.fetch-fetched.new.heap in
     let durable = ready.at_rest.durable in
-    let seen = c.number-seen.ensures ∙ c.durable.ensures in
+    let told = c.number-durable.ensures ∙ c.durable.ensures in
     let needed = c.needs_force.ensures.0 c.if-not-needs_force.false in
     let first = moment_of (log_history log) heap s in
-    let f = c.fetch-fetched.ensures.fetches front disk s ready.stands (omega (arith, durable, seen)) in
+    let f = c.fetch-fetched.ensures.fetches front disk s ready.stands (omega (arith, durable, told)) in
     let came = came_fetched (geometry_of heap) log_front front first log heap mid s c.fetch-fetched.result (came_here log_front front disk log heap s ready) f
     (force_runs c.fetch-fetched.result needed.0 needed.1) c.fetch-fetched.ensures.volume.geometry in
     let forces = c.in_ok-force.ensures.forces log_front f.later came.ready.at_rest came.ready.redone (geometry_of heap) front (history_of mid) f.work.left in
@@ -73,10 +73,10 @@ returns-clause-device g c log_front front disk s ready =
     let heap = c.args.heap.now in
     let mid = c.fetch-fetched.new.heap in
     let durable = ready.at_rest.durable in
-    let seen = c.number-seen.ensures ∙ c.durable.ensures in
+    let told = c.number-durable.ensures ∙ c.durable.ensures in
     let needed = c.needs_force.ensures.0 c.if-not-needs_force.false in
     let first = moment_of (log_history log) heap s in
-    let f = c.fetch-fetched.ensures.fetches front disk s ready.stands (omega (arith, durable, seen)) in
+    let f = c.fetch-fetched.ensures.fetches front disk s ready.stands (omega (arith, durable, told)) in
     let came = came_fetched (geometry_of heap) log_front front first log heap mid s c.fetch-fetched.result (came_here log_front front disk log heap s ready) f
     (force_runs c.fetch-fetched.result needed.0 needed.1) c.fetch-fetched.ensures.volume.geometry in
     let records : length f.later.log ≡ length (records_of_log c.args.log.now) = ap length (f.same.log ∙ ready.at_rest.records) in
@@ -92,11 +92,11 @@ returns-then-not-needs_force-clause-any_pages g c front disk held =
     let mid = c.fetch-fetched.new.heap in
     let found : length c.records.result.now ≡ n = ap length c.records.ensures.log in
     let short = stable_short log in
-    let seen = c.number-seen.ensures ∙ c.durable.ensures in
-    let fetched = subst (λ (last : ℕ). FetchesHeld c.fetch-fetched.result front disk heap mid last c.number-seen.result) found
-    (c.fetch-fetched.ensures.any_pages front disk (subst (λ (last : ℕ). IsHeld front disk heap last) (sym found) held) (omega (arith, found, short, seen))) in
+    let told = c.number-durable.ensures ∙ c.durable.ensures in
+    let fetched = subst (λ (last : ℕ). FetchesHeld c.fetch-fetched.result front disk heap mid last c.number-durable.result) found
+    (c.fetch-fetched.ensures.any_pages front disk (subst (λ (last : ℕ). IsHeld front disk heap last) (sym found) held) (omega (arith, found, short, told))) in
     let no : c.needs_force.result ≡ false = c.if-not-needs_force.true in
-    fetch_alone front disk heap mid n c.number-seen.result c.fetch-fetched.result (λ force. let yes : c.needs_force.result ≡ true = c.needs_force.ensures.1 force in let clash : true ≡ false = sym yes ∙ no in cc) fetched
+    fetch_alone front disk heap mid n c.number-durable.result c.fetch-fetched.result (λ force. let yes : c.needs_force.result ≡ true = c.needs_force.ensures.1 force in let clash : true ≡ false = sym yes ∙ no in cc) fetched
 
 pub returns-in_err-force-clause-any_pages : goal.returns-in_err-force-clause-any_pages
 returns-in_err-force-clause-any_pages g c front disk held =
@@ -115,11 +115,11 @@ returns-clause-any_pages g c front disk held =
     let mid = c.fetch-fetched.new.heap in
     let found : length c.records.result.now ≡ n = ap length c.records.ensures.log in
     let short = stable_short log in
-    let seen = c.number-seen.ensures ∙ c.durable.ensures in
-    let fetched = subst (λ (last : ℕ). FetchesHeld c.fetch-fetched.result front disk heap mid last c.number-seen.result) found
-    (c.fetch-fetched.ensures.any_pages front disk (subst (λ (last : ℕ). IsHeld front disk heap last) (sym found) held) (omega (arith, found, short, seen))) in
+    let told = c.number-durable.ensures ∙ c.durable.ensures in
+    let fetched = subst (λ (last : ℕ). FetchesHeld c.fetch-fetched.result front disk heap mid last c.number-durable.result) found
+    (c.fetch-fetched.ensures.any_pages front disk (subst (λ (last : ℕ). IsHeld front disk heap last) (sym found) held) (omega (arith, found, short, told))) in
     let needed = c.needs_force.ensures.0 c.if-not-needs_force.false in
-    let s = fetch_forced front disk heap mid n c.number-seen.result c.fetch-fetched.result needed.0 needed.1 fetched in
+    let s = fetch_forced front disk heap mid n c.number-durable.result c.fetch-fetched.result needed.0 needed.1 fetched in
     let again = subst (λ (last : ℕ). FetchesHeld c.fetch.result front s.left mid c.fetch.new.heap last last) found
     (c.fetch.ensures.any_pages front s.left (subst (λ (last : ℕ). IsHeld front s.left mid last) (sym found) s.held) (omega arith)) in
     held_behind front disk heap mid n n s c.fetch.result c.fetch.new.heap n c.fetch-fetched.ensures.volume.geometry (fetch_seen front s.left mid c.fetch.new.heap n c.fetch.result again)

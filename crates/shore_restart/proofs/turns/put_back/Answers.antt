@@ -5,11 +5,11 @@ use Rattle.shore_types.specs.declared.layout.Geometry.{Geometry}
 use Rattle.shore_dwrite.proofs.Moves.{if_err}
 use Rattle.shore_model.specs.declared.log_records.LogRecord.{LogRecord}
 use Rattle.shore_page.specs.Room.{Fits}
-use Rattle.shore_page.specs.Slots.{image_len}
-use Rattle.shore_managers.specs.SlotCounts.{slots_left}
+use Rattle.shore_types.specs.Images.{image_len}
+use Rattle.laws_runs.specs.SlotCounts.{slots_left}
 use Rattle.shore_heap.specs.Heaps.{frame_of}
 use Rattle.shore_log.specs.Settled.{records_of_log}
-use Rattle.shore_lives.specs.Recovery.{RecoveryState}
+use Rattle.laws_lives.specs.Recovery.{RecoveryState}
 use Rattle.shore_restart.specs.declared.errors.RestartError.{RestartError}
 use Rattle.shore_restart.specs.declared.errors.RestartError.TheVariants.{BadRecord}
 use Rattle.shore_restart.specs.Standing.{Appends}
@@ -41,7 +41,7 @@ returns-then-not-fits-clause-bad g c log_front front disk s ready n is =
       λ fits.
           let left = subst (λ (log : List LogRecord). Fits (slots_left log id.page) id.slot (image_len c.args.image.now)) (sym m.done.0.0) fits in
           let framed = fits_whole front m.done.1 mid m.later id (image_len c.args.image.now) m.done.2.stands m.done.2.redone there c.in_ok-bring.ensures.held left in
-          let yes = c.fits.ensures.framed.1 (subst (λ (b : ℕ). IsSomeAnd (frame_of mid id.page) (λ f. Fits f.page.slots id.slot b)) (sym c.len_of.ensures) framed) in
+          let yes = c.fits.ensures.framed.1 (subst (λ (b : ℕ). IsSomeAnd (frame_of mid id.page) (λ f. Fits f.page.slots id.slot b)) (sym c.bytes_in.ensures) framed) in
           let no : c.fits.result ≡ false = c.if-not-fits.true in
           let clash : true ≡ false = sym yes ∙ no in
           cc,

@@ -1,9 +1,9 @@
 use Rattle.std.proofs.Common.{◌-◌, []}
 use Rattle.shore_types.specs.declared.layout.TheConstants.{LOG_FRONT_BYTES}
-use Rattle.shore_lives.specs.Pages.{empty_page}
-use Rattle.shore_managers.proofs.StaySteps.{are_a_life, come, keep_what_was_found, show_what_was_told}
-use Rattle.shore_managers.specs.Stays.{runs_of}
-use Rattle.shore_stands.proofs.Left.{formatted_stand}
+use Rattle.laws_lives.specs.Pages.{empty_page}
+use Rattle.laws_runs.proofs.StaySteps.{are_a_life, come, keep_what_was_found, show_what_was_told}
+use Rattle.laws_runs.specs.Stays.{runs_of}
+use Rattle.laws_images.proofs.Left.{formatted_stand}
 use Rattle.shore_world.proofs.StayLemmas.{have_stayed}
 use Rattle.shore_world.proofs.laws.committed_work_survives_every_crash.Goals as goal
 

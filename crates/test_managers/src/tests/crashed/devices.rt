@@ -1,14 +1,17 @@
 //! Pairs of devices in memory, and managers that are opened on them.
 use super::trouble::Trouble;
-use shore_disk::{FuseDisk, MemDisk, Pick};
+use shore_disk::{Disk, FuseDisk, MemDisk, OnceDisk, Pick};
 use shore_types::Fault;
 use shore_types::layout::MIN_POOL_FRAMES;
 use shore_world::World;
 use std::alloc::{AllocError, Global};
 
+/// A device that can be made to fail: at one call alone, or from one write or sync on.
+type FailingDisk = FuseDisk<OnceDisk<MemDisk>>;
+
 /// A manager of a pair whose devices can be made to fail. It is in a box, since each function that moves what is not would be dear to prove. It is lent, and
 /// `cut_off` takes it apart: one that is dropped would be dear too.
-pub(super) type Manager = Box<World<FuseDisk<MemDisk>, FuseDisk<MemDisk>>>;
+pub(super) type Manager = Box<World<FailingDisk, FailingDisk>>;
 
 /// How many writes and syncs of each device pass before it fails, or have passed.
 #[derive(Clone, Copy)]
@@ -17,7 +20,7 @@ pub(super) struct Calls {
     pub(super) volume: u64,
 }
 
-/// Fuses that no run blows.
+/// Fuses that no run blows, and calls that no run reaches.
 pub(super) const NO_FUSES: Calls = Calls {
     log: u64::MAX,
     volume: u64::MAX,
@@ -47,17 +50,26 @@ impl Devices {
 
     /// Opens a manager on them; they do not fail.
     pub(super) fn open(self, alloc: Global) -> Result<Manager, Trouble> {
-        let log = FuseDisk::new(self.log, NO_FUSES.log);
-        let volume = FuseDisk::new(self.volume, NO_FUSES.volume);
+        match self.open_failing(alloc, NO_FUSES)? {
+            Opened::Manager(manager) => Ok(manager),
+            Opened::Refused(_) => Err(Trouble("the open was refused")),
+        }
+    }
+
+    /// Opens a manager on them, of which each fails at the call of this number alone, counted from 0, reads too.
+    pub(super) fn open_failing(self, alloc: Global, at: Calls) -> Result<Opened, Trouble> {
+        let log = FuseDisk::new(OnceDisk::new(self.log, at.log), NO_FUSES.log);
+        let volume = FuseDisk::new(OnceDisk::new(self.volume, at.volume), NO_FUSES.volume);
         match World::open(alloc, log, volume, MIN_POOL_FRAMES) {
             Ok(world) => match Box::new(alloc, world) {
-                Ok(manager) => Ok(manager),
+                Ok(manager) => Ok(Opened::Manager(manager)),
                 Err(refused) => {
                     let (_log, _volume) = refused.value.into_devices();
                     Err(Trouble("no memory for a manager"))
                 }
             },
-            Err(_) => Err(Trouble("the open was refused")),
+            Err((Fault::Device, log, volume)) => Ok(Opened::Refused(inside(log, volume))),
+            Err(_) => Err(Trouble("the open is refused for another cause")),
         }
     }
 
@@ -68,8 +80,8 @@ impl Devices {
         fuses: Calls,
         pick: Pick,
     ) -> Result<(Devices, bool), Trouble> {
-        let log = FuseDisk::new(self.log, fuses.log);
-        let volume = FuseDisk::new(self.volume, fuses.volume);
+        let log = FuseDisk::new(OnceDisk::new(self.log, NO_FUSES.log), fuses.log);
+        let volume = FuseDisk::new(OnceDisk::new(self.volume, NO_FUSES.volume), fuses.volume);
         match World::open(alloc, log, volume, MIN_POOL_FRAMES) {
             Ok(world) => {
                 let (log, volume) = world.into_devices();
@@ -87,14 +99,26 @@ impl Devices {
     }
 }
 
+/// What an open comes to of whose calls one may fail.
+pub(super) enum Opened {
+    Manager(Manager),
+    /// A call failed, and the devices are handed back.
+    Refused(Devices),
+}
+
 // What a loss of power leaves of devices that were behind fuses.
-fn left_of(log: FuseDisk<MemDisk>, volume: FuseDisk<MemDisk>, pick: Pick) -> Devices {
-    let mut left = Devices {
-        log: log.into_inner(),
-        volume: volume.into_inner(),
-    };
+fn left_of(log: FailingDisk, volume: FailingDisk, pick: Pick) -> Devices {
+    let mut left = inside(log, volume);
     left.lose_power(pick, pick);
     left
+}
+
+// The devices inside.
+fn inside(log: FailingDisk, volume: FailingDisk) -> Devices {
+    Devices {
+        log: log.into_inner().into_inner(),
+        volume: volume.into_inner().into_inner(),
+    }
 }
 
 /// The devices of a manager that is cut off, and how many writes and syncs each of them has passed of the calls that it was to pass.
@@ -104,9 +128,12 @@ pub(super) fn cut_off(world: Manager, fuses: Calls) -> (Devices, Calls) {
         log: fuses.log.saturating_sub(log.calls_left()),
         volume: fuses.volume.saturating_sub(volume.calls_left()),
     };
-    let devices = Devices {
-        log: log.into_inner(),
-        volume: volume.into_inner(),
-    };
-    (devices, passed)
+    (inside(log, volume), passed)
+}
+
+/// The devices of a manager that is cut off, and whether a call of them has failed.
+pub(super) fn cut_off_failing(world: Manager) -> (Devices, bool) {
+    let (log, volume) = Box::into_inner(world).into_devices();
+    let has_failed = log.failures() > 0 || volume.failures() > 0;
+    (inside(log, volume), has_failed)
 }

@@ -1,6 +1,6 @@
 //! The events that lists are made of.
 ghost use Rattle.std.specs.Prelude.{IfOk, IfSome};
-ghost use Rattle.shore_calls.specs.Events.{IsServed};
+ghost use Rattle.shore_model.specs.Calls.{IsServed};
 ghost use Rattle.shore_world.specs.Events.{IsServedEvent};
 
 use super::lock_lists::Lock;

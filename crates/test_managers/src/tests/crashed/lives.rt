@@ -144,8 +144,8 @@ fn make_behind(
     )
 }
 
-// Makes the events, and notes what each comes to.
-fn make_each(
+/// Makes the events, and notes what each comes to.
+pub(super) fn make_each(
     alloc: Global,
     world: &mut Manager,
     history: &mut ShortHistory,

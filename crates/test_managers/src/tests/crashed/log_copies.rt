@@ -1,7 +1,7 @@
 //! Copies of a manager's log.
 use super::trouble::Trouble;
-use shore_model::rid_map::copy_image;
 use shore_model::{LogRecord, Payload};
+use shore_types::images;
 use std::alloc::Global;
 
 /// The records of a log, forced or not.
@@ -35,8 +35,8 @@ fn copy_of(alloc: Global, payload: &Payload) -> Result<Payload, Trouble> {
     match payload {
         Payload::Change { id, before, after } => Ok(Payload::Change {
             id: *id,
-            before: copy_image(alloc, before)?,
-            after: copy_image(alloc, after)?,
+            before: images::copy_of(alloc, before)?,
+            after: images::copy_of(alloc, after)?,
         }),
         Payload::Compensation {
             id,
@@ -44,7 +44,7 @@ fn copy_of(alloc: Global, payload: &Payload) -> Result<Payload, Trouble> {
             undo_next,
         } => Ok(Payload::Compensation {
             id: *id,
-            after: copy_image(alloc, after)?,
+            after: images::copy_of(alloc, after)?,
             undo_next: *undo_next,
         }),
         Payload::Commit => Ok(Payload::Commit),

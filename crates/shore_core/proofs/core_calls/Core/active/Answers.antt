@@ -1,6 +1,6 @@
 use Rattle.std.proofs.Common.{◌≡◌, inr, None, Some, refl, sym, ap, ◌∙◌}
-use Rattle.shore_lives.specs.declared.rollbacks.Rollback.{Rollback}
-use Rattle.shore_undo.specs.Txns.{as_session_txn, rolling_of}
+use Rattle.shore_model.specs.declared.rollbacks.Rollback.{Rollback}
+use Rattle.shore_txn.specs.Txns.{as_session_txn, rolling_of}
 use Rattle.shore_core.proofs.core_calls.Core.active.Goals as goal
 
 pub returns-in-RollingBack-clause-refused : goal.returns-in-RollingBack-clause-refused

@@ -2,27 +2,23 @@ use Rattle.std.proofs.Common.{◌≡◌, ◌⊎◌, ◌+◌, ◌≤◌, None, So
 use Rattle.shore_types.specs.declared.layout.TheConstants.{LAST_OPENED}
 use Rattle.shore_model.specs.declared.calls.Answer.TheVariants.{WentBack}
 use Rattle.shore_model.specs.declared.calls.Call.TheVariants as call
-use Rattle.shore_pool.specs.Pools.{NeedsForce}
-use Rattle.shore_lives.specs.UndoLists.{MayRoll}
-use Rattle.shore_lives.specs.Views.{IsAmong}
-use Rattle.shore_lives.specs.declared.rollbacks.Rollback.TheVariants.{To}
-use Rattle.shore_calls.proofs.RollingCalls.{mark_of_within}
-use Rattle.shore_calls.specs.StateChanges.{answered}
-use Rattle.shore_calls.specs.States.{State}
-use Rattle.shore_control.proofs.WaitSteps.{in_none}
-use Rattle.shore_control.specs.Controls.{txns_in}
-use Rattle.shore_undo.specs.Txns.{as_session_txn, rolling_of}
-use Rattle.shore_undo.specs.declared.txn_state.TxnState.{TxnState}
-use Rattle.shore_core.specs.Cores.{ComesTo, durable_of, faults_of, first_of, geometry_of, heap_of, last_of, txns_of, waiting_of, waits_of}
+use Rattle.laws_lives.specs.UndoLists.{MayRoll}
+use Rattle.laws_lives.specs.Views.{IsAmong}
+use Rattle.shore_model.specs.declared.rollbacks.Rollback.TheVariants.{To}
+use Rattle.laws_calls.proofs.RollingCalls.{mark_of_within}
+use Rattle.laws_calls.specs.StateChanges.{answered}
+use Rattle.laws_calls.specs.States.{State}
+use Rattle.shore_sessions.proofs.WaitSteps.{in_none}
+use Rattle.shore_sessions.specs.Controls.{txns_in}
+use Rattle.shore_txn.specs.Txns.{as_session_txn, rolling_of}
+use Rattle.shore_txn.specs.declared.txn_state.TxnState.{TxnState}
+use Rattle.shore_core.specs.Cores.{CoreComesTo, first_of, geometry_of, txns_of, waiting_of, waits_of}
 use Rattle.shore_core.proofs.Coming.{comes_same, comes_then}
-use Rattle.shore_core.proofs.Earning.{earned_as}
-use Rattle.shore_core.proofs.Forcing.{forced_as}
-use Rattle.shore_core.proofs.Keeping.{nothing_leaves}
 use Rattle.shore_core.proofs.Moving.{comes_moved}
 use Rattle.shore_core.proofs.Rolling.{goes_back_done, goes_on_from, none_since}
 use Rattle.shore_core.proofs.RolledBack.{back_log, back_slots, earlier_back, interrupted_replied, mark_inside, mark_is, mark_past, may_take, takes_back}
 use Rattle.shore_core.proofs.Taking.{true_false}
-use Rattle.shore_core.proofs.Unwinding.{cause_handed}
+use Rattle.shore_core.proofs.Serving.{call_still, call_then, nothing_called, refused_as}
 use Rattle.shore_core.proofs.core_calls.Core.back_to.Goals as goal
 
 pub returns-in_default-clause-replied : goal.returns-in_default-clause-replied
@@ -36,9 +32,6 @@ returns-in_default-clause-replied g c running front disk before s store is safe 
       replies = inr (inr (inr (inr (inl (works, idle, (λ clash. cc), none, refl, refl)))));
       comes = inr (comes_same old front disk before s store is over);
     }
-
-pub returns-in_default-clause-any_moment : goal.returns-in_default-clause-any_moment
-returns-in_default-clause-any_moment g c = nothing_leaves c.args.self.now
 
 pub returns-then-not-may_go_back-clause-replied : goal.returns-then-not-may_go_back-clause-replied
 returns-then-not-may_go_back-clause-replied g c running front disk before s store is safe over idle =
@@ -65,9 +58,6 @@ returns-then-not-may_go_back-clause-replied g c running front disk before s stor
       comes = inr (comes_same old front disk before s store is over);
     }
 
-pub returns-then-not-may_go_back-clause-any_moment : goal.returns-then-not-may_go_back-clause-any_moment
-returns-then-not-may_go_back-clause-any_moment g c = nothing_leaves c.args.self.now
-
 pub returns-in_default-mark-clause-replied : goal.returns-in_default-mark-clause-replied
 returns-in_default-mark-clause-replied g c running front disk before s store is safe over idle =
     let old = c.args.self.now in
@@ -81,9 +71,6 @@ returns-in_default-mark-clause-replied g c running front disk before s store is 
       comes = inr (comes_same old front disk before s store is over);
     }
 
-pub returns-in_default-mark-clause-any_moment : goal.returns-in_default-mark-clause-any_moment
-returns-in_default-mark-clause-any_moment g c = nothing_leaves c.args.self.now
-
 pub returns-in_err-put_back-clause-replied : goal.returns-in_err-put_back-clause-replied
 returns-in_err-put_back-clause-replied g c running front disk before s store is safe over idle =
     let old = c.args.self.now in
@@ -96,20 +83,6 @@ returns-in_err-put_back-clause-replied g c running front disk before s store is 
     let within = mark_of_within (geometry_of old) safe.found safe.entries c.args.session a its.1 s safe.after.sessions its.0 c.args.index inside in
     interrupted_replied old c.put_back.new.self front before s store c.args.session a safe its works idle (To c.args.index) may c.in-Some-mark.least at c.from_residual.result _ c.from_residual.ensures.1
     (c.in_err-put_back.ensures.unwinds running front disk before s store is safe over a idle its may at (omega (arith, at, within)))
-
-pub returns-in_err-put_back-clause-forced : goal.returns-in_err-put_back-clause-forced
-returns-in_err-put_back-clause-forced g c front disk holds =
-    let new = c.put_back.new.self in
-    forced_as (NeedsForce (heap_of new).pool (durable_of new)) c.from_residual.result _ c.from_residual.ensures.1 (c.in_err-put_back.ensures.forced front disk holds)
-
-pub returns-in_err-put_back-clause-damaged : goal.returns-in_err-put_back-clause-damaged
-returns-in_err-put_back-clause-damaged g c front disk holds =
-    let old = c.args.self.now in
-    earned_as (geometry_of old) disk (last_of old) (λ page. Unit {0}) c.from_residual.result _ c.from_residual.ensures.1 (c.in_err-put_back.ensures.damaged front disk holds)
-
-pub returns-in_err-put_back-clause-cause : goal.returns-in_err-put_back-clause-cause
-returns-in_err-put_back-clause-cause g c =
-    cause_handed c.from_residual.result _ (faults_of c.args.self.now) (faults_of c.put_back.new.self) c.from_residual.ensures.1 c.in_err-put_back.ensures.cause
 
 pub go_back-requires : goal.go_back-requires
 go_back-requires g c = record { there = c.put_back.ensures.there (as_session_txn c.in-Some.own.now, c.in-Some.ensures.there, c.in-Some.ensures.some.1) }
@@ -150,5 +123,21 @@ returns-clause-replied g c running front disk before s store is safe over idle =
     record {
       later = answered s a (call.BackTo n) WentBack s.counts;
       replies = goes_back_done (geometry_of old) s safe c.args.session a its works idle n may;
-      comes = subst (ComesTo _ front before store) (here.goes_back n refl) (comes_then mid _ front before h.0 later store comes two);
+      comes = subst (CoreComesTo _ front before store) (here.goes_back n refl) (comes_then mid _ front before h.0 later store comes two);
     }
+
+pub returns-in_default-clause-serves : goal.returns-in_default-clause-serves
+returns-in_default-clause-serves g c = call_still _ _ _ _ _ refl refl refl refl tt tt
+
+pub returns-then-not-may_go_back-clause-serves : goal.returns-then-not-may_go_back-clause-serves
+returns-then-not-may_go_back-clause-serves g c = call_still _ _ _ _ _ refl refl refl refl tt tt
+
+pub returns-in_default-mark-clause-serves : goal.returns-in_default-mark-clause-serves
+returns-in_default-mark-clause-serves g c = call_still _ _ _ _ _ refl refl refl refl tt tt
+
+pub returns-in_err-put_back-clause-serves : goal.returns-in_err-put_back-clause-serves
+returns-in_err-put_back-clause-serves g c = refused_as _ _ _ _ _ _ c.from_residual.ensures.1 c.in_err-put_back.ensures.serves c.in_err-put_back.ensures.failed
+
+pub returns-clause-serves : goal.returns-clause-serves
+returns-clause-serves g c =
+    call_then _ _ _ _ c.put_back.new.self _ _ _ c.in_ok-put_back.ensures.serves c.in_ok-put_back.ensures.failed (nothing_called _ _ refl refl refl refl) tt refl

@@ -3,20 +3,20 @@ use Rattle.shore_types.specs.declared.faults.Fault.TheVariants as fault
 use Rattle.shore_types.specs.declared.layout.TheConstants.{ENDING_COST}
 use Rattle.shore_model.specs.declared.calls.Answer.TheVariants.{Began}
 use Rattle.shore_model.specs.declared.calls.Call.TheVariants as call
-use Rattle.shore_room.proofs.Leaving.{begun_slots}
-use Rattle.shore_lives.specs.Sessions.{txn_begun}
-use Rattle.shore_lives.specs.UndoLists.{nothing_to_undo}
-use Rattle.shore_calls.specs.States.{State, page_slots}
+use Rattle.laws_room.proofs.Leaving.{begun_slots}
+use Rattle.laws_lives.specs.Sessions.{txn_begun}
+use Rattle.laws_lives.specs.UndoLists.{nothing_to_undo}
+use Rattle.laws_calls.specs.States.{State, page_slots}
 use Rattle.shore_heap.proofs.Showing.{shows_same}
-use Rattle.shore_control.specs.Controls.{txns_in}
+use Rattle.shore_sessions.specs.Controls.{txns_in}
 use Rattle.shore_txn.specs.Transactions.{kept_in}
 use Rattle.shore_core.specs.Cores.{control_of, durable_of, first_of, has_failed, txns_of, waiting_of}
 use Rattle.shore_core.proofs.Begun.{begun_earlier, begun_reserved}
 use Rattle.shore_core.proofs.Coming.{comes_same, over_as, pages_told}
-use Rattle.shore_core.proofs.Keeping.{nothing_leaves}
 use Rattle.shore_core.proofs.Tables.{has_no_room, has_room, parts_moved}
 use Rattle.shore_core.proofs.Taking.{replied_as, true_false}
 use Rattle.shore_core.proofs.core_calls.Core.begin.Goals.{then-not-admits-via-then-not-admits, then-not-admits-via-else-not-admits+then-next-ge-LAST_TXN}
+use Rattle.shore_core.proofs.Serving.{call_still, refused_still}
 use Rattle.shore_core.proofs.core_calls.Core.begin.Goals as goal
 
 pub returns-then-has_txn-clause-replied : goal.returns-then-has_txn-clause-replied
@@ -145,17 +145,17 @@ returns-clause-replied g c running front disk before s store is safe over idle =
       }) (over_as old _ disk s later store refl refl refl refl over);
     }
 
-pub returns-then-has_txn-clause-any_moment : goal.returns-then-has_txn-clause-any_moment
-returns-then-has_txn-clause-any_moment g c = nothing_leaves c.args.self.now
+pub returns-then-has_txn-clause-serves : goal.returns-then-has_txn-clause-serves
+returns-then-has_txn-clause-serves g c = call_still _ _ _ _ _ refl refl refl refl tt tt
 
-pub returns-then-count-ge-MAX_TRANSACTIONS-clause-any_moment : goal.returns-then-count-ge-MAX_TRANSACTIONS-clause-any_moment
-returns-then-count-ge-MAX_TRANSACTIONS-clause-any_moment g c = nothing_leaves c.args.self.now
+pub returns-then-count-ge-MAX_TRANSACTIONS-clause-serves : goal.returns-then-count-ge-MAX_TRANSACTIONS-clause-serves
+returns-then-count-ge-MAX_TRANSACTIONS-clause-serves g c = call_still _ _ _ _ _ refl refl refl refl tt tt
 
-pub returns-then-not-admits-clause-any_moment : goal.returns-then-not-admits-clause-any_moment
-returns-then-not-admits-clause-any_moment g c = nothing_leaves c.args.self.now
+pub returns-then-not-admits-clause-serves : goal.returns-then-not-admits-clause-serves
+returns-then-not-admits-clause-serves g c = call_still _ _ _ _ _ refl refl refl refl tt tt
 
-pub returns-in_err-txn-clause-any_moment : goal.returns-in_err-txn-clause-any_moment
-returns-in_err-txn-clause-any_moment g c = nothing_leaves c.args.self.now
+pub returns-in_err-txn-clause-serves : goal.returns-in_err-txn-clause-serves
+returns-in_err-txn-clause-serves g c = refused_still _ _ _ _ _ fault.Memory c.from_residual.ensures.1 refl refl refl refl tt
 
-pub returns-clause-any_moment : goal.returns-clause-any_moment
-returns-clause-any_moment g c = nothing_leaves c.args.self.now
+pub returns-clause-serves : goal.returns-clause-serves
+returns-clause-serves g c = call_still _ _ _ _ _ refl refl refl refl tt refl

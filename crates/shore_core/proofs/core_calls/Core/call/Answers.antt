@@ -1,16 +1,14 @@
-use Rattle.std.proofs.Common.{inl, inr, Err, refl, sym, ap, subst, ◌∙◌}
-use Rattle.shore_calls.specs.StateChanges.{after_refusal}
-use Rattle.shore_calls.specs.Settling.{SettledCall}
+use Rattle.std.proofs.Common.{inl, inr, Err, refl, sym, subst, ◌∙◌}
+use Rattle.laws_calls.specs.StateChanges.{after_refusal}
+use Rattle.laws_calls.specs.Settling.{SettledCall}
 use Rattle.shore_core.proofs.Settling.{called_at_once}
-use Rattle.shore_calls.specs.declared.step.Step.{Step}
-use Rattle.shore_heap.specs.Heaps as heaps
+use Rattle.shore_model.specs.declared.step.Step.{Step}
 use Rattle.shore_core.specs.Cores.{geometry_of}
-use Rattle.shore_core.specs.Replies.{Earns, NeedsForceIn, Reads, fault_at, forced_at}
 use Rattle.shore_core.proofs.Asking.{forced_behind}
 use Rattle.shore_core.proofs.Coming.{comes_same, never_both, stays_beside}
-use Rattle.shore_core.proofs.Keeping.{leaves_then, nothing_leaves}
 use Rattle.shore_core.proofs.Taking.{fails_refused}
 use Rattle.shore_core.proofs.Tables.{both_told, none_told, some_told}
+use Rattle.shore_core.proofs.Serving.{serves_answered, serves_noted, serves_still}
 use Rattle.shore_core.proofs.core_calls.Core.call.Goals as goal
 
 pub returns-then-self-clause-step : goal.returns-then-self-clause-step
@@ -20,9 +18,6 @@ returns-then-self-clause-step g c front disk before s store is safe over = recor
   comes = comes_same c.args.self.now front disk before s store is over;
   fails = λ running failed. never_both c.args.self.now.failed c.if-self.true running;
 }
-
-pub returns-then-self-clause-any_moment : goal.returns-then-self-clause-any_moment
-returns-then-self-clause-any_moment g c = nothing_leaves c.args.self.now
 
 pub returns-then-is_some-clause-step : goal.returns-then-is_some-clause-step
 returns-then-is_some-clause-step g c front disk before s store is safe over =
@@ -35,9 +30,6 @@ returns-then-is_some-clause-step g c front disk before s store is safe over =
       fails = λ running failed. never_both s.failed failed (is.beside.parts.failed_is ∙ running);
     }
 
-pub returns-then-is_some-clause-any_moment : goal.returns-then-is_some-clause-any_moment
-returns-then-is_some-clause-any_moment g c = nothing_leaves c.args.self.now
-
 pub returns-in-Ok-clause-step : goal.returns-in-Ok-clause-step
 returns-in-Ok-clause-step g c front disk before s store is safe over =
     let idle = none_told _ (sym c.if-is_some.ensures) c.waiting.ensures.does_not s is.beside.parts.stands in
@@ -46,7 +38,7 @@ returns-in-Ok-clause-step g c front disk before s store is safe over =
       later = r.later;
       moves = r.calls;
       comes = r.comes;
-      fails = λ running failed. never_both r.later.failed failed (r.comes.is_in.beside.parts.failed_is ∙ c.answer.ensures.keeps.failed ∙ running);
+      fails = λ running failed. never_both r.later.failed failed (r.comes.is_in.beside.parts.failed_is ∙ c.dispatch.ensures.serves.failed ∙ running);
     }
 
 pub returns-in-Err-clause-step : goal.returns-in-Err-clause-step
@@ -59,18 +51,20 @@ returns-in-Err-clause-step g c front disk before s store is safe over =
       moves = subst (λ (x : Step). SettledCall (geometry_of old) s c.args.session c.args.call x (after_refusal c.in-Err.fault r.later)) (sym c.refuse.ensures.refused) r.calls;
       comes = c.refuse.ensures.left front before r.later store r.comes;
       fails = λ running failed.
-          let beside = stays_beside c.answer.new.self front before r.later store c.in-Err.fault r.comes in
-          fails_refused c.answer.new.self c.refuse.new.self front before r.later store c.in-Err.fault c.refuse.ensures.heap (beside.parts.failed_is ∙ c.answer.ensures.keeps.failed ∙ running) r.comes;
+          let beside = stays_beside c.dispatch.new.self front before r.later store c.in-Err.fault r.comes in
+          fails_refused c.dispatch.new.self c.refuse.new.self front before r.later store c.in-Err.fault c.refuse.ensures.heap (beside.parts.failed_is ∙ c.dispatch.ensures.serves.failed ∙ running) r.comes;
     }
 
-pub returns-in-Err-clause-any_moment : goal.returns-in-Err-clause-any_moment
-returns-in-Err-clause-any_moment g c = leaves_then c.args.self.now c.answer.new.self c.refuse.new.self c.answer.ensures.any_moment (ap heaps.history_of c.refuse.ensures.heap)
+pub returns-then-self-clause-serves : goal.returns-then-self-clause-serves
+returns-then-self-clause-serves g c = serves_still _ _ _ _ _ refl refl refl refl tt
 
-pub returns-in-Err-clause-damaged : goal.returns-in-Err-clause-damaged
-returns-in-Err-clause-damaged g c = subst (λ (x : Step). Earns c.args.self.now (Reads c.args.call) (fault_at x)) (sym c.refuse.ensures.refused) c.in-Err.ensures.damaged
+pub returns-then-is_some-clause-serves : goal.returns-then-is_some-clause-serves
+returns-then-is_some-clause-serves g c = serves_still _ _ _ _ _ refl refl refl refl tt
 
-pub returns-in-Err-clause-forced : goal.returns-in-Err-clause-forced
-returns-in-Err-clause-forced g c =
-    let old = c.args.self.now in
-    subst (λ (x : Step). NeedsForceIn old (forced_at c.args.call old c.refuse.new.self) (fault_at x)) (sym c.refuse.ensures.refused)
-    (forced_behind old c.answer.new.self c.refuse.new.self c.args.call {A = Unit {0}} (Err c.in-Err.fault) c.refuse.ensures.heap c.refuse.ensures.durable c.in-Err.ensures.forced)
+pub returns-in-Ok-clause-serves : goal.returns-in-Ok-clause-serves
+returns-in-Ok-clause-serves g c = serves_answered _ _ _ _ _ c.in-Ok.ensures.serves
+
+pub returns-in-Err-clause-serves : goal.returns-in-Err-clause-serves
+returns-in-Err-clause-serves g c =
+    serves_noted _ _ _ _ c.dispatch.new.self _ _ _ c.refuse.ensures.refused c.refuse.ensures.heap c.refuse.ensures.durable c.refuse.ensures.tail
+    (forced_behind c.args.self.now c.dispatch.new.self c.refuse.new.self c.args.call {A = Unit {0}} (Err c.in-Err.fault) c.refuse.ensures.heap c.refuse.ensures.durable) c.in-Err.ensures.serves.beside

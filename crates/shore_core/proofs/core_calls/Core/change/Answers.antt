@@ -1,7 +1,7 @@
 use Rattle.std.proofs.Common.{◌≡◌, inl, inr, ◌+◌, ◌++◌, ◌∷◌, [], length, length-append, refl, sym, ap, subst, ◌∙◌, arith}
 use Rattle.std.specs.FinMap.{get}
 use Rattle.shore_dwrite.specs.Volumes.{page_number}
-use Rattle.shore_types.specs.Images.{Image}
+use Rattle.shore_types.specs.Images.{Image, image_len}
 use Rattle.shore_types.specs.declared.locking.Granule.TheVariants.{Record}
 use Rattle.shore_types.specs.declared.locking.Mode.TheVariants.{EX}
 use Rattle.shore_model.specs.declared.log_records.LogRecord.{LogRecord}
@@ -11,28 +11,29 @@ use Rattle.shore_logrec.specs.Text.{cost_of}
 use Rattle.shore_locks.specs.Tables.{Table}
 use Rattle.shore_path.specs.Acquires.{IsReached}
 use Rattle.shore_page.specs.Room.{Fits}
-use Rattle.shore_page.specs.Slots.{image_at_slot, image_len, with_image}
+use Rattle.shore_page.specs.Slots.{image_at_slot, with_image}
 use Rattle.shore_heap.specs.Contents.{with_slots}
 use Rattle.shore_heap.specs.Heaps.{Shows, frame_of}
-use Rattle.shore_room.specs.LogRooms.{compensation_cost}
-use Rattle.shore_room.proofs.Costs.{compensation_bytes}
-use Rattle.shore_lives.specs.Sessions.{SessionTxn}
-use Rattle.shore_lives.specs.Views.{IsAmong}
-use Rattle.shore_calls.specs.States.{HasRoomFor, page_slots}
-use Rattle.shore_stands.specs.LoggedHeaps.{IsMade}
-use Rattle.shore_stands.proofs.Made.{appended_is}
+use Rattle.laws_room.specs.LogRooms.{compensation_cost}
+use Rattle.laws_room.proofs.Costs.{compensation_bytes}
+use Rattle.laws_lives.specs.Sessions.{SessionTxn}
+use Rattle.laws_lives.specs.Views.{IsAmong}
+use Rattle.laws_calls.specs.States.{HasRoomFor, page_slots}
+use Rattle.laws_images.specs.LoggedHeaps.{IsMade}
+use Rattle.laws_images.proofs.Made.{appended_is}
 use Rattle.shore_txn.specs.Transactions.{kept_in, room_in}
-use Rattle.shore_undo.specs.Txns.{as_session_txn}
+use Rattle.shore_txn.specs.Txns.{as_session_txn}
 use Rattle.shore_txn.proofs.OneOfMany.{once_same}
-use Rattle.shore_control.specs.Controls.{txns_in}
-use Rattle.shore_control.specs.Standing.{IsLogged, changed}
+use Rattle.shore_sessions.specs.Controls.{txns_in}
+use Rattle.shore_sessions.specs.Standing.{IsLogged, changed}
 use Rattle.shore_core.specs.Cores.{durable_of, first_of, geometry_of, has_failed, txns_of, waiting_of}
 use Rattle.shore_core.specs.Parts.{HasParts}
-use Rattle.shore_core.proofs.Changed.{changes_none, claim_told, costs_are, earlier_changed, earlier_same, grown, grows, held_still, image_short, pages_changed, same_geometry, same_history, some_is}
+use Rattle.shore_core.proofs.Changed.{changes_none, claim_told, costs_are, earlier_changed, earlier_same, grown, grows, held_still, image_short, pages_changed, same_geometry, some_is}
 use Rattle.shore_core.proofs.Coming.{comes_appended, comes_same, over_as, pages_told}
 use Rattle.shore_core.proofs.Safe.{alone_in}
 use Rattle.shore_core.proofs.Tables.{each_among, has_no_room, has_room, next_is, parts_logged, parts_moved, some_and}
 use Rattle.shore_core.proofs.Taking.{framed_is, image_shown, true_false}
+use Rattle.shore_core.proofs.Serving.{device_alone, nothing_called}
 use Rattle.shore_core.proofs.core_calls.Core.change.Goals as goal
 
 pub returns-then-not-admits-clause-changed : goal.returns-then-not-admits-clause-changed
@@ -198,5 +199,8 @@ returns-clause-changed g c running front disk before s store is safe over a of l
           (some_is _ (frame_of old.heap id.page) c.requires.found) frames (same_geometry c.change.new.self old.heap c.change.ensures.device)).1),
     )
 
-pub returns-clause-history : goal.returns-clause-history
-returns-clause-history g c = same_history c.change.new.self c.args.self.now.heap c.change.ensures.device
+pub returns-clause-no_call : goal.returns-clause-no_call
+returns-clause-no_call g c = device_alone _ _ c.change.ensures.device refl c.push.ensures.first refl
+
+pub returns-in-Err-clause-no_call : goal.returns-in-Err-clause-no_call
+returns-in-Err-clause-no_call g c = nothing_called _ _ refl refl c.push.ensures.first refl

@@ -1,7 +1,5 @@
 use Rattle.std.proofs.Common.{is_some, ◌≡◌, ◌+◌, ◌<◌, ◌≤◌, ◌++◌, ◌∷◌, [], List, take, length, length-append, Err, inl, inr, refl, sym, ap, subst, ◌∙◌, arith}
 use Rattle.std.proofs.lemmas.List.{take_more}
-use Rattle.shore_dwrite.specs.Settled as settled_device
-use Rattle.shore_disk.specs.Device.{size}
 use Rattle.shore_types.specs.declared.faults.Fault.TheVariants as fault
 use Rattle.shore_types.specs.declared.ids.PageId.{PageId}
 use Rattle.shore_types.specs.declared.layout.TheConstants.{LAST_OPENED}
@@ -12,42 +10,39 @@ use Rattle.shore_model.specs.Logs.{previous_of}
 use Rattle.shore_model.proofs.LogSteps.{take-whole}
 use Rattle.shore_pool.proofs.Same.{pages_on, pages_stay}
 use Rattle.shore_heap.specs.Heaps.{Shows, frame_at, frame_of}
-use Rattle.shore_lives.specs.Recovery.{after_append}
-use Rattle.shore_lives.specs.Sessions.{without_txn}
-use Rattle.shore_lives.specs.Views.{IsAmong}
-use Rattle.shore_calls.specs.StateChanges.{committed}
-use Rattle.shore_calls.specs.States.{State, page_slots}
-use Rattle.shore_calls.specs.declared.step.Wait.TheVariants.{Durable}
+use Rattle.laws_lives.specs.Recovery.{after_append}
+use Rattle.laws_lives.specs.Sessions.{without_txn}
+use Rattle.laws_lives.specs.Views.{IsAmong}
+use Rattle.laws_calls.specs.StateChanges.{committed}
+use Rattle.laws_calls.specs.States.{State, page_slots}
+use Rattle.shore_model.specs.declared.step.Wait.TheVariants.{Durable}
 use Rattle.shore_txn.specs.ActiveTxns.{HasMore, OneLeaves}
 use Rattle.shore_txn.specs.Transactions.{kept_in, room_in, undos_in}
 use Rattle.shore_txn.specs.Transactions as table
-use Rattle.shore_undo.specs.Txns.{as_session_txn, last_of}
-use Rattle.shore_undo.specs.UndoEntries.{claims_on}
-use Rattle.shore_undo.specs.declared.txn.Txn.{Txn}
-use Rattle.shore_undo.specs.declared.undo.UndoEntry.{UndoEntry}
-use Rattle.shore_control.specs.Controls.{txns_in}
-use Rattle.shore_control.specs.Standing.{IsLogged}
-use Rattle.shore_control.specs.declared.control.Control.{Control}
-use Rattle.shore_stands.proofs.Made.{appended_without}
+use Rattle.shore_txn.specs.Txns.{as_session_txn, last_of}
+use Rattle.shore_txn.specs.UndoEntries.{claims_on}
+use Rattle.shore_txn.specs.declared.txn.Txn.{Txn}
+use Rattle.shore_txn.specs.declared.undo.UndoEntry.{UndoEntry}
+use Rattle.shore_sessions.specs.Controls.{txns_in}
+use Rattle.shore_sessions.specs.Standing.{IsLogged}
+use Rattle.shore_sessions.specs.declared.control.Control.{Control}
+use Rattle.laws_images.proofs.Made.{appended_without}
 use Rattle.shore_core.specs.Cores.{control_of, durable_of, first_of, has_failed, txns_of, waiting_of}
 use Rattle.shore_core.specs.Parts.{HasParts}
-use Rattle.shore_core.proofs.Changed.{same_geometry, same_history}
+use Rattle.shore_core.proofs.Changed.{same_geometry}
 use Rattle.shore_core.proofs.Coming.{comes_appended, pages_same}
-use Rattle.shore_core.proofs.Keeping.{leaves_nothing, nothing_leaves}
 use Rattle.shore_core.proofs.Leaving.{comes_lacking, earlier_left, reserved_left}
 use Rattle.shore_core.proofs.Opening.{inner_commit, replied_not_open}
 use Rattle.shore_core.proofs.Releasing.{ShowsLeft, all_released, framed_as, none_released, released_more, stays_fit}
 use Rattle.shore_core.proofs.Tables.{each_among, next_is, parts_logged}
 use Rattle.shore_core.proofs.Taking.{replied_as}
+use Rattle.shore_core.proofs.Serving.{as_aside, call_alone, call_still, device_alone, not_open_aside, refused_still}
 use Rattle.shore_core.proofs.core_calls.Core.commit.Goals as goal
 
 pub returns-in_err-txn-clause-replied : goal.returns-in_err-txn-clause-replied
 returns-in_err-txn-clause-replied g c ready front disk before s store is safe over waits_not =
     replied_not_open c.args.self.now front disk before s store c.args.session call.Commit c.from_residual.result c.in_err-txn.field-0.0 is over inner_commit
     (is.beside.parts.failed_is ∙ ready) waits_not c.from_residual.ensures.1 c.in_err-txn.ensures.refused
-
-pub returns-in_err-txn-clause-any_moment : goal.returns-in_err-txn-clause-any_moment
-returns-in_err-txn-clause-any_moment g c = nothing_leaves c.args.self.now
 
 pub loop-change-init : goal.loop-change-init
 loop-change-init g c =
@@ -95,9 +90,6 @@ returns-in_err-reserve_wait-clause-replied g c ready front disk before s store i
     replied_as c.args.self.now _ front before s store c.args.session call.Commit c.from_residual-in_err-reserve_wait.result fault.Memory c.from_residual-in_err-reserve_wait.ensures.1 (inl (refl, refl))
     (inr (comes_lacking c.args.self.now _ front disk before s store refl refl refl refl refl c.reserve_wait.ensures.txns (c.reserve_wait.ensures.stands s is.beside.parts.stands) is over))
 
-pub returns-in_err-reserve_wait-clause-any_moment : goal.returns-in_err-reserve_wait-clause-any_moment
-returns-in_err-reserve_wait-clause-any_moment g c = nothing_leaves c.args.self.now
-
 pub push-requires-clause-previous : goal.push-requires-clause-previous
 push-requires-clause-previous g c =
     let earlier = c.args.self.now.earlier c.in_ok-txn.txn.now c.in_ok-txn.ensures.some.0 in
@@ -122,9 +114,6 @@ returns-in-Err-clause-replied g c ready front disk before s store is safe over w
     replied_as c.args.self.now _ front before s store c.args.session call.Commit (Err c.in-Err.fault) fault.Memory c.in-Err.ensures.refused.0 (inl (refl, refl))
     (inr (comes_lacking c.args.self.now _ front disk before s store refl c.in-Err.ensures.first c.in-Err.ensures.none_added refl refl c.reserve_wait.ensures.txns
     (c.reserve_wait.ensures.stands s is.beside.parts.stands) is over))
-
-pub returns-in-Err-clause-any_moment : goal.returns-in-Err-clause-any_moment
-returns-in-Err-clause-any_moment g c = nothing_leaves c.args.self.now
 
 pub commit-changes-requires-clause-there : goal.commit-changes-requires-clause-there
 commit-changes-requires-clause-there g c =
@@ -203,22 +192,17 @@ returns-clause-replied g c ready front disk before s store is safe over waits_no
         (subst (λ x. HasParts x (waiting_of c.loop-change.self) c.args.self.now.durable c.args.self.now.failed before later) (sym control)
         (subst (λ tl. HasParts c.commit-changes.new.self (g.T.Tail.records tl) c.args.self.now.durable c.args.self.now.failed before later) (sym tail) has)))
 
-pub returns-clause-keeps : goal.returns-clause-keeps
-returns-clause-keeps g c =
+pub returns-in_err-txn-clause-serves : goal.returns-in_err-txn-clause-serves
+returns-in_err-txn-clause-serves g c =
+    refused_still _ _ _ _ _ _ c.from_residual.ensures.1 refl refl refl refl (not_open_aside c.args.self.now c.args.session _ c.in_err-txn.ensures.refused)
+
+pub returns-in_err-reserve_wait-clause-serves : goal.returns-in_err-reserve_wait-clause-serves
+returns-in_err-reserve_wait-clause-serves g c = refused_still _ _ _ _ _ fault.Memory c.from_residual-in_err-reserve_wait.ensures.1 refl refl refl refl tt
+
+pub returns-in-Err-clause-serves : goal.returns-in-Err-clause-serves
+returns-in-Err-clause-serves g c = call_still _ _ _ _ _ refl refl c.in-Err.ensures.first refl (as_aside _ _ c.in-Err.ensures.refused.0 tt) tt
+
+pub returns-clause-serves : goal.returns-clause-serves
+returns-clause-serves g c =
     let inv = c.loop-change.invariant in
-    record {
-      volume = record {
-        geometry = ap (λ d. settled_device.geometry_of d) inv.4;
-        honest = ap (λ d. g.V.Disk.is_honest (settled_device.device_of d)) inv.4;
-        size = ap size (same_history c.loop-change.self.heap c.args.self.now.heap inv.4);
-      };
-      durable = inv.2;
-      failed = inv.3;
-      first = ap g.T.Tail.first inv.0 ∙ c.push.ensures.first;
-    }
-
-pub returns-clause-faults : goal.returns-clause-faults
-returns-clause-faults g c = ap (λ d. g.V.Disk.faults (settled_device.device_of d)) c.loop-change.invariant.4
-
-pub returns-clause-any_moment : goal.returns-clause-any_moment
-returns-clause-any_moment g c = leaves_nothing c.args.self.now c.loop-change.self (same_history c.loop-change.self.heap c.args.self.now.heap c.loop-change.invariant.4)
+    call_alone _ _ _ _ _ (device_alone _ _ inv.4 inv.2 (ap g.T.Tail.first inv.0 ∙ c.push.ensures.first) inv.3) tt refl

@@ -1,20 +1,17 @@
-use Rattle.std.proofs.Common.{◌≡◌, inr, None, IsSome, refl, sym, subst, ◌∙◌}
+use Rattle.std.proofs.Common.{inr, None, IsSome, refl, sym, subst, ◌∙◌, inl}
 use Rattle.shore_types.specs.declared.locking.Granule.TheVariants.{Record}
 use Rattle.shore_types.specs.declared.locking.Mode.TheVariants.{EX}
 use Rattle.shore_model.specs.declared.calls.Call.TheVariants as call
 use Rattle.shore_path.specs.Acquires.{IsReached}
-use Rattle.shore_pool.specs.Pools.{NeedsForce}
 use Rattle.shore_heap.specs.Heaps.{frame_of}
-use Rattle.shore_calls.specs.CallSteps.{Finds}
-use Rattle.shore_control.specs.Controls.{locks_in}
-use Rattle.shore_control.specs.Standing.{changed}
-use Rattle.shore_core.specs.Cores.{IsSafe, durable_of, geometry_of, heap_of, last_of}
+use Rattle.laws_calls.specs.CallSteps.{Finds}
+use Rattle.shore_sessions.specs.Controls.{locks_in}
+use Rattle.shore_sessions.specs.Standing.{changed}
+use Rattle.shore_core.specs.Cores.{IsSafe, geometry_of}
 use Rattle.shore_core.proofs.Coming.{comes_then}
-use Rattle.shore_core.proofs.Earning.{earned_as}
-use Rattle.shore_core.proofs.Forcing.{forced_as}
-use Rattle.shore_core.proofs.Keeping.{leaves_then, reads_then_keeps}
 use Rattle.shore_core.proofs.Refusing.{delete_fault, delete_unlogged, gone_fits, map_some}
 use Rattle.shore_core.proofs.Taking.{served_as}
+use Rattle.shore_core.proofs.Serving.{as_aside, call_then, refused_as, refused_then}
 use Rattle.shore_core.proofs.core_calls.Core.delete.Goals as goal
 
 pub returns-in_err-find-clause-served : goal.returns-in_err-find-clause-served
@@ -53,24 +50,13 @@ returns-clause-served g c running front disk before s store is safe over a of lo
       comes = comes_then c.find.new.self c.change.new.self front before s (changed s a c.args.id None h.0) store comes h.2;
     }
 
-pub returns-in_err-find-clause-damaged : goal.returns-in_err-find-clause-damaged
-returns-in_err-find-clause-damaged g c front disk holds =
-    let old = c.args.self.now in
-    earned_as (geometry_of old) disk (last_of old) (λ page. page ≡ c.args.id.page) c.from_residual.result _ c.from_residual.ensures.1 (c.in_err-find.ensures.damaged front disk holds)
+pub returns-in_err-find-clause-serves : goal.returns-in_err-find-clause-serves
+returns-in_err-find-clause-serves g c = refused_as _ _ _ _ _ _ c.from_residual.ensures.1 c.in_err-find.ensures.serves c.in_err-find.ensures.reads.failed
 
-pub returns-in_err-change-clause-keeps : goal.returns-in_err-change-clause-keeps
-returns-in_err-change-clause-keeps g c = reads_then_keeps c.args.self.now c.find.new.self c.change.new.self c.find.ensures.reads c.change.ensures.keeps
+pub returns-in_err-change-clause-serves : goal.returns-in_err-change-clause-serves
+returns-in_err-change-clause-serves g c =
+    refused_then _ _ _ _ c.find.new.self _ _ _ _ c.from_residual-in_err-change.ensures.1 c.in_ok-find.ensures.serves c.in_ok-find.ensures.reads.failed c.change.ensures.no_call
+    (elim c.in_err-change.ensures.refused [ inl memory ↦ as_aside _ _ memory tt | inr full ↦ as_aside _ _ full tt ])
 
-pub returns-clause-keeps : goal.returns-clause-keeps
-returns-clause-keeps g c = reads_then_keeps c.args.self.now c.find.new.self c.change.new.self c.find.ensures.reads c.change.ensures.keeps
-
-pub returns-in_err-find-clause-forced : goal.returns-in_err-find-clause-forced
-returns-in_err-find-clause-forced g c front disk holds =
-    let old = c.args.self.now in
-    forced_as (NeedsForce (heap_of old).pool (durable_of old)) c.from_residual.result _ c.from_residual.ensures.1 (c.in_err-find.ensures.forced front disk holds)
-
-pub returns-in_err-change-clause-any_moment : goal.returns-in_err-change-clause-any_moment
-returns-in_err-change-clause-any_moment g c = leaves_then c.args.self.now c.find.new.self c.change.new.self c.find.ensures.any_moment c.change.ensures.history
-
-pub returns-clause-any_moment : goal.returns-clause-any_moment
-returns-clause-any_moment g c = leaves_then c.args.self.now c.find.new.self c.change.new.self c.find.ensures.any_moment c.change.ensures.history
+pub returns-clause-serves : goal.returns-clause-serves
+returns-clause-serves g c = call_then _ _ _ _ c.find.new.self _ _ _ c.in_ok-find.ensures.serves c.in_ok-find.ensures.reads.failed c.change.ensures.no_call tt refl

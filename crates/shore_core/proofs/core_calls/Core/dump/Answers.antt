@@ -1,29 +1,19 @@
-use Rattle.std.proofs.Common.{◌≡◌, ◌⊎◌, inr, IsTrue, MatchResult, ap, sym, subst}
+use Rattle.std.proofs.Common.{◌≡◌, ◌⊎◌, inr, IsTrue, MatchResult, sym, subst, refl}
 use Rattle.shore_types.specs.Layout.{HasStore}
 use Rattle.shore_types.specs.declared.faults.Fault.{Fault}
 use Rattle.shore_types.specs.declared.faults.Fault.TheVariants as fault
-use Rattle.shore_calls.specs.StateChanges.{IsPageFault, after_refusal}
-use Rattle.shore_core.specs.Cores.{ComesTo, geometry_of, has_failed}
+use Rattle.laws_calls.specs.StateChanges.{IsPageFault, after_refusal}
+use Rattle.shore_core.specs.Cores.{CoreComesTo, geometry_of, has_failed}
 use Rattle.shore_core.specs.Replies.{Stays}
 use Rattle.shore_core.proofs.Taking.{map_err}
-use Rattle.shore_heap.specs.Heaps as heaps
-use Rattle.shore_core.proofs.Keeping.{leaves_then, nothing_leaves}
+use Rattle.shore_core.proofs.Serving.{serves_on, serves_still}
 use Rattle.shore_core.proofs.core_calls.Core.dump.Goals as goal
-
-pub returns-then-self-clause-any_moment : goal.returns-then-self-clause-any_moment
-returns-then-self-clause-any_moment g c = nothing_leaves c.args.self.now
-
-pub returns-then-not-has_store-clause-any_moment : goal.returns-then-not-has_store-clause-any_moment
-returns-then-not-has_store-clause-any_moment g c = nothing_leaves c.args.self.now
-
-pub returns-in-Err-clause-any_moment : goal.returns-in-Err-clause-any_moment
-returns-in-Err-clause-any_moment g c = leaves_then c.args.self.now c.pairs_of-pairs.new.self c.note_failure.new.self c.pairs_of-pairs.ensures.any_moment (ap heaps.history_of c.note_failure.ensures.heap)
 
 pub returns-in-Err-clause-left : goal.returns-in-Err-clause-left
 returns-in-Err-clause-left g c front disk before s plain is safe over =
     let mid = c.pairs_of-pairs.new.self in
     let stays = subst (λ r. Stays mid r front before s plain) c.in-Err.is (c.pairs_of-pairs.ensures.stays front disk before s plain is safe over) in
-    subst (λ r. MatchResult r (λ _. ComesTo c.note_failure.new.self front before plain s) (λ f. ComesTo c.note_failure.new.self front before plain (after_refusal f s))) (sym c.in-Err.is)
+    subst (λ r. MatchResult r (λ _. CoreComesTo c.note_failure.new.self front before plain s) (λ f. CoreComesTo c.note_failure.new.self front before plain (after_refusal f s))) (sym c.in-Err.is)
     (c.note_failure.ensures.left front before s plain stays)
 
 pub returns-in-Err-clause-refused : goal.returns-in-Err-clause-refused
@@ -36,7 +26,19 @@ pub returns-in_default-clause-left : goal.returns-in_default-clause-left
 returns-in_default-clause-left g c front disk before s plain is safe over =
     let mid = c.pairs_of-pairs.new.self in
     let stays = subst (λ r. Stays mid r front before s plain) c.in_default.is (c.pairs_of-pairs.ensures.stays front disk before s plain is safe over) in
-    subst (λ r. MatchResult r (λ _. ComesTo mid front before plain s) (λ f. ComesTo mid front before plain (after_refusal f s))) (sym c.in_default.is) stays
+    subst (λ r. MatchResult r (λ _. CoreComesTo mid front before plain s) (λ f. CoreComesTo mid front before plain (after_refusal f s))) (sym c.in_default.is) stays
 
 pub returns-in_default-clause-shown : goal.returns-in_default-clause-shown
 returns-in_default-clause-shown g c front disk before s plain is safe over = c.pairs_of-pairs.ensures.pairs c.if-self.false front disk before s plain is safe over
+
+pub returns-then-self-clause-serves : goal.returns-then-self-clause-serves
+returns-then-self-clause-serves g c = serves_still _ _ _ _ _ refl refl refl refl tt
+
+pub returns-then-not-has_store-clause-serves : goal.returns-then-not-has_store-clause-serves
+returns-then-not-has_store-clause-serves g c = serves_still _ _ _ _ _ refl refl refl refl tt
+
+pub returns-in-Err-clause-serves : goal.returns-in-Err-clause-serves
+returns-in-Err-clause-serves g c = serves_on _ _ _ c.pairs_of-pairs.new.self _ _ c.note_failure.ensures.heap c.note_failure.ensures.durable c.note_failure.ensures.tail c.pairs_of-pairs.ensures.serves
+
+pub returns-in_default-clause-serves : goal.returns-in_default-clause-serves
+returns-in_default-clause-serves g c = c.pairs_of-pairs.ensures.serves

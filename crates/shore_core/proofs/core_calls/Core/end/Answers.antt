@@ -1,20 +1,20 @@
-use Rattle.std.proofs.Common.{◌≡◌, ◌+◌, ◌∷◌, [], ℕ, true, false, length, length-append, refl, sym, ap, subst, ◌∙◌, arith}
-use Rattle.std.proofs.Common.{eqb}
+use Rattle.std.proofs.Common.{◌≡◌, ◌+◌, ◌∷◌, [], ℕ, true, false, length, length-append, refl, sym, ap, subst, ◌∙◌, arith, eqb}
 use Rattle.std.proofs.lemmas.Bool.{eqb-true}
 use Rattle.shore_model.specs.declared.log_records.LogRecord.{LogRecord}
 use Rattle.shore_model.specs.declared.log_records.Payload.TheVariants.{End}
 use Rattle.shore_model.specs.Logs.{previous_of}
-use Rattle.shore_lives.specs.Sessions.{SessionTxn}
-use Rattle.shore_lives.specs.Views.{IsAmong}
+use Rattle.laws_lives.specs.Sessions.{SessionTxn}
+use Rattle.laws_lives.specs.Views.{IsAmong}
 use Rattle.shore_txn.specs.Transactions as table
-use Rattle.shore_undo.specs.Txns.{as_session_txn}
-use Rattle.shore_control.specs.Controls.{txns_in}
-use Rattle.shore_control.specs.Standing.{IsLogged}
+use Rattle.shore_txn.specs.Txns.{as_session_txn}
+use Rattle.shore_sessions.specs.Controls.{txns_in}
+use Rattle.shore_sessions.specs.Standing.{IsLogged}
 use Rattle.shore_core.specs.Cores.{first_of, txns_of, waiting_of}
 use Rattle.shore_core.proofs.Ending.{earlier_others, ended_logged, ended_unlogged, some_left}
 use Rattle.shore_core.proofs.Leaving.{comes_lacking, earlier_left}
 use Rattle.shore_core.proofs.Tables.{each_among, none_told, some_told}
 use Rattle.shore_core.proofs.Undoing.{none_of, own_is}
+use Rattle.shore_core.proofs.Serving.{nothing_called}
 use Rattle.shore_core.proofs.core_calls.Core.end.Goals as goal
 
 pub returns-in_default-clause-ended : goal.returns-in_default-clause-ended
@@ -110,3 +110,12 @@ returns-clause-ended g c running front disk before s store is safe over a of emp
   c.in-Err.ensures.refused.0,
   comes_lacking c.args.self.now _ front disk before s store refl c.push.ensures.first c.in-Err.ensures.none_added refl refl refl is.beside.parts.stands is over,
 )
+
+pub returns-in-Ok-clause-no_call : goal.returns-in-Ok-clause-no_call
+returns-in-Ok-clause-no_call g c = nothing_called _ _ refl refl c.push.ensures.first refl
+
+pub returns-clause-no_call : goal.returns-clause-no_call
+returns-clause-no_call g c = nothing_called _ _ refl refl c.push.ensures.first refl
+
+pub returns-then-eq-clause-no_call : goal.returns-then-eq-clause-no_call
+returns-then-eq-clause-no_call g c = nothing_called _ _ refl refl refl refl

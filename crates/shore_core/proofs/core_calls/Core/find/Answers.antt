@@ -1,15 +1,13 @@
-use Rattle.std.proofs.Common.{◌≡◌, ◌⊎◌, inr, Some, sym, ap, subst, ◌∙◌}
+use Rattle.std.proofs.Common.{◌≡◌, ◌⊎◌, inr, Some, sym, ap, subst, ◌∙◌, refl}
 use Rattle.shore_dwrite.proofs.Moves.{if_err}
 use Rattle.shore_types.specs.declared.faults.Fault.TheVariants as fault
-use Rattle.shore_pool.specs.Pools.{NeedsForce}
-use Rattle.shore_calls.specs.CallSteps.{RefusesRead}
-use Rattle.shore_calls.specs.States.{page_slots}
+use Rattle.laws_calls.specs.CallSteps.{RefusesRead}
+use Rattle.laws_calls.specs.States.{page_slots}
 use Rattle.shore_txn.specs.Transactions.{kept_in}
-use Rattle.shore_core.specs.Cores.{durable_of, geometry_of, heap_of, last_of, txns_of}
+use Rattle.shore_core.specs.Cores.{txns_of}
 use Rattle.shore_core.proofs.Coming.{stays_as}
-use Rattle.shore_core.proofs.Forcing.{forced_as}
 use Rattle.shore_core.proofs.Taking.{image_shown, read_fault}
-use Rattle.shore_core.proofs.Earning.{earned_as}
+use Rattle.shore_core.proofs.Serving.{aside_as, nothing_called, serves_as, serves_then}
 use Rattle.shore_core.proofs.core_calls.Core.find.Goals as goal
 
 pub returns-in_err-fetch-clause-refused : goal.returns-in_err-fetch-clause-refused
@@ -31,16 +29,6 @@ returns-in-None-clause-refused g c running front disk before s store is safe ove
     let shows = comes.is_in.pages (is.beside.parts.failed_is ∙ running) in
     inr (sym (image_shown s.sessions.records s.sessions.active s.counts safe.roomy.pages c.args.id) ∙ sym (c.in-None.ensures.shown (kept_in (txns_of c.fetch.new.self)) front comes.left (page_slots s) shows))
 
-pub returns-in_err-fetch-clause-damaged : goal.returns-in_err-fetch-clause-damaged
-returns-in_err-fetch-clause-damaged g c front disk holds =
-    let old = c.args.self.now in
-    earned_as (geometry_of old) disk (last_of old) (λ page. page ≡ c.args.id.page) c.from_residual.result _ c.from_residual.ensures.1 (c.in_err-fetch.ensures.damaged front disk holds)
-
-pub returns-in_err-fetch-clause-forced : goal.returns-in_err-fetch-clause-forced
-returns-in_err-fetch-clause-forced g c front disk holds =
-    let old = c.args.self.now in
-    forced_as (NeedsForce (heap_of old).pool (durable_of old)) c.from_residual.result _ c.from_residual.ensures.1 (c.in_err-fetch.ensures.forced front disk holds)
-
 pub returns-in_err-fetch-clause-stays : goal.returns-in_err-fetch-clause-stays
 returns-in_err-fetch-clause-stays g c front disk before s store is safe over =
     stays_as c.fetch.new.self front before s store c.from_residual.result _ c.from_residual.ensures.1 (c.in_err-fetch.ensures.stays front disk before s store is safe over)
@@ -54,3 +42,15 @@ returns-in_ok-copied-in-Some-clause-stays g c front disk before s store is safe 
 
 pub returns-in-None-clause-stays : goal.returns-in-None-clause-stays
 returns-in-None-clause-stays g c front disk before s store is safe over = inr (c.in_ok-fetch.ensures.stays front disk before s store is safe over)
+
+pub returns-in_err-fetch-clause-serves : goal.returns-in_err-fetch-clause-serves
+returns-in_err-fetch-clause-serves g c = serves_as _ _ _ _ _ _ c.from_residual.ensures.1 c.in_err-fetch.ensures.serves
+
+pub returns-in_err-copied-in-Some-clause-serves : goal.returns-in_err-copied-in-Some-clause-serves
+returns-in_err-copied-in-Some-clause-serves g c = serves_then _ _ _ _ c.fetch.new.self _ _ _ c.in_ok-fetch.ensures.serves (nothing_called _ _ refl refl refl refl) (aside_as _ fault.Memory c.from_residual-in_err-copied-in-Some.ensures.1 tt)
+
+pub returns-in_ok-copied-in-Some-clause-serves : goal.returns-in_ok-copied-in-Some-clause-serves
+returns-in_ok-copied-in-Some-clause-serves g c = serves_then _ _ _ _ c.fetch.new.self _ _ _ c.in_ok-fetch.ensures.serves (nothing_called _ _ refl refl refl refl) tt
+
+pub returns-in-None-clause-serves : goal.returns-in-None-clause-serves
+returns-in-None-clause-serves g c = serves_then _ _ _ _ c.fetch.new.self _ _ _ c.in_ok-fetch.ensures.serves (nothing_called _ _ refl refl refl refl) tt

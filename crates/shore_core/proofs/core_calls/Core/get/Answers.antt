@@ -1,11 +1,9 @@
-use Rattle.std.proofs.Common.{◌≡◌}
+use Rattle.std.proofs.Common.{refl}
 use Rattle.shore_model.specs.declared.calls.Call.TheVariants as call
-use Rattle.shore_pool.specs.Pools.{NeedsForce}
-use Rattle.shore_core.proofs.Earning.{earned_as}
-use Rattle.shore_core.proofs.Forcing.{forced_as}
 use Rattle.shore_core.proofs.Lookups.{get_fault, getu_fault, got, got_for_update}
 use Rattle.shore_core.proofs.Taking.{served_as}
-use Rattle.shore_core.specs.Cores.{durable_of, geometry_of, heap_of, last_of}
+use Rattle.shore_core.specs.Cores.{geometry_of}
+use Rattle.shore_core.proofs.Serving.{call_then, nothing_called, refused_as}
 use Rattle.shore_core.proofs.core_calls.Core.get.Goals as goal
 
 pub returns-in_err-bytes-clause-served : goal.returns-in_err-bytes-clause-served
@@ -26,12 +24,8 @@ returns-clause-served g c running front disk before s store is safe over a mem =
       record { later = s; serves = got_for_update (geometry_of old) s a c.args.id safe.roomy.pages.once mem _ found; comes = stays },
     )
 
-pub returns-in_err-bytes-clause-damaged : goal.returns-in_err-bytes-clause-damaged
-returns-in_err-bytes-clause-damaged g c front disk holds =
-    let old = c.args.self.now in
-    earned_as (geometry_of old) disk (last_of old) (λ page. page ≡ c.args.id.page) c.from_residual.result _ c.from_residual.ensures.1 (c.in_err-bytes.ensures.damaged front disk holds)
+pub returns-in_err-bytes-clause-serves : goal.returns-in_err-bytes-clause-serves
+returns-in_err-bytes-clause-serves g c = refused_as _ _ _ _ _ _ c.from_residual.ensures.1 c.in_err-bytes.ensures.serves c.in_err-bytes.ensures.reads.failed
 
-pub returns-in_err-bytes-clause-forced : goal.returns-in_err-bytes-clause-forced
-returns-in_err-bytes-clause-forced g c front disk holds =
-    let old = c.args.self.now in
-    forced_as (NeedsForce (heap_of old).pool (durable_of old)) c.from_residual.result _ c.from_residual.ensures.1 (c.in_err-bytes.ensures.forced front disk holds)
+pub returns-clause-serves : goal.returns-clause-serves
+returns-clause-serves g c = call_then _ _ _ _ c.find.new.self _ _ _ c.in_ok-bytes.ensures.serves c.in_ok-bytes.ensures.reads.failed (nothing_called _ _ refl refl refl refl) tt refl

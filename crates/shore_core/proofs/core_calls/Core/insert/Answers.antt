@@ -12,24 +12,21 @@ use Rattle.shore_path.specs.Intending.{IntendsToWrite}
 use Rattle.shore_path.specs.Walks.{acquired}
 use Rattle.shore_page.specs.Room.{Fits}
 use Rattle.shore_page.specs.Slots.{image_at_slot}
-use Rattle.shore_pool.specs.Pools.{NeedsForce}
 use Rattle.shore_heap.specs.Heaps as heaps
 use Rattle.shore_heap.specs.Heaps.{frame_of}
 use Rattle.shore_txn.specs.Transactions.{HasTxnOf}
-use Rattle.shore_calls.specs.StateChanges.{after_refusal}
-use Rattle.shore_calls.specs.CallSteps.{behind_place, place_outcome, with_requests}
-use Rattle.shore_control.specs.Controls.{locks_in, txns_in}
-use Rattle.shore_control.specs.Standing.{HasControl, changed}
-use Rattle.shore_core.specs.Cores.{IsSafe, durable_of, geometry_of, heap_of, last_of, locks_of}
+use Rattle.laws_calls.specs.StateChanges.{after_refusal}
+use Rattle.laws_calls.specs.CallSteps.{behind_place, place_outcome, with_requests}
+use Rattle.shore_sessions.specs.Controls.{locks_in, txns_in}
+use Rattle.shore_sessions.specs.Standing.{HasControl, changed}
+use Rattle.shore_core.specs.Cores.{IsSafe, geometry_of, locks_of}
 use Rattle.shore_core.specs.Replies.{IsServedBehind, can_lock}
 use Rattle.shore_core.proofs.Coming.{comes_then}
-use Rattle.shore_core.proofs.Earning.{earned_as}
-use Rattle.shore_core.proofs.Forcing.{forced_as}
-use Rattle.shore_core.proofs.Keeping.{keeps_then, leaves_then, reads_then_keeps}
 use Rattle.shore_core.proofs.Placing.{found_place, insert_unlogged, no_place_fault, served_behind_place, tried_here}
 use Rattle.shore_core.proofs.Refusing.{map_some}
 use Rattle.shore_core.proofs.Safe.{comes_locked, locks_keep, never_waits, place_reached, safe_behind_place}
 use Rattle.shore_core.proofs.Taking.{served_as}
+use Rattle.shore_core.proofs.Serving.{as_aside, call_then, locks_call_nothing, no_call_then, refused_as, refused_then}
 use Rattle.shore_core.proofs.core_calls.Core.insert.Goals as goal
 
 pub returns-in_err-place-clause-served : goal.returns-in_err-place-clause-served
@@ -127,43 +124,22 @@ returns-clause-served g c running front disk before s plain is safe over a of nu
       comes = comes_then locked c.change.new.self front before (behind_place s a id) later plain there h.2;
     }
 
-pub returns-in_err-place-clause-damaged : goal.returns-in_err-place-clause-damaged
-returns-in_err-place-clause-damaged g c front disk holds =
-    let old = c.args.self.now in
-    earned_as (geometry_of old) disk (last_of old) (λ page. page.store ≡ c.args.store) c.from_residual.result _ c.from_residual.ensures.1 (c.in_err-place.ensures.damaged front disk holds)
+pub returns-in_err-place-clause-serves : goal.returns-in_err-place-clause-serves
+returns-in_err-place-clause-serves g c = refused_as _ _ _ _ _ _ c.from_residual.ensures.1 c.in_err-place.ensures.serves c.in_err-place.ensures.reads.failed
 
-pub returns-in_err-place-clause-forced : goal.returns-in_err-place-clause-forced
-returns-in_err-place-clause-forced g c front disk holds =
-    let old = c.args.self.now in
-    forced_as (NeedsForce (heap_of old).pool (durable_of old)) c.from_residual.result _ c.from_residual.ensures.1 (c.in_err-place.ensures.forced front disk holds)
+pub returns-in_err-lock_place-clause-serves : goal.returns-in_err-lock_place-clause-serves
+returns-in_err-lock_place-clause-serves g c =
+    refused_then _ _ _ _ c.find_place.new.self _ _ _ _ c.from_residual-in_err-lock_place.ensures.1 c.in_ok-place.ensures.serves c.in_ok-place.ensures.reads.failed
+    (locks_call_nothing _ _ c.lock_place.ensures.only) (as_aside _ _ c.in_err-lock_place.ensures.refused tt)
 
-pub returns-in_err-lock_place-clause-keeps : goal.returns-in_err-lock_place-clause-keeps
-returns-in_err-lock_place-clause-keeps g c =
-    reads_then_keeps c.args.self.now c.find_place.new.self c.lock_place.new.self c.find_place.ensures.reads
-    (locks_keep c.find_place.new.self c.lock_place.new.self c.lock_place.ensures.only)
+pub returns-in_err-change-clause-serves : goal.returns-in_err-change-clause-serves
+returns-in_err-change-clause-serves g c =
+    refused_then _ _ _ _ c.find_place.new.self _ _ _ _ c.from_residual-in_err-change.ensures.1 c.in_ok-place.ensures.serves c.in_ok-place.ensures.reads.failed
+    (no_call_then c.find_place.new.self c.lock_place.new.self _ (locks_call_nothing _ _ c.lock_place.ensures.only) c.change.ensures.no_call)
+    (elim c.in_err-change.ensures.refused [ inl memory ↦ as_aside _ _ memory tt | inr full ↦ as_aside _ _ full tt ])
 
-pub returns-in_err-change-clause-keeps : goal.returns-in_err-change-clause-keeps
-returns-in_err-change-clause-keeps g c =
-    reads_then_keeps c.args.self.now c.find_place.new.self c.change.new.self c.find_place.ensures.reads
-    (keeps_then c.find_place.new.self c.lock_place.new.self c.change.new.self
-    (locks_keep c.find_place.new.self c.lock_place.new.self c.lock_place.ensures.only)
-    c.change.ensures.keeps)
-
-pub returns-clause-keeps : goal.returns-clause-keeps
-returns-clause-keeps g c =
-    reads_then_keeps c.args.self.now c.find_place.new.self c.change.new.self c.find_place.ensures.reads
-    (keeps_then c.find_place.new.self c.lock_place.new.self c.change.new.self
-    (locks_keep c.find_place.new.self c.lock_place.new.self c.lock_place.ensures.only)
-    c.change.ensures.keeps)
-
-pub returns-in_err-lock_place-clause-any_moment : goal.returns-in_err-lock_place-clause-any_moment
-returns-in_err-lock_place-clause-any_moment g c =
-    leaves_then c.args.self.now c.find_place.new.self c.lock_place.new.self c.find_place.ensures.any_moment (ap (λ h. heaps.history_of h) c.lock_place.ensures.only.heap)
-
-pub returns-in_err-change-clause-any_moment : goal.returns-in_err-change-clause-any_moment
-returns-in_err-change-clause-any_moment g c =
-    leaves_then c.args.self.now c.find_place.new.self c.change.new.self c.find_place.ensures.any_moment (c.change.ensures.history ∙ ap (λ h. heaps.history_of h) c.lock_place.ensures.only.heap)
-
-pub returns-clause-any_moment : goal.returns-clause-any_moment
-returns-clause-any_moment g c =
-    leaves_then c.args.self.now c.find_place.new.self c.change.new.self c.find_place.ensures.any_moment (c.change.ensures.history ∙ ap (λ h. heaps.history_of h) c.lock_place.ensures.only.heap)
+pub returns-clause-serves : goal.returns-clause-serves
+returns-clause-serves g c =
+    call_then _ _ _ _ c.find_place.new.self _ _ _ c.in_ok-place.ensures.serves c.in_ok-place.ensures.reads.failed
+    (no_call_then c.find_place.new.self c.lock_place.new.self _ (locks_call_nothing _ _ c.lock_place.ensures.only) c.change.ensures.no_call)
+    tt refl

@@ -1,11 +1,11 @@
 use Rattle.std.proofs.Common.{◌≡◌, ◌+◌, ◌<◌, ◌≤◌, length, refl, sym, subst}
 use Rattle.shore_types.specs.declared.faults.Fault.TheVariants as fault
 use Rattle.shore_types.specs.declared.layout.TheConstants.{LAST_OPENED}
-use Rattle.shore_lives.specs.Views.{IsAmong}
+use Rattle.laws_lives.specs.Views.{IsAmong}
 use Rattle.shore_txn.specs.Transactions.{room_in}
 use Rattle.shore_txn.specs.Transactions as table
-use Rattle.shore_undo.specs.Txns.{last_of}
-use Rattle.shore_undo.specs.declared.txn.Txn.{Txn}
+use Rattle.shore_txn.specs.Txns.{last_of}
+use Rattle.shore_txn.specs.declared.txn.Txn.{Txn}
 use Rattle.shore_core.specs.Cores.{first_of, locks_of, waiting_of}
 use Rattle.shore_core.proofs.Placing.{try_done, try_refused}
 use Rattle.shore_core.proofs.Taking.{plain_refusal}

@@ -1,24 +1,24 @@
-use Rattle.std.proofs.Common.{◌≡◌, ◌<◌, ◌≤◌, ◌+◌, inl, inr, true, length, refl, sym, ap, subst, ◌∙◌}
+use Rattle.std.proofs.Common.{◌≡◌, ◌<◌, ◌≤◌, ◌+◌, inl, inr, true, length, refl, sym, ap, subst, ◌∙◌, IfErr, Result}
 use Rattle.shore_types.specs.declared.layout.TheConstants.{LAST_OPENED}
-use Rattle.shore_heap.specs.Heaps as heaps
-use Rattle.shore_lives.specs.Views.{IsAmong}
-use Rattle.shore_calls.specs.StateChanges.{wait_refused}
-use Rattle.shore_calls.specs.States.{State}
-use Rattle.shore_control.specs.Calls.{as_waiting}
-use Rattle.shore_control.specs.Standing.{HasControl}
+use Rattle.laws_lives.specs.Views.{IsAmong}
+use Rattle.laws_calls.specs.StateChanges.{wait_refused}
+use Rattle.laws_calls.specs.States.{State}
+use Rattle.shore_sessions.specs.Calls.{as_waiting}
+use Rattle.shore_sessions.specs.Standing.{HasControl}
 use Rattle.shore_txn.specs.Transactions as table
 use Rattle.shore_txn.specs.Transactions.{kept_in, room_in}
-use Rattle.shore_undo.specs.Txns.{last_of}
+use Rattle.shore_txn.specs.Txns.{last_of}
 use Rattle.shore_txn.specs.declared.transactions.Transactions.{Transactions}
-use Rattle.shore_undo.specs.declared.txn.Txn.{Txn}
+use Rattle.shore_txn.specs.declared.txn.Txn.{Txn}
 use Rattle.shore_core.specs.Cores.{first_of, waiting_of}
 use Rattle.shore_core.proofs.Coming.{comes_same}
 use Rattle.shore_core.proofs.Going.{asks_lock}
-use Rattle.shore_core.proofs.Keeping.{leaves_nothing, nothing_leaves}
 use Rattle.shore_core.proofs.Moving.{comes_moved}
 use Rattle.shore_core.proofs.Settling.{resumed_at_once, resumed_to_nothing}
 use Rattle.shore_core.proofs.Tables.{some_or}
 use Rattle.shore_core.proofs.Taking.{true_false}
+use Rattle.shore_types.specs.declared.faults.Fault.{Fault}
+use Rattle.shore_core.proofs.Serving.{IsAside, serves_alone, serves_still}
 use Rattle.shore_core.proofs.core_calls.Core.resume.Goals as goal
 
 pub returns-in_default-clause-step : goal.returns-in_default-clause-step
@@ -27,9 +27,6 @@ returns-in_default-clause-step g c front disk before s store is safe over = reco
   moves = resumed_to_nothing _ s s c.args.session _ (inl (c.in_default.ensures.does_not s is.beside.parts.stands, refl, refl)) refl;
   comes = comes_same c.args.self.now front disk before s store is over;
 }
-
-pub returns-in_default-clause-any_moment : goal.returns-in_default-clause-any_moment
-returns-in_default-clause-any_moment g c = nothing_leaves c.args.self.now
 
 pub invariant_of-self : goal.invariant_of-self
 invariant_of-self g c =
@@ -61,16 +58,10 @@ returns-then-self-clause-step g c front disk before s store is safe over =
       comes = comes_moved old _ front disk before s later store refl refl refl refl refl (λ p. ap (λ (t : Transactions). kept_in t p) c.take_wait.ensures.txns) stands refl refl refl (λ p. refl) is over;
     }
 
-pub returns-then-self-clause-any_moment : goal.returns-then-self-clause-any_moment
-returns-then-self-clause-any_moment g c = nothing_leaves c.args.self.now
-
 pub returns-in-Durable-clause-step : goal.returns-in-Durable-clause-step
 returns-in-Durable-clause-step g c front disk before s store is safe over =
     let w = c.in-Some.waiting.now in
     c.resume_commit.ensures.step c.if-self.false front disk before s store is safe over (as_waiting w) (c.in-Some.ensures.waits s is.beside.parts.stands) c.in-Some.ensures.some.1 c.in-Durable.is
-
-pub returns-in-Durable-clause-any_moment : goal.returns-in-Durable-clause-any_moment
-returns-in-Durable-clause-any_moment g c = leaves_nothing c.args.self.now c.resume_commit.new.self (ap heaps.history_of c.resume_commit.ensures.heap)
 
 pub returns-in-Lock-clause-step : goal.returns-in-Lock-clause-step
 returns-in-Lock-clause-step g c front disk before s store is safe over =
@@ -78,3 +69,16 @@ returns-in-Lock-clause-step g c front disk before s store is safe over =
     let was = is.beside.parts.stands in
     let its = c.in-Some.ensures.asks (asks_lock w _ c.in-Lock.is) s was in
     c.resume_call.ensures.step c.if-self.false front disk before s store is safe over (as_waiting w) (c.in-Some.ensures.waits s was) c.in-Some.ensures.some.1 c.in-Lock.is its.0 its.1 its.2
+
+pub returns-in_default-clause-serves : goal.returns-in_default-clause-serves
+returns-in_default-clause-serves g c = serves_still _ _ _ _ _ refl refl refl refl tt
+
+pub returns-then-self-clause-serves : goal.returns-then-self-clause-serves
+returns-then-self-clause-serves g c = serves_still _ _ _ _ _ refl refl refl refl tt
+
+pub returns-in-Lock-clause-serves : goal.returns-in-Lock-clause-serves
+returns-in-Lock-clause-serves g c = c.resume_call.ensures.serves
+
+pub returns-in-Durable-clause-serves : goal.returns-in-Durable-clause-serves
+returns-in-Durable-clause-serves g c =
+    serves_alone _ _ _ _ _ c.resume_commit.ensures.no_call (subst (λ (r : Result (Unit {0}) Fault). IfErr r IsAside) (sym c.resume_commit.ensures.plain) tt)

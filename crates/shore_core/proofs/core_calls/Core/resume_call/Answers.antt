@@ -1,34 +1,33 @@
-use Rattle.std.proofs.Common.{◌≡◌, ◌<◌, ◌≤◌, ◌+◌, inl, inr, None, Ok, Err, IfErr, true, false, length, refl, sym, ap, subst, ◌∙◌}
+use Rattle.std.proofs.Common.{◌≡◌, ◌<◌, ◌≤◌, ◌+◌, inl, inr, None, Ok, Err, true, false, length, refl, sym, ap, subst, ◌∙◌}
 use Rattle.std.specs.Prelude.{IsSome}
 use Rattle.shore_types.specs.declared.layout.TheConstants.{LAST_OPENED}
-use Rattle.shore_lives.specs.Views.{IsAmong}
-use Rattle.shore_heap.specs.Heaps as heaps
+use Rattle.laws_lives.specs.Views.{IsAmong}
 use Rattle.shore_locks.specs.Tables.{Table, is_waiting}
-use Rattle.shore_held.specs.CallLocks.{asked_by}
-use Rattle.shore_calls.specs.StateChanges.{after_refusal, wait_refused}
-use Rattle.shore_calls.specs.CallSteps.{ResumesWait}
-use Rattle.shore_calls.specs.Settling.{SettledResume}
-use Rattle.shore_calls.proofs.SessionStates.{waits_whole}
-use Rattle.shore_calls.specs.States.{State, Waiting}
-use Rattle.shore_calls.specs.declared.step.Step.{Step}
-use Rattle.shore_calls.specs.declared.step.Step.TheVariants.{Waits}
-use Rattle.shore_calls.specs.declared.step.Wait.{Wait}
-use Rattle.shore_calls.specs.declared.step.Wait.TheVariants.{Lock}
+use Rattle.laws_locks.specs.CallLocks.{lock_asked_by}
+use Rattle.laws_calls.specs.StateChanges.{after_refusal, wait_refused}
+use Rattle.laws_calls.specs.CallSteps.{ResumesWait}
+use Rattle.laws_calls.specs.Settling.{SettledResume}
+use Rattle.laws_calls.proofs.SessionStates.{waits_whole}
+use Rattle.laws_calls.specs.States.{State, Waiting}
+use Rattle.shore_model.specs.declared.step.Step.{Step}
+use Rattle.shore_model.specs.declared.step.Step.TheVariants.{Waits}
+use Rattle.shore_model.specs.declared.step.Wait.{Wait}
+use Rattle.shore_model.specs.declared.step.Wait.TheVariants.{Lock}
 use Rattle.shore_txn.specs.Transactions as table
 use Rattle.shore_txn.specs.Transactions.{kept_in, room_in}
 use Rattle.shore_txn.specs.declared.transactions.Transactions.{Transactions}
-use Rattle.shore_control.proofs.WaitSteps.{call_waits}
-use Rattle.shore_control.specs.Calls.{as_waiting}
-use Rattle.shore_undo.specs.Txns as txns
-use Rattle.shore_undo.specs.declared.txn.Txn.{Txn}
-use Rattle.shore_core.specs.Cores.{first_of, geometry_of, last_of, locks_of, waiting_of, waits_of}
-use Rattle.shore_core.specs.Replies.{IsEarned, NeedsForce, ReadsWaiting, fault_at}
+use Rattle.shore_sessions.proofs.WaitSteps.{call_waits}
+use Rattle.shore_sessions.specs.Calls.{as_waiting}
+use Rattle.shore_txn.specs.Txns as txns
+use Rattle.shore_txn.specs.declared.txn.Txn.{Txn}
+use Rattle.shore_core.specs.Cores.{first_of, geometry_of, locks_of, waiting_of, waits_of}
+use Rattle.shore_core.specs.Replies.{ReadsWaiting, Serves}
 use Rattle.shore_core.proofs.Coming.{comes_same, over_as}
 use Rattle.shore_core.proofs.Going.{asked_resumes, asks_lock, blocked_spared, lock_waits, none_of, safe_woken}
 use Rattle.shore_core.proofs.Settling.{resumed_to_nothing}
 use Rattle.shore_core.proofs.Moving.{comes_moved, in_moved}
-use Rattle.shore_core.proofs.Keeping.{leaves_then, nothing_leaves}
 use Rattle.shore_core.proofs.core_calls.Core.resume_call.Goals as goal
+use Rattle.shore_core.proofs.Serving.{serves_answered, serves_noted, serves_still}
 use Rattle.shore_core.proofs.core_calls.Core.resume_call.Goals.{then-is_waiting-via-then-is_waiting, then-is_waiting-via-else-is_waiting+then-not-has_txn}
 
 pub returns-then-is_waiting-clause-step : goal.returns-then-is_waiting-clause-step
@@ -59,9 +58,6 @@ returns-then-is_waiting-clause-step g c running front disk before s store is saf
       comes = comes_same old front disk before s store is over;
     }
 
-pub returns-then-is_waiting-clause-any_moment : goal.returns-then-is_waiting-clause-any_moment
-returns-then-is_waiting-clause-any_moment g c = nothing_leaves c.args.self.now
-
 pub invariant_of-self : goal.invariant_of-self
 invariant_of-self g c =
     let old = c.args.self.now in
@@ -77,9 +73,6 @@ invariant_of-self g c =
 pub returns-in_default-clause-step : goal.returns-in_default-clause-step
 returns-in_default-clause-step g c running front disk before s store is safe over w m same waits a its number =
     absurd ((c.in_default.ensures.same s is.beside.parts.stands).0 w m same)
-
-pub returns-in_default-clause-any_moment : goal.returns-in_default-clause-any_moment
-returns-in_default-clause-any_moment g c = nothing_leaves c.args.self.now
 
 pub returns-in-Some-cycle-clause-step : goal.returns-in-Some-cycle-clause-step
 returns-in-Some-cycle-clause-step g c running front disk before s store is safe over w m same waits a its number =
@@ -106,9 +99,6 @@ returns-in-Some-cycle-clause-step g c running front disk before s store is safe 
       comes = comes_moved old _ front disk before s woken store refl refl refl refl refl (λ p. ap (λ (t : Transactions). kept_in t p) c.in-Some.ensures.txns) stands refl refl refl (λ p. refl) is over;
     }
 
-pub returns-in-Some-cycle-clause-any_moment : goal.returns-in-Some-cycle-clause-any_moment
-returns-in-Some-cycle-clause-any_moment g c = nothing_leaves c.args.self.now
-
 pub returns-in-Ok-clause-step : goal.returns-in-Ok-clause-step
 returns-in-Ok-clause-step g c running front disk before s store is safe over w m same waits a its number =
     let old = c.args.self.now in
@@ -120,7 +110,7 @@ returns-in-Ok-clause-step g c running front disk before s store is safe over w m
     let spared : v.cycle ≡ None = none_of v.cycle c.in_default-cycle.not-Some in
     let waited : v.wait ≡ Lock c.args.granule = sym (ap (λ (x : Waiting). x.wait) one) ∙ waits in
     let lock = lock_waits _ s (as_waiting v) c.args.granule safe.after.waits there waited in
-    let asks : IsSome (asked_by v.call) = subst IsSome (sym lock.asked) refl in
+    let asks : IsSome (lock_asked_by v.call) = subst IsSome (sym lock.asked) refl in
     let whole = waits_whole safe.found safe.entries s safe.after (as_waiting v) there spared c.args.granule a waited (its.0, its.1 ∙ sym c.in-Some.ensures.some.1) in
     let quiet : is_waiting a.txn s.locks.requests ≡ false =
     ap (λ t. is_waiting t s.locks.requests) number ∙ ap (λ (t : Table). is_waiting c.args.txn t.requests) was.locks ∙ sym c.if-is_waiting.ensures in
@@ -147,7 +137,7 @@ returns-in-Err-clause-step g c running front disk before s store is safe over w 
     let spared : v.cycle ≡ None = none_of v.cycle c.in_default-cycle.not-Some in
     let waited : v.wait ≡ Lock c.args.granule = sym (ap (λ (x : Waiting). x.wait) one) ∙ waits in
     let lock = lock_waits _ s (as_waiting v) c.args.granule safe.after.waits there waited in
-    let asks : IsSome (asked_by v.call) = subst IsSome (sym lock.asked) refl in
+    let asks : IsSome (lock_asked_by v.call) = subst IsSome (sym lock.asked) refl in
     let whole = waits_whole safe.found safe.entries s safe.after (as_waiting v) there spared c.args.granule a waited (its.0, its.1 ∙ sym c.in-Some.ensures.some.1) in
     let quiet : is_waiting a.txn s.locks.requests ≡ false =
     ap (λ t. is_waiting t s.locks.requests) number ∙ ap (λ (t : Table). is_waiting c.args.txn t.requests) was.locks ∙ sym c.if-is_waiting.ensures in
@@ -164,17 +154,47 @@ returns-in-Err-clause-step g c running front disk before s store is safe over w 
       comes = c.refuse.ensures.left front before r.later store r.comes;
     }
 
-pub returns-in-Err-clause-any_moment : goal.returns-in-Err-clause-any_moment
-returns-in-Err-clause-any_moment g c = leaves_then c.args.self.now c.ask.new.self c.refuse.new.self c.ask.ensures.any_moment (ap heaps.history_of c.refuse.ensures.heap)
+pub returns-then-is_waiting-clause-serves : goal.returns-then-is_waiting-clause-serves
+returns-then-is_waiting-clause-serves g c = serves_still _ _ _ _ _ refl refl refl refl tt
 
-pub returns-in-Err-clause-damaged : goal.returns-in-Err-clause-damaged
-returns-in-Err-clause-damaged g c front disk holds =
+pub returns-in_default-clause-serves : goal.returns-in_default-clause-serves
+returns-in_default-clause-serves g c = serves_still _ _ _ _ _ refl refl refl refl tt
+
+pub returns-in-Some-cycle-clause-serves : goal.returns-in-Some-cycle-clause-serves
+returns-in-Some-cycle-clause-serves g c = serves_still _ _ _ _ _ refl refl refl refl tt
+
+pub returns-in-Ok-clause-serves : goal.returns-in-Ok-clause-serves
+returns-in-Ok-clause-serves g c =
+    let behind = c.in-Ok.ensures.serves in
+    let serves = behind.beside in
+    serves_answered _ _ _ _ _ (record {
+      beside = record {
+        volume = record { geometry = serves.volume.geometry; honest = serves.volume.honest; size = serves.volume.size };
+        durable = serves.durable;
+        first = serves.first;
+        any_moment = serves.any_moment;
+        damaged = λ front disk holds. tt;
+        forced = λ front disk holds. tt;
+        cause = serves.cause;
+      };
+      failed = behind.failed;
+      plain = behind.plain;
+    })
+
+pub returns-in-Err-clause-serves : goal.returns-in-Err-clause-serves
+returns-in-Err-clause-serves g c =
     let old = c.args.self.now in
     let v = c.in-Some.waiting in
-    subst (λ (x : Step). IfErr (fault_at x) (IsEarned (geometry_of old) disk (last_of old) (ReadsWaiting old c.args.session))) (sym c.refuse.ensures.refused)
-    (λ d offset is.
-    let why = c.in-Err.ensures.damaged front disk holds d offset is in
-    let page = why.1 in (why.0, (page.0, (v, c.in-Some.ensures.some.0, c.in-Some.ensures.some.1, page.1), page.2, page.3, page.4)))
-
-pub returns-in-Err-clause-forced : goal.returns-in-Err-clause-forced
-returns-in-Err-clause-forced g c = subst (λ (x : Step). NeedsForce c.args.self.now (fault_at x)) (sym c.refuse.ensures.refused) c.in-Err.ensures.forced
+    let serves = c.in-Err.ensures.serves.beside in
+    let first : Serves (ReadsWaiting old c.args.session) old (Err c.in-Err.fault) old c.take_locks.new.self = record {
+      volume = record { geometry = serves.volume.geometry; honest = serves.volume.honest; size = serves.volume.size };
+      durable = serves.durable;
+      first = serves.first;
+      any_moment = serves.any_moment;
+      damaged = λ front disk holds d offset is.
+          let why = serves.damaged front disk holds d offset is in
+          let page = why.1 in (why.0, (page.0, (v, c.in-Some.ensures.some.0, c.in-Some.ensures.some.1, page.1), page.2, page.3, page.4));
+      forced = serves.forced;
+      cause = serves.cause;
+    } in
+    serves_noted _ _ _ _ c.take_locks.new.self _ _ _ c.refuse.ensures.refused c.refuse.ensures.heap c.refuse.ensures.durable c.refuse.ensures.tail (λ needs. needs) first

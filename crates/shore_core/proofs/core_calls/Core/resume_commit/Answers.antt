@@ -1,16 +1,16 @@
 use Rattle.std.proofs.Common.{◌≡◌, ◌<◌, ◌≤◌, ◌+◌, length, inl, inr, refl, sym, ap, subst, ◌∙◌, arith}
-use Rattle.shore_lives.specs.Views.{IsAmong}
-use Rattle.shore_calls.specs.CallSteps.{ResumesWait, commit_ended}
-use Rattle.shore_calls.specs.SessionWaits.{IsCommitWait}
-use Rattle.shore_calls.specs.States.{State, Waiting}
-use Rattle.shore_calls.specs.declared.step.Step.TheVariants.{Done, Waits}
-use Rattle.shore_calls.specs.declared.step.Wait.{Wait}
-use Rattle.shore_calls.specs.declared.step.Wait.TheVariants.{Durable}
+use Rattle.laws_lives.specs.Views.{IsAmong}
+use Rattle.laws_calls.specs.CallSteps.{ResumesWait, commit_ended}
+use Rattle.laws_calls.specs.SessionWaits.{IsCommitWait}
+use Rattle.laws_calls.specs.States.{State, Waiting}
+use Rattle.shore_model.specs.declared.step.Step.TheVariants.{Done, Waits}
+use Rattle.shore_model.specs.declared.step.Wait.{Wait}
+use Rattle.shore_model.specs.declared.step.Wait.TheVariants.{Durable}
 use Rattle.shore_model.specs.declared.calls.Answer.TheVariants.{Committed}
 use Rattle.shore_txn.specs.Transactions as table
 use Rattle.shore_txn.specs.Transactions.{kept_in, room_in}
-use Rattle.shore_undo.specs.Txns.{last_of}
-use Rattle.shore_undo.specs.declared.txn.Txn.{Txn}
+use Rattle.shore_txn.specs.Txns.{last_of}
+use Rattle.shore_txn.specs.declared.txn.Txn.{Txn}
 use Rattle.shore_types.specs.declared.layout.TheConstants.{LAST_OPENED}
 use Rattle.shore_txn.specs.declared.transactions.Transactions.{Transactions}
 use Rattle.shore_core.specs.Cores.{first_of, geometry_of, waiting_of}
@@ -18,6 +18,7 @@ use Rattle.shore_core.proofs.Coming.{comes_same}
 use Rattle.shore_core.proofs.Going.{commit_waits, spared_commit}
 use Rattle.shore_core.proofs.Settling.{resumed_at_once, resumed_to_nothing}
 use Rattle.shore_core.proofs.Moving.{comes_moved}
+use Rattle.shore_core.proofs.Serving.{nothing_called}
 use Rattle.shore_core.proofs.core_calls.Core.resume_commit.Goals as goal
 
 pub returns-then-awaits_force-clause-step : goal.returns-then-awaits_force-clause-step
@@ -81,3 +82,9 @@ returns-clause-step g c running front disk before s store is safe over w m same 
           ));
       comes = comes_moved old _ front disk before s later store refl refl refl refl refl (λ p. ap (λ (t : Transactions). kept_in t p) c.end_commit.ensures.txns) stands refl refl refl (λ p. refl) is over;
     }
+
+pub returns-then-awaits_force-clause-no_call : goal.returns-then-awaits_force-clause-no_call
+returns-then-awaits_force-clause-no_call g c = nothing_called _ _ refl refl refl refl
+
+pub returns-clause-no_call : goal.returns-clause-no_call
+returns-clause-no_call g c = nothing_called _ _ refl refl refl refl

@@ -3,30 +3,27 @@ use Rattle.shore_types.specs.declared.faults.Fault.TheVariants as fault
 use Rattle.shore_types.specs.declared.layout.TheConstants.{LAST_OPENED, MAX_SAVEPOINTS}
 use Rattle.shore_model.specs.declared.calls.Answer.TheVariants.{Saved}
 use Rattle.shore_model.specs.declared.calls.Call.TheVariants as call
-use Rattle.shore_room.proofs.Leaving.{marked_slots}
-use Rattle.shore_lives.specs.Sessions.{SessionTxn}
-use Rattle.shore_calls.specs.StateChanges.{answered}
-use Rattle.shore_calls.specs.States.{State}
-use Rattle.shore_control.specs.Controls.{txns_in}
+use Rattle.laws_room.proofs.Leaving.{marked_slots}
+use Rattle.laws_lives.specs.Sessions.{SessionTxn}
+use Rattle.laws_calls.specs.StateChanges.{answered}
+use Rattle.laws_calls.specs.States.{State}
+use Rattle.shore_sessions.specs.Controls.{txns_in}
 use Rattle.shore_txn.proofs.OneOfMany.{once_same}
 use Rattle.shore_txn.specs.Transactions.{undos_in}
-use Rattle.shore_undo.specs.Txns.{as_session_txn}
+use Rattle.shore_txn.specs.Txns.{as_session_txn}
 use Rattle.shore_core.specs.Cores.{first_of, txns_of, waiting_of}
 use Rattle.shore_core.proofs.Changed.{earlier_marked}
 use Rattle.shore_core.proofs.Coming.{comes_same}
-use Rattle.shore_core.proofs.Keeping.{nothing_leaves}
 use Rattle.shore_core.proofs.Moving.{comes_moved}
 use Rattle.shore_core.proofs.Opening.{inner_savepoint, replied_not_open}
 use Rattle.shore_core.proofs.Taking.{replied_as}
+use Rattle.shore_core.proofs.Serving.{call_still, not_open_aside, refused_still}
 use Rattle.shore_core.proofs.core_calls.Core.savepoint.Goals as goal
 
 pub returns-in_err-own-clause-replied : goal.returns-in_err-own-clause-replied
 returns-in_err-own-clause-replied g c running front disk before s store is safe over idle =
     replied_not_open c.args.self.now front disk before s store c.args.session call.Savepoint c.from_residual.result c.in_err-own.field-0.0 is over inner_savepoint
     (is.beside.parts.failed_is ∙ running) idle c.from_residual.ensures.1 c.in_err-own.ensures.refused
-
-pub returns-in_err-own-clause-any_moment : goal.returns-in_err-own-clause-any_moment
-returns-in_err-own-clause-any_moment g c = nothing_leaves c.args.self.now
 
 pub returns-then-savepoints-ge-MAX_SAVEPOINTS-clause-replied : goal.returns-then-savepoints-ge-MAX_SAVEPOINTS-clause-replied
 returns-then-savepoints-ge-MAX_SAVEPOINTS-clause-replied g c running front disk before s store is safe over idle =
@@ -39,9 +36,6 @@ returns-then-savepoints-ge-MAX_SAVEPOINTS-clause-replied g c running front disk 
       replies = inr (inr (inr (inr (inr (is.beside.parts.failed_is ∙ running, idle, (a, its, inr (inl (c.in_ok-own.ensures.whole, inr (inr (inr (refl, (refl, many, refl))))))))))));
       comes = inr (comes_same old front disk before s store is over);
     }
-
-pub returns-then-savepoints-ge-MAX_SAVEPOINTS-clause-any_moment : goal.returns-then-savepoints-ge-MAX_SAVEPOINTS-clause-any_moment
-returns-then-savepoints-ge-MAX_SAVEPOINTS-clause-any_moment g c = nothing_leaves c.args.self.now
 
 pub savepoint-requires-clause-there : goal.savepoint-requires-clause-there
 savepoint-requires-clause-there g c = (as_session_txn c.in_ok-own.own.now, c.in_ok-own.ensures.there, c.in_ok-own.ensures.some.1)
@@ -71,9 +65,6 @@ returns-in_err-index-clause-replied g c running front disk before s store is saf
     (inr (comes_moved c.args.self.now _ front disk before s s store refl refl refl refl refl c.savepoint.ensures.claims (c.in_err-index.ensures.unchanged s is.beside.parts.stands) refl refl refl
     (λ p. refl) is over))
 
-pub returns-in_err-index-clause-any_moment : goal.returns-in_err-index-clause-any_moment
-returns-in_err-index-clause-any_moment g c = nothing_leaves c.args.self.now
-
 pub returns-clause-replied : goal.returns-clause-replied
 returns-clause-replied g c running front disk before s store is safe over idle =
     let old = c.args.self.now in
@@ -90,5 +81,15 @@ returns-clause-replied g c running front disk before s store is safe over idle =
           (λ p. marked_slots s.sessions.records s.sessions.active s.counts safe.roomy.pages a its.0 _ refl p (s.counts p)) is over;
     }
 
-pub returns-clause-any_moment : goal.returns-clause-any_moment
-returns-clause-any_moment g c = nothing_leaves c.args.self.now
+pub returns-in_err-own-clause-serves : goal.returns-in_err-own-clause-serves
+returns-in_err-own-clause-serves g c =
+    refused_still _ _ _ _ _ _ c.from_residual.ensures.1 refl refl refl refl (not_open_aside c.args.self.now c.args.session _ c.in_err-own.ensures.refused)
+
+pub returns-then-savepoints-ge-MAX_SAVEPOINTS-clause-serves : goal.returns-then-savepoints-ge-MAX_SAVEPOINTS-clause-serves
+returns-then-savepoints-ge-MAX_SAVEPOINTS-clause-serves g c = call_still _ _ _ _ _ refl refl refl refl tt tt
+
+pub returns-in_err-index-clause-serves : goal.returns-in_err-index-clause-serves
+returns-in_err-index-clause-serves g c = refused_still _ _ _ _ _ fault.Memory c.from_residual-in_err-index.ensures.1 refl refl refl refl tt
+
+pub returns-clause-serves : goal.returns-clause-serves
+returns-clause-serves g c = call_still _ _ _ _ _ refl refl refl refl tt refl

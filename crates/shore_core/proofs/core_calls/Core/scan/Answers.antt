@@ -1,13 +1,11 @@
-use Rattle.std.proofs.Common.{◌≡◌, sym, ap}
+use Rattle.std.proofs.Common.{sym, ap, refl}
 use Rattle.shore_model.specs.declared.calls.Answer.TheVariants.{Scanned}
 use Rattle.shore_model.specs.declared.calls.Call.TheVariants as call
-use Rattle.shore_pool.specs.Pools.{NeedsForce}
-use Rattle.shore_calls.proofs.PlainReads.{scan_leaves}
-use Rattle.shore_core.proofs.Earning.{earned_as}
-use Rattle.shore_core.proofs.Forcing.{forced_as}
+use Rattle.laws_calls.proofs.PlainReads.{scan_leaves}
 use Rattle.shore_core.proofs.Lookups.{scan_fault}
 use Rattle.shore_core.proofs.Taking.{served_as}
-use Rattle.shore_core.specs.Cores.{durable_of, geometry_of, heap_of, last_of}
+use Rattle.shore_core.specs.Cores.{geometry_of}
+use Rattle.shore_core.proofs.Serving.{call_then, nothing_called, refused_as}
 use Rattle.shore_core.proofs.core_calls.Core.scan.Goals as goal
 
 pub returns-in_err-pairs-clause-served : goal.returns-in_err-pairs-clause-served
@@ -23,12 +21,8 @@ returns-clause-served g c running front disk before s plain is safe over a mem =
   comes = c.in_ok-pairs.ensures.stays front disk before s plain is safe over;
 }
 
-pub returns-in_err-pairs-clause-damaged : goal.returns-in_err-pairs-clause-damaged
-returns-in_err-pairs-clause-damaged g c front disk holds =
-    let old = c.args.self.now in
-    earned_as (geometry_of old) disk (last_of old) (λ page. page.store ≡ c.args.store) c.from_residual.result _ c.from_residual.ensures.1 (c.in_err-pairs.ensures.damaged front disk holds)
+pub returns-in_err-pairs-clause-serves : goal.returns-in_err-pairs-clause-serves
+returns-in_err-pairs-clause-serves g c = refused_as _ _ _ _ _ _ c.from_residual.ensures.1 c.in_err-pairs.ensures.serves c.in_err-pairs.ensures.reads.failed
 
-pub returns-in_err-pairs-clause-forced : goal.returns-in_err-pairs-clause-forced
-returns-in_err-pairs-clause-forced g c front disk holds =
-    let old = c.args.self.now in
-    forced_as (NeedsForce (heap_of old).pool (durable_of old)) c.from_residual.result _ c.from_residual.ensures.1 (c.in_err-pairs.ensures.forced front disk holds)
+pub returns-clause-serves : goal.returns-clause-serves
+returns-clause-serves g c = call_then _ _ _ _ c.pairs_of.new.self _ _ _ c.in_ok-pairs.ensures.serves c.in_ok-pairs.ensures.reads.failed (nothing_called _ _ refl refl refl refl) tt refl

@@ -1,6 +1,6 @@
 use Rattle.std.proofs.Common.{◌≡◌, ◌≤◌, ◌+◌, length, length-append, refl, ap, ◌∙◌, arith}
-use Rattle.shore_lives.proofs.Invariant.{event_kept}
-use Rattle.shore_lives.specs.Recovery.{ForceLog, after_force}
+use Rattle.laws_lives.proofs.Invariant.{event_kept}
+use Rattle.laws_lives.specs.Recovery.{ForceLog, after_force}
 use Rattle.shore_core.specs.Cores.{control_of, durable_of, has_failed, waiting_of}
 use Rattle.shore_core.proofs.Taking.{parts_told}
 use Rattle.shore_core.proofs.core_calls.Core.told.Goals as goal

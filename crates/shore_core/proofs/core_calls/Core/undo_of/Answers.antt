@@ -1,7 +1,7 @@
 use Rattle.std.proofs.Common.{refl, sym, ap, ◌∙◌, arith}
 use Rattle.shore_types.specs.Images.{Image}
 use Rattle.shore_model.specs.declared.log_records.Payload.TheVariants.{Compensation}
-use Rattle.shore_room.proofs.Costs.{compensation_bytes}
+use Rattle.laws_room.proofs.Costs.{compensation_bytes}
 use Rattle.shore_core.specs.Cores.{txns_of}
 use Rattle.shore_core.proofs.Undoing.{none_of, short_last, some_short}
 use Rattle.shore_core.proofs.core_calls.Core.undo_of.Goals as goal

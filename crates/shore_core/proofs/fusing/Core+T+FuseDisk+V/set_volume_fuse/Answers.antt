@@ -1,4 +1,4 @@
-use Rattle.shore_calls.specs.States.{page_slots}
+use Rattle.laws_calls.specs.States.{page_slots}
 use Rattle.shore_txn.specs.Transactions.{kept_in}
 use Rattle.shore_core.specs.Cores.{heap_of, txns_of}
 use Rattle.shore_core.proofs.Coming.{same_store}

@@ -9,8 +9,8 @@ pub returns-clause-refused : goal.returns-clause-refused
 returns-clause-refused g c front pages s =
     let k = page_number c.args.self.now.geometry c.args.id in
     let bytes = c.read_at.new.out in
-    let at_is : c.page_offset-at.result ≡ page_offset k = c.page_offset-at.ensures ∙ ap page_offset c.page_number.ensures.number in
-    let within : k < page_count c.args.self.now.geometry = subst (λ (n : ℕ). n < page_count c.args.self.now.geometry) c.page_number.ensures.number c.page_number.ensures.within in
+    let at_is : c.page_offset-at.result ≡ page_offset k = c.page_offset-at.ensures ∙ ap page_offset c.number.ensures.number in
+    let within : k < page_count c.args.self.now.geometry = subst (λ (n : ℕ). n < page_count c.args.self.now.geometry) c.number.ensures.number c.number.ensures.within in
     let read : bytes ≡ pages k =
     c.in_ok-read_at.ensures.read s.honest ∙ ap (λ (l : List ℕ). take 8192 (drop c.page_offset-at.result l)) s.stands.read ∙ ap (λ (n : ℕ). take 8192 (drop n s.image)) at_is ∙ s.in_place k within in
     on_err c.find_page.result c.find_page.ensures.refused (λ fault cause. elim cause [

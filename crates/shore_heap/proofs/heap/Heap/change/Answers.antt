@@ -4,8 +4,8 @@ use Rattle.shore_dwrite.specs.Settled as settled_device
 use Rattle.shore_dwrite.specs.declared.device.PageDev.{PageDev}
 use Rattle.shore_dwrite.specs.Volumes.{page_number}
 use Rattle.shore_page.specs.Room.{Fits}
-use Rattle.shore_page.specs.Slots.{Slot, image_len, with_image}
-use Rattle.shore_types.specs.Images.{Image}
+use Rattle.shore_page.specs.Slots.{Slot, with_image}
+use Rattle.shore_types.specs.Images.{image_len, Image}
 use Rattle.shore_pool.specs.Changes.{changed}
 use Rattle.shore_pool.specs.Pools as pools
 use Rattle.shore_pool.specs.declared.pool.Pool.{Pool}
@@ -47,7 +47,7 @@ returns-else-gone-clause-shows g c K front disk S shows =
 
 pub returns-then-gone-clause-untouched : goal.returns-then-gone-clause-untouched
 returns-then-gone-clause-untouched g c front disk holds = (
-  subst (λ (p : Pool _ g.D.Disk). pools.Holds p front disk) (sym c.forget.ensures.pool) (c.change.ensures.kept front disk holds),
+  subst (λ (p : Pool _ g.D.Disk). pools.PoolHolds p front disk) (sym c.forget.ensures.pool) (c.change.ensures.kept front disk holds),
   ap (λ (p : Pool _ g.D.Disk). pools.history_of p) c.forget.ensures.pool ∙ ap (λ (d : PageDev _ g.D.Disk). g.D.Disk.history (settled_device.device_of d)) c.change.ensures.device,
 )
 

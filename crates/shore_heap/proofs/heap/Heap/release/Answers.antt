@@ -40,6 +40,6 @@ returns-else-has_slot-clause-told g c K L front disk S shows none others fit =
 
 pub returns-else-has_slot-clause-untouched : goal.returns-else-has_slot-clause-untouched
 returns-else-has_slot-clause-untouched g c front disk holds = (
-  subst (λ (p : Pool _ g.D.Disk). pools.Holds p front disk) (sym c.forget.ensures.pool) holds,
+  subst (λ (p : Pool _ g.D.Disk). pools.PoolHolds p front disk) (sym c.forget.ensures.pool) holds,
   ap (λ (p : Pool _ g.D.Disk). pools.history_of p) c.forget.ensures.pool,
 )

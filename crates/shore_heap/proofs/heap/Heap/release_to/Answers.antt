@@ -30,7 +30,7 @@ returns-clause-shows g c K front disk S shows =
 
 pub returns-clause-untouched : goal.returns-clause-untouched
 returns-clause-untouched g c front disk holds = (
-  subst (λ (p : Pool _ g.D.Disk). pools.Holds p front disk) (sym c.forget.ensures.pool) (c.unreserve.ensures.kept front disk holds).0,
+  subst (λ (p : Pool _ g.D.Disk). pools.PoolHolds p front disk) (sym c.forget.ensures.pool) (c.unreserve.ensures.kept front disk holds).0,
   ap (λ (p : Pool _ g.D.Disk). pools.history_of p) c.forget.ensures.pool ∙ ap (λ (d : PageDev _ g.D.Disk). g.D.Disk.history (settled_device.device_of d)) c.unreserve.ensures.device,
 )
 

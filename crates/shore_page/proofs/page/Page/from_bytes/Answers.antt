@@ -3,8 +3,8 @@ use Rattle.std.proofs.lemmas.List.{length-map}
 use Rattle.std.specs.Prelude.{IfSome}
 use Rattle.shore_types.specs.declared.ids.PageId.{PageId}
 use Rattle.shore_page.proofs.SlotsRead.{some_is}
-use Rattle.shore_types.specs.Images.{Image}
-use Rattle.shore_page.specs.Slots.{Slot, image_len, settled}
+use Rattle.shore_types.specs.Images.{Image, image_len}
+use Rattle.shore_page.specs.Slots.{Slot, settled}
 use Rattle.shore_page.specs.Text.{IsPageText, settled_page}
 use Rattle.shore_page.specs.Layout.{PageImages, slots_of, record_bytes}
 use Rattle.shore_page.proofs.PageLemmas.{page_of, images_of-slots, slots_settled, settled_kept, text_short, with_slots}

@@ -1,7 +1,8 @@
 use Rattle.std.proofs.Common.{◌≡◌, max, min, ℕ, List, get_or, None, ap, ◌∙◌, arith, vec_capacity}
 use Rattle.std.proofs.Math.ListN.{set}
 use Rattle.std.proofs.lemmas.List.{get_or_default}
-use Rattle.shore_page.specs.Slots.{Slot, PageState, image_len, with_change}
+use Rattle.shore_page.specs.Slots.{Slot, PageState, with_change}
+use Rattle.shore_types.specs.Images.{image_len}
 use Rattle.shore_page.specs.Room.{lowered}
 use Rattle.shore_page.specs.Layout.{slots_of}
 use Rattle.shore_page.proofs.PageLemmas.{claim_at-slots, claim_lowered, slots_lowered, same_but_slots, slot_inside, claim_at-most}

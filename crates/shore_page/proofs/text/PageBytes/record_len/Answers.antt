@@ -1,5 +1,5 @@
 use Rattle.std.proofs.Common.{◌≡◌, ◌<◌, ℕ, List, length, get_or, None, sym, ap, ◌∙◌, arith}
-use Rattle.shore_page.specs.Slots.{image_len}
+use Rattle.shore_types.specs.Images.{image_len}
 use Rattle.shore_page.specs.Text.{table_of, offset_at, length_at}
 use Rattle.shore_page.specs.Layout.{PageImages}
 use Rattle.shore_page.proofs.LayoutLemmas.{length-images, get-images, entry_short}

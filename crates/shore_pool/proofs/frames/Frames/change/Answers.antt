@@ -15,12 +15,6 @@ invariant_of-self-clause-within c =
     (content_changes old.slots old.table.items old.limit c.args.number c.in-Some.key c.in-Some-get_mut.frame.now c.change.new.self old.indexed old.within (sym c.key.ensures.key ∙ c.in-Some.is)
     c.in-Some.ensures.within (sym c.in-Some-get_mut.ensures.value) (ap (λ (f : Frame). f.number) c.change.ensures)).within
 
-pub invariant_of-self-clause-counted : goal.invariant_of-self-clause-counted
-invariant_of-self-clause-counted c =
-    let old = c.args.self.now in
-    (content_changes old.slots old.table.items old.limit c.args.number c.in-Some.key c.in-Some-get_mut.frame.now c.change.new.self old.indexed old.within (sym c.key.ensures.key ∙ c.in-Some.is)
-    c.in-Some.ensures.within (sym c.in-Some-get_mut.ensures.value) (ap (λ (f : Frame). f.number) c.change.ensures)).count ∙ old.counted
-
 pub returns-in-Some-get_mut-clause-others : goal.returns-in-Some-get_mut-clause-others
 returns-in-Some-get_mut-clause-others c =
     let old = c.args.self.now in

@@ -16,7 +16,7 @@ pub loop-place-preserved : goal.loop-place-preserved
 loop-place-preserved c k f is low high due =
     let place = c.loop-place.place in
     let at = frame_at c.args.self.now in
-    let none = if_none ((f : Frame) → at place ≡ Some f → IsDue c.args.seen f → ⊥) c.due_in-due.result (sym c.is_some.ensures ∙ c.if-is_some.false) c.due_in-due.ensures.none in
+    let none = if_none ((f : Frame) → at place ≡ Some f → IsDue c.args.durable f → ⊥) c.due_in-due.result (sym c.is_some.ensures ∙ c.if-is_some.false) c.due_in-due.ensures.none in
     elim (cases_lt k place) [
       | inl before ↦ c.loop-place.invariant k f is low before due
       | inr after ↦

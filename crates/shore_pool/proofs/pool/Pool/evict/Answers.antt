@@ -25,22 +25,22 @@ returns-in-Some-clause-kept g c front disk holds =
     record {
       left = disk;
       holds = freed.0;
-      may = as_it_was (settled_device.geometry_of old.device) at c.args.seen front disk;
+      may = as_it_was (settled_device.geometry_of old.device) at c.args.durable front disk;
       same = subst (λ (now : ℕ → Option Frame). SamePages now disk (frame_at c.free.new.self) disk) same freed.1;
     }
 
 pub returns-in-Some-clause-any_moment : goal.returns-in-Some-clause-any_moment
 returns-in-Some-clause-any_moment g c front disk holds =
     let old = c.args.self.now in
-    subst (λ (d : PageDev _ _). LeavesOnly (history_of old) (g.D.Disk.history (settled_device.device_of d)) (LeavesPages old c.args.seen front disk)) (sym c.free.ensures.device)
-    (while_still old.device (frame_at old) c.args.seen front disk holds.settled)
+    subst (λ (d : PageDev _ _). LeavesOnly (history_of old) (g.D.Disk.history (settled_device.device_of d)) (LeavesPages old c.args.durable front disk)) (sym c.free.ensures.device)
+    (while_still old.device (frame_at old) c.args.durable front disk holds.settled)
 
 pub returns-clause-kept : goal.returns-clause-kept
 returns-clause-kept g c front disk holds =
     let old = c.args.self.now in
     let at = maps.frame_at old.frames in
     let same = alike at (maps.frame_at c.cold.new.self) c.cold.ensures.same in
-    kept_from old _ c.steal.new.self same c.args.seen front disk c.steal.result
+    kept_from old _ c.steal.new.self same c.args.durable front disk c.steal.result
     (c.steal.ensures.kept front disk (record { settled = holds.settled; written = subst (λ (now : ℕ → Option Frame). AreWritten now disk) (sym same) holds.written }))
 
 pub returns-clause-refused : goal.returns-clause-refused
@@ -48,14 +48,14 @@ returns-clause-refused g c =
     let old = c.args.self.now in
     let at = maps.frame_at old.frames in
     let same = alike at (maps.frame_at c.cold.new.self) c.cold.ensures.same in
-    refused_from old _ same c.args.seen c.steal.result (c.steal.ensures.refused (subst (λ (now : ℕ → Option Frame). (k : ℕ) (f : Frame) → now k ≡ Some f → f.recovery ≢ None) (sym same) c.in_default.ensures.none))
+    refused_from old _ same c.args.durable c.steal.result (c.steal.ensures.refused (subst (λ (now : ℕ → Option Frame). (k : ℕ) (f : Frame) → now k ≡ Some f → f.recovery ≢ None) (sym same) c.in_default.ensures.none))
 
 pub returns-clause-any_moment : goal.returns-clause-any_moment
 returns-clause-any_moment g c front disk holds =
     let old = c.args.self.now in
     let at = maps.frame_at old.frames in
     let same = alike at (maps.frame_at c.cold.new.self) c.cold.ensures.same in
-    subst (λ (now : ℕ → Option Frame). LeavesOnly (history_of old) (history_of c.steal.new.self) (Leaves (settled_device.geometry_of old.device) now c.args.seen front disk)) same
+    subst (λ (now : ℕ → Option Frame). LeavesOnly (history_of old) (history_of c.steal.new.self) (Leaves (settled_device.geometry_of old.device) now c.args.durable front disk)) same
     (c.steal.ensures.any_moment front disk (record { settled = holds.settled; written = subst (λ (now : ℕ → Option Frame). AreWritten now disk) (sym same) holds.written }))
 
 pub returns-clause-unmoved : goal.returns-clause-unmoved

@@ -1,4 +1,4 @@
-use Rattle.std.proofs.Common.{◌≡◌, ℕ, List, Option, Some, None, inl, inr, refl, sym, ap, subst, ◌∙◌, arith}
+use Rattle.std.proofs.Common.{◌≡◌, ℕ, List, Option, None, inl, inr, sym, ap, subst, ◌∙◌}
 use Rattle.shore_disk.specs.Device.{History, LeavesOnly}
 use Rattle.shore_types.specs.declared.faults.Device.TheVariants as Device
 use Rattle.shore_types.specs.declared.faults.Fault.{Fault}
@@ -12,8 +12,7 @@ use Rattle.shore_pool.specs.Pages.{AreInOrder, AreWritten}
 use Rattle.shore_pool.specs.Pools.{LeavesPages, WroteBack, frame_at, geometry_of, history_of}
 use Rattle.shore_pool.proofs.Moments.{Leaves, as_it_was, while_still}
 use Rattle.shore_pool.proofs.Same.{pages_stay}
-use Rattle.shore_pool.proofs.Steps.{alike, force_from, left_alone, match_err, none_is, wrote_from, wrote_then}
-use Rattle.shore_pool.proofs.Still.{fewer, held_still, is_no_err, no_force, only_read}
+use Rattle.shore_pool.proofs.Steps.{alike, force_from, left_alone, match_err, no_force, none_is, wrote_from, wrote_then}
 use Rattle.shore_pool.proofs.pool.Pool.fetch.Goals as goal
 
 pub invariant_of-self-clause-in_order : goal.invariant_of-self-clause-in_order
@@ -31,20 +30,20 @@ returns-then-touch-clause-kept g c front disk holds =
     record {
       left = disk;
       holds = record { settled = holds.settled; written = subst (λ (a : ℕ → Option Frame). AreWritten a disk) (sym same) holds.written };
-      may = as_it_was (settled_device.geometry_of old.device) at c.args.seen front disk;
+      may = as_it_was (settled_device.geometry_of old.device) at c.args.ends.now.durable front disk;
       same = pages_stay at now disk c.touch.ensures.same;
     }
 
 pub returns-then-touch-clause-any_moment : goal.returns-then-touch-clause-any_moment
-returns-then-touch-clause-any_moment g c front disk holds = while_still c.args.self.now.device (frame_at c.args.self.now) c.args.seen front disk holds.settled
+returns-then-touch-clause-any_moment g c front disk holds = while_still c.args.self.now.device (frame_at c.args.self.now) c.args.ends.now.durable front disk holds.settled
 
 pub returns-in_err-make_room-clause-kept : goal.returns-in_err-make_room-clause-kept
 returns-in_err-make_room-clause-kept g c front disk holds =
     let old = c.args.self.now in
     let same = alike (maps.frame_at old.frames) (maps.frame_at c.touch.new.self) c.touch.ensures.same in
-    match_err (WroteBack old c.make_room.new.self c.args.seen front disk) c.from_residual.result c.from_residual.ensures.1 (λ fault is. elim (c.in_err-make_room.ensures.kept front disk (record { settled = holds.settled; written = subst (λ (a : ℕ → Option Frame). AreWritten a disk) (sym same) holds.written })) [
+    match_err (WroteBack old c.make_room.new.self c.args.ends.now.durable front disk) c.from_residual.result c.from_residual.ensures.1 (λ fault is. elim (c.in_err-make_room.ensures.kept front disk (record { settled = holds.settled; written = subst (λ (a : ℕ → Option Frame). AreWritten a disk) (sym same) holds.written })) [
       | inl device ↦ inl (is ∙ device)
-      | inr w ↦ inr (wrote_from old _ c.make_room.new.self same c.args.seen front disk w)
+      | inr w ↦ inr (wrote_from old _ c.make_room.new.self same c.args.ends.now.durable front disk w)
     ])
 
 pub returns-in_err-make_room-clause-refused : goal.returns-in_err-make_room-clause-refused
@@ -55,7 +54,7 @@ returns-in_err-make_room-clause-refused g c front disk holds =
       | inl device ↦ inl (is ∙ device)
       | inr other ↦ elim other [
         | inl memory ↦ inr (inl (is ∙ memory))
-        | inr force ↦ inr (inr (inr (force.0, is ∙ force.1, force_from old _ same c.args.seen force.0 force.2)))
+        | inr force ↦ inr (inr (inr (force.0, is ∙ force.1, force_from old _ same c.args.ends.now.durable force.0 force.2)))
       ]
     ])
 
@@ -63,7 +62,7 @@ pub returns-in_err-make_room-clause-any_moment : goal.returns-in_err-make_room-c
 returns-in_err-make_room-clause-any_moment g c front disk holds =
     let old = c.args.self.now in
     let same = alike (maps.frame_at old.frames) (maps.frame_at c.touch.new.self) c.touch.ensures.same in
-    subst (λ (a : ℕ → Option Frame). LeavesOnly (history_of old) (history_of c.make_room.new.self) (Leaves (settled_device.geometry_of old.device) a c.args.seen front disk)) same
+    subst (λ (a : ℕ → Option Frame). LeavesOnly (history_of old) (history_of c.make_room.new.self) (Leaves (settled_device.geometry_of old.device) a c.args.ends.now.durable front disk)) same
     (c.make_room.ensures.any_moment front disk (record { settled = holds.settled; written = subst (λ (a : ℕ → Option Frame). AreWritten a disk) (sym same) holds.written }))
 
 pub returns-in_err-read-clause-kept : goal.returns-in_err-read-clause-kept
@@ -71,8 +70,8 @@ returns-in_err-read-clause-kept g c front disk holds =
     let old = c.args.self.now in
     let same = alike (maps.frame_at old.frames) (maps.frame_at c.touch.new.self) c.touch.ensures.same in
     let w = c.in_ok-make_room.ensures.kept front disk (record { settled = holds.settled; written = subst (λ (a : ℕ → Option Frame). AreWritten a disk) (sym same) holds.written }) in
-    match_err (WroteBack old c.read.new.self c.args.seen front disk) c.from_residual-in_err-read.result c.from_residual-in_err-read.ensures.1
-    (λ fault is. inr (wrote_from old _ c.read.new.self same c.args.seen front disk (wrote_then _ c.make_room.new.self c.read.new.self c.args.seen front disk w (c.read.ensures.kept front w.left w.holds))))
+    match_err (WroteBack old c.read.new.self c.args.ends.now.durable front disk) c.from_residual-in_err-read.result c.from_residual-in_err-read.ensures.1
+    (λ fault is. inr (wrote_from old _ c.read.new.self same c.args.ends.now.durable front disk (wrote_then _ c.make_room.new.self c.read.new.self c.args.ends.now.durable front disk w (c.read.ensures.kept front w.left w.holds))))
 
 pub returns-in_err-read-clause-refused : goal.returns-in_err-read-clause-refused
 returns-in_err-read-clause-refused g c front disk holds =
@@ -86,14 +85,14 @@ returns-in_err-read-clause-refused g c front disk holds =
     let w = c.in_ok-make_room.ensures.kept front disk (record { settled = holds.settled; written = subst (λ (a : ℕ → Option Frame). AreWritten a disk) (sym same) holds.written }) in
     let none : at n ≡ None = ap at (sym c.number-number.ensures.number) ∙ none_is (at c.number-number.result) (sym c.touch.ensures.there ∙ c.if-touch.false) in
     let number_is : page_number (geometry_of c.make_room.new.self) id ≡ n = ap (λ (it : Geometry). page_number it id) c.make_room.ensures.geometry in
-    let text_is : w.left (page_number (geometry_of c.make_room.new.self) id) ≡ disk n = ap w.left number_is ∙ left_alone now c.args.seen disk w.left n w.may (c.touch.ensures.same n ∙ none) in
+    let text_is : w.left (page_number (geometry_of c.make_room.new.self) id) ≡ disk n = ap w.left number_is ∙ left_alone now c.args.ends.now.durable disk w.left n w.may (c.touch.ensures.same n ∙ none) in
     if_err c.from_residual-in_err-read.result c.from_residual-in_err-read.ensures.1 (λ fault is. elim (c.in_err-read.ensures.refused front w.left w.holds) [
       | inl device ↦ inl (is ∙ device)
       | inr other ↦ elim other [
         | inl memory ↦ inr (inl (is ∙ memory))
         | inr damaged ↦ inr (inr (inl (
           is ∙ damaged.0 ∙ ap (λ (k : ℕ). Fault.Damaged Device.Volume (page_offset k)) number_is,
-          subst (λ (text : List ℕ). HasNoPage text id c.args.last) text_is damaged.1,
+          subst (λ (text : List ℕ). HasNoPage text id c.args.ends.now.last) text_is damaged.1,
           none,
         )))
       ]
@@ -104,8 +103,8 @@ returns-in_err-read-clause-any_moment g c front disk holds =
     let old = c.args.self.now in
     let same = alike (maps.frame_at old.frames) (maps.frame_at c.touch.new.self) c.touch.ensures.same in
     let w = c.in_ok-make_room.ensures.kept front disk (record { settled = holds.settled; written = subst (λ (a : ℕ → Option Frame). AreWritten a disk) (sym same) holds.written }) in
-    subst (λ (h : History). LeavesOnly (history_of old) h (LeavesPages old c.args.seen front disk)) (sym (c.read.ensures.history front w.left w.holds))
-    (subst (λ (a : ℕ → Option Frame). LeavesOnly (history_of old) (history_of c.make_room.new.self) (Leaves (settled_device.geometry_of old.device) a c.args.seen front disk)) same (c.make_room.ensures.any_moment front disk (record { settled = holds.settled; written = subst (λ (a : ℕ → Option Frame). AreWritten a disk) (sym same) holds.written })))
+    subst (λ (h : History). LeavesOnly (history_of old) h (LeavesPages old c.args.ends.now.durable front disk)) (sym (c.read.ensures.history front w.left w.holds))
+    (subst (λ (a : ℕ → Option Frame). LeavesOnly (history_of old) (history_of c.make_room.new.self) (Leaves (settled_device.geometry_of old.device) a c.args.ends.now.durable front disk)) same (c.make_room.ensures.any_moment front disk (record { settled = holds.settled; written = subst (λ (a : ℕ → Option Frame). AreWritten a disk) (sym same) holds.written })))
 
 pub returns-clause-read : goal.returns-clause-read
 returns-clause-read g c front disk holds how =
@@ -120,88 +119,15 @@ returns-clause-kept g c front disk holds =
     let old = c.args.self.now in
     let same = alike (maps.frame_at old.frames) (maps.frame_at c.touch.new.self) c.touch.ensures.same in
     let w = c.in_ok-make_room.ensures.kept front disk (record { settled = holds.settled; written = subst (λ (a : ℕ → Option Frame). AreWritten a disk) (sym same) holds.written }) in
-    wrote_from old _ c.read.new.self same c.args.seen front disk (wrote_then _ c.make_room.new.self c.read.new.self c.args.seen front disk w (c.read.ensures.kept front w.left w.holds))
+    wrote_from old _ c.read.new.self same c.args.ends.now.durable front disk (wrote_then _ c.make_room.new.self c.read.new.self c.args.ends.now.durable front disk w (c.read.ensures.kept front w.left w.holds))
 
 pub returns-clause-any_moment : goal.returns-clause-any_moment
 returns-clause-any_moment g c front disk holds =
     let old = c.args.self.now in
     let same = alike (maps.frame_at old.frames) (maps.frame_at c.touch.new.self) c.touch.ensures.same in
     let w = c.in_ok-make_room.ensures.kept front disk (record { settled = holds.settled; written = subst (λ (a : ℕ → Option Frame). AreWritten a disk) (sym same) holds.written }) in
-    subst (λ (h : History). LeavesOnly (history_of old) h (LeavesPages old c.args.seen front disk)) (sym (c.read.ensures.history front w.left w.holds))
-    (subst (λ (a : ℕ → Option Frame). LeavesOnly (history_of old) (history_of c.make_room.new.self) (Leaves (settled_device.geometry_of old.device) a c.args.seen front disk)) same (c.make_room.ensures.any_moment front disk (record { settled = holds.settled; written = subst (λ (a : ℕ → Option Frame). AreWritten a disk) (sym same) holds.written })))
-
-pub returns-then-touch-clause-still : goal.returns-then-touch-clause-still
-returns-then-touch-clause-still g c many front disk holds =
-    let old = c.args.self.now in
-    let same = alike (maps.frame_at old.frames) (maps.frame_at c.touch.new.self) c.touch.ensures.same in
-    record {
-      holds = record { settled = holds.settled; written = subst (λ (a : ℕ → Option Frame). AreWritten a disk) (sym same) holds.written };
-      history = refl;
-      stay = λ k f is. c.touch.ensures.same k ∙ is;
-      others = λ k apart. c.touch.ensures.same k;
-    }
-
-pub returns-in_err-make_room-clause-still : goal.returns-in_err-make_room-clause-still
-returns-in_err-make_room-clause-still g c many front disk holds =
-    let old = c.args.self.now in
-    let same = alike (maps.frame_at old.frames) (maps.frame_at c.touch.new.self) c.touch.ensures.same in
-    let absent = none_is (maps.frame_at old.frames c.number-number.result) (sym c.touch.ensures.there ∙ c.if-touch.false) in
-    let few = fewer old.frames c.number-number.result (omega (arith, c.number-number.ensures.within, old.pages)) absent (omega (arith, many, old.pages)) in
-    let idle = c.make_room.ensures.idle (omega (arith, few, c.touch.ensures.shape.count, c.touch.ensures.shape.limit)) in
-    absurd (is_no_err c.make_room.result _ c.in_err-make_room.was idle.0)
-
-pub returns-in_err-make_room-clause-none_came : goal.returns-in_err-make_room-clause-none_came
-returns-in_err-make_room-clause-none_came g c many front disk holds =
-    let old = c.args.self.now in
-    let same = alike (maps.frame_at old.frames) (maps.frame_at c.touch.new.self) c.touch.ensures.same in
-    let absent = none_is (maps.frame_at old.frames c.number-number.result) (sym c.touch.ensures.there ∙ c.if-touch.false) in
-    let few = fewer old.frames c.number-number.result (omega (arith, c.number-number.ensures.within, old.pages)) absent (omega (arith, many, old.pages)) in
-    let idle = c.make_room.ensures.idle (omega (arith, few, c.touch.ensures.shape.count, c.touch.ensures.shape.limit)) in
-    absurd (is_no_err c.make_room.result _ c.in_err-make_room.was idle.0)
-
-pub returns-in_err-read-clause-still : goal.returns-in_err-read-clause-still
-returns-in_err-read-clause-still g c many front disk holds =
-    let old = c.args.self.now in
-    let same = alike (maps.frame_at old.frames) (maps.frame_at c.touch.new.self) c.touch.ensures.same in
-    let absent = none_is (maps.frame_at old.frames c.number-number.result) (sym c.touch.ensures.there ∙ c.if-touch.false) in
-    let few = fewer old.frames c.number-number.result (omega (arith, c.number-number.ensures.within, old.pages)) absent (omega (arith, many, old.pages)) in
-    let idle = c.make_room.ensures.idle (omega (arith, few, c.touch.ensures.shape.count, c.touch.ensures.shape.limit)) in
-    let mid = c.make_room.new.self in
-    let device = ap (λ p. p.device) idle.1 in
-    let frames = ap frame_at idle.1 ∙ same in
-    let held = c.read.ensures.kept front disk (held_still old mid front disk device frames holds) in
-    only_read old mid c.read.new.self c.args.id frames (ap history_of idle.1) c.make_room.ensures.geometry front disk (ap (maps.frame_at old.frames) (sym c.number-number.ensures.number) ∙ absent) held.0
-    (c.read.ensures.history front disk (held_still old mid front disk device frames holds)) c.read.ensures.others
-
-pub returns-in_err-read-clause-none_came : goal.returns-in_err-read-clause-none_came
-returns-in_err-read-clause-none_came g c many front disk holds =
-    let old = c.args.self.now in
-    let same = alike (maps.frame_at old.frames) (maps.frame_at c.touch.new.self) c.touch.ensures.same in
-    let absent = none_is (maps.frame_at old.frames c.number-number.result) (sym c.touch.ensures.there ∙ c.if-touch.false) in
-    let few = fewer old.frames c.number-number.result (omega (arith, c.number-number.ensures.within, old.pages)) absent (omega (arith, many, old.pages)) in
-    let idle = c.make_room.ensures.idle (omega (arith, few, c.touch.ensures.shape.count, c.touch.ensures.shape.limit)) in
-    let mid = c.make_room.new.self in
-    let device = ap (λ p. p.device) idle.1 in
-    let frames = ap frame_at idle.1 ∙ same in
-    let held = c.read.ensures.kept front disk (held_still old mid front disk device frames holds) in
-    if_err c.from_residual-in_err-read.result c.from_residual-in_err-read.ensures.1 (λ fault is. (
-      λ number. no_force _ _ number _ fault is (c.in_err-read.ensures.refused front disk (held_still old mid front disk device frames holds)),
-      λ k. c.in_err-read.ensures.none_came k ∙ ap (λ (a : ℕ → Option Frame). a k) frames,
-    ))
-
-pub returns-clause-still : goal.returns-clause-still
-returns-clause-still g c many front disk holds =
-    let old = c.args.self.now in
-    let same = alike (maps.frame_at old.frames) (maps.frame_at c.touch.new.self) c.touch.ensures.same in
-    let absent = none_is (maps.frame_at old.frames c.number-number.result) (sym c.touch.ensures.there ∙ c.if-touch.false) in
-    let few = fewer old.frames c.number-number.result (omega (arith, c.number-number.ensures.within, old.pages)) absent (omega (arith, many, old.pages)) in
-    let idle = c.make_room.ensures.idle (omega (arith, few, c.touch.ensures.shape.count, c.touch.ensures.shape.limit)) in
-    let mid = c.make_room.new.self in
-    let device = ap (λ p. p.device) idle.1 in
-    let frames = ap frame_at idle.1 ∙ same in
-    let held = c.read.ensures.kept front disk (held_still old mid front disk device frames holds) in
-    only_read old mid c.read.new.self c.args.id frames (ap history_of idle.1) c.make_room.ensures.geometry front disk (ap (maps.frame_at old.frames) (sym c.number-number.ensures.number) ∙ absent) held.0
-    (c.read.ensures.history front disk (held_still old mid front disk device frames holds)) c.read.ensures.others
+    subst (λ (h : History). LeavesOnly (history_of old) h (LeavesPages old c.args.ends.now.durable front disk)) (sym (c.read.ensures.history front w.left w.holds))
+    (subst (λ (a : ℕ → Option Frame). LeavesOnly (history_of old) (history_of c.make_room.new.self) (Leaves (settled_device.geometry_of old.device) a c.args.ends.now.durable front disk)) same (c.make_room.ensures.any_moment front disk (record { settled = holds.settled; written = subst (λ (a : ℕ → Option Frame). AreWritten a disk) (sym same) holds.written })))
 
 pub returns-in_err-make_room-clause-unmoved : goal.returns-in_err-make_room-clause-unmoved
 returns-in_err-make_room-clause-unmoved g c front disk holds =

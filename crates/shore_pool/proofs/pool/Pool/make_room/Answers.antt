@@ -3,4 +3,4 @@ use Rattle.shore_pool.proofs.Moments.{while_still}
 use Rattle.shore_pool.proofs.pool.Pool.make_room.Goals as goal
 
 pub returns-clause-any_moment : goal.returns-clause-any_moment
-returns-clause-any_moment g c front disk holds = while_still c.args.self.now.device (frame_at c.args.self.now) c.args.seen front disk holds.settled
+returns-clause-any_moment g c front disk holds = while_still c.args.self.now.device (frame_at c.args.self.now) c.args.durable front disk holds.settled

@@ -15,7 +15,7 @@ returns-clause-within g c =
     let old = c.args.self.now in
     let at = maps.frame_at old.frames in
     let geometry = settled_device.geometry_of old.device in
-    if_some (λ k. IsSomeAnd (at k) (IsDue c.args.seen)) (λ k. k < 65536) c.next_due.result (λ k has.
-    let within : k < page_count geometry = order_within at geometry old.in_order (IsDue c.args.seen) k has in
+    if_some (λ k. IsSomeAnd (at k) (IsDue c.args.durable)) (λ k. k < 65536) c.next_due.result (λ k has.
+    let within : k < page_count geometry = order_within at geometry old.in_order (IsDue c.args.durable) k has in
     let few : page_count geometry ≤ 65536 = old.device.few in
     omega (arith, within, few)) c.next_due.ensures.due

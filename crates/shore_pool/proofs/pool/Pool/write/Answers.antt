@@ -22,9 +22,9 @@ write_batch-requires g c =
     subst (λ (l : List ℕ). IsBatch (settled_device.geometry_of old.device) l (texts_of batch)) (sym c.in_ok-gather.ensures.numbers) is
 
 pub returns-in_err-gather-clause-any_moment : goal.returns-in_err-gather-clause-any_moment
-returns-in_err-gather-clause-any_moment g c front disk seen holds up_to =
+returns-in_err-gather-clause-any_moment g c front disk durable holds up_to =
     let old = c.args.self.now in
-    while_still old.device (maps.frame_at old.frames) seen front disk holds.settled
+    while_still old.device (maps.frame_at old.frames) durable front disk holds.settled
 
 pub invariant_of-self-in-Break-branch-2 : goal.invariant_of-self-in-Break-branch-2
 invariant_of-self-in-Break-branch-2 g c = record {
@@ -34,26 +34,26 @@ invariant_of-self-in-Break-branch-2 g c = record {
 }
 
 pub returns-in_err-write_batch-clause-any_moment : goal.returns-in_err-write_batch-clause-any_moment
-returns-in_err-write_batch-clause-any_moment g c front disk seen holds up_to =
+returns-in_err-write_batch-clause-any_moment g c front disk durable holds up_to =
     let old = c.args.self.now in
     let at = maps.frame_at old.frames in
     let geometry = settled_device.geometry_of old.device in
     let numbers = c.args.numbers.now in
     let texts = texts_of c.gather.new.batch in
     let are = c.in_ok-gather.ensures.texts in
-    while_written geometry at seen front disk _ _ (overlaid numbers texts disk) (may_be_left at seen numbers texts disk are up_to)
+    while_written geometry at durable front disk _ _ (overlaid numbers texts disk) (may_be_left at durable numbers texts disk are up_to)
     (subst (λ (l : List ℕ). LeavesOnly (g.D.Disk.history (settled_device.device_of old.device)) (g.D.Disk.history (settled_device.device_of c.write_batch.new.self)) (ShowsEither geometry front disk (overlaid l texts disk)))
     c.in_ok-gather.ensures.numbers (c.write_batch.ensures.any_moment front disk holds.settled))
 
 pub returns-clause-any_moment : goal.returns-clause-any_moment
-returns-clause-any_moment g c front disk seen holds up_to =
+returns-clause-any_moment g c front disk durable holds up_to =
     let old = c.args.self.now in
     let at = maps.frame_at old.frames in
     let geometry = settled_device.geometry_of old.device in
     let numbers = c.args.numbers.now in
     let texts = texts_of c.gather.new.batch in
     let are = c.in_ok-gather.ensures.texts in
-    while_written geometry at seen front disk _ _ (overlaid numbers texts disk) (may_be_left at seen numbers texts disk are up_to)
+    while_written geometry at durable front disk _ _ (overlaid numbers texts disk) (may_be_left at durable numbers texts disk are up_to)
     (subst (λ (l : List ℕ). LeavesOnly (g.D.Disk.history (settled_device.device_of old.device)) (g.D.Disk.history (settled_device.device_of c.write_batch.new.self)) (ShowsEither geometry front disk (overlaid l texts disk)))
     c.in_ok-gather.ensures.numbers (c.write_batch.ensures.any_moment front disk holds.settled))
 
@@ -70,7 +70,7 @@ pub returns-clause-others : goal.returns-clause-others
 returns-clause-others g c k none = c.settle_all.ensures.settled k ∙ not_settled (maps.frame_at c.args.self.now.frames) c.args.numbers.now k none
 
 pub returns-clause-kept : goal.returns-clause-kept
-returns-clause-kept g c front disk seen holds up_to =
+returns-clause-kept g c front disk durable holds up_to =
     let old = c.args.self.now in
     let at = maps.frame_at old.frames in
     let now = maps.frame_at c.settle_all.new.self in
@@ -83,6 +83,6 @@ returns-clause-kept g c front disk seen holds up_to =
         settled = subst (λ (l : List ℕ). IsSettled c.write_batch.new.self front (overlaid l texts disk)) c.in_ok-gather.ensures.numbers (c.in_ok-write_batch.ensures.settled front disk holds.settled);
         written = all_written at now numbers texts disk are c.settle_all.ensures.settled holds.written;
       };
-      may = may_be_left at seen numbers texts disk are up_to;
+      may = may_be_left at durable numbers texts disk are up_to;
       same = same_pages at now numbers texts disk are c.settle_all.ensures.settled;
     }

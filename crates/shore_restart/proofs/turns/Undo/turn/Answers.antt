@@ -5,10 +5,10 @@ use Rattle.shore_dwrite.proofs.Moves.{if_err}
 use Rattle.shore_model.specs.declared.log_records.LogRecord.{LogRecord}
 use Rattle.shore_log.specs.Settled.{records_of_log}
 use Rattle.shore_heap.specs.Heaps.{geometry_of}
-use Rattle.shore_lives.specs.Undo.{HasNoLosers, IsLoser, undo_record}
+use Rattle.laws_lives.specs.Undo.{HasNoLosers, IsLoser, undo_record}
 use Rattle.shore_restart.specs.declared.errors.RestartError.{RestartError}
 use Rattle.shore_restart.specs.declared.errors.RestartError.TheVariants.{Memory, NoRoom}
-use Rattle.shore_restart.specs.Standing.{Moves, stream_bytes_of}
+use Rattle.shore_restart.specs.Standing.{RestartMoves, stream_bytes_of}
 use Rattle.shore_restart.proofs.LogTurns.{if_none, no_some, turn_cannot, turn_fits, turn_kept, turn_lacks_room, turn_loser, turn_of, turn_previous, turn_record, turn_says, turn_takes, turn_there}
 use Rattle.shore_restart.proofs.PageErrors.{err_with}
 use Rattle.shore_restart.proofs.Turning.{moves_none, turn_stops, turned}
@@ -22,7 +22,7 @@ use Rattle.shore_restart.proofs.turns.Undo.turn.Goals as goal
 
 pub returns-in_err-logged-clause-moves : goal.returns-in_err-logged-clause-moves
 returns-in_err-logged-clause-moves g c log_front front disk s ready =
-    subst (λ (result : Result Bool RestartError). Moves result log_front front c.args.log.now c.args.log.now c.args.heap.now c.args.heap.now s (λ later. later.log ≡ records_of_log c.args.log.now))
+    subst (λ (result : Result Bool RestartError). RestartMoves result log_front front c.args.log.now c.args.log.now c.args.heap.now c.args.heap.now s (λ later. later.log ≡ records_of_log c.args.log.now))
     (sym (err_with c.from_residual.result _ c.from_residual.ensures.1))
     (moves_none log_front front c.args.log.now c.args.heap.now s (Err _) disk (λ later. later.log ≡ records_of_log c.args.log.now) ready ready.at_rest.records)
 
@@ -86,7 +86,7 @@ returns-in_err-append-clause-moves g c log_front front disk s ready =
     let says = turn_says (geometry_of c.args.heap.now) log bytes c.args.self.now c.requires r turn s.log records in
     let number = ap (λ (rs : List LogRecord). length rs + 1) (c.records-2.ensures.log ∙ sym records) in
     let e = c.in_err-append.field-0.0 in
-    subst (λ (result : Result Bool RestartError). Moves result log_front front c.args.log.now c.append.new.log c.args.heap.now c.append.new.heap s (λ later. later.log ≡ records_of_log c.append.new.log))
+    subst (λ (result : Result Bool RestartError). RestartMoves result log_front front c.args.log.now c.append.new.log c.args.heap.now c.append.new.heap s (λ later. later.log ≡ records_of_log c.append.new.log))
     (sym (err_with c.from_residual-in_err-append.result e c.from_residual-in_err-append.ensures.1))
     (turn_stops log_front front c.args.log.now c.args.heap.now s e e c.append.new.log c.append.new.heap (undo_record s.log r.txn) (λ later. later.log ≡ records_of_log c.append.new.log)
     (c.in_err-append.ensures.appends log_front front disk s r.txn ready says number))

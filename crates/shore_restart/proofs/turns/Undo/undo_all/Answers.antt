@@ -3,7 +3,7 @@ use Rattle.shore_dwrite.proofs.Moves.{if_err}
 use Rattle.shore_model.specs.declared.log_records.LogRecord.{LogRecord}
 use Rattle.shore_heap.specs.Heaps.{faults_of, geometry_of, history_of}
 use Rattle.shore_log.specs.Settled.{records_of_log}
-use Rattle.shore_lives.specs.Undo.{HasNoLosers, IsLoser}
+use Rattle.laws_lives.specs.Undo.{HasNoLosers, IsLoser}
 use Rattle.shore_restart.specs.Standing.{log_faults, stream_bytes_of}
 use Rattle.shore_restart.specs.Turns.{HasNoTurnRoom, IsUndoOf, IsUndoneSoFar}
 use Rattle.shore_disk.specs.Cause.{HasCause}

@@ -1,7 +1,7 @@
 use Rattle.std.proofs.Common.{◌≡◌, ◌≤◌, ℕ, List, length}
 use Rattle.shore_heap.specs.Heaps.{faults_of, geometry_of}
 use Rattle.shore_log.specs.Settled.{records_of_log, stable}
-use Rattle.shore_lives.specs.Recovery.{RecoveryState}
+use Rattle.laws_lives.specs.Recovery.{RecoveryState}
 use Rattle.shore_analysis.specs.Losers.{turns_left}
 use Rattle.shore_restart.specs.Held.{IsHeld, StaysHeld}
 use Rattle.shore_restart.specs.Quiet.{IsQuiet}

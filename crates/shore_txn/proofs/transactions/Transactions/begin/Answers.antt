@@ -1,7 +1,7 @@
 use Rattle.std.proofs.Common.{◌+◌, ap, sym, subst, ◌∙◌, arith}
 use Rattle.shore_txn.specs.ActiveTxns.{session_txns, undos_of}
-use Rattle.shore_undo.specs.Txns.{as_session_txn}
-use Rattle.shore_undo.specs.UndoEntries.{images_of}
+use Rattle.shore_txn.specs.Txns.{as_session_txn}
+use Rattle.shore_txn.specs.UndoEntries.{images_of}
 use Rattle.shore_txn.proofs.ActiveLemmas.{txns_more}
 use Rattle.shore_txn.proofs.ActiveSteps.{AreKept, kept_begun}
 use Rattle.shore_txn.proofs.transactions.Transactions.begin.Goals as goal

@@ -1,6 +1,6 @@
-use Rattle.shore_lives.specs.UndoLists.{undo_rolled}
-use Rattle.shore_lives.specs.declared.rollbacks.Rollback.TheVariants.{Whole}
-use Rattle.shore_undo.specs.Txns.{IsDoomed}
+use Rattle.laws_lives.specs.UndoLists.{undo_rolled}
+use Rattle.shore_model.specs.declared.rollbacks.Rollback.TheVariants.{Whole}
+use Rattle.shore_txn.specs.Txns.{IsDoomed}
 use Rattle.shore_txn.proofs.ActiveSteps.{becomes_so, claims_still, doomed_keeps, kept_still, session_doomed, undos_by}
 use Rattle.shore_txn.proofs.Lending.{kept_in, lent_becomes}
 use Rattle.shore_txn.proofs.transactions.Transactions.doom.Goals as goal

@@ -1,5 +1,5 @@
 use Rattle.shore_txn.specs.ActiveTxns.{back_at}
-use Rattle.shore_undo.specs.Txns.{IsBackAt}
+use Rattle.shore_txn.specs.Txns.{IsBackAt}
 use Rattle.shore_txn.proofs.ActiveSteps.{back_keeps, becomes_so, claims_still, kept_still, session_back, undos_by}
 use Rattle.shore_txn.proofs.Lending.{kept_in, lent_becomes}
 use Rattle.shore_txn.proofs.transactions.Transactions.go_back.Goals as goal

@@ -1,7 +1,7 @@
 use Rattle.std.proofs.Common.{◌≡◌, refl, ap, sym, subst, ◌∙◌, arith}
-use Rattle.shore_room.specs.LogRooms.{owed}
+use Rattle.laws_room.specs.LogRooms.{owed}
 use Rattle.shore_txn.specs.ActiveTxns.{CanNote, undos_of}
-use Rattle.shore_undo.specs.Txns.{IsAfterChange, as_session_txn}
+use Rattle.shore_txn.specs.Txns.{IsAfterChange, as_session_txn}
 use Rattle.shore_txn.specs.declared.active.ActiveTxn.{ActiveTxn}
 use Rattle.shore_txn.proofs.ActiveLemmas.{active_there, holds_at, one_at, read_at, session_txn_there}
 use Rattle.shore_txn.proofs.ActiveSteps.{AreKept, becomes_at, claims_elsewhere, claims_noted, kept_noted, undos_noted}

@@ -1,7 +1,8 @@
-use Rattle.std.proofs.Common.{List, sym, subst}
+use Rattle.std.proofs.Common.{List, sym, ap, subst, ◌∙◌}
 use Rattle.shore_txn.specs.ActiveTxns.{OneLeaves}
 use Rattle.shore_txn.specs.Transactions.{txns_in}
-use Rattle.shore_undo.specs.declared.undo.UndoEntry.{UndoEntry}
+use Rattle.shore_txn.specs.declared.txn.Txn.{Txn}
+use Rattle.shore_txn.specs.declared.undo.UndoEntry.{UndoEntry}
 use Rattle.shore_txn.proofs.ActiveSteps.{claims_left, undos_without}
 use Rattle.shore_txn.proofs.transactions.Transactions.note_commit.Goals as goal
 
@@ -14,3 +15,6 @@ returns-clause-undos c a m its = let old = c.args.self.now in undos_without (ret
 
 pub returns-clause-claims : goal.returns-clause-claims
 returns-clause-claims c = claims_left (returns-clause-left c)
+
+pub returns-clause-number : goal.returns-clause-number
+returns-clause-number c a m its = c.id.ensures.number ∙ ap (λ (t : Txn). t.txn) c.txn.ensures ∙ c.take_out-decided.ensures.number a m its

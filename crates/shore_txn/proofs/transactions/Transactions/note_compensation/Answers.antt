@@ -1,9 +1,9 @@
 use Rattle.std.proofs.Common.{◌≢◌, ◌<◌, ◌∷◌, [], List, refl, ap, ◌∙◌, arith, length}
 use Rattle.std.proofs.lemmas.List.{map-append}
 use Rattle.shore_txn.specs.Transactions.{undos_in}
-use Rattle.shore_undo.specs.Txns.{IsAfterUndo, as_session_txn, entries_of}
-use Rattle.shore_undo.specs.UndoEntries.{image_of, images_of}
-use Rattle.shore_undo.specs.declared.undo.UndoEntry.{UndoEntry}
+use Rattle.shore_txn.specs.Txns.{IsAfterUndo, as_session_txn, entries_of}
+use Rattle.shore_txn.specs.UndoEntries.{image_of, images_of}
+use Rattle.shore_txn.specs.declared.undo.UndoEntry.{UndoEntry}
 use Rattle.shore_txn.proofs.ActiveSteps.{claims_beside, claims_undone, kept_undone, owed_more, undos_undone}
 use Rattle.shore_txn.proofs.Lending.{kept_in, lent_becomes, lent_session, lent_there}
 use Rattle.shore_txn.proofs.OneOfMany.{owed_among}

@@ -1,7 +1,8 @@
-use Rattle.std.proofs.Common.{List, ap, arith}
-use Rattle.shore_room.specs.LogRooms.{compensation_costs}
-use Rattle.shore_undo.specs.UndoEntries.{images_of}
-use Rattle.shore_undo.specs.declared.undo.UndoEntry.{UndoEntry}
+use Rattle.std.proofs.Common.{List, ap, ◌∙◌, arith}
+use Rattle.laws_room.specs.LogRooms.{compensation_costs}
+use Rattle.shore_txn.specs.UndoEntries.{images_of}
+use Rattle.shore_txn.specs.declared.txn.Txn.{Txn}
+use Rattle.shore_txn.specs.declared.undo.UndoEntry.{UndoEntry}
 use Rattle.shore_txn.proofs.ActiveSteps.{claims_kept, leaves_empty, none_changed, undos_without}
 use Rattle.shore_txn.proofs.transactions.Transactions.note_end.Goals as goal
 
@@ -18,3 +19,6 @@ pub returns-clause-reserved : goal.returns-clause-reserved
 returns-clause-reserved c =
     let none = ap (λ (es : List UndoEntry). compensation_costs (images_of es)) (none_changed c.take_out-ended.ensures.left c.requires.empty) in
     omega (arith, none, c.take_out-ended.ensures.reserved, c.append.ensures.others.0)
+
+pub returns-clause-number : goal.returns-clause-number
+returns-clause-number c a m its = c.id.ensures.number ∙ ap (λ (t : Txn). t.txn) c.txn.ensures ∙ c.take_out-ended.ensures.number a m its

@@ -1,8 +1,8 @@
 use Rattle.std.proofs.Common.{◌≡◌, refl, sym, subst, ◌∙◌, OnOk, Ok, Err, Result, set}
 use Rattle.std.specs.declared.alloc.AllocError.{AllocError}
-use Rattle.shore_lives.specs.Views.{IsAmong}
+use Rattle.laws_lives.specs.Views.{IsAmong}
 use Rattle.shore_txn.specs.ActiveTxns.{CanNote, undos_of}
-use Rattle.shore_undo.specs.Txns.{SameTxn}
+use Rattle.shore_txn.specs.Txns.{SameTxn}
 use Rattle.shore_txn.specs.declared.active.ActiveTxn.{ActiveTxn}
 use Rattle.shore_txn.proofs.ActiveLemmas.{holds_at, one_at, read_at, room_at}
 use Rattle.shore_txn.proofs.ActiveSteps.{AreKept, becomes_at, claims_stay, undos_stay}

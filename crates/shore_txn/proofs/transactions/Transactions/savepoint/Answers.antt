@@ -1,12 +1,12 @@
 use Rattle.std.proofs.Common.{◌≡◌, ℕ, Ok, Err, Result, length, sym, ap, ◌∙◌, set}
 use Rattle.std.specs.Prelude.{IfOk, OnErr, OnOk}
 use Rattle.std.specs.declared.alloc.AllocError.{AllocError}
-use Rattle.shore_lives.specs.Sessions.{SessionTxn, with_undo}
-use Rattle.shore_lives.specs.Views.{IsAmong}
+use Rattle.laws_lives.specs.Sessions.{SessionTxn, with_undo}
+use Rattle.laws_lives.specs.Views.{IsAmong}
 use Rattle.shore_txn.specs.ActiveTxns as active
 use Rattle.shore_txn.specs.ActiveTxns.{OneBecomes, session_txns, undos_of, with_mark}
 use Rattle.shore_txn.specs.Transactions.{txns_in, undos_in}
-use Rattle.shore_undo.specs.Txns.{IsAfterSavepoint, SameTxn, as_session_txn, marks_of}
+use Rattle.shore_txn.specs.Txns.{IsAfterSavepoint, SameTxn, as_session_txn, marks_of}
 use Rattle.shore_txn.proofs.ActiveSteps.{KeepsChanges, claims_still, kept_still, same_keeps, savepoint_keeps, session_marked, undos_by, undos_stay}
 use Rattle.shore_txn.proofs.Lending.{kept_in, lent_becomes, lent_session, lent_there}
 use Rattle.shore_txn.proofs.OneOfMany.{once_same}

@@ -1,13 +1,14 @@
-use Rattle.std.proofs.Common.{◌≡◌, refl, ap, ◌∙◌, arith}
-use Rattle.shore_room.specs.LogRooms.{owed}
+use Rattle.std.proofs.Common.{◌≡◌, refl, sym, ap, ◌∙◌, arith}
+use Rattle.laws_room.specs.LogRooms.{owed}
+use Rattle.laws_lives.specs.Sessions.{SessionTxn}
 use Rattle.shore_txn.specs.ActiveTxns.{undos_of}
-use Rattle.shore_undo.specs.Txns.{as_session_txn, entries_of}
+use Rattle.shore_txn.specs.Txns.{as_session_txn, entries_of}
 use Rattle.shore_txn.specs.declared.active.ActiveTxn.{ActiveTxn}
-use Rattle.shore_undo.specs.declared.txn.Txn.{Txn}
+use Rattle.shore_txn.specs.declared.txn.Txn.{Txn}
 use Rattle.shore_txn.proofs.ActiveLemmas.{holds_at, one_at, read_at, session_txn_there}
 use Rattle.shore_txn.proofs.ActiveSteps.{kept_without, leaves_at}
 use Rattle.shore_txn.proofs.Lending.{kept_in}
-use Rattle.shore_txn.proofs.OneOfMany.{owed_among}
+use Rattle.shore_txn.proofs.OneOfMany.{once_same, owed_among}
 use Rattle.shore_txn.proofs.transactions.Transactions.take_out.Goals as goal
 
 pub release-requires : goal.release-requires
@@ -38,3 +39,12 @@ returns-clause-left c =
     let it : c.remove-one.result ≡ one.0 = c.remove-one.ensures.value ∙ read_at one.1 c.remove-one.result in
     leaves_at one.1 c.remove-one.new.self.items (entries_of c.remove-one.result.txn) c.args.session c.remove-one.ensures.items (holds_at one.1 (λ a. a.txn.session ≡ c.args.session) c.index_of-index.ensures.its)
     (ap (λ (a : ActiveTxn). a.txn.undo.items) it)
+
+pub returns-clause-number : goal.returns-clause-number
+returns-clause-number c a m its =
+    let old = c.args.self.now in
+    let one = one_at old.active.items c.index_of-index.result c.index_of-index.ensures.inside in
+    let it : c.remove-one.result ≡ one.0 = c.remove-one.ensures.value ∙ read_at one.1 c.remove-one.result in
+    let own : one.0.txn.session ≡ c.args.session = holds_at one.1 (λ a. a.txn.session ≡ c.args.session) c.index_of-index.ensures.its in
+    let same : as_session_txn one.0.txn ≡ a = once_same (λ (b : SessionTxn). b.session) (undos_of old.active.items) old.sessions (as_session_txn one.0.txn) a (session_txn_there one.1) m (own ∙ sym its) in
+    ap (λ (x : ActiveTxn). x.txn.txn) it ∙ ap (λ (b : SessionTxn). b.txn) same

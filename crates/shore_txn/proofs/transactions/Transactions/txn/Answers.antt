@@ -1,6 +1,6 @@
 use Rattle.std.proofs.Common.{◌≡◌, IfNone, ap, sym, subst, ◌∙◌}
 use Rattle.shore_txn.specs.Transactions.{HasNoTxnOf}
-use Rattle.shore_undo.specs.declared.txn.Txn.{Txn}
+use Rattle.shore_txn.specs.declared.txn.Txn.{Txn}
 use Rattle.shore_txn.proofs.ActiveLemmas.{found_at, none_of}
 use Rattle.shore_txn.proofs.transactions.Transactions.txn.Goals as goal
 

@@ -24,13 +24,13 @@ returns-clause-like g c none =
     (record {
       log = refl;
       report = refl;
-      same = e.volume;
+      same = e.serves.volume;
       left = e.left;
-      any_moment = e.any_moment;
+      any_moment = e.serves.any_moment;
       still = e.still;
       list = same_list _ _ old.core c.dump.new.self refl e.tail;
-      durable = e.durable;
-      volume_faults = e.cause.unreported;
+      durable = e.serves.durable;
+      volume_faults = e.serves.cause.unreported;
     })
     none failed
 
@@ -42,12 +42,12 @@ returns-clause-fails g c fails =
     (record {
       log = refl;
       report = refl;
-      same = e.volume;
+      same = e.serves.volume;
       left = e.left;
-      any_moment = e.any_moment;
+      any_moment = e.serves.any_moment;
       still = e.still;
       list = same_list _ _ old.core c.dump.new.self refl e.tail;
-      durable = e.durable;
-      volume_faults = e.cause.unreported;
+      durable = e.serves.durable;
+      volume_faults = e.serves.cause.unreported;
     })
     fails (never_true (failed_in old) (λ before. failed_before c.dump.result fails (e.failed before))) (e.fails.1 (inr fails))

@@ -5,7 +5,7 @@ use Rattle.shore_model.specs.declared.log_records.LogRecord.{LogRecord}
 use Rattle.shore_frames.specs.Frames.{GivesWithOrWithout}
 use Rattle.shore_log.specs.Settled.{records_of_log, stable}
 use Rattle.shore_log.specs.declared.device.LogDev.{LogDev}
-use Rattle.shore_calls.specs.StateChanges.{with_durable, with_failure}
+use Rattle.laws_calls.specs.StateChanges.{with_durable, with_failure}
 use Rattle.shore_core.specs.Cores.{IsIn, waiting_of}
 use Rattle.shore_world.specs.declared.event.Event.TheVariants.{ForceOpen}
 use Rattle.shore_world.proofs.RunLemmas.{open_is_no_flush}

@@ -7,15 +7,16 @@ use Rattle.shore_model.specs.declared.log_records.LogRecord.{LogRecord}
 use Rattle.shore_frames.specs.Frames.{GivesBehind}
 use Rattle.shore_log.specs.Settled.{records_of_log, waiting, stable, IsSettled}
 use Rattle.shore_log.specs.declared.device.LogDev.{LogDev}
-use Rattle.shore_calls.specs.StateChanges.{with_failure}
-use Rattle.shore_calls.specs.States.{cost_of_log}
+use Rattle.laws_calls.specs.StateChanges.{with_failure}
+use Rattle.laws_calls.specs.States.{cost_of_log}
 use Rattle.shore_core.specs.Cores.{IsIn, IsSafe, waiting_of}
 use Rattle.shore_world.specs.declared.event.Event.TheVariants.{ForceStage}
 use Rattle.shore_world.specs.declared.world.World.{World}
 use Rattle.shore_world.specs.Worlds.{IsInState, IsOverStore, durable_in, failed_in, list_in}
 use Rattle.shore_world.proofs.RunLemmas.{stage_is_no_flush}
 use Rattle.shore_world.proofs.WorldLemmas.{failed_runs, force_moves, handed, has_staged, is_some_and, length-stable, none_staged, not_left, nothing_done, staging}
-use Rattle.shore_world.proofs.RoomLemmas.{cost_append, frame_has_room, other_is_no_device, ready_settled, refused_is}
+use Rattle.shore_restart.proofs.Rooms.{cost_append, frame_has_room}
+use Rattle.shore_world.proofs.ForceLemmas.{other_is_no_device, ready_settled, refused_is}
 use Rattle.shore_world.proofs.world.World.force_stage.Goals as goal
 
 pub returns-then-has_failed-clause-moves : goal.returns-then-has_failed-clause-moves

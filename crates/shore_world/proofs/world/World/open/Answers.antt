@@ -14,9 +14,9 @@ use Rattle.shore_model.specs.declared.log_records.LogRecord.{LogRecord}
 use Rattle.shore_restart.specs.Opened.{OpensIn}
 use Rattle.shore_restart.specs.Standing.{stream_bytes_of}
 use Rattle.shore_core.specs.Cores.{heap_of}
-use Rattle.shore_stands.specs.Moments.{Moment, Path}
-use Rattle.shore_stands.specs.StandsFor.{begun_on}
-use Rattle.shore_managers.specs.SoundStores.{found_state}
+use Rattle.laws_images.specs.Moments.{Moment, Path}
+use Rattle.laws_images.specs.StandsFor.{begun_on}
+use Rattle.laws_runs.specs.SoundStores.{found_state}
 use Rattle.shore_world.specs.OpenedVolumes as volumes
 use Rattle.shore_world.specs.declared.world.World.{World}
 use Rattle.shore_frames.specs.Offsets.{IsBadAt, IsFrameOf}

@@ -1,9 +1,9 @@
 use Rattle.std.proofs.Common.{◌≡◌, ◌+◌, List, [], ◌∷◌, ◌++◌, take, sym, ap, ◌∙◌, subst, append-nil, append_assoc, arith}
 use Rattle.std.proofs.lemmas.List.{take_all, take_more}
-use Rattle.shore_calls.specs.declared.step.Step.{Step}
+use Rattle.shore_model.specs.declared.step.Step.{Step}
 use Rattle.shore_world.specs.declared.event.Event.{Event}
 use Rattle.shore_world.specs.Worlds.{Runs}
-use Rattle.shore_calls.specs.Events.{ManagerEvent}
+use Rattle.laws_calls.specs.Events.{ManagerEvent}
 use Rattle.shore_world.specs.EventMoves.{all_moves}
 use Rattle.shore_world.proofs.RunLemmas.{all_further, no_event, one_more}
 use Rattle.shore_world.proofs.world.World.run.Goals as goal

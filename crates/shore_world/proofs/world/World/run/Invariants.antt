@@ -1,6 +1,6 @@
 use Rattle.std.proofs.Common.{◌≡◌, ◌+◌, ◌-◌, ◌≤◌, ◌++◌, List, take, length, vec_len}
 use Rattle.std.specs.Prelude.{vec_capacity}
-use Rattle.shore_calls.specs.declared.step.Step.{Step}
+use Rattle.shore_model.specs.declared.step.Step.{Step}
 use Rattle.shore_world.specs.EventMoves.{all_moves}
 use Rattle.shore_world.specs.Worlds.{Runs}
 use Rattle.shore_world.proofs.world.World.run.Given as goal

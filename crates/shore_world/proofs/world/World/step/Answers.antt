@@ -13,16 +13,16 @@ returns-in-Call g c =
     let old = c.args.self.now in
     let e = c.call.ensures in
     rw c.in-Call.is (
-    no_force old _ _ _ tt refl refl (call_moves old _ _ _ _ e.volume.geometry refl e.step e.any_moment e.still e.durable) e.volume
-    (λ is. absurd (call_is_no_flush (event.Call c.in-Call.session c.in-Call.call) tt is)) e.damaged e.forced e.cause)
+    no_force old _ _ _ tt refl refl (call_moves old _ _ _ _ e.serves.volume.geometry refl e.step e.serves.any_moment e.still e.serves.durable) e.serves.volume
+    (λ is. absurd (call_is_no_flush (event.Call c.in-Call.session c.in-Call.call) tt is)) e.serves.damaged e.serves.forced e.serves.cause)
 
 pub returns-in-Resume : goal.returns-in-Resume
 returns-in-Resume g c =
     let old = c.args.self.now in
     let e = c.resume.ensures in
     rw c.in-Resume.is (
-    no_force old _ _ _ tt refl refl (resume_moves old _ _ _ e.volume.geometry refl e.step e.any_moment e.still e.durable) e.volume
-    (λ is. absurd (resume_is_no_flush c.in-Resume.session is)) e.damaged e.forced e.cause)
+    no_force old _ _ _ tt refl refl (resume_moves old _ _ _ e.serves.volume.geometry refl e.step e.serves.any_moment e.still e.serves.durable) e.serves.volume
+    (λ is. absurd (resume_is_no_flush c.in-Resume.session is)) e.serves.damaged e.serves.forced e.serves.cause)
 
 pub returns-in-ForceStage : goal.returns-in-ForceStage
 returns-in-ForceStage g c =
@@ -71,5 +71,5 @@ returns-in-FlushStep g c =
     let faults = flush_faults old.core c.flush_step.new.self c.flush_step.result e.answers in
     rw c.in-FlushStep.is (
     no_force old _ _ _ tt refl refl
-    (flush_moves old _ _ e.volume.geometry refl e.tail e.step e.any_moment e.still e.durable (λ run. never_true (failed_in old) (λ before. failed_runs _ (e.fails.1 (inl before)) run)))
-    e.volume (λ is. record { answers = e.answers; written = e.written }) (flush_says_nothing old event.FlushStep _ faults) (flush_asks_nothing old _ faults) e.cause)
+    (flush_moves old _ _ e.serves.volume.geometry refl e.tail e.step e.serves.any_moment e.still e.serves.durable (λ run. never_true (failed_in old) (λ before. failed_runs _ (e.fails.1 (inl before)) run)))
+    e.serves.volume (λ is. record { answers = e.answers; written = e.written }) (flush_says_nothing old event.FlushStep _ faults) (flush_asks_nothing old _ faults) e.serves.cause)

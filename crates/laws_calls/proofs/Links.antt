@@ -1,0 +1,353 @@
+-- What a step of a manager is to its sessions: their events one after another, each with what it leaves of log, slots and room.
+use Rattle.std.proofs.Common.{◌≡◌, ◌≢◌, ◌⊎◌, inl, inr, ◌++◌, ◌∷◌, ◌+◌, ◌<◌, ◌≤◌, ℕ, List, [], Bool, true, false, cond, None, Some, Err, refl, sym, ap, subst, append-nil, arith, length, take}
+use Rattle.std.specs.Prelude.{◌==◌, IsSome, not}
+use Rattle.std.specs.FinMap.{get}
+use Rattle.std.specs.List.{AllByRecursion}
+use Rattle.std.proofs.lemmas.Bool.{eqb-false}
+use Rattle.shore_types.specs.Images.{Image}
+use Rattle.shore_types.specs.Layout.{HasPage}
+use Rattle.shore_types.specs.declared.faults.Fault.{Fault}
+use Rattle.shore_types.specs.declared.faults.Fault.TheVariants as fault
+use Rattle.shore_types.specs.declared.ids.Rid.{Rid}
+use Rattle.shore_types.specs.declared.layout.Geometry.{Geometry}
+use Rattle.shore_types.specs.declared.layout.TheConstants.{LAST_TXN, MAX_TRANSACTIONS}
+use Rattle.shore_types.specs.declared.locking.Granule.{Granule}
+use Rattle.shore_model.specs.declared.calls.Call.{Call}
+use Rattle.shore_model.specs.declared.histories.Entry.{Entry}
+use Rattle.shore_model.specs.declared.log_records.Payload.TheVariants as payload
+use Rattle.shore_model.specs.declared.requests.Request.{Request}
+use Rattle.shore_model.specs.Logs.{committed_in, logged_writes}
+use Rattle.shore_model.specs.Requests.{held_by_all}
+use Rattle.shore_nodes.proofs.Counts.{length-filter_most}
+use Rattle.laws_locks.specs.CallLocks.{Asked, lock_asked_by}
+use Rattle.laws_room.specs.Claims.{Grows}
+use Rattle.laws_room.specs.Events.{EventFits}
+use Rattle.laws_room.specs.LogRooms.{EventAdmits, LogRoom, RoomAfter, begun_room, ended_room, owed}
+use Rattle.laws_lives.proofs.Lists.{length-push}
+use Rattle.laws_lives.specs.Logged.{and_record, log_after}
+use Rattle.laws_lives.specs.SessionSteps.{AnswerAbort, AnswerCommit, AppendCommit, BeginTxn, Doom, GiveReply, MoveLocks, PutBack, RefuseCall, SessionEvent, StepsTo, entries_by}
+use Rattle.laws_lives.specs.Sessions.{SessionTxn, commit_answered, commit_appended, txn_begun, without_txn}
+use Rattle.laws_lives.specs.Views.{IsAmong}
+use Rattle.laws_calls.proofs.Rooms.{cost_pushed}
+use Rattle.laws_calls.specs.StateChanges.{FitsAt, with_failure}
+use Rattle.laws_calls.specs.CallSteps.{lock_waiting, txn_count, with_requests}
+use Rattle.laws_calls.specs.States.{DoesNotWait, HasNoTxn, MayBegin, State, Waiting, cost_of_log, log_room}
+
+-- ---- how many transactions there are
+
+pub no_longer_without : (t : ℕ) (xs : List SessionTxn) → length (without_txn t xs) ≤ length xs
+no_longer_without t xs = length-filter_most (λ (a : SessionTxn). not (a.txn == t)) xs
+
+pub shorter_without : (a : SessionTxn) (xs : List SessionTxn) → IsAmong a xs → length (without_txn a.txn xs) + 1 ≤ length xs
+shorter_without a [] there = absurd there
+shorter_without a (x ∷ xs) there = by (x.txn == a.txn) refl there (λ later. shorter_without a xs later)
+  where
+    by : (b : Bool) → (x.txn == a.txn) ≡ b → IsAmong a (x ∷ xs) → (IsAmong a xs → length (without_txn a.txn xs) + 1 ≤ length xs)
+        → length (cond (not b) (x ∷ without_txn a.txn xs) (without_txn a.txn xs)) + 1 ≤ length (x ∷ xs)
+    by true e there rest = let less = no_longer_without a.txn xs in omega (arith, less)
+    by false e (inl same) rest = absurd (eqb-false x.txn a.txn e (ap (λ (y : SessionTxn). y.txn) same))
+    by false e (inr later) rest = let less = rest later in omega (arith, less)
+
+-- ---- one event
+
+-- the log goes on by a Commit
+pub record Commits (s new : State) : Type 0 where
+  pub txn : ℕ
+  pub log : new.log ≡ and_record txn s.log payload.Commit
+  pub counts : new.counts ≡ s.counts
+
+-- .. or by the change of a record that is there, or on a page of the volume, where the image fits
+pub record Changes (g : Geometry) (s new : State) : Type 0 where
+  pub txn : ℕ
+  pub id : Rid
+  pub image : Image
+  pub log : new.log ≡ and_record txn s.log (payload.Change id (get s.sessions.records id) image)
+  pub inside : HasPage g id.page ⊎ IsSome (get s.sessions.records id)
+  pub fits : FitsAt s id image
+  pub grows : Grows s.counts new.counts id
+
+-- .. or by an End
+pub record Ends (s new : State) : Type 0 where
+  pub txn : ℕ
+  pub log : new.log ≡ and_record txn s.log payload.End
+  pub counts : new.counts ≡ s.counts
+
+-- .. or by a Compensation at an id for which its transaction has logged an image
+pub record Compensates (s new : State) : Type 0 where
+  pub txn : ℕ
+  pub id : Rid
+  pub image : Image
+  pub next : ℕ
+  pub log : new.log ≡ and_record txn s.log (payload.Compensation id image next)
+  pub logged : IsSome (get (logged_writes s.log txn) id)
+  pub counts : new.counts ≡ s.counts
+
+-- one record at most, or log and slots stay
+abbrev pub Writes : Geometry → State → State → Type 0
+Writes g s new = ((new.log ≡ s.log) × (new.counts ≡ s.counts)) ⊎ (Commits s new ⊎ (Changes g s new ⊎ (Ends s new ⊎ Compensates s new)))
+
+-- the room of the log behind the event is this one
+pub record HasRoomAfter (s : State) (e : SessionEvent) (new : State) : Type 0 where
+  pub room : LogRoom
+  pub after : RoomAfter s.sessions e (log_room s) room
+  pub kept : room.kept ≡ cost_of_log new.log
+  pub stream : room.stream_bytes ≡ new.stream_bytes
+  pub last : room.last_lsn ≡ length new.log
+
+-- the state goes on by an event of its sessions; the same calls wait
+pub record Goes (g : Geometry) (s : State) (e : SessionEvent) (new : State) : Type 0 where
+  pub moves : StepsTo s.sessions e new.sessions
+  pub log : new.log ≡ log_after s.log s.sessions e
+  pub durable : new.durable ≡ s.durable
+  pub stream : new.stream_bytes ≡ s.stream_bytes
+  pub waiting : new.waiting ≡ s.waiting
+  pub failed : new.failed ≡ s.failed
+  pub fits : EventFits s.sessions s.counts e new.counts
+  pub admits : EventAdmits s.sessions e (log_room s)
+  pub room : HasRoomAfter s e new
+  pub writes : Writes g s new
+  pub few : txn_count s ≤ MAX_TRANSACTIONS → txn_count new ≤ MAX_TRANSACTIONS
+  pub numbers : s.sessions.next_txn ≤ LAST_TXN → new.sessions.next_txn ≤ LAST_TXN
+
+pub same_room : (s new : State) (e : SessionEvent) → new.log ≡ s.log → new.stream_bytes ≡ s.stream_bytes → RoomAfter s.sessions e (log_room s) (log_room s) → HasRoomAfter s e new
+same_room s new e log stream after = record {
+  room = log_room s;
+  after = after;
+  kept = ap cost_of_log (sym log);
+  stream = sym stream;
+  last = ap length (sym log);
+}
+
+module _ (g : Geometry) (s : State) where
+  pub locks_go : (rs : List Request) → StepsTo s.sessions (MoveLocks (held_by_all rs)) (with_requests s rs).sessions → Goes g s (MoveLocks (held_by_all rs)) (with_requests s rs)
+  locks_go rs moves = record {
+    moves = moves;
+    log = refl;
+    durable = refl;
+    stream = refl;
+    waiting = refl;
+    failed = refl;
+    fits = refl;
+    admits = tt;
+    room = same_room s (with_requests s rs) (MoveLocks (held_by_all rs)) refl refl refl;
+    writes = inl (refl, refl);
+    few = λ few. few;
+    numbers = λ most. most;
+  }
+
+  pub begin_goes : (session : ℕ) → HasNoTxn s session → txn_count s < MAX_TRANSACTIONS → MayBegin s → Goes g s (BeginTxn session) (record s { sessions = txn_begun s.sessions session })
+  begin_goes session idle less may = record {
+    moves = (idle, refl);
+    log = refl;
+    durable = refl;
+    stream = refl;
+    waiting = refl;
+    failed = refl;
+    fits = refl;
+    admits = may.0;
+    room = record { room = begun_room (log_room s); after = refl; kept = refl; stream = refl; last = refl };
+    writes = inl (refl, refl);
+    few = λ few. omega (arith, less);
+    numbers = λ most. let room = may.1 in omega (arith, room);
+  }
+
+  -- a refusal that is no word on records
+  pub refusal_goes : (session t : ℕ) (c : Call) (f : Fault) → StepsTo s.sessions (RefuseCall session t c f) s.sessions → Goes g s (RefuseCall session t c f) s
+  refusal_goes session t c f moves = record {
+    moves = moves;
+    log = refl;
+    durable = refl;
+    stream = refl;
+    waiting = refl;
+    failed = refl;
+    fits = refl;
+    admits = tt;
+    room = same_room s s (RefuseCall session t c f) refl refl refl;
+    writes = inl (refl, refl);
+    few = λ few. few;
+    numbers = λ most. most;
+  }
+
+  -- a record is not there
+  pub absence_goes : (a : SessionTxn) (c : Call) → StepsTo s.sessions (GiveReply a c (Err fault.NoRecord)) s.sessions → Goes g s (GiveReply a c (Err fault.NoRecord)) s
+  absence_goes a c moves = record {
+    moves = moves;
+    log = refl;
+    durable = refl;
+    stream = refl;
+    waiting = refl;
+    failed = refl;
+    fits = refl;
+    admits = tt;
+    room = same_room s s (GiveReply a c (Err fault.NoRecord)) refl refl refl;
+    writes = inl (refl, refl);
+    few = λ few. few;
+    numbers = λ most. most;
+  }
+
+  module _ (a : SessionTxn) where
+    abbrev pub with_commit : State
+    with_commit = record s { sessions = commit_appended s.sessions a; log = and_record a.txn s.log payload.Commit }
+
+    pub commit_goes : IsAmong a s.sessions.active → a.undo.rolling ≡ None → Goes g s (AppendCommit a) with_commit
+    commit_goes mem whole = record {
+      moves = (mem, whole, refl);
+      log = refl;
+      durable = refl;
+      stream = refl;
+      waiting = refl;
+      failed = refl;
+      fits = refl;
+      admits = tt;
+      room = record {
+        room = ended_room (owed a) (log_room s);
+        after = refl;
+        kept = let cost = cost_pushed s.log _ in sym cost;
+        stream = refl;
+        last = sym (length-push s.log _);
+      };
+      writes = inr (inl (record { txn = a.txn; log = refl; counts = refl }));
+      few = λ few. let shorter = shorter_without a s.sessions.active mem in omega (arith, few, shorter);
+      numbers = λ most. most;
+    }
+
+    abbrev pub with_answer : State
+    with_answer = record s { sessions = commit_answered s.sessions a }
+
+    pub answer_goes : IsAmong a s.sessions.committing → Goes g s (AnswerCommit a) with_answer
+    answer_goes mem = record {
+      moves = (mem, refl);
+      log = refl;
+      durable = refl;
+      stream = refl;
+      waiting = refl;
+      failed = refl;
+      fits = refl;
+      admits = tt;
+      room = same_room s with_answer (AnswerCommit a) refl refl refl;
+      writes = inl (refl, refl);
+      few = λ few. let shorter = no_longer_without a.txn s.sessions.committing in omega (arith, few, shorter);
+      numbers = λ most. most;
+    }
+
+-- ---- events one after another
+
+-- they make these entries
+abbrev pub GoesBy : Geometry → State → List SessionEvent → State → List Entry → Type 0
+GoesBy g s [] new made = (new ≡ s) × (made ≡ [])
+GoesBy g s (e ∷ events) new made = (mid : State) × (later : List Entry) × Goes g s e mid × GoesBy g mid events new later × (made ≡ entries_by s.sessions e ++ later)
+
+-- a state with the same sessions, log, slots and numbers; others may wait in it, and it may have failed
+pub record IsLike (s t : State) : Type 0 where
+  pub sessions : t.sessions ≡ s.sessions
+  pub log : t.log ≡ s.log
+  pub counts : t.counts ≡ s.counts
+  pub stream : t.stream_bytes ≡ s.stream_bytes
+
+-- a commit is answered whose record is durable
+abbrev pub IsDurable : State → SessionEvent → Type 0
+IsDurable s (AnswerCommit a) = IsAmong a.txn (committed_in (take s.durable s.log))
+IsDurable s (MoveLocks held) = Unit {0}
+IsDurable s (BeginTxn session) = Unit {0}
+IsDurable s (GiveReply a c reply) = Unit {0}
+IsDurable s (AppendCommit a) = Unit {0}
+IsDurable s (PutBack a kept e r) = Unit {0}
+IsDurable s (Doom a) = Unit {0}
+IsDurable s (AnswerAbort a) = Unit {0}
+IsDurable s (RefuseCall session t c f) = Unit {0}
+
+-- a step, but for the calls that wait: events of the sessions lead from one state to the other
+pub record ComesBy (g : Geometry) (s new : State) (made : List Entry) : Type 0 where
+  pub start : State
+  pub before : IsLike s start
+  pub events : List SessionEvent
+  pub durable : AllByRecursion (IsDurable s) events
+  pub mid : State
+  pub goes : GoesBy g start events mid made
+  pub after : IsLike mid new
+
+-- ---- events behind which each call that waited waits on
+
+-- no transaction is decided, ended or doomed, and no image of one is put back of whose session a call waits
+abbrev pub IsQuiet : State → SessionEvent → Type 0
+IsQuiet s (MoveLocks held) = Unit {0}
+IsQuiet s (BeginTxn session) = Unit {0}
+IsQuiet s (GiveReply a c reply) = Unit {0}
+IsQuiet s (RefuseCall session t c f) = Unit {0}
+IsQuiet s (PutBack a kept e r) = (b : SessionTxn) (w : Waiting) → IsAmong b s.sessions.active → IsAmong w s.waiting → b.session ≡ w.session → b.txn ≢ a.txn
+IsQuiet s (Doom a) = ⊥
+IsQuiet s (AppendCommit a) = ⊥
+IsQuiet s (AnswerAbort a) = ⊥
+IsQuiet s (AnswerCommit a) = ⊥
+
+-- the call of a session begins to wait for a lock
+pub record BeginsToWait (session : ℕ) (mid new : State) : Type 0 where
+  pub txn : SessionTxn
+  pub active : IsAmong txn mid.sessions.active
+  pub of : txn.session ≡ session
+  pub whole : txn.undo.rolling ≡ None
+  pub idle : DoesNotWait mid session
+  pub call : Call
+  pub lock : Asked
+  pub asked : lock_asked_by call ≡ Some lock
+  pub at : Granule
+  pub is : new ≡ record mid { waiting = lock_waiting txn call at ∷ mid.waiting }
+
+-- what is left: that state, the failed one, or one in which the call waits
+abbrev pub IsLeft : ℕ → State → State → Type 0
+IsLeft session mid new = (new ≡ mid) ⊎ ((new ≡ with_failure mid) ⊎ BeginsToWait session mid new)
+
+pub record GoesQuietly (g : Geometry) (session : ℕ) (s new : State) (made : List Entry) : Type 0 where
+  pub events : List SessionEvent
+  pub quiet : AllByRecursion (IsQuiet s) events
+  pub mid : State
+  pub goes : GoesBy g s events mid made
+  pub left : IsLeft session mid new
+
+module _ (g : Geometry) (session : ℕ) where
+  -- one event
+  pub quietly_one : (s : State) (e : SessionEvent) (mid new : State) → IsQuiet s e → Goes g s e mid → IsLeft session mid new → GoesQuietly g session s new (entries_by s.sessions e)
+  quietly_one s e mid new quiet goes left = record { events = e ∷ []; quiet = (quiet, tt); mid = mid; goes = (mid, [], goes, (refl, refl), sym (append-nil (entries_by s.sessions e))); left = left }
+
+  -- .. and before it locks move
+  pub quietly_behind : (s : State) (rs : List Request) (new : State) (made : List Entry) → Goes g s (MoveLocks (held_by_all rs)) (with_requests s rs)
+      → GoesQuietly g session (with_requests s rs) new made → GoesQuietly g session s new made
+  quietly_behind s rs new made goes rest =
+      record { events = MoveLocks (held_by_all rs) ∷ rest.events; quiet = (tt, rest.quiet); mid = rest.mid; goes = (with_requests s rs, made, goes, rest.goes, refl); left = rest.left }
+
+  -- none
+  pub quietly_none : (s new : State) → IsLeft session s new → GoesQuietly g session s new []
+  quietly_none s new left = record { events = []; quiet = tt; mid = s; goes = (refl, refl); left = left }
+
+-- what is left is like the state before
+pub left_like : (session : ℕ) (mid new : State) → IsLeft session mid new → IsLike mid new
+left_like session mid new (inl same) = subst (IsLike mid) (sym same) (record { sessions = refl; log = refl; counts = refl; stream = refl })
+left_like session mid new (inr (inl failed)) = subst (IsLike mid) (sym failed) (record { sessions = refl; log = refl; counts = refl; stream = refl })
+left_like session mid new (inr (inr waits)) = subst (IsLike mid) (sym waits.is) (record { sessions = refl; log = refl; counts = refl; stream = refl })
+
+-- no commit is answered
+none_to_answer : (s start : State) (events : List SessionEvent) → AllByRecursion (IsQuiet start) events → AllByRecursion (IsDurable s) events
+none_to_answer s start [] quiet = tt
+none_to_answer s start (e ∷ events) quiet = (none e quiet.0, none_to_answer s start events quiet.1)
+  where
+    none : (e : SessionEvent) → IsQuiet start e → IsDurable s e
+    none (AnswerCommit a) quiet = absurd quiet
+    none (MoveLocks held) quiet = tt
+    none (BeginTxn session) quiet = tt
+    none (GiveReply a c reply) quiet = tt
+    none (AppendCommit a) quiet = tt
+    none (PutBack a kept e r) quiet = tt
+    none (Doom a) quiet = tt
+    none (AnswerAbort a) quiet = tt
+    none (RefuseCall session t c f) quiet = tt
+
+pub quietly_comes : (g : Geometry) (session : ℕ) (s start new : State) (made : List Entry) → IsLike s start → GoesQuietly g session start new made → ComesBy g s new made
+quietly_comes g session s start new made before h = record {
+  start = start;
+  before = before;
+  events = h.events;
+  durable = none_to_answer s start h.events h.quiet;
+  mid = h.mid;
+  goes = h.goes;
+  after = left_like session h.mid new h.left;
+}

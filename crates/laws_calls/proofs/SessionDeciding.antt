@@ -1,0 +1,459 @@
+-- Each call and each resume of a session under locks comes to something.
+use Rattle.std.proofs.Common.{◌≡◌, ◌≢◌, ◌⊎◌, inl, inr, ⊎_elim, ◌+◌, ◌≤◌, ◌<◌, ℕ, List, ◌∷◌, Bool, true, false, Some, None, Option, refl, sym, ap, subst, ◌∙◌, length, Ok, Err}
+use Rattle.std.specs.FinMap.{get}
+use Rattle.std.specs.Prelude.{Option, IsSome, IsSomeAnd, IsTrue, Result, slice_get}
+use Rattle.std.proofs.lemmas.Bool.{cases_Bool}
+use Rattle.shore_types.specs.Images.{Image}
+use Rattle.shore_types.specs.Layout.{HasSlot}
+use Rattle.shore_types.specs.Locking.{level_of}
+use Rattle.shore_types.specs.declared.faults.Fault.{Fault}
+use Rattle.shore_types.specs.declared.faults.Fault.TheVariants as fault
+use Rattle.shore_types.specs.declared.ids.Rid.{Rid}
+use Rattle.shore_types.specs.declared.layout.Geometry.{Geometry}
+use Rattle.shore_types.specs.declared.layout.TheConstants.{ENDING_COST, LAST_TXN, MAX_RECORD_BYTES, MAX_SAVEPOINTS, MAX_SLOTS, MAX_TRANSACTIONS}
+use Rattle.shore_types.specs.declared.locking.Granule.{Granule}
+use Rattle.shore_types.specs.declared.locking.Granule.TheVariants as granule
+use Rattle.shore_types.specs.declared.locking.Mode.{Mode}
+use Rattle.shore_types.specs.declared.locking.Mode.TheVariants.{EX}
+use Rattle.shore_model.specs.Modes.{is_allowed}
+use Rattle.shore_model.specs.Records.{scan_of}
+use Rattle.shore_model.specs.declared.calls.Answer.{Answer}
+use Rattle.shore_model.specs.declared.calls.Answer.TheVariants.{Aborted, Began, Committed, Deleted, Got, Inserted, Locked, Saved, Scanned, Updated, WentBack}
+use Rattle.shore_model.specs.declared.calls.Call.{Call}
+use Rattle.shore_model.specs.declared.calls.Call.TheVariants as call
+use Rattle.shore_model.specs.declared.histories.Entry.{Entry}
+use Rattle.shore_model.specs.declared.log_records.LogRecord.{LogRecord}
+use Rattle.shore_model.specs.declared.requests.Request.{Request}
+use Rattle.shore_locks.specs.Tables.{is_waiting}
+use Rattle.shore_path.specs.Walks.{acquired}
+use Rattle.shore_path.specs.declared.answers.Acquired.{Acquired}
+use Rattle.shore_path.specs.declared.answers.Acquired.TheVariants as acquire
+use Rattle.shore_path.specs.declared.answers.OnConflict.TheVariants as conflict
+use Rattle.laws_locks.proofs.Places.{EndsWell, acquired_ends}
+use Rattle.laws_locks.specs.CallLocks.{Asked, CanLockNow, lock_asked_by}
+use Rattle.laws_room.proofs.Fitting.{delete_fits}
+use Rattle.laws_room.specs.Claims.{SlotCounts}
+use Rattle.laws_lives.proofs.Lists.{within_or_beyond}
+use Rattle.shore_model.specs.declared.rollbacks.Rollback.{Rollback}
+use Rattle.shore_model.specs.declared.rollbacks.Rollback.TheVariants.{To, Whole}
+use Rattle.laws_lives.specs.Sessions.{SessionTxn, txn_begun}
+use Rattle.laws_lives.specs.Views.{IsAmong}
+use Rattle.shore_model.specs.declared.step.Step.{Step}
+use Rattle.shore_model.specs.declared.step.Step.TheVariants.{Done, Nothing, Refused, Waits}
+use Rattle.shore_model.specs.declared.step.Wait.{Wait}
+use Rattle.shore_model.specs.declared.step.Wait.TheVariants.{Durable, Lock}
+use Rattle.laws_calls.proofs.AcquireAnswers.{acquire_fault, lock_fault_ordinary}
+use Rattle.laws_calls.proofs.Decided.{IsOrdinary, OrNot, both, fits_or_not, grown, grows, image_or_none, less_than, none_or_not, ordinary, page_or_not, room_or_not, same_number, store_or_not, waits_or_not}
+use Rattle.laws_calls.proofs.LowestPlaces.{lowest_or_none}
+use Rattle.laws_calls.proofs.SessionInversions.{IsLockless}
+use Rattle.laws_calls.proofs.Sessions.{is_txn_of}
+use Rattle.laws_calls.specs.CallHistories.{IsRoomyState}
+use Rattle.laws_calls.specs.StateChanges.{CanLog, ComesOfState, FitsAt, MayChange, answered, commit_waiting, committed, wait_refused}
+use Rattle.laws_calls.specs.CallSteps.{AnswersBehind, BeginStep, CallGoesOn, HasGranule, HasLocked, HasPlace, InnerStep, IsPlaceOf, MayAsk, RefusesBehind, RefusesEarly, RefusesGranule, RefusesId, RefusesLock, ResumesWait, ServesTxn, CallStep, ResumeStep, aborted, behind_lock, behind_place, commit_ended, lock_outcome, lock_waiting, on_conflict_of, place_outcome, txn_count}
+use Rattle.laws_calls.specs.Events.{IsStateAfter}
+use Rattle.shore_model.specs.Calls.{IsServed}
+use Rattle.laws_calls.specs.Rollbacks.{TakesCall}
+use Rattle.laws_calls.specs.SessionWaits.{IsCommitWait, IsLockWait}
+use Rattle.laws_calls.specs.Victims.{TellsVictim}
+use Rattle.laws_calls.specs.States.{DoesNotWait, HasNoTxn, IsOfSession, State, Waiting, next_number, page_slots}
+
+abbrev pub GoesSomewhere : Geometry → State → SessionTxn → Call → Type 0
+GoesSomewhere g s a c = (step : Step) × (new : State) × CallGoesOn g s a c step new × ComesOfState step
+
+pub can_lock_or_not : (rs : List Request) (t : ℕ) (at : Granule) (mode : Mode) → OrNot (CanLockNow rs t at mode)
+can_lock_or_not rs t at mode = by (acquired conflict.Refuse (record { limit = length rs + 4; requests = rs }) t at mode).answer
+  where
+    by : (r : Result Acquired Fault) → OrNot (r ≡ Ok acquire.Done)
+    by (Ok acquire.Done) = inl refl
+    by (Ok (acquire.Waiting h)) = inr (λ e. absurd cc)
+    by (Err f) = inr (λ e. absurd cc)
+
+-- ---- the place of an insert
+
+module _ (g : Geometry) (s : State) (t store : ℕ) (bytes : List ℕ) where
+  serves_or_not : (id : Rid) → OrNot (ServesTxn g s t store bytes id)
+  serves_or_not id =
+      ⊎_elim
+      (λ h. inl (record { of_store = h.0; inside = h.1.0; empty = h.1.1.0; fits = h.1.1.1.0; free = h.1.1.1.1 }))
+      (λ none. inr (λ h. none (h.of_store, (h.inside, (h.empty, (h.fits, h.free))))))
+      (both (same_number id.page.store store) (both (page_or_not g id.page) (both (none_or_not (get s.sessions.records id))
+      (both (fits_or_not (page_slots s id.page) id.slot (length bytes)) (can_lock_or_not s.locks.requests t (granule.Record id) EX)))))
+
+  abbrev PlaceOrNone : Type 0
+  PlaceOrNone = ((id : Rid) × IsPlaceOf g s t store bytes id) ⊎ ((id : Rid) → ServesTxn g s t store bytes id → ⊥)
+
+  page_inside : (n : ℕ) (o : Option ℕ) → o ≡ Some n → (page : ℕ) → IsSomeAnd o (λ pages. page < pages) → page < n
+  page_inside n o is page h = subst (λ o. IsSomeAnd o (λ pages. page < pages)) is h
+
+  no_page : (o : Option ℕ) → o ≡ None → (page : ℕ) → IsSomeAnd o (λ pages. page < pages) → ⊥
+  no_page o is page h = subst (λ o. IsSomeAnd o (λ pages. page < pages)) is h
+
+  pub place_or_none : PlaceOrNone
+  place_or_none = by (slice_get g.stores store) refl
+    where
+      by : (o : Option ℕ) → slice_get g.stores store ≡ o → PlaceOrNone
+      by None none = inr (λ id h. no_page (slice_get g.stores id.page.store) (ap (slice_get g.stores) h.of_store ∙ none) id.page.page h.inside)
+      by (Some pages) has =
+          lowest_or_none (ServesTxn g s t store bytes) serves_or_not store pages MAX_SLOTS
+          (λ id h. (h.of_store, page_inside pages (slice_get g.stores id.page.store) (ap (slice_get g.stores) h.of_store ∙ has) id.page.page h.inside, h.fits.there))
+
+-- ---- behind the locks
+
+module _ (g : Geometry) (s : State) (a : SessionTxn) (c : Call) (locked : State) (has : HasLocked s a c locked) (roomy : IsRoomyState locked) where
+  answers : (answer : Answer) (new : State) → AnswersBehind g locked a c answer new → GoesSomewhere g s a c
+  answers answer new h = (Done answer, new, (locked, has, h), tt)
+
+  refuses : (f : Fault) (new : State) → RefusesBehind g locked a c f new → IsOrdinary f → GoesSomewhere g s a c
+  refuses f new h is = (Refused f, new, inr (inr (locked, has, h)), ordinary f is)
+
+  -- a change of an id that fits
+  change : (id : Rid) (image : Image) (said : Answer) → FitsAt locked id image
+      → ((counts : SlotCounts) → MayChange locked id image counts → AnswersBehind g locked a c said (answered locked a c said counts))
+      → ((CanLog locked id image → ⊥) → RefusesBehind g locked a c fault.LogFull locked) → GoesSomewhere g s a c
+  change id image said fits may full =
+      ⊎_elim
+      (λ logs. answers said (answered locked a c said (grown locked.counts id)) (may (grown locked.counts id) (record { fits = fits; logs = logs; grows = grows locked.counts id })))
+      (λ none. refuses fault.LogFull locked (full none) tt)
+      (room_or_not locked _)
+
+is_some : (o : Image) (x : List ℕ) → o ≡ Some x → IsSome o
+is_some o x e = cc
+
+module _ (g : Geometry) (s : State) (a : SessionTxn) (locked : State) (roomy : IsRoomyState locked) where
+  module _ (store : ℕ) (bytes : List ℕ) (has : HasLocked s a (call.Insert store bytes) locked) where
+    abbrev Inserting : Type 0
+    Inserting = GoesSomewhere g s a (call.Insert store bytes)
+
+    not_inserted : (f : Fault) (new : State) → RefusesBehind g locked a (call.Insert store bytes) f new → IsOrdinary f → Inserting
+    not_inserted f new h is = refuses g s a (call.Insert store bytes) locked has roomy f new h is
+
+    inserts_there : (id : Rid) → HasPlace g locked a store bytes id → CanLog locked id (Some bytes) → Inserting
+    inserts_there id place logs =
+        answers g s a (call.Insert store bytes) locked has roomy (Inserted id)
+        (answered (behind_place locked a id) a (call.Insert store bytes) (Inserted id) (grown locked.counts id))
+        (id, place, refl, (grown locked.counts id, record { fits = place.0.serves.fits; logs = logs; grows = grows locked.counts id }, refl))
+
+    inserts_at : (id : Rid) → IsPlaceOf g locked a.txn store bytes id → EndsWell (place_outcome locked a id) → Inserting
+    inserts_at id place (inl done) =
+        ⊎_elim
+        (λ logs. inserts_there id (place, done) logs)
+        (λ none. not_inserted fault.LogFull (behind_place locked a id) (inr (inr (inl (refl, (id, (place, done), none, refl))))) tt)
+        (room_or_not locked _)
+    inserts_at id place (inr full) = not_inserted fault.LockTableFull (behind_place locked a id) (inr (inl (refl, (id, place, full, refl)))) tt
+
+    inserts : Inserting
+    inserts =
+        ⊎_elim
+        (λ place. inserts_at place.0 place.1
+        (acquired_ends locked.locks.requests locked.locks.limit (length locked.locks.requests + 4) a.txn (granule.Record place.0) EX place.1.serves.free))
+        (λ none. not_inserted fault.StoreFull locked (inl (refl, none, refl)) tt)
+        (place_or_none g locked a.txn store bytes)
+
+  behind : (c : Call) (lock : Asked) → lock_asked_by c ≡ Some lock → HasLocked s a c locked → GoesSomewhere g s a c
+  behind (call.Get id) lock asks has =
+      ⊎_elim
+      (λ there. answers g s a (call.Get id) locked has roomy (Got there.0) (answered locked a (call.Get id) (Got there.0) locked.counts) ((there.0, there.1, refl), refl))
+      (λ none. refuses g s a (call.Get id) locked has roomy fault.NoRecord locked (none, refl) tt)
+      (image_or_none (get locked.sessions.records id))
+  behind (call.GetForUpdate id) lock asks has =
+      ⊎_elim
+      (λ there. answers g s a (call.GetForUpdate id) locked has roomy (Got there.0) (answered locked a (call.GetForUpdate id) (Got there.0) locked.counts) ((there.0, there.1, refl), refl))
+      (λ none. refuses g s a (call.GetForUpdate id) locked has roomy fault.NoRecord locked (none, refl) tt)
+      (image_or_none (get locked.sessions.records id))
+  behind (call.Insert store bytes) lock asks has = inserts store bytes has
+  behind (call.Update id bytes) lock asks has =
+      ⊎_elim
+      (λ there.
+      let found = is_some (get locked.sessions.records id) there.0 there.1 in
+      ⊎_elim
+      (λ fits. change g s a (call.Update id bytes) locked has roomy id (Some bytes) Updated fits (λ counts may. (found, refl, (counts, may, refl)))
+      (λ none. (inr (inr (refl, found, fits, none)), refl)))
+      (λ none. refuses g s a (call.Update id bytes) locked has roomy fault.StoreFull locked (inr (inl (refl, found, none)), refl) tt)
+      (fits_or_not (page_slots locked id.page) id.slot (length bytes)))
+      (λ none. refuses g s a (call.Update id bytes) locked has roomy fault.NoRecord locked (inl none, refl) tt)
+      (image_or_none (get locked.sessions.records id))
+  behind (call.Delete id) lock asks has =
+      ⊎_elim
+      (λ there.
+      let found = is_some (get locked.sessions.records id) there.0 there.1 in
+      change g s a (call.Delete id) locked has roomy id None Deleted (delete_fits locked.sessions.records locked.sessions.active locked.counts roomy.pages id there.0 there.1).0
+      (λ counts may. (found, refl, (counts, may, refl))) (λ none. (inr (refl, found, none), refl)))
+      (λ none. refuses g s a (call.Delete id) locked has roomy fault.NoRecord locked (inl none, refl) tt)
+      (image_or_none (get locked.sessions.records id))
+  behind (call.Scan store) lock asks has =
+      answers g s a (call.Scan store) locked has roomy (Scanned (scan_of store locked.sessions.records))
+      (answered locked a (call.Scan store) (Scanned (scan_of store locked.sessions.records)) locked.counts) (refl, refl)
+  behind (call.Lock at mode) lock asks has = answers g s a (call.Lock at mode) locked has roomy Locked (answered locked a (call.Lock at mode) Locked locked.counts) (refl, refl)
+  behind (call.TryLock at mode) lock asks has =
+      answers g s a (call.TryLock at mode) locked has roomy Locked (answered locked a (call.TryLock at mode) Locked locked.counts) (refl, refl)
+  behind _ lock asks has = absurd cc
+
+-- ---- a call that asks for a lock
+
+module _ (g : Geometry) (s : State) (roomy : IsRoomyState s) (a : SessionTxn) where
+  goes_somewhere : (c : Call) (lock : Asked) → lock_asked_by c ≡ Some lock → GoesSomewhere g s a c
+  goes_somewhere c lock asks = by (lock_outcome s a c lock).answer refl
+    where
+      by : (r : Result Acquired Fault) → (lock_outcome s a c lock).answer ≡ r → GoesSomewhere g s a c
+      by (Ok acquire.Done) is =
+          behind g s a (behind_lock s a c lock) (record { pages = roomy.pages; log = roomy.log }) c lock asks (lock, asks, is, refl)
+      by (Ok (acquire.Waiting at)) is =
+          (Waits (Lock at), record (behind_lock s a c lock) { waiting = lock_waiting a c at ∷ s.waiting }, (lock, at, asks, is, refl, refl), tt)
+      by (Err f) is = (
+        Refused f,
+        behind_lock s a c lock,
+        inr (inl (lock, asks, is, refl)),
+        lock_fault_ordinary f (acquire_fault s.locks a.txn lock.granule lock.mode (on_conflict_of c) f is),
+      )
+
+-- ---- calls
+
+abbrev pub SessionComesTo : Geometry → State → ℕ → Call → Type 0
+SessionComesTo g s session c = (step : Step) × (new : State) × CallStep g s session c step new × ComesOfState step
+
+module _ (g : Geometry) where
+  -- the call may ask for its locks, or is refused before
+  abbrev AsksOrNot : Call → Type 0
+  AsksOrNot c = (MayAsk g c × ((lock : Asked) × (lock_asked_by c ≡ Some lock))) ⊎ ((f : Fault) × RefusesEarly g c f × IsOrdinary f)
+
+  -- an id has its place in the volume, or it is refused
+  id_or_not : (id : Rid) → HasSlot g id ⊎ ((f : Fault) × RefusesId g id f × IsOrdinary f)
+  id_or_not id =
+      ⊎_elim
+      (λ store. ⊎_elim
+      (λ page. ⊎_elim
+      (λ beyond. inr (fault.NoRecord, (page, beyond), tt))
+      (λ within. inl (page, within))
+      (within_or_beyond MAX_SLOTS id.slot))
+      (λ none. inr (fault.NoPage, (store, none), tt))
+      (page_or_not g id.page))
+      (λ none. inr (fault.NoStore, none, tt))
+      (store_or_not g id.page.store)
+
+  granule_or_not : (at : Granule) → HasGranule g at ⊎ ((f : Fault) × RefusesGranule g at f × IsOrdinary f)
+  granule_or_not granule.Volume = inl tt
+  granule_or_not (granule.Store store) = ⊎_elim (λ has. inl has) (λ none. inr (fault.NoStore, (refl, none), tt)) (store_or_not g store)
+  granule_or_not (granule.Page page) =
+      ⊎_elim
+      (λ store. ⊎_elim (λ has. inl has) (λ none. inr (fault.NoPage, inr (refl, store, none), tt)) (page_or_not g page))
+      (λ none. inr (fault.NoStore, inl (refl, none), tt))
+      (store_or_not g page.store)
+  granule_or_not (granule.Record id) = id_or_not id
+
+  lock_or_not : (at : Granule) (mode : Mode) → (IsTrue (is_allowed (level_of at) mode) × HasGranule g at) ⊎ ((f : Fault) × RefusesLock g at mode f × IsOrdinary f)
+  lock_or_not at mode =
+      ⊎_elim
+      (λ allowed. ⊎_elim (λ has. inl (allowed, has)) (λ h. inr (h.0, inr (allowed, h.1), h.2)) (granule_or_not at))
+      (λ not. inr (fault.BadMode, inl (refl, not), tt))
+      (cases_Bool (is_allowed (level_of at) mode))
+
+  asks_or_not : (c : Call) → IsServed c → c ≢ call.Begin → c ≢ call.Commit → (IsLockless c → ⊥) → AsksOrNot c
+  asks_or_not call.Begin served other last locks = absurd (other refl)
+  asks_or_not call.Commit served other last locks = absurd (last refl)
+  asks_or_not (call.Get id) served other last locks = ⊎_elim (λ has. inl (has, (_, refl))) (λ h. inr h) (id_or_not id)
+  asks_or_not (call.GetForUpdate id) served other last locks = ⊎_elim (λ has. inl (has, (_, refl))) (λ h. inr h) (id_or_not id)
+  asks_or_not (call.Insert store bytes) served other last locks =
+      ⊎_elim
+      (λ short. ⊎_elim
+      (λ has. inl ((short, has), (_, refl)))
+      (λ none. inr (fault.NoStore, inr (short, refl, none), tt))
+      (store_or_not g store))
+      (λ long. inr (fault.TooLong, inl (refl, long), tt))
+      (within_or_beyond (length bytes) MAX_RECORD_BYTES)
+  asks_or_not (call.Update id bytes) served other last locks =
+      ⊎_elim
+      (λ short. ⊎_elim
+      (λ has. inl ((short, has), (_, refl)))
+      (λ h. inr (h.0, inr (short, h.1), h.2))
+      (id_or_not id))
+      (λ long. inr (fault.TooLong, inl (refl, long), tt))
+      (within_or_beyond (length bytes) MAX_RECORD_BYTES)
+  asks_or_not (call.Delete id) served other last locks = ⊎_elim (λ has. inl (has, (_, refl))) (λ h. inr h) (id_or_not id)
+  asks_or_not (call.Scan store) served other last locks = ⊎_elim (λ has. inl (has, (_, refl))) (λ none. inr (fault.NoStore, (refl, none), tt)) (store_or_not g store)
+  asks_or_not (call.Lock at mode) served other last locks = ⊎_elim (λ has. inl (has, (_, refl))) (λ h. inr h) (lock_or_not at mode)
+  asks_or_not (call.TryLock at mode) served other last locks = ⊎_elim (λ has. inl (has, (_, refl))) (λ h. inr h) (lock_or_not at mode)
+  asks_or_not call.Savepoint served other last locks = absurd (locks tt)
+  asks_or_not (call.BackTo n) served other last locks = absurd (locks tt)
+  asks_or_not call.Abort served other last locks = absurd (locks tt)
+  asks_or_not _ served other last locks = absurd served
+
+module _ (g : Geometry) (s : State) (session : ℕ) where
+  comes_refused : (c : Call) (f : Fault) → CallStep g s session c (Refused f) s → IsOrdinary f → SessionComesTo g s session c
+  comes_refused c f h is = (Refused f, s, h, ordinary f is)
+
+  module _ (running : s.failed ≡ false) (idle : DoesNotWait s session) where
+    begins : (step : Step) (new : State) → BeginStep s session step new → ComesOfState step → SessionComesTo g s session call.Begin
+    begins step new h of = (step, new, inr (inr (inr (inl (running, idle, refl, h)))), of)
+
+    begin_comes : HasNoTxn s session → SessionComesTo g s session call.Begin
+    begin_comes none =
+        ⊎_elim
+        (λ room. ⊎_elim
+        (λ may. begins (Done (Began s.sessions.next_txn)) (record s { sessions = txn_begun s.sessions session }) (none, room, may, refl, refl) tt)
+        (λ not. begins (Refused fault.LogFull) s (inr (inr (refl, none, room, not)), refl) (ordinary fault.LogFull tt))
+        (both (room_or_not s ENDING_COST) (less_than s.sessions.next_txn LAST_TXN)))
+        (λ full. begins (Refused fault.TooManyTransactions) s (inr (inl (refl, none, full)), refl) (ordinary fault.TooManyTransactions tt))
+        (room_or_full (txn_count s))
+      where
+        room_or_full : (n : ℕ) → (n < MAX_TRANSACTIONS) ⊎ (MAX_TRANSACTIONS ≤ n)
+        room_or_full n = ⊎_elim (λ full. inr full) (λ room. inl room) (within_or_beyond MAX_TRANSACTIONS n)
+
+    out_of_txn : (c : Call) → HasNoTxn s session → SessionComesTo g s session c
+    out_of_txn call.Begin none = begin_comes none
+    out_of_txn c none = comes_refused c fault.NoTransaction (inr (inr (inr (inr (inl (running, idle, λ e. cc, none, refl, refl)))))) tt
+
+    module _ (roomy : IsRoomyState s) (a : SessionTxn) (mine : IsOfSession s session a) where
+      inner : (c : Call) (step : Step) (new : State) → InnerStep g s a c step new → ComesOfState step → SessionComesTo g s session c
+      inner c step new h of = (step, new, inr (inr (inr (inr (inr (running, idle, (a, mine, h)))))), of)
+
+      -- no rollback is under way
+      module _ (whole : a.undo.rolling ≡ None) where
+        asks : (c : Call) → IsServed c → c ≢ call.Begin → c ≢ call.Commit → (IsLockless c → ⊥) → SessionComesTo g s session c
+        asks c served other last locks =
+            ⊎_elim
+            (λ h. let goes = goes_somewhere g s roomy a c h.1.0 h.1.1 in inner c goes.0 goes.1 (inr (inl (whole, inr (inl (h.0, goes.2))))) goes.3)
+            (λ h. inner c (Refused h.0) s (inr (inl (whole, inl (h.0, h.1, refl, refl)))) (ordinary h.0 h.2))
+            (asks_or_not g c served other last locks)
+
+        saves : SessionComesTo g s session call.Savepoint
+        saves =
+            ⊎_elim
+            (λ full. inner call.Savepoint (Refused fault.TooManySavepoints) s (inr (inl (whole, inr (inr (inr (refl, (refl, full, refl))))))) (ordinary fault.TooManySavepoints tt))
+            (λ less. inner call.Savepoint (Done (Saved (length a.undo.marks))) (answered s a call.Savepoint (Saved (length a.undo.marks)) s.counts)
+            (inr (inl (whole, inr (inr (inr (refl, (less, refl, refl))))))) tt)
+            (within_or_beyond MAX_SAVEPOINTS (length a.undo.marks))
+
+      -- a way back that is taken
+      goes_back : (n : ℕ) → TakesCall a.undo (call.BackTo n) → SessionComesTo g s session (call.BackTo n)
+      goes_back n takes =
+          ⊎_elim
+          (λ late. inner (call.BackTo n) (Refused fault.NoSavepoint) s (inr (inr (inl (n, refl, takes, inl (refl, late, refl))))) (ordinary fault.NoSavepoint tt))
+          (λ less. inner (call.BackTo n) (Done WentBack) (answered s a (call.BackTo n) WentBack s.counts) (inr (inr (inl (n, refl, takes, (less, refl, refl))))) tt)
+          (within_or_beyond (length a.undo.marks) n)
+
+      must_abort : (c : Call) → c ≢ call.Begin → (TakesCall a.undo c → ⊥) → SessionComesTo g s session c
+      must_abort c other takes = inner c (Refused fault.MustAbort) s (inl (other, takes, refl, refl)) (ordinary fault.MustAbort tt)
+
+      -- once a rollback is under way, nothing else is taken than an abort, and the same way back
+      taken_back : (n : ℕ) → OrNot (TakesCall a.undo (call.BackTo n))
+      taken_back n = by a.undo.rolling refl
+        where
+          same_way : (m : ℕ) → Some (To m) ≡ Some (To n) → m ≡ n
+          same_way m e = cc
+
+          its_way : (m : ℕ) → call.BackTo n ≡ call.BackTo m → n ≡ m
+          its_way m e = cc
+
+          by : (o : Option Rollback) → a.undo.rolling ≡ o → OrNot (TakesCall a.undo (call.BackTo n))
+          by None whole = inl (inl whole)
+          by (Some Whole) rolls = inr (λ takes. ⊎_elim
+              (λ none. let clash : Some Whole ≡ None = sym rolls ∙ none in cc)
+              (⊎_elim (λ abort. let clash = abort in cc) (λ on. let clash : Some Whole ≡ Some (To on.0) = sym rolls ∙ on.1 in cc)) takes)
+          by (Some (To m)) rolls =
+              ⊎_elim
+              (λ same. inl (inr (inr (n, rolls ∙ ap (λ x. Some (To x)) same, refl))))
+              (λ other. inr (λ takes. ⊎_elim
+              (λ none. let clash : Some (To m) ≡ None = sym rolls ∙ none in cc)
+              (⊎_elim (λ abort. let clash = abort in cc)
+              (λ on. other (same_way m (sym rolls ∙ on.1 ∙ ap (λ x. Some (To x)) (sym (its_way on.0 on.2)))))) takes))
+              (same_number m n)
+
+      not_taken : (c : Call) (r : Rollback) → a.undo.rolling ≡ Some r → c ≢ call.Abort → ((n : ℕ) → c ≢ call.BackTo n) → TakesCall a.undo c → ⊥
+      not_taken c r rolls abort back takes =
+          ⊎_elim (λ none. let clash : Some r ≡ None = sym rolls ∙ none in cc) (⊎_elim abort (λ on. back on.0 on.2)) takes
+
+      in_txn : (c : Call) → IsServed c → SessionComesTo g s session c
+      in_txn call.Begin served = begins (Refused fault.AlreadyActive) s (inl (refl, (a, mine)), refl) (ordinary fault.AlreadyActive tt)
+      in_txn call.Abort served = inner call.Abort (Done Aborted) (aborted s a) (inr (inr (inr (refl, (refl, refl))))) tt
+      in_txn (call.BackTo n) served = ⊎_elim (goes_back n) (must_abort (call.BackTo n) (λ e. cc)) (taken_back n)
+      in_txn call.Commit served = by a.undo.rolling refl
+        where
+          by : (o : Option Rollback) → a.undo.rolling ≡ o → SessionComesTo g s session call.Commit
+          by None whole = inner call.Commit (Waits (Durable (next_number s))) (committed s a) (inr (inl (whole, inr (inr (inl (refl, (refl, refl))))))) tt
+          by (Some r) rolls = must_abort call.Commit (λ e. cc) (not_taken call.Commit r rolls (λ e. cc) (λ n e. cc))
+      in_txn call.Savepoint served = by a.undo.rolling refl
+        where
+          by : (o : Option Rollback) → a.undo.rolling ≡ o → SessionComesTo g s session call.Savepoint
+          by None whole = saves whole
+          by (Some r) rolls = must_abort call.Savepoint (λ e. cc) (not_taken call.Savepoint r rolls (λ e. cc) (λ n e. cc))
+      in_txn c served = by a.undo.rolling refl
+        where
+          by : (o : Option Rollback) → a.undo.rolling ≡ o → SessionComesTo g s session c
+          by None whole = asks whole c served (λ e. cc) (λ e. cc) (λ none. none)
+          by (Some r) rolls = must_abort c (λ e. cc) (not_taken c r rolls (λ e. cc) (λ n e. cc))
+
+  module _ (found : List LogRecord) (es : List Entry) (k : IsStateAfter found es s) (roomy : IsRoomyState s) where
+    pub call_comes_to_something : (c : Call) → IsServed c → SessionComesTo g s session c
+    call_comes_to_something c served = by s.failed refl
+      where
+        no_commit_waits : s.failed ≡ false → DoesNotWait s session → (a : SessionTxn) → IsAmong a s.sessions.committing → a.session ≡ session → ⊥
+        no_commit_waits running idle a committing of = let w = k.waits.all running a committing in idle (commit_waiting a.session w.0) w.1 of
+
+        by : (b : Bool) → s.failed ≡ b → SessionComesTo g s session c
+        by true failed = comes_refused c fault.Failed (inr (inl (failed, refl, refl))) tt
+        by false running =
+            ⊎_elim
+            (λ w. comes_refused c fault.Busy (inr (inr (inl (running, λ idle. idle w.0 w.1 w.2, refl, refl)))) tt)
+            (λ idle. ⊎_elim
+            (λ h. ⊎_elim
+            (λ active. in_txn running idle roomy h.0 (active, h.2) c served)
+            (λ committing. absurd (no_commit_waits running idle h.0 committing h.2))
+            h.1)
+            (λ h. out_of_txn running idle c h.0)
+            (is_txn_of s.sessions session))
+            (waits_or_not session s.waiting)
+
+    -- ---- resumes
+
+    abbrev pub ResumeComes : Type 0
+    ResumeComes = (step : Step) × (new : State) × (ResumeStep g s session step new ⊎ TellsVictim s session step new) × ComesOfState step
+
+    module _ (w : Waiting) (there : IsAmong w s.waiting) (of : w.session ≡ session) (running : s.failed ≡ false) where
+      resumes : w.cycle ≡ None → (wait : Wait) → w.wait ≡ wait → (step : Step) (new : State) → ResumesWait g s w wait step new → ComesOfState step → ResumeComes
+      resumes spared wait is step new h from =
+          (step, new, inl (inr (w, there, of, inr (running, subst (λ (x : Wait). ResumesWait g s w x step new) (sym is) h, spared))), from)
+
+      commit_resumes : IsCommitWait (length found) s w → ResumeComes
+      commit_resumes h =
+          ⊎_elim
+          (λ durable. resumes spared (Durable h.number) wait_is (Done Committed) (commit_ended s h.txn) (inr (durable, refl, (h.txn, h.committing, session_is, refl))) tt)
+          (λ not_yet. resumes spared (Durable h.number) wait_is (Waits (Durable h.number)) s (inl (not_yet, refl, refl)) tt)
+          (within_or_beyond h.number s.durable)
+        where
+          spared : w.cycle ≡ None
+          spared = ap (λ (x : Waiting). x.cycle) h.is
+
+          wait_is : w.wait ≡ Durable h.number
+          wait_is = ap (λ (x : Waiting). x.wait) h.is
+
+          session_is : h.txn.session ≡ w.session
+          session_is = sym (ap (λ (x : Waiting). x.session) h.is)
+
+      lock_resumes : w.cycle ≡ None → IsLockWait s w → ResumeComes
+      lock_resumes spared h = by (is_waiting h.txn.txn s.locks.requests) refl
+        where
+          by : (b : Bool) → is_waiting h.txn.txn s.locks.requests ≡ b → ResumeComes
+          by true still = resumes spared (Lock h.at) h.is (Waits (Lock h.at)) s (h.txn, (h.active, h.of), inl (still, refl, refl)) tt
+          by false done =
+              let goes = goes_somewhere g (wait_refused s w.session) (record { pages = roomy.pages; log = roomy.log }) h.txn w.call h.lock h.asked in
+              resumes spared (Lock h.at) h.is goes.0 goes.1 (h.txn, (h.active, h.of), inr (done, goes.2)) goes.3
+
+    pub resume_comes_to_something : ResumeComes
+    resume_comes_to_something =
+        ⊎_elim
+        (λ w. by w.0 w.1 w.2 s.failed refl)
+        (λ idle. (Nothing, s, inl (inl (idle, refl, refl)), tt))
+        (waits_or_not session s.waiting)
+      where
+        victim_or_not : (w : Waiting) → IsAmong w s.waiting → w.session ≡ session → s.failed ≡ false → IsLockWait s w → (o : Option (List ℕ)) → w.cycle ≡ o → ResumeComes
+        victim_or_not w there of running asks None spared = lock_resumes w there of running spared asks
+        victim_or_not w there of running asks (Some cycle) is = (
+          Refused (fault.Deadlock cycle),
+          wait_refused s session,
+          inr (record { running = running; waited = w; there = there; of = of; cycle = cycle; victim = is; told = refl; is = refl }),
+          ordinary (fault.Deadlock cycle) tt,
+        )
+
+        by : (w : Waiting) → IsAmong w s.waiting → w.session ≡ session → (b : Bool) → s.failed ≡ b → ResumeComes
+        by w there of true failed = (Refused fault.Failed, wait_refused s w.session, inl (inr (w, there, of, inl (failed, refl, refl))), ordinary fault.Failed tt)
+        by w there of false running = ⊎_elim (commit_resumes w there of running) (λ asks. victim_or_not w there of running asks w.cycle refl) (k.waits.each w there)

@@ -1,0 +1,93 @@
+-- What is forced stays so with each step, and an answered commit is among it.
+use Rattle.std.proofs.Common.{◌≡◌, inl, inr, ◌++◌, ◌∷◌, ℕ, List, [], Ok, Err, refl, sym, ap, subst, ◌∙◌, ◌+◌, append-nil, append_assoc, arith, length, length-append, take}
+use Rattle.std.specs.Prelude.{Contains}
+use Rattle.std.specs.List.{AllByRecursion}
+use Rattle.std.proofs.lemmas.List.Elements.{All-weaker}
+use Rattle.shore_types.specs.declared.layout.Geometry.{Geometry}
+use Rattle.shore_model.specs.declared.calls.Answer.TheVariants.{Aborted, Began, Committed}
+use Rattle.shore_model.specs.declared.calls.Call.TheVariants as call
+use Rattle.shore_model.specs.declared.histories.Decision.TheVariants as decision
+use Rattle.shore_model.specs.declared.histories.Entry.{Entry}
+use Rattle.shore_model.specs.declared.histories.Entry.TheVariants.{Decided, Exchanged}
+use Rattle.shore_model.specs.Histories.{acknowledged}
+use Rattle.laws_lives.specs.LogPrefixes.{decisions_in}
+use Rattle.laws_lives.specs.SessionSteps.{AnswerAbort, AnswerCommit, AppendCommit, BeginTxn, Doom, GiveReply, MoveLocks, PutBack, RefuseCall, SessionEvent, entries_by, exchange}
+use Rattle.laws_lives.specs.Sessions.{SessionTxn}
+use Rattle.laws_calls.proofs.Acknowledged.{acknowledges_one, inner_asks_none}
+use Rattle.laws_calls.proofs.Growing.{forced_grown, still_there}
+use Rattle.laws_calls.proofs.Links.{Goes, GoesBy, GoesQuietly, IsLeft, IsQuiet}
+use Rattle.laws_calls.proofs.SessionsWaiting.{goes_on_log}
+use Rattle.laws_calls.specs.CallHistories.{IsForced, IsPrefix, txn_of}
+use Rattle.laws_calls.specs.StateChanges.{committed}
+use Rattle.laws_calls.specs.CallSteps.{aborted, commit_ended}
+use Rattle.laws_calls.specs.States.{State}
+
+-- no entry more
+pub forced_on : (base : ℕ) (es : List Entry) (s new : State) → new.durable ≡ s.durable → IsPrefix s.log new.log → IsForced base es s → IsForced base es new
+forced_on base es s new same on k =
+    let longer : length new.log ≡ length s.log + length on.0 = ap length on.1 ∙ length-append s.log on.0 in
+    let least = k.least in
+    let most = k.most in
+    record {
+      least = omega (arith, least, same);
+      most = omega (arith, most, same, longer);
+      acknowledged_kept =
+          All-weaker (Contains (decisions_in base (take s.durable s.log))) (Contains (decisions_in base (take new.durable new.log)))
+          (λ d h. subst (λ n. Contains (decisions_in base (take n new.log)) d) (sym same) (still_there base s.durable s.log new.log d on k.most h).1) (acknowledged es) k.acknowledged_kept;
+    }
+
+-- events that end no transaction acknowledge nothing
+event_forced : (g : Geometry) (base : ℕ) (es : List Entry) (start s new : State) (e : SessionEvent) → IsQuiet start e → Goes g s e new → IsForced base es s
+    → IsForced base (es ++ entries_by s.sessions e) new
+event_forced g base es start s new (MoveLocks held) quiet h k =
+    subst (λ (made : List Entry). IsForced base made new) (sym (append-nil es)) (forced_on base es s new h.durable (goes_on_log g s new (MoveLocks held) h) k)
+event_forced g base es start s new (BeginTxn session) quiet h k =
+    forced_grown base es (Exchanged session s.sessions.next_txn (exchange call.Begin (Ok (Began s.sessions.next_txn)))) s new h.durable (goes_on_log g s new (BeginTxn session) h) refl k
+event_forced g base es start s new (GiveReply a c (Ok answer)) quiet h k =
+    forced_grown base es (Exchanged a.session a.txn (exchange c (Ok answer))) s new h.durable (goes_on_log g s new (GiveReply a c (Ok answer)) h) (inner_asks_none a.txn c h.moves.1) k
+event_forced g base es start s new (GiveReply a c (Err f)) quiet h k =
+    forced_grown base es (Exchanged a.session a.txn (exchange c (Err f))) s new h.durable (goes_on_log g s new (GiveReply a c (Err f)) h) refl k
+event_forced g base es start s new (RefuseCall session t c f) quiet h k =
+    forced_grown base es (Exchanged session t (exchange c (Err f))) s new h.durable (goes_on_log g s new (RefuseCall session t c f) h) refl k
+event_forced g base es start s new (Doom a) quiet h k = absurd quiet
+event_forced g base es start s new (PutBack a kept e r) quiet h k =
+    subst (λ (made : List Entry). IsForced base made new) (sym (append-nil es)) (forced_on base es s new h.durable (goes_on_log g s new (PutBack a kept e r) h) k)
+event_forced g base es start s new (AppendCommit a) quiet h k = absurd quiet
+event_forced g base es start s new (AnswerAbort a) quiet h k = absurd quiet
+event_forced g base es start s new (AnswerCommit a) quiet h k = absurd quiet
+
+by_forced : (g : Geometry) (base : ℕ) (es : List Entry) (start s : State) (events : List SessionEvent) (new : State) (made : List Entry) → AllByRecursion (IsQuiet start) events → GoesBy g s events new made
+    → IsForced base es s → IsForced base (es ++ made) new
+by_forced g base es start s [] new made quiet h k =
+    subst (IsForced base (es ++ made)) (sym h.0) (subst (λ (xs : List Entry). IsForced base xs s) (sym (append-nil es) ∙ ap (λ xs. es ++ xs) (sym h.1)) k)
+by_forced g base es start s (e ∷ events) new made quiet h k =
+    subst (λ (xs : List Entry). IsForced base xs new) (append_assoc es (entries_by s.sessions e) h.1 ∙ ap (λ xs. es ++ xs) (sym h.4))
+    (by_forced g base (es ++ entries_by s.sessions e) start h.0 events new h.1 quiet.1 h.3 (event_forced g base es start s h.0 e quiet.0 h.2 k))
+
+left_forced : (base session : ℕ) (es : List Entry) (s new : State) → IsLeft session s new → IsForced base es s → IsForced base es new
+left_forced base session es s new (inl same) k = subst (IsForced base es) (sym same) k
+left_forced base session es s new (inr (inl failed)) k =
+    subst (IsForced base es) (sym failed) (record { least = k.least; most = k.most; acknowledged_kept = k.acknowledged_kept })
+left_forced base session es s new (inr (inr waits)) k =
+    subst (IsForced base es) (sym waits.is) (record { least = k.least; most = k.most; acknowledged_kept = k.acknowledged_kept })
+
+pub quietly_forced : (g : Geometry) (session base : ℕ) (es : List Entry) (s new : State) (made : List Entry) → GoesQuietly g session s new made → IsForced base es s → IsForced base (es ++ made) new
+quietly_forced g session base es s new made h k = left_forced base session (es ++ made) h.mid new h.left (by_forced g base es s s h.events h.mid made h.quiet h.goes k)
+
+module _ (base : ℕ) (es : List Entry) (s : State) (k : IsForced base es s) where
+  pub commit_forced : (a : SessionTxn) (t : ℕ) → IsForced base (es ++ Decided (decision.Commit t) ∷ []) (committed s a)
+  commit_forced a t = forced_grown base es (Decided (decision.Commit t)) s (committed s a) refl (_ ∷ [], refl) refl k
+
+  pub abort_forced : (a : SessionTxn) (session t : ℕ) → IsPrefix s.log (aborted s a).log → IsForced base (es ++ Exchanged session t (exchange call.Abort (Ok Aborted)) ∷ []) (aborted s a)
+  abort_forced a session t on = forced_grown base es (Exchanged session t (exchange call.Abort (Ok Aborted))) s (aborted s a) refl on refl k
+
+  -- a commit is answered whose record is durable
+  pub answer_forced : (a : SessionTxn) (session : ℕ) → Contains (decisions_in base (take s.durable s.log)) (decision.Commit (txn_of s.sessions session))
+      → IsForced base (es ++ Exchanged session (txn_of s.sessions session) (exchange call.Commit (Ok Committed)) ∷ []) (commit_ended s a)
+  answer_forced a session durable = record {
+    least = k.least;
+    most = k.most;
+    acknowledged_kept =
+        acknowledges_one (Contains (decisions_in base (take s.durable s.log))) es k.acknowledged_kept (Exchanged session (txn_of s.sessions session) (exchange call.Commit (Ok Committed)))
+        (decision.Commit (txn_of s.sessions session)) refl durable;
+  }

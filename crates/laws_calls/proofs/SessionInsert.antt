@@ -1,0 +1,153 @@
+-- The worked run of one insert under locks: each event may come.
+use Rattle.std.proofs.Common.{◌≡◌, inl, inr, ⊎_elim, ◌≤◌, ℕ, List, [], ◌∷◌, ◌++◌, Bool, true, false, Some, None, refl, ap, length, arith}
+use Rattle.std.specs.FinMap.{empty, get, get-empty}
+use Rattle.std.specs.Ordering.{eq_by_cmp}
+use Rattle.std.proofs.lemmas.Map.Views.{tells_apart}
+use Rattle.shore_types.specs.Ids.{exact_pages, page_cmp, rid_cmp}
+use Rattle.shore_types.specs.Layout.{HasPage, HasStore}
+use Rattle.shore_types.specs.declared.layout.Geometry.{Geometry}
+use Rattle.shore_types.specs.declared.layout.TheConstants.{MAX_RECORD_BYTES}
+use Rattle.shore_types.specs.declared.locking.Granule.TheVariants as granule
+use Rattle.shore_types.specs.declared.locking.Mode.TheVariants.{IX}
+use Rattle.laws_locks.specs.CallLocks.{Asked}
+use Rattle.shore_model.specs.declared.calls.Answer.TheVariants.{Began, Committed, Inserted}
+use Rattle.shore_model.specs.declared.calls.Call.TheVariants as call
+use Rattle.shore_model.specs.declared.histories.Decision.TheVariants as decision
+use Rattle.shore_model.specs.declared.histories.Entry.{Entry}
+use Rattle.shore_model.specs.Histories.{acknowledged}
+use Rattle.laws_calls.proofs.SettledAtOnce.{at_once, resumed_at_once}
+use Rattle.shore_model.specs.declared.step.Step.TheVariants.{Done, Waits}
+use Rattle.shore_model.specs.declared.step.Wait.TheVariants.{Durable}
+use Rattle.laws_room.proofs.Leaving.{same_page}
+use Rattle.laws_room.specs.Claims.{Grows, SlotCounts}
+use Rattle.laws_room.specs.LogRooms.{image_cost}
+use Rattle.laws_lives.proofs.Ids.{put_here}
+use Rattle.laws_lives.specs.Sessions.{SessionTxn, txn_begun}
+use Rattle.laws_lives.specs.UndoLists.{nothing_to_undo, with_before_image}
+use Rattle.laws_calls.specs.CallHistories.{IsOpened}
+use Rattle.laws_calls.specs.Events.{Called, Forced, Resumed, EventMoves, MovesMaking, entries_of}
+use Rattle.laws_calls.specs.StateChanges.{FitsAt, MayChange, answered, commit_waiting, committed, with_durable}
+use Rattle.laws_calls.specs.CallSteps.{HasLocked, HasPlace, IsPlaceOf, behind_lock, behind_place, commit_ended}
+use Rattle.laws_calls.specs.States.{State}
+use Rattle.laws_calls.specs.WorkedRun.{first_id, first_page, one_insert, opened_empty}
+
+-- one slot on the first page
+abbrev one_if : Bool → ℕ
+one_if true = 1
+one_if false = 0
+
+abbrev one_slot : SlotCounts
+one_slot p = one_if (eq_by_cmp page_cmp p first_page)
+
+module _ (g : Geometry) (stream_bytes : ℕ) (bytes : List ℕ) (store : HasStore g 0) (page : HasPage g first_page) (short : length bytes ≤ MAX_RECORD_BYTES) (long : 100000 ≤ stream_bytes) where
+  abbrev s0 : State
+  s0 = opened_empty stream_bytes
+
+  abbrev s1 : State
+  s1 = record s0 { sessions = txn_begun s0.sessions 1 }
+
+  abbrev a1 : SessionTxn
+  a1 = record { session = 1; txn = 1; undo = nothing_to_undo }
+
+  -- the store is locked, and then the place
+  abbrev lock : Asked
+  lock = record { granule = granule.Store 0; mode = IX }
+
+  abbrev with_store : State
+  with_store = behind_lock s1 a1 (call.Insert 0 bytes) lock
+
+  abbrev with_place : State
+  with_place = behind_place with_store a1 first_id
+
+  abbrev s2 : State
+  s2 = answered with_place a1 (call.Insert 0 bytes) (Inserted first_id) one_slot
+
+  abbrev a2 : SessionTxn
+  a2 = record { session = 1; txn = 1; undo = with_before_image empty nothing_to_undo first_id }
+
+  abbrev s3 : State
+  s3 = committed s2 a2
+
+  abbrev s4 : State
+  s4 = with_durable 2 s3
+
+  abbrev s5 : State
+  s5 = commit_ended s4 a2
+
+  is_opened : IsOpened [] s0
+  is_opened = record {
+    just = record { records = refl; active = refl; committing = refl; held = refl; some = omega arith };
+    log = refl;
+    above = tt;
+    least = λ n some above. omega arith;
+    durable = refl;
+    waiting = refl;
+    running = refl;
+  }
+
+  fits : FitsAt with_store first_id (Some bytes)
+  fits = record { there = omega arith; most = short; room = omega arith }
+
+  nothing_there : get with_store.sessions.records first_id ≡ None
+  nothing_there = get-empty rid_cmp first_id
+
+  place : IsPlaceOf g with_store 1 0 bytes first_id
+  place = record {
+    serves = record { of_store = refl; inside = page; empty = nothing_there; fits = fits; free = refl };
+    lowest = λ other before h. ⊎_elim (λ less. omega arith) (λ same. let less = same.1 in omega arith) before;
+  }
+
+  grows : Grows with_place.counts one_slot first_id
+  grows = record {
+    here = ap one_if (same_page first_page);
+    others = λ p other.
+        elim (eq_by_cmp page_cmp p first_page) as (λ b. eq_by_cmp page_cmp p first_page ≡ b → one_if b ≡ 0) [
+          | true ↦ λ e. absurd (other (tells_apart exact_pages p first_page e))
+          | false ↦ λ e. refl
+        ] refl;
+  }
+
+  may : MayChange with_place first_id (Some bytes) one_slot
+  may = let before = ap image_cost nothing_there in record { fits = fits; logs = (omega arith, omega arith); grows = grows }
+
+  begins : EventMoves g s0 (Called 1 call.Begin (Done (Began 1))) s1
+  begins = (tt, at_once g s0 1 call.Begin (Done (Began 1)) s1 (inr (inr (inr (inl (refl, λ w m. absurd m, refl, (λ a y. ⊎_elim (λ m. absurd m) (λ m. absurd m) y, omega arith, ((omega arith, omega arith), omega arith), refl, refl)))))) tt)
+
+  -- both locks are free
+  has_store : HasLocked s1 a1 (call.Insert 0 bytes) with_store
+  has_store = (lock, refl, refl, refl)
+
+  has_place : HasPlace g with_store a1 0 bytes first_id
+  has_place = (place, refl)
+
+  inserts : EventMoves g s1 (Called 1 (call.Insert 0 bytes) (Done (Inserted first_id))) s2
+  inserts = (
+    tt,
+    at_once g s1 1 (call.Insert 0 bytes) (Done (Inserted first_id)) s2 (inr (inr (inr (inr (inr (refl, λ w m. absurd m, (a1, (inl refl, refl), inr (inl (refl, inr (inl ((short, store), (with_store, has_store, (first_id, has_place, refl, (one_slot, may, refl)))))))))))))) tt,
+  )
+
+  commits : EventMoves g s2 (Called 1 call.Commit (Waits (Durable 2))) s3
+  commits = (tt, at_once g s2 1 call.Commit (Waits (Durable 2)) s3 (inr (inr (inr (inr (inr (refl, λ w m. absurd m, (a2, (inl refl, refl), inr (inl (refl, inr (inr (inl (refl, (refl, refl))))))))))))) tt)
+
+  forces : EventMoves g s3 (Forced 2) s4
+  forces = (omega arith, omega arith, refl)
+
+  answers : EventMoves g s4 (Resumed 1 (Done Committed)) s5
+  answers = resumed_at_once g s4 1 (Done Committed) s5 (inr (commit_waiting 1 2, inl refl, refl, inr (refl, inr (omega arith, refl, (a2, inl refl, refl, refl)), refl))) tt
+
+  abbrev made : List Entry
+  made =
+      entries_of s0 (Called 1 call.Begin (Done (Began 1))) ++ entries_of s1 (Called 1 (call.Insert 0 bytes) (Done (Inserted first_id)))
+      ++ entries_of s2 (Called 1 call.Commit (Waits (Durable 2))) ++ entries_of s3 (Forced 2) ++ entries_of s4 (Resumed 1 (Done Committed)) ++ []
+
+  pub session_comes_through : (last : State) × (made : List Entry) × IsOpened [] (opened_empty stream_bytes)
+      × MovesMaking g (opened_empty stream_bytes) (one_insert bytes) last made
+      × (get last.sessions.records first_id ≡ Some bytes) × (acknowledged made ≡ decision.Commit 1 ∷ [])
+  session_comes_through = (
+    s5,
+    made,
+    is_opened,
+    (s1, _, begins, (s2, _, inserts, (s3, _, commits, (s4, _, forces, (s5, _, answers, (refl, refl), refl), refl), refl), refl), refl),
+    put_here empty first_id (Some bytes),
+    refl,
+  )

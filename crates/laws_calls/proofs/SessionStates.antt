@@ -1,0 +1,231 @@
+-- Each step of a session, each force that is told and each failure leaves a state after its entries; so do any events.
+use Rattle.std.proofs.Common.{◌≡◌, ◌≢◌, ◌⊎◌, inl, inr, ⊎_elim, ◌++◌, ◌∷◌, ◌+◌, ◌≤◌, ℕ, List, [], Bool, true, false, cond, None, Some, refl, sym, ap, subst, ◌∙◌, append-nil, arith, length, take}
+use Rattle.std.specs.Prelude.{◌==◌, Contains, IsTrue, Option}
+use Rattle.std.proofs.lemmas.Bool.{eqb-false, eqb-true}
+use Rattle.std.proofs.lemmas.List.Elements.{All-weaker}
+use Rattle.shore_types.specs.declared.layout.Geometry.{Geometry}
+use Rattle.shore_types.specs.declared.layout.TheConstants.{MAX_TRANSACTIONS}
+use Rattle.shore_model.specs.declared.calls.Call.{Call}
+use Rattle.shore_model.specs.declared.histories.Decision.TheVariants as decision
+use Rattle.shore_model.specs.declared.histories.Entry.{Entry}
+use Rattle.shore_model.specs.declared.log_records.LogRecord.{LogRecord}
+use Rattle.shore_model.specs.Histories.{acknowledged}
+use Rattle.laws_lives.specs.LogPrefixes.{decisions_in}
+use Rattle.laws_lives.specs.SessionSteps.{SessionEvent}
+use Rattle.laws_lives.specs.Sessions.{SessionTxn}
+use Rattle.laws_lives.specs.Views.{IsAmong}
+use Rattle.shore_model.specs.declared.step.Step.{Step}
+use Rattle.shore_model.specs.declared.step.Wait.{Wait}
+use Rattle.shore_model.specs.declared.step.Wait.TheVariants.{Durable, Lock}
+use Rattle.laws_calls.proofs.Elements.{in_longer}
+use Rattle.laws_calls.proofs.Links.{GoesBy, GoesQuietly, answer_goes, commit_goes, left_like, shorter_without}
+use Rattle.laws_calls.proofs.SessionCalls.{session_call_kept}
+use Rattle.laws_calls.proofs.Rows.{same_member}
+use Rattle.laws_calls.proofs.SessionForces.{abort_forced, answer_forced, commit_forced, quietly_forced}
+use Rattle.laws_calls.proofs.SessionResumes.{WaitsWhole, apart, resumed_call_kept}
+use Rattle.laws_calls.proofs.Sessions.{its_txn, one_txn}
+use Rattle.laws_calls.proofs.Unwinding.{rollback_on}
+use Rattle.laws_calls.proofs.SessionsWaiting.{aborted_waits, commit_waits_on, ended_waits, failed_waits, quietly_waits, woken_waits}
+use Rattle.laws_calls.proofs.StepPassages.{CallPasses, ResumePasses, call_passes, resume_passes}
+use Rattle.laws_calls.specs.CallHistories.{IsForced, txn_of}
+use Rattle.laws_calls.specs.Events.{IsStateAfter, call_waiting, entries_of_resume, entries_of_waiting}
+use Rattle.laws_calls.specs.StateChanges.{wait_refused, with_durable, with_failure}
+use Rattle.laws_calls.specs.CallSteps.{ResumesCall, CallStep, ResumeStep, txn_count}
+use Rattle.laws_calls.specs.LockedStates.{IsSessionsState, entries_of_resumed, entries_of_call}
+use Rattle.laws_calls.specs.SessionWaits.{IsCommitWait, IsLockWait, WaitsOfSessions}
+use Rattle.laws_calls.specs.States.{IsOfSession, State, Waiting}
+
+-- ---- how many transactions there are
+
+by_few : (g : Geometry) (s : State) (events : List SessionEvent) (new : State) (made : List Entry) → GoesBy g s events new made → txn_count s ≤ MAX_TRANSACTIONS → txn_count new ≤ MAX_TRANSACTIONS
+by_few g s [] new made h few = subst (λ (x : State). txn_count x ≤ MAX_TRANSACTIONS) (sym h.0) few
+by_few g s (e ∷ events) new made h few = by_few g h.0 events new h.1 h.3 (h.2.few few)
+
+quietly_few : (g : Geometry) (session : ℕ) (s new : State) (made : List Entry) → GoesQuietly g session s new made → txn_count s ≤ MAX_TRANSACTIONS → txn_count new ≤ MAX_TRANSACTIONS
+quietly_few g session s new made h few =
+    let like = left_like session h.mid new h.left in
+    let mid = by_few g s h.events h.mid made h.goes few in
+    subst (λ n. length n.active + length n.committing ≤ MAX_TRANSACTIONS) (sym like.sessions) mid
+
+-- ---- the call that a session waits with
+
+pub its_wait : (session : ℕ) (ws : List Waiting) (w : Waiting) → ((v w : Waiting) → IsAmong v ws → IsAmong w ws → v.session ≡ w.session → v ≡ w) → IsAmong w ws → w.session ≡ session
+    → call_waiting session ws ≡ Some w
+its_wait session [] w once there of = absurd there
+its_wait session (x ∷ ws) w once there of = by (x.session == session) refl there (λ later. its_wait session ws w (λ u v m n same. once u v (inr m) (inr n) same) later of)
+  where
+    by : (b : Bool) → (x.session == session) ≡ b → IsAmong w (x ∷ ws) → (IsAmong w ws → call_waiting session ws ≡ Some w)
+        → cond b (Some x) (call_waiting session ws) ≡ Some w
+    by true e there rest = ap (λ (v : Waiting). Some v) (once x w (inl refl) there (eqb-true x.session session e ∙ sym of))
+    by false e (inl same) rest = absurd (eqb-false x.session session e (ap (λ (v : Waiting). v.session) same ∙ of))
+    by false e (inr later) rest = rest later
+
+pub no_wait : (session : ℕ) (ws : List Waiting) → ((w : Waiting) → IsAmong w ws → w.session ≢ session) → call_waiting session ws ≡ None
+no_wait session [] idle = refl
+no_wait session (x ∷ ws) idle = by (x.session == session) refl (no_wait session ws (λ w m. idle w (inr m)))
+  where
+    by : (b : Bool) → (x.session == session) ≡ b → call_waiting session ws ≡ None → cond b (Some x) (call_waiting session ws) ≡ None
+    by true e rest = absurd (idle x (inl refl) (eqb-true x.session session e))
+    by false e rest = rest
+
+module _ (found : List LogRecord) (es : List Entry) (s : State) (k : IsStateAfter found es s) where
+  -- ---- calls
+
+  pub session_call_stays : (g : Geometry) (session : ℕ) (c : Call) (step : Step) (new : State) → CallStep g s session c step new
+      → IsStateAfter found (es ++ entries_of_call s session c step) new
+  session_call_stays g session c step new h = by (call_passes g found es s k.sessions session c step new h)
+    where
+      kept : IsSessionsState found (es ++ entries_of_call s session c step) new
+      kept = session_call_kept g found es s k.sessions session c step new h
+
+      by : CallPasses g s session new (entries_of_call s session c step) → IsStateAfter found (es ++ entries_of_call s session c step) new
+      by (inl quiet) = record {
+        sessions = kept;
+        waits = quietly_waits (length found) g session s new (entries_of_call s session c step) k.waits quiet;
+        forced = quietly_forced g session (length found) es s new (entries_of_call s session c step) quiet k.forced;
+        few = quietly_few g session s new (entries_of_call s session c step) quiet k.few;
+      }
+      by (inr (inl commit)) =
+          let a = commit.txn in
+          record {
+            sessions = kept;
+            waits = subst (WaitsOfSessions (length found)) (sym commit.is) (commit_waits_on found es s k.sessions k.waits a commit.of.0 (λ w m same. commit.idle w m (same ∙ commit.of.1)));
+            forced =
+                subst (λ made. IsForced (length found) (es ++ made) new) (sym commit.entries)
+                (subst (IsForced (length found) _) (sym commit.is) (commit_forced (length found) es s k.forced a (txn_of s.sessions session)));
+            few = subst (λ (x : State). txn_count x ≤ MAX_TRANSACTIONS) (sym commit.is) ((commit_goes g s a commit.of.0 commit.whole).few k.few);
+          }
+      by (inr (inr abort)) =
+          let a = abort.txn in
+          let on = rollback_on a.txn s.log a.undo.images in
+          let fewer = shorter_without a s.sessions.active abort.of.0 in
+          record {
+            sessions = kept;
+            waits = subst (WaitsOfSessions (length found)) (sym abort.is) (aborted_waits found es s k.sessions k.waits a abort.of.0 (λ w m same. abort.idle w m (same ∙ abort.of.1)) on);
+            forced =
+                subst (λ made. IsForced (length found) (es ++ made) new) (sym abort.entries)
+                (subst (IsForced (length found) _) (sym abort.is) (abort_forced (length found) es s k.forced a session (txn_of s.sessions session) on));
+            few = subst (λ (x : State). txn_count x ≤ MAX_TRANSACTIONS) (sym abort.is) (let few = k.few in omega (arith, few, fewer));
+          }
+
+  -- ---- resumes
+
+  pub as_it_was : IsStateAfter found (es ++ []) s
+  as_it_was = subst (λ (made : List Entry). IsStateAfter found made s) (sym (append-nil es)) k
+
+  -- the record of a commit that is answered is durable
+  pub answer_is_durable : (w : Waiting) → IsAmong w s.waiting → (n : ℕ) → w.wait ≡ Durable n → n ≤ s.durable → (a : SessionTxn) → IsAmong a s.sessions.committing → a.session ≡ w.session
+      → Contains (decisions_in (length found) (take s.durable s.log)) (decision.Commit (txn_of s.sessions w.session))
+  answer_is_durable w m n waits durable a mem of = by (k.waits.each w m)
+    where
+      number_of : Wait → ℕ
+      number_of (Durable n) = n
+      number_of (Lock at) = 0
+
+      by : IsCommitWait (length found) s w ⊎ IsLockWait s w → Contains (decisions_in (length found) (take s.durable s.log)) (decision.Commit (txn_of s.sessions w.session))
+      by (inl c) =
+          let same : n ≡ c.number = ap number_of (sym waits) ∙ ap (λ (v : Waiting). number_of v.wait) c.is in
+          let session : c.txn.session ≡ w.session = sym (ap (λ (v : Waiting). v.session) c.is) in
+          subst (λ t. Contains (decisions_in (length found) (take s.durable s.log)) (decision.Commit t)) (sym (its_txn k.sessions.agree c.txn w.session (inr c.committing) session))
+          (in_longer (length found) c.number s.durable s.log (decision.Commit c.txn.txn) (subst (λ x. x ≤ s.durable) same durable) c.decided)
+      by (inr l) = let clash : Durable n ≡ Lock l.at = sym waits ∙ l.is in absurd cc
+
+  -- who waits for a lock, and is no victim, does not roll back
+  pub waits_whole : (w : Waiting) → IsAmong w s.waiting → w.cycle ≡ None → WaitsWhole s w.session w.wait
+  waits_whole w m spared at a is mem = by (k.waits.each w m)
+    where
+      by : IsCommitWait (length found) s w ⊎ IsLockWait s w → a.undo.rolling ≡ None
+      by (inl c) = let clash : Durable c.number ≡ Lock at = sym (ap (λ (v : Waiting). v.wait) c.is) ∙ is in absurd cc
+      by (inr l) =
+          let number = one_txn k.sessions.agree l.txn a (inl l.active) (inl mem.0) (l.of ∙ sym mem.1) in
+          let same : l.txn ≡ a = same_member l.txn a s.sessions.active k.sessions.agree.once l.active mem.0 number in
+          subst (λ (b : SessionTxn). b.undo.rolling ≡ None) same (l.whole spared)
+
+  pub session_resumed_stays : (g : Geometry) (w : Waiting) → IsAmong w s.waiting → (step : Step) (new : State) → ResumesCall g s w step new
+      → IsStateAfter found (es ++ entries_of_resumed s w step) new
+  session_resumed_stays g w m step new h = by (resume_passes g found es s k.sessions w (waits_whole w m) step new h)
+    where
+      kept : IsSessionsState found (es ++ entries_of_resumed s w step) new
+      kept = resumed_call_kept g found es s k.sessions w (waits_whole w m) step new h
+
+      -- no commit waits with the session
+      none_committing : (IsTrue s.failed ⊎ ((at : _) × (w.wait ≡ Lock at) × ((a : SessionTxn) × IsOfSession s w.session a)))
+          → s.failed ≡ false → (a : SessionTxn) → IsAmong a s.sessions.committing → a.session ≢ w.session
+      none_committing (inl failed) running a mem of = absurd cc
+      none_committing (inr lock) running a mem of = apart g found es s k.sessions a lock.2.0 mem lock.2.1.0 (lock.2.1.1 ∙ sym of)
+
+      by : ResumePasses g s w.session w.wait new (entries_of_resumed s w step) → IsStateAfter found (es ++ entries_of_resumed s w step) new
+      by (inl same) = subst (IsStateAfter found (es ++ entries_of_resumed s w step)) (sym same.0) (subst (λ made. IsStateAfter found (es ++ made) s) (sym same.1) as_it_was)
+      by (inr (inl on)) =
+          let woken = wait_refused s w.session in
+          record {
+            sessions = kept;
+            waits = quietly_waits (length found) g w.session woken new (entries_of_resumed s w step) (woken_waits found es s k.sessions k.waits w.session (none_committing on.why)) on.on;
+            forced =
+                quietly_forced g w.session (length found) es woken new (entries_of_resumed s w step) on.on
+                (record { least = k.forced.least; most = k.forced.most; acknowledged_kept = k.forced.acknowledged_kept });
+            few = quietly_few g w.session woken new (entries_of_resumed s w step) on.on k.few;
+          }
+      by (inr (inr told)) =
+          let a = told.txn in
+          record {
+            sessions = kept;
+            waits = subst (WaitsOfSessions (length found)) (sym told.is) (ended_waits found es s k.sessions k.waits a told.committing);
+            forced =
+                subst (λ made. IsForced (length found) (es ++ made) new) (sym told.entries)
+                (subst (IsForced (length found) _) (sym told.is)
+                (answer_forced (length found) es s k.forced a w.session (answer_is_durable w m told.number told.waits told.durable a told.committing told.of)));
+            few = subst (λ (x : State). txn_count x ≤ MAX_TRANSACTIONS) (sym told.is) ((answer_goes g s a told.committing).few k.few);
+          }
+
+  pub session_resume_stays : (g : Geometry) (session : ℕ) (step : Step) (new : State) → ResumeStep g s session step new
+      → IsStateAfter found (es ++ entries_of_resume s session step) new
+  session_resume_stays g session step new (inl h) =
+      subst (λ (o : Option Waiting). IsStateAfter found (es ++ entries_of_waiting s o step) new) (sym (no_wait session s.waiting h.0))
+      (subst (IsStateAfter found (es ++ [])) (sym h.2) as_it_was)
+  session_resume_stays g session step new (inr h) =
+      subst (λ (o : Option Waiting). IsStateAfter found (es ++ entries_of_waiting s o step) new) (sym (its_wait session s.waiting h.0 k.waits.once h.1 h.2))
+      (session_resumed_stays g h.0 h.1 step new h.3)
+
+  -- ---- forces and failures
+
+  pub session_force_stays : (n : ℕ) → s.durable ≤ n → n ≤ length s.log → IsStateAfter found es (with_durable n s)
+  session_force_stays n more within = record {
+    sessions = record {
+      sound = k.sessions.sound;
+      agree = k.sessions.agree;
+      log = k.sessions.log;
+      decides = k.sessions.decides;
+      locks = record { held = k.sessions.locks.held; orderly = k.sessions.locks.orderly; rooted = k.sessions.locks.rooted; below = k.sessions.locks.below; waiters = k.sessions.locks.waiters; waits = k.sessions.locks.waits };
+    };
+    waits = record {
+      each = λ w m. ⊎_elim
+          (λ c. inl (record { number = c.number; txn = c.txn; is = c.is; committing = c.committing; some = c.some; there = c.there; decided = c.decided }))
+          (λ l. inr (record { txn = l.txn; active = l.active; of = l.of; whole = l.whole; at = l.at; is = l.is; lock = l.lock; asked = l.asked }))
+          (k.waits.each w m);
+      once = k.waits.once;
+      all = k.waits.all;
+    };
+    forced = record {
+      least = let least = k.forced.least in omega arith;
+      most = within;
+      acknowledged_kept =
+          All-weaker (Contains (decisions_in (length found) (take s.durable s.log))) (Contains (decisions_in (length found) (take n s.log)))
+          (λ d h. in_longer (length found) s.durable n s.log d more h) (acknowledged es) k.forced.acknowledged_kept;
+    };
+    few = k.few;
+  }
+
+  pub session_failure_stays : IsStateAfter found es (with_failure s)
+  session_failure_stays = record {
+    sessions = record {
+      sound = k.sessions.sound;
+      agree = k.sessions.agree;
+      log = k.sessions.log;
+      decides = k.sessions.decides;
+      locks = record { held = k.sessions.locks.held; orderly = k.sessions.locks.orderly; rooted = k.sessions.locks.rooted; below = k.sessions.locks.below; waiters = k.sessions.locks.waiters; waits = λ running. absurd cc };
+    };
+    waits = failed_waits (length found) s k.waits;
+    forced = record { least = k.forced.least; most = k.forced.most; acknowledged_kept = k.forced.acknowledged_kept };
+    few = k.few;
+  }

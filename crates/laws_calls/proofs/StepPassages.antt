@@ -1,0 +1,183 @@
+-- Each step of a session as events of the sessions: a commit and its answer, and steps behind which each other call waits on.
+use Rattle.std.proofs.Common.{◌≡◌, ◌⊎◌, inl, inr, ⊎_elim, ◌∷◌, ◌≤◌, ℕ, List, [], false, None, Ok, Err, refl, sym, ap, subst, ◌∙◌}
+use Rattle.std.specs.Prelude.{IsSomeAnd, IsTrue, Option}
+use Rattle.shore_types.specs.declared.faults.Fault.{Fault}
+use Rattle.shore_types.specs.declared.faults.Fault.TheVariants as fault
+use Rattle.shore_types.specs.declared.ids.Rid.{Rid}
+use Rattle.shore_types.specs.declared.layout.Geometry.{Geometry}
+use Rattle.shore_types.specs.declared.locking.Granule.{Granule}
+use Rattle.shore_model.specs.declared.calls.Answer.{Answer}
+use Rattle.shore_model.specs.declared.calls.Answer.TheVariants.{Committed}
+use Rattle.shore_model.specs.declared.calls.Call.{Call}
+use Rattle.shore_model.specs.declared.calls.Call.TheVariants as call
+use Rattle.shore_model.specs.declared.histories.Decision.TheVariants as decision
+use Rattle.shore_model.specs.declared.histories.Entry.{Entry}
+use Rattle.shore_model.specs.declared.histories.Entry.TheVariants.{Decided, Exchanged}
+use Rattle.shore_model.specs.declared.log_records.LogRecord.{LogRecord}
+use Rattle.laws_lives.specs.RepliesInPlace.{IsKnownAbsent}
+use Rattle.laws_lives.specs.SessionSteps.{BeginTxn, TellsNothing, exchange}
+use Rattle.laws_lives.specs.Sessions.{SessionTxn, txn_begun}
+use Rattle.laws_lives.specs.Views.{IsAmong}
+use Rattle.shore_model.specs.declared.step.Step.{Step}
+use Rattle.shore_model.specs.declared.step.Step.TheVariants.{Done, Nothing, Refused, Waits}
+use Rattle.shore_model.specs.declared.step.Wait.{Wait}
+use Rattle.shore_model.specs.declared.step.Wait.TheVariants.{Durable, Lock}
+use Rattle.laws_calls.proofs.Elements.{waits_on}
+use Rattle.laws_calls.proofs.Links.{GoesQuietly, begin_goes, quietly_one}
+use Rattle.laws_calls.proofs.Passing.{absence_passes, goes_on_passes, told_passes}
+use Rattle.laws_calls.proofs.RefusalTells.{tells_or_none}
+use Rattle.laws_calls.proofs.RollingPassages.{Aborts, abort_refused_passes, back_passes, savepoint_passes}
+use Rattle.laws_calls.proofs.SessionCalls.{names_no_slot}
+use Rattle.laws_calls.proofs.SessionResumes.{WaitsWhole, same_entries, woken}
+use Rattle.laws_calls.specs.CallHistories.{txn_of}
+use Rattle.laws_calls.specs.StateChanges.{committed, wait_refused}
+use Rattle.laws_calls.specs.Rollbacks.{TakesCall}
+use Rattle.laws_calls.specs.CallSteps.{AbortStep, BeginStep, CommitStep, InnerStep, OpenStep, RefusesEarly, ResumesCall, ResumesWait, CallStep, commit_ended}
+use Rattle.laws_calls.specs.LockedStates.{IsSessionsState, entries_of_resumed, entries_of_call, resumed_call}
+use Rattle.laws_calls.specs.States.{DoesNotWait, IsOfSession, State, Waiting}
+
+-- ---- calls
+
+-- a Commit goes last, and its call waits
+pub record Commits (s : State) (session : ℕ) (new : State) (made : List Entry) : Type 0 where
+  pub txn : SessionTxn
+  pub of : IsOfSession s session txn
+  pub whole : txn.undo.rolling ≡ None
+  pub idle : DoesNotWait s session
+  pub is : new ≡ committed s txn
+  pub entries : made ≡ Decided (decision.Commit (txn_of s.sessions session)) ∷ []
+
+abbrev pub CallPasses : Geometry → State → ℕ → State → List Entry → Type 0
+CallPasses g s session new made = GoesQuietly g session s new made ⊎ (Commits s session new made ⊎ Aborts s session new made)
+
+module _ (g : Geometry) (found : List LogRecord) (es : List Entry) (s : State) (k : IsSessionsState found es s) (session : ℕ) where
+  begin_passes : (step : Step) (new : State) → BeginStep s session step new → GoesQuietly g session s new (entries_of_call s session call.Begin step)
+  begin_passes (Done answer) new h =
+      subst (λ (n : State). GoesQuietly g session s n (entries_of_call s session call.Begin (Done answer))) (sym h.4)
+      (subst (λ (x : Answer). GoesQuietly g session s (record s { sessions = txn_begun s.sessions session }) (entries_of_call s session call.Begin (Done x))) (sym h.3)
+      (quietly_one g session s (BeginTxn session) (record s { sessions = txn_begun s.sessions session }) (record s { sessions = txn_begun s.sessions session }) tt
+      (begin_goes g s session h.0 h.1 h.2) (inl refl)))
+  begin_passes (Waits wait) new h = absurd h
+  begin_passes (Refused f) new h =
+      told_passes g found es session s new call.Begin f
+      (⊎_elim (λ one. subst TellsNothing (sym one.0) tt) (λ more. ⊎_elim (λ two. subst TellsNothing (sym two.0) tt) (λ three. subst TellsNothing (sym three.0) tt) more) h.0) (inl h.1)
+  begin_passes Nothing new h = absurd h
+
+  commit_passes : (a : SessionTxn) → a.undo.rolling ≡ None → IsOfSession s session a → DoesNotWait s session → (step : Step) (new : State) → CommitStep s a step new
+      → Commits s session new (entries_of_call s session call.Commit step)
+  commit_passes a whole mem idle (Waits wait) new h =
+      record { txn = a; of = mem; whole = whole; idle = idle; is = h.1; entries = ap (λ w. entries_of_call s session call.Commit (Waits w)) h.0 }
+  commit_passes a whole mem idle (Done answer) new h = absurd h
+  commit_passes a whole mem idle (Refused f) new h = absurd h
+  commit_passes a whole mem idle Nothing new h = absurd h
+
+  early_passes : (a : SessionTxn) → a.undo.rolling ≡ None → IsOfSession s session a → (c : Call) (f : Fault) → RefusesEarly g c f → GoesQuietly g session s s (Exchanged session (txn_of s.sessions session) (exchange c (Err f)) ∷ [])
+  early_passes a whole mem c f h = ⊎_elim
+      (λ nothing. told_passes g found es session s s c f nothing (inl refl))
+      (λ none.
+      let names = names_no_slot g found es s k session c (subst (RefusesEarly g c) none h) in
+      subst (λ (x : Fault). GoesQuietly g session s s (Exchanged session (txn_of s.sessions session) (exchange c (Err x)) ∷ [])) (sym none)
+      (absence_passes g found es session a mem.1 whole s k mem.0 c names.inner
+      (subst (λ (o : Option Rid). IsSomeAnd o (IsKnownAbsent s.sessions.held a.txn s.sessions.records)) (sym names.named) (inr names.beyond))))
+      (tells_or_none f)
+
+  open_passes : s.failed ≡ false → (a : SessionTxn) → a.undo.rolling ≡ None → IsOfSession s session a → DoesNotWait s session → (c : Call) (step : Step) (new : State) → OpenStep g s a c step new
+      → CallPasses g s session new (entries_of_call s session c step)
+  open_passes running a whole mem idle c step new (inl h) =
+      inl (subst (λ (n : State). GoesQuietly g session s n (entries_of_call s session c step)) (sym h.3)
+      (subst (λ (x : Step). GoesQuietly g session s s (entries_of_call s session c x)) (sym h.2) (early_passes a whole mem c h.0 h.1)))
+  open_passes running a whole mem idle c step new (inr (inl h)) =
+      inl (goes_on_passes g found es session a mem.1 whole s k mem.0 (k.locks.waits running a mem.0 (λ w m spared same. idle w m (same ∙ mem.1))) idle c step new h.1)
+  open_passes running a whole mem idle c step new (inr (inr (inl h))) =
+      inr (inl (subst (λ (x : Call). Commits s session new (entries_of_call s session x step)) (sym h.0) (commit_passes a whole mem idle step new h.1)))
+  open_passes running a whole mem idle c step new (inr (inr (inr h))) =
+      inl (subst (λ (x : Call). GoesQuietly g session s new (entries_of_call s session x step)) (sym h.0)
+      (savepoint_passes g found es session a mem.1 s k mem.0 idle whole step new h.1))
+
+  abort_passes : (a : SessionTxn) → IsOfSession s session a → DoesNotWait s session → (step : Step) (new : State) → AbortStep s a step new
+      → CallPasses g s session new (entries_of_call s session call.Abort step)
+  abort_passes a mem idle (Done answer) new h =
+      inr (inr (record { txn = a; of = mem; idle = idle; is = h.1; entries = ap (λ (x : Answer). entries_of_call s session call.Abort (Done x)) h.0 }))
+  abort_passes a mem idle (Refused f) new h = inl (abort_refused_passes g found es session a mem.1 s k mem.0 idle f new h)
+  abort_passes a mem idle (Waits wait) new h = absurd h
+  abort_passes a mem idle Nothing new h = absurd h
+
+  refused_passes : (c : Call) (step : Step) (new : State) (f : Fault) → TellsNothing f → step ≡ Refused f → new ≡ s → GoesQuietly g session s new (entries_of_call s session c step)
+  refused_passes c step new f nothing is same =
+      subst (λ (x : Step). GoesQuietly g session s new (entries_of_call s session c x)) (sym is) (told_passes g found es session s new c f nothing (inl same))
+
+  inner_passes : s.failed ≡ false → (a : SessionTxn) → IsOfSession s session a → DoesNotWait s session → (c : Call) (step : Step) (new : State) → InnerStep g s a c step new
+      → CallPasses g s session new (entries_of_call s session c step)
+  inner_passes running a mem idle c step new (inl h) = inl (refused_passes c step new fault.MustAbort tt h.2 h.3)
+  inner_passes running a mem idle c step new (inr (inl h)) = open_passes running a h.0 mem idle c step new h.1
+  inner_passes running a mem idle c step new (inr (inr (inl h))) =
+      inl (subst (λ (x : Call). GoesQuietly g session s new (entries_of_call s session x step)) (sym h.1)
+      (back_passes g found es session a mem.1 s k mem.0 idle h.0 (subst (TakesCall a.undo) h.1 h.2) step new h.3))
+  inner_passes running a mem idle c step new (inr (inr (inr h))) =
+      subst (λ (x : Call). CallPasses g s session new (entries_of_call s session x step)) (sym h.0) (abort_passes a mem idle step new h.1)
+
+  pub call_passes : (c : Call) (step : Step) (new : State) → CallStep g s session c step new → CallPasses g s session new (entries_of_call s session c step)
+  call_passes c step new (inl h) = inl (refused_passes c step new fault.Memory tt h.0 h.1)
+  call_passes c step new (inr (inl h)) = inl (refused_passes c step new fault.Failed tt h.1 h.2)
+  call_passes c step new (inr (inr (inl h))) = inl (refused_passes c step new fault.Busy tt h.2 h.3)
+  call_passes c step new (inr (inr (inr (inl h)))) =
+      inl (subst (λ (x : Call). GoesQuietly g session s new (entries_of_call s session x step)) (sym h.2) (begin_passes step new h.3))
+  call_passes c step new (inr (inr (inr (inr (inl h))))) = inl (refused_passes c step new fault.NoTransaction tt h.4 h.5)
+  call_passes c step new (inr (inr (inr (inr (inr h))))) = inner_passes h.0 h.2.0 h.2.1 h.1 c step new h.2.2
+
+-- ---- going on
+
+-- a commit is answered, whose record is durable
+pub record IsAnswered (s : State) (session : ℕ) (wait : Wait) (new : State) (made : List Entry) : Type 0 where
+  pub number : ℕ
+  pub waits : wait ≡ Durable number
+  pub durable : number ≤ s.durable
+  pub txn : SessionTxn
+  pub committing : IsAmong txn s.sessions.committing
+  pub of : txn.session ≡ session
+  pub is : new ≡ commit_ended s txn
+  pub entries : made ≡ Exchanged session (txn_of s.sessions session) (exchange call.Commit (Ok Committed)) ∷ []
+
+-- the call waits no more: a device has failed, or it goes on behind its lock
+pub record GoesOnQuietly (g : Geometry) (s : State) (session : ℕ) (wait : Wait) (new : State) (made : List Entry) : Type 0 where
+  pub why : IsTrue s.failed ⊎ ((at : Granule) × (wait ≡ Lock at) × ((a : SessionTxn) × IsOfSession s session a))
+  pub on : GoesQuietly g session (wait_refused s session) new made
+
+-- or nothing is done
+abbrev pub ResumePasses : Geometry → State → ℕ → Wait → State → List Entry → Type 0
+ResumePasses g s session wait new made = ((new ≡ s) × (made ≡ [])) ⊎ (GoesOnQuietly g s session wait new made ⊎ IsAnswered s session wait new made)
+
+module _ (g : Geometry) (found : List LogRecord) (es : List Entry) (s : State) (k : IsSessionsState found es s) where
+  wait_passes : (w : Waiting) (wait : Wait) → WaitsWhole s w.session wait → (step : Step) (new : State) → ResumesWait g s w wait step new
+      → ResumePasses g s w.session wait new (entries_of_resumed s (record { session = w.session; call = w.call; wait = wait; cycle = w.cycle }) step)
+  wait_passes w (Durable n) whole step new (inl h) = inl (h.2, ap (entries_of_resumed s (record { session = w.session; call = w.call; wait = Durable n; cycle = w.cycle })) h.1)
+  wait_passes w (Durable n) whole step new (inr h) = inr (inr (record {
+    number = n;
+    waits = refl;
+    durable = h.0;
+    txn = h.2.0;
+    committing = h.2.1;
+    of = h.2.2;
+    is = h.2.3;
+    entries = ap (entries_of_resumed s (record { session = w.session; call = w.call; wait = Durable n; cycle = w.cycle })) h.1;
+  }))
+  wait_passes w (Lock at) whole step new h = ⊎_elim
+      (λ still. inl (still.2, ap (entries_of_resumed s (record { session = w.session; call = w.call; wait = Lock at; cycle = w.cycle })) still.1))
+      (λ free.
+      inr (inl (record {
+        why = inr (at, refl, (h.0, h.1));
+        on =
+            subst (λ made. GoesQuietly g w.session (wait_refused s w.session) new made) (same_entries g (wait_refused s w.session) h.0 w.session w.call at step new free.1)
+            (goes_on_passes g found es w.session h.0 h.1.1 (whole at h.0 refl h.1) (wait_refused s w.session) (woken g found es s k h.0 w.session h.1 free.0) h.1.0 free.0
+            (λ v m. (waits_on w.session v s.waiting m).1) w.call step new free.1);
+      })))
+      h.2
+
+  pub resume_passes : (w : Waiting) → (w.cycle ≡ None → WaitsWhole s w.session w.wait) → (step : Step) (new : State) → ResumesCall g s w step new → ResumePasses g s w.session w.wait new (entries_of_resumed s w step)
+  resume_passes w whole step new (inl h) = inr (inl (record {
+    why = inl h.0;
+    on =
+        subst (λ (x : Step). GoesQuietly g w.session (wait_refused s w.session) new (entries_of_resumed s w x)) (sym h.1)
+        (told_passes g found es w.session (wait_refused s w.session) new (resumed_call w.call w.wait) fault.Failed tt (inl h.2));
+  }))
+  resume_passes w whole step new (inr h) = wait_passes w w.wait (whole h.2) step new h.1

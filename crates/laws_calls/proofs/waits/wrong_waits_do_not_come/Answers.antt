@@ -1,0 +1,32 @@
+use Rattle.laws_calls.proofs.WrongWaits.{append_unlogged, begin_waits, try_waits, waits_after_failure, waits_for_no_commit, waits_for_other_record, waits_in_no_txn, waits_there, waits_though_free, waits_twice}
+use Rattle.laws_calls.proofs.waits.wrong_waits_do_not_come.Goals as goal
+
+pub returns-clause-for_other_record : goal.returns-clause-for_other_record
+returns-clause-for_other_record d = waits_for_other_record
+
+pub returns-clause-unlogged : goal.returns-clause-unlogged
+returns-clause-unlogged d = append_unlogged
+
+pub returns-clause-for_no_commit : goal.returns-clause-for_no_commit
+returns-clause-for_no_commit d = waits_for_no_commit
+
+pub returns-clause-though_free : goal.returns-clause-though_free
+returns-clause-though_free d = waits_though_free
+
+pub returns-clause-of_a_try : goal.returns-clause-of_a_try
+returns-clause-of_a_try d = try_waits
+
+pub returns-clause-of_a_begin : goal.returns-clause-of_a_begin
+returns-clause-of_a_begin d = begin_waits
+
+pub returns-clause-in_no_txn : goal.returns-clause-in_no_txn
+returns-clause-in_no_txn d = waits_in_no_txn
+
+pub returns-clause-after_failure : goal.returns-clause-after_failure
+returns-clause-after_failure d = waits_after_failure
+
+pub returns-clause-twice : goal.returns-clause-twice
+returns-clause-twice d = waits_twice
+
+pub returns-clause-there : goal.returns-clause-there
+returns-clause-there d = waits_there

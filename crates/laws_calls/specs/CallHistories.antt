@@ -1,0 +1,67 @@
+-- The history that calls make, and what holds of a state after it. No value keeps the history: it is spoken of as what was called and
+-- answered since an open.
+use Rattle.std.specs.Prelude.{◌≡◌, ◌<◌, ◌≤◌, ◌==◌, ℕ, List, [], ◌∷◌, ◌++◌, All, Contains, false, if◌then◌else◌, length, take}
+use Rattle.std.specs.List.{AllByRecursion}
+use Rattle.shore_types.specs.declared.layout.TheConstants.{LONGEST_FRAME}
+use Rattle.shore_model.specs.declared.calls.Call.{Call}
+use Rattle.shore_model.specs.declared.calls.Call.TheVariants as call
+use Rattle.shore_model.specs.declared.histories.Entry.{Entry}
+use Rattle.shore_model.specs.declared.log_records.LogRecord.{LogRecord}
+use Rattle.shore_model.specs.Histories.{acknowledged}
+use Rattle.laws_lives.specs.LogPrefixes.{decisions_in}
+use Rattle.laws_lives.specs.LogTells.{records_committed}
+use Rattle.laws_lives.specs.Sessions.{SessionTxn, Sessions}
+use Rattle.laws_lives.specs.Soundness.{IsJustOpened}
+use Rattle.laws_room.specs.Claims.{Claimed}
+use Rattle.laws_room.specs.LogRooms.{HasLogRoom}
+use Rattle.laws_calls.specs.States.{State, log_room}
+
+-- ---- the history
+
+-- the number of a session's transaction among some, 0 if it has none there
+abbrev pub txn_among : ℕ → List SessionTxn → ℕ → ℕ
+txn_among session [] none = none
+txn_among session (a ∷ others) none = if a.session == session then a.txn else txn_among session others none
+
+-- the number that a session's calls go under
+abbrev pub txn_of : Sessions → ℕ → ℕ
+txn_of s session = txn_among session s.active (txn_among session s.committing 0)
+
+-- the number that a call which was answered goes under: a begin's is the one that it began
+abbrev pub answered_under : Sessions → ℕ → Call → ℕ
+answered_under s session call.Begin = s.next_txn
+answered_under s session _ = txn_of s session
+
+-- ---- what holds after it
+
+-- each acknowledged decision has its Commit among the durable records, behind the base
+pub record IsForced (base : ℕ) (es : List Entry) (s : State) : Type 0 where
+  pub least : base ≤ s.durable
+  pub most : s.durable ≤ length s.log
+  pub acknowledged_kept : All (Contains (decisions_in base (take s.durable s.log))) (acknowledged es)
+
+-- its pages have room for all that stands and for all that may come back, and so has the log
+pub record IsRoomyState (s : State) : Type 0 where
+  pub pages : Claimed s.sessions.records s.sessions.active s.counts
+  pub log : HasLogRoom LONGEST_FRAME s.sessions.active (log_room s)
+
+-- ---- from an open to a crash
+
+-- What an open leaves: the records that the list tells, no transaction, as the next transaction's number the least above all of the
+-- list's, and all of the list durable.
+pub record IsOpened (found : List LogRecord) (s : State) : Type 0 where
+  pub just : IsJustOpened (records_committed found) s.sessions
+  pub log : s.log ≡ found
+  pub above : AllByRecursion (λ r. r.txn < s.sessions.next_txn) found
+  pub least : (n : ℕ) → 0 < n → AllByRecursion (λ r. r.txn < n) found → s.sessions.next_txn ≤ n
+  pub durable : s.durable ≡ length found
+  pub waiting : s.waiting ≡ []
+  pub running : s.failed ≡ false
+
+-- what a crash keeps: of the log its first so many records, of which the durable are some
+abbrev pub KeepsDurable : State → ℕ → Type 0
+KeepsDurable s n = (s.durable ≤ n) × (n ≤ length s.log)
+
+-- a list is the other's prefix
+abbrev pub IsPrefix : List LogRecord → List LogRecord → Type 0
+IsPrefix rs all = (more : List LogRecord) × (all ≡ rs ++ more)

@@ -1,0 +1,40 @@
+-- What the calls of sessions wait for, and what is forced, beside their history.
+use Rattle.std.specs.Prelude.{◌≡◌, ◌<◌, ◌≤◌, ◌⊎◌, ℕ, None, Some, Contains, false, length, take}
+use Rattle.shore_types.specs.declared.locking.Granule.{Granule}
+use Rattle.shore_model.specs.declared.histories.Decision.TheVariants as decision
+use Rattle.laws_locks.specs.CallLocks.{Asked, lock_asked_by}
+use Rattle.laws_lives.specs.LogPrefixes.{decisions_in}
+use Rattle.laws_lives.specs.Sessions.{SessionTxn}
+use Rattle.laws_lives.specs.Views.{IsAmong}
+use Rattle.shore_model.specs.declared.step.Wait.TheVariants.{Lock}
+use Rattle.laws_calls.specs.StateChanges.{commit_waiting}
+use Rattle.laws_calls.specs.States.{State, Waiting}
+
+-- a commit waits for its record, which the log has
+pub record IsCommitWait (base : ℕ) (s : State) (w : Waiting) : Type 0 where
+  pub number : ℕ
+  pub txn : SessionTxn
+  pub is : w ≡ commit_waiting txn.session number
+  pub committing : IsAmong txn s.sessions.committing
+  pub some : 0 < number
+  pub there : number ≤ length s.log
+  pub decided : Contains (decisions_in base (take number s.log)) (decision.Commit txn.txn)
+
+-- a call of a transaction under way waits for a lock, which it asks for
+pub record IsLockWait (s : State) (w : Waiting) : Type 0 where
+  pub txn : SessionTxn
+  pub active : IsAmong txn s.sessions.active
+  pub of : txn.session ≡ w.session
+  -- no rollback of it has begun, unless it is a victim
+  pub whole : w.cycle ≡ None → txn.undo.rolling ≡ None
+  pub at : Granule
+  pub is : w.wait ≡ Lock at
+  pub lock : Asked
+  pub asked : lock_asked_by w.call ≡ Some lock
+
+-- Each call that waits is a commit or a call that asks for a lock, a session waits with one, and as long as no device has failed each transaction that is
+-- committed and not answered has such a call.
+pub record WaitsOfSessions (base : ℕ) (s : State) : Type 0 where
+  pub each : (w : Waiting) → IsAmong w s.waiting → IsCommitWait base s w ⊎ IsLockWait s w
+  pub once : (v w : Waiting) → IsAmong v s.waiting → IsAmong w s.waiting → v.session ≡ w.session → v ≡ w
+  pub all : s.failed ≡ false → (a : SessionTxn) → IsAmong a s.sessions.committing → (n : ℕ) × IsAmong (commit_waiting a.session n) s.waiting

@@ -1,0 +1,12 @@
+//! The calls of a manager over plain data: what each is answered and leaves, and the laws of the histories that they make.
+#![tactic(auto)]
+
+pub mod answers;
+pub mod cycles;
+pub mod laws;
+pub mod locks;
+pub mod progress;
+pub mod refusals;
+pub mod rollbacks;
+pub mod settling;
+pub mod waits;

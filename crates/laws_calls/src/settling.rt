@@ -1,0 +1,75 @@
+//! What calls and resumes come to as a whole, with the victims that break the cycles of waits: what they keep, how waits begin and end, and that no cycle is left.
+ghost use Rattle.std.specs.Prelude.{◌≡◌, ◌++◌, ℕ, List, [], None, IsTrue};
+ghost use Rattle.shore_types.specs.declared.faults.Device.{Device};
+ghost use Rattle.shore_types.specs.declared.faults.Fault.{Fault};
+ghost use Rattle.shore_types.specs.declared.faults.Fault.TheVariants as fault;
+ghost use Rattle.shore_types.specs.declared.layout.Geometry.{Geometry};
+ghost use Rattle.shore_model.specs.declared.calls.Answer.{Answer};
+ghost use Rattle.shore_model.specs.declared.calls.Call.{Call};
+ghost use Rattle.shore_model.specs.declared.histories.Entry.{Entry};
+ghost use Rattle.shore_model.specs.declared.log_records.LogRecord.{LogRecord};
+ghost use Rattle.shore_model.specs.Requests.{HasNoCycle};
+ghost use Rattle.laws_lives.specs.Views.{IsAmong};
+ghost use Rattle.shore_model.specs.declared.step.Step.{Step};
+ghost use Rattle.shore_model.specs.declared.step.Step.TheVariants.{Done, Refused, Waits};
+ghost use Rattle.shore_model.specs.declared.step.Wait.{Wait};
+ghost use Rattle.shore_model.specs.declared.step.Wait.TheVariants.{Durable};
+ghost use Rattle.laws_calls.specs.CallHistories.{IsOpened, IsRoomyState};
+ghost use Rattle.laws_calls.specs.Events.{IsStateAfter, ManagerEvent, EventsMove, entries_of_resume};
+ghost use Rattle.laws_calls.specs.LockedStates.{entries_of_call};
+ghost use Rattle.laws_calls.specs.Settling.{SettledCall, SettledResume};
+ghost use Rattle.laws_calls.specs.States.{DoesNotWait, State, Waiting, next_number};
+
+/// What each call and each resume come to, victims or not, goes on with the history, by the entry of the call that was made or went on.
+pub fn settled_calls_keep_state()
+    ensures call { (g : Geometry) (found : List LogRecord) (es : List Entry) (old new : State) (session : ℕ) (c : Call) (step : Step) → IsStateAfter found es old →
+        SettledCall g old session c step new → IsStateAfter found (es ++ entries_of_call old session c step) new }
+    ensures resume { (g : Geometry) (found : List LogRecord) (es : List Entry) (old new : State) (session : ℕ) (step : Step) → IsStateAfter found es old →
+        SettledResume g old session step new → IsStateAfter found (es ++ entries_of_resume old session step) new }
+{}
+
+/// It leaves room on pages and in the log, for the rollbacks of the victims too.
+pub fn settled_calls_keep_room()
+    ensures call { (g : Geometry) (found : List LogRecord) (es : List Entry) (old new : State) (session : ℕ) (c : Call) (step : Step) →
+        IsStateAfter found es old → IsRoomyState old → SettledCall g old session c step new → IsRoomyState new }
+    ensures resume { (g : Geometry) (found : List LogRecord) (es : List Entry) (old new : State) (session : ℕ) (step : Step) →
+        IsStateAfter found es old → IsRoomyState old → SettledResume g old session step new → IsRoomyState new }
+{}
+
+/// A call that comes to a wait waits, a commit for its own record, and its transaction is no victim then. It waits no more once it is answered or
+/// refused, as a victim too, unless it was refused as an earlier call of its session waits. A device that fails, and a page that is damaged, fail the state.
+pub fn settled_calls_end_waits()
+    ensures begin { (g : Geometry) (found : List LogRecord) (es : List Entry) (s new : State) (session : ℕ) (c : Call) (wait : Wait) → IsStateAfter found es s →
+        SettledCall g s session c (Waits wait) new →
+        IsAmong (record { session = session; call = c; wait = wait; cycle = None }) new.waiting }
+    ensures number { (g : Geometry) (found : List LogRecord) (es : List Entry) (s new : State) (session n : ℕ) (c : Call) → IsStateAfter found es s →
+        SettledCall g s session c (Waits (Durable n)) new → n ≡ next_number s }
+    ensures still { (g : Geometry) (found : List LogRecord) (es : List Entry) (s new : State) (session : ℕ) (wait : Wait) → IsStateAfter found es s →
+        SettledResume g s session (Waits wait) new → (w : Waiting) × IsAmong w new.waiting × (w.session ≡ session) × (w.wait ≡ wait) × (w.cycle ≡ None) }
+    ensures answered { (g : Geometry) (found : List LogRecord) (es : List Entry) (s new : State) (session : ℕ) (c : Call) (answer : Answer) →
+        IsStateAfter found es s → SettledCall g s session c (Done answer) new → DoesNotWait new session }
+    ensures refused { (g : Geometry) (found : List LogRecord) (es : List Entry) (s new : State) (session : ℕ) (c : Call) (f : Fault) →
+        IsStateAfter found es s → DoesNotWait s session → SettledCall g s session c (Refused f) new → DoesNotWait new session }
+    ensures resumed_answered { (g : Geometry) (found : List LogRecord) (es : List Entry) (s new : State) (session : ℕ) (answer : Answer) →
+        IsStateAfter found es s → SettledResume g s session (Done answer) new → DoesNotWait new session }
+    ensures resumed_refused { (g : Geometry) (found : List LogRecord) (es : List Entry) (s new : State) (session : ℕ) (f : Fault) →
+        IsStateAfter found es s → SettledResume g s session (Refused f) new → DoesNotWait new session }
+    ensures device { (g : Geometry) (found : List LogRecord) (es : List Entry) (s new : State) (session : ℕ) (c : Call) → IsStateAfter found es s →
+        SettledCall g s session c (Refused fault.Device) new → IsTrue new.failed }
+    ensures damage { (g : Geometry) (found : List LogRecord) (es : List Entry) (s new : State) (session : ℕ) (c : Call) (device : Device) (offset : ℕ) →
+        IsStateAfter found es s → SettledCall g s session c (Refused (fault.Damaged device offset)) new → IsTrue new.failed }
+    ensures resumed_device { (g : Geometry) (found : List LogRecord) (es : List Entry) (s new : State) (session : ℕ) → IsStateAfter found es s →
+        SettledResume g s session (Refused fault.Device) new → IsTrue new.failed }
+    ensures resumed_damage { (g : Geometry) (found : List LogRecord) (es : List Entry) (s new : State) (session : ℕ) (device : Device) (offset : ℕ) →
+        IsStateAfter found es s → SettledResume g s session (Refused (fault.Damaged device offset)) new → IsTrue new.failed }
+{}
+
+/// No cycle of waits is left, if there was none before: so none stands after any events from an open on.
+pub fn settled_calls_leave_no_cycle()
+    ensures call { (g : Geometry) (found : List LogRecord) (es : List Entry) (old new : State) (session : ℕ) (c : Call) (step : Step) → IsStateAfter found es old →
+        HasNoCycle old.locks.requests → SettledCall g old session c step new → HasNoCycle new.locks.requests }
+    ensures resume { (g : Geometry) (found : List LogRecord) (es : List Entry) (old new : State) (session : ℕ) (step : Step) → IsStateAfter found es old →
+        HasNoCycle old.locks.requests → SettledResume g old session step new → HasNoCycle new.locks.requests }
+    ensures events { (g : Geometry) (found : List LogRecord) (first last : State) (events : List ManagerEvent) →
+        IsOpened found first → first.locks.requests ≡ [] → EventsMove g first events last → HasNoCycle last.locks.requests }
+{}

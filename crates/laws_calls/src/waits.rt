@@ -1,0 +1,104 @@
+//! Waits, resumes, forces and opens that must not come, and what ends a wait and a transaction.
+ghost use Rattle.std.specs.Prelude.{◌∷◌, ◌≡◌, ◌≢◌, ◌≤◌, ℕ, IsTrue, List, Some, length, ◌<◌, true, false, Ok};
+ghost use Rattle.std.specs.List.{AllByRecursion};
+ghost use Rattle.shore_types.specs.declared.faults.Fault.{Fault};
+ghost use Rattle.shore_types.specs.declared.layout.Geometry.{Geometry};
+ghost use Rattle.shore_types.specs.declared.locking.Granule.{Granule};
+ghost use Rattle.shore_model.specs.declared.calls.Answer.{Answer};
+ghost use Rattle.shore_model.specs.declared.calls.Call.{Call};
+ghost use Rattle.shore_model.specs.declared.calls.Call.TheVariants.{Commit, Begin, TryLock};
+ghost use Rattle.shore_model.specs.declared.histories.Entry.{Entry};
+ghost use Rattle.shore_model.specs.declared.log_records.LogRecord.{LogRecord};
+ghost use Rattle.laws_lives.specs.Sessions.{SessionTxn};
+ghost use Rattle.laws_lives.specs.Views.{IsAmong};
+ghost use Rattle.shore_model.specs.declared.step.Step.{Step};
+ghost use Rattle.shore_model.specs.declared.step.Step.TheVariants.{Done, Refused, Waits, Nothing};
+ghost use Rattle.shore_model.specs.declared.step.Wait.{Wait};
+ghost use Rattle.shore_model.specs.declared.step.Wait.TheVariants.{Durable, Lock};
+ghost use Rattle.laws_calls.specs.CallHistories.{IsOpened};
+ghost use Rattle.laws_calls.specs.Events.{EventMoves, Forced};
+ghost use Rattle.laws_calls.specs.CallSteps.{CallStep, ResumeStep, lock_outcome};
+ghost use Rattle.laws_calls.specs.LockedStates.{IsSessionsState};
+ghost use Rattle.laws_calls.specs.States.{DoesNotWait, IsOfSession, State, Waiting, next_number, HasNoTxn};
+ghost use Rattle.shore_types.specs.declared.faults.Fault.TheVariants.{Failed};
+ghost use Rattle.shore_types.specs.declared.locking.Mode.{Mode};
+ghost use Rattle.shore_locks.specs.Tables.{is_waiting};
+ghost use Rattle.shore_path.specs.declared.answers.Acquired.TheVariants as acquire;
+ghost use Rattle.laws_locks.specs.CallLocks.{Asked, lock_asked_by};
+ghost use Rattle.laws_calls.specs.Shapes.{ForItsTxn, WaitsOnLocks, WaitsOnRecords};
+
+/// Waits that must not come: of a commit for another record, or unlogged; of another call for a record, or for a granule at which its acquire does not
+/// wait; of a try, of a begin, of a session in no transaction or that waits, and after a failure. What waits is among the calls that wait.
+pub fn wrong_waits_do_not_come()
+    ensures for_other_record { (g : Geometry) (s new : State) (session : ℕ) (wait : Wait) →
+        wait ≢ Durable (next_number s) → CallStep g s session Commit (Waits wait) new → ⊥ }
+    ensures unlogged { (g : Geometry) (s new : State) (session : ℕ) (wait : Wait) → new.log ≡ s.log → CallStep g s session Commit (Waits wait) new → ⊥ }
+    ensures for_no_commit { (g : Geometry) (s new : State) (session : ℕ) (c : Call) (n : ℕ) →
+        c ≢ Commit → CallStep g s session c (Waits (Durable n)) new → ⊥ }
+    ensures though_free { (g : Geometry) (s new : State) (session : ℕ) (c : Call) (at : Granule) →
+        ForItsTxn s session (λ a. (lock : Asked) → lock_asked_by c ≡ Some lock → (lock_outcome s a c lock).answer ≢ Ok (acquire.Waiting at)) →
+        CallStep g s session c (Waits (Lock at)) new → ⊥ }
+    ensures of_a_try { (g : Geometry) (s new : State) (session : ℕ) (at : Granule) (mode : Mode) (wait : Wait) →
+        CallStep g s session (TryLock at mode) (Waits wait) new → ⊥ }
+    ensures of_a_begin { (g : Geometry) (s new : State) (session : ℕ) (wait : Wait) → CallStep g s session Begin (Waits wait) new → ⊥ }
+    ensures in_no_txn { (g : Geometry) (s new : State) (session : ℕ) (c : Call) (wait : Wait) →
+        HasNoTxn s session → CallStep g s session c (Waits wait) new → ⊥ }
+    ensures after_failure { (g : Geometry) (s new : State) (session : ℕ) (c : Call) (wait : Wait) →
+        IsTrue s.failed → CallStep g s session c (Waits wait) new → ⊥ }
+    ensures twice { (g : Geometry) (s new : State) (session : ℕ) (c : Call) (wait : Wait) (w : Waiting) →
+        IsAmong w s.waiting → w.session ≡ session → CallStep g s session c (Waits wait) new → ⊥ }
+    ensures there { (g : Geometry) (s new : State) (session : ℕ) (c : Call) (wait : Wait) →
+        CallStep g s session c (Waits wait) new → IsAmong (record { session = session; call = c; wait = wait; cycle = None }) new.waiting }
+{}
+
+/// Resumes that must not come: to a session of which nothing waits, or after a failure; of a commit before its record is durable, or for another's, or
+/// refused; of a call that waits for a lock, answered, refused or changed while its request waits, or not gone on with once it does not.
+pub fn wrong_resumes_do_not_come()
+    ensures of_none { (g : Geometry) (s new : State) (session : ℕ) (step : Step) → DoesNotWait s session → step ≢ Nothing →
+        ResumeStep g s session step new → ⊥ }
+    ensures after_failure { (g : Geometry) (s new : State) (session : ℕ) (step : Step) →
+        IsTrue s.failed → step ≢ Nothing → step ≢ Refused Failed → ResumeStep g s session step new → ⊥ }
+    ensures nothing_though_waiting { (g : Geometry) (s new : State) (session : ℕ) (w : Waiting) →
+        IsAmong w s.waiting → w.session ≡ session → ResumeStep g s session Nothing new → ⊥ }
+    ensures done_though_not_durable { (g : Geometry) (s new : State) (session : ℕ) (answer : Answer) →
+        WaitsOnRecords s session (λ n. s.durable < n) → ResumeStep g s session (Done answer) new → ⊥ }
+    ensures waits_though_durable { (g : Geometry) (s new : State) (session : ℕ) (wait : Wait) →
+        WaitsOnRecords s session (λ n. n ≤ s.durable) → ResumeStep g s session (Waits wait) new → ⊥ }
+    ensures commit_refused { (g : Geometry) (s new : State) (session : ℕ) (f : Fault) →
+        s.failed ≡ false → WaitsOnRecords s session (λ n. Unit {0}) → ResumeStep g s session (Refused f) new → ⊥ }
+    ensures waits_for_other { (g : Geometry) (s new : State) (session n : ℕ) →
+        ((w : Waiting) → IsAmong w s.waiting → w.session ≡ session → w.wait ≢ Durable n) → ResumeStep g s session (Waits (Durable n)) new → ⊥ }
+    ensures done_though_waiting { (g : Geometry) (s new : State) (session : ℕ) (answer : Answer) → WaitsOnLocks s session →
+        ForItsTxn s session (λ a. is_waiting a.txn s.locks.requests ≡ true) → ResumeStep g s session (Done answer) new → ⊥ }
+    ensures refused_though_waiting { (g : Geometry) (s new : State) (session : ℕ) (f : Fault) → s.failed ≡ false → WaitsOnLocks s session →
+        ForItsTxn s session (λ a. is_waiting a.txn s.locks.requests ≡ true) → ResumeStep g s session (Refused f) new → ⊥ }
+    ensures changed_though_waiting { (g : Geometry) (s new : State) (session : ℕ) (wait : Wait) → new ≢ s → WaitsOnLocks s session →
+        ForItsTxn s session (λ a. is_waiting a.txn s.locks.requests ≡ true) → ResumeStep g s session (Waits wait) new → ⊥ }
+    ensures waits_though_granted { (g : Geometry) (found : List LogRecord) (es : List Entry) (s : State) (session : ℕ) (wait : Wait) → IsSessionsState found es s →
+        WaitsOnLocks s session → ForItsTxn s session (λ a. is_waiting a.txn s.locks.requests ≡ false) → ResumeStep g s session (Waits wait) s → ⊥ }
+{}
+
+/// A session whose call is answered or refused behind its wait waits no more.
+pub fn resumed_sessions_wait_no_more()
+    ensures answered { (g : Geometry) (s new : State) (session : ℕ) (answer : Answer) → ResumeStep g s session (Done answer) new → DoesNotWait new session }
+    ensures refused { (g : Geometry) (s new : State) (session : ℕ) (f : Fault) → ResumeStep g s session (Refused f) new → DoesNotWait new session }
+{}
+
+/// A transaction whose commit waits is under way no more, and once it is answered its session is in none.
+pub fn commits_end_transactions()
+    ensures waits { (g : Geometry) (found : List LogRecord) (es : List Entry) (s new : State) (session : ℕ) (wait : Wait) (a : SessionTxn) →
+        IsSessionsState found es s → CallStep g s session Commit (Waits wait) new → IsOfSession new session a → ⊥ }
+    ensures answered { (g : Geometry) (found : List LogRecord) (es : List Entry) (s new : State) (session : ℕ) (a : SessionTxn) (answer : Answer) →
+        IsSessionsState found es s → IsAmong a s.sessions.committing → a.session ≡ session → ResumeStep g s session (Done answer) new →
+        HasNoTxn new session }
+{}
+
+/// Forces that must not come: back, or beyond the log. And opens: that leave something undurable, or a number that is taken or too high.
+pub fn wrong_forces_and_opens_do_not_come()
+    ensures back { (g : Geometry) (s new : State) (n : ℕ) → n < s.durable → EventMoves g s (Forced n) new → ⊥ }
+    ensures beyond { (g : Geometry) (s new : State) (n : ℕ) → length s.log < n → EventMoves g s (Forced n) new → ⊥ }
+    ensures opened_undurable { (found : List LogRecord) (s : State) → s.durable ≢ length found → IsOpened found s → ⊥ }
+    ensures opened_too_high { (found : List LogRecord) (s : State) (n : ℕ) →
+        0 < n → AllByRecursion (λ r. r.txn < n) found → n < s.sessions.next_txn → IsOpened found s → ⊥ }
+    ensures opened_too_low { (r : LogRecord) (found : List LogRecord) (s : State) → s.sessions.next_txn ≤ r.txn → IsOpened (r ∷ found) s → ⊥ }
+{}

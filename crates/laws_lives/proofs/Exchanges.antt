@@ -1,0 +1,36 @@
+-- A transaction's calls with one reply more, and replies that change nothing of a transaction.
+use Rattle.std.proofs.Common.{◌≡◌, List, [], ◌∷◌, ◌++◌, Ok, Err, refl}
+use Rattle.shore_types.specs.declared.faults.Fault.{Fault}
+use Rattle.shore_types.specs.declared.faults.Fault.TheVariants.{NoRecord}
+use Rattle.shore_model.specs.declared.calls.Answer.TheVariants.{Committed}
+use Rattle.shore_model.specs.declared.calls.Call.{Call}
+use Rattle.shore_model.specs.declared.calls.Call.TheVariants as call
+use Rattle.shore_model.specs.declared.calls.Exchange.{Exchange}
+use Rattle.shore_model.specs.declared.progress.Progress.{Progress}
+use Rattle.shore_model.specs.Alone.{MayRefuse, MayReply, MayReplyAll, after, after_reply}
+use Rattle.shore_model.specs.Records.{Records}
+use Rattle.laws_lives.specs.SessionSteps.{TellsNothing, exchange}
+
+pub after-push : (p : Progress) (xs : List Exchange) (x : Exchange) → after p (xs ++ x ∷ []) ≡ after_reply (after p xs) x.call x.reply
+after-push p [] x = refl
+after-push p (y ∷ ys) x = after-push (after_reply p y.call y.reply) ys x
+
+pub replies-push : (R : Records) (p : Progress) (xs : List Exchange) (x : Exchange) → MayReplyAll R p xs → MayReply R (after p xs) x.call x.reply
+    → MayReplyAll R p (xs ++ x ∷ [])
+replies-push R p [] x h m = (m, tt)
+replies-push R p (y ∷ ys) x h m = (h.0, replies-push R (after_reply p y.call y.reply) ys x h.1 m)
+
+-- it may come on all records, and a transaction that gets it has come no further
+pub record IsQuiet (x : Exchange) : Type 0 where
+  pub may : (R : Records) (p : Progress) → MayReply R p x.call x.reply
+  pub leaves : (p : Progress) → after_reply p x.call x.reply ≡ p
+
+tells_nothing : (R : Records) (c : Call) (fault : Fault) → TellsNothing fault → MayRefuse R c fault
+tells_nothing R c NoRecord h = absurd h
+tells_nothing R c _ h = tt
+
+pub refusal_is_quiet : (c : Call) (fault : Fault) → TellsNothing fault → IsQuiet (exchange c (Err fault))
+refusal_is_quiet c fault h = record { may = λ R p. tells_nothing _ c fault h; leaves = λ p. refl }
+
+pub commit_is_quiet : IsQuiet (exchange call.Commit (Ok Committed))
+commit_is_quiet = record { may = λ R p. refl; leaves = λ p. refl }

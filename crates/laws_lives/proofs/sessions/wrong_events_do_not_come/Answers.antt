@@ -1,0 +1,51 @@
+use Rattle.laws_lives.proofs.Doomed.{commit_of_doomed}
+use Rattle.laws_lives.proofs.WrongEvents.{absent_unlocked, before_savepoint, commit_in_rollback, doom_of_another, get_in_rollback, get_unlocked, insert_under_read_lock, lock_lost, lock_of_nobody, locks_clash, not_the_newest, other_back_to, other_savepoint, scan_under_record_lock, second_txn}
+use Rattle.laws_lives.proofs.sessions.wrong_events_do_not_come.Goals as goal
+
+pub returns-clause-get_unlocked : goal.returns-clause-get_unlocked
+returns-clause-get_unlocked c t n R id answer h = get_unlocked t R n id answer h
+
+pub returns-clause-absent_unlocked : goal.returns-clause-absent_unlocked
+returns-clause-absent_unlocked c t n R id less h = absent_unlocked t R n id less h
+
+pub returns-clause-insert_under_read_lock : goal.returns-clause-insert_under_read_lock
+returns-clause-insert_under_read_lock c t n R id s bytes h = insert_under_read_lock t R n id s bytes h
+
+pub returns-clause-scan_under_record_lock : goal.returns-clause-scan_under_record_lock
+returns-clause-scan_under_record_lock c t n R a b answer differ h = scan_under_record_lock t R n a b answer differ h
+
+pub returns-clause-second_txn : goal.returns-clause-second_txn
+returns-clause-second_txn c s new a current step = second_txn s new a current step
+
+pub returns-clause-lock_lost : goal.returns-clause-lock_lost
+returns-clause-lock_lost c s new t m g among holds step = lock_lost s new t m g among holds step
+
+pub returns-clause-locks_clash : goal.returns-clause-locks_clash
+returns-clause-locks_clash c s new held t u id other w r step = locks_clash s new held t u id other w r step
+
+pub returns-clause-lock_of_nobody : goal.returns-clause-lock_of_nobody
+returns-clause-lock_of_nobody c s new h held among beyond step = lock_of_nobody s new h held among beyond step
+
+pub returns-clause-commit_in_rollback : goal.returns-clause-commit_in_rollback
+returns-clause-commit_in_rollback c s new a rolls step = commit_in_rollback s new a rolls step
+
+pub returns-clause-get_in_rollback : goal.returns-clause-get_in_rollback
+returns-clause-get_in_rollback c s new a id reply rolls step = get_in_rollback s new a id reply rolls step
+
+pub returns-clause-other_savepoint : goal.returns-clause-other_savepoint
+returns-clause-other_savepoint c s new a kept e n m rolls differ step = other_savepoint s new a kept e n m rolls differ step
+
+pub returns-clause-other_back_to : goal.returns-clause-other_back_to
+returns-clause-other_back_to c s new a n m reply rolls differ step = other_back_to s new a n m reply rolls differ step
+
+pub returns-clause-not_the_newest : goal.returns-clause-not_the_newest
+returns-clause-not_the_newest c s new a older kept newest e r is differ step = not_the_newest s new a older kept newest e r is differ step
+
+pub returns-clause-before_savepoint : goal.returns-clause-before_savepoint
+returns-clause-before_savepoint c s new a kept e n less step = before_savepoint s new a kept e n less step
+
+pub returns-clause-commit_of_doomed : goal.returns-clause-commit_of_doomed
+returns-clause-commit_of_doomed c s mid new a b doom same step = commit_of_doomed s mid a b doom new same step
+
+pub returns-clause-doom_of_another : goal.returns-clause-doom_of_another
+returns-clause-doom_of_another c s new a other step = doom_of_another s new a other step

@@ -1,0 +1,75 @@
+-- A manager: sessions at work over a log and pages. Nothing of the sessions knows of pages, and nothing of the pages of sessions; they meet
+-- in what the log is after an event.
+use Rattle.std.specs.Prelude.{◌≡◌, ◌<◌, ◌++◌, List, [], ◌∷◌, take}
+use Rattle.std.specs.FinMap.{get}
+use Rattle.std.specs.List.{AllByRecursion}
+use Rattle.shore_types.specs.declared.ids.Rid.{Rid}
+use Rattle.shore_model.specs.declared.histories.Entry.{Entry}
+use Rattle.shore_model.specs.Logs.{committed_in}
+use Rattle.laws_lives.specs.Recovery.{AppendRecord, FlushPage, ForceLog, LeadsTo, LosePower, RecoveryEvent, RecoveryState, RedoRecord}
+use Rattle.laws_lives.specs.Logged.{log_after}
+use Rattle.laws_lives.specs.SessionSteps.{AnswerAbort, AnswerCommit, AppendCommit, BeginTxn, Doom, GiveReply, MoveLocks, PutBack, RefuseCall, SessionEvent, StepsTo, entries_by}
+use Rattle.laws_lives.specs.Sessions.{Sessions}
+use Rattle.laws_lives.specs.Views.{IsAmong}
+
+pub record ManagerState : Type 0 where
+  pub sessions : Sessions
+  pub store : RecoveryState
+
+-- ---- log and pages
+
+-- what may be done to log and pages between an open and a crash: nothing is redone that was not appended just now
+abbrev pub IsWork : RecoveryEvent → Type 0
+IsWork (AppendRecord r) = Unit {0}
+IsWork (ForceLog n) = Unit {0}
+IsWork (FlushPage p) = Unit {0}
+IsWork RedoRecord = ⊥
+IsWork (LosePower n left begin) = ⊥
+
+abbrev pub WorksTo : RecoveryState → List RecoveryEvent → RecoveryState → Type 0
+WorksTo s [] last = last ≡ s
+WorksTo s (e ∷ works) last = IsWork e × (new : RecoveryState) × LeadsTo s e new × WorksTo new works last
+
+-- ---- events
+
+-- `Serve`: an event of the sessions, and the work that appends its records, with forces and flushes anywhere between.
+-- `Tend`: work that appends nothing
+pub data StretchEvent : Type 0 where
+  Serve : SessionEvent → List RecoveryEvent → StretchEvent
+  Tend : List RecoveryEvent → StretchEvent
+
+-- a commit is not answered before its Commit is durable
+abbrev pub AnswersDurable : RecoveryState → SessionEvent → Type 0
+AnswersDurable store (AnswerCommit a) = IsAmong a.txn (committed_in (take store.durable store.log))
+AnswersDurable store (MoveLocks held) = Unit {0}
+AnswersDurable store (BeginTxn session) = Unit {0}
+AnswersDurable store (GiveReply a c reply) = Unit {0}
+AnswersDurable store (AppendCommit a) = Unit {0}
+AnswersDurable store (PutBack a kept e r) = Unit {0}
+AnswersDurable store (Doom a) = Unit {0}
+AnswersDurable store (AnswerAbort a) = Unit {0}
+AnswersDurable store (RefuseCall session t c fault) = Unit {0}
+
+abbrev pub ManagerStepsTo : ManagerState → StretchEvent → ManagerState → Type 0
+ManagerStepsTo m (Serve e works) new =
+    StepsTo m.sessions e new.sessions × AnswersDurable m.store e × WorksTo m.store works new.store × (new.store.log ≡ log_after m.store.log m.sessions e)
+ManagerStepsTo m (Tend works) new = (new.sessions ≡ m.sessions) × WorksTo m.store works new.store × (new.store.log ≡ m.store.log)
+
+abbrev pub entries_made : ManagerState → StretchEvent → List Entry
+entries_made m (Serve e works) = entries_by m.sessions e
+entries_made m (Tend works) = []
+
+abbrev pub ManagerRunsTo : ManagerState → List StretchEvent → List Entry → ManagerState → List Entry → Type 0
+ManagerRunsTo m [] es last made = (last ≡ m) × (made ≡ es)
+ManagerRunsTo m (e ∷ events) es last made = (new : ManagerState) × ManagerStepsTo m e new × ManagerRunsTo new events (es ++ entries_made m e) last made
+
+-- ---- an open
+
+-- Sessions open on what a restart has left: the records that the pages show, nobody in a transaction, and numbers that no record has
+pub record OpensOver (ready : RecoveryState) (first : Sessions) : Type 0 where
+  pub records : (id : Rid) → get first.records id ≡ (ready.in_place id.page).slots id.slot
+  pub active : first.active ≡ []
+  pub committing : first.committing ≡ []
+  pub held : first.held ≡ []
+  pub some : 0 < first.next_txn
+  pub below : AllByRecursion (λ r. r.txn < first.next_txn) ready.log

@@ -1,0 +1,237 @@
+//! The laws of sessions under locks, each stated as the contract of an empty function.
+ghost use Rattle.std.specs.Prelude.{◌≡◌, ◌≢◌, ◌<◌, ◌≤◌, ◌∷◌, ◌++◌, ℕ, List, [], Contains, Err, IsSome, None, Ok, Some, Result, length, map, take};
+ghost use Rattle.std.specs.FinMap.{get, insert};
+ghost use Rattle.std.specs.List.{AllByRecursion};
+ghost use Rattle.shore_types.specs.Images.{Image};
+ghost use Rattle.shore_types.specs.declared.faults.Fault.{Fault};
+ghost use Rattle.shore_types.specs.declared.faults.Fault.TheVariants.{NoRecord};
+ghost use Rattle.shore_types.specs.declared.ids.Rid.{Rid};
+ghost use Rattle.shore_types.specs.declared.layout.TheConstants.{MAX_SLOTS};
+ghost use Rattle.shore_types.specs.declared.locking.Granule.{Granule};
+ghost use Rattle.shore_types.specs.declared.locking.Mode.{Mode};
+ghost use Rattle.shore_model.specs.declared.calls.Answer.{Answer};
+ghost use Rattle.shore_model.specs.declared.calls.Answer.TheVariants.{Inserted};
+ghost use Rattle.shore_model.specs.declared.calls.Call.{Call};
+ghost use Rattle.shore_model.specs.declared.calls.Call.TheVariants.{BackTo, Get, Insert, Scan};
+ghost use Rattle.shore_model.specs.declared.calls.Exchange.{Exchange};
+ghost use Rattle.shore_model.specs.declared.histories.Entry.{Entry};
+ghost use Rattle.shore_model.specs.declared.holds.Hold.{Hold};
+ghost use Rattle.shore_model.specs.declared.log_records.LogRecord.{LogRecord};
+ghost use Rattle.shore_model.specs.declared.log_records.Payload.TheVariants.{Change, Compensation};
+ghost use Rattle.shore_model.specs.declared.progress.Progress.{Progress};
+ghost use Rattle.shore_model.specs.Alone.{after, start, writes_of};
+ghost use Rattle.shore_model.specs.Histories.{IsHistory, Sound, decisions, serial};
+ghost use Rattle.shore_model.specs.Locks.{Harmony, HoldsAtLeast, MayRead, MayWrite};
+ghost use Rattle.shore_model.specs.Logs.{Answers, in_doubt_in, logged_writes, records_told, unanswered};
+ghost use Rattle.shore_model.specs.Records.{Records, WriteSet, overlays, put_image};
+ghost use Rattle.shore_model.specs.declared.rollbacks.Rollback.{Rollback};
+ghost use Rattle.shore_model.specs.declared.rollbacks.Rollback.TheVariants.{To, Whole};
+ghost use Rattle.laws_lives.specs.GranuleLocks.{HasLocksFor};
+ghost use Rattle.laws_lives.specs.LogPrefixes.{DecidesNothing, LogDecides, decisions_in};
+ghost use Rattle.laws_lives.specs.LogTells.{HasLogged, IsLogAfter, MatchesUndo, records_committed};
+ghost use Rattle.laws_lives.specs.Logged.{and_compensations, and_record, log_after, next_to_undo};
+ghost use Rattle.laws_lives.specs.RepliesInPlace.{MayReplyInPlace, Permit};
+ghost use Rattle.laws_lives.specs.SessionSteps.{AnswerAbort, AppendCommit, BeginTxn, Doom, GiveReply, MoveLocks, PutBack, SessionEvent, StepsTo, entries_by, exchange};
+ghost use Rattle.laws_lives.specs.Sessions.{IsCurrent, SessionTxn, Sessions, txns_of};
+ghost use Rattle.laws_lives.specs.Soundness.{IsJustOpened, IsSoundAfter, RunsTo, SessionsAgree, history_from, serial_after, written_by};
+ghost use Rattle.laws_lives.specs.UndoLists.{CanUndo, MayGiveReply, MayRoll, UndoList, images_since, in_place_after, in_place_after_answer, least_kept, mark_of, rolled_back, undo_after, undo_after_answer, undo_rolled};
+ghost use Rattle.laws_lives.specs.WorkedRun.{abort_interrupted, interleaved, just_opened, read_lock, way_back_interrupted};
+ghost use Rattle.laws_lives.specs.Views.{IsAmong, Sees, Stand, StayRight};
+
+/// New locks never harm what transactions under way see, nor does it if others lose theirs.
+pub fn moved_locks_keep_views()
+    ensures { (held new : List Hold) (now R : Records) (ts : List ℕ) (writes : ℕ → WriteSet) →
+        Stand held now R ts writes → Harmony new
+        → ((t : ℕ) (id : Rid) → IsAmong t ts → MayRead held t id → MayRead new t id)
+        → ((t : ℕ) (id : Rid) → IsAmong t ts → MayWrite held t id → MayWrite new t id)
+        → Stand new now R ts writes }
+{}
+
+/// A reply that its locks permit, and that is right on the records in place, leaves what every transaction sees as it must be. It stays
+/// right for its own transaction, which can still be undone. A reply that completes a rollback, which has begun, does so too, whatever stands
+/// in place for its transaction before it.
+pub fn replies_keep_views()
+    ensures { (held : List Hold) (now R : Records) (ts : List ℕ) (before later : ℕ → WriteSet) (t : ℕ) (es : List Exchange) (undo : UndoList) (c : Call) (reply : Result Answer Fault) →
+        Stand held now R ts before → IsAmong t ts → (undo.rolling ≡ None → before t ≡ writes_of es) → StayRight held t now es
+        → CanUndo held now R t undo (after start es) → MayGiveReply undo c reply → MayReplyInPlace held t R (length undo.marks) c reply
+        → ((u : ℕ) → u ≢ t → later u ≡ before u) → later t ≡ writes_of (es ++ exchange c reply ∷ [])
+        → Stand held now (in_place_after R undo c reply) ts later × StayRight held t now (es ++ exchange c reply ∷ [])
+        × CanUndo held now (in_place_after R undo c reply) t (undo_after R undo c reply) (after start (es ++ exchange c reply ∷ [])) }
+{}
+
+/// Each event keeps both invariants, with what it adds to the history.
+pub fn session_events_keep_history_sound()
+    ensures sound { (o : Records) (es : List Entry) (old new : Sessions) (e : SessionEvent) →
+        IsSoundAfter o es old → SessionsAgree o es old → StepsTo old e new → IsSoundAfter o (es ++ entries_by old e) new }
+    ensures agree { (o : Records) (es : List Entry) (old new : Sessions) (e : SessionEvent) →
+        SessionsAgree o es old → StepsTo old e new → SessionsAgree o (es ++ entries_by old e) new }
+{}
+
+/// Whatever events come after an open, of however many sessions: what they make is a history, and it is sound.
+pub fn sessions_make_sound_histories()
+    ensures history { (o : Records) (first last : Sessions) (events : List SessionEvent) (made : List Entry) →
+        IsJustOpened o first → RunsTo first events [] last made → IsHistory (history_from o made) }
+    ensures sound { (o : Records) (first last : Sessions) (events : List SessionEvent) (made : List Entry) →
+        IsJustOpened o first → RunsTo first events [] last made → Sound (history_from o made) }
+    ensures last { (o : Records) (first last : Sessions) (events : List SessionEvent) (made : List Entry) →
+        IsJustOpened o first → RunsTo first events [] last made → IsSoundAfter o made last × SessionsAgree o made last }
+{}
+
+/// In place are the serial records, overlaid with what stands for each transaction under way: what it has written, if no rollback of it is
+/// under way. With the log beside them, they are overlaid with the last images that each has logged, in the midst of a rollback too, and
+/// each of these images is in place.
+pub fn records_in_place_are_overlaid()
+    ensures overlaid { (o : Records) (es : List Entry) (s : Sessions) (k : IsSoundAfter o es s) →
+        s.records ≡ overlays (serial_after o es) (map k.standing (txns_of s.active)) }
+    ensures written { (o : Records) (es : List Entry) (s : Sessions) (a : SessionTxn) (k : IsSoundAfter o es s) →
+        IsAmong a s.active → a.undo.rolling ≡ None → k.standing a.txn ≡ written_by es a.txn }
+    ensures logged { (o : Records) (es : List Entry) (s : Sessions) (log : List LogRecord) → IsSoundAfter o es s → IsLogAfter o es s log →
+        s.records ≡ overlays (serial_after o es) (map (logged_writes log) (txns_of s.active)) }
+    ensures last_images { (o : Records) (es : List Entry) (s : Sessions) (log : List LogRecord) (t : ℕ) (id : Rid) (image : Image) → IsLogAfter o es s log →
+        IsAmong t (txns_of s.active) → get (logged_writes log t) id ≡ Some image → get s.records id ≡ image }
+{}
+
+/// What a transaction under way has written no other may read, or write over, nor what stands for it while it rolls back, nor what it has
+/// logged; and what one may read, no reply to another and no rollback of another changes in place, whole or image by image.
+pub fn transactions_are_isolated()
+    ensures written { (o : Records) (es : List Entry) (s : Sessions) (t : ℕ) (a : SessionTxn) (id : Rid) → IsSoundAfter o es s →
+        t ≢ a.txn → IsAmong a s.active → a.undo.rolling ≡ None → IsSome (get (written_by es a.txn) id) → MayRead s.held t id → ⊥ }
+    ensures standing { (o : Records) (es : List Entry) (s : Sessions) (t u : ℕ) (id : Rid) (k : IsSoundAfter o es s) →
+        t ≢ u → IsAmong u (txns_of s.active) → IsSome (get (k.standing u) id) → MayRead s.held t id → ⊥ }
+    ensures logged { (o : Records) (es : List Entry) (s : Sessions) (log : List LogRecord) (t u : ℕ) (id : Rid) → IsSoundAfter o es s →
+        IsLogAfter o es s log → t ≢ u → IsAmong u (txns_of s.active) → IsSome (get (logged_writes log u) id) → MayRead s.held t id → ⊥ }
+    ensures reply { (o : Records) (es : List Entry) (old new : Sessions) (a : SessionTxn) (c : Call) (reply : Result Answer Fault) (t : ℕ) (id : Rid) →
+        IsSoundAfter o es old → StepsTo old (GiveReply a c reply) new → t ≢ a.txn → MayRead old.held t id → get new.records id ≡ get old.records id }
+    ensures rollback { (o : Records) (es : List Entry) (old new : Sessions) (a : SessionTxn) (t : ℕ) (id : Rid) →
+        IsSoundAfter o es old → StepsTo old (AnswerAbort a) new → t ≢ a.txn → MayRead old.held t id → get new.records id ≡ get old.records id }
+    ensures put_back { (o : Records) (es : List Entry) (old new : Sessions) (a : SessionTxn) (kept : List (Rid × Image)) (e : Rid × Image) (r : Rollback) (t : ℕ) (id : Rid) →
+        IsSoundAfter o es old → StepsTo old (PutBack a kept e r) new → t ≢ a.txn → MayRead old.held t id → get new.records id ≡ get old.records id }
+{}
+
+/// The granules and modes that calls are answered under permit the answers.
+pub fn granule_locks_permit_answers()
+    ensures { (held : List Hold) (t : ℕ) (c : Call) (answer : Answer) → HasLocksFor held t c answer → Permit held t c answer }
+{}
+
+/// Each event keeps the log beside the history, rollbacks too. It tells the serial records, if nobody has prepared.
+pub fn log_tells_serial_records()
+    ensures open { (o : Records) (s : Sessions) (log : List LogRecord) →
+        IsJustOpened o s → records_committed log ≡ o → AllByRecursion (λ r. r.txn < s.next_txn) log → IsLogAfter o [] s log }
+    ensures each { (o : Records) (es : List Entry) (old new : Sessions) (e : SessionEvent) (log : List LogRecord) →
+        IsSoundAfter o es old → IsLogAfter o es old log → StepsTo old e new → IsLogAfter o (es ++ entries_by old e) new (log_after log old e) }
+    ensures tells { (o : Records) (es : List Entry) (s : Sessions) (log : List LogRecord) →
+        IsLogAfter o es s log → in_doubt_in log ≡ [] → records_told log ≡ serial_after o es }
+{}
+
+/// A prefix of the log, as a crash may keep it, tells the serial records of a prefix of the decisions: of those whose Commits it has. It is so
+/// in the midst of an event too, while its records are appended and its entry is not made.
+pub fn log_prefixes_tell_decision_prefixes()
+    ensures open { (o : Records) (log : List LogRecord) → records_committed log ≡ o → LogDecides (length log) o [] log }
+    ensures each { (base : ℕ) (o : Records) (es : List Entry) (old new : Sessions) (e : SessionEvent) (log : List LogRecord) →
+        IsSoundAfter o es old → IsLogAfter o es old log → LogDecides base o es log → StepsTo old e new → LogDecides base o (es ++ entries_by old e) (log_after log old e) }
+    ensures midst { (base : ℕ) (o : Records) (es : List Entry) (old new : Sessions) (e : SessionEvent) (log : List LogRecord) →
+        IsSoundAfter o es old → IsLogAfter o es old log → LogDecides base o es log → StepsTo old e new → DecidesNothing e → LogDecides base o es (log_after log old e) }
+    ensures prefix { (base : ℕ) (o : Records) (es : List Entry) (log : List LogRecord) (n : ℕ) → LogDecides base o es log → base ≤ n → n ≤ length log →
+        (m : ℕ) × (decisions_in base (take n log) ≡ take m (decisions es)) × (records_committed (take n log) ≡ serial (written_by es) o (take m (decisions es))) }
+{}
+
+/// A rollback may be made of steps, with other events between them. What its transaction has logged stands for its write set: each
+/// image that is put back and logged leaves what it sees as it must be, and the rest of the undo list undoes the rest, whole or down to the
+/// savepoint.
+pub fn rollback_steps_keep_views()
+    ensures begin { (held : List Hold) (now R : Records) (t : ℕ) (p : Progress) (L : WriteSet) →
+        Sees held now R t p.writes → HasLogged held R t p L → Sees held now R t L }
+    ensures step { (held : List Hold) (now R : Records) (t : ℕ) (L : WriteSet) (id : Rid) (image : Image) →
+        MayWrite held t id → Sees held now R t L → Sees held now (put_image R id image) t (insert L id image) }
+    ensures rest { (held : List Hold) (now R : Records) (t : ℕ) (p : Progress) (undo : UndoList) (kept : List (Rid × Image)) (e : Rid × Image) (r : Rollback) →
+        CanUndo held now R t undo p → undo.images ≡ kept ++ e ∷ [] → MayRoll undo r → least_kept undo r ≤ length kept
+        → CanUndo held now (put_image R e.0 e.1) t (undo_rolled undo kept r) p }
+{}
+
+/// A rollback whose first image was put back in a step of its own ends as one that was made at once: with the same records in place, the same
+/// undo list, and the same log.
+pub fn rollbacks_in_steps_end_alike()
+    ensures abort { (t : ℕ) (R : Records) (log : List LogRecord) (undo : UndoList) (kept : List (Rid × Image)) (e : Rid × Image) → undo.images ≡ kept ++ e ∷ [] →
+        (rolled_back (put_image R e.0 e.1) kept ≡ rolled_back R undo.images)
+        × (and_compensations t (and_record t log (Compensation e.0 e.1 (next_to_undo t log))) kept ≡ and_compensations t log undo.images) }
+    ensures back_to { (t : ℕ) (R : Records) (log : List LogRecord) (undo : UndoList) (kept : List (Rid × Image)) (e : Rid × Image) (n : ℕ) (answer : Answer) →
+        undo.images ≡ kept ++ e ∷ [] → n < length undo.marks → mark_of undo n ≤ length kept →
+        (in_place_after_answer (put_image R e.0 e.1) (undo_rolled undo kept (To n)) (BackTo n) answer ≡ in_place_after_answer R undo (BackTo n) answer)
+        × (undo_after_answer (put_image R e.0 e.1) (undo_rolled undo kept (To n)) (BackTo n) answer ≡ undo_after_answer R undo (BackTo n) answer)
+        × (and_compensations t (and_record t log (Compensation e.0 e.1 (next_to_undo t log))) (images_since (undo_rolled undo kept (To n)) n)
+        ≡ and_compensations t log (images_since undo n)) }
+{}
+
+/// The undo list and the unanswered Changes of the log stay the same: a Change goes to the end of both, a rollback takes its
+/// images off both, and each of its Compensations answers the newest Change that is left.
+pub fn unanswered_changes_match_undo()
+    ensures change { (t : ℕ) (log : List LogRecord) (images : List (Rid × Image)) (id : Rid) (before image : Image) →
+        MatchesUndo log t images → MatchesUndo (and_record t log (Change id before image)) t (images ++ (id, before) ∷ []) }
+    ensures rollback { (t : ℕ) (log : List LogRecord) (kept es : List (Rid × Image)) →
+        MatchesUndo log t (kept ++ es) → MatchesUndo (and_compensations t log es) t kept }
+    ensures answers { (t : ℕ) (log : List LogRecord) (kept es : List (Rid × Image)) (e : Rid × Image) → MatchesUndo log t (kept ++ e ∷ es)
+        → Answers (unanswered t (and_compensations t log es)) e.0 e.1 (next_to_undo t (and_compensations t log es)) }
+{}
+
+/// The events of two sessions may come between each other: a worked run with all kinds of events, in which one commits while the other
+/// reads, and what it has committed is in place.
+pub fn two_sessions_interleave()
+    ensures { (o : Records) (a b : Rid) (x y z : List ℕ) → a ≢ b → get o a ≡ Some x → get o b ≡ Some y →
+        (last : Sessions) × (made : List Entry) × RunsTo (just_opened o) (interleaved o a b x z) [] last made × (get last.records b ≡ Some z) }
+{}
+
+/// So may they in the midst of a rollback: one session changes a record twice, and its abort, or its way back to a savepoint, puts one image
+/// back; the other reads; then the rollback puts back what is left, and in place is what was there before.
+pub fn rollbacks_are_interrupted()
+    ensures abort { (o : Records) (a b : Rid) (x y z : List ℕ) → a ≢ b → get o a ≡ Some x → get o b ≡ Some y →
+        (last : Sessions) × (made : List Entry) × RunsTo (just_opened o) (abort_interrupted o a b x z) [] last made × (get last.records b ≡ Some y) }
+    ensures back_to { (o : Records) (a b : Rid) (x y z : List ℕ) → a ≢ b → get o a ≡ Some x → get o b ≡ Some y →
+        (last : Sessions) × (made : List Entry) × RunsTo (just_opened o) (way_back_interrupted o a b x z) [] last made × (get last.records b ≡ Some y) }
+{}
+
+/// A doomed transaction can only be rolled back, whole. Nothing of it is put back at once. From then on, whatever else comes, it gets no reply and
+/// goes back to no savepoint; nor is it committed, as `wrong_events_do_not_come` says of each one that rolls back.
+pub fn doomed_transactions_can_only_roll_back()
+    ensures left { (s new : Sessions) (a b : SessionTxn) → StepsTo s (Doom a) new → IsAmong b new.active → b.txn ≡ a.txn →
+        (b.undo.images ≡ a.undo.images) × (b.undo.rolling ≡ Some Whole) × (new.records ≡ s.records) }
+    ensures reply { (s new : Sessions) (a : SessionTxn) (c : Call) (reply : Result Answer Fault) →
+        a.undo.rolling ≡ Some Whole → StepsTo s (GiveReply a c reply) new → ⊥ }
+    ensures savepoint { (s new : Sessions) (a : SessionTxn) (kept : List (Rid × Image)) (e : Rid × Image) (n : ℕ) →
+        a.undo.rolling ≡ Some Whole → StepsTo s (PutBack a kept e (To n)) new → ⊥ }
+    ensures stays { (o : Records) (es : List Entry) (s new : Sessions) (e : SessionEvent) (a b : SessionTxn) → SessionsAgree o es s → IsAmong a s.active →
+        a.undo.rolling ≡ Some Whole → StepsTo s e new → IsAmong b new.active → b.txn ≡ a.txn → b.undo.rolling ≡ Some Whole }
+{}
+
+/// What must not come, though each other condition of it may hold: a get and its refusal without a lock, an insert if only a read lock
+/// is held, a scan under a lock of a record; a second transaction of a session; locks that a transaction under way loses, that clash, or
+/// that are of no transaction yet; a commit or a get of one that rolls back; a way back, or an image put back, to another savepoint
+/// than that of the rollback under way; an image put back out of turn, or from before the savepoint; a commit of one that is doomed; the doom
+/// of one that is not under way.
+pub fn wrong_events_do_not_come()
+    ensures get_unlocked { (t n : ℕ) (R : Records) (id : Rid) (answer : Answer) → MayReplyInPlace [] t R n (Get id) (Ok answer) → ⊥ }
+    ensures absent_unlocked { (t n : ℕ) (R : Records) (id : Rid) → id.slot < MAX_SLOTS → MayReplyInPlace [] t R n (Get id) (Err NoRecord) → ⊥ }
+    ensures insert_under_read_lock { (t n : ℕ) (R : Records) (id : Rid) (s : ℕ) (bytes : List ℕ) →
+        MayReplyInPlace (read_lock t id ∷ []) t R n (Insert s bytes) (Ok (Inserted id)) → ⊥ }
+    ensures scan_under_record_lock { (t n : ℕ) (R : Records) (a b : Rid) (answer : Answer) → a ≢ b →
+        MayReplyInPlace (read_lock t a ∷ []) t R n (Scan b.page.store) (Ok answer) → ⊥ }
+    ensures second_txn { (s new : Sessions) (a : SessionTxn) → IsCurrent s a → StepsTo s (BeginTxn a.session) new → ⊥ }
+    ensures lock_lost { (s new : Sessions) (t : ℕ) (m : Mode) (g : Granule) →
+        IsAmong t (txns_of s.active) → HoldsAtLeast s.held t m g → StepsTo s (MoveLocks []) new → ⊥ }
+    ensures locks_clash { (s new : Sessions) (held : List Hold) (t u : ℕ) (id : Rid) →
+        t ≢ u → MayWrite held t id → MayRead held u id → StepsTo s (MoveLocks held) new → ⊥ }
+    ensures lock_of_nobody { (s new : Sessions) (h : Hold) (held : List Hold) → Contains held h → s.next_txn ≤ h.txn → StepsTo s (MoveLocks held) new → ⊥ }
+    ensures commit_in_rollback { (s new : Sessions) (a : SessionTxn) → a.undo.rolling ≢ None → StepsTo s (AppendCommit a) new → ⊥ }
+    ensures get_in_rollback { (s new : Sessions) (a : SessionTxn) (id : Rid) (reply : Result Answer Fault) →
+        a.undo.rolling ≢ None → StepsTo s (GiveReply a (Get id) reply) new → ⊥ }
+    ensures other_savepoint { (s new : Sessions) (a : SessionTxn) (kept : List (Rid × Image)) (e : Rid × Image) (n m : ℕ) →
+        a.undo.rolling ≡ Some (To n) → n ≢ m → StepsTo s (PutBack a kept e (To m)) new → ⊥ }
+    ensures other_back_to { (s new : Sessions) (a : SessionTxn) (n m : ℕ) (reply : Result Answer Fault) →
+        a.undo.rolling ≡ Some (To n) → n ≢ m → StepsTo s (GiveReply a (BackTo m) reply) new → ⊥ }
+    ensures not_the_newest { (s new : Sessions) (a : SessionTxn) (older kept : List (Rid × Image)) (newest e : Rid × Image) (r : Rollback) →
+        a.undo.images ≡ older ++ newest ∷ [] → newest ≢ e → StepsTo s (PutBack a kept e r) new → ⊥ }
+    ensures before_savepoint { (s new : Sessions) (a : SessionTxn) (kept : List (Rid × Image)) (e : Rid × Image) (n : ℕ) →
+        length kept < mark_of a.undo n → StepsTo s (PutBack a kept e (To n)) new → ⊥ }
+    ensures commit_of_doomed { (s mid new : Sessions) (a b : SessionTxn) →
+        StepsTo s (Doom a) mid → b.txn ≡ a.txn → StepsTo mid (AppendCommit b) new → ⊥ }
+    ensures doom_of_another { (s new : Sessions) (a : SessionTxn) → (IsAmong a s.active → ⊥) → StepsTo s (Doom a) new → ⊥ }
+{}

@@ -1,0 +1,5 @@
+use Rattle.laws_room.proofs.Tables.{steps_keep}
+use Rattle.laws_room.proofs.laws.steps_keep_room.Goals as goal
+
+pub returns : goal.returns
+returns c spare s steps within k may = steps_keep spare within s steps k may

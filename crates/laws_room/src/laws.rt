@@ -1,0 +1,237 @@
+//! The laws of claims and of the log's room, each stated as the contract of an empty function.
+ghost use Rattle.std.specs.Prelude.{◌*◌, ◌+◌, ◌++◌, ◌<◌, ◌≡◌, ◌≢◌, ◌≤◌, ◌↔◌, ◌∷◌, ℕ, Bool, IsTrue, List, Option, [], None, Some, length, max};
+ghost use Rattle.std.specs.FinMap.{get};
+ghost use Rattle.shore_types.specs.Images.{Image, image_len};
+ghost use Rattle.shore_types.specs.declared.ids.PageId.{PageId};
+ghost use Rattle.shore_types.specs.declared.ids.Rid.{Rid};
+ghost use Rattle.shore_types.specs.declared.layout.TheConstants.{ENDING_COST, GREATEST_CHECKPOINT, LONGEST_FRAME, MAX_SLOTS, PAGE_ROOM, SLOT_ENTRY_BYTES};
+ghost use Rattle.shore_model.specs.declared.histories.Entry.{Entry};
+ghost use Rattle.shore_model.specs.declared.log_records.Payload.TheVariants.{Change, Commit, Compensation, End};
+ghost use Rattle.shore_model.specs.Records.{Records, put_image};
+ghost use Rattle.shore_logrec.specs.Text.{cost_of};
+ghost use Rattle.shore_page.specs.Layout.{record_bytes};
+ghost use Rattle.shore_page.specs.Room.{Fits, HasRoom, claim_at, claims, lowered};
+ghost use Rattle.shore_page.specs.Slots.{settled, with_change, with_image};
+ghost use Rattle.shore_page.specs.Undo.{UndoFits, longest};
+ghost use Rattle.laws_lives.specs.SessionSteps.{SessionEvent, StepsTo};
+ghost use Rattle.laws_lives.specs.Sessions.{EachOnce, SessionTxn, Sessions, txns_of, with_undo, without_txn};
+ghost use Rattle.laws_lives.specs.Soundness.{IsJustOpened, IsSoundAfter};
+ghost use Rattle.shore_model.specs.declared.rollbacks.Rollback.{Rollback};
+ghost use Rattle.laws_lives.specs.UndoLists.{UndoList, with_before_image};
+ghost use Rattle.laws_lives.specs.Views.{IsAmong};
+ghost use Rattle.laws_room.specs.Choosing.{IsChoice, Serves, first_of};
+ghost use Rattle.laws_room.specs.Claims.{Claimed, Grows, NoOthers, SlotCounts, befores_at, befores_in, rid_on, slots_of, undecided_on};
+ghost use Rattle.laws_room.specs.Entries.{claim_before, claims_before};
+ghost use Rattle.laws_room.specs.Events.{ChangeFitsPage, EventFits};
+ghost use Rattle.laws_room.specs.LogRooms.{Admits, ChangeAdmits, EventAdmits, HasLogRoom, LogRoom, RoomAfter, Takes, TurnsTake, begun_room, change_cost, changed_room, compensation_cost, ended_room, left_room, owed, undone_room};
+ghost use Rattle.laws_room.specs.RolledBack.{all_rolled_back, images_on};
+ghost use Rattle.laws_room.specs.Settling.{AllReservesFit, let_go, reserved_for_all, settled_slots};
+ghost use Rattle.laws_room.specs.Tables.{AllHaveRoom, IsRoomy, MayStepAll, RunsWithRoom, TxnTable, TableStep, stepped_all};
+ghost use Rattle.laws_room.specs.Turns.{TurnsFit};
+
+/// A slot's claim is the greatest of its record's length and of those of the images that could come back, which are one transaction's.
+/// With the slot table the claims are within the page.
+pub fn claims_in_numbers()
+    ensures greatest { (R : Records) (undos : List SessionTxn) (p : PageId) (n slot : ℕ) → slot < n
+        → claim_at (slots_of R undos p n) slot ≡ max (image_len (get R (rid_on p slot))) (longest (befores_at (rid_on p slot) undos)) }
+    ensures of_one { (R : Records) (undos : List SessionTxn) (counts : SlotCounts) (a : SessionTxn) (e : Rid × Image) →
+        Claimed R undos counts → IsAmong a undos → IsAmong e a.undo.images → befores_at e.0 undos ≡ befores_in e.0 a.undo.images }
+    ensures within { (R : Records) (undos : List SessionTxn) (counts : SlotCounts) (p : PageId) → Claimed R undos counts
+        → (SLOT_ENTRY_BYTES * counts p + claims (slots_of R undos p (counts p)) ≤ PAGE_ROOM) × (counts p ≤ MAX_SLOTS) }
+{}
+
+/// While nothing is undecided each slot claims what its record takes. At each time, what `shore_page` says of undecided slots holds of
+/// each page.
+pub fn pages_are_claimed()
+    ensures alike { (R : Records) (p : PageId) (n : ℕ) → slots_of R [] p n ≡ settled_slots R p n }
+    ensures settled { (R : Records) (counts : SlotCounts) → ((p : PageId) → HasRoom (settled_slots R p (counts p)))
+        → ((id : Rid) → counts id.page ≤ id.slot → get R id ≡ None) → Claimed R [] counts }
+    ensures each { (R : Records) (undos : List SessionTxn) (counts : SlotCounts) (p : PageId) (turns : List ℕ) →
+        Claimed R undos counts → UndoFits (undecided_on R undos p (counts p)) turns }
+{}
+
+/// A transaction that begins, and one whose savepoints change, leave the slots of every page as they were.
+pub fn begins_and_savepoints_keep_claims()
+    ensures begin { (R : Records) (undos : List SessionTxn) (counts : SlotCounts) (a : SessionTxn) → Claimed R undos counts
+        → a.undo.images ≡ [] → (IsAmong a.txn (txns_of undos) → ⊥) →
+        Claimed R (a ∷ undos) counts × ((p : PageId) → slots_of R (a ∷ undos) p (counts p) ≡ slots_of R undos p (counts p)) }
+    ensures marks { (R : Records) (undos : List SessionTxn) (counts : SlotCounts) (a : SessionTxn) (undo : UndoList) → Claimed R undos counts
+        → IsAmong a undos → undo.images ≡ a.undo.images →
+        Claimed R (with_undo a.txn undo undos) counts
+        × ((p : PageId) → slots_of R (with_undo a.txn undo undos) p (counts p) ≡ slots_of R undos p (counts p)) }
+{}
+
+/// A change that fits, to an id that no other transaction has changed, keeps the claims: its page is as `Page::put`, `Page::remove` or
+/// `Page::apply` leaves it, and no other page is touched.
+pub fn changes_keep_claims()
+    ensures { (R : Records) (undos : List SessionTxn) (counts new : SlotCounts) (a : SessionTxn) (id : Rid) (image : Image) →
+        Claimed R undos counts → IsAmong a undos → NoOthers undos a.txn id
+        → Fits (slots_of R undos id.page (counts id.page)) id.slot (image_len image) → Grows counts new id →
+        Claimed (put_image R id image) (with_undo a.txn (with_before_image R a.undo id) undos) new
+        × (slots_of (put_image R id image) (with_undo a.txn (with_before_image R a.undo id) undos) id.page (new id.page)
+        ≡ with_image (slots_of R undos id.page (counts id.page)) id.slot image)
+        × ((p : PageId) → p ≢ id.page →
+        slots_of (put_image R id image) (with_undo a.txn (with_before_image R a.undo id) undos) p (new p) ≡ slots_of R undos p (counts p)) }
+{}
+
+/// The newest image of any transaction fits when it is put back, and keeps the claims: its page is as `Page::apply` leaves it, and then
+/// `Page::unreserve` by the longest image of the slot that the transaction has left. Its savepoints may change as they like.
+pub fn undos_keep_claims()
+    ensures { (R : Records) (undos : List SessionTxn) (counts : SlotCounts) (a : SessionTxn) (kept : List (Rid × Image)) (e : Rid × Image) (marks : List ℕ) (rolling : Option Rollback) →
+        Claimed R undos counts → IsAmong a undos → a.undo.images ≡ kept ++ e ∷ [] →
+        Fits (slots_of R undos e.0.page (counts e.0.page)) e.0.slot (image_len e.1)
+        × Claimed (put_image R e.0 e.1) (with_undo a.txn record { images = kept; marks = marks; rolling = rolling } undos) counts
+        × (slots_of (put_image R e.0 e.1) (with_undo a.txn record { images = kept; marks = marks; rolling = rolling } undos) e.0.page (counts e.0.page)
+        ≡ with_change (lowered (longest (befores_in e.0 kept))) (with_image (slots_of R undos e.0.page (counts e.0.page)) e.0.slot e.1) e.0.slot)
+        × ((p : PageId) → p ≢ e.0.page →
+        slots_of (put_image R e.0 e.1) (with_undo a.txn record { images = kept; marks = marks; rolling = rolling } undos) p (counts p) ≡ slots_of R undos p (counts p)) }
+{}
+
+/// A transaction that is decided, or has ended, lets its claims go: `Page::unreserve` with no bytes for each of its entries does it.
+pub fn endings_let_claims_go()
+    ensures { (R : Records) (undos : List SessionTxn) (counts : SlotCounts) (a : SessionTxn) → Claimed R undos counts → IsAmong a undos →
+        Claimed R (without_txn a.txn undos) counts
+        × ((p : PageId) → slots_of R (without_txn a.txn undos) p (counts p) ≡ let_go p a.undo.images (slots_of R undos p (counts p))) }
+{}
+
+/// An undo list that keeps with each entry the claim that a change has found tells what to lower the claim to when the entry is undone.
+/// It gives the same slots as the longest image that is left, and need not look for that.
+pub fn entries_keep_claims_before()
+    ensures change { (R : Records) (undos : List SessionTxn) (counts : SlotCounts) (a : SessionTxn) (id : Rid) →
+        Claimed R undos counts → IsAmong a undos → NoOthers undos a.txn id →
+        claims_before (with_before_image R a.undo id).images
+        ≡ claims_before a.undo.images ++ claim_at (slots_of R undos id.page (counts id.page)) id.slot ∷ [] }
+    ensures undo { (R : Records) (undos : List SessionTxn) (counts : SlotCounts) (a : SessionTxn) (kept : List (Rid × Image)) (e : Rid × Image) (marks : List ℕ) (rolling : Option Rollback) →
+        Claimed R undos counts → IsAmong a undos → a.undo.images ≡ kept ++ e ∷ [] →
+        (claims_before a.undo.images ≡ claims_before kept ++ claim_before kept e ∷ [])
+        × (slots_of (put_image R e.0 e.1) (with_undo a.txn record { images = kept; marks = marks; rolling = rolling } undos) e.0.page (counts e.0.page)
+        ≡ with_change (lowered (claim_before kept e)) (with_image (slots_of R undos e.0.page (counts e.0.page)) e.0.slot e.1) e.0.slot)
+        × (claim_at (slots_of (put_image R e.0 e.1) (with_undo a.txn record { images = kept; marks = marks; rolling = rolling } undos) e.0.page (counts e.0.page)) e.0.slot
+        ≡ claim_before kept e) }
+{}
+
+/// In a table with one transaction no other has changed anything. Once it is decided, `Page::unreserve` with no bytes for each of its
+/// entries leaves each slot with what its record takes.
+pub fn one_transaction_has_no_others()
+    ensures alone { (a : SessionTxn) (id : Rid) → NoOthers (a ∷ []) a.txn id }
+    ensures decided { (R : Records) (counts : SlotCounts) (a : SessionTxn) → Claimed R (a ∷ []) counts →
+        Claimed R [] counts × ((p : PageId) → let_go p a.undo.images (slots_of R (a ∷ []) p (counts p)) ≡ settled_slots R p (counts p)) }
+{}
+
+/// Whatever is in place once some of the transactions are rolled back, or all, or none, has room on the pages: the first n slots with what
+/// they have, for any n that are there.
+pub fn rolled_back_records_fit()
+    ensures room { (R : Records) (undos some : List SessionTxn) (counts : SlotCounts) (p : PageId) (n : ℕ) → Claimed R undos counts
+        → ((a : SessionTxn) → IsAmong a some → IsAmong a undos) → n ≤ counts p → HasRoom (settled_slots (all_rolled_back R some) p n) }
+    ensures bytes { (R : Records) (undos some : List SessionTxn) (counts : SlotCounts) (p : PageId) (n : ℕ) → Claimed R undos counts
+        → ((a : SessionTxn) → IsAmong a some → IsAmong a undos) → n ≤ counts p →
+        SLOT_ENTRY_BYTES * n + record_bytes (images_on (all_rolled_back R some) p n) ≤ PAGE_ROOM }
+    ensures claimed { (R : Records) (undos some : List SessionTxn) (counts : SlotCounts) → Claimed R undos counts
+        → ((a : SessionTxn) → IsAmong a some → IsAmong a undos) → Claimed (all_rolled_back R some) [] counts }
+    ensures in_place { (R : Records) (undos : List SessionTxn) (counts : SlotCounts) (p : PageId) (n : ℕ) → Claimed R undos counts → n ≤ counts p →
+        HasRoom (settled_slots R p n) × (SLOT_ENTRY_BYTES * n + record_bytes (images_on R p n) ≤ PAGE_ROOM) }
+{}
+
+/// Rollbacks of any transactions, in steps that take turns as they like, fit their pages.
+pub fn rollbacks_in_turns_fit()
+    ensures { (R : Records) (undos : List SessionTxn) (counts : SlotCounts) (turns : List ℕ) → Claimed R undos counts → TurnsFit R undos counts turns }
+{}
+
+/// When a page is fetched again, `Page::reserve` for each entry of all undo lists brings its claims back, and may be called each time.
+pub fn claims_come_back()
+    ensures { (R : Records) (undos : List SessionTxn) (counts : SlotCounts) (p : PageId) → Claimed R undos counts →
+        (reserved_for_all p undos (settled_slots R p (counts p)) ≡ slots_of R undos p (counts p))
+        × AllReservesFit p undos (settled_slots R p (counts p)) }
+{}
+
+/// A record that is there can be deleted. What fits by the claims fits by fewer: by those of the records alone, as a redo will find them,
+/// and by those of some of the transactions, as an undo of losers will if only transactions in doubt have theirs.
+pub fn deletes_and_fewer_claims_fit()
+    ensures delete { (R : Records) (undos : List SessionTxn) (counts : SlotCounts) (id : Rid) (bytes : List ℕ) → Claimed R undos counts
+        → get R id ≡ Some bytes → ChangeFitsPage R undos counts id None counts }
+    ensures settled { (R : Records) (undos : List SessionTxn) (counts : SlotCounts) (p : PageId) (slot bytes : ℕ) → Claimed R undos counts
+        → Fits (slots_of R undos p (counts p)) slot bytes → Fits (settled_slots R p (counts p)) slot bytes }
+    ensures some { (R : Records) (undos some : List SessionTxn) (counts : SlotCounts) (p : PageId) (slot bytes : ℕ) → Claimed R undos counts
+        → ((a : SessionTxn) → IsAmong a some → IsAmong a undos)
+        → Fits (slots_of R undos p (counts p)) slot bytes → Fits (slots_of R some p (counts p)) slot bytes }
+{}
+
+/// A redo has to let claims go, since `Page::apply` lowers none. Two records of 4,000 bytes stand; the first is made empty, which is decided,
+/// and a new one of 3,000 bytes fits. Redone on the page as it was read, the third fits only if the first slot's claim went between.
+pub fn redo_must_let_claims_go()
+    ensures kept { (a b : List ℕ) → length a ≡ 4000 → length b ≡ 4000
+        → Fits (with_image (settled (Some a) ∷ settled (Some b) ∷ []) 0 (Some [])) 2 3000 → ⊥ }
+    ensures let_go { (a b : List ℕ) → length a ≡ 4000 → length b ≡ 4000
+        → Fits (with_change (lowered 0) (with_image (settled (Some a) ∷ settled (Some b) ∷ []) 0 (Some [])) 0) 2 3000 }
+{}
+
+/// A search page by page and slot by slot finds the lowest id that serves, and finds none only if none serves. Its slot is one that a page
+/// may have.
+pub fn search_finds_lowest_place()
+    ensures choice { (R : Records) (undos : List SessionTxn) (counts : SlotCounts) (store pages bytes : ℕ) (may_lock : Rid → Bool) (test : Rid → Bool) →
+        ((id : Rid) → IsTrue (test id) ↔ Serves R undos counts store pages bytes may_lock id)
+        → IsChoice (Serves R undos counts store pages bytes may_lock) (first_of test counts store 0 pages) }
+    ensures below { (R : Records) (undos : List SessionTxn) (counts : SlotCounts) (store pages bytes : ℕ) (may_lock : Rid → Bool) (id : Rid) →
+        Serves R undos counts store pages bytes may_lock id → id.slot < MAX_SLOTS }
+{}
+
+/// What the log's room counts for a record is what its encoding takes.
+pub fn costs_are_those_of_records()
+    ensures change { (id : Rid) (before after : Image) → change_cost before after ≡ cost_of (Change id before after) }
+    ensures compensation { (id : Rid) (image : Image) (undo_next : ℕ) → compensation_cost image ≡ cost_of (Compensation id image undo_next) }
+    ensures ending { (ENDING_COST ≡ cost_of Commit) × (ENDING_COST ≡ cost_of End) }
+{}
+
+/// Each step keeps the log's room. A begin and a change ask for it; a Compensation and an ending take what was reserved for them.
+pub fn steps_keep_log_room()
+    ensures begin { (spare : ℕ) (undos : List SessionTxn) (room : LogRoom) (a : SessionTxn) → spare ≤ LONGEST_FRAME + GREATEST_CHECKPOINT
+        → HasLogRoom spare undos room → a.undo.images ≡ [] → Admits room ENDING_COST → HasLogRoom spare (a ∷ undos) (begun_room room) }
+    ensures change { (spare : ℕ) (R : Records) (undos : List SessionTxn) (room : LogRoom) (a : SessionTxn) (id : Rid) (image : Image) →
+        spare ≤ LONGEST_FRAME + GREATEST_CHECKPOINT → HasLogRoom spare undos room → EachOnce (txns_of undos) → IsAmong a undos → ChangeAdmits R id image room
+        → HasLogRoom spare (with_undo a.txn (with_before_image R a.undo id) undos) (changed_room (get R id) image room) }
+    ensures marks { (spare : ℕ) (undos : List SessionTxn) (room : LogRoom) (a : SessionTxn) (undo : UndoList) → HasLogRoom spare undos room
+        → EachOnce (txns_of undos) → IsAmong a undos → undo.images ≡ a.undo.images → HasLogRoom spare (with_undo a.txn undo undos) room }
+    ensures compensation { (spare : ℕ) (undos : List SessionTxn) (room : LogRoom) (a : SessionTxn) (kept : List (Rid × Image)) (e : Rid × Image) (marks : List ℕ) (rolling : Option Rollback) →
+        HasLogRoom spare undos room → EachOnce (txns_of undos) → IsAmong a undos → a.undo.images ≡ kept ++ e ∷ [] →
+        Takes spare room (compensation_cost e.1)
+        × HasLogRoom spare (with_undo a.txn record { images = kept; marks = marks; rolling = rolling } undos) (undone_room e.1 room) }
+    ensures ending { (spare : ℕ) (undos : List SessionTxn) (room : LogRoom) (a : SessionTxn) →
+        HasLogRoom spare undos room → EachOnce (txns_of undos) → IsAmong a undos →
+        Takes spare room ENDING_COST
+        × HasLogRoom spare (without_txn a.txn undos) (ended_room (owed a) room) × HasLogRoom spare (without_txn a.txn undos) (left_room (owed a) room) }
+{}
+
+/// Rollbacks of any transactions, in steps that take turns as they like, and the endings after them, have their room in the log.
+pub fn rollbacks_in_turns_have_log_room()
+    ensures { (spare : ℕ) (undos : List SessionTxn) (room : LogRoom) (turns : List ℕ) →
+        EachOnce (txns_of undos) → HasLogRoom spare undos room → TurnsTake spare undos room turns }
+{}
+
+/// Steps of any transactions, mingled as they like, keep the room of pages and log; and no Compensation and no ending lacks it.
+pub fn steps_keep_room()
+    ensures { (spare : ℕ) (s : TxnTable) (steps : List TableStep) → spare ≤ LONGEST_FRAME + GREATEST_CHECKPOINT → IsRoomy spare s → MayStepAll s steps →
+        IsRoomy spare (stepped_all s steps) × AllHaveRoom spare s steps }
+{}
+
+/// Each event of the sessions keeps the claims: only insert, update and delete ask for room. That nobody else has changed the id follows
+/// from the locks.
+pub fn events_keep_claims()
+    ensures { (o : Records) (es : List Entry) (old new : Sessions) (e : SessionEvent) (counts later : SlotCounts) →
+        IsSoundAfter o es old → Claimed old.records old.active counts → StepsTo old e new → EventFits old counts e later
+        → Claimed new.records new.active later }
+{}
+
+/// Each event of the sessions keeps the log's room: only begin, insert, update and delete ask for it.
+pub fn events_keep_log_room()
+    ensures { (spare : ℕ) (old new : Sessions) (e : SessionEvent) (room later : LogRoom) → spare ≤ LONGEST_FRAME + GREATEST_CHECKPOINT
+        → HasLogRoom spare old.active room → EachOnce (txns_of old.active) → StepsTo old e new → EventAdmits old e room → RoomAfter old e room later
+        → HasLogRoom spare new.active later }
+{}
+
+/// After any events of any sessions, from an open on, all transactions under way can be rolled back, in any turns.
+pub fn undo_is_never_refused()
+    ensures { (spare : ℕ) (o : Records) (first last : Sessions) (counts c : SlotCounts) (room r : LogRoom) (events : List SessionEvent) (turns : List ℕ) →
+        spare ≤ LONGEST_FRAME + GREATEST_CHECKPOINT → IsJustOpened o first → Claimed o [] counts → HasLogRoom spare [] room
+        → RunsWithRoom first counts room events last c r
+        → TurnsFit last.records last.active c turns × TurnsTake spare last.active r turns }
+{}

@@ -1,0 +1,124 @@
+-- Managers over their stores leave logs that the next restart takes.
+use Rattle.std.proofs.Common.{◌≡◌, ◌++◌, ◌∙◌, ◌<◌, length, arith, ℕ, List, [], ◌∷◌, Option, Some, None, refl, sym, subst}
+use Rattle.std.specs.Prelude.{IsSomeAnd, slice_get}
+use Rattle.std.specs.List.{AllByRecursion}
+use Rattle.std.proofs.lemmas.List.Elements.{All-from_recursion}
+use Rattle.shore_types.specs.declared.ids.PageId.{PageId}
+use Rattle.shore_types.specs.declared.layout.Geometry.{Geometry}
+use Rattle.shore_analysis.specs.Tables.{IsNext}
+use Rattle.laws_lives.proofs.Lists.{recursion-unpush}
+use Rattle.laws_calls.specs.States.{State}
+use Rattle.laws_runs.specs.SlotCounts.{slot_count}
+use Rattle.shore_model.specs.declared.histories.Entry.{Entry}
+use Rattle.shore_model.specs.declared.log_records.LogRecord.{LogRecord}
+use Rattle.laws_calls.proofs.SessionRooms.{session_event_roomy}
+use Rattle.laws_calls.proofs.SettledStates.{session_event_stays}
+use Rattle.laws_calls.specs.CallHistories.{IsRoomyState}
+use Rattle.laws_calls.specs.Events.{IsStateAfter, entries_of}
+use Rattle.laws_lives.specs.Stretches.{MayBeFound}
+use Rattle.laws_lives.proofs.Invariant.{redone_whole}
+use Rattle.laws_lives.proofs.Restarts.{events_restart}
+use Rattle.laws_lives.proofs.UndoRecords.{undone_lawful}
+use Rattle.laws_lives.specs.Recovery.{AppendRecord, FlushPage, ForceLog, IsRecoverable, LeadsTo, LosePower, RecoveryEvent, RecoveryState, RedoRecord, after_redo}
+use Rattle.laws_lives.specs.Undo.{IsUndoneTo, undo_record}
+use Rattle.laws_lives.specs.Restarts.{IsRestartOf, IsRestartStep, RestartsTo}
+use Rattle.laws_runs.proofs.Runs.{events_come, found_next, opened}
+use Rattle.laws_runs.specs.StoredRuns.{AreStoredRuns, IsOpenedOver, IsStoredRun, Manage, StoredEvent, StoredMoves, StoredRun, StoredState, Tend, left_by_crash}
+use Rattle.laws_runs.proofs.Opens.{opens_leaving, opens_roomy}
+use Rattle.laws_runs.proofs.Prefixes.{left_roomy, whole_roomy}
+use Rattle.laws_runs.proofs.Running.{event_leaving}
+use Rattle.laws_runs.proofs.Undoing.{undone_are_roomy}
+use Rattle.laws_runs.specs.RoomyLogs.{AreRoomy}
+use Rattle.laws_runs.specs.RoomyRuns.{AreOpenedFrom}
+use Rattle.laws_runs.specs.RoomyStates.{IsOpenedFrom, LeavesRoomyLogs}
+
+-- ---- a restart
+
+module _ (g : Geometry) (stream_bytes : ℕ) where
+  step_roomy : (s : RecoveryState) (e : RecoveryEvent) (new : RecoveryState) → AreRoomy g stream_bytes s.log → IsRestartStep s e → LeadsTo s e new
+      → AreRoomy g stream_bytes new.log
+  step_roomy s (AppendRecord r) new k is leads =
+      subst (λ (x : RecoveryState). AreRoomy g stream_bytes x.log) (sym leads.1)
+      (subst (λ r. AreRoomy g stream_bytes (s.log ++ r ∷ [])) (sym is.2) (undone_are_roomy g stream_bytes s.log is.0 k is.1))
+  step_roomy s RedoRecord new k is leads = redone_keeps (slice_get s.log s.redone) leads
+    where
+      redone_keeps : (o : Option LogRecord) → IsSomeAnd o (λ r. new ≡ after_redo s r) → AreRoomy g stream_bytes new.log
+      redone_keeps None h = absurd h
+      redone_keeps (Some r) h = subst (λ (x : RecoveryState). AreRoomy g stream_bytes x.log) (sym h) k
+  step_roomy s (ForceLog n) new k is leads = subst (λ (x : RecoveryState). AreRoomy g stream_bytes x.log) (sym leads.2) k
+  step_roomy s (FlushPage p) new k is leads = subst (λ (x : RecoveryState). AreRoomy g stream_bytes x.log) (sym leads.1) k
+  step_roomy s (LosePower n left begin) new k is leads =
+      subst (λ (x : RecoveryState). AreRoomy g stream_bytes x.log) (sym leads.1) (left_roomy g stream_bytes s.log n leads.0.1 k)
+
+  pub restart_roomy : (s : RecoveryState) (works : List RecoveryEvent) (last : RecoveryState) → AreRoomy g stream_bytes s.log → RestartsTo s works last
+      → AreRoomy g stream_bytes last.log
+  restart_roomy s [] last k h = subst (λ (x : RecoveryState). AreRoomy g stream_bytes x.log) (sym h) k
+  restart_roomy s (e ∷ works) last k h = restart_roomy h.1 works last (step_roomy s e h.1 k h.0 h.2) h.3
+
+-- ---- the open over it
+
+-- what all records of the longer log have, those that were found have
+found_have : (P : LogRecord → Type 0) (log : List LogRecord) (ts : List ℕ) (last : List LogRecord) → IsUndoneTo log ts last → AllByRecursion P last
+    → AllByRecursion P log
+found_have P log [] last u all = subst (AllByRecursion P) u all
+found_have P log (t ∷ ts) last u all =
+    recursion-unpush P log (undo_record log t) (found_have P (log ++ undo_record log t ∷ []) ts last u.1 all)
+
+pub opened_over : (stream_bytes : ℕ) (found : List LogRecord) (ready : RecoveryState) (first : State) → IsRecoverable ready → ready.redone ≡ length ready.log
+    → IsRestartOf found ready → IsOpenedOver ready first → first.stream_bytes ≡ stream_bytes → ((p : PageId) → first.counts p ≡ slot_count ready.log p)
+    → IsNext found first.sessions.next_txn → IsOpenedFrom stream_bytes ready.log first
+opened_over stream_bytes found ready first kept redone restart opens long counts next = record {
+  log = sym opens.stored.log;
+  as_long = long;
+  records = λ id. opens.sessions.records id ∙ redone_whole ready kept redone id.page id.slot;
+  active = opens.sessions.active;
+  counts = counts;
+  some = opens.sessions.some;
+  least = λ n some all. next.least n (omega (arith, some))
+      (All-from_recursion (λ (r : LogRecord). r.txn < n) found (found_have (λ (r : LogRecord). r.txn < n) found restart.turns ready.log restart.undone all));
+}
+
+-- ---- events over a store
+
+module _ (g : Geometry) (stream_bytes : ℕ) (found : List LogRecord) where
+  pub moves_leaving : (es : List Entry) (m : StoredState) (events : List StoredEvent) (last : StoredState) (made : List Entry) → IsStateAfter found es m.state
+      → IsRoomyState m.state → LeavesRoomyLogs g stream_bytes m.state → StoredMoves g m events last made → IsRoomyState last.state × LeavesRoomyLogs g stream_bytes last.state
+  moves_leaving es m [] last made k roomy h x =
+      (subst (λ (x : StoredState). IsRoomyState x.state) (sym x.0) roomy, subst (λ (x : StoredState). LeavesRoomyLogs g stream_bytes x.state) (sym x.0) h)
+  moves_leaving es m (Manage e works ∷ events) last made k roomy h x =
+      moves_leaving (es ++ entries_of m.state e) x.0 events last x.1 (session_event_stays g found es m.state x.0.state e k x.2.0)
+      (session_event_roomy found es m.state k roomy g x.0.state e x.2.0) (event_leaving g stream_bytes found es m.state x.0.state e k roomy h x.2.0) x.3
+  moves_leaving es m (Tend works ∷ events) last made k roomy h x =
+      let same = x.2.0 in
+      moves_leaving es x.0 events last x.1 (subst (IsStateAfter found es) (sym same) k) (subst IsRoomyState (sym same) roomy)
+      (subst (LeavesRoomyLogs g stream_bytes) (sym same) h) x.3
+
+-- ---- a manager from its restart to a crash
+
+module _ (g : Geometry) (stream_bytes : ℕ) (s : RecoveryState) (r : StoredRun) (f : MayBeFound s) (h : IsStoredRun g s r)
+    (k : AreRoomy g stream_bytes s.log) (opens : IsOpenedFrom stream_bytes r.ready.log r.first) where
+  ready_roomy : AreRoomy g stream_bytes r.ready.log
+  ready_roomy = restart_roomy g stream_bytes s r.restart r.ready k h.restarts
+
+  first_roomy : IsRoomyState r.first
+  first_roomy = opens_roomy g stream_bytes r.ready.log r.first opens (whole_roomy g stream_bytes r.ready.log ready_roomy)
+
+  first_leaves : LeavesRoomyLogs g stream_bytes r.first
+  first_leaves =
+      let restarted = events_restart s.log s r.restart r.ready f.recoverable (record { turns = []; undone = refl; durable = f.durable }) h.restarts in
+      opens_leaving g stream_bytes r.ready.log r.first opens ready_roomy (undone_lawful s.log restarted.1.turns r.ready.log restarted.1.undone f.lawful) h.no_losers
+
+  pub last_has_room : IsRoomyState r.last.state × LeavesRoomyLogs g stream_bytes r.last.state
+  last_has_room = moves_leaving g stream_bytes s.log [] (record { state = r.first; store = r.ready }) r.events r.last r.made (opened g s f r h) first_roomy first_leaves h.moves
+
+  pub crash_roomy : AreRoomy g stream_bytes (left_by_crash r).log
+  crash_roomy =
+      let come = events_come g s.log [] (record { state = r.first; store = r.ready }) h.opens.stored (opened g s f r h) r.events r.last r.made h.moves in
+      left_roomy g stream_bytes r.last.store.log r.survive h.crash.1
+      (subst (AreRoomy g stream_bytes) (sym come.stored.log) last_has_room.1.prefixes)
+
+pub runs_roomy : (g : Geometry) (stream_bytes : ℕ) (s : RecoveryState) (runs : List StoredRun) (last : RecoveryState) → MayBeFound s
+    → AreRoomy g stream_bytes s.log → AreStoredRuns g s runs last → AreOpenedFrom stream_bytes runs → AreRoomy g stream_bytes last.log
+runs_roomy g stream_bytes s [] last f k h opens = subst (λ (x : RecoveryState). AreRoomy g stream_bytes x.log) (sym h) k
+runs_roomy g stream_bytes s (r ∷ runs) last f k h opens =
+    runs_roomy g stream_bytes (left_by_crash r) runs last (found_next g s f r h.0) (crash_roomy g stream_bytes s r f h.0 k opens.0) h.1 opens.1

@@ -1,0 +1,220 @@
+-- What undo asks of a roomy log, what an open makes of one, and that analysis takes it.
+use Rattle.std.proofs.Common.{◌≡◌, ⊎_elim, ◌++◌, ◌+◌, ◌<◌, ◌≤◌, ℕ, nat_lt, List, [], ◌∷◌, true, false, cond, Option, Some, None, refl, sym, ap, subst, ◌∙◌, length, take, take_all, arith}
+use Rattle.std.specs.Prelude.{unwrap_or}
+use Rattle.std.specs.FinMap.{empty, get, get-empty, same_map}
+use Rattle.std.specs.List.{AllByRecursion}
+use Rattle.std.specs.Ordering.{eq_by_cmp}
+use Rattle.std.proofs.lemmas.Bool.{cases_Bool, ltb-true, ltb-false, true≢false}
+use Rattle.std.proofs.lemmas.List.Elements.{All-nil, recursion_from_All}
+use Rattle.shore_types.specs.Ids.{exact_rids, rid_cmp, rids_total}
+use Rattle.shore_types.specs.Images.{Image, image_len}
+use Rattle.shore_types.specs.Layout.{HasSlot}
+use Rattle.shore_types.specs.declared.ids.Rid.{Rid}
+use Rattle.shore_types.specs.declared.layout.Geometry.{Geometry}
+use Rattle.shore_types.specs.declared.layout.TheConstants.{LAST_OPENED, LAST_TXN, LONGEST_FRAME, MAX_LOG_BYTES, MAX_TRANSACTIONS}
+use Rattle.shore_model.proofs.Maps.{get_id}
+use Rattle.shore_model.specs.declared.log_records.LogRecord.{LogRecord}
+use Rattle.shore_model.specs.declared.log_records.LogTxn.{LogTxn}
+use Rattle.shore_model.specs.declared.log_records.Payload.{Payload}
+use Rattle.shore_model.specs.declared.log_records.Payload.TheVariants.{Change, Compensation}
+use Rattle.shore_model.specs.Logs.{IsEntry, IsTable, Lawful, id_in, image_in, image_of_record}
+use Rattle.shore_model.specs.Records.{AreRecords, Records}
+use Rattle.shore_logrec.specs.Text.{cost_of}
+use Rattle.shore_analysis.proofs.MeantLogs.{lawful_meant}
+use Rattle.shore_analysis.specs.Meant.{AreMeant, IsCrowded, IsInBounds}
+use Rattle.laws_calls.specs.CallHistories.{IsRoomyState}
+use Rattle.laws_calls.specs.States.{State, cost_of_log}
+use Rattle.laws_lives.proofs.WholeLogs.{none_in_doubt}
+use Rattle.laws_lives.specs.WholeLogs.{IsWholeLog}
+use Rattle.shore_page.specs.Room.{HasRoom, HoldsItsImage}
+use Rattle.shore_page.specs.Slots.{settled}
+use Rattle.laws_lives.proofs.OneMore.{by_push, same_id}
+use Rattle.laws_lives.proofs.Redo.{image_of_record-push, or_image}
+use Rattle.laws_lives.specs.Undo.{HasNoLosers, IsLoser, undo_record}
+use Rattle.laws_room.proofs.Lists.{each_at}
+use Rattle.laws_room.proofs.RolledBack.{rolled_claimed, rolled_room}
+use Rattle.laws_room.specs.Claims.{Claimed, rid_on}
+use Rattle.laws_room.specs.LogRooms.{owed_by_all}
+use Rattle.laws_room.specs.Settling.{settled_slots}
+use Rattle.laws_lives.proofs.Lists.{length-push, recursion-weaker, within_or_beyond}
+use Rattle.laws_lives.specs.Sessions.{SessionTxn, txns_of}
+use Rattle.laws_lives.specs.Views.{IsAmong}
+use Rattle.laws_runs.proofs.Losers.{bounds_prepare_none}
+use Rattle.laws_runs.proofs.Prefixes.{whole_roomy}
+use Rattle.laws_runs.proofs.Redoing.{all_at, record_fits}
+use Rattle.laws_runs.proofs.SlotCounts.{same_claimed}
+use Rattle.laws_runs.proofs.Undoing.{cost_pushed, undone_roomy}
+use Rattle.laws_runs.specs.RoomyLogs.{AreRoomy, IsRoomyLog}
+use Rattle.laws_runs.specs.RoomyStates.{IsOpenedFrom, LeavesRoomyLogs}
+use Rattle.laws_runs.specs.SlotCounts.{FitsBehind, slot_count}
+
+-- ---- the empty log
+
+pub leaves_none : (id : Rid) → image_of_record [] id ≡ None
+leaves_none id = ap (λ o. unwrap_or o None) (get_id [] id)
+
+empty_is_roomy : (g : Geometry) (stream_bytes : ℕ) → LONGEST_FRAME ≤ stream_bytes → stream_bytes ≤ MAX_LOG_BYTES → IsRoomyLog g stream_bytes []
+empty_is_roomy g stream_bytes least most = record {
+  records = empty;
+  shown = λ id. get-empty rid_cmp id ∙ sym (leaves_none id);
+  undos = [];
+  losers = record { each = λ a m. absurd m; every = λ t h. let known = h.known in absurd (omega arith) };
+  pages = record {
+    room = λ p. record { room = omega arith; each = All-nil HoldsItsImage };
+    behind = λ id le. get-empty rid_cmp id;
+    within = λ a m. absurd m;
+    owned = λ a m. absurd m;
+    once = tt;
+  };
+  room = record { sum = refl; fits = omega arith; lsns = omega arith; short = most };
+  inside = All-nil (IsInBounds g);
+  few = none_crowded;
+}
+  where
+    no_entry : (txns : List LogTxn) → IsTable [] txns → MAX_TRANSACTIONS < length txns → ⊥
+    no_entry [] table many = omega arith
+    no_entry (e ∷ es) table many = let known = (recursion_from_All (IsEntry []) (e ∷ es) table.each).0.0.known in omega arith
+
+    none_crowded : IsCrowded [] → ⊥
+    none_crowded crowded = no_entry crowded.0 crowded.1 crowded.2
+
+pub format_is_roomy : (g : Geometry) (stream_bytes : ℕ) → LONGEST_FRAME ≤ stream_bytes → stream_bytes ≤ MAX_LOG_BYTES → AreRoomy g stream_bytes []
+format_is_roomy g stream_bytes least most n le =
+    subst (IsRoomyLog g stream_bytes) (sym (whole n [] (omega arith))) (empty_is_roomy g stream_bytes least most)
+  where
+    whole : (n : ℕ) (log : List LogRecord) → length log ≤ n → take n log ≡ log
+    whole n log le = take_all n log le
+
+-- ---- the stream
+
+module _ (g : Geometry) (stream_bytes : ℕ) (log : List LogRecord) (k : IsRoomyLog g stream_bytes log) where
+  pub fits_stream : cost_of_log log + LONGEST_FRAME ≤ stream_bytes
+  fits_stream = let fits = k.room.fits in omega arith
+
+  pub has_numbers : length log < LAST_OPENED
+  has_numbers = let lsns = k.room.lsns in omega arith
+
+-- ---- what undo asks
+
+module _ (g : Geometry) (stream_bytes : ℕ) (log : List LogRecord) (t : ℕ) (k : IsRoomyLog g stream_bytes log) (loser : IsLoser log t) where
+  pub undo_fits : FitsBehind log (undo_record log t).payload
+  undo_fits = record_fits g stream_bytes log (undo_record log t) k (undone_roomy g stream_bytes log k t loser)
+
+  pub undo_has_log_room : (cost_of_log log + cost_of (undo_record log t).payload + LONGEST_FRAME ≤ stream_bytes) × (length log + 1 < LAST_OPENED)
+  undo_has_log_room =
+      let new = undone_roomy g stream_bytes log k t loser in
+      let fits = new.room.fits in
+      let lsns = new.room.lsns in
+      let cost = cost_pushed log (undo_record log t) in
+      let longer = length-push log (undo_record log t) in
+      (omega arith, omega arith)
+
+-- ---- what an open makes of it
+
+-- a record that the log leaves lies in the geometry
+module _ (g : Geometry) where
+  changed_or_left : (i id : Rid) (now image : Image) (bytes : List ℕ) → HasSlot g i → (image ≡ Some bytes → HasSlot g id)
+      → cond (eq_by_cmp rid_cmp id i) now image ≡ Some bytes → HasSlot g id
+  changed_or_left i id now image bytes here before at =
+      ⊎_elim
+      (λ same. subst (HasSlot g) (sym (same_id id i same)) here)
+      (λ off. before (sym (ap (λ b. cond b now image) off) ∙ at))
+      (cases_Bool (eq_by_cmp rid_cmp id i))
+
+  left_here : (p : Payload) (id : Rid) (image : Image) (bytes : List ℕ) → ((q : Rid) → id_in p ≡ Some q → HasSlot g q)
+      → (image ≡ Some bytes → HasSlot g id) → or_image (image_in p) id image ≡ Some bytes → HasSlot g id
+  left_here (Change i was now) id image bytes inside before at = changed_or_left i id now image bytes (inside i refl) before at
+  left_here (Compensation i now undo_next) id image bytes inside before at = changed_or_left i id now image bytes (inside i refl) before at
+  left_here _ id image bytes inside before at = before at
+
+  left_inside : (log : List LogRecord) → AllByRecursion (IsInBounds g) log → (id : Rid) (bytes : List ℕ) → image_of_record log id ≡ Some bytes → HasSlot g id
+  left_inside = by_push (λ log. AllByRecursion (IsInBounds g) log → (id : Rid) (bytes : List ℕ) → image_of_record log id ≡ Some bytes → HasSlot g id)
+      (λ inside id bytes at. absurd (none_some (sym (leaves_none id) ∙ at)))
+      (λ log r known inside id bytes at.
+      let parts = both log r inside in
+      left_here r.payload id (image_of_record log id) bytes parts.1.id (known parts.0 id bytes) (sym (image_of_record-push log r id) ∙ at))
+    where
+      none_some : {bytes : List ℕ} → ◌≡◌ {A = Option (List ℕ)} None (Some bytes) → ⊥
+      none_some e = cc
+
+      both : (log : List LogRecord) (r : LogRecord) → AllByRecursion (IsInBounds g) (log ++ r ∷ []) → AllByRecursion (IsInBounds g) log × IsInBounds g r
+      both [] r h = (tt, h.0)
+      both (x ∷ log) r h = let rest = both log r h.1 in ((h.0, rest.0), rest.1)
+
+  -- records that a roomy log leaves
+  pub records_inside : (stream_bytes : ℕ) (log : List LogRecord) (R : Records) → IsRoomyLog g stream_bytes log → ((id : Rid) → get R id ≡ image_of_record log id) → AreRecords g R
+  records_inside stream_bytes log R k shown id bytes at =
+      let left : image_of_record log id ≡ Some bytes = sym (shown id) ∙ at in
+      let slot = left_inside log (recursion_from_All (IsInBounds g) log k.inside) id bytes left in
+      let n = slot_count log id.page in
+      let room : HasRoom (settled_slots k.records id.page n) = rolled_room k.records k.undos [] (slot_count log) k.pages (λ a m. absurd m) id.page n (omega arith) in
+      let it : get k.records id ≡ Some bytes = k.shown id ∙ left in
+      let within : id.slot < n =
+      elim (nat_lt id.slot n) as (λ b. nat_lt id.slot n ≡ b → id.slot < n) [
+        | true ↦ λ e. ltb-true id.slot n e
+        | false ↦ λ e. absurd (none_some (sym (k.pages.behind id (ltb-false id.slot n e)) ∙ it))
+      ] refl in
+      let holds = all_at HoldsItsImage (settled_slots k.records id.page n) id.slot (settled (get k.records id)) room.each
+      (each_at (λ i. settled (get k.records (rid_on id.page i))) n id.slot within) in
+      let most = holds.1 in
+      let long = ap image_len it in
+      (slot, omega arith)
+    where
+      none_some : {bytes : List ℕ} → ◌≡◌ {A = Option (List ℕ)} None (Some bytes) → ⊥
+      none_some e = cc
+
+module _ (g : Geometry) (stream_bytes : ℕ) (log : List LogRecord) (s : State) (opened : IsOpenedFrom stream_bytes log s) where
+  pub opens_roomy : IsRoomyLog g stream_bytes log → IsRoomyState s
+  opens_roomy k =
+      let none = opened.active in
+      let same : k.records ≡ s.sessions.records = same_map rids_total exact_rids k.records s.sessions.records (λ id. k.shown id ∙ sym (opened.records id)) in
+      let claimed : Claimed k.records [] (slot_count log) = rolled_claimed k.records k.undos [] (slot_count log) k.pages (λ a m. absurd m) in
+      let placed : Claimed s.sessions.records [] s.counts =
+      subst (λ R. Claimed R [] s.counts) same (same_claimed k.records [] (slot_count log) s.counts opened.counts claimed) in
+      let fits = k.room.fits in
+      let sum = k.room.sum in
+      let lsns = k.room.lsns in
+      let short = k.room.short in
+      let reserved : owed_by_all s.sessions.active ≡ 0 = ap owed_by_all none in
+      let kept : cost_of_log s.log ≡ cost_of_log log = ap cost_of_log opened.log in
+      let last : length s.log ≡ length log = ap length opened.log in
+      let long = opened.as_long in
+      record {
+        pages = subst (λ (undos : List SessionTxn). Claimed s.sessions.records undos s.counts) (sym none) placed;
+        log = record { sum = refl; fits = omega arith; lsns = omega arith; short = omega arith };
+      }
+
+  pub opens_leaving : AreRoomy g stream_bytes log → Lawful log → HasNoLosers log → LeavesRoomyLogs g stream_bytes s
+  opens_leaving k lawful ended =
+      let whole = whole_roomy g stream_bytes log k in
+      let none = bounds_prepare_none g log whole.inside in
+      let numbers : AllByRecursion (λ r. r.txn < LAST_TXN) log =
+      recursion-weaker (IsInBounds g) (λ r. r.txn < LAST_TXN) (λ r h. h.number) log (recursion_from_All (IsInBounds g) log whole.inside) in
+      let nobody : (t : ℕ) → IsAmong t (txns_of s.sessions.active) → ⊥ = λ t m. subst (λ (xs : List SessionTxn). IsAmong t (txns_of xs)) opened.active m in
+      let is_whole : IsWholeLog log s.sessions =
+      record {
+        lawful = lawful;
+        no_prepare = none;
+        writers = λ t id changed not_over. absurd (true≢false (sym (ended t id changed not_over) ∙ none_in_doubt t log none));
+        unended = λ t m. absurd (nobody t m);
+        above = λ t m. absurd (nobody t m);
+        undo_lists = λ a m. absurd (subst (IsAmong a) opened.active m);
+        some = opened.some;
+      } in
+      record {
+        as_long = opened.as_long;
+        prefixes = subst (AreRoomy g stream_bytes) (sym opened.log) k;
+        counts = λ p. opened.counts p ∙ ap (λ l. slot_count l p) (sym opened.log);
+        whole = subst (λ l. IsWholeLog l s.sessions) (sym opened.log) is_whole;
+        txns = opened.least LAST_TXN (omega arith) numbers;
+      }
+
+-- ---- analysis
+
+pub meant : (g : Geometry) (stream_bytes : ℕ) (log : List LogRecord) → AreRoomy g stream_bytes log → Lawful log → AreMeant g log
+meant g stream_bytes log k lawful =
+    lawful_meant g log lawful (whole_roomy g stream_bytes log k).inside
+    (λ n. ⊎_elim
+    (λ within. (k n within).few)
+    (λ beyond. subst (λ rs. IsCrowded rs → ⊥) (sym (take_all n log (omega arith))) (whole_roomy g stream_bytes log k).few)
+    (within_or_beyond n (length log)))

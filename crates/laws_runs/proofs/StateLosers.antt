@@ -1,0 +1,174 @@
+-- The log of a state with room is roomy: the losers of it are those under way that have a record, and there are no more than there may be.
+use Rattle.std.proofs.Common.{◌≡◌, ◌≢◌, inl, inr, ⊎_elim, ◌+◌, ◌<◌, ◌≤◌, ℕ, zero, suc, List, [], ◌∷◌, Bool, true, false, cond, refl, sym, ap, subst, length, arith}
+use Rattle.std.specs.Prelude.{◌==◌, All, IsTrue, not}
+use Rattle.std.specs.List.{AllByRecursion}
+use Rattle.std.proofs.lemmas.List.Elements.{recursion_from_All}
+use Rattle.shore_types.specs.declared.ids.PageId.{PageId}
+use Rattle.shore_types.specs.declared.layout.Geometry.{Geometry}
+use Rattle.shore_types.specs.declared.layout.TheConstants.{MAX_TRANSACTIONS}
+use Rattle.shore_model.specs.declared.histories.Entry.{Entry}
+use Rattle.shore_model.specs.declared.log_records.LogTxn.{LogTxn}
+use Rattle.shore_model.specs.Logs.{IsEntry, last_of, rise_above}
+use Rattle.shore_model.specs.Records.{Records}
+use Rattle.shore_analysis.proofs.Counted.{rise_first}
+use Rattle.shore_analysis.specs.Meant.{IsCrowded, IsInBounds}
+use Rattle.laws_calls.proofs.Links.{shorter_without}
+use Rattle.laws_calls.proofs.Sessions.{AreSessionsAfter}
+use Rattle.laws_calls.specs.CallHistories.{IsRoomyState}
+use Rattle.laws_calls.specs.States.{State}
+use Rattle.laws_lives.proofs.WholeLogs.{image_in_place, none_in_doubt}
+use Rattle.laws_lives.specs.WholeLogs.{IsWholeLog}
+use Rattle.laws_lives.specs.Undo.{IsLoser}
+use Rattle.laws_room.proofs.Leaving.{left_keeps}
+use Rattle.laws_room.specs.Claims.{Claimed}
+use Rattle.laws_room.specs.LogRooms.{owed, owed_by_all}
+use Rattle.laws_lives.proofs.Members.{among_without, member_stays, txn_among, txn_of_one, txn_stays}
+use Rattle.laws_lives.specs.Sessions.{EachOnce, SessionTxn, txns_of, without_txn}
+use Rattle.laws_lives.specs.Views.{IsAmong}
+use Rattle.laws_runs.proofs.Losers.{loser_writes}
+use Rattle.laws_runs.proofs.SlotCounts.{same_claimed}
+use Rattle.laws_runs.specs.RoomyLogs.{AreLosers, IsRoomyLog}
+use Rattle.laws_runs.specs.SlotCounts.{slot_count}
+
+-- ---- a table of transactions under way is no longer than their list
+
+-- the transactions of a list, but for one that is below them
+stay_without : (t low : ℕ) (undos : List SessionTxn) (es : List LogTxn) → t ≤ low → IsTrue (rise_above low es) → AllByRecursion (λ e. IsAmong e.txn (txns_of undos)) es
+    → AllByRecursion (λ e. IsAmong e.txn (txns_of (without_txn t undos))) es
+stay_without t low undos [] le rising all = tt
+stay_without t low undos (e ∷ es) le rising all =
+    let first = rise_first low e es rising in
+    let less = first.0 in
+    let other : e.txn ≢ t = λ same. no_less t (subst (λ n. t < n) same (omega (arith, le, less))) in
+    (txn_stays t e.txn undos all.0 other, stay_without t e.txn undos es (omega (arith, le, less)) first.1 all.1)
+  where
+    no_less : (n : ℕ) → n < n → ⊥
+    no_less n less = omega arith
+
+table_within : (low : ℕ) (es : List LogTxn) (undos : List SessionTxn) → IsTrue (rise_above low es) → AllByRecursion (λ e. IsAmong e.txn (txns_of undos)) es → length es ≤ length undos
+table_within low [] undos rising all = omega arith
+table_within low (e ∷ es) undos rising all =
+    let a = txn_of_one e.txn undos all.0 in
+    let first = rise_first low e es rising in
+    let rest = table_within e.txn es (without_txn e.txn undos) first.1 (stay_without e.txn e.txn undos es (omega arith) first.1 all.1) in
+    let shorter = subst (λ t. length (without_txn t undos) + 1 ≤ length undos) a.2 (shorter_without a.0 undos a.1) in
+    omega (arith, rest, shorter)
+
+-- ---- the transactions that have a record
+
+owed_less : (t : ℕ) (undos : List SessionTxn) → owed_by_all (without_txn t undos) ≤ owed_by_all undos
+owed_less t [] = omega arith
+owed_less t (a ∷ undos) = by (not (a.txn == t)) (owed_less t undos)
+  where
+    by : (b : Bool) → owed_by_all (without_txn t undos) ≤ owed_by_all undos → owed_by_all (cond b (a ∷ without_txn t undos) (without_txn t undos)) ≤ owed a + owed_by_all undos
+    by true rest = omega (arith, rest)
+    by false rest = omega (arith, rest)
+
+module _ (s : State) where
+  -- what is left of a list once those of `todo` are taken out that have no record
+  record HasLeft (todo undos : List SessionTxn) : Type 0 where
+    left : List SessionTxn
+    pages : Claimed s.sessions.records left s.counts
+    owed : owed_by_all left ≤ owed_by_all undos
+    from : (a : SessionTxn) → IsAmong a left → IsAmong a undos
+    keeps : (a : SessionTxn) → IsAmong a undos → 0 < last_of a.txn s.log → IsAmong a left
+    known : (a : SessionTxn) → IsAmong a todo → IsAmong a left → 0 < last_of a.txn s.log
+
+  take_out : (todo undos : List SessionTxn) → EachOnce (txns_of todo) → ((a : SessionTxn) → IsAmong a todo → IsAmong a undos) → Claimed s.sessions.records undos s.counts → HasLeft todo undos
+  take_out [] undos once within claimed = record { left = undos; pages = claimed; owed = omega arith; from = λ a m. m; keeps = λ a m known. m; known = λ a m. absurd m }
+  take_out (a ∷ todo) undos once within claimed = by (last_of a.txn s.log) refl (take_out todo)
+    where
+      others_within : (b : SessionTxn) → IsAmong b todo → IsAmong b (without_txn a.txn undos)
+      others_within b m = member_stays a.txn b undos (within b (inr m)) (λ same. once.0 (subst (λ t. IsAmong t (txns_of todo)) same (txn_among b todo m)))
+
+      by : (n : ℕ) → last_of a.txn s.log ≡ n
+          → ((undos : List SessionTxn) → EachOnce (txns_of todo) → ((b : SessionTxn) → IsAmong b todo → IsAmong b undos) → Claimed s.sessions.records undos s.counts → HasLeft todo undos)
+          → HasLeft (a ∷ todo) undos
+      by zero is later =
+          let rest = later (without_txn a.txn undos) once.1 others_within (left_keeps s.sessions.records undos s.counts claimed a (within a (inl refl))) in
+          record {
+            left = rest.left;
+            pages = rest.pages;
+            owed = let less = owed_less a.txn undos in let more = rest.owed in omega (arith, less, more);
+            from = λ b m. (among_without a.txn b undos (rest.from b m)).0;
+            keeps = λ b m known. rest.keeps b (member_stays a.txn b undos m (λ same. unknown (subst (λ t. 0 < last_of t s.log) same known))) known;
+            known = λ b m in_left. ⊎_elim
+                (λ same. absurd ((among_without a.txn b undos (rest.from b in_left)).1 (ap (λ (x : SessionTxn). x.txn) (sym same))))
+                (λ later. rest.known b later in_left)
+                m;
+          }
+        where
+          unknown : 0 < last_of a.txn s.log → ⊥
+          unknown known = omega (arith, is, known)
+      by (suc n) is later =
+          let rest = later undos once.1 (λ b m. within b (inr m)) claimed in
+          record {
+            left = rest.left;
+            pages = rest.pages;
+            owed = rest.owed;
+            from = rest.from;
+            keeps = rest.keeps;
+            known = λ b m in_left. ⊎_elim
+                (λ same. subst (λ (x : SessionTxn). 0 < last_of x.txn s.log) same (omega (arith, is)))
+                (λ later. rest.known b later in_left)
+                m;
+          }
+
+-- ---- the log of a state with room is roomy
+
+module _ (g : Geometry) (base : ℕ) (o : Records) (es : List Entry) (s : State) (k : AreSessionsAfter base o es s.sessions s.log) (roomy : IsRoomyState s) (few : length s.sessions.active ≤ MAX_TRANSACTIONS)
+    (whole : IsWholeLog s.log s.sessions) (counts : (p : PageId) → s.counts p ≡ slot_count s.log p) (inside : All (IsInBounds g) s.log) where
+  loser_under_way : (t : ℕ) → IsLoser s.log t → IsAmong t (txns_of s.sessions.active)
+  loser_under_way t h = let wrote = loser_writes s.log whole.lawful whole.no_prepare t h in whole.writers t wrote.0 wrote.1 h.not_over
+
+  not_crowded : IsCrowded s.log → ⊥
+  not_crowded crowded =
+      let within = table_within 0 crowded.0 s.sessions.active crowded.1.rising (all_under_way crowded.0 (recursion_from_All (IsEntry s.log) crowded.0 crowded.1.each)) in
+      let many = crowded.2 in
+      omega (arith, within, many, few)
+    where
+      is_loser : (e : LogTxn) → IsEntry s.log e → IsLoser s.log e.txn
+      is_loser e h = record { is_one = h.0.is_one; known = h.0.known; not_over = h.0.not_over; not_in_doubt = none_in_doubt e.txn s.log whole.no_prepare }
+
+      all_under_way : (txns : List LogTxn) → AllByRecursion (IsEntry s.log) txns → AllByRecursion (λ e. IsAmong e.txn (txns_of s.sessions.active)) txns
+      all_under_way [] all = tt
+      all_under_way (e ∷ txns) all = (loser_under_way e.txn (is_loser e all.0), all_under_way txns all.1)
+
+  as_loser : (a : SessionTxn) → IsAmong a s.sessions.active → 0 < last_of a.txn s.log → IsLoser s.log a.txn
+  as_loser a m known = record {
+    is_one = k.agree.above a (inl m);
+    known = known;
+    not_over = whole.unended a.txn (txn_among a s.sessions.active m);
+    not_in_doubt = none_in_doubt a.txn s.log whole.no_prepare;
+  }
+
+  has_left : HasLeft s s.sessions.active s.sessions.active
+  has_left = take_out s s.sessions.active s.sessions.active k.agree.once (λ a m. m) roomy.pages
+
+  are_losers : AreLosers s.log has_left.left
+  are_losers = record {
+    each = λ a m.
+        let active = has_left.from a m in
+        (as_loser a active (has_left.known a active m), whole.undo_lists a active);
+    every = λ t h.
+        let a = txn_of_one t s.sessions.active (loser_under_way t h) in
+        let known = subst (λ u. 0 < last_of u s.log) (sym a.2) h.known in
+        subst (λ u. IsAmong u (txns_of has_left.left)) a.2 (txn_among a.0 has_left.left (has_left.keeps a.0 a.1 known));
+  }
+
+  pub state_is_roomy : IsRoomyLog g s.stream_bytes s.log
+  state_is_roomy = record {
+    records = s.sessions.records;
+    shown = λ id. sym (image_in_place k.sound k.logged whole id);
+    undos = has_left.left;
+    losers = are_losers;
+    pages = same_claimed s.sessions.records has_left.left s.counts (slot_count s.log) (λ p. sym (counts p)) has_left.pages;
+    room =
+        let fits = roomy.log.fits in
+        let lsns = roomy.log.lsns in
+        let sum = roomy.log.sum in
+        let less = has_left.owed in
+        record { sum = refl; fits = omega (arith, fits, sum, less); lsns = omega (arith, lsns, sum, less); short = roomy.log.short };
+    inside = inside;
+    few = not_crowded;
+  }

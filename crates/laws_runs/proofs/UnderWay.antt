@@ -1,0 +1,164 @@
+-- A manager under way stays so with each event over its store, and its store may lose power at any time.
+use Rattle.std.proofs.Common.{◌≡◌, inl, ◌++◌, ℕ, List, [], ◌∷◌, refl, sym, ap, subst, ◌∙◌, length, take, arith, append-nil, append_assoc}
+use Rattle.std.proofs.Math.Seq.{take-length}
+use Rattle.shore_types.specs.declared.layout.Geometry.{Geometry}
+use Rattle.shore_model.specs.declared.histories.Entry.{Entry}
+use Rattle.shore_model.specs.declared.log_records.LogRecord.{LogRecord}
+use Rattle.shore_model.specs.Logs.{Lawful}
+use Rattle.shore_model.specs.Records.{AreRecords}
+use Rattle.laws_lives.specs.Views.{IsAmong}
+use Rattle.laws_lives.proofs.Invariant.{from_the_first}
+use Rattle.laws_lives.proofs.Restarts.{events_restart}
+use Rattle.laws_lives.proofs.UndoRecords.{undone_lawful}
+use Rattle.laws_lives.specs.Pages.{AreAsOfOwnNumbers}
+use Rattle.laws_lives.specs.Recovery.{IsRecoverable, RecoveryEvent, RecoveryState}
+use Rattle.laws_lives.specs.Restarts.{IsRestartOf, RestartsTo}
+use Rattle.laws_lives.specs.Undo.{HasNoLosers}
+use Rattle.laws_lives.proofs.WholeLogs.{image_in_place}
+use Rattle.laws_lives.proofs.Works.{all_work}
+use Rattle.laws_lives.specs.Stretches.{MayBeFound}
+use Rattle.laws_lives.specs.WholeLogs.{HasNoPrepare}
+use Rattle.laws_calls.proofs.LockWaits.{waits_may_ask}
+use Rattle.laws_calls.specs.Shapes.{LockWaitsMayAsk}
+use Rattle.laws_calls.specs.States.{State}
+use Rattle.laws_runs.proofs.Runs.{events_come, opened}
+use Rattle.laws_runs.specs.StoredRuns.{IsOpenedOver, IsStoredRun, Manage, StoredEvent, StoredMoves, StoredRun, StoredState, StoredSteps, Tend, entries_made}
+use Rattle.laws_runs.proofs.ManagerLogs.{moves_leaving, restart_roomy}
+use Rattle.laws_runs.proofs.Opens.{opens_leaving, opens_roomy, records_inside}
+use Rattle.laws_runs.proofs.Prefixes.{whole_roomy}
+use Rattle.laws_runs.specs.RoomyLogs.{AreRoomy}
+use Rattle.laws_runs.specs.RoomyStates.{IsOpenedFrom}
+use Rattle.laws_runs.specs.SoundStores.{IsSoundStore, IsUnderWay, managed}
+
+-- ---- an open
+
+module _ (g : Geometry) (stream_bytes : ℕ) (s : RecoveryState) (f : MayBeFound s) (roomy : AreRoomy g stream_bytes s.log) (works : List RecoveryEvent) (ready : RecoveryState)
+    (first : State) (restarts : RestartsTo s works ready) (redone : ready.redone ≡ length ready.log) (no_losers : HasNoLosers ready.log)
+    (opens : IsOpenedOver ready first) (from : IsOpenedFrom stream_bytes ready.log first) where
+  restarted : IsRecoverable ready × IsRestartOf s.log ready
+  restarted = events_restart s.log s works ready f.recoverable (record { turns = []; undone = refl; durable = f.durable }) restarts
+
+  -- no event happens, and power is lost with all of the log left
+  abbrev no_run : StoredRun
+  no_run = record {
+    restart = works;
+    ready = ready;
+    first = first;
+    events = [];
+    last = record { state = first; store = ready };
+    made = [];
+    survive = length ready.log;
+    pages = ready.volume;
+    begin = 0;
+  }
+
+  is_no_run : IsStoredRun g s no_run
+  is_no_run = record {
+    restarts = restarts;
+    redone = redone;
+    no_losers = no_losers;
+    opens = opens;
+    moves = (refl, refl);
+    crash = (
+      restarted.0.durable,
+      omega arith,
+      λ p. inl refl,
+      from_the_first (take (length ready.log) ready.log) ready.volume (subst (λ rs. AreAsOfOwnNumbers rs ready.volume) (sym (take-length ready.log)) restarted.0.volume),
+    );
+  }
+
+  pub opens_under_way : IsUnderWay g stream_bytes s.log [] (record { state = first; store = ready })
+  opens_under_way =
+      let room = restart_roomy g stream_bytes s works ready roomy restarts in
+      record {
+        state = opened g s f no_run is_no_run;
+        asks = λ w there. absurd (subst (IsAmong w) opens.waiting there);
+        stored = opens.stored;
+        roomy = opens_roomy g stream_bytes ready.log first from (whole_roomy g stream_bytes ready.log room);
+        leaves = opens_leaving g stream_bytes ready.log first from room (undone_lawful s.log restarted.1.turns ready.log restarted.1.undone f.lawful) no_losers;
+        recoverable = restarted.0;
+        redone = redone;
+      }
+
+-- ---- events
+
+record HasWorkedOn (m : StoredState) : Type 0 where
+  recoverable : IsRecoverable m.store
+  redone : m.store.redone ≡ length m.store.log
+
+step_works : (g : Geometry) (m : StoredState) (e : StoredEvent) (new : StoredState) → HasWorkedOn m → StoredSteps g m e new → HasWorkedOn new
+step_works g m (Manage e works) new k h =
+    let worked = all_work m.store works new.store k.recoverable k.redone h.1 in
+    record { recoverable = worked.recoverable; redone = worked.redone }
+step_works g m (Tend works) new k h =
+    let worked = all_work m.store works new.store k.recoverable k.redone h.1 in
+    record { recoverable = worked.recoverable; redone = worked.redone }
+
+moves_work : (g : Geometry) (m : StoredState) (events : List StoredEvent) (last : StoredState) (made : List Entry) → HasWorkedOn m → StoredMoves g m events last made
+    → HasWorkedOn last
+moves_work g m [] last made k h = subst HasWorkedOn (sym h.0) k
+moves_work g m (e ∷ events) last made k h = moves_work g h.0 events last h.1 (step_works g m e h.0 k h.2) h.3
+
+step_asks : (g : Geometry) (m : StoredState) (e : StoredEvent) (new : StoredState) → LockWaitsMayAsk g m.state → StoredSteps g m e new → LockWaitsMayAsk g new.state
+step_asks g m (Manage e works) new k h = waits_may_ask g m.state new.state (e ∷ []) (new.state, h.0, refl) k
+step_asks g m (Tend works) new k h = subst (LockWaitsMayAsk g) (sym h.0) k
+
+moves_ask : (g : Geometry) (m : StoredState) (events : List StoredEvent) (last : StoredState) (made : List Entry) → LockWaitsMayAsk g m.state → StoredMoves g m events last made
+    → LockWaitsMayAsk g last.state
+moves_ask g m [] last made k h = subst (λ (x : StoredState). LockWaitsMayAsk g x.state) (sym h.0) k
+moves_ask g m (e ∷ events) last made k h = moves_ask g h.0 events last h.1 (step_asks g m e h.0 k h.2) h.3
+
+module _ (g : Geometry) (stream_bytes : ℕ) (found : List LogRecord) where
+  pub moves_under_way : (es : List Entry) (m : StoredState) (events : List StoredEvent) (last : StoredState) (made : List Entry) → IsUnderWay g stream_bytes found es m
+      → StoredMoves g m events last made → IsUnderWay g stream_bytes found (es ++ made) last
+  moves_under_way es m events last made k h =
+      let come = events_come g found es m k.stored k.state events last made h in
+      let room = moves_leaving g stream_bytes found es m events last made k.state k.roomy k.leaves h in
+      let worked = moves_work g m events last made (record { recoverable = k.recoverable; redone = k.redone }) h in
+      record {
+        state = come.state;
+        asks = moves_ask g m events last made k.asks h;
+        stored = come.stored;
+        roomy = room.0;
+        leaves = room.1;
+        recoverable = worked.recoverable;
+        redone = worked.redone;
+      }
+
+  pub step_under_way : (es : List Entry) (m : StoredState) (e : StoredEvent) (new : StoredState) → IsUnderWay g stream_bytes found es m → StoredSteps g m e new
+      → IsUnderWay g stream_bytes found (es ++ entries_made m e) new
+  step_under_way es m e new k h = moves_under_way es m (e ∷ []) new (entries_made m e) k (new, [], h, (refl, refl), sym (append-nil (entries_made m e)))
+
+  pub under_way_inside : (es : List Entry) (m : StoredState) → IsUnderWay g stream_bytes found es m → AreRecords g m.state.sessions.records
+  under_way_inside es m k =
+      records_inside g stream_bytes m.state.log m.state.sessions.records (whole_roomy g stream_bytes m.state.log k.leaves.prefixes)
+      (λ id. sym (image_in_place k.state.sessions.sound k.state.sessions.log k.leaves.whole id))
+
+  pub under_way_sound : (es : List Entry) (m : StoredState) → IsUnderWay g stream_bytes found es m → IsSoundStore g stream_bytes m.store
+  under_way_sound es m k =
+      let same = sym k.stored.log in
+      record {
+        recoverable = k.recoverable;
+        lawful = subst Lawful same k.leaves.whole.lawful;
+        no_prepare = subst HasNoPrepare same k.leaves.whole.no_prepare;
+        roomy = subst (AreRoomy g stream_bytes) same k.leaves.prefixes;
+      }
+
+-- ---- events one after another
+
+pub moves_join : (g : Geometry) (m : StoredState) (events : List StoredEvent) (mid : StoredState) (made : List Entry) (later : List StoredEvent) (last : StoredState) (more : List Entry)
+    → StoredMoves g m events mid made → StoredMoves g mid later last more → StoredMoves g m (events ++ later) last (made ++ more)
+moves_join g m [] mid made later last more h k =
+    subst (λ x. StoredMoves g x later last (made ++ more)) h.0 (subst (λ es. StoredMoves g mid later last (es ++ more)) (sym h.1) k)
+moves_join g m (e ∷ events) mid made later last more h k = (
+  h.0,
+  h.1 ++ more,
+  h.2,
+  moves_join g h.0 events mid h.1 later last more h.3 k,
+  ap (λ es. es ++ more) h.4 ∙ append_assoc (entries_made m e) h.1 more,
+)
+
+pub managed_join : (events later : List StoredEvent) → managed (events ++ later) ≡ managed events ++ managed later
+managed_join [] later = refl
+managed_join (Manage e works ∷ events) later = ap (λ es. e ∷ es) (managed_join events later)
+managed_join (Tend works ∷ events) later = managed_join events later

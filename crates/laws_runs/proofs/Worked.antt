@@ -1,0 +1,163 @@
+-- A log that a run leaves, and logs that a restart may not take.
+use Rattle.std.proofs.Common.{◌≡◌, ◌++◌, ◌+◌, ◌<◌, ◌≤◌, ℕ, suc, List, [], ◌∷◌, true, false, Some, None, refl, sym, ap, ◌∙◌, length, arith}
+use Rattle.std.specs.Prelude.{◌*◌, slice_get}
+use Rattle.std.specs.FinMap.{get, get-empty}
+use Rattle.std.proofs.lemmas.List.Elements.{All-cons, All-nil}
+use Rattle.std.proofs.lemmas.List.Sums.{sum_by-cons}
+use Rattle.shore_types.specs.Ids.{rid_cmp}
+use Rattle.shore_types.specs.Layout.{HasPage, HasStore}
+use Rattle.shore_types.specs.declared.layout.Geometry.{Geometry}
+use Rattle.shore_types.specs.declared.layout.TheConstants.{LONGEST_FRAME, MAX_LOG_BYTES, MAX_RECORD_BYTES, PAGE_ROOM, SLOT_ENTRY_BYTES}
+use Rattle.shore_model.specs.declared.histories.Entry.{Entry}
+use Rattle.shore_model.specs.declared.log_records.LogRecord.{LogRecord}
+use Rattle.shore_model.specs.declared.log_records.Payload.TheVariants.{Change, Compensation}
+use Rattle.shore_model.specs.Logs.{image_of_record}
+use Rattle.shore_logrec.specs.Text.{cost_of}
+use Rattle.laws_calls.proofs.SessionOpens.{sessions_after_open}
+use Rattle.laws_calls.proofs.SessionInsert.{session_comes_through}
+use Rattle.laws_calls.specs.Events.{MovesMaking}
+use Rattle.laws_calls.specs.States.{State, cost_of_log}
+use Rattle.laws_calls.specs.WorkedRun.{first_id, first_page, one_insert, opened_empty}
+use Rattle.shore_page.specs.Room.{HasRoom, HoldsItsImage, claims}
+use Rattle.shore_page.specs.Slots.{Slot, settled}
+use Rattle.shore_types.specs.Images.{image_len}
+use Rattle.laws_lives.proofs.Redo.{image_of_record-push}
+use Rattle.laws_lives.specs.Undo.{IsLoser, undo_record}
+use Rattle.laws_room.proofs.Costs.{compensation_bytes}
+use Rattle.laws_room.proofs.Lists.{length-each}
+use Rattle.laws_room.specs.Claims.{each_from, rid_on}
+use Rattle.laws_runs.proofs.Opens.{format_is_roomy, leaves_none, opens_leaving, opens_roomy, undo_has_log_room}
+use Rattle.laws_runs.proofs.Prefixes.{whole_roomy}
+use Rattle.laws_runs.proofs.Redoing.{left_have_room}
+use Rattle.laws_runs.proofs.Running.{events_leaving}
+use Rattle.laws_runs.proofs.Undoing.{undone_roomy}
+use Rattle.laws_runs.specs.RoomyLogs.{AreRoomy, IsRoomyLog}
+use Rattle.laws_runs.specs.RoomyStates.{IsOpenedFrom}
+use Rattle.laws_runs.specs.SlotCounts.{slots_left}
+use Rattle.laws_runs.specs.WorkedLogs.{inserted, room_taken, second_id, third_id}
+
+-- ---- a log that a run leaves
+
+opened_from_none : (stream_bytes : ℕ) → IsOpenedFrom stream_bytes [] (opened_empty stream_bytes)
+opened_from_none stream_bytes = record {
+  log = refl;
+  as_long = refl;
+  records = λ id. get-empty rid_cmp id ∙ sym (leaves_none id);
+  active = refl;
+  counts = λ p. refl;
+  some = omega arith;
+  least = λ n some above. omega arith;
+}
+
+pub run_leaves_roomy : (g : Geometry) (stream_bytes : ℕ) (bytes : List ℕ) → HasStore g 0 → HasPage g first_page → length bytes ≤ MAX_RECORD_BYTES
+    → 100000 ≤ stream_bytes → stream_bytes ≤ MAX_LOG_BYTES
+    → (last : State) × (made : List Entry) × MovesMaking g (opened_empty stream_bytes) (one_insert bytes) last made
+    × (get last.sessions.records first_id ≡ Some bytes) × AreRoomy g stream_bytes last.log
+run_leaves_roomy g stream_bytes bytes store page short long most =
+    let h = session_comes_through g stream_bytes bytes store page short long in
+    let none = format_is_roomy g stream_bytes (omega arith) most in
+    let opened = opened_from_none stream_bytes in
+    let roomy = opens_roomy g stream_bytes [] (opened_empty stream_bytes) opened (whole_roomy g stream_bytes [] none) in
+    let leaves = opens_leaving g stream_bytes [] (opened_empty stream_bytes) opened none (λ n r at. absurd (nothing n r at)) (λ t id changed. absurd (unchanged changed)) in
+    (h.0, h.1, h.3, h.4, (events_leaving g stream_bytes [] [] (opened_empty stream_bytes) (one_insert bytes) h.0 h.1 (sessions_after_open [] (opened_empty stream_bytes) h.2 refl) roomy leaves h.3).1.prefixes)
+  where
+    nothing : (n : ℕ) (r : LogRecord) → slice_get [] n ≡ Some r → ⊥
+    nothing n r at = cc
+
+    unchanged : false ≡ true → ⊥
+    unchanged e = cc
+
+-- ---- the stream has no room for the undo
+
+pub no_room_in_stream : (g : Geometry) (stream_bytes : ℕ) (log : List LogRecord) (t : ℕ) → IsLoser log t
+    → stream_bytes < cost_of_log log + cost_of (undo_record log t).payload + LONGEST_FRAME → IsRoomyLog g stream_bytes log → ⊥
+no_room_in_stream g stream_bytes log t loser less k = let room = (undo_has_log_room g stream_bytes log t k loser).0 in omega arith
+
+inserted_loser : (bytes : List ℕ) → IsLoser (inserted bytes) 1
+inserted_loser bytes = record { is_one = omega arith; known = omega arith; not_over = refl; not_in_doubt = refl }
+
+pub inserted_too_full : (g : Geometry) (bytes : List ℕ) → IsRoomyLog g (cost_of_log (inserted bytes) + LONGEST_FRAME) (inserted bytes) → ⊥
+inserted_too_full g bytes k =
+    let undo : undo_record (inserted bytes) 1 ≡ record { txn = 1; previous = 1; payload = Compensation first_id None 0 } = refl in
+    let cost = compensation_bytes first_id None 0 in
+    let says = ap (λ (r : LogRecord). cost_of r.payload) undo in
+    no_room_in_stream g (cost_of_log (inserted bytes) + LONGEST_FRAME) (inserted bytes) 1 (inserted_loser bytes) (omega arith) k
+
+-- ---- a page has none
+
+module _ (old new other : List ℕ) where
+  abbrev log : List LogRecord
+  log = room_taken old new other
+
+  abbrev delete : LogRecord
+  delete = record { txn = 1; previous = 0; payload = Change first_id (Some old) None }
+
+  abbrev first_insert : LogRecord
+  first_insert = record { txn = 2; previous = 0; payload = Change second_id None (Some new) }
+
+  abbrev second_insert : LogRecord
+  second_insert = record { txn = 2; previous = 2; payload = Change third_id None (Some other) }
+
+  deleted_loser : IsLoser log 1
+  deleted_loser = record { is_one = omega arith; known = omega arith; not_over = refl; not_in_doubt = refl }
+
+  abbrev undone : List LogRecord
+  undone = log ++ undo_record log 1 ∷ []
+
+  old_back : image_of_record undone first_id ≡ Some old
+  old_back = image_of_record-push log (undo_record log 1) first_id
+
+  new_there : image_of_record undone second_id ≡ Some new
+  new_there =
+      image_of_record-push log (undo_record log 1) second_id ∙ image_of_record-push (delete ∷ first_insert ∷ []) second_insert second_id
+      ∙ image_of_record-push (delete ∷ []) first_insert second_id
+
+  other_there : image_of_record undone third_id ≡ Some other
+  other_there = image_of_record-push log (undo_record log 1) third_id ∙ image_of_record-push (delete ∷ first_insert ∷ []) second_insert third_id
+
+  abbrev left_at : ℕ → Slot
+  left_at i = settled (image_of_record undone (rid_on first_page i))
+
+  claims_cons : (first n : ℕ) → claims (each_from left_at first (suc n)) ≡ (left_at first).claim + claims (each_from left_at (suc first) n)
+  claims_cons first n = sum_by-cons (λ (s : Slot). s.claim) (left_at first) (each_from left_at (suc first) n)
+
+  -- what stands there has room
+  abbrev standing_at : ℕ → Slot
+  standing_at i = settled (image_of_record log (rid_on first_page i))
+
+  pub taken_stands : length new ≤ MAX_RECORD_BYTES → length other ≤ MAX_RECORD_BYTES → 3 * SLOT_ENTRY_BYTES + length new + length other ≤ PAGE_ROOM
+      → HasRoom (slots_left log first_page)
+  taken_stands short brief fits =
+      let none : image_of_record log first_id ≡ None =
+      image_of_record-push (delete ∷ first_insert ∷ []) second_insert first_id ∙ image_of_record-push (delete ∷ []) first_insert first_id
+      ∙ image_of_record-push [] delete first_id in
+      let one : image_of_record log second_id ≡ Some new =
+      image_of_record-push (delete ∷ first_insert ∷ []) second_insert second_id ∙ image_of_record-push (delete ∷ []) first_insert second_id in
+      let two : image_of_record log third_id ≡ Some other = image_of_record-push (delete ∷ first_insert ∷ []) second_insert third_id in
+      let first = ap image_len none in
+      let second = ap image_len one in
+      let third = ap image_len two in
+      let all = sum_by-cons (λ (s : Slot). s.claim) (standing_at 0) (each_from standing_at 1 2) in
+      let later = sum_by-cons (λ (s : Slot). s.claim) (standing_at 1) (each_from standing_at 2 1) in
+      let last = sum_by-cons (λ (s : Slot). s.claim) (standing_at 2) [] in
+      record {
+        room = omega arith;
+        each =
+            All-cons HoldsItsImage (standing_at 0) (each_from standing_at 1 2) (omega arith, omega arith)
+            (All-cons HoldsItsImage (standing_at 1) (each_from standing_at 2 1) (omega arith, omega arith)
+            (All-cons HoldsItsImage (standing_at 2) [] (omega arith, omega arith) (All-nil HoldsItsImage)));
+      }
+
+  pub taken_too_full : (g : Geometry) (stream_bytes : ℕ) → PAGE_ROOM < 3 * SLOT_ENTRY_BYTES + length old + length new + length other
+      → IsRoomyLog g stream_bytes log → ⊥
+  taken_too_full g stream_bytes much k =
+      let slots : HasRoom (each_from left_at 0 3) = left_have_room g stream_bytes undone (undone_roomy g stream_bytes log k 1 deleted_loser) first_page in
+      let room = slots.room in
+      let all = claims_cons 0 2 in
+      let two = claims_cons 1 1 in
+      let one = claims_cons 2 0 in
+      let first = ap image_len old_back in
+      let second = ap image_len new_there in
+      let third = ap image_len other_there in
+      let long = length-each left_at 0 3 in
+      omega arith

@@ -1,0 +1,14 @@
+use Rattle.laws_runs.proofs.ManagerLogs.{last_has_room, moves_leaving, restart_roomy, runs_roomy}
+use Rattle.laws_runs.proofs.bounds.managers_leave_roomy_logs.Goals as goal
+
+pub returns-clause-restart : goal.returns-clause-restart
+returns-clause-restart c g stream_bytes s ready events k restarts = restart_roomy g stream_bytes s events ready k restarts
+
+pub returns-clause-moves : goal.returns-clause-moves
+returns-clause-moves c g stream_bytes found es m last events made k roomy h moves = moves_leaving g stream_bytes found es m events last made k roomy h moves
+
+pub returns-clause-last : goal.returns-clause-last
+returns-clause-last c g stream_bytes s r found k run opens = last_has_room g stream_bytes s r found run k opens
+
+pub returns-clause-runs : goal.returns-clause-runs
+returns-clause-runs c g stream_bytes s last runs found k are opens = runs_roomy g stream_bytes s runs last found k are opens

@@ -1,0 +1,49 @@
+-- Which logs a restart takes: pages and log have room for what they say and for the undo of their losers, and what they say is in bounds.
+use Rattle.std.specs.Prelude.{◌≡◌, ◌≤◌, ℕ, List, All, length, take}
+use Rattle.std.specs.FinMap.{get}
+use Rattle.shore_types.specs.declared.ids.Rid.{Rid}
+use Rattle.shore_types.specs.declared.layout.Geometry.{Geometry}
+use Rattle.shore_types.specs.declared.layout.TheConstants.{LONGEST_FRAME}
+use Rattle.shore_model.specs.declared.log_records.LogRecord.{LogRecord}
+use Rattle.shore_model.specs.Logs.{image_of_record}
+use Rattle.shore_model.specs.Records.{Records}
+use Rattle.laws_lives.specs.LogTells.{MatchesUndo}
+use Rattle.laws_lives.specs.Sessions.{SessionTxn, txns_of}
+use Rattle.laws_lives.specs.Views.{IsAmong}
+use Rattle.laws_room.specs.Claims.{Claimed}
+use Rattle.laws_room.specs.LogRooms.{HasLogRoom, LogRoom, owed_by_all}
+use Rattle.laws_lives.specs.Undo.{IsLoser}
+use Rattle.shore_analysis.specs.Meant.{IsCrowded, IsInBounds}
+use Rattle.laws_calls.specs.States.{cost_of_log}
+use Rattle.laws_runs.specs.SlotCounts.{slot_count}
+
+-- the room of a log in a stream of so many bytes: what its records take, and what is reserved for the undo and the ending of these transactions
+abbrev pub room_of_log : ℕ → List LogRecord → List SessionTxn → LogRoom
+room_of_log stream_bytes log undos = record {
+  kept = cost_of_log log;
+  reserved = owed_by_all undos;
+  stream_bytes = stream_bytes;
+  last_lsn = length log;
+}
+
+-- the transactions are the log's losers, each with the before images of its unanswered Changes as its undo list
+pub record AreLosers (log : List LogRecord) (undos : List SessionTxn) : Type 0 where
+  pub each : (a : SessionTxn) → IsAmong a undos → IsLoser log a.txn × MatchesUndo log a.txn a.undo.images
+  pub every : (t : ℕ) → IsLoser log t → IsAmong t (txns_of undos)
+
+-- The pages have room for the records that the log leaves, and for what undo of its losers brings back. The stream has room for the log, for
+-- that undo, and for the longest frame besides. Ids lie in the geometry, transactions have numbers that one may have, each kind is served, and
+-- no more transactions have not ended than there may be.
+pub record IsRoomyLog (g : Geometry) (stream_bytes : ℕ) (log : List LogRecord) : Type 0 where
+  pub records : Records
+  pub shown : (id : Rid) → get records id ≡ image_of_record log id
+  pub undos : List SessionTxn
+  pub losers : AreLosers log undos
+  pub pages : Claimed records undos (slot_count log)
+  pub room : HasLogRoom LONGEST_FRAME undos (room_of_log stream_bytes log undos)
+  pub inside : All (IsInBounds g) log
+  pub few : IsCrowded log → ⊥
+
+-- so is each prefix of the log, which a crash may leave
+abbrev pub AreRoomy : Geometry → ℕ → List LogRecord → Type 0
+AreRoomy g stream_bytes log = (n : ℕ) → n ≤ length log → IsRoomyLog g stream_bytes (take n log)

@@ -1,0 +1,34 @@
+-- States of a manager of whose log a crash leaves only what a restart takes.
+use Rattle.std.specs.Prelude.{◌≡◌, ◌<◌, ◌≤◌, ℕ, List, []}
+use Rattle.std.specs.FinMap.{get}
+use Rattle.std.specs.List.{AllByRecursion}
+use Rattle.shore_types.specs.declared.ids.PageId.{PageId}
+use Rattle.shore_types.specs.declared.ids.Rid.{Rid}
+use Rattle.shore_types.specs.declared.layout.Geometry.{Geometry}
+use Rattle.shore_types.specs.declared.layout.TheConstants.{LAST_TXN}
+use Rattle.shore_model.specs.declared.log_records.LogRecord.{LogRecord}
+use Rattle.shore_model.specs.Logs.{image_of_record}
+use Rattle.laws_lives.specs.WholeLogs.{IsWholeLog}
+use Rattle.laws_calls.specs.States.{State}
+use Rattle.laws_runs.specs.RoomyLogs.{AreRoomy}
+use Rattle.laws_runs.specs.SlotCounts.{slot_count}
+
+-- The state is over a stream of so many bytes, and each prefix of its log is roomy there. The pages have the slots that the log gave them, whoever is in the log and has not ended is under
+-- way, and the next transaction's number may be one above the last that a record may have.
+pub record LeavesRoomyLogs (g : Geometry) (stream_bytes : ℕ) (s : State) : Type 0 where
+  pub as_long : s.stream_bytes ≡ stream_bytes
+  pub prefixes : AreRoomy g stream_bytes s.log
+  pub counts : (p : PageId) → s.counts p ≡ slot_count s.log p
+  pub whole : IsWholeLog s.log s.sessions
+  pub txns : s.sessions.next_txn ≤ LAST_TXN
+
+-- What an open makes of a log over a stream of so many bytes: what the log leaves is in place, nobody is in a transaction, each page has the
+-- slots that the log gave it, and the next transaction's number is the least above all of the log's.
+pub record IsOpenedFrom (stream_bytes : ℕ) (found : List LogRecord) (s : State) : Type 0 where
+  pub log : s.log ≡ found
+  pub as_long : s.stream_bytes ≡ stream_bytes
+  pub records : (id : Rid) → get s.sessions.records id ≡ image_of_record found id
+  pub active : s.sessions.active ≡ []
+  pub counts : (p : PageId) → s.counts p ≡ slot_count found p
+  pub some : 0 < s.sessions.next_txn
+  pub least : (n : ℕ) → 0 < n → AllByRecursion (λ r. r.txn < n) found → s.sessions.next_txn ≤ n

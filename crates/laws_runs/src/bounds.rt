@@ -1,0 +1,143 @@
+//! The laws of the room that restart needs, each stated as the contract of an empty function.
+ghost use Rattle.std.specs.Prelude.{◌≡◌, ◌≤◌, ◌<◌, ◌+◌, ◌*◌, ◌++◌, ◌∷◌, ℕ, List, [], Some, length, take};
+ghost use Rattle.std.specs.FinMap.{get};
+ghost use Rattle.shore_types.specs.Layout.{HasPage, HasStore};
+ghost use Rattle.shore_types.specs.declared.ids.PageId.{PageId};
+ghost use Rattle.shore_types.specs.declared.layout.Geometry.{Geometry};
+ghost use Rattle.shore_types.specs.declared.layout.TheConstants.{LAST_OPENED, LONGEST_FRAME, MAX_LOG_BYTES, MAX_RECORD_BYTES, PAGE_ROOM, SLOT_ENTRY_BYTES};
+ghost use Rattle.shore_model.specs.declared.histories.Entry.{Entry};
+ghost use Rattle.shore_model.specs.declared.log_records.LogRecord.{LogRecord};
+ghost use Rattle.shore_model.specs.Logs.{Lawful};
+ghost use Rattle.shore_model.specs.Records.{AreRecords};
+ghost use Rattle.shore_logrec.specs.Text.{cost_of};
+ghost use Rattle.shore_page.specs.Room.{HasRoom};
+ghost use Rattle.laws_lives.specs.Recovery.{IsRecoverable, RecoveryEvent, RecoveryState};
+ghost use Rattle.laws_lives.specs.Restarts.{IsRestartOf, RestartsTo};
+ghost use Rattle.laws_lives.specs.Undo.{HasNoLosers, IsLoser, IsUndoneTo, undo_record};
+ghost use Rattle.shore_analysis.specs.Meant.{AreMeant};
+ghost use Rattle.shore_analysis.specs.Tables.{IsNext};
+ghost use Rattle.laws_lives.specs.Stretches.{MayBeFound};
+ghost use Rattle.laws_calls.specs.CallHistories.{IsRoomyState, KeepsDurable};
+ghost use Rattle.laws_calls.specs.Events.{IsStateAfter, ManagerEvent, EventMoves, MovesMaking};
+ghost use Rattle.laws_calls.specs.States.{State, cost_of_log};
+ghost use Rattle.laws_calls.specs.WorkedRun.{first_id, first_page, one_insert, opened_empty};
+ghost use Rattle.laws_runs.specs.StoredRuns.{AreStoredRuns, IsOpenedOver, IsStoredRun, StoredEvent, StoredMoves, StoredRun, StoredState};
+ghost use Rattle.laws_runs.specs.RoomyLogs.{AreRoomy, IsRoomyLog};
+ghost use Rattle.laws_runs.specs.RoomyRuns.{AreOpenedFrom};
+ghost use Rattle.laws_runs.specs.RoomyStates.{IsOpenedFrom, LeavesRoomyLogs};
+ghost use Rattle.laws_runs.specs.SlotCounts.{EachFits, FitsBehind, slot_count, slots_left};
+ghost use Rattle.laws_runs.specs.WorkedLogs.{inserted, room_taken};
+
+/// What a format leaves, the empty log, is roomy over each stream that a log device may have.
+pub fn formats_are_roomy()
+    ensures { (g : Geometry) (stream_bytes : ℕ) → LONGEST_FRAME ≤ stream_bytes → stream_bytes ≤ MAX_LOG_BYTES → AreRoomy g stream_bytes [] }
+{}
+
+/// What a crash leaves of a log whose prefixes are roomy is such a log. The whole log is one of its prefixes, and so it is roomy too.
+pub fn prefixes_stay_roomy()
+    ensures prefix { (g : Geometry) (stream_bytes n : ℕ) (log : List LogRecord) → AreRoomy g stream_bytes log →
+        AreRoomy g stream_bytes (take n log) }
+    ensures whole { (g : Geometry) (stream_bytes : ℕ) (log : List LogRecord) → AreRoomy g stream_bytes log → IsRoomyLog g stream_bytes log }
+{}
+
+/// A roomy log fits its stream, with the longest frame besides, and has numbers left.
+pub fn roomy_logs_fit_their_stream()
+    ensures stream { (g : Geometry) (stream_bytes : ℕ) (log : List LogRecord) → IsRoomyLog g stream_bytes log → cost_of_log log + LONGEST_FRAME ≤ stream_bytes }
+    ensures number { (g : Geometry) (stream_bytes : ℕ) (log : List LogRecord) → IsRoomyLog g stream_bytes log → length log < LAST_OPENED }
+{}
+
+/// Redo of each record fits its page, on slots that take what the records before it left, and keep nothing besides.
+pub fn redo_fits_pages()
+    ensures { (g : Geometry) (stream_bytes : ℕ) (log : List LogRecord) → AreRoomy g stream_bytes log → EachFits log }
+{}
+
+/// Each event of a manager leaves a log that a restart takes, whatever a crash leaves of it, if the state before did; and so do any events. The
+/// records in place lie in the geometry then. That the state before did so is known of each open (`opens_have_room`).
+pub fn events_leave_roomy_logs()
+    ensures each { (g : Geometry) (stream_bytes : ℕ) (found : List LogRecord) (es : List Entry) (old new : State) (e : ManagerEvent) →
+        IsStateAfter found es old → IsRoomyState old → LeavesRoomyLogs g stream_bytes old → EventMoves g old e new → LeavesRoomyLogs g stream_bytes new }
+    ensures run { (g : Geometry) (stream_bytes : ℕ) (found : List LogRecord) (es : List Entry) (first last : State) (events : List ManagerEvent) (made : List Entry) →
+        IsStateAfter found es first → IsRoomyState first → LeavesRoomyLogs g stream_bytes first → MovesMaking g first events last made →
+        IsRoomyState last × LeavesRoomyLogs g stream_bytes last }
+    ensures crash { (g : Geometry) (stream_bytes : ℕ) (s : State) (n : ℕ) → LeavesRoomyLogs g stream_bytes s → KeepsDurable s n →
+        AreRoomy g stream_bytes (take n s.log) }
+    ensures inside { (g : Geometry) (stream_bytes : ℕ) (found : List LogRecord) (es : List Entry) (s : State) → IsStateAfter found es s →
+        LeavesRoomyLogs g stream_bytes s → AreRecords g s.sessions.records }
+{}
+
+/// A manager that restarts and opens over its store, from a log whose prefixes are roomy, has room in its last state, and its crash leaves such a
+/// log again; so do any number of managers one after another, with power lost in restarts too. That a manager opens from the log of its restart
+/// (`IsOpenedFrom`) is what its open has to promise.
+pub fn managers_leave_roomy_logs()
+    ensures restart { (g : Geometry) (stream_bytes : ℕ) (s ready : RecoveryState) (events : List RecoveryEvent) → AreRoomy g stream_bytes s.log →
+        RestartsTo s events ready → AreRoomy g stream_bytes ready.log }
+    ensures moves { (g : Geometry) (stream_bytes : ℕ) (found : List LogRecord) (es : List Entry) (m last : StoredState) (events : List StoredEvent) (made : List Entry) →
+        IsStateAfter found es m.state → IsRoomyState m.state → LeavesRoomyLogs g stream_bytes m.state → StoredMoves g m events last made →
+        IsRoomyState last.state × LeavesRoomyLogs g stream_bytes last.state }
+    ensures last { (g : Geometry) (stream_bytes : ℕ) (s : RecoveryState) (r : StoredRun) → MayBeFound s → AreRoomy g stream_bytes s.log → IsStoredRun g s r →
+        IsOpenedFrom stream_bytes r.ready.log r.first → IsRoomyState r.last.state × LeavesRoomyLogs g stream_bytes r.last.state }
+    ensures runs { (g : Geometry) (stream_bytes : ℕ) (s last : RecoveryState) (runs : List StoredRun) → MayBeFound s → AreRoomy g stream_bytes s.log →
+        AreStoredRuns g s runs last → AreOpenedFrom stream_bytes runs → AreRoomy g stream_bytes last.log }
+{}
+
+/// A record of undo keeps a log roomy, whichever loser takes its turn, and so do any turns. So a restart may lose power at any time.
+pub fn undo_keeps_logs_roomy()
+    ensures log { (g : Geometry) (stream_bytes t : ℕ) (log : List LogRecord) → IsRoomyLog g stream_bytes log → IsLoser log t →
+        IsRoomyLog g stream_bytes (log ++ undo_record log t ∷ []) }
+    ensures one { (g : Geometry) (stream_bytes t : ℕ) (log : List LogRecord) → AreRoomy g stream_bytes log → IsLoser log t →
+        AreRoomy g stream_bytes (log ++ undo_record log t ∷ []) }
+    ensures turns { (g : Geometry) (stream_bytes : ℕ) (log last : List LogRecord) (turns : List ℕ) → AreRoomy g stream_bytes log → IsUndoneTo log turns last →
+        AreRoomy g stream_bytes last }
+{}
+
+/// Undo of a roomy log fits: the next record of any loser fits its page, on slots that keep nothing for others, and has its room in the stream
+/// and its number.
+pub fn undo_fits_pages_and_log()
+    ensures page { (g : Geometry) (stream_bytes t : ℕ) (log : List LogRecord) → IsRoomyLog g stream_bytes log → IsLoser log t →
+        FitsBehind log (undo_record log t).payload }
+    ensures stream { (g : Geometry) (stream_bytes t : ℕ) (log : List LogRecord) → IsRoomyLog g stream_bytes log → IsLoser log t →
+        cost_of_log log + cost_of (undo_record log t).payload + LONGEST_FRAME ≤ stream_bytes }
+    ensures number { (g : Geometry) (stream_bytes t : ℕ) (log : List LogRecord) → IsRoomyLog g stream_bytes log → IsLoser log t →
+        length log + 1 < LAST_OPENED }
+{}
+
+/// The state that an open makes of a roomy log has room on its pages and in its log, and its records lie in the geometry. If no loser is left,
+/// as when a restart has come through, whatever a later crash leaves of it is roomy. The open over a restart makes such a state, with the slots
+/// that the log gave the pages, if its next number is the one that analysis of the found log gives.
+pub fn opens_have_room()
+    ensures roomy { (g : Geometry) (stream_bytes : ℕ) (log : List LogRecord) (s : State) → IsRoomyLog g stream_bytes log → IsOpenedFrom stream_bytes log s →
+        IsRoomyState s }
+    ensures inside { (g : Geometry) (stream_bytes : ℕ) (log : List LogRecord) (s : State) → IsRoomyLog g stream_bytes log → IsOpenedFrom stream_bytes log s →
+        AreRecords g s.sessions.records }
+    ensures leaves { (g : Geometry) (stream_bytes : ℕ) (log : List LogRecord) (s : State) → AreRoomy g stream_bytes log → Lawful log → HasNoLosers log →
+        IsOpenedFrom stream_bytes log s → LeavesRoomyLogs g stream_bytes s }
+    ensures over { (stream_bytes : ℕ) (found : List LogRecord) (ready : RecoveryState) (s : State) → IsRecoverable ready → ready.redone ≡ length ready.log →
+        IsRestartOf found ready → IsOpenedOver ready s → s.stream_bytes ≡ stream_bytes → ((p : PageId) → s.counts p ≡ slot_count ready.log p) →
+        IsNext found s.sessions.next_txn → IsOpenedFrom stream_bytes ready.log s }
+{}
+
+/// Analysis refuses no record of a lawful log whose prefixes are roomy.
+pub fn roomy_logs_are_meant()
+    ensures { (g : Geometry) (stream_bytes : ℕ) (log : List LogRecord) → AreRoomy g stream_bytes log → Lawful log → AreMeant g log }
+{}
+
+/// The conditions can be met: over an empty volume and an empty log, a transaction inserts a record and commits, and each prefix of the log
+/// is roomy, also that which has the insert alone.
+pub fn one_insert_leaves_roomy_logs()
+    ensures { (g : Geometry) (stream_bytes : ℕ) (bytes : List ℕ) → HasStore g 0 → HasPage g first_page → length bytes ≤ MAX_RECORD_BYTES →
+        100000 ≤ stream_bytes → stream_bytes ≤ MAX_LOG_BYTES →
+        (last : State) × (made : List Entry) × MovesMaking g (opened_empty stream_bytes) (one_insert bytes) last made
+        × (get last.sessions.records first_id ≡ Some bytes) × AreRoomy g stream_bytes last.log }
+{}
+
+/// Logs that a restart could not undo are not roomy: one whose stream has room for its record, and none for the undo; and one that leaves a page
+/// with room for what stands on it, and with none for that and what an undo brings back.
+pub fn logs_without_room_are_not_roomy()
+    ensures stream { (g : Geometry) (stream_bytes t : ℕ) (log : List LogRecord) → IsLoser log t →
+        stream_bytes < cost_of_log log + cost_of (undo_record log t).payload + LONGEST_FRAME → IsRoomyLog g stream_bytes log → ⊥ }
+    ensures inserted { (g : Geometry) (bytes : List ℕ) → IsRoomyLog g (cost_of_log (inserted bytes) + LONGEST_FRAME) (inserted bytes) → ⊥ }
+    ensures standing { (old new other : List ℕ) → length new ≤ MAX_RECORD_BYTES → length other ≤ MAX_RECORD_BYTES →
+        3 * SLOT_ENTRY_BYTES + length new + length other ≤ PAGE_ROOM → HasRoom (slots_left (room_taken old new other) first_page) }
+    ensures room_taken { (g : Geometry) (stream_bytes : ℕ) (old new other : List ℕ) →
+        PAGE_ROOM < 3 * SLOT_ENTRY_BYTES + length old + length new + length other → IsRoomyLog g stream_bytes (room_taken old new other) → ⊥ }
+{}

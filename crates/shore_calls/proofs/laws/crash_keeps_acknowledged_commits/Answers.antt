@@ -1,5 +1,0 @@
-use Rattle.shore_calls.proofs.SessionTells.{session_crash_keeps}
-use Rattle.shore_calls.proofs.laws.crash_keeps_acknowledged_commits.Goals as goal
-
-pub returns : goal.returns
-returns d found es s n k h = session_crash_keeps found es s k n h

@@ -1,8 +1,0 @@
-use Rattle.shore_calls.proofs.SessionStates.{session_failure_stays, session_force_stays}
-use Rattle.shore_calls.proofs.laws.forces_and_failures_keep_state.Goals as goal
-
-pub returns-clause-durable : goal.returns-clause-durable
-returns-clause-durable d found es s n k more within = session_force_stays found es s k n more within
-
-pub returns-clause-failed : goal.returns-clause-failed
-returns-clause-failed d found es s k = session_failure_stays found es s k

@@ -1,5 +1,0 @@
-use Rattle.shore_calls.proofs.SessionInsert.{session_comes_through}
-use Rattle.shore_calls.proofs.laws.one_insert_comes_through.Goals as goal
-
-pub returns : goal.returns
-returns d g stream_bytes bytes store page short long = session_comes_through g stream_bytes bytes store page short long

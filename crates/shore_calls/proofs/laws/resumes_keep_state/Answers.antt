@@ -1,5 +1,0 @@
-use Rattle.shore_calls.proofs.SessionStates.{session_resume_stays}
-use Rattle.shore_calls.proofs.laws.resumes_keep_state.Goals as goal
-
-pub returns : goal.returns
-returns d g found es old new session step k h = session_resume_stays found es old k g session step new h

@@ -1,5 +1,0 @@
-use Rattle.shore_calls.proofs.WrongRollbacks.{rollback_stops}
-use Rattle.shore_calls.proofs.rollbacks.interrupted_rollbacks_keep_their_steps.Goals as goal
-
-pub returns : goal.returns
-returns d = rollback_stops

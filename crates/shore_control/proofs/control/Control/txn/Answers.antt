@@ -1,7 +1,0 @@
-use Rattle.std.proofs.Common.{subst}
-use Rattle.shore_lives.specs.Views.{IsAmong}
-use Rattle.shore_control.proofs.Answered.{none_so}
-use Rattle.shore_control.proofs.control.Control.txn.Goals as goal
-
-pub returns-clause-of_none : goal.returns-clause-of_none
-returns-clause-of_none c = none_so c.txn.result (λ none s was a its. none a (subst (IsAmong a) was.txns.active its.0) its.1) c.txn.ensures.none

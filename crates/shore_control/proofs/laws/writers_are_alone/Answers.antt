@@ -1,5 +1,0 @@
-use Rattle.shore_control.proofs.Alone.{alone_behind}
-use Rattle.shore_control.proofs.laws.writers_are_alone.Goals as goal
-
-pub returns : goal.returns
-returns c found es s a on_conflict id k m quiet done = alone_behind found es s k a m quiet on_conflict id done

@@ -1,5 +1,0 @@
-use Rattle.std.proofs.Common.{◌≡◌, ◌+◌, take, sum}
-use Rattle.shore_dwrite.proofs.places.page_number.Given as goal
-
-abbrev pub invariant-loop-pages : goal.invariant-loop-pages
-invariant-loop-pages l = l.number ≡ l.fn.id.page + sum (take l.pages-index l.pages-items)

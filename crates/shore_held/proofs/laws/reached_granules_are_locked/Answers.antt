@@ -1,5 +1,0 @@
-use Rattle.shore_held.proofs.Held.{locked_of}
-use Rattle.shore_held.proofs.laws.reached_granules_are_locked.Goals as goal
-
-pub returns : goal.returns
-returns c rs t g mode reached = locked_of rs t g mode reached

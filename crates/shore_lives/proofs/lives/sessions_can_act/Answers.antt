@@ -1,5 +1,0 @@
-use Rattle.shore_lives.proofs.CanAct.{every_run_happens}
-use Rattle.shore_lives.proofs.lives.sessions_can_act.Goals as goal
-
-pub returns : goal.returns
-returns c s f = every_run_happens s f

@@ -1,5 +1,0 @@
-use Rattle.shore_lives.proofs.Invariant.{events_kept}
-use Rattle.shore_lives.proofs.recovery.pages_are_kept.Goals as goal
-
-pub returns : goal.returns
-returns c s events last k moves = events_kept s events last k moves

@@ -1,5 +1,0 @@
-use Rattle.shore_lives.proofs.Invariant.{redone_whole}
-use Rattle.shore_lives.proofs.recovery.redo_is_whole.Goals as goal
-
-pub returns : goal.returns
-returns c s k whole p i = redone_whole s k whole p i

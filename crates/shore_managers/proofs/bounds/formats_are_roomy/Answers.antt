@@ -1,5 +1,0 @@
-use Rattle.shore_managers.proofs.Opens.{format_is_roomy}
-use Rattle.shore_managers.proofs.bounds.formats_are_roomy.Goals as goal
-
-pub returns : goal.returns
-returns c g stream_bytes least most = format_is_roomy g stream_bytes least most

@@ -1,5 +1,0 @@
-use Rattle.shore_managers.proofs.Worked.{run_leaves_roomy}
-use Rattle.shore_managers.proofs.bounds.one_insert_leaves_roomy_logs.Goals as goal
-
-pub returns : goal.returns
-returns c g stream_bytes bytes store page short long most = run_leaves_roomy g stream_bytes bytes store page short long most

@@ -1,5 +1,0 @@
-use Rattle.shore_managers.proofs.Redoing.{each_fits}
-use Rattle.shore_managers.proofs.bounds.redo_fits_pages.Goals as goal
-
-pub returns : goal.returns
-returns c g stream_bytes log h = each_fits g stream_bytes log h

@@ -1,5 +1,0 @@
-use Rattle.shore_managers.proofs.Opens.{meant}
-use Rattle.shore_managers.proofs.bounds.roomy_logs_are_meant.Goals as goal
-
-pub returns : goal.returns
-returns c g stream_bytes log k lawful = meant g stream_bytes log k lawful

@@ -1,5 +1,0 @@
-use Rattle.shore_managers.proofs.SoundStores.{format_may_be_opened}
-use Rattle.shore_managers.proofs.stays.formats_may_be_opened.Goals as goal
-
-pub returns : goal.returns
-returns c g stream_bytes least most = format_may_be_opened g stream_bytes least most

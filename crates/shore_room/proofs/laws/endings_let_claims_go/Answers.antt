@@ -1,5 +1,0 @@
-use Rattle.shore_room.proofs.Leaving.{left_keeps, left_slots}
-use Rattle.shore_room.proofs.laws.endings_let_claims_go.Goals as goal
-
-pub returns : goal.returns
-returns c R undos counts a k m = (left_keeps R undos counts k a m, left_slots R undos counts k a m)

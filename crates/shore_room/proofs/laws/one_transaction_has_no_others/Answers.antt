@@ -1,8 +1,0 @@
-use Rattle.shore_room.proofs.Settled.{one_alone, one_decided}
-use Rattle.shore_room.proofs.laws.one_transaction_has_no_others.Goals as goal
-
-pub returns-clause-alone : goal.returns-clause-alone
-returns-clause-alone c = one_alone
-
-pub returns-clause-decided : goal.returns-clause-decided
-returns-clause-decided c R counts a k = one_decided R counts a k

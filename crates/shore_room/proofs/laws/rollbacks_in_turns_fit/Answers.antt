@@ -1,5 +1,0 @@
-use Rattle.shore_room.proofs.Rooms.{turns_fit}
-use Rattle.shore_room.proofs.laws.rollbacks_in_turns_fit.Goals as goal
-
-pub returns : goal.returns
-returns c = turns_fit

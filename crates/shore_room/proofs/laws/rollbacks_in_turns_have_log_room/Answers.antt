@@ -1,5 +1,0 @@
-use Rattle.shore_room.proofs.LogRooms.{turns_take}
-use Rattle.shore_room.proofs.laws.rollbacks_in_turns_have_log_room.Goals as goal
-
-pub returns : goal.returns
-returns c = turns_take

@@ -1,5 +1,0 @@
-use Rattle.shore_room.proofs.Tables.{steps_keep}
-use Rattle.shore_room.proofs.laws.steps_keep_room.Goals as goal
-
-pub returns : goal.returns
-returns c spare s steps within k may = steps_keep spare within s steps k may

@@ -1,0 +1,52 @@
+-- What a record more makes of a log: the last records of transactions, and the sum of its costs.
+use Rattle.std.proofs.Common.{◌≡◌, ◌≢◌, ◌+◌, ◌<◌, ◌≤◌, ◌++◌, ◌∷◌, ◌==◌, [], List, ℕ, cond, refl, ap, ◌∙◌, arith, length}
+use Rattle.std.specs.Prelude.{filter, reverse}
+use Rattle.std.specs.List.{AllByRecursion, enumerate_from}
+use Rattle.std.proofs.lemmas.Bool.{eq-eqb, ne_eqb}
+use Rattle.std.proofs.lemmas.List.Sums.{sum_by-append}
+use Rattle.shore_model.specs.declared.log_records.LogRecord.{LogRecord}
+use Rattle.shore_model.specs.Logs.{first_number, last_of, previous_of, records_of, unanswered, unanswered_in}
+use Rattle.shore_model.proofs.LogSteps.{newest-push}
+use Rattle.shore_logrec.specs.Text.{cost_of}
+use Rattle.laws_calls.specs.States.{cost_of_log}
+
+last_own : (log : List LogRecord) (r : LogRecord) → last_of r.txn (log ++ r ∷ []) ≡ 1 + length log
+last_own log r = ap first_number
+    (newest-push r.txn log r ∙ ap (λ b. cond b ((1 + length log, r) ∷ reverse (records_of r.txn log)) (reverse (records_of r.txn log))) (eq-eqb r.txn r.txn refl))
+
+last_other : (t : ℕ) (log : List LogRecord) (r : LogRecord) → r.txn ≢ t → last_of t (log ++ r ∷ []) ≡ last_of t log
+last_other t log r other = ap first_number
+    (newest-push t log r ∙ ap (λ b. cond b ((1 + length log, r) ∷ reverse (records_of t log)) (reverse (records_of t log))) (ne_eqb r.txn t other))
+
+previous_positive : (t n : ℕ) → 0 < t → cond (t == 0) 0 n ≡ n
+previous_positive t n some = let not_zero : t ≢ 0 = λ z. omega (arith, some, z) in ap (λ b. cond b 0 n) (ne_eqb t 0 not_zero)
+
+-- the record is the last of its transaction
+pub previous_own : (log : List LogRecord) (r : LogRecord) → 0 < r.txn → previous_of r.txn (log ++ r ∷ []) ≡ 1 + length log
+previous_own log r some = previous_positive r.txn (last_of r.txn (log ++ r ∷ [])) some ∙ last_own log r
+
+-- .. and of no other
+pub previous_other : (t : ℕ) (log : List LogRecord) (r : LogRecord) → r.txn ≢ t → previous_of t (log ++ r ∷ []) ≡ previous_of t log
+previous_other t log r other = ap (λ n. cond (t == 0) 0 n) (last_other t log r other)
+
+none_from : (t n : ℕ) (log : List LogRecord) → AllByRecursion (λ r. r.txn < t) log → filter (λ e. e.1.txn == t) (enumerate_from n log) ≡ []
+none_from t n [] below = refl
+none_from t n (r ∷ log) below =
+    let other : r.txn ≢ t = λ same. omega (arith, below.0, same) in
+    ap (λ b. cond b ((n, r) ∷ filter (λ e. e.1.txn == t) (enumerate_from (n + 1) log)) (filter (λ e. e.1.txn == t) (enumerate_from (n + 1) log))) (ne_eqb r.txn t other)
+    ∙ none_from t (n + 1) log below.1
+
+-- a transaction above all records has none
+pub previous_none : (t : ℕ) (log : List LogRecord) → 0 < t → AllByRecursion (λ r. r.txn < t) log → previous_of t log ≡ 0
+previous_none t log some below = previous_positive t (last_of t log) some ∙ ap (λ es. first_number (reverse es)) (none_from t 1 log below)
+
+-- .. and no Change
+pub unanswered_none : (t : ℕ) (log : List LogRecord) → AllByRecursion (λ r. r.txn < t) log → unanswered t log ≡ []
+unanswered_none t log below = ap (λ es. unanswered_in (reverse es)) (none_from t 1 log below)
+
+pub all_higher : (n m : ℕ) (log : List LogRecord) → n ≤ m → AllByRecursion (λ r. r.txn < n) log → AllByRecursion (λ r. r.txn < m) log
+all_higher n m [] rise all = tt
+all_higher n m (r ∷ log) rise all = (omega (arith, rise, all.0), all_higher n m log rise all.1)
+
+pub cost_push : (log : List LogRecord) (r : LogRecord) → cost_of_log (log ++ r ∷ []) ≡ cost_of_log log + cost_of r.payload
+cost_push log r = let sum = sum_by-append (λ (x : LogRecord). cost_of x.payload) log (r ∷ []) in omega (arith, sum)

@@ -1,0 +1,11 @@
+use Rattle.std.proofs.Common.{arith}
+use Rattle.shore_txn.specs.Transactions.{undos_in}
+use Rattle.shore_txn.proofs.OneOfMany.{count_owed}
+use Rattle.shore_sessions.proofs.control.Control.count.Goals as goal
+
+-- each transaction owes its ending, for which the log has room
+pub overflow_add-result : goal.overflow_add-result
+overflow_add-result c =
+    let txns = c.args.self.now.txns in
+    let owed = count_owed (undos_in txns) in
+    omega (arith, owed, txns.sum, txns.room.within, txns.room.short, c.count.ensures, c.commits.ensures.few, c.commits.ensures.small)

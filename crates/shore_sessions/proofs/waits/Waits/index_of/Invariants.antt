@@ -1,0 +1,6 @@
+use Rattle.std.proofs.Common.{◌≢◌, ◌<◌, ℕ, get_or}
+use Rattle.shore_sessions.specs.declared.waits.WaitingCall.{WaitingCall}
+use Rattle.shore_sessions.proofs.waits.Waits.index_of.Given as goal
+
+abbrev pub invariant-loop-index : goal.invariant-loop-index
+invariant-loop-index l = (k : ℕ) (d : WaitingCall) → k < l.index → (get_or l.self.calls.items k d).session ≢ l.session

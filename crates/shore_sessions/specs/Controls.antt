@@ -1,0 +1,27 @@
+-- What a control has.
+use Rattle.std.specs.Prelude.{◌≢◌, ℕ, List, All}
+use Rattle.shore_locks.specs.Tables.{Table}
+use Rattle.shore_txn.specs.declared.transactions.Transactions.{Transactions}
+use Rattle.shore_sessions.specs.declared.control.Control.{Control}
+use Rattle.shore_sessions.specs.declared.waits.WaitingCall.{WaitingCall}
+use Rattle.shore_sessions.specs.Waits.{HasCallRoom, calls_in}
+
+-- its transactions under way
+abbrev pub txns_in : Control → Transactions
+txns_in control = control.txns
+
+-- its lock table
+abbrev pub locks_in : Control → Table
+locks_in control = control.locks
+
+-- the calls that wait, the oldest first
+abbrev pub waits_in : Control → List WaitingCall
+waits_in control = calls_in control.waits
+
+-- no call of the session waits
+abbrev pub HasNoWait : ℕ → Control → Type 0
+HasNoWait session control = All (λ w. w.session ≢ session) (waits_in control)
+
+-- a call more that waits needs no memory
+abbrev pub HasWaitRoom : Control → Type 0
+HasWaitRoom control = HasCallRoom control.waits

@@ -1,0 +1,96 @@
+-- How a control stands for the part of a state that is of its sessions: the transactions under way, the locks, and the calls that wait.
+use Rattle.std.specs.Prelude.{◌≡◌, ◌<◌, List, Bool, false, if◌then◌else◌, map, reverse}
+use Rattle.std.specs.List.{AllByRecursion}
+use Rattle.std.specs.FinMap.{get}
+use Rattle.shore_types.specs.Images.{Image}
+use Rattle.shore_types.specs.declared.ids.Rid.{Rid}
+use Rattle.shore_model.specs.declared.log_records.LogRecord.{LogRecord}
+use Rattle.shore_model.specs.declared.log_records.Payload.TheVariants.{Change, Compensation, End}
+use Rattle.shore_model.specs.declared.unanswered_changes.UnansweredChange.{UnansweredChange}
+use Rattle.shore_model.specs.Logs.{previous_of, unanswered}
+use Rattle.shore_model.specs.Records.{put_image}
+use Rattle.laws_room.specs.Claims.{SlotCounts}
+use Rattle.laws_lives.specs.Logged.{and_record, next_to_undo}
+use Rattle.shore_model.specs.declared.rollbacks.Rollback.{Rollback}
+use Rattle.laws_lives.specs.Sessions.{SessionTxn, abort_answered, image_put_back, with_undo}
+use Rattle.laws_lives.specs.UndoLists.{with_before_image}
+use Rattle.laws_lives.specs.Views.{IsAmong}
+use Rattle.shore_locks.specs.Grants.{released}
+use Rattle.laws_calls.specs.CallSteps.{with_requests}
+use Rattle.laws_calls.specs.States.{State, cost_of_log}
+use Rattle.shore_txn.specs.Transactions.{next_in, room_in, undos_in}
+use Rattle.shore_txn.specs.Transactions as table
+use Rattle.shore_txn.specs.Txns.{entries_of, last_of, number_of}
+use Rattle.shore_txn.specs.UndoEntries.{HaveClaims}
+use Rattle.shore_txn.specs.declared.transactions.Transactions.{Transactions}
+use Rattle.shore_txn.specs.declared.txn.Txn.{Txn}
+use Rattle.shore_txn.specs.declared.undo.UndoEntry.{UndoEntry}
+use Rattle.shore_sessions.specs.declared.control.Control.{Control}
+use Rattle.shore_sessions.specs.declared.waits.WaitingCall.{WaitingCall}
+use Rattle.shore_sessions.specs.Calls.{as_waitings, caller_of, committers_of, is_commit, names_of}
+use Rattle.shore_sessions.specs.Controls.{locks_in, txns_in, waits_in}
+
+-- ---- transactions
+
+-- an entry as the Change that it undoes
+abbrev pub as_change : UndoEntry → UnansweredChange
+as_change e = record { number = e.lsn; id = e.id; before = e.before }
+
+-- It has its last record in this log, and its entries are its Changes that no Compensation has answered. Beside each entry it has what the
+-- slot claimed before the change.
+pub record IsLogged (log : List LogRecord) (t : Txn) : Type 0 where
+  pub last : last_of t ≡ previous_of (number_of t) log
+  pub changes : unanswered (number_of t) log ≡ reverse (map as_change (entries_of t))
+  pub claims : HaveClaims (entries_of t)
+
+-- The transactions are those of the state that are under way, and the sums of the room are those of its log.
+pub record HasTxns (txns : Transactions) (s : State) : Type 0 where
+  pub active : s.sessions.active ≡ undos_in txns
+  pub next : s.sessions.next_txn ≡ next_in txns
+  pub stream : s.stream_bytes ≡ (room_in txns).stream_bytes
+  pub kept : cost_of_log s.log ≡ (room_in txns).kept
+  pub each : AllByRecursion (IsLogged s.log) (table.txns_in txns)
+  -- no record is of a transaction to come
+  pub above : AllByRecursion (λ r. r.txn < next_in txns) s.log
+
+-- ---- calls that wait
+
+-- As long as no device has failed, a commit waits for each transaction that is committed and not answered. Who waits for a lock is under way.
+pub record HasWaits (calls : List WaitingCall) (s : State) : Type 0 where
+  pub waiting : s.waiting ≡ as_waitings calls
+  pub committing : s.failed ≡ false → names_of s.sessions.committing ≡ committers_of calls
+  pub asking : (w : WaitingCall) → IsAmong w calls → is_commit w ≡ false → IsAmong (caller_of w) (names_of s.sessions.active)
+
+-- ---- both, and the locks
+
+pub record HasControl (control : Control) (s : State) : Type 0 where
+  pub txns : HasTxns (txns_in control) s
+  pub waits : HasWaits (waits_in control) s
+  pub locks : s.locks ≡ locks_in control
+
+-- ---- steps
+
+-- a transaction has put another image at an id, which is logged
+abbrev pub changed : State → SessionTxn → Rid → Image → SlotCounts → State
+changed s a id image counts = record s {
+  sessions = record s.sessions {
+    records = put_image s.sessions.records id image;
+    active = with_undo a.txn (with_before_image s.sessions.records a.undo id) s.sessions.active;
+  };
+  counts = counts;
+  log = and_record a.txn s.log (Change id (get s.sessions.records id) image);
+}
+
+-- A transaction has put its newest image back in this rollback, which is logged: these images are left.
+abbrev pub put_back : State → SessionTxn → List (Rid × Image) → Rid × Image → Rollback → State
+put_back s a kept e rollback = record s {
+  sessions = image_put_back s.sessions a kept e rollback;
+  log = and_record a.txn s.log (Compensation e.0 e.1 (next_to_undo a.txn s.log));
+}
+
+-- The abort of a transaction has ended, whose images are all put back. Its End goes last if it is logged, and then its locks go.
+abbrev pub abort_ended : State → SessionTxn → Bool → State
+abort_ended s a logged = with_requests (record s {
+  sessions = abort_answered s.sessions a;
+  log = if logged then and_record a.txn s.log End else s.log;
+}) (released a.txn s.locks.requests)

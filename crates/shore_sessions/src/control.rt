@@ -1,0 +1,141 @@
+//! Active transactions.
+ghost use Rattle.std.specs.Prelude.{◌≡◌, ◌≢◌, ◌+◌, ◌≤◌, ◌↔◌, [], ℕ, IfNone, IfOk, IfSome, IsFalse, IsTrue, false, length, true};
+ghost use Rattle.std.specs.List.Sorted.{IsPermutation, IsSorted};
+ghost use Rattle.shore_types.specs.declared.layout.TheConstants.{GREATEST_CHECKPOINT, LONGEST_FRAME};
+ghost use Rattle.laws_lives.specs.Sessions.{SessionTxn};
+ghost use Rattle.laws_lives.specs.Views.{IsAmong};
+ghost use Rattle.shore_locks.specs.Listing.{request_cmp};
+ghost use Rattle.shore_locks.specs.Tables.{is_waiting};
+ghost use Rattle.laws_calls.specs.CallSteps.{txn_count};
+ghost use Rattle.laws_calls.specs.States.{DoesNotWait, HasNoTxn, IsInTxn, IsOfSession, State};
+ghost use Rattle.shore_txn.specs.Transactions.{HasNoTxnOf, HasTxnOf, next_in, room_in, undos_in};
+ghost use Rattle.shore_txn.specs.Transactions as table;
+ghost use Rattle.shore_txn.specs.Txns.{as_session_txn};
+ghost use Rattle.shore_sessions.specs.Calls.{as_waiting, commits_of, is_commit};
+
+use crate::waits::{WaitingCall, Waits};
+use shore_locks::LockTable;
+use shore_model::Request;
+use shore_txn::{Transactions, Txn};
+use shore_types::{SessionId, TxnId};
+use std::alloc::{AllocError, Global};
+
+/// The transactions of sessions, their locks, and their calls that wait.
+#[derive(Drop)]
+pub struct Control {
+    /// The transactions under way, and the room of the log.
+    pub(crate) txns: Transactions,
+    /// The requests of locks, of those under way and of those whose commits wait.
+    pub(crate) locks: LockTable,
+    /// The calls that wait: for a lock, or for the force of a commit.
+    pub(crate) waits: Waits,
+}
+
+impl Control {
+    ghost use Rattle.shore_sessions.specs.Controls.{HasNoWait, locks_in, txns_in, waits_in};
+    ghost use Rattle.shore_sessions.specs.Standing.{HasControl, HasTxns};
+
+    /// A control with no call that waits. It stands for each state with these locks whose sessions are in no transaction.
+    pub fn new(alloc: Global, txns: Transactions, locks: LockTable) -> Control
+        ensures txns { txns_in result ≡ txns }
+        ensures locks { locks_in result ≡ locks }
+        ensures waits { waits_in result ≡ [] }
+        ensures stands { (s : State) → HasTxns txns s → s.sessions.committing ≡ [] → s.waiting ≡ [] → s.locks ≡ locks → HasControl result s }
+    {
+        Control {
+            txns,
+            locks,
+            waits: Waits::new(alloc),
+        }
+    }
+
+    // ---- transactions
+
+    /// The transactions under way.
+    pub fn txns(&self) -> &Transactions
+        ensures { result.now ≡ txns_in self.now }
+    {
+        &self.txns
+    }
+
+    /// The transaction under way of a session.
+    pub fn txn(&self, session: SessionId) -> Option<&Txn>
+        ensures some { IfSome result (λ t. IsAmong t.now (table.txns_in (txns_in self.now)) × (t.now.session ≡ session)) }
+        ensures there { IfSome result (λ t. IsAmong (as_session_txn t.now) (undos_in (txns_in self.now))) }
+        ensures none { IfNone result (HasNoTxnOf session (txns_in self.now)) }
+        ensures of_session { IfSome result (λ t. (s : State) → HasControl self.now s → IsOfSession s session (as_session_txn t.now)) }
+        ensures of_none { IfNone result ((s : State) → HasControl self.now s → (a : SessionTxn) → IsOfSession s session a → ⊥) }
+    {
+        self.txns.txn(session)
+    }
+
+    /// Whether a session is in a transaction under way. If not, and no call of it waits, it is in none.
+    pub fn has_txn(&self, session: SessionId) -> bool
+        ensures some { IsTrue result → HasTxnOf session (txns_in self.now) }
+        ensures none { IsFalse result → HasNoTxnOf session (txns_in self.now) }
+        ensures in_txn { IsTrue result → (s : State) → HasControl self.now s → IsInTxn s session }
+        ensures in_none { IsFalse result → (s : State) → HasControl self.now s → s.failed ≡ false → DoesNotWait s session → HasNoTxn s session }
+    {
+        self.txns.txn(session).is_some()
+    }
+
+    /// How many transactions there are, with those whose commits wait.
+    pub fn count(&self) -> usize
+        ensures number { result ≡ length (undos_in (txns_in self.now)) + length (commits_of (waits_in self.now)) }
+        ensures count { (s : State) → HasControl self.now s → s.failed ≡ false → result ≡ txn_count s }
+    {
+        self.txns.count() + self.waits.commits()
+    }
+
+    /// The number of the next transaction.
+    pub fn next(&self) -> u64
+        ensures { result ≡ next_in (txns_in self.now) }
+    {
+        self.txns.next()
+    }
+
+    /// Whether so much more, in records and in what is reserved, leaves room for the longest frame and the greatest checkpoint.
+    pub fn admits(&self, need: u64) -> bool
+        ensures { IsTrue result ↔ ((room_in (txns_in self.now)).kept + (room_in (txns_in self.now)).reserved + need + LONGEST_FRAME + GREATEST_CHECKPOINT ≤ (room_in (txns_in self.now)).stream_bytes) }
+    {
+        self.txns.admits(need)
+    }
+
+    // ---- calls that wait
+
+    /// The call of a session that waits.
+    pub fn waiting(&self, session: SessionId) -> Option<&WaitingCall>
+        ensures some { IfSome result (λ w. IsAmong w.now (waits_in self.now) × (w.now.session ≡ session)) }
+        ensures none { IfNone result (HasNoWait session self.now) }
+        ensures waits { IfSome result (λ w. (s : State) → HasControl self.now s → IsAmong (as_waiting w.now) s.waiting) }
+        ensures does_not { IfNone result ((s : State) → HasControl self.now s → DoesNotWait s session) }
+        ensures asks { IfSome result (λ w. is_commit w.now ≡ false → (s : State) → HasControl self.now s → (a : SessionTxn) × IsOfSession s session a × (a.txn ≡ w.now.txn)) }
+        ensures commits { IfSome result (λ w. is_commit w.now ≡ true → (s : State) → HasControl self.now s → s.failed ≡ false → (a : SessionTxn) × IsAmong a s.sessions.committing × (a.session ≡ session) × (a.txn ≡ w.now.txn)) }
+    {
+        self.waits.of(session)
+    }
+
+    // ---- locks
+
+    /// The lock table.
+    pub fn locks(&self) -> &LockTable
+        ensures { result.now ≡ locks_in self.now }
+    {
+        &self.locks
+    }
+
+    /// Whether a transaction waits in the lock table.
+    pub fn is_waiting(&self, txn: TxnId) -> bool
+        ensures { result ≡ is_waiting txn (locks_in self.now).requests }
+    {
+        self.locks.is_waiting(txn)
+    }
+
+    /// All requests, by granule and then by transaction.
+    pub fn requests(&self, alloc: Global) -> Result<Vec<Request>, AllocError>
+        ensures all { IfOk result (λ all. IsPermutation (locks_in self.now).requests all.items) }
+        ensures order { IfOk result (λ all. IsSorted request_cmp all.items) }
+    {
+        self.locks.requests(alloc)
+    }
+}

@@ -1,0 +1,14 @@
+//! The transactions of many sessions, their locks, and their calls that wait.
+#![tactic(auto)]
+
+mod changing;
+mod control;
+mod deadlocks;
+mod ending;
+pub mod laws;
+mod rollbacks;
+mod waiting;
+mod waits;
+
+pub use control::Control;
+pub use waits::WaitingCall;

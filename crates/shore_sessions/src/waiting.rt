@@ -1,0 +1,118 @@
+//! Locks that are asked for, and calls that wait.
+ghost use Rattle.std.specs.Prelude.{◌≡◌, ◌≢◌, ◌==◌, ◌∷◌, ◌++◌, [], ℕ, IfErr, IfNone, IfSome, IsSome, IsTrue, None, Ok, OnOk, false, filter, not};
+ghost use Rattle.shore_types.specs.declared.locking.Granule.{Granule};
+ghost use Rattle.shore_types.specs.declared.locking.Mode.{Mode};
+ghost use Rattle.shore_model.specs.declared.calls.Call.{Call};
+ghost use Rattle.laws_lives.specs.Sessions.{SessionTxn};
+ghost use Rattle.laws_lives.specs.Views.{IsAmong};
+ghost use Rattle.shore_locks.specs.Tables.{is_waiting};
+ghost use Rattle.shore_path.specs.Acquires.{IsReached, MayRefuse};
+ghost use Rattle.shore_path.specs.Intending.{IntendsToWrite};
+ghost use Rattle.shore_path.specs.Walks.{acquired};
+ghost use Rattle.shore_path.specs.declared.answers.Acquired.TheVariants as Acquired;
+ghost use Rattle.shore_path.specs.declared.answers.OnConflict.TheVariants.{Refuse};
+ghost use Rattle.laws_calls.specs.StateChanges.{wait_refused};
+ghost use Rattle.laws_calls.specs.CallSteps.{lock_waiting, with_requests};
+ghost use Rattle.laws_calls.specs.States.{DoesNotWait, IsOfSession, State};
+ghost use Rattle.shore_sessions.specs.Calls.{is_commit};
+ghost use Rattle.shore_sessions.specs.declared.waits.WaitingCall.{WaitingCall};
+
+use crate::control::Control;
+use crate::waits::WaitingCall;
+use shore_model::{Call, Wait};
+use shore_path::{Acquired, OnConflict};
+use shore_types::{Fault, Granule, Mode, Rid, SessionId, TxnId};
+use std::alloc::AllocError;
+
+impl Control {
+    ghost use Rattle.shore_sessions.specs.Controls.{HasWaitRoom, HasNoWait, locks_in, txns_in, waits_in};
+    ghost use Rattle.shore_sessions.specs.Standing.{HasControl};
+
+    /// Takes a granule in a mode for a transaction that does not wait, after the intentions above it. What it has taken stays, whatever the answer.
+    pub fn acquire(
+        &mut self,
+        txn: TxnId,
+        granule: Granule,
+        mode: Mode,
+        on_conflict: OnConflict,
+    ) -> Result<Acquired, Fault>
+        requires { is_waiting txn (locks_in self.old).requests ≡ false }
+        ensures answer { result ≡ (acquired on_conflict (locks_in self.old) txn granule mode).answer }
+        ensures locks { locks_in self.new ≡ record { limit = (locks_in self.old).limit; requests = (acquired on_conflict (locks_in self.old) txn granule mode).requests } }
+        ensures txns { txns_in self.new ≡ txns_in self.old }
+        ensures waits { waits_in self.new ≡ waits_in self.old }
+        ensures memory { HasWaitRoom self.old → HasWaitRoom self.new }
+        ensures reached { result ≡ Ok Acquired.Done → IsReached (locks_in self.new).requests txn granule mode }
+        ensures quiet { ((at : Granule) → result ≢ Ok (Acquired.Waiting at)) → is_waiting txn (locks_in self.new).requests ≡ false }
+        ensures refused { IfErr result (MayRefuse on_conflict (locks_in self.new) txn granule mode) }
+        ensures stands { (s : State) → HasControl self.old s → HasControl self.new (with_requests s (acquired on_conflict s.locks txn granule mode).requests) }
+    {
+        shore_path::acquire(&mut self.locks, txn, granule, mode, on_conflict)
+    }
+
+    /// As `acquire`, for a record in EX, if the transaction may not wait. If it is known to intend to write records of the store, only the page and the record
+    /// are asked for.
+    pub fn acquire_record(&mut self, txn: TxnId, id: &Rid, intends: bool) -> Result<Acquired, Fault>
+        requires quiet { is_waiting txn (locks_in self.old).requests ≡ false }
+        requires intends { IsTrue intends → IntendsToWrite (locks_in self.old).requests txn id.now.page.store }
+        ensures answer { result ≡ (acquired Refuse (locks_in self.old) txn (Granule.Record id.now) Mode.EX).answer }
+        ensures locks { locks_in self.new ≡ record { limit = (locks_in self.old).limit; requests = (acquired Refuse (locks_in self.old) txn (Granule.Record id.now) Mode.EX).requests } }
+        ensures txns { txns_in self.new ≡ txns_in self.old }
+        ensures waits { waits_in self.new ≡ waits_in self.old }
+        ensures memory { HasWaitRoom self.old → HasWaitRoom self.new }
+        ensures reached { result ≡ Ok Acquired.Done → IsReached (locks_in self.new).requests txn (Granule.Record id.now) Mode.EX }
+        ensures quiet { ((at : Granule) → result ≢ Ok (Acquired.Waiting at)) → is_waiting txn (locks_in self.new).requests ≡ false }
+        ensures refused { IfErr result (MayRefuse Refuse (locks_in self.new) txn (Granule.Record id.now) Mode.EX) }
+        ensures stands { (s : State) → HasControl self.old s → HasControl self.new (with_requests s (acquired Refuse s.locks txn (Granule.Record id.now) Mode.EX).requests) }
+    {
+        if intends {
+            return shore_path::acquire_in_store(&mut self.locks, txn, id);
+        }
+        self.acquire(txn, Granule::Record(*id), Mode::EX, OnConflict::Refuse)
+    }
+
+    /// Takes the memory for a call more that waits. If that fails nothing has changed.
+    pub fn reserve_wait(&mut self) -> Result<(), AllocError>
+        ensures memory { OnOk result (HasWaitRoom self.new) }
+        ensures txns { txns_in self.new ≡ txns_in self.old }
+        ensures locks { locks_in self.new ≡ locks_in self.old }
+        ensures waits { waits_in self.new ≡ waits_in self.old }
+        ensures stands { (s : State) → HasControl self.old s → HasControl self.new s }
+    {
+        self.waits.reserve()
+    }
+
+    /// The call of a session's transaction waits for a lock of this granule.
+    pub fn wait(&mut self, session: SessionId, txn: TxnId, call: Call, granule: Granule)
+        requires memory { HasWaitRoom self.old }
+        requires free { HasNoWait session self.old }
+        ensures txns { txns_in self.new ≡ txns_in self.old }
+        ensures locks { locks_in self.new ≡ locks_in self.old }
+        ensures waits { waits_in self.new ≡ waits_in self.old ++ record { session = session; txn = txn; call = call; wait = Wait.Lock granule; cycle = None } ∷ [] }
+        ensures stands { (s : State) (a : SessionTxn) → HasControl self.old s → IsOfSession s session a → a.txn ≡ txn
+            → HasControl self.new (record s { waiting = lock_waiting a call granule ∷ s.waiting }) }
+    {
+        self.waits.push(WaitingCall {
+            session,
+            txn,
+            call,
+            wait: Wait::Lock(granule),
+            cycle: None,
+        });
+    }
+
+    /// The call of a session waits no more, and is handed over. A commit is taken so once a device has failed.
+    pub fn take_wait(&mut self, session: SessionId) -> Option<WaitingCall>
+        ensures some { IfSome result (λ w. IsAmong w (waits_in self.old) × (w.session ≡ session)) }
+        ensures none { IfNone result (HasNoWait session self.old × (waits_in self.new ≡ waits_in self.old)) }
+        ensures left { waits_in self.new ≡ filter (λ (w : WaitingCall). not (w.session == session)) (waits_in self.old) }
+        ensures free { HasNoWait session self.new }
+        ensures memory { IsSome result → HasWaitRoom self.new }
+        ensures txns { txns_in self.new ≡ txns_in self.old }
+        ensures locks { locks_in self.new ≡ locks_in self.old }
+        ensures stands { IfSome result (λ w. (s : State) → HasControl self.old s → (s.failed ≡ false → is_commit w ≡ false) → HasControl self.new (wait_refused s session)) }
+        ensures same { IfNone result ((s : State) → HasControl self.old s → DoesNotWait s session × HasControl self.new s) }
+    {
+        self.waits.take(session)
+    }
+}

@@ -1,0 +1,139 @@
+//! The calls that wait.
+ghost use Rattle.std.specs.Prelude.{◌≡◌, ◌≢◌, ◌<◌, ◌≤◌, ◌^◌, ◌++◌, ◌∷◌, [], ℕ, All, AllPairs, IfNone, IfSome, IsSome, OnOk, false, filter, length, not, slice_index_or, true, ◌==◌};
+ghost use Rattle.laws_lives.specs.Views.{IsAmong};
+ghost use Rattle.shore_sessions.specs.Calls.{commits_of, cycle_noted, is_commit};
+ghost use Rattle.shore_sessions.specs.declared.waits.WaitingCall.{WaitingCall};
+
+use shore_model::{Call, Wait};
+use shore_types::{Sequence, SessionId, TxnId};
+use std::alloc::{AllocError, Global};
+
+/// A call of a session's transaction that waits, and what for.
+#[derive(Drop)]
+pub struct WaitingCall {
+    /// The session that asked.
+    pub session: SessionId,
+    /// The number of its transaction.
+    pub txn: TxnId,
+    /// What it asked: a resume asks it again.
+    pub call: Call,
+    /// The lock, or the force, that it waits for.
+    pub wait: Wait,
+    /// The cycle of waits that its transaction is the victim of, if it is one: then it waits to be told so.
+    pub cycle: Option<Sequence<TxnId>>,
+}
+
+/// The calls that wait. A session waits with one.
+#[derive(Drop)]
+pub(crate) struct Waits {
+    /// The calls that wait, the oldest first: no two of a session (`once`).
+    calls: Vec<WaitingCall>,
+    ghost once: { AllPairs (λ (v w : WaitingCall). v.session ≢ w.session) calls.items },
+}
+
+impl Waits {
+    ghost use Rattle.shore_sessions.specs.Waits.{HasCallRoom, HasNoCall, calls_in};
+
+    pub(crate) fn new(alloc: Global) -> Waits
+        ensures { calls_in result ≡ [] }
+    {
+        Waits {
+            calls: Vec::new(alloc),
+        }
+    }
+
+    /// The call of a session that waits.
+    pub(crate) fn of(&self, session: SessionId) -> Option<&WaitingCall>
+        ensures some { IfSome result (λ w. IsAmong w.now (calls_in self.now) × (w.now.session ≡ session)) }
+        ensures none { IfNone result (HasNoCall session self.now) }
+    {
+        let index = self.index_of(session)?;
+        Some(&self.calls[index])
+    }
+
+    fn index_of(&self, session: SessionId) -> Option<usize>
+        ensures some { IfSome result (λ i. (i < length (calls_in self.now)) × ((d : WaitingCall) → (slice_index_or (calls_in self.now) i d).session ≡ session)) }
+        ensures none { IfNone result (HasNoCall session self.now) }
+    {
+        for (index, call) in self.calls.iter().enumerate() {
+            if call.session == session {
+                return Some(index);
+            }
+        }
+        None
+    }
+
+    /// How many of them are commits.
+    pub(crate) fn commits(&self) -> usize
+        ensures count { result ≡ length (commits_of (calls_in self.now)) }
+        ensures few { result ≤ length (calls_in self.now) }
+        ensures small { length (calls_in self.now) < 2 ^ 63 }
+    {
+        let mut count = 0;
+        for call in &self.calls {
+            if matches!(call.wait, Wait::Durable(_)) {
+                count += 1;
+            }
+        }
+        count
+    }
+
+    // The call with which a transaction waits for a lock: it has one at most.
+    fn index_of_asker(&self, txn: TxnId) -> Option<usize>
+        ensures some { IfSome result (λ i. (i < length (calls_in self.now)) × ((d : WaitingCall) → (slice_index_or (calls_in self.now) i d).txn ≡ txn)
+            × ((d : WaitingCall) → is_commit (slice_index_or (calls_in self.now) i d) ≡ false)) }
+        ensures none { IfNone result (All (λ w. w.txn ≡ txn → is_commit w ≡ true) (calls_in self.now)) }
+    {
+        for (index, call) in self.calls.iter().enumerate() {
+            if call.txn == txn && matches!(call.wait, Wait::Lock(_)) {
+                return Some(index);
+            }
+        }
+        None
+    }
+
+    /// The call with which a transaction waits for a lock is to be told this cycle. The answer is its session; None if no call of it waits for a lock.
+    pub(crate) fn note_cycle(&mut self, txn: TxnId, cycle: Sequence<TxnId>) -> Option<SessionId>
+        ensures noted { IfSome result (λ session. calls_in self.new ≡ cycle_noted session cycle (calls_in self.old)) }
+        ensures some { IfSome result (λ session. (w : WaitingCall) × IsAmong w (calls_in self.old) × (w.session ≡ session) × (w.txn ≡ txn) × (is_commit w ≡ false)) }
+        ensures none { IfNone result (All (λ w. w.txn ≡ txn → is_commit w ≡ true) (calls_in self.old)) }
+        ensures same { IfNone result (calls_in self.new ≡ calls_in self.old) }
+        ensures free { (session : ℕ) → HasNoCall session self.old → HasNoCall session self.new }
+        ensures room { HasCallRoom self.old → HasCallRoom self.new }
+    {
+        let index = self.index_of_asker(txn)?;
+        let session = self.calls[index].session;
+        self.calls[index].cycle = Some(cycle);
+        Some(session)
+    }
+
+    /// Takes the memory for a call more. If that fails nothing has changed.
+    pub(crate) fn reserve(&mut self) -> Result<(), AllocError>
+        ensures room { OnOk result (HasCallRoom self.new) }
+        ensures same { calls_in self.new ≡ calls_in self.old }
+    {
+        self.calls.reserve(1)?;
+        Ok(())
+    }
+
+    /// A call waits from now on.
+    pub(crate) fn push(&mut self, call: WaitingCall)
+        requires room { HasCallRoom self.old }
+        requires free { HasNoCall call.session self.old }
+        ensures { calls_in self.new ≡ calls_in self.old ++ call ∷ [] }
+    {
+        self.calls.push_reserved(call);
+    }
+
+    /// The call of a session waits no more, and is handed over.
+    pub(crate) fn take(&mut self, session: SessionId) -> Option<WaitingCall>
+        ensures some { IfSome result (λ w. IsAmong w (calls_in self.old) × (w.session ≡ session)) }
+        ensures none { IfNone result (HasNoCall session self.old) }
+        ensures free { HasNoCall session self.new }
+        ensures room { IsSome result → HasCallRoom self.new }
+        ensures left { calls_in self.new ≡ filter (λ (w : WaitingCall). not (w.session == session)) (calls_in self.old) }
+    {
+        let index = self.index_of(session)?;
+        Some(self.calls.remove(index))
+    }
+}

@@ -1,5 +1,0 @@
-use Rattle.shore_stands.proofs.OneStore.{one_store}
-use Rattle.shore_stands.proofs.logged.heaps_have_one_store.Goals as goal
-
-pub returns : goal.returns
-returns g c = one_store

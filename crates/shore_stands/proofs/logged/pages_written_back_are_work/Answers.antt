@@ -1,5 +1,0 @@
-use Rattle.shore_stands.proofs.Flushes.{work_of}
-use Rattle.shore_stands.proofs.logged.pages_written_back_are_work.Goals as goal
-
-pub returns : goal.returns
-returns g c = work_of

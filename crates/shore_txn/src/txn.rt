@@ -1,0 +1,253 @@
+//! A transaction under way.
+ghost use Rattle.std.specs.Prelude.{◌≡◌, ◌+◌, ◌<◌, ◌≤◌, ◌++◌, ◌∷◌, [], List, IfNone, IfOk, IfSome, OnErr, OnOk, Some, length, option_to_list, slice_get};
+ghost use Rattle.shore_types.specs.declared.layout.TheConstants.{ENDING_COST, LAST_TXN, MAX_LOG_BYTES, MAX_RECORD_BYTES, MAX_SAVEPOINTS};
+ghost use Rattle.shore_types.specs.Images.{image_len};
+ghost use Rattle.laws_room.specs.LogRooms.{compensation_cost, compensation_costs};
+ghost use Rattle.laws_lives.specs.UndoLists.{marks_kept};
+ghost use Rattle.shore_txn.specs.UndoEntries.{AreShort, claims_on, images_of, number_behind};
+ghost use Rattle.shore_txn.specs.declared.txn_state.TxnState.TheVariants as state;
+ghost use Rattle.shore_txn.specs.declared.undo.UndoEntry.{UndoEntry};
+
+use crate::txn_state::TxnState;
+use crate::undo::UndoEntry;
+use shore_model::Rollback;
+use shore_types::layout::ENDING_COST;
+use shore_types::{Lsn, PageId, SessionId, TxnId};
+use smallvec::SmallVec;
+use std::alloc::{AllocError, Global};
+
+/// The marks of savepoints: most transactions have few, and take no memory for them.
+type Marks = SmallVec<usize, 4>;
+
+/// A transaction of a session: its last record, and what a rollback has to put back.
+#[derive(Drop)]
+pub struct Txn {
+    /// Its number.
+    txn: TxnId,
+    /// The session that began it.
+    session: SessionId,
+    /// The number of its last record, 0 if it has logged none.
+    last: Lsn,
+    /// Its changes that are not undone, the oldest first.
+    undo: Vec<UndoEntry>,
+    /// For each savepoint that stands, how many changes there were when it was set.
+    marks: Marks,
+    /// What it may do.
+    state: TxnState,
+    /// What is reserved for its ending and for the undo of its changes (`owed`): each change adds to it, and each undo takes from it.
+    reserved: u64,
+    ghost some: { 1 ≤ txn },
+    ghost below: { txn < LAST_TXN },
+    ghost owed: { reserved ≡ ENDING_COST + compensation_costs (images_of undo.items) },
+    ghost short: { AreShort undo.items },
+    ghost few: { length marks.items ≤ MAX_SAVEPOINTS },
+}
+
+impl Txn {
+    ghost use Rattle.shore_txn.specs.Txns.{HasEntryRoom, IsAfterChange, IsAfterSavepoint, IsAfterUndo, IsBackAt, IsDoomed, SameTxn, entries_of, last_of, marks_of, number_of, state_of};
+
+    /// A transaction that has logged nothing.
+    pub fn new(alloc: Global, txn: TxnId, session: SessionId) -> Txn
+        requires some { 1 ≤ txn }
+        requires below { txn < LAST_TXN }
+        ensures txn { number_of result ≡ txn }
+        ensures session { result.session ≡ session }
+        ensures last { last_of result ≡ 0 }
+        ensures nothing { entries_of result ≡ [] }
+        ensures marks { marks_of result ≡ [] }
+        ensures state { state_of result ≡ state.Active }
+        ensures reserved { result.reserved ≡ ENDING_COST }
+    {
+        Txn {
+            txn,
+            session,
+            last: Lsn(0),
+            undo: Vec::new(alloc),
+            marks: SmallVec::new(alloc),
+            state: TxnState::Active,
+            reserved: ENDING_COST,
+        }
+    }
+
+    /// Its number.
+    pub fn id(&self) -> TxnId
+        ensures number { result ≡ number_of self.now }
+        ensures some { 1 ≤ result }
+        ensures below { result < LAST_TXN }
+    {
+        self.txn
+    }
+
+    pub fn session(&self) -> SessionId
+        ensures { result ≡ self.now.session }
+    {
+        self.session
+    }
+
+    /// The number of its last record, 0 if it has logged none.
+    pub fn last(&self) -> Lsn
+        ensures { result ≡ last_of self.now }
+    {
+        self.last
+    }
+
+    /// What is reserved for its ending and its undo, in bytes of the log.
+    pub fn reserved(&self) -> u64
+        ensures is { result ≡ self.now.reserved }
+        ensures sum { result ≡ ENDING_COST + compensation_costs (images_of (entries_of self.now)) }
+    {
+        self.reserved
+    }
+
+    /// Its changes, the oldest first.
+    pub fn undo(&self) -> &[UndoEntry]
+        ensures entries { result.now ≡ entries_of self.now }
+    {
+        &self.undo
+    }
+
+    /// What its change of an index may put back on a page: the slot, and the length of the image before. None if the change is of another page.
+    pub fn claim(&self, index: usize, page: &PageId) -> Option<(u16, u16)>
+        requires { index < length (entries_of self.now) }
+        ensures { (e : UndoEntry) → slice_get (entries_of self.now) index ≡ Some e → option_to_list result ≡ claims_on page.now (e ∷ []) }
+    {
+        let entry = &self.undo[index];
+        if entry.id.page != *page {
+            return None;
+        }
+        Some((entry.id.slot, entry.image_len() as u16))
+    }
+
+    /// What it may do.
+    pub fn state(&self) -> TxnState
+        ensures { result ≡ state_of self.now }
+    {
+        self.state
+    }
+
+    /// How many savepoints stand.
+    pub fn savepoints(&self) -> usize
+        ensures { result ≡ length (marks_of self.now) }
+    {
+        self.marks.len()
+    }
+
+    /// How many changes there were when the savepoint of an index was set. None if it does not stand.
+    pub fn mark(&self, index: usize) -> Option<usize>
+        ensures { result ≡ slice_get (marks_of self.now) index }
+    {
+        self.marks.as_slice().get(index).copied()
+    }
+
+    /// The change that is undone next: the newest.
+    pub fn newest(&self) -> Option<&UndoEntry>
+        ensures some { IfSome result (λ e. (kept : List UndoEntry) × (entries_of self.now ≡ kept ++ e.now ∷ [])) }
+        ensures none { IfNone result (entries_of self.now ≡ []) }
+    {
+        self.undo.last()
+    }
+
+    /// The number of the change that is undone behind the newest, 0 if there is none. A Compensation of the newest names it.
+    pub fn undo_next(&self) -> Lsn
+        ensures { result ≡ number_behind (entries_of self.now) }
+    {
+        let count = self.undo.len();
+        if count < 2 {
+            return Lsn(0);
+        }
+        self.undo[count - 2].lsn
+    }
+
+    /// Takes the memory for an entry more. If that fails nothing has changed.
+    pub fn reserve_entry(&mut self) -> Result<(), AllocError>
+        ensures room { OnOk result (HasEntryRoom self.new) }
+        ensures same { SameTxn self.old self.new }
+        ensures reserved { self.new.reserved ≡ self.old.reserved }
+    {
+        self.undo.reserve(1)?;
+        Ok(())
+    }
+
+    /// A change of it was logged, and its undo costs so much.
+    pub fn note_change(&mut self, entry: UndoEntry, cost: u64)
+        requires room { HasEntryRoom self.old }
+        requires short { image_len entry.before ≤ MAX_RECORD_BYTES }
+        requires cost { cost ≡ compensation_cost entry.before }
+        requires sum { self.old.reserved + cost ≤ MAX_LOG_BYTES }
+        ensures noted { IsAfterChange self.old entry self.new }
+        ensures reserved { self.new.reserved ≡ self.old.reserved + cost }
+    {
+        self.last = entry.lsn;
+        self.undo.push_reserved(entry);
+        self.reserved += cost;
+    }
+
+    /// A savepoint more. Answers its index. If memory is short nothing has changed.
+    pub fn savepoint(&mut self) -> Result<usize, AllocError>
+        requires few { length (marks_of self.old) < MAX_SAVEPOINTS }
+        ensures index { IfOk result (λ index. index ≡ length (marks_of self.old)) }
+        ensures set { OnOk result (IsAfterSavepoint self.old self.new) }
+        ensures same { OnErr result (SameTxn self.old self.new) }
+        ensures reserved { self.new.reserved ≡ self.old.reserved }
+    {
+        self.marks.reserve(1)?;
+        let index = self.marks.len();
+        self.marks.push_reserved(self.undo.len());
+        Ok(index)
+    }
+
+    /// Its newest change was put back in this rollback, and the Compensation, which costs so much, was logged under this number. Hands the change
+    /// over. It takes no memory.
+    pub fn note_compensation(&mut self, lsn: Lsn, rollback: Rollback, cost: u64) -> UndoEntry
+        requires some { 0 < length (entries_of self.old) }
+        requires cost { (kept : List UndoEntry) (e : UndoEntry) → entries_of self.old ≡ kept ++ e ∷ [] → cost ≡ compensation_cost e.before }
+        ensures undone { IsAfterUndo lsn rollback result self.old self.new }
+        ensures reserved { self.new.reserved + cost ≡ self.old.reserved }
+    {
+        let undone = self.undo.take_last();
+        keep_marks(&mut self.marks, rollback);
+        self.state = TxnState::RollingBack(rollback);
+        self.reserved -= cost;
+        self.last = lsn;
+        undone
+    }
+
+    /// It is back at the savepoint of this index: those behind it are gone.
+    pub fn go_back(&mut self, index: usize)
+        ensures back { IsBackAt index self.old self.new }
+        ensures reserved { self.new.reserved ≡ self.old.reserved }
+    {
+        keep_marks(&mut self.marks, Rollback::To(index));
+        self.state = TxnState::Active;
+    }
+
+    /// From now on it can only be rolled back, whole: its savepoints are gone. Nothing of it is put back yet.
+    pub fn doom(&mut self)
+        ensures { IsDoomed self.old self.new }
+    {
+        keep_marks(&mut self.marks, Rollback::Whole);
+        self.state = TxnState::RollingBack(Rollback::Whole);
+    }
+
+    /// Its changes, the oldest first, once it is decided.
+    pub fn into_undo(self) -> Vec<UndoEntry>
+        ensures { result.items ≡ entries_of self }
+    {
+        self.undo
+    }
+}
+
+// The marks of the savepoints that a rollback keeps stay.
+fn keep_marks(marks: &mut Marks, rollback: Rollback)
+    ensures kept { marks.new.items ≡ marks_kept rollback marks.old.items }
+    ensures fewer { length marks.new.items ≤ length marks.old.items }
+{
+    match rollback {
+        Rollback::Whole => marks.clear(),
+        Rollback::To(index) => {
+            if index < marks.len() {
+                marks.truncate(index + 1);
+            }
+        }
+    }
+}

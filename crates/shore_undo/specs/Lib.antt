@@ -1,2 +1,0 @@
-pub mod UndoEntries
-pub mod Txns
