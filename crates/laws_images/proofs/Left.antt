@@ -13,8 +13,8 @@ use Rattle.laws_lives.specs.Pages.{LoggedPages, empty_page}
 use Rattle.laws_lives.specs.Recovery.{RecoveryState}
 use Rattle.laws_runs.proofs.SoundStores.{format_may_be_opened, left_may_be_opened}
 use Rattle.laws_runs.specs.SoundStores.{IsLost, IsSoundStore}
-use Rattle.laws_images.proofs.LoggedLeft.{empty_texts, left_cut}
-use Rattle.laws_images.specs.LoggedHeaps.{LeavesStore}
+use Rattle.laws_heaps.proofs.LoggedLeft.{empty_texts, left_cut}
+use Rattle.laws_heaps.specs.LoggedHeaps.{LeavesStore}
 use Rattle.shore_format.proofs.FrontLemmas.{front_stays}
 use Rattle.shore_format.specs.Pairs.{AreFormatted}
 use Rattle.shore_fronts.specs.Volumes.{volume_label}

@@ -1,13 +1,2 @@
-pub mod AllPages
-pub mod Counts
-pub mod Done
-pub mod Flushes
 pub mod Left
-pub mod LoggedLeft
-pub mod Made
-pub mod OneStore
 pub mod Paths
-pub mod SettledSlots
-pub mod SlotImages
-pub mod StaySettled
-pub mod Stores

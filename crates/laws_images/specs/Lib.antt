@@ -1,3 +1,2 @@
-pub mod LoggedHeaps
 pub mod Moments
 pub mod StandsFor

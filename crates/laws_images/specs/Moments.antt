@@ -1,12 +1,13 @@
 -- A restart as it goes: what a crash may leave of its two devices, from each moment to the next.
 use Rattle.std.specs.Prelude.{◌≡◌, ◌≤◌, ◌⊎◌, ℕ, List, [], ◌∷◌, length, take}
 use Rattle.shore_types.specs.declared.layout.Geometry.{Geometry}
+use Rattle.shore_model.specs.declared.log_records.LogRecord.{LogRecord}
 use Rattle.shore_disk.specs.Device.{History, LeavesOnly, left_since, may_leave, moment}
 use Rattle.shore_frames.specs.Frames.{GivesBehind}
 use Rattle.laws_lives.specs.Pages.{LoggedPages}
 use Rattle.laws_lives.specs.Recovery.{CrashMayLeave, RecoveryEvent, RecoveryState}
 use Rattle.laws_lives.specs.Restarts.{RestartsTo}
-use Rattle.laws_images.specs.LoggedHeaps.{LeavesStore}
+use Rattle.laws_heaps.specs.LoggedHeaps.{LeavesStore}
 
 -- the calls of both devices so far, and the store over plain data that they stand for
 pub record Moment : Type 0 where
@@ -14,9 +15,13 @@ pub record Moment : Type 0 where
   pub volume : History
   pub store : RecoveryState
 
--- an image of the log device: behind this front the frames give a prefix of the store's log, with all that is durable
+-- an image of the log device: behind this front the frames give a prefix of the list, of this many records at least
+abbrev pub GivesPrefixOf : List ℕ → ℕ → List LogRecord → List ℕ → Type 0
+GivesPrefixOf log_front least rs image = (n : ℕ) × (least ≤ n) × (n ≤ length rs) × GivesBehind log_front (take n rs) image
+
+-- .. of the store's log, with all that is durable
 abbrev pub GivesPrefix : List ℕ → RecoveryState → List ℕ → Type 0
-GivesPrefix log_front s image = (n : ℕ) × (s.durable ≤ n) × (n ≤ length s.log) × GivesBehind log_front (take n s.log) image
+GivesPrefix log_front s = GivesPrefixOf log_front s.durable s.log
 
 -- an image of the volume: behind this front it shows pages that a crash may leave of the store
 abbrev pub ShowsLeft : Geometry → List ℕ → RecoveryState → List ℕ → Type 0

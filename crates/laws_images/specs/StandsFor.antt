@@ -9,7 +9,7 @@ use Rattle.shore_model.specs.declared.log_records.LogRecord.{LogRecord}
 use Rattle.shore_dwrite.specs.declared.places.TheConstants.{GATE_AT}
 use Rattle.laws_lives.specs.Pages.{LoggedPages}
 use Rattle.laws_runs.specs.SoundStores.{MayBeOpened, found_state}
-use Rattle.laws_images.specs.LoggedHeaps.{LeavesStore}
+use Rattle.laws_heaps.specs.LoggedHeaps.{LeavesStore}
 use Rattle.shore_format.specs.Fronts.{LogStandsFor}
 use Rattle.shore_fronts.specs.Volumes.{volume_label}
 use Rattle.laws_images.specs.Moments.{Moment}

@@ -12,7 +12,7 @@ use Rattle.laws_calls.proofs.Prefixes.{prefix_left, prefix_on, whole_prefix}
 use Rattle.laws_calls.specs.CallHistories.{IsPrefix}
 use Rattle.laws_lives.specs.Stretches.{MayBeFound}
 use Rattle.laws_runs.proofs.Runs.{come, found_next, works_on}
-use Rattle.laws_runs.specs.StoredRuns.{AreFixed, AreStoredRuns, IsStoredRun, Manage, StoredEvent, StoredMoves, StoredRun, StoredState, StoredSteps, Tend, left_by_crash, lists_found}
+use Rattle.laws_runs.specs.StoredRuns.{AreFixed, AreStoredRuns, IsStoredRun, Manage, StoredEvent, StoredMoves, StoredRun, StoredState, StoredSteps, Tend, left_by_run, lists_found}
 
 module _ (g : Geometry) where
   step_goes_on : (m new : StoredState) (e : StoredEvent) → StoredSteps g m e new → IsPrefix m.state.log new.state.log
@@ -39,7 +39,7 @@ module _ (g : Geometry) where
         (prefix_on s.log r.first.log r.last.state.log (subst (IsPrefix s.log) h.opens.stored.log restart_goes_on)
         (moves_go_on (record { state = r.first; store = r.ready }) r.events r.last r.made h.moves))
 
-    pub crash_goes_on : IsPrefix s.log (left_by_crash r).log
+    pub crash_goes_on : IsPrefix s.log (left_by_run r).log
     crash_goes_on =
         let durable = (works_on g s f r h).durable in
         let least = h.crash.0 in
@@ -51,14 +51,14 @@ module _ (g : Geometry) where
       → AllByRecursion (IsPrefix rs) (lists_found s runs) × IsPrefix rs last.log
   found_is_prefix rs s [] last f p h = (tt, subst (λ (x : RecoveryState). IsPrefix rs x.log) (sym h) p)
   found_is_prefix rs s (r ∷ runs) last f p h =
-      let rest = found_is_prefix rs (left_by_crash r) runs last (found_next g s f r h.0) (prefix_on rs s.log (left_by_crash r).log p (crash_goes_on s f r h.0)) h.1 in
+      let rest = found_is_prefix rs (left_by_run r) runs last (found_next g s f r h.0) (prefix_on rs s.log (left_by_run r).log p (crash_goes_on s f r h.0)) h.1 in
       ((p, rest.0), rest.1)
 
   pub lists_are_fixed : (s : RecoveryState) (runs : List StoredRun) (last : RecoveryState) → MayBeFound s → AreStoredRuns g s runs last → AreFixed (lists_found s runs) last.log
   lists_are_fixed s [] last f h = tt
   lists_are_fixed s (r ∷ runs) last f h =
-      let later = found_is_prefix s.log (left_by_crash r) runs last (found_next g s f r h.0) (crash_goes_on s f r h.0) h.1 in
-      (later.0, later.1, lists_are_fixed (left_by_crash r) runs last (found_next g s f r h.0) h.1)
+      let later = found_is_prefix s.log (left_by_run r) runs last (found_next g s f r h.0) (crash_goes_on s f r h.0) h.1 in
+      (later.0, later.1, lists_are_fixed (left_by_run r) runs last (found_next g s f r h.0) h.1)
 
 -- so they are of a list that goes on behind the last
 pub fixed_on : (lists : List (List LogRecord)) (last later : List LogRecord) → IsPrefix last later → AreFixed lists last → AreFixed lists later

@@ -23,7 +23,7 @@ use Rattle.laws_lives.specs.Recovery.{AppendRecord, FlushPage, ForceLog, IsRecov
 use Rattle.laws_lives.specs.Undo.{IsUndoneTo, undo_record}
 use Rattle.laws_lives.specs.Restarts.{IsRestartOf, IsRestartStep, RestartsTo}
 use Rattle.laws_runs.proofs.Runs.{events_come, found_next, opened}
-use Rattle.laws_runs.specs.StoredRuns.{AreStoredRuns, IsOpenedOver, IsStoredRun, Manage, StoredEvent, StoredMoves, StoredRun, StoredState, Tend, left_by_crash}
+use Rattle.laws_runs.specs.StoredRuns.{AreStoredRuns, IsOpenedOver, IsStoredRun, Manage, StoredEvent, StoredMoves, StoredRun, StoredState, Tend, left_by_run}
 use Rattle.laws_runs.proofs.Opens.{opens_leaving, opens_roomy}
 use Rattle.laws_runs.proofs.Prefixes.{left_roomy, whole_roomy}
 use Rattle.laws_runs.proofs.Running.{event_leaving}
@@ -111,7 +111,7 @@ module _ (g : Geometry) (stream_bytes : ℕ) (s : RecoveryState) (r : StoredRun)
   pub last_has_room : IsRoomyState r.last.state × LeavesRoomyLogs g stream_bytes r.last.state
   last_has_room = moves_leaving g stream_bytes s.log [] (record { state = r.first; store = r.ready }) r.events r.last r.made (opened g s f r h) first_roomy first_leaves h.moves
 
-  pub crash_roomy : AreRoomy g stream_bytes (left_by_crash r).log
+  pub crash_roomy : AreRoomy g stream_bytes (left_by_run r).log
   crash_roomy =
       let come = events_come g s.log [] (record { state = r.first; store = r.ready }) h.opens.stored (opened g s f r h) r.events r.last r.made h.moves in
       left_roomy g stream_bytes r.last.store.log r.survive h.crash.1
@@ -121,4 +121,4 @@ pub runs_roomy : (g : Geometry) (stream_bytes : ℕ) (s : RecoveryState) (runs :
     → AreRoomy g stream_bytes s.log → AreStoredRuns g s runs last → AreOpenedFrom stream_bytes runs → AreRoomy g stream_bytes last.log
 runs_roomy g stream_bytes s [] last f k h opens = subst (λ (x : RecoveryState). AreRoomy g stream_bytes x.log) (sym h) k
 runs_roomy g stream_bytes s (r ∷ runs) last f k h opens =
-    runs_roomy g stream_bytes (left_by_crash r) runs last (found_next g s f r h.0) (crash_roomy g stream_bytes s r f h.0 k opens.0) h.1 opens.1
+    runs_roomy g stream_bytes (left_by_run r) runs last (found_next g s f r h.0) (crash_roomy g stream_bytes s r f h.0 k opens.0) h.1 opens.1

@@ -26,7 +26,7 @@ use Rattle.laws_lives.specs.ManagerSteps.{StretchEvent, ManagerRunsTo, ManagerSt
 use Rattle.laws_lives.specs.Stretches as lives
 use Rattle.laws_lives.specs.Stretches.{AreStretches, IsStretch, MayBeFound, Stretch, opening_told}
 use Rattle.laws_runs.proofs.Events.{event_comes, over, rest_comes}
-use Rattle.laws_runs.specs.StoredRuns.{AreStoredRuns, IsStored, IsStoredRun, Manage, OpensShow, StoredEvent, StoredMoves, StoredRun, StoredState, StoredSteps, Tend, entries_made, left_by_crash, span_of, spans_of}
+use Rattle.laws_runs.specs.StoredRuns.{AreStoredRuns, IsStored, IsStoredRun, Manage, RunsShow, StoredEvent, StoredMoves, StoredRun, StoredState, StoredSteps, Tend, entries_made, left_by_run, span_of_run, spans_of_runs}
 
 -- ---- events one after another
 
@@ -160,7 +160,7 @@ module _ (g : Geometry) (s : RecoveryState) (f : MayBeFound s) (r : StoredRun) (
     crash = h.crash;
   }
 
-  pub found_next : MayBeFound (left_by_crash r)
+  pub found_next : MayBeFound (left_by_run r)
   found_next = (stretches_are_a_life s (stretch ∷ []) f (is_stretch, tt)).2
 
 -- ---- managers one after another
@@ -168,13 +168,13 @@ module _ (g : Geometry) (s : RecoveryState) (f : MayBeFound s) (r : StoredRun) (
 pub record AreOneLife (s : RecoveryState) (runs : List StoredRun) (last : RecoveryState) : Type 0 where
   pub stretches : List Stretch
   pub are : AreStretches s stretches
-  pub spans : lives.spans_of s stretches ≡ spans_of s runs
+  pub spans : lives.spans_of s stretches ≡ spans_of_runs s runs
   pub left : lives.left_at_last s stretches ≡ last
 
 one_life : (g : Geometry) (s : RecoveryState) (runs : List StoredRun) (last : RecoveryState) → MayBeFound s → AreStoredRuns g s runs last → AreOneLife s runs last
 one_life g s [] last f h = record { stretches = []; are = tt; spans = refl; left = sym h }
 one_life g s (r ∷ runs) last f h =
-    let rest = one_life g (left_by_crash r) runs last (found_next g s f r h.0) h.1 in
+    let rest = one_life g (left_by_run r) runs last (found_next g s f r h.0) h.1 in
     record {
       stretches = stretch g s f r h.0 ∷ rest.stretches;
       are = (is_stretch g s f r h.0, rest.are);
@@ -186,7 +186,7 @@ module _ (g : Geometry) (s : RecoveryState) (runs : List StoredRun) (last : Reco
   whole : AreOneLife s runs last
   whole = one_life g s runs last f h
 
-  pub is_a_life : IsLife (opening_told s.log) (spans_of s runs) (opening_told last.log)
+  pub is_a_life : IsLife (opening_told s.log) (spans_of_runs s runs) (opening_told last.log)
   is_a_life =
       subst (λ spans. IsLife (opening_told s.log) spans (opening_told last.log)) whole.spans
       (subst (λ (x : RecoveryState). IsLife (opening_told s.log) (lives.spans_of s whole.stretches) (opening_told x.log)) whole.left
@@ -203,12 +203,12 @@ module _ (g : Geometry) where
   open_shows s f r h = up_shows_found s f (stretch g s f r h) (is_stretch g s f r h).up
 
   -- .. and the life goes on to what its crash left
-  life_goes_on : (s : RecoveryState) (f : MayBeFound s) (r : StoredRun) → IsStoredRun g s r → next_opening (opening_told s.log) (span_of s r) ≡ opening_told (left_by_crash r).log
-  life_goes_on s f r h = sym (is_a_life g s (r ∷ []) (left_by_crash r) f (h, refl)).3
+  life_goes_on : (s : RecoveryState) (f : MayBeFound s) (r : StoredRun) → IsStoredRun g s r → next_opening (opening_told s.log) (span_of_run s r) ≡ opening_told (left_by_run r).log
+  life_goes_on s f r h = sym (is_a_life g s (r ∷ []) (left_by_run r) f (h, refl)).3
 
-  pub opens_show : (s : RecoveryState) (runs : List StoredRun) (last : RecoveryState) → MayBeFound s → AreStoredRuns g s runs last → OpensShow (opening_told s.log) s runs
+  pub opens_show : (s : RecoveryState) (runs : List StoredRun) (last : RecoveryState) → MayBeFound s → AreStoredRuns g s runs last → RunsShow (opening_told s.log) s runs
   opens_show s [] last f h = tt
   opens_show s (r ∷ runs) last f h = (
     open_shows s f r h.0,
-    subst (λ o. OpensShow o (left_by_crash r) runs) (sym (life_goes_on s f r h.0)) (opens_show (left_by_crash r) runs last (found_next g s f r h.0) h.1),
+    subst (λ o. RunsShow o (left_by_run r) runs) (sym (life_goes_on s f r h.0)) (opens_show (left_by_run r) runs last (found_next g s f r h.0) h.1),
   )

@@ -12,7 +12,7 @@ use Rattle.laws_lives.specs.Soundness.{opening_with}
 use Rattle.laws_lives.specs.Stretches.{MayBeFound, opening_told}
 use Rattle.laws_runs.proofs.Fixed.{fixed_on, lists_are_fixed}
 use Rattle.laws_runs.proofs.Runs.{found_next, is_a_life, may_be_found, opens_show}
-use Rattle.laws_runs.specs.StoredRuns.{AreFixed, AreStoredRuns, IsStoredRun, OpensShow, StoredRun, lists_found, spans_of}
+use Rattle.laws_runs.specs.StoredRuns.{AreFixed, AreStoredRuns, IsStoredRun, RunsShow, StoredRun, lists_found, spans_of_runs}
 use Rattle.laws_runs.specs.RoomyLogs.{AreRoomy}
 use Rattle.laws_runs.proofs.SoundStores.{found_may_be_found, found_sound, left_is_found, left_may_be_opened, may_crash, restart_sound, restarts_join}
 use Rattle.laws_runs.proofs.UnderWay.{moves_under_way, opens_under_way, under_way_sound}
@@ -119,12 +119,12 @@ module _ (g : Geometry) (stream_bytes : ℕ) where
     tells_same : opening_told last ≡ opening_told come.last.log
     tells_same = ap opening_with (undone_tells come.last.log restarted.turns last restarted.undone)
 
-    pub are_a_life : IsLife (opening_told rs) (spans_of (found_state rs pages) (runs_of [] stays)) (opening_told last)
+    pub are_a_life : IsLife (opening_told rs) (spans_of_runs (found_state rs pages) (runs_of [] stays)) (opening_told last)
     are_a_life =
-        subst (IsLife (opening_told rs) (spans_of (found_state rs pages) (runs_of [] stays))) (sym tells_same)
+        subst (IsLife (opening_told rs) (spans_of_runs (found_state rs pages) (runs_of [] stays))) (sym tells_same)
         (is_a_life g (found_state rs pages) (runs_of [] stays) come.last found come.are)
 
-    pub show_what_was_told : OpensShow (opening_told rs) (found_state rs pages) (runs_of [] stays)
+    pub show_what_was_told : RunsShow (opening_told rs) (found_state rs pages) (runs_of [] stays)
     show_what_was_told = opens_show g (found_state rs pages) (runs_of [] stays) come.last found come.are
 
     pub keep_what_was_found : AreFixed (lists_found (found_state rs pages) (runs_of [] stays)) last

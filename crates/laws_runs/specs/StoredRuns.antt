@@ -79,27 +79,27 @@ pub record IsStoredRun (g : Geometry) (s : RecoveryState) (r : StoredRun) : Type
   pub moves : StoredMoves g (record { state = r.first; store = r.ready }) r.events r.last r.made
   pub crash : MayCrash r.last.store r.survive r.pages r.begin
 
-abbrev pub left_by_crash : StoredRun → RecoveryState
-left_by_crash r = after_crash r.last.store r.survive r.pages r.begin
+abbrev pub left_by_run : StoredRun → RecoveryState
+left_by_run r = after_crash r.last.store r.survive r.pages r.begin
 
 -- each restarts on what the crash before it left
 abbrev pub AreStoredRuns : Geometry → RecoveryState → List StoredRun → RecoveryState → Type 0
 AreStoredRuns g s [] last = last ≡ s
-AreStoredRuns g s (r ∷ runs) last = IsStoredRun g s r × AreStoredRuns g (left_by_crash r) runs last
+AreStoredRuns g s (r ∷ runs) last = IsStoredRun g s r × AreStoredRuns g (left_by_run r) runs last
 
 -- the span of a life that a run is: its entries, and the decisions that the crash kept, behind the records that its restart found
-abbrev pub span_of : RecoveryState → StoredRun → Span
-span_of s r = record { entries = r.made; kept = decisions_in (length s.log) (take r.survive r.last.store.log) }
+abbrev pub span_of_run : RecoveryState → StoredRun → Span
+span_of_run s r = record { entries = r.made; kept = decisions_in (length s.log) (take r.survive r.last.store.log) }
 
-abbrev pub spans_of : RecoveryState → List StoredRun → List Span
-spans_of s [] = []
-spans_of s (r ∷ runs) = span_of s r ∷ spans_of (left_by_crash r) runs
+abbrev pub spans_of_runs : RecoveryState → List StoredRun → List Span
+spans_of_runs s [] = []
+spans_of_runs s (r ∷ runs) = span_of_run s r ∷ spans_of_runs (left_by_run r) runs
 
 -- Each open shows the records that the life has come to by then, and the next one is counted from what the crash kept behind it: so what an open
 -- has shown is never taken back.
-abbrev pub OpensShow : Opening → RecoveryState → List StoredRun → Type 0
-OpensShow o s [] = Unit {0}
-OpensShow o s (r ∷ runs) = (r.first.sessions.records ≡ o.records) × OpensShow (next_opening o (span_of s r)) (left_by_crash r) runs
+abbrev pub RunsShow : Opening → RecoveryState → List StoredRun → Type 0
+RunsShow o s [] = Unit {0}
+RunsShow o s (r ∷ runs) = (r.first.sessions.records ≡ o.records) × RunsShow (next_opening o (span_of_run s r)) (left_by_run r) runs
 
 -- ---- what opens find
 
@@ -111,4 +111,4 @@ AreFixed (rs ∷ later) last = AllByRecursion (IsPrefix rs) later × IsPrefix rs
 -- the logs that the restarts of runs have found
 abbrev pub lists_found : RecoveryState → List StoredRun → List (List LogRecord)
 lists_found s [] = []
-lists_found s (r ∷ runs) = s.log ∷ lists_found (left_by_crash r) runs
+lists_found s (r ∷ runs) = s.log ∷ lists_found (left_by_run r) runs

@@ -9,7 +9,7 @@ ghost use Rattle.laws_lives.specs.Recovery.{IsRecoverable, RecoveryEvent, Recove
 ghost use Rattle.laws_lives.specs.Stretches.{MayBeFound, opening_told};
 ghost use Rattle.laws_calls.specs.Events.{IsStateAfter, ManagerEvent, EventMoves};
 ghost use Rattle.laws_calls.specs.States.{State};
-ghost use Rattle.laws_runs.specs.StoredRuns.{AreFixed, AreStoredRuns, IsStored, IsStoredRun, Manage, OpensShow, StoredRun, StoredState, StoredSteps, lists_found, spans_of};
+ghost use Rattle.laws_runs.specs.StoredRuns.{AreFixed, AreStoredRuns, IsStored, IsStoredRun, Manage, RunsShow, StoredRun, StoredState, StoredSteps, lists_found, spans_of_runs};
 
 /// A manager that opens over a restart is in a state after its calls, as one is that opens over a log alone: its history is sound, and whatever
 /// the laws of calls say holds of it. Its log is lawful, its store recoverable, and the pages have the records in place.
@@ -27,9 +27,9 @@ pub fn managers_work_over_their_stores()
 /// lost in a restart as well.
 pub fn committed_work_survives_stolen_pages()
     ensures life { (g : Geometry) (s : RecoveryState) (runs : List StoredRun) (last : RecoveryState) → MayBeFound s → AreStoredRuns g s runs last →
-        IsLife (opening_told s.log) (spans_of s runs) (opening_told last.log) }
+        IsLife (opening_told s.log) (spans_of_runs s runs) (opening_told last.log) }
     ensures shown { (g : Geometry) (s : RecoveryState) (runs : List StoredRun) (last : RecoveryState) → MayBeFound s → AreStoredRuns g s runs last →
-        OpensShow (opening_told s.log) s runs }
+        RunsShow (opening_told s.log) s runs }
     ensures fixed { (g : Geometry) (s : RecoveryState) (runs : List StoredRun) (last : RecoveryState) → MayBeFound s → AreStoredRuns g s runs last →
         AreFixed (lists_found s runs) last.log }
     ensures left { (g : Geometry) (s : RecoveryState) (runs : List StoredRun) (last : RecoveryState) → MayBeFound s → AreStoredRuns g s runs last → MayBeFound last }

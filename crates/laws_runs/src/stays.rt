@@ -13,7 +13,7 @@ ghost use Rattle.laws_lives.specs.Undo.{HasNoLosers};
 ghost use Rattle.laws_lives.specs.Stretches.{MayBeFound, opening_told};
 ghost use Rattle.laws_calls.specs.CallHistories.{IsRoomyState};
 ghost use Rattle.laws_calls.specs.States.{State};
-ghost use Rattle.laws_runs.specs.StoredRuns.{AreFixed, AreStoredRuns, IsOpenedOver, OpensShow, StoredEvent, StoredMoves, StoredState, StoredSteps, entries_made, lists_found, spans_of};
+ghost use Rattle.laws_runs.specs.StoredRuns.{AreFixed, AreStoredRuns, IsOpenedOver, RunsShow, StoredEvent, StoredMoves, StoredState, StoredSteps, entries_made, lists_found, spans_of_runs};
 ghost use Rattle.laws_runs.specs.RoomyLogs.{AreRoomy};
 ghost use Rattle.laws_runs.specs.RoomyStates.{IsOpenedFrom};
 ghost use Rattle.laws_runs.specs.SoundStores.{IsLost, IsSoundStore, IsUnderWay, MayBeOpened, found_state, managed};
@@ -75,10 +75,10 @@ pub fn committed_work_survives_every_stay()
         × ((works : List RecoveryEvent) × RestartsTo end works (found_state last last_pages)) }
     ensures life { (g : Geometry) (stream_bytes : ℕ) (rs last : List LogRecord) (pages last_pages : LoggedPages) (stays : List StoredStay) →
         MayBeOpened g stream_bytes rs pages → AreStoredStays g stream_bytes rs pages stays last last_pages →
-        IsLife (opening_told rs) (spans_of (found_state rs pages) (runs_of [] stays)) (opening_told last) }
+        IsLife (opening_told rs) (spans_of_runs (found_state rs pages) (runs_of [] stays)) (opening_told last) }
     ensures shown { (g : Geometry) (stream_bytes : ℕ) (rs last : List LogRecord) (pages last_pages : LoggedPages) (stays : List StoredStay) →
         MayBeOpened g stream_bytes rs pages → AreStoredStays g stream_bytes rs pages stays last last_pages →
-        OpensShow (opening_told rs) (found_state rs pages) (runs_of [] stays) }
+        RunsShow (opening_told rs) (found_state rs pages) (runs_of [] stays) }
     ensures fixed { (g : Geometry) (stream_bytes : ℕ) (rs last : List LogRecord) (pages last_pages : LoggedPages) (stays : List StoredStay) →
         MayBeOpened g stream_bytes rs pages → AreStoredStays g stream_bytes rs pages stays last last_pages → AreFixed (lists_found (found_state rs pages) (runs_of [] stays)) last }
 {}

@@ -17,9 +17,9 @@ use Rattle.laws_lives.specs.Pages.{LoggedPages}
 use Rattle.laws_lives.specs.Recovery.{AppendRecord, CrashMayLeave, LeadsTo, RecoveryEvent, RecoveryState, after_append}
 use Rattle.laws_lives.proofs.Invariant.{event_kept}
 use Rattle.laws_lives.proofs.Works.{all_work}
-use Rattle.laws_images.proofs.Flushes.{left_amid, work_of}
-use Rattle.laws_images.proofs.Stores.{store_over}
-use Rattle.laws_images.specs.LoggedHeaps.{IsStoreOf, LeavesStore}
+use Rattle.laws_heaps.proofs.Flushes.{left_amid, work_of}
+use Rattle.laws_heaps.proofs.Stores.{store_over}
+use Rattle.laws_heaps.specs.LoggedHeaps.{IsStoreOf, LeavesStore}
 use Rattle.shore_heap.specs.declared.heap.Heap.{Heap}
 use Rattle.shore_heap.proofs.Showing.{shows_told}
 use Rattle.shore_pool.proofs.Same.{pages_stay}

@@ -24,8 +24,8 @@ use Rattle.laws_lives.specs.UndoLists.{rolled_back}
 use Rattle.laws_lives.specs.Views.{IsAmong}
 use Rattle.laws_calls.specs.CallSteps.{aborted, with_requests}
 use Rattle.laws_calls.specs.States.{State, page_slots}
-use Rattle.laws_images.specs.LoggedHeaps.{IsStoreOf}
-use Rattle.laws_images.proofs.Made.{appended_without}
+use Rattle.laws_heaps.specs.LoggedHeaps.{IsStoreOf}
+use Rattle.laws_heaps.proofs.Made.{appended_without}
 use Rattle.shore_txn.specs.ActiveTxns.{OneLeaves}
 use Rattle.shore_txn.specs.Transactions.{kept_in, txns_in, undos_in}
 use Rattle.shore_txn.specs.Txns.{as_session_txn, entries_of, last_of}

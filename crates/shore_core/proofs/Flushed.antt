@@ -20,7 +20,7 @@ use Rattle.shore_core.specs.declared.core_calls.Core.{Core}
 use Rattle.shore_core.specs.Cores.{IsIn, IsOver, control_of, durable_of, has_failed, heap_of, tail_of, txns_of}
 use Rattle.shore_core.specs.Flushing.{AreFlushes, FlushMoves, FlushSteps}
 use Rattle.shore_core.specs.Replies.{OnlyReads, fault_at}
-use Rattle.laws_images.proofs.Flushes.{work_of}
+use Rattle.laws_heaps.proofs.Flushes.{work_of}
 use Rattle.shore_core.proofs.Coming.{beside_same, kept_after}
 use Rattle.shore_core.proofs.Taking.{in_failed, over_failed, true_false}
 

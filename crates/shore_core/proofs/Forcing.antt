@@ -15,7 +15,7 @@ use Rattle.shore_pool.specs.Pools.{PoolHolds, NeedsForce}
 use Rattle.shore_pool.specs.declared.pool.Pool.{Pool}
 use Rattle.shore_pool.specs.declared.frame.Frame.{Frame}
 use Rattle.laws_lives.specs.Recovery.{RecoveryState}
-use Rattle.laws_images.specs.LoggedHeaps.{IsStoreOf}
+use Rattle.laws_heaps.specs.LoggedHeaps.{IsStoreOf}
 use Rattle.laws_calls.specs.StateChanges.{IsPageFault}
 use Rattle.laws_calls.specs.States.{State}
 use Rattle.shore_core.specs.Cores.{IsKept}

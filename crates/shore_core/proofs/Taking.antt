@@ -30,8 +30,8 @@ use Rattle.shore_log.specs.declared.tail.Tail as tail
 use Rattle.shore_disk.specs.Device.{may_leave}
 use Rattle.shore_heap.specs.declared.heap.Heap.{Heap}
 use Rattle.shore_heap.specs.Heaps as heaps
-use Rattle.laws_images.specs.LoggedHeaps.{LeavesStore}
-use Rattle.laws_images.proofs.LoggedLeft.{left_settled}
+use Rattle.laws_heaps.specs.LoggedHeaps.{LeavesStore}
+use Rattle.laws_heaps.proofs.LoggedLeft.{left_settled}
 use Rattle.laws_lives.specs.Pages.{LoggedPages}
 use Rattle.shore_heap.proofs.Going.{ok_same}
 use Rattle.shore_core.specs.declared.core_calls.Core.{Core}

@@ -32,7 +32,7 @@ use Rattle.shore_txn.specs.ActiveTxns.{OneBecomes}
 use Rattle.shore_txn.specs.Txns.{IsAfterUndo, last_of, number_of}
 use Rattle.shore_txn.proofs.ActiveOthers.{each_becomes}
 use Rattle.shore_txn.proofs.OneOfMany.{among_map, among_middle}
-use Rattle.laws_images.proofs.SlotImages.{count-with_image}
+use Rattle.laws_heaps.proofs.SlotImages.{count-with_image}
 use Rattle.shore_logrec.specs.Text as text
 use Rattle.shore_logrec.specs.Text.{RidFits}
 use Rattle.shore_core.specs.Undoing.{IsNext}

@@ -20,7 +20,7 @@ use Rattle.laws_lives.specs.Recovery.{CrashMayLeave, IsRecoverable, RecoveryEven
 use Rattle.laws_lives.specs.ManagerSteps.{WorksTo}
 use Rattle.laws_runs.specs.StoredRuns.{IsStored}
 use Rattle.laws_runs.specs.RoomyStates.{LeavesRoomyLogs}
-use Rattle.laws_images.specs.LoggedHeaps.{IsStoreOf, LeavesStore}
+use Rattle.laws_heaps.specs.LoggedHeaps.{IsStoreOf, LeavesStore}
 use Rattle.shore_model.specs.Records.{AreRecords}
 use Rattle.shore_types.specs.declared.locking.Granule.{Granule}
 use Rattle.shore_model.specs.declared.histories.Entry.{Entry}

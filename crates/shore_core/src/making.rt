@@ -7,7 +7,7 @@ ghost use Rattle.shore_heap.specs.Heaps.{Shows};
 ghost use Rattle.shore_sessions.specs.Controls.{txns_in};
 ghost use Rattle.shore_sessions.specs.Standing.{HasControl};
 ghost use Rattle.shore_txn.specs.Transactions as table;
-ghost use Rattle.laws_images.specs.LoggedHeaps.{IsStoreOf};
+ghost use Rattle.laws_heaps.specs.LoggedHeaps.{IsStoreOf};
 ghost use Rattle.laws_lives.specs.Recovery.{RecoveryState};
 
 use crate::core_calls::Core;

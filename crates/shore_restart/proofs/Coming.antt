@@ -13,7 +13,7 @@ use Rattle.shore_heap.specs.declared.heap.Heap.{Heap}
 use Rattle.shore_heap.specs.Heaps.{geometry_of, history_of}
 use Rattle.laws_lives.specs.Recovery.{ForceLog, IsRecoverable, RecoveryState, after_force}
 use Rattle.laws_lives.proofs.Invariant.{event_kept}
-use Rattle.laws_images.proofs.Stores.{forced_is}
+use Rattle.laws_heaps.proofs.Stores.{forced_is}
 use Rattle.shore_restart.specs.declared.errors.RestartError.{RestartError}
 use Rattle.shore_restart.specs.declared.errors.RestartError.TheVariants.{Page}
 use Rattle.laws_images.specs.Moments.{GivesPrefix, Moment, Path, ShowsLeft}

@@ -21,7 +21,7 @@ use Rattle.shore_pool.specs.Changes.{changed, reclaimed}
 use Rattle.shore_pool.specs.declared.frame.Frame.{Frame}
 use Rattle.shore_heap.specs.declared.heap.Heap.{Heap}
 use Rattle.shore_heap.specs.Heaps.{KeepsVolume, RefusesPage, WroteBack, frame_at, geometry_of}
-use Rattle.laws_images.specs.LoggedHeaps.{IsMade, IsReleased}
+use Rattle.laws_heaps.specs.LoggedHeaps.{IsMade, IsReleased}
 use Rattle.shore_restart.specs.declared.errors.RestartError.{RestartError}
 use Rattle.shore_restart.specs.declared.errors.RestartError.TheVariants.{Page}
 use Rattle.shore_restart.specs.Errors.{IsPageError}

@@ -33,8 +33,8 @@ use Rattle.shore_heap.specs.declared.heap.Heap.{Heap}
 use Rattle.shore_heap.specs.Contents.{unclaimed}
 use Rattle.shore_heap.specs.Heaps.{Shows}
 use Rattle.shore_heap.proofs.Showing.{shows_same}
-use Rattle.laws_images.proofs.SettledSlots.{shows_only, slots_done}
-use Rattle.laws_images.specs.LoggedHeaps.{IsStoreOf}
+use Rattle.laws_heaps.proofs.SettledSlots.{shows_only, slots_done}
+use Rattle.laws_heaps.specs.LoggedHeaps.{IsStoreOf}
 use Rattle.shore_log.specs.declared.tail.Tail as tail
 use Rattle.shore_core.specs.declared.core_calls.Core.{Core}
 use Rattle.shore_core.specs.Cores.{IsIn, IsKept, IsOver}

@@ -23,11 +23,11 @@ use Rattle.shore_heap.specs.Contents.{unclaimed}
 use Rattle.shore_heap.specs.Heaps.{Shows, device_of, frame_at, frame_of, geometry_of}
 use Rattle.laws_lives.specs.Recovery.{AppendRecord, LeadsTo, RecoveryEvent, RecoveryState, RedoRecord, after_append, after_redo}
 use Rattle.laws_lives.proofs.Invariant.{event_kept}
-use Rattle.laws_images.specs.LoggedHeaps.{IsMade, IsReleased, IsStoreOf}
-use Rattle.laws_images.proofs.Made.{appended_is, redone_is}
-use Rattle.laws_images.proofs.SlotImages.{count-with_image}
-use Rattle.laws_images.proofs.StaySettled.{settled_after}
-use Rattle.laws_images.proofs.Stores.{store_unwritten}
+use Rattle.laws_heaps.specs.LoggedHeaps.{IsMade, IsReleased, IsStoreOf}
+use Rattle.laws_heaps.proofs.Made.{appended_is, redone_is}
+use Rattle.laws_heaps.proofs.SlotImages.{count-with_image}
+use Rattle.laws_heaps.proofs.StaySettled.{settled_after}
+use Rattle.laws_heaps.proofs.Stores.{store_unwritten}
 use Rattle.shore_restart.specs.Standing.{Stands}
 
 pub some_held : {A : Type 0} (o : Option A) (P : A → Type 0) → IsSomeAnd o P → IsTrue (is_some o)

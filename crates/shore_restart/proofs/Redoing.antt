@@ -22,8 +22,8 @@ use Rattle.laws_lives.specs.Pages.{redone_on_all}
 use Rattle.laws_lives.specs.Recovery.{LeadsTo, RecoveryState, RedoRecord, after_redo}
 use Rattle.laws_lives.proofs.Invariant.{event_kept}
 use Rattle.laws_runs.specs.SlotCounts.{FitsBehind, slots_left}
-use Rattle.laws_images.proofs.Made.{passed_is, without_is}
-use Rattle.laws_images.proofs.SettledSlots.{frame_number, framed_due}
+use Rattle.laws_heaps.proofs.Made.{passed_is, without_is}
+use Rattle.laws_heaps.proofs.SettledSlots.{frame_number, framed_due}
 use Rattle.shore_restart.specs.declared.errors.RestartError.{RestartError}
 use Rattle.shore_restart.specs.Errors.{DoesNotFit}
 use Rattle.laws_images.specs.Moments.{ShowsLeft}

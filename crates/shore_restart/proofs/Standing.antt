@@ -15,10 +15,10 @@ use Rattle.shore_heap.specs.Contents.{AreKept, unclaimed}
 use Rattle.shore_heap.specs.Heaps.{KeepsSlots, LeavesPages, frame_at, frame_of, geometry_of, history_of, pool_of}
 use Rattle.laws_lives.specs.Recovery.{IsRecoverable, RecoveryState}
 use Rattle.laws_lives.proofs.Redo.{own_number}
-use Rattle.laws_images.proofs.Flushes.{left_amid, work_of}
-use Rattle.laws_images.proofs.LoggedLeft.{left_settled}
-use Rattle.laws_images.proofs.SettledSlots.{frame_number, settled_kept, shows_only}
-use Rattle.laws_images.proofs.StaySettled.{settled_shown}
+use Rattle.laws_heaps.proofs.Flushes.{left_amid, work_of}
+use Rattle.laws_heaps.proofs.LoggedLeft.{left_settled}
+use Rattle.laws_heaps.proofs.SettledSlots.{frame_number, settled_kept, shows_only}
+use Rattle.laws_heaps.proofs.StaySettled.{settled_shown}
 use Rattle.shore_restart.specs.declared.errors.RestartError.{RestartError}
 use Rattle.laws_images.specs.Moments.{ShowsLeft}
 use Rattle.shore_restart.specs.Standing.{Fetches, SameInPlace, Stands, Worked}

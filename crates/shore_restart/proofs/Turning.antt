@@ -24,8 +24,8 @@ use Rattle.laws_lives.specs.Recovery.{AppendRecord, LeadsTo, RecoveryState, afte
 use Rattle.laws_lives.specs.Undo.{IsLoser, undo_payload, undo_record}
 use Rattle.laws_lives.proofs.Invariant.{event_kept}
 use Rattle.laws_runs.specs.SlotCounts.{slots_left}
-use Rattle.laws_images.proofs.Made.{appended_without}
-use Rattle.laws_images.proofs.SettledSlots.{framed_whole}
+use Rattle.laws_heaps.proofs.Made.{appended_without}
+use Rattle.laws_heaps.proofs.SettledSlots.{framed_whole}
 use Rattle.shore_restart.specs.declared.errors.RestartError.{RestartError}
 use Rattle.laws_images.specs.Moments.{GivesPrefix, Path, ShowsLeft}
 use Rattle.shore_restart.specs.Standing.{Appends, IsAtRest, IsReady, RestartMoves, Stands, log_history, moment_of}

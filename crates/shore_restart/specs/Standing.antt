@@ -17,7 +17,7 @@ use Rattle.laws_lives.specs.Pages.{redone_on_all}
 use Rattle.laws_lives.specs.Recovery.{AppendRecord, IsRecoverable, LeadsTo, RecoveryEvent, RecoveryState, after_append, after_force}
 use Rattle.shore_model.specs.declared.log_records.LogRecord.{LogRecord}
 use Rattle.laws_lives.specs.Restarts.{RestartsTo}
-use Rattle.laws_images.specs.LoggedHeaps.{AreSettled, IsStoreOf}
+use Rattle.laws_heaps.specs.LoggedHeaps.{AreSettled, IsStoreOf}
 use Rattle.shore_restart.specs.declared.errors.RestartError.{RestartError}
 use Rattle.shore_restart.specs.declared.errors.RestartError.TheVariants.{Page}
 use Rattle.laws_images.specs.Moments.{RestartGoesOn, IsCovered, Moment, Path, ShowsLeft}

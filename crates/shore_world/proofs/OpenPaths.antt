@@ -31,8 +31,8 @@ use Rattle.laws_lives.specs.Pages.{LoggedPages}
 use Rattle.laws_lives.specs.Recovery.{RecoveryState}
 use Rattle.laws_runs.proofs.SoundStores.{found_sound}
 use Rattle.laws_runs.specs.SoundStores.{found_state}
-use Rattle.laws_images.specs.LoggedHeaps.{AreTextsOf, HasImages}
-use Rattle.laws_images.proofs.LoggedLeft.{opened_is}
+use Rattle.laws_heaps.specs.LoggedHeaps.{AreTextsOf, HasImages}
+use Rattle.laws_heaps.proofs.LoggedLeft.{opened_is}
 use Rattle.shore_fronts.specs.Fronts.{HasFront}
 use Rattle.shore_fronts.specs.Pairs.{HaveFronts}
 use Rattle.shore_fronts.specs.Volumes.{volume_label}

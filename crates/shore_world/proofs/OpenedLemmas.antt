@@ -11,7 +11,7 @@ use Rattle.laws_lives.specs.Restarts.{IsRestartOf}
 use Rattle.laws_lives.specs.Undo.{HasNoLosers}
 use Rattle.laws_lives.proofs.Restarts.{events_restart}
 use Rattle.laws_runs.proofs.ManagerLogs.{opened_over}
-use Rattle.laws_images.proofs.LoggedLeft.{left_settled}
+use Rattle.laws_heaps.proofs.LoggedLeft.{left_settled}
 use Rattle.laws_images.specs.Moments.{Moment, Path}
 use Rattle.laws_images.proofs.Paths.{path_restarts}
 use Rattle.shore_restart.specs.Opened.{OpensIn}

@@ -22,7 +22,7 @@ use Rattle.laws_runs.proofs.Opens.{fits_stream}
 use Rattle.laws_runs.proofs.Prefixes.{whole_roomy}
 use Rattle.laws_runs.proofs.UnderWay.{managed_join, moves_join, step_under_way, under_way_inside}
 use Rattle.laws_runs.specs.SoundStores.{IsUnderWay, managed}
-use Rattle.laws_images.specs.Moments.{GivesPrefix, ShowsLeft}
+use Rattle.laws_images.specs.Moments.{GivesPrefix, GivesPrefixOf, ShowsLeft}
 use Rattle.shore_core.specs.Cores.{IsSafe}
 use Rattle.shore_core.specs.Flushing.{FlushMoves}
 use Rattle.shore_world.specs.declared.event.Event.{Event}
@@ -32,7 +32,7 @@ use Rattle.shore_world.specs.Crashes.{AreLeft, AreLeftBetween}
 use Rattle.shore_world.specs.Events.{IsServedEvent}
 use Rattle.shore_world.specs.EventMoves.{failure_by, moves_by}
 use Rattle.shore_world.specs.Managers.{NoForceIsFull}
-use Rattle.shore_world.specs.Worlds.{Between, WorldComesTo, EventStep, ForceRefused, GivesBeginning, HasFailedToRead, IsAt, IsLike, LeavesAtAnyMoment, OpenRefused, Runs, Steps, SurvivesCrashes, durable_in, geometry_in, list_in, stream_bytes_in}
+use Rattle.shore_world.specs.Worlds.{Between, WorldComesTo, EventStep, ForceRefused, HasFailedToRead, IsAt, IsLike, LeavesAtAnyMoment, OpenRefused, Runs, Steps, SurvivesCrashes, durable_in, geometry_in, list_in, stream_bytes_in}
 
 -- ---- one event
 
@@ -221,10 +221,10 @@ module _ {L V : Type 0} {G : Ghosts L} {H : Ghosts V} (g : Geometry) (stream_byt
       pub log : GivesPrefix log_front m.store c
       pub volume : ShowsLeft g front m.store d
 
-    as_left : GivesBeginning log_front (durable_in w) (list_in w) c → ShowsLeft (geometry_in w) front m.store d → AreLeftOf
+    as_left : GivesPrefixOf log_front (durable_in w) (list_in w) c → ShowsLeft (geometry_in w) front m.store d → AreLeftOf
     as_left gives shows = record {
-      log = subst (λ n. GivesBeginning log_front n m.store.log c) (sym (same_durable es w m up))
-          (subst (λ (l : List LogRecord). GivesBeginning log_front (durable_in w) l c) (sym (same_log es w m up)) gives);
+      log = subst (λ n. GivesPrefixOf log_front n m.store.log c) (sym (same_durable es w m up))
+          (subst (λ (l : List LogRecord). GivesPrefixOf log_front (durable_in w) l c) (sym (same_log es w m up)) gives);
       volume = subst (λ (x : Geometry). ShowsLeft x front m.store d) up.geometry shows;
     }
 

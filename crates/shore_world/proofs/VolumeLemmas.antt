@@ -12,15 +12,16 @@ use Rattle.laws_calls.specs.States.{State}
 use Rattle.laws_lives.specs.Pages.{LoggedPages}
 use Rattle.laws_lives.specs.Recovery.{CrashMayLeave, ForceLog, RecoveryEvent, RecoveryState, after_force}
 use Rattle.laws_lives.specs.ManagerSteps.{WorksTo}
-use Rattle.laws_images.specs.LoggedHeaps.{LeavesStore}
-use Rattle.laws_images.proofs.Flushes.{left_amid}
-use Rattle.laws_images.proofs.LoggedLeft.{left_settled}
+use Rattle.laws_heaps.specs.LoggedHeaps.{LeavesStore}
+use Rattle.laws_heaps.proofs.Flushes.{left_amid}
+use Rattle.laws_heaps.proofs.LoggedLeft.{left_settled}
 use Rattle.shore_core.specs.Cores as cores
 use Rattle.shore_core.specs.Cores.{FailsOver, IsKept, IsSafe, durable_of, heap_of}
 use Rattle.shore_core.specs.Flushing.{AreFlushes}
 use Rattle.shore_core.specs.Replies.{MayLeave}
+use Rattle.laws_images.specs.Moments.{GivesPrefixOf, ShowsLeft}
 use Rattle.shore_world.specs.declared.world.World.{World}
-use Rattle.shore_world.specs.Worlds.{WorldComesTo, GivesBeginning, IsAt, IsInState, IsOverStore, LeavesAtAnyMoment, ShowsLeft, SurvivesCrashes, durable_in, failed_in, geometry_in, history_in, list_in, volume_history_in}
+use Rattle.shore_world.specs.Worlds.{WorldComesTo, IsAt, IsInState, IsOverStore, LeavesAtAnyMoment, SurvivesCrashes, durable_in, failed_in, geometry_in, history_in, list_in, volume_history_in}
 
 pub runs_or_failed : (b : Bool) → (b ≡ false) ⊎ (b ≡ true)
 runs_or_failed false = inl refl
@@ -72,10 +73,10 @@ module _ {L V : Type 0} {G : Ghosts L} {H : Ghosts V} where
 
   -- a log device of which no call was made
   pub log_still : (old new : World L V G H) → history_in new ≡ history_in old → (log_front : List ℕ) → SurvivesCrashes old log_front
-      → LeavesOnly (history_in old) (history_in new) (GivesBeginning log_front (durable_in old) (list_in old))
+      → LeavesOnly (history_in old) (history_in new) (GivesPrefixOf log_front (durable_in old) (list_in old))
   log_still old new same log_front k =
-      subst (λ (h : History). LeavesOnly (history_in old) h (GivesBeginning log_front (durable_in old) (list_in old))) (sym same)
-      (started (history_in old) (GivesBeginning log_front (durable_in old) (list_in old)) k.images)
+      subst (λ (h : History). LeavesOnly (history_in old) h (GivesPrefixOf log_front (durable_in old) (list_in old))) (sym same)
+      (started (history_in old) (GivesPrefixOf log_front (durable_in old) (list_in old)) k.images)
 
   -- neither device
   pub both_still : (old new : World L V G H) → history_in new ≡ history_in old → volume_history_in new ≡ volume_history_in old → LeavesAtAnyMoment old new

@@ -17,16 +17,17 @@ use Rattle.laws_lives.specs.Recovery.{RecoveryState, after_force}
 use Rattle.shore_log.specs.declared.tail.Tail as tail
 use Rattle.shore_core.specs.declared.core_calls.Core.{Core}
 use Rattle.shore_core.specs.Cores.{IsBeside, IsSafe, tail_of, waiting_of}
+use Rattle.laws_images.specs.Moments.{GivesPrefixOf}
 use Rattle.shore_world.specs.declared.event.Event.{Event}
 use Rattle.shore_world.specs.declared.event.Event.TheVariants.{FlushStep}
 use Rattle.shore_world.specs.declared.world.World.{World}
-use Rattle.shore_world.specs.Worlds.{HasStaged, IsAt, IsInState, IsOverStore, Comes, EventStep, durable_in, failed_in, geometry_in, history_in, list_in, volume_history_in, GivesBeginning, IsReady, SurvivesCrashes, EventMovesWorld}
+use Rattle.shore_world.specs.Worlds.{HasStaged, IsAt, IsInState, IsOverStore, Comes, EventStep, durable_in, failed_in, geometry_in, history_in, list_in, volume_history_in, IsReady, SurvivesCrashes, EventMovesWorld}
 use Rattle.shore_world.proofs.VolumeLemmas.{comes_forced, comes_unworked, log_still, volume_still}
 
 -- ---- what gives a prefix of the list
 
 -- of a longer list too
-pub longer : (front : List ℕ) (least : ℕ) (rs more : List LogRecord) (c : List ℕ) → GivesBeginning front least rs c → GivesBeginning front least (rs ++ more) c
+pub longer : (front : List ℕ) (least : ℕ) (rs more : List LogRecord) (c : List ℕ) → GivesPrefixOf front least rs c → GivesPrefixOf front least (rs ++ more) c
 longer front least rs more c g = (
   g.0,
   g.1,
@@ -86,7 +87,7 @@ module _ {L V : Type 0} {G : Ghosts L} {H : Ghosts V} where
       ap (λ n. take n (w.log.records.items ++ waiting_of w.core)) (w.durable_agrees ∙ length-stable w.log)
       ∙ take-append-le w.log.forced w.log.records.items (waiting_of w.core) w.log.forced_inside
 
-  pub stable_gives : (w : World L V G H) (front c : List ℕ) → GivesBehind front (stable w.log) c → GivesBeginning front (durable_in w) (list_in w) c
+  pub stable_gives : (w : World L V G H) (front c : List ℕ) → GivesBehind front (stable w.log) c → GivesPrefixOf front (durable_in w) (list_in w) c
   stable_gives w front c gives = (durable_in w, omega arith, durable_within w, subst (λ (l : List LogRecord). GivesBehind front l c) (sym (stable_is w)) gives)
 
   -- the stable records and those of a staged frame
@@ -102,7 +103,7 @@ module _ {L V : Type 0} {G : Ghosts L} {H : Ghosts V} where
         take-append-le (w.log.forced + length group) w.log.records.items rest within_records
         ∙ take-more_group w.log.records.items w.log.forced group w.log.forced_inside staged.first
 
-    pub more_gives : (c : List ℕ) → GivesBehind front (stable w.log ++ group) c → GivesBeginning front (durable_in w) (list_in w) c
+    pub more_gives : (c : List ℕ) → GivesBehind front (stable w.log ++ group) c → GivesPrefixOf front (durable_in w) (list_in w) c
     more_gives c gives = (
       w.log.forced + length group,
       omega (arith, w.durable_agrees, length-stable w.log),
@@ -110,7 +111,7 @@ module _ {L V : Type 0} {G : Ghosts L} {H : Ghosts V} where
       subst (λ (l : List LogRecord). GivesBehind front l c) (sym more_is) gives,
     )
 
-    pub either_gives : (c : List ℕ) → GivesWithOrWithout front (stable w.log) group c → GivesBeginning front (durable_in w) (list_in w) c
+    pub either_gives : (c : List ℕ) → GivesWithOrWithout front (stable w.log) group c → GivesPrefixOf front (durable_in w) (list_in w) c
     either_gives c (inl without) = stable_gives w front c without
     either_gives c (inr with) = more_gives c with
 
@@ -138,7 +139,7 @@ module _ {L V : Type 0} {G : Ghosts L} {H : Ghosts V} where
   -- What an event does to the log device: it is kept as it was, and so at each moment on the way.
   pub record LogMoves (old new : World L V G H) : Type 0 where
     pub kept : (front : List ℕ) → SurvivesCrashes old front → SurvivesCrashes new front
-    pub any_moment : (front : List ℕ) → SurvivesCrashes old front → LeavesOnly (history_in old) (history_in new) (GivesBeginning front (durable_in old) (list_in old))
+    pub any_moment : (front : List ℕ) → SurvivesCrashes old front → LeavesOnly (history_in old) (history_in new) (GivesPrefixOf front (durable_in old) (list_in old))
 
   -- ---- an event for which the device stands still
 
@@ -147,8 +148,8 @@ module _ {L V : Type 0} {G : Ghosts L} {H : Ghosts V} where
   grown_kept old new device g ready front k =
       let same : history_in new ≡ history_in old = ap G.history device in
       record {
-        images = λ c left. subst (λ n. GivesBeginning front n (list_in new) c) (sym g.durable)
-            (subst (λ (l : List LogRecord). GivesBeginning front (durable_in old) l c) (sym g.list)
+        images = λ c left. subst (λ n. GivesPrefixOf front n (list_in new) c) (sym g.durable)
+            (subst (λ (l : List LogRecord). GivesPrefixOf front (durable_in old) l c) (sym g.list)
             (longer front (durable_in old) (list_in old) g.more c (k.images c (subst (λ (h : History). may_leave h c) same left))));
         ready = λ running. ready front (k.ready (g.running running));
       }
@@ -172,9 +173,9 @@ module _ {L V : Type 0} {G : Ghosts L} {H : Ghosts V} where
   -- ---- a frame is staged, or it fails as it is
 
   as_before : (old new : World L V G H) (front c : List ℕ) → list_in new ≡ list_in old → durable_in new ≡ durable_in old
-      → GivesBeginning front (durable_in old) (list_in old) c → GivesBeginning front (durable_in new) (list_in new) c
+      → GivesPrefixOf front (durable_in old) (list_in old) c → GivesPrefixOf front (durable_in new) (list_in new) c
   as_before old new front c list durable gives =
-      subst (λ (l : List LogRecord). GivesBeginning front (durable_in new) l c) (sym list) (subst (λ n. GivesBeginning front n (list_in old) c) (sym durable) gives)
+      subst (λ (l : List LogRecord). GivesPrefixOf front (durable_in new) l c) (sym list) (subst (λ n. GivesPrefixOf front n (list_in old) c) (sym durable) gives)
 
   pub staging : (old new : World L V G H) (mid : LogDev L G)
       → failed_in old ≡ false → old.log.staged ≡ None → mid.device ≡ old.log.device → mid.staged ≡ old.log.staged → stable mid ≡ stable old.log
@@ -187,13 +188,13 @@ module _ {L V : Type 0} {G : Ghosts L} {H : Ghosts V} where
         | inl s ↦ s.0
         | inr s ↦ absurd (let clash = s.1.waits in cc)
       ] in
-      let leaves : (front : List ℕ) → SurvivesCrashes old front → LeavesOnly (history_in old) (history_in new) (GivesBeginning front (durable_in old) (list_in old)) =
-      λ front k. subst (λ (d : L). LeavesOnly (G.history d) (history_in new) (GivesBeginning front (durable_in old) (list_in old))) device
-      (widened (G.history mid.device) (history_in new) (GivesBehind front (stable mid)) (GivesBeginning front (durable_in old) (list_in old)) (moments front (settled front (settled_now front k)) (waits ∙ none))
+      let leaves : (front : List ℕ) → SurvivesCrashes old front → LeavesOnly (history_in old) (history_in new) (GivesPrefixOf front (durable_in old) (list_in old)) =
+      λ front k. subst (λ (d : L). LeavesOnly (G.history d) (history_in new) (GivesPrefixOf front (durable_in old) (list_in old))) device
+      (widened (G.history mid.device) (history_in new) (GivesBehind front (stable mid)) (GivesPrefixOf front (durable_in old) (list_in old)) (moments front (settled front (settled_now front k)) (waits ∙ none))
       (λ c gives. stable_gives old front c (subst (λ (l : List LogRecord). GivesBehind front l c) same gives))) in
       record {
         kept = λ log_front k. record {
-          images = λ c left. as_before old new log_front c list durable (at_end (history_in old) (history_in new) (GivesBeginning log_front (durable_in old) (list_in old)) (leaves log_front k) c left);
+          images = λ c left. as_before old new log_front c list durable (at_end (history_in old) (history_in new) (GivesPrefixOf log_front (durable_in old) (list_in old)) (leaves log_front k) c left);
           ready = λ run. ready log_front (settled log_front (settled_now log_front k)) run;
         };
         any_moment = leaves;
@@ -211,14 +212,14 @@ module _ {L V : Type 0} {G : Ghosts L} {H : Ghosts V} where
         | inl s ↦ absurd (some s.1)
         | inr s ↦ s
       ] in
-      let leaves : (front : List ℕ) → SurvivesCrashes old front → LeavesOnly (history_in old) (history_in new) (GivesBeginning front (durable_in old) (list_in old)) =
+      let leaves : (front : List ℕ) → SurvivesCrashes old front → LeavesOnly (history_in old) (history_in new) (GivesPrefixOf front (durable_in old) (list_in old)) =
       λ front k. let s = staged_now front k in
-      widened (history_in old) (history_in new) (GivesWithOrWithout front (stable old.log) s.0) (GivesBeginning front (durable_in old) (list_in old)) (moments front s.0 s.1)
+      widened (history_in old) (history_in new) (GivesWithOrWithout front (stable old.log) s.0) (GivesPrefixOf front (durable_in old) (list_in old)) (moments front s.0 s.1)
       (either_gives old front s.0 s.1) in
       record {
         kept = λ front k. let s = staged_now front k in elim (after front s.0 s.1) [
           | inl failed ↦ record {
-            images = λ c left. as_before old new front c list failed.0 (at_end (history_in old) (history_in new) (GivesBeginning front (durable_in old) (list_in old)) (leaves front k) c left);
+            images = λ c left. as_before old new front c list failed.0 (at_end (history_in old) (history_in new) (GivesPrefixOf front (durable_in old) (list_in old)) (leaves front k) c left);
             ready = λ run. absurd (failed.1 run);
           }
           | inr settled ↦ record {
@@ -239,7 +240,7 @@ module _ {L V : Type 0} {G : Ghosts L} {H : Ghosts V} where
     pub told : IsOverStore new disk later store ⊎ ((n : ℕ) × (store.durable ≤ n) × (n ≤ length store.log) × IsOverStore new disk later (after_force store n))
 
   pub still_moves : (old new : World L V G H) (e : Event) (step : Step) → (e ≡ FlushStep → ⊥) → geometry_in new ≡ geometry_in old → volume_history_in new ≡ volume_history_in old
-      → ((front : List ℕ) → SurvivesCrashes old front → LeavesOnly (history_in old) (history_in new) (GivesBeginning front (durable_in old) (list_in old)))
+      → ((front : List ℕ) → SurvivesCrashes old front → LeavesOnly (history_in old) (history_in new) (GivesPrefixOf front (durable_in old) (list_in old)))
       → ((s later : State) → IsBesideOf old s → IsBesideOf new later → EventStep (geometry_in old) s e step later → (front : List ℕ) → SurvivesCrashes old front → SurvivesCrashes new front)
       → ((front : List ℕ) (disk : ℕ → List ℕ) (s : State) (store : RecoveryState) → IsInState old front disk s → IsOverStore old disk s store → IsSafe (geometry_in old) s
       → ComesOver old e step new front disk s store) → EventMovesWorld old e step new

@@ -15,20 +15,19 @@ use Rattle.laws_calls.specs.StateChanges.{with_durable, with_failure}
 use Rattle.laws_calls.specs.Events as calls
 use Rattle.laws_calls.specs.Settling.{SettledCall, SettledResume}
 use Rattle.laws_calls.specs.States.{State, cost_of_log}
-use Rattle.shore_frames.specs.Frames.{GivesBehind, IsLongest}
+use Rattle.shore_frames.specs.Frames.{IsLongest}
 use Rattle.shore_log.specs.Settled.{records_of_log, IsSettled, IsStaged}
 use Rattle.shore_fronts.specs.Causes.{HasCauseOfPair}
 use Rattle.shore_pool.specs.Pools.{PoolHolds}
 use Rattle.shore_heap.specs.Heaps.{WroteBack, limit_of, pool_of}
-use Rattle.laws_lives.specs.Pages.{LoggedPages}
-use Rattle.laws_lives.specs.Recovery.{CrashMayLeave, RecoveryEvent, RecoveryState}
+use Rattle.laws_lives.specs.Recovery.{RecoveryEvent, RecoveryState}
 use Rattle.laws_lives.specs.ManagerSteps.{WorksTo}
-use Rattle.laws_images.specs.LoggedHeaps.{LeavesStore}
 use Rattle.shore_core.specs.Cores as cores
 use Rattle.shore_core.specs.Cores.{IsIn, IsOver, IsSafe}
 use Rattle.shore_core.specs.Flushing.{AreFlushes, FlushAnswers, FlushMoves}
 use Rattle.shore_core.specs.Replies.{Earns, NeedsForceIn, SameVolume, fault_at}
 use Rattle.shore_restart.specs.declared.passes.Report.{Report}
+use Rattle.laws_images.specs.Moments.{GivesPrefixOf, ShowsLeft}
 use Rattle.shore_world.specs.declared.event.Event.{Event}
 use Rattle.shore_world.specs.declared.event.Event.TheVariants as event
 use Rattle.shore_world.specs.declared.world.World.{World}
@@ -111,14 +110,6 @@ EventStep g s event step new = ⊥
 
 -- ---- what a crash leaves
 
--- behind this front the frames give a prefix of the list, of this many records at least
-abbrev pub GivesBeginning : List ℕ → ℕ → List LogRecord → List ℕ → Type 0
-GivesBeginning front least rs image = (n : ℕ) × (least ≤ n) × (n ≤ length rs) × GivesBehind front (take n rs) image
-
--- behind this front the volume shows pages that power may be lost with over the store
-abbrev pub ShowsLeft : Geometry → List ℕ → RecoveryState → List ℕ → Type 0
-ShowsLeft g front store image = (left : LoggedPages) × CrashMayLeave store left × LeavesStore store.log g front left image
-
 module _ {L V : Type 0} {G : Ghosts L} {H : Ghosts V} where
   -- the log device is settled, or a frame of its waiting records is staged
   abbrev pub IsReady : World L V G H → List ℕ → Type 0
@@ -127,7 +118,7 @@ module _ {L V : Type 0} {G : Ghosts L} {H : Ghosts V} where
   -- Behind this front a crash now leaves a prefix of the list with all that is durable; and as long as no device has failed
   -- the next force can be made.
   pub record SurvivesCrashes (w : World L V G H) (front : List ℕ) : Type 0 where
-    pub images : (c : List ℕ) → may_leave (history_in w) c → GivesBeginning front (durable_in w) (list_in w) c
+    pub images : (c : List ℕ) → may_leave (history_in w) c → GivesPrefixOf front (durable_in w) (list_in w) c
     pub ready : failed_in w ≡ false → IsReady w front
 
   -- The world is in this state, over this store, and a crash now leaves of both devices what the store may lose power with.
@@ -152,7 +143,7 @@ module _ {L V : Type 0} {G : Ghosts L} {H : Ghosts V} where
   -- At each moment on the way a crash leaves of the log a prefix of the list as it was before, with all that was durable then, and of the volume pages
   -- that the store may lose power with.
   pub record LeavesAtAnyMoment (old new : World L V G H) : Type 0 where
-    pub log : (log_front : List ℕ) → SurvivesCrashes old log_front → LeavesOnly (history_in old) (history_in new) (GivesBeginning log_front (durable_in old) (list_in old))
+    pub log : (log_front : List ℕ) → SurvivesCrashes old log_front → LeavesOnly (history_in old) (history_in new) (GivesPrefixOf log_front (durable_in old) (list_in old))
     pub volume : (log_front front : List ℕ) (disk : ℕ → List ℕ) (s : State) (store : RecoveryState) → IsAt old log_front front disk s store
         → LeavesOnly (volume_history_in old) (volume_history_in new) (ShowsLeft (geometry_in old) front store)
     -- one device at most was touched

@@ -13,7 +13,7 @@ ghost use Rattle.laws_lives.specs.Restarts.{RestartsTo};
 ghost use Rattle.laws_lives.specs.Stretches.{just_formatted, opening_told};
 ghost use Rattle.shore_model.specs.declared.step.Step.{Step};
 ghost use Rattle.laws_calls.specs.Events.{ManagerEvent};
-ghost use Rattle.laws_runs.specs.StoredRuns.{AreFixed, AreStoredRuns, OpensShow, StoredEvent, StoredMoves, StoredRun, StoredState, lists_found, spans_of};
+ghost use Rattle.laws_runs.specs.StoredRuns.{AreFixed, AreStoredRuns, RunsShow, StoredEvent, StoredMoves, StoredRun, StoredState, lists_found, spans_of_runs};
 ghost use Rattle.shore_format.specs.Pairs.{AreFormatted};
 ghost use Rattle.laws_runs.specs.SoundStores.{IsUnderWay, found_state, managed};
 ghost use Rattle.laws_runs.specs.Stays.{IsStoredUp};
@@ -48,7 +48,7 @@ pub fn committed_work_survives_every_crash<L: Disk, V: Disk>()
         AreFormatted g log_bytes volume_bytes log_first volume_first → AreStays log_bytes volume_bytes log_first volume_first stays log_last volume_last →
         (rs : List LogRecord) × (pages : LoggedPages) × (runs : List StoredRun) × (end : RecoveryState) × StandsFor g log_bytes volume_bytes rs pages log_last volume_last
         × AreRunsOf stays runs × AreStoredRuns g just_formatted runs end × ((works : List RecoveryEvent) × RestartsTo end works (found_state rs pages))
-        × IsLife (opening_with empty) (spans_of just_formatted runs) (opening_told rs) × OpensShow (opening_with empty) just_formatted runs
+        × IsLife (opening_with empty) (spans_of_runs just_formatted runs) (opening_told rs) × RunsShow (opening_with empty) just_formatted runs
         × AreFixed (lists_found just_formatted runs) rs }
 {}
 

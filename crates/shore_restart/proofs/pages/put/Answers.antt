@@ -1,7 +1,7 @@
 use Rattle.std.proofs.Common.{subst}
 use Rattle.shore_types.specs.Images.{Image}
 use Rattle.shore_heap.specs.Contents.{unclaimed}
-use Rattle.laws_images.specs.LoggedHeaps.{IsMade}
+use Rattle.laws_heaps.specs.LoggedHeaps.{IsMade}
 use Rattle.shore_restart.proofs.Putting.{put_appended, put_redone, slot_there}
 use Rattle.shore_restart.proofs.HeldPages.{put_held}
 use Rattle.shore_restart.proofs.pages.put.Goals as goal

@@ -19,8 +19,8 @@ use Rattle.laws_room.proofs.Costs.{compensation_bytes}
 use Rattle.laws_lives.specs.Sessions.{SessionTxn}
 use Rattle.laws_lives.specs.Views.{IsAmong}
 use Rattle.laws_calls.specs.States.{HasRoomFor, page_slots}
-use Rattle.laws_images.specs.LoggedHeaps.{IsMade}
-use Rattle.laws_images.proofs.Made.{appended_is}
+use Rattle.laws_heaps.specs.LoggedHeaps.{IsMade}
+use Rattle.laws_heaps.proofs.Made.{appended_is}
 use Rattle.shore_txn.specs.Transactions.{kept_in, room_in}
 use Rattle.shore_txn.specs.Txns.{as_session_txn}
 use Rattle.shore_txn.proofs.OneOfMany.{once_same}

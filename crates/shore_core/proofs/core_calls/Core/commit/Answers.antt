@@ -26,7 +26,7 @@ use Rattle.shore_txn.specs.declared.undo.UndoEntry.{UndoEntry}
 use Rattle.shore_sessions.specs.Controls.{txns_in}
 use Rattle.shore_sessions.specs.Standing.{IsLogged}
 use Rattle.shore_sessions.specs.declared.control.Control.{Control}
-use Rattle.laws_images.proofs.Made.{appended_without}
+use Rattle.laws_heaps.proofs.Made.{appended_without}
 use Rattle.shore_core.specs.Cores.{control_of, durable_of, first_of, has_failed, txns_of, waiting_of}
 use Rattle.shore_core.specs.Parts.{HasParts}
 use Rattle.shore_core.proofs.Changed.{same_geometry}

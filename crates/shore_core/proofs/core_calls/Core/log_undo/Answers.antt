@@ -16,8 +16,8 @@ use Rattle.laws_lives.specs.Logged.{next_to_undo}
 use Rattle.laws_lives.specs.Views.{IsAmong}
 use Rattle.laws_calls.specs.Rollbacks.{put_back}
 use Rattle.laws_calls.specs.States.{page_slots}
-use Rattle.laws_images.specs.LoggedHeaps.{IsMade}
-use Rattle.laws_images.proofs.Made.{appended_is}
+use Rattle.laws_heaps.specs.LoggedHeaps.{IsMade}
+use Rattle.laws_heaps.proofs.Made.{appended_is}
 use Rattle.shore_txn.specs.Transactions.{kept_in}
 use Rattle.shore_txn.specs.UndoEntries.{image_of}
 use Rattle.shore_sessions.specs.Controls.{txns_in}

@@ -1,0 +1,11 @@
+pub mod AllPages
+pub mod Counts
+pub mod Done
+pub mod Flushes
+pub mod LoggedLeft
+pub mod Made
+pub mod OneStore
+pub mod SettledSlots
+pub mod SlotImages
+pub mod StaySettled
+pub mod Stores

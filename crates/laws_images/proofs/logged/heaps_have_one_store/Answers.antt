@@ -1,5 +1,0 @@
-use Rattle.laws_images.proofs.OneStore.{one_store}
-use Rattle.laws_images.proofs.logged.heaps_have_one_store.Goals as goal
-
-pub returns : goal.returns
-returns g c = one_store

@@ -1,8 +1,0 @@
-use Rattle.laws_images.proofs.StaySettled.{settled_after, settled_shown}
-use Rattle.laws_images.proofs.logged.heaps_stay_settled.Goals as goal
-
-pub returns-clause-shown : goal.returns-clause-shown
-returns-clause-shown g c = settled_shown
-
-pub returns-clause-changed : goal.returns-clause-changed
-returns-clause-changed g c = settled_after
