@@ -15,3 +15,5 @@ pub mod RestartRefusals
 pub mod OpenPaths
 pub mod OpenedLemmas
 pub mod RestartNames
+pub mod ExchangeLemmas
+pub mod PromiseLemmas
