@@ -3,10 +3,10 @@ use Rattle.std.specs.Prelude.{◌≡◌, ◌⊎◌, ◌<◌, ◌++◌, ◌∷◌
 use Rattle.shore_types.specs.declared.layout.Geometry.{Geometry}
 use Rattle.shore_model.specs.declared.log_records.LogRecord.{LogRecord}
 use Rattle.shore_model.specs.Logs.{unanswered, undo_next_of}
-use Rattle.laws_lives.specs.Undo.{IsLoser, IsUndoneTo, undo_record}
+use Rattle.laws_lives.specs.Undo.{IsLoser, undo_record}
 use Rattle.shore_analysis.specs.Meant.{AreMeant, IsFirstUnmeant}
 use Rattle.laws_runs.specs.SlotCounts.{FitsBehind}
-use Rattle.shore_analysis.specs.Losers.{HasLosers, IsNextToUndo, turns_left}
+use Rattle.shore_analysis.specs.Losers.{HasLosers, IsNextToUndo, IsUndoneInOrder, turns_left}
 use Rattle.shore_restart.specs.declared.turns.Undo.{Undo}
 use Rattle.shore_restart.specs.Errors.{DoesNotFit}
 use Rattle.shore_restart.specs.Room.{IsRoomBehind, LeavesRoom}
@@ -17,14 +17,15 @@ pub record IsUndoOf (g : Geometry) (log : List LogRecord) (stream_bytes : ℕ) (
   pub losers : HasLosers log undo.losers
   pub room : IsRoomBehind log stream_bytes undo.room
 
--- the log is one that was found, with turns of undo behind it
+-- the log is one that was found, with turns of undo behind it, in their order
 abbrev pub IsUndoneSoFar : List LogRecord → List LogRecord → Type 0
-IsUndoneSoFar found log = (turns : List ℕ) × IsUndoneTo found turns log
+IsUndoneSoFar found log = (turns : List ℕ) × IsUndoneInOrder found turns log
 
--- a loser's next record of undo was appended, and fewer turns are left
+-- the next record of undo of a loser that is next was appended, and fewer turns are left
 pub record TakesTurn (log later : List LogRecord) (old new : Undo) : Type 0 where
   pub loser : ℕ
   pub is_one : IsLoser log loser
+  pub next : IsNextToUndo log loser
   pub logged : later ≡ log ++ undo_record log loser ∷ []
   pub fewer : turns_left later new.losers < turns_left log old.losers
 

@@ -16,7 +16,7 @@ ghost use Rattle.shore_restart.specs.Opened.{Restarts, answer_of, heap_left, log
 ghost use Rattle.shore_restart.specs.Missing.{missing_on};
 ghost use Rattle.shore_restart.specs.Quiet.{IsQuiet, StaysQuiet};
 ghost use Rattle.shore_restart.specs.Standing.{IsFound, SameLog, SameVolume, log_faults, stream_bytes_of};
-ghost use Rattle.shore_restart.specs.Turns.{IsBadRecord, LacksRoom};
+ghost use Rattle.shore_restart.specs.Turns.{IsBadRecord, IsUndoneSoFar, LacksRoom};
 
 use crate::errors::RestartError;
 use crate::passes::{Passed, Report, run_passes};
@@ -39,6 +39,8 @@ pub fn restart<L: Disk, V: Disk>(
     // one with all records done and no loser, durable and shown by the core.
     ensures restarts { (log_front front : List ℕ) (disk : ℕ → List ℕ) (s : RecoveryState) → IsFound log_front front disk log.old heap s
         → Restarts result log_front front log.old log.new heap s }
+    // The log has grown by the turns of the losers, in their order.
+    ensures undone { OnOk result (IsUndoneSoFar (records_of_log log.old) (records_of_log log.new)) }
     ensures report { IfOk result (λ done. (done.1.read ≡ length (records_of_log log.old)) × (done.1.redone ≤ done.1.read)
         × ((tables : Tables) × AreTables (records_of_log log.old) tables × (done.1.undone ≡ length tables.txns))) }
     // .. and of a store that was found, how many of the log's records its pages did not have.

@@ -168,6 +168,7 @@ module _ (g : Geometry) (log_bytes volume_bytes : ℕ) (rs : List LogRecord) (pa
       of_log = refl;
       of_volume = refl;
       opened = tt;
+      undone = tt;
     }
 
   -- ---- what a restart finds

@@ -14,6 +14,7 @@ use Rattle.laws_runs.proofs.Opens.{fits_stream, has_numbers, meant, undo_fits}
 use Rattle.laws_runs.proofs.Prefixes.{whole_roomy}
 use Rattle.laws_runs.proofs.Redoing.{each_fits}
 use Rattle.laws_runs.proofs.Undoing.{turns_are_roomy, undone_are_roomy}
+use Rattle.shore_analysis.proofs.InTurn.{in_order_undone}
 use Rattle.shore_analysis.specs.Meant.{MayBeNext}
 use Rattle.shore_restart.specs.declared.errors.RestartError.{RestartError}
 use Rattle.shore_restart.specs.declared.errors.RestartError.TheVariants as error
@@ -37,7 +38,7 @@ module _ (g : Geometry) (stream_bytes : ℕ) (short : stream_bytes ≤ MAX_LOG_B
   pub lacks_no_room : (log : List LogRecord) → AreRoomy g stream_bytes log → LacksRoom log stream_bytes → ⊥
   lacks_no_room log k (inl none) = none (leaves_room log k)
   lacks_no_room log k (inr (so_far, undone, (t, loser, none))) =
-      none (leaves_room (so_far ++ undo_record so_far t ∷ []) (undone_are_roomy g stream_bytes so_far t (turns_are_roomy g stream_bytes log undone.0 so_far k undone.1) loser))
+      none (leaves_room (so_far ++ undo_record so_far t ∷ []) (undone_are_roomy g stream_bytes so_far t (turns_are_roomy g stream_bytes log undone.0 so_far k (in_order_undone log undone.0 so_far undone.1)) loser))
 
   -- each record means what it has to, and fits its page, as does what its undo brings back
   pub none_is_bad : (log : List LogRecord) (n : ℕ) → AreRoomy g stream_bytes log → Lawful log → IsBadRecord g log n → ⊥
@@ -45,7 +46,7 @@ module _ (g : Geometry) (stream_bytes : ℕ) (short : stream_bytes ≤ MAX_LOG_B
       some_bad (slice_get log (n - 1)) (λ r. MayBeNext g (take (n - 1) log) r) unmeant.here (λ r at. meant g stream_bytes log k lawful (n - 1) r at)
   none_is_bad log n k lawful (inr (inl (some, (r, at, misfit)))) = misfit (each_fits g stream_bytes log k (n - 1) r at)
   none_is_bad log n k lawful (inr (inr (so_far, undone, (t, loser, next, is, misfit)))) =
-      misfit (undo_fits g stream_bytes so_far t (whole_roomy g stream_bytes so_far (turns_are_roomy g stream_bytes log undone.0 so_far k undone.1)) loser)
+      misfit (undo_fits g stream_bytes so_far t (whole_roomy g stream_bytes so_far (turns_are_roomy g stream_bytes log undone.0 so_far k (in_order_undone log undone.0 so_far undone.1))) loser)
 
   -- so what it is refused with comes from outside
   pub refused_from_outside : (log : List LogRecord) → AreRoomy g stream_bytes log → Lawful log → (e : RestartError) (f : Fault)

@@ -1,5 +1,5 @@
 -- What an open says of its way, if its devices stand for a log: from moment to moment, by steps of a restart, to the world that it answers.
-use Rattle.std.specs.Prelude.{◌≡◌, ◌-◌, ◌≤◌, ℕ, List, Result, IfOk, length, take}
+use Rattle.std.specs.Prelude.{◌≡◌, ◌-◌, ◌≤◌, ℕ, List, Result, IfOk, OnOk, length, take}
 use Rattle.shore_types.specs.declared.faults.Fault.{Fault}
 use Rattle.shore_types.specs.declared.layout.Geometry.{Geometry}
 use Rattle.shore_types.specs.declared.layout.TheConstants.{LOG_FRONT_BYTES}
@@ -17,6 +17,7 @@ use Rattle.laws_calls.specs.States.{State}
 use Rattle.laws_images.specs.Moments.{Moment, Path}
 use Rattle.laws_images.specs.StandsFor.{begun_on}
 use Rattle.shore_restart.specs.declared.passes.Report.{Report}
+use Rattle.shore_restart.specs.Turns.{IsUndoneSoFar}
 use Rattle.shore_world.specs.declared.world.World.{World}
 use Rattle.shore_world.specs.Worlds.{IsAt, geometry_in, history_in, log_in, volume_history_in, volume_in}
 
@@ -37,7 +38,8 @@ pub record IsOpenedAt {L V : Type 0} {G : Ghosts L} {H : Ghosts V} (w : World L 
   pub over : IsOpenedOver last.store first
   pub from : IsOpenedFrom (size last.log - LOG_FRONT_BYTES) last.store.log first
 
--- The open of devices that hold these images, of which a log and pages are said: its way, and at Ok the world at its end.
+-- The open of devices that hold these images, of which a log and pages are said: its way, and at Ok the world at its end. Its losers have taken their
+-- turns in their order.
 pub record OpensAlong {L V : Type 0} {G : Ghosts L} {H : Ghosts V} (result : Result (World L V G H) (Fault × L × V)) (g : Geometry) (log volume : History) (log_image volume_image : List ℕ) (rs : List LogRecord) (pages : LoggedPages) : Type 0 where
   pub moments : List Moment
   pub last : Moment
@@ -45,6 +47,7 @@ pub record OpensAlong {L V : Type 0} {G : Ghosts L} {H : Ghosts V} (result : Res
   pub of_log : last.log ≡ G.history (log_in result)
   pub of_volume : last.volume ≡ H.history (volume_in result)
   pub opened : IfOk result (λ w. IsOpenedAt w g (take LOG_FRONT_BYTES log_image) (take GATE_AT volume_image) last)
+  pub undone : OnOk result (IsUndoneSoFar rs last.store.log)
 
 -- What a restart tells of a log that it found: how many records it has, how many of them pages lacked, and how many transactions it had to end.
 pub record IsReportOf (found : List LogRecord) (report : Report) : Type 0 where

@@ -25,7 +25,7 @@ use Rattle.shore_types.specs.declared.faults.Fault.TheVariants.{Damaged}
 use Rattle.shore_gate.specs.Anchor.{offset_of}
 use Rattle.shore_dwrite.specs.Shown.{Shows}
 use Rattle.shore_restart.specs.Held.{IsPageFault}
-use Rattle.shore_restart.specs.Turns.{LacksRoom}
+use Rattle.shore_restart.specs.Turns.{IsUndoneSoFar, LacksRoom}
 use Rattle.shore_world.proofs.RestartNames.{names_of, settled_left}
 use Rattle.shore_world.proofs.AreaLemmas.{shown_not_refused}
 use Rattle.shore_world.proofs.OpenLemmas.{outside_or_not, pair_still_after, still_after, told_of}
@@ -184,6 +184,7 @@ returns-in-Ok-restart-clause-along g c of_log of_volume geometry rs pages log_im
       opened = opened_along _ geometry (take 4096 log_image) (take 4096 volume_image) (begun_on log volume rs pages) moments went.ready is.stands.recoverable (omega arith) path
           (c.in-Ok-restart.ensures.volume.geometry ∙ heap_at) opens.0 opens.1 opens.3 opens.4
           (subst (λ (l : List LogRecord). OpensIn c.in-Ok-restart.core (take 4096 volume_image) opens.4 l (records_of_log c.restart.new.log) (stream_bytes_of c.restart.new.log) went.ready) list opens.5);
+      undone = subst (IsUndoneSoFar rs) (sym opens.3.records) (subst (λ (l : List LogRecord). IsUndoneSoFar l (records_of_log c.restart.new.log)) list c.in-Ok-restart.ensures.undone);
     }
 
 pub returns-in-Ok-restart-clause-report : goal.returns-in-Ok-restart-clause-report
@@ -283,6 +284,7 @@ returns-in-Err-restart-clause-along g c of_log of_volume geometry rs pages log_i
       of_log = sym (ap g.L.Disk.history c.into_device-in-Err-restart-2.ensures ∙ c.fault_of-fault.ensures.still honest_now);
       of_volume = sym (ap g.V.Disk.history (c.into_device-volume.ensures ∙ ap pages_of.device_of c.into_device-in-Err-restart.ensures));
       opened = tt;
+      undone = tt;
     }
 
 pub returns-in-Err-restart-clause-refused : goal.returns-in-Err-restart-clause-refused
