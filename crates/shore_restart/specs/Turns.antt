@@ -39,10 +39,13 @@ CannotUndo log n = (t : ℕ) × IsLoser log t × IsNextToUndo log t × (n ≡ un
 
 -- ---- why a restart is refused
 
--- The record of this number is the first that does not mean what it has to; or it does not fit its page; or what its undo brings back does not,
--- behind the records of undo so far.
+-- the record of this number does not fit its page, or what its undo brings back does not, behind the records of undo so far
+abbrev pub IsMisfit : List LogRecord → ℕ → Type 0
+IsMisfit log n = DoesNotFit log n ⊎ ((so_far : List LogRecord) × IsUndoneSoFar log so_far × CannotUndo so_far n)
+
+-- it is the first that does not mean what it has to; or all do, and it is such a misfit
 abbrev pub IsBadRecord : Geometry → List LogRecord → ℕ → Type 0
-IsBadRecord g log n = IsFirstUnmeant g log n ⊎ DoesNotFit log n ⊎ ((so_far : List LogRecord) × IsUndoneSoFar log so_far × CannotUndo so_far n)
+IsBadRecord g log n = IsFirstUnmeant g log n ⊎ (AreMeant g log × IsMisfit log n)
 
 -- the log leaves no room in a stream of this length, or it does with the records of undo so far but not with one more
 abbrev pub LacksRoom : List LogRecord → ℕ → Type 0
