@@ -20,7 +20,7 @@ use Rattle.laws_lives.specs.Sessions.{SessionTxn}
 use Rattle.laws_lives.specs.UndoLists.{undo_rolled}
 use Rattle.shore_model.specs.declared.rollbacks.Rollback.TheVariants.{Whole}
 use Rattle.laws_lives.specs.Views.{IsAmong}
-use Rattle.laws_calls.proofs.LongerLogs.{victim_further}
+use Rattle.laws_calls.proofs.LongerLogs.{victims_further}
 use Rattle.laws_runs.proofs.Running.{comes_leaving, later_leaving}
 use Rattle.laws_calls.proofs.SessionRooms.{comes_roomy}
 use Rattle.laws_calls.specs.CallHistories.{IsRoomyState}
@@ -99,7 +99,7 @@ module _ (g : Geometry) where
   safe_victim : (s : State) (safe : IsSafe g s) (t : ℕ) (v : Victim) (new : State) → TakesVictim s t v new → IsSafe g new
   safe_victim s safe t v new h =
       let comes = victim_comes safe.found safe.entries s safe.after g t v new h in
-      let even = (victim_further s t v new h).durable in
+      let even = (victims_further s t (v ∷ []) new (new, h, refl)).durable in
       record {
         found = safe.found;
         entries = safe.entries;
