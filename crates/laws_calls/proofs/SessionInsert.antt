@@ -14,6 +14,7 @@ use Rattle.shore_model.specs.declared.calls.Answer.TheVariants.{Began, Committed
 use Rattle.shore_model.specs.declared.calls.Call.TheVariants as call
 use Rattle.shore_model.specs.declared.histories.Decision.TheVariants as decision
 use Rattle.shore_model.specs.declared.histories.Entry.{Entry}
+use Rattle.shore_model.specs.declared.log_records.Payload.TheVariants.{Change, Commit}
 use Rattle.shore_model.specs.Histories.{acknowledged}
 use Rattle.laws_calls.proofs.SettledAtOnce.{at_once, resumed_at_once}
 use Rattle.shore_model.specs.declared.step.Step.TheVariants.{Done, Waits}
@@ -151,3 +152,17 @@ module _ (g : Geometry) (stream_bytes : ℕ) (bytes : List ℕ) (store : HasStor
     put_here empty first_id (Some bytes),
     refl,
   )
+
+  -- what the run leaves in the log
+  pub session_leaves : session_comes_through.0.log
+      ≡ record { txn = 1; previous = 0; payload = Change first_id None (Some bytes) } ∷ record { txn = 1; previous = 1; payload = Commit } ∷ []
+  unfolding session_comes_through
+  session_leaves =
+      ap (λ before. record { txn = 1; previous = 0; payload = Change first_id before (Some bytes) } ∷ record { txn = 1; previous = 1; payload = Commit } ∷ []) nothing_there
+
+  -- its first two events
+  pub session_inserts : (begun : State) × (done : State) × EventMoves g (opened_empty stream_bytes) (Called 1 call.Begin (Done (Began 1))) begun
+      × EventMoves g begun (Called 1 (call.Insert 0 bytes) (Done (Inserted first_id))) done × (begun.log ≡ []) × (begun.durable ≡ 0)
+      × (done.log ≡ record { txn = 1; previous = 0; payload = Change first_id None (Some bytes) } ∷ []) × (done.durable ≡ 0)
+  session_inserts =
+      (s1, s2, begins, inserts, refl, refl, ap (λ before. record { txn = 1; previous = 0; payload = Change first_id before (Some bytes) } ∷ []) nothing_there, refl)

@@ -17,3 +17,4 @@ pub mod StateLosers
 pub mod StaySteps
 pub mod UnderWay
 pub mod Undoing
+mod StolenPage

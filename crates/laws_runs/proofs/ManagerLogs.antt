@@ -25,7 +25,7 @@ use Rattle.laws_lives.specs.Restarts.{IsRestartOf, IsRestartStep, RestartsTo}
 use Rattle.laws_runs.proofs.Runs.{events_come, found_next, opened}
 use Rattle.laws_runs.specs.StoredRuns.{AreStoredRuns, IsOpenedOver, IsStoredRun, Manage, StoredEvent, StoredMoves, StoredRun, StoredState, Tend, left_by_run}
 use Rattle.laws_runs.proofs.Opens.{opens_leaving, opens_roomy}
-use Rattle.laws_runs.proofs.Prefixes.{left_roomy, whole_roomy}
+use Rattle.laws_runs.proofs.Prefixes.{later_roomy, left_roomy, whole_roomy}
 use Rattle.laws_runs.proofs.Running.{event_leaving}
 use Rattle.laws_runs.proofs.Undoing.{undone_are_roomy}
 use Rattle.laws_runs.specs.RoomyLogs.{AreRoomy}
@@ -35,24 +35,25 @@ use Rattle.laws_runs.specs.RoomyStates.{IsOpenedFrom, LeavesRoomyLogs}
 -- ---- a restart
 
 module _ (g : Geometry) (stream_bytes : ℕ) where
-  step_roomy : (s : RecoveryState) (e : RecoveryEvent) (new : RecoveryState) → AreRoomy g stream_bytes s.log → IsRestartStep s e → LeadsTo s e new
-      → AreRoomy g stream_bytes new.log
+  step_roomy : (s : RecoveryState) (e : RecoveryEvent) (new : RecoveryState) → AreRoomy g stream_bytes s.durable s.log → IsRestartStep s e → LeadsTo s e new
+      → AreRoomy g stream_bytes new.durable new.log
   step_roomy s (AppendRecord r) new k is leads =
-      subst (λ (x : RecoveryState). AreRoomy g stream_bytes x.log) (sym leads.1)
-      (subst (λ r. AreRoomy g stream_bytes (s.log ++ r ∷ [])) (sym is.2) (undone_are_roomy g stream_bytes s.log is.0 k is.1))
+      subst (λ (x : RecoveryState). AreRoomy g stream_bytes x.durable x.log) (sym leads.1)
+      (subst (λ r. AreRoomy g stream_bytes s.durable (s.log ++ r ∷ [])) (sym is.2) (undone_are_roomy g stream_bytes s.durable s.log is.0 k is.1))
   step_roomy s RedoRecord new k is leads = redone_keeps (slice_get s.log s.redone) leads
     where
-      redone_keeps : (o : Option LogRecord) → IsSomeAnd o (λ r. new ≡ after_redo s r) → AreRoomy g stream_bytes new.log
+      redone_keeps : (o : Option LogRecord) → IsSomeAnd o (λ r. new ≡ after_redo s r) → AreRoomy g stream_bytes new.durable new.log
       redone_keeps None h = absurd h
-      redone_keeps (Some r) h = subst (λ (x : RecoveryState). AreRoomy g stream_bytes x.log) (sym h) k
-  step_roomy s (ForceLog n) new k is leads = subst (λ (x : RecoveryState). AreRoomy g stream_bytes x.log) (sym leads.2) k
-  step_roomy s (FlushPage p) new k is leads = subst (λ (x : RecoveryState). AreRoomy g stream_bytes x.log) (sym leads.1) k
+      redone_keeps (Some r) h = subst (λ (x : RecoveryState). AreRoomy g stream_bytes x.durable x.log) (sym h) k
+  step_roomy s (ForceLog n) new k is leads =
+      subst (λ (x : RecoveryState). AreRoomy g stream_bytes x.durable x.log) (sym leads.2) (later_roomy g stream_bytes s.durable n s.log leads.0 k)
+  step_roomy s (FlushPage p) new k is leads = subst (λ (x : RecoveryState). AreRoomy g stream_bytes x.durable x.log) (sym leads.1) k
   step_roomy s (LosePower n left begin) new k is leads =
-      subst (λ (x : RecoveryState). AreRoomy g stream_bytes x.log) (sym leads.1) (left_roomy g stream_bytes s.log n leads.0.1 k)
+      subst (λ (x : RecoveryState). AreRoomy g stream_bytes x.durable x.log) (sym leads.1) (left_roomy g stream_bytes s.durable s.log n leads.0.0 k)
 
-  pub restart_roomy : (s : RecoveryState) (works : List RecoveryEvent) (last : RecoveryState) → AreRoomy g stream_bytes s.log → RestartsTo s works last
-      → AreRoomy g stream_bytes last.log
-  restart_roomy s [] last k h = subst (λ (x : RecoveryState). AreRoomy g stream_bytes x.log) (sym h) k
+  pub restart_roomy : (s : RecoveryState) (works : List RecoveryEvent) (last : RecoveryState) → AreRoomy g stream_bytes s.durable s.log → RestartsTo s works last
+      → AreRoomy g stream_bytes last.durable last.log
+  restart_roomy s [] last k h = subst (λ (x : RecoveryState). AreRoomy g stream_bytes x.durable x.log) (sym h) k
   restart_roomy s (e ∷ works) last k h = restart_roomy h.1 works last (step_roomy s e h.1 k h.0 h.2) h.3
 
 -- ---- the open over it
@@ -96,29 +97,29 @@ module _ (g : Geometry) (stream_bytes : ℕ) (found : List LogRecord) where
 -- ---- a manager from its restart to a crash
 
 module _ (g : Geometry) (stream_bytes : ℕ) (s : RecoveryState) (r : StoredRun) (f : MayBeFound s) (h : IsStoredRun g s r)
-    (k : AreRoomy g stream_bytes s.log) (opens : IsOpenedFrom stream_bytes r.ready.log r.first) where
-  ready_roomy : AreRoomy g stream_bytes r.ready.log
+    (k : AreRoomy g stream_bytes s.durable s.log) (opens : IsOpenedFrom stream_bytes r.ready.log r.first) where
+  ready_roomy : AreRoomy g stream_bytes r.ready.durable r.ready.log
   ready_roomy = restart_roomy g stream_bytes s r.restart r.ready k h.restarts
 
   first_roomy : IsRoomyState r.first
-  first_roomy = opens_roomy g stream_bytes r.ready.log r.first opens (whole_roomy g stream_bytes r.ready.log ready_roomy)
+  first_roomy = opens_roomy g stream_bytes r.ready.log r.first opens (whole_roomy g stream_bytes r.ready.durable r.ready.log ready_roomy)
 
   first_leaves : LeavesRoomyLogs g stream_bytes r.first
   first_leaves =
       let restarted = events_restart s.log s r.restart r.ready f.recoverable (record { turns = []; undone = refl; durable = f.durable }) h.restarts in
-      opens_leaving g stream_bytes r.ready.log r.first opens ready_roomy (undone_lawful s.log restarted.1.turns r.ready.log restarted.1.undone f.lawful) h.no_losers
+      opens_leaving g stream_bytes r.ready.log r.first opens r.first.durable (subst (λ n. AreRoomy g stream_bytes n r.ready.log) h.opens.stored.durable ready_roomy) (undone_lawful s.log restarted.1.turns r.ready.log restarted.1.undone f.lawful) h.no_losers
 
   pub last_has_room : IsRoomyState r.last.state × LeavesRoomyLogs g stream_bytes r.last.state
   last_has_room = moves_leaving g stream_bytes s.log [] (record { state = r.first; store = r.ready }) r.events r.last r.made (opened g s f r h) first_roomy first_leaves h.moves
 
-  pub crash_roomy : AreRoomy g stream_bytes (left_by_run r).log
+  pub crash_roomy : AreRoomy g stream_bytes (left_by_run r).durable (left_by_run r).log
   crash_roomy =
       let come = events_come g s.log [] (record { state = r.first; store = r.ready }) h.opens.stored (opened g s f r h) r.events r.last r.made h.moves in
-      left_roomy g stream_bytes r.last.store.log r.survive h.crash.1
-      (subst (AreRoomy g stream_bytes) (sym come.stored.log) last_has_room.1.prefixes)
+      left_roomy g stream_bytes r.last.store.durable r.last.store.log r.survive h.crash.0
+      (subst (λ n. AreRoomy g stream_bytes n r.last.store.log) (sym come.stored.durable) (subst (AreRoomy g stream_bytes r.last.state.durable) (sym come.stored.log) last_has_room.1.prefixes))
 
 pub runs_roomy : (g : Geometry) (stream_bytes : ℕ) (s : RecoveryState) (runs : List StoredRun) (last : RecoveryState) → MayBeFound s
-    → AreRoomy g stream_bytes s.log → AreStoredRuns g s runs last → AreOpenedFrom stream_bytes runs → AreRoomy g stream_bytes last.log
-runs_roomy g stream_bytes s [] last f k h opens = subst (λ (x : RecoveryState). AreRoomy g stream_bytes x.log) (sym h) k
+    → AreRoomy g stream_bytes s.durable s.log → AreStoredRuns g s runs last → AreOpenedFrom stream_bytes runs → AreRoomy g stream_bytes last.durable last.log
+runs_roomy g stream_bytes s [] last f k h opens = subst (λ (x : RecoveryState). AreRoomy g stream_bytes x.durable x.log) (sym h) k
 runs_roomy g stream_bytes s (r ∷ runs) last f k h opens =
     runs_roomy g stream_bytes (left_by_run r) runs last (found_next g s f r h.0) (crash_roomy g stream_bytes s r f h.0 k opens.0) h.1 opens.1

@@ -36,16 +36,16 @@ use Rattle.laws_room.proofs.RolledBack.{rolled_claimed, rolled_room}
 use Rattle.laws_room.specs.Claims.{Claimed, rid_on}
 use Rattle.laws_room.specs.LogRooms.{owed_by_all}
 use Rattle.laws_room.specs.Settling.{settled_slots}
-use Rattle.laws_lives.proofs.Lists.{length-push, recursion-weaker, within_or_beyond}
+use Rattle.laws_lives.proofs.Lists.{length-push, recursion-weaker}
 use Rattle.laws_lives.specs.Sessions.{SessionTxn, txns_of}
 use Rattle.laws_lives.specs.Views.{IsAmong}
 use Rattle.laws_runs.proofs.Losers.{bounds_prepare_none}
-use Rattle.laws_runs.proofs.Prefixes.{whole_roomy}
+use Rattle.laws_runs.proofs.Prefixes.{whole_placed}
 use Rattle.laws_runs.proofs.Redoing.{all_at, record_fits}
 use Rattle.laws_runs.proofs.SlotCounts.{same_claimed}
 use Rattle.laws_runs.proofs.Undoing.{cost_pushed, undone_roomy}
-use Rattle.laws_runs.specs.RoomyLogs.{AreRoomy, IsRoomyLog}
-use Rattle.laws_runs.specs.RoomyStates.{IsOpenedFrom, LeavesRoomyLogs}
+use Rattle.laws_runs.specs.RoomyLogs.{AreRoomy, IsPlacedLog, IsRoomyLog}
+use Rattle.laws_runs.specs.RoomyStates.{IsOpenedFrom, LeavesRoomyLogsFrom}
 use Rattle.laws_runs.specs.SlotCounts.{FitsBehind, slot_count}
 
 -- ---- the empty log
@@ -53,8 +53,8 @@ use Rattle.laws_runs.specs.SlotCounts.{FitsBehind, slot_count}
 pub leaves_none : (id : Rid) → image_of_record [] id ≡ None
 leaves_none id = ap (λ o. unwrap_or o None) (get_id [] id)
 
-empty_is_roomy : (g : Geometry) (stream_bytes : ℕ) → LONGEST_FRAME ≤ stream_bytes → stream_bytes ≤ MAX_LOG_BYTES → IsRoomyLog g stream_bytes []
-empty_is_roomy g stream_bytes least most = record {
+empty_is_placed : (g : Geometry) → IsPlacedLog g []
+empty_is_placed g = record {
   records = empty;
   shown = λ id. get-empty rid_cmp id ∙ sym (leaves_none id);
   undos = [];
@@ -66,7 +66,6 @@ empty_is_roomy g stream_bytes least most = record {
     owned = λ a m. absurd m;
     once = tt;
   };
-  room = record { sum = refl; fits = omega arith; lsns = omega arith; short = most };
   inside = All-nil (IsInBounds g);
   few = none_crowded;
 }
@@ -78,9 +77,15 @@ empty_is_roomy g stream_bytes least most = record {
     none_crowded : IsCrowded [] → ⊥
     none_crowded crowded = no_entry crowded.0 crowded.1 crowded.2
 
-pub format_is_roomy : (g : Geometry) (stream_bytes : ℕ) → LONGEST_FRAME ≤ stream_bytes → stream_bytes ≤ MAX_LOG_BYTES → AreRoomy g stream_bytes []
-format_is_roomy g stream_bytes least most n le =
-    subst (IsRoomyLog g stream_bytes) (sym (whole n [] (omega arith))) (empty_is_roomy g stream_bytes least most)
+empty_is_roomy : (g : Geometry) (stream_bytes : ℕ) → LONGEST_FRAME ≤ stream_bytes → stream_bytes ≤ MAX_LOG_BYTES → IsRoomyLog g stream_bytes []
+unfolding empty_is_placed
+empty_is_roomy g stream_bytes least most = record { placed = empty_is_placed g; room = record { sum = refl; fits = omega arith; lsns = omega arith; short = most } }
+
+pub format_is_roomy : (g : Geometry) (stream_bytes : ℕ) → LONGEST_FRAME ≤ stream_bytes → stream_bytes ≤ MAX_LOG_BYTES → AreRoomy g stream_bytes 0 []
+format_is_roomy g stream_bytes least most = record {
+  placed = λ n. subst (IsPlacedLog g) (sym (whole n [] (omega arith))) (empty_is_placed g);
+  roomy = λ n from. subst (IsRoomyLog g stream_bytes) (sym (whole n [] (omega arith))) (empty_is_roomy g stream_bytes least most);
+}
   where
     whole : (n : ℕ) (log : List LogRecord) → length log ≤ n → take n log ≡ log
     whole n log le = take_all n log le
@@ -98,7 +103,7 @@ module _ (g : Geometry) (stream_bytes : ℕ) (log : List LogRecord) (k : IsRoomy
 
 module _ (g : Geometry) (stream_bytes : ℕ) (log : List LogRecord) (t : ℕ) (k : IsRoomyLog g stream_bytes log) (loser : IsLoser log t) where
   pub undo_fits : FitsBehind log (undo_record log t).payload
-  undo_fits = record_fits g stream_bytes log (undo_record log t) k (undone_roomy g stream_bytes log k t loser)
+  undo_fits = record_fits g log (undo_record log t) k.placed (undone_roomy g stream_bytes log k t loser).placed
 
   pub undo_has_log_room : (cost_of_log log + cost_of (undo_record log t).payload + LONGEST_FRAME ≤ stream_bytes) × (length log + 1 < LAST_OPENED)
   undo_has_log_room =
@@ -142,8 +147,8 @@ module _ (g : Geometry) where
       both (x ∷ log) r h = let rest = both log r h.1 in ((h.0, rest.0), rest.1)
 
   -- records that a roomy log leaves
-  pub records_inside : (stream_bytes : ℕ) (log : List LogRecord) (R : Records) → IsRoomyLog g stream_bytes log → ((id : Rid) → get R id ≡ image_of_record log id) → AreRecords g R
-  records_inside stream_bytes log R k shown id bytes at =
+  pub records_inside : (log : List LogRecord) (R : Records) → IsPlacedLog g log → ((id : Rid) → get R id ≡ image_of_record log id) → AreRecords g R
+  records_inside log R k shown id bytes at =
       let left : image_of_record log id ≡ Some bytes = sym (shown id) ∙ at in
       let slot = left_inside log (recursion_from_All (IsInBounds g) log k.inside) id bytes left in
       let n = slot_count log id.page in
@@ -167,10 +172,10 @@ module _ (g : Geometry) (stream_bytes : ℕ) (log : List LogRecord) (s : State) 
   pub opens_roomy : IsRoomyLog g stream_bytes log → IsRoomyState s
   opens_roomy k =
       let none = opened.active in
-      let same : k.records ≡ s.sessions.records = same_map rids_total exact_rids k.records s.sessions.records (λ id. k.shown id ∙ sym (opened.records id)) in
-      let claimed : Claimed k.records [] (slot_count log) = rolled_claimed k.records k.undos [] (slot_count log) k.pages (λ a m. absurd m) in
+      let same : k.placed.records ≡ s.sessions.records = same_map rids_total exact_rids k.placed.records s.sessions.records (λ id. k.placed.shown id ∙ sym (opened.records id)) in
+      let claimed : Claimed k.placed.records [] (slot_count log) = rolled_claimed k.placed.records k.placed.undos [] (slot_count log) k.placed.pages (λ a m. absurd m) in
       let placed : Claimed s.sessions.records [] s.counts =
-      subst (λ R. Claimed R [] s.counts) same (same_claimed k.records [] (slot_count log) s.counts opened.counts claimed) in
+      subst (λ R. Claimed R [] s.counts) same (same_claimed k.placed.records [] (slot_count log) s.counts opened.counts claimed) in
       let fits = k.room.fits in
       let sum = k.room.sum in
       let lsns = k.room.lsns in
@@ -184,9 +189,9 @@ module _ (g : Geometry) (stream_bytes : ℕ) (log : List LogRecord) (s : State) 
         log = record { sum = refl; fits = omega arith; lsns = omega arith; short = omega arith };
       }
 
-  pub opens_leaving : AreRoomy g stream_bytes log → Lawful log → HasNoLosers log → LeavesRoomyLogs g stream_bytes s
-  opens_leaving k lawful ended =
-      let whole = whole_roomy g stream_bytes log k in
+  pub opens_leaving : (least : ℕ) → AreRoomy g stream_bytes least log → Lawful log → HasNoLosers log → LeavesRoomyLogsFrom g stream_bytes least s
+  opens_leaving least k lawful ended =
+      let whole = whole_placed g stream_bytes least log k in
       let none = bounds_prepare_none g log whole.inside in
       let numbers : AllByRecursion (λ r. r.txn < LAST_TXN) log =
       recursion-weaker (IsInBounds g) (λ r. r.txn < LAST_TXN) (λ r h. h.number) log (recursion_from_All (IsInBounds g) log whole.inside) in
@@ -203,7 +208,7 @@ module _ (g : Geometry) (stream_bytes : ℕ) (log : List LogRecord) (s : State) 
       } in
       record {
         as_long = opened.as_long;
-        prefixes = subst (AreRoomy g stream_bytes) (sym opened.log) k;
+        prefixes = subst (AreRoomy g stream_bytes least) (sym opened.log) k;
         counts = λ p. opened.counts p ∙ ap (λ l. slot_count l p) (sym opened.log);
         whole = subst (λ l. IsWholeLog l s.sessions) (sym opened.log) is_whole;
         txns = opened.least LAST_TXN (omega arith) numbers;
@@ -211,10 +216,5 @@ module _ (g : Geometry) (stream_bytes : ℕ) (log : List LogRecord) (s : State) 
 
 -- ---- analysis
 
-pub meant : (g : Geometry) (stream_bytes : ℕ) (log : List LogRecord) → AreRoomy g stream_bytes log → Lawful log → AreMeant g log
-meant g stream_bytes log k lawful =
-    lawful_meant g log lawful (whole_roomy g stream_bytes log k).inside
-    (λ n. ⊎_elim
-    (λ within. (k n within).few)
-    (λ beyond. subst (λ rs. IsCrowded rs → ⊥) (sym (take_all n log (omega arith))) (whole_roomy g stream_bytes log k).few)
-    (within_or_beyond n (length log)))
+pub meant : (g : Geometry) (stream_bytes least : ℕ) (log : List LogRecord) → AreRoomy g stream_bytes least log → Lawful log → AreMeant g log
+meant g stream_bytes least log k lawful = lawful_meant g log lawful (whole_placed g stream_bytes least log k).inside (λ n. (k.placed n).few)

@@ -23,7 +23,7 @@ use Rattle.laws_room.proofs.RolledBack.{rolled_room}
 use Rattle.laws_room.specs.Claims.{each_from, rid_on}
 use Rattle.laws_lives.proofs.Ids.{told_apart}
 use Rattle.laws_runs.proofs.SlotCounts.{behind_here, slot_count-push}
-use Rattle.laws_runs.specs.RoomyLogs.{AreRoomy, IsRoomyLog}
+use Rattle.laws_runs.specs.RoomyLogs.{AreRoomy, IsPlacedLog}
 use Rattle.laws_runs.specs.SlotCounts.{EachFits, FitsBehind, slot_count, slots_behind, slots_left}
 
 -- an element has what all have
@@ -104,9 +104,9 @@ fits_before f h n slot image others here behind room =
 
 -- ---- logs
 
-module _ (g : Geometry) (stream_bytes : ℕ) where
-  -- the slots that a roomy log leaves have room
-  pub left_have_room : (log : List LogRecord) → IsRoomyLog g stream_bytes log → (p : PageId) → HasRoom (slots_left log p)
+module _ (g : Geometry) where
+  -- the slots that such a log leaves have room
+  pub left_have_room : (log : List LogRecord) → IsPlacedLog g log → (p : PageId) → HasRoom (slots_left log p)
   left_have_room log k p =
       subst HasRoom
       (each_alike (λ i. settled (get k.records (rid_on p i))) (λ i. settled (image_of_record log (rid_on p i))) 0 (slot_count log p)
@@ -114,10 +114,10 @@ module _ (g : Geometry) (stream_bytes : ℕ) where
       (rolled_room k.records k.undos [] (slot_count log) k.pages (λ a m. absurd m) p (slot_count log p) (omega arith))
 
   -- behind the slots nothing is
-  none_behind : (log : List LogRecord) → IsRoomyLog g stream_bytes log → (id : Rid) → slot_count log id.page ≤ id.slot → image_of_record log id ≡ None
+  none_behind : (log : List LogRecord) → IsPlacedLog g log → (id : Rid) → slot_count log id.page ≤ id.slot → image_of_record log id ≡ None
   none_behind log k id le = sym (k.shown id) ∙ k.pages.behind id le
 
-  module _ (log : List LogRecord) (r : LogRecord) (old : IsRoomyLog g stream_bytes log) (new : IsRoomyLog g stream_bytes (log ++ r ∷ [])) where
+  module _ (log : List LogRecord) (r : LogRecord) (old : IsPlacedLog g log) (new : IsPlacedLog g (log ++ r ∷ [])) where
     changed_fits : (e : Rid × Image) → image_in r.payload ≡ Some e → Fits (slots_left log e.0.page) e.0.slot (image_len e.1)
     changed_fits e is =
         let p = e.0.page in
@@ -142,7 +142,5 @@ module _ (g : Geometry) (stream_bytes : ℕ) where
     pub record_fits : FitsBehind log r.payload
     record_fits = fits_if_some (image_in r.payload) refl
 
-  pub each_fits : (log : List LogRecord) → AreRoomy g stream_bytes log → EachFits log
-  each_fits log k n r at =
-      let within = slice_get_within log n r at in
-      record_fits (take n log) r (k n (omega arith)) (subst (IsRoomyLog g stream_bytes) (take_next log n r at) (k (n + 1) (omega arith)))
+  pub each_fits : (stream_bytes least : ℕ) (log : List LogRecord) → AreRoomy g stream_bytes least log → EachFits log
+  each_fits stream_bytes least log k n r at = record_fits (take n log) r (k.placed n) (subst (IsPlacedLog g) (take_next log n r at) (k.placed (n + 1)))

@@ -18,13 +18,14 @@ use Rattle.shore_model.specs.Records.{Records}
 use Rattle.shore_analysis.specs.Meant.{IsInBounds, IsServedKind}
 use Rattle.laws_calls.proofs.Comings.{goes_keeps, like_keeps}
 use Rattle.laws_calls.proofs.SettledComings.{session_event_comes}
+use Rattle.laws_calls.proofs.LongerLogs.{settled_call_further, settled_resume_further}
 use Rattle.laws_calls.proofs.Links.{Changes, ComesBy, Commits, Compensates, Ends, Goes, GoesBy, IsLike, Writes}
 use Rattle.laws_calls.proofs.SessionRooms.{goes_roomy, like_roomy, session_event_roomy}
 use Rattle.laws_calls.proofs.SettledStates.{session_event_stays}
 use Rattle.laws_calls.proofs.Sessions.{AreSessionsAfter}
 use Rattle.laws_calls.proofs.TakenLocks.{sessions_of}
 use Rattle.laws_calls.specs.CallHistories.{IsRoomyState}
-use Rattle.laws_calls.specs.Events.{IsStateAfter, ManagerEvent, EventMoves, MovesMaking, entries_of}
+use Rattle.laws_calls.specs.Events.{Called, Forced, HasFailed, IsStateAfter, ManagerEvent, EventMoves, MovesMaking, Resumed, entries_of}
 use Rattle.laws_calls.specs.CallSteps.{txn_count}
 use Rattle.laws_calls.specs.States.{State}
 use Rattle.laws_lives.proofs.WholeLogs.{image_in_place}
@@ -36,12 +37,12 @@ use Rattle.laws_lives.specs.LogTells.{records_committed}
 use Rattle.laws_lives.specs.SessionSteps.{SessionEvent, entries_by}
 use Rattle.laws_lives.specs.Sessions.{Sessions}
 use Rattle.laws_runs.proofs.Opens.{records_inside}
-use Rattle.laws_runs.proofs.Prefixes.{push_roomy, whole_roomy}
+use Rattle.laws_runs.proofs.Prefixes.{later_roomy, push_roomy, whole_placed}
 use Rattle.laws_runs.proofs.LoggedIds.{logged_inside, logged_slot}
 use Rattle.laws_runs.proofs.SlotCounts.{behind_elsewhere, behind_here, behind_within, slot_count-push}
 use Rattle.laws_runs.proofs.StateLosers.{state_is_roomy}
 use Rattle.laws_runs.specs.RoomyLogs.{AreRoomy, IsRoomyLog}
-use Rattle.laws_runs.specs.RoomyStates.{LeavesRoomyLogs}
+use Rattle.laws_runs.specs.RoomyStates.{LeavesRoomyLogs, LeavesRoomyLogsFrom}
 use Rattle.laws_runs.specs.SlotCounts.{slot_count, slots_behind}
 
 -- ---- what an event appends
@@ -114,13 +115,13 @@ change_appends g s new h page = record {
 
 -- ---- one event of the sessions
 
-module _ (g : Geometry) (stream_bytes base : ℕ) (o : Records) (es : List Entry) (s : State) (k : AreSessionsAfter base o es s.sessions s.log) (h : LeavesRoomyLogs g stream_bytes s) where
+module _ (g : Geometry) (stream_bytes least base : ℕ) (o : Records) (es : List Entry) (s : State) (k : AreSessionsAfter base o es s.sessions s.log) (h : LeavesRoomyLogsFrom g stream_bytes least s) where
   -- the log and the slots stay
   stays_leaving : (new : State) → new.log ≡ s.log → new.counts ≡ s.counts → new.stream_bytes ≡ s.stream_bytes → IsWholeLog new.log new.sessions
-      → new.sessions.next_txn ≤ LAST_TXN → LeavesRoomyLogs g stream_bytes new
+      → new.sessions.next_txn ≤ LAST_TXN → LeavesRoomyLogsFrom g stream_bytes least new
   stays_leaving new log counts stream whole txns = record {
     as_long = stream ∙ h.as_long;
-    prefixes = subst (AreRoomy g stream_bytes) (sym log) h.prefixes;
+    prefixes = subst (AreRoomy g stream_bytes least) (sym log) h.prefixes;
     counts = λ p. ap (λ (c : SlotCounts). c p) counts ∙ h.counts p ∙ ap (λ l. slot_count l p) (sym log);
     whole = whole;
     txns = txns;
@@ -129,7 +130,7 @@ module _ (g : Geometry) (stream_bytes base : ℕ) (o : Records) (es : List Entry
   -- a record comes
   module _ (new : State) (later : List Entry) (new_sessions : AreSessionsAfter base o later new.sessions new.log) (new_roomy : IsRoomyState new) (few : length new.sessions.active ≤ MAX_TRANSACTIONS)
       (stream : new.stream_bytes ≡ s.stream_bytes) (whole : IsWholeLog new.log new.sessions) (txns : new.sessions.next_txn ≤ LAST_TXN) where
-    appended_leaving : AppendsOne g s.log new.log s.counts new.counts → LeavesRoomyLogs g stream_bytes new
+    appended_leaving : AppendsOne g s.log new.log s.counts new.counts → LeavesRoomyLogsFrom g stream_bytes least new
     appended_leaving one =
         let counts : (p : PageId) → new.counts p ≡ slot_count new.log p =
         λ p. one.grown p ∙ ap (slots_behind p (image_in one.appended.payload)) (h.counts p) ∙ sym (slot_count-push s.log one.appended p)
@@ -139,14 +140,14 @@ module _ (g : Geometry) (stream_bytes base : ℕ) (o : Records) (es : List Entry
         let number = last_below (λ r. r.txn < new.sessions.next_txn) s.log one.appended below in
         let inside : All (IsInBounds g) new.log =
         subst (All (IsInBounds g)) (sym one.is)
-        (All-push (IsInBounds g) s.log one.appended (whole_roomy g stream_bytes s.log h.prefixes).inside
+        (All-push (IsInBounds g) s.log one.appended (whole_placed g stream_bytes least s.log h.prefixes).inside
         (record { number = omega arith; served = one.served; id = one.inside })) in
         let roomy = state_is_roomy g base o later new new_sessions new_roomy few whole counts inside in
         record {
           as_long = stream ∙ h.as_long;
           prefixes =
-              subst (AreRoomy g stream_bytes) (sym one.is)
-              (push_roomy g stream_bytes s.log one.appended h.prefixes
+              subst (AreRoomy g stream_bytes least) (sym one.is)
+              (push_roomy g stream_bytes least s.log one.appended h.prefixes
               (subst (IsRoomyLog g stream_bytes) one.is (subst (λ n. IsRoomyLog g n new.log) (stream ∙ h.as_long) roomy)));
           counts = counts;
           whole = whole;
@@ -165,19 +166,19 @@ module _ (g : Geometry) (stream_bytes base : ℕ) (o : Records) (es : List Entry
         by : (o : Option (List ℕ)) → get s.sessions.records id ≡ o → IsSome o → HasPage g id.page
         by None at some = cc
         by (Some bytes) at some =
-            (records_inside g stream_bytes s.log s.sessions.records (whole_roomy g stream_bytes s.log h.prefixes) (λ id. sym (image_in_place k.sound k.logged h.whole id)) id bytes at).0.0
+            (records_inside g s.log s.sessions.records (whole_placed g stream_bytes least s.log h.prefixes) (λ id. sym (image_in_place k.sound k.logged h.whole id)) id bytes at).0.0
 
-    writes_leaving : Writes g s new → LeavesRoomyLogs g stream_bytes new
+    writes_leaving : Writes g s new → LeavesRoomyLogsFrom g stream_bytes least new
     writes_leaving (inl same) = stays_leaving new same.0 same.1 stream whole txns
     writes_leaving (inr (inl one)) = appended_leaving (commit_appends g s new one)
     writes_leaving (inr (inr (inl one))) = appended_leaving (change_appends g s new one (its_page one.id one.inside))
     writes_leaving (inr (inr (inr (inl one)))) = appended_leaving (end_appends g s new one)
     writes_leaving (inr (inr (inr (inr one)))) =
-        let inside = recursion_from_All (IsInBounds g) s.log (whole_roomy g stream_bytes s.log h.prefixes).inside in
+        let inside = recursion_from_All (IsInBounds g) s.log (whole_placed g stream_bytes least s.log h.prefixes).inside in
         appended_leaving (compensation_appends g s new one (logged_inside g one.txn s.log one.id one.logged inside)
         (subst (λ n. one.id.slot < n) (sym (h.counts one.id.page)) (logged_slot g one.txn s.log one.id one.logged)))
 
-  goes_leaving : (new : State) (e : SessionEvent) → IsRoomyState s → txn_count s ≤ MAX_TRANSACTIONS → Goes g s e new → LeavesRoomyLogs g stream_bytes new
+  goes_leaving : (new : State) (e : SessionEvent) → IsRoomyState s → txn_count s ≤ MAX_TRANSACTIONS → Goes g s e new → LeavesRoomyLogsFrom g stream_bytes least new
   goes_leaving new e roomy few goes =
       let whole : IsWholeLog new.log new.sessions =
       subst (λ l. IsWholeLog l new.sessions) (sym goes.log) (event_stays_whole o es s.sessions new.sessions e s.log k.sound k.logged h.whole goes.moves) in
@@ -187,17 +188,17 @@ module _ (g : Geometry) (stream_bytes base : ℕ) (o : Records) (es : List Entry
 
 -- ---- events of the sessions one after another
 
-by_leaving : (g : Geometry) (stream_bytes base : ℕ) (o : Records) (es : List Entry) (s : State) (events : List SessionEvent) (new : State) (made : List Entry) → AreSessionsAfter base o es s.sessions s.log
-    → IsRoomyState s → txn_count s ≤ MAX_TRANSACTIONS → LeavesRoomyLogs g stream_bytes s → GoesBy g s events new made → LeavesRoomyLogs g stream_bytes new
-by_leaving g stream_bytes base o es s [] new made k roomy few h x = subst (LeavesRoomyLogs g stream_bytes) (sym x.0) h
-by_leaving g stream_bytes base o es s (e ∷ events) new made k roomy few h x =
-    by_leaving g stream_bytes base o (es ++ entries_by s.sessions e) x.0 events new x.1 (goes_keeps base o es g s x.0 e k x.2) (goes_roomy base o es g s x.0 e k roomy x.2) (x.2.few few)
-    (goes_leaving g stream_bytes base o es s k h x.0 e roomy few x.2) x.3
+by_leaving : (g : Geometry) (stream_bytes least base : ℕ) (o : Records) (es : List Entry) (s : State) (events : List SessionEvent) (new : State) (made : List Entry) → AreSessionsAfter base o es s.sessions s.log
+    → IsRoomyState s → txn_count s ≤ MAX_TRANSACTIONS → LeavesRoomyLogsFrom g stream_bytes least s → GoesBy g s events new made → LeavesRoomyLogsFrom g stream_bytes least new
+by_leaving g stream_bytes least base o es s [] new made k roomy few h x = subst (LeavesRoomyLogsFrom g stream_bytes least) (sym x.0) h
+by_leaving g stream_bytes least base o es s (e ∷ events) new made k roomy few h x =
+    by_leaving g stream_bytes least base o (es ++ entries_by s.sessions e) x.0 events new x.1 (goes_keeps base o es g s x.0 e k x.2) (goes_roomy base o es g s x.0 e k roomy x.2) (x.2.few few)
+    (goes_leaving g stream_bytes least base o es s k h x.0 e roomy few x.2) x.3
 
-like_leaving : (g : Geometry) (stream_bytes : ℕ) (s t : State) → IsLike s t → LeavesRoomyLogs g stream_bytes s → LeavesRoomyLogs g stream_bytes t
-like_leaving g stream_bytes s t like h = record {
+like_leaving : (g : Geometry) (stream_bytes least : ℕ) (s t : State) → IsLike s t → LeavesRoomyLogsFrom g stream_bytes least s → LeavesRoomyLogsFrom g stream_bytes least t
+like_leaving g stream_bytes least s t like h = record {
   as_long = like.stream ∙ h.as_long;
-  prefixes = subst (AreRoomy g stream_bytes) (sym like.log) h.prefixes;
+  prefixes = subst (AreRoomy g stream_bytes least) (sym like.log) h.prefixes;
   counts = λ p. ap (λ (c : SlotCounts). c p) like.counts ∙ h.counts p ∙ ap (λ l. slot_count l p) (sym like.log);
   whole = subst (λ l. IsWholeLog l t.sessions) (sym like.log) (subst (λ (x : Sessions). IsWholeLog s.log x) (sym like.sessions) h.whole);
   txns = subst (λ (x : Sessions). x.next_txn ≤ LAST_TXN) (sym like.sessions) h.txns;
@@ -205,19 +206,48 @@ like_leaving g stream_bytes s t like h = record {
 
 -- ---- events of a manager
 
+-- fewer prefixes are asked once more is durable
+pub later_leaving : (g : Geometry) (stream_bytes least : ℕ) (s : State) → least ≤ s.durable → LeavesRoomyLogsFrom g stream_bytes least s → LeavesRoomyLogs g stream_bytes s
+later_leaving g stream_bytes least s le h = record {
+  as_long = h.as_long;
+  prefixes = later_roomy g stream_bytes least s.durable s.log le h.prefixes;
+  counts = h.counts;
+  whole = h.whole;
+  txns = h.txns;
+}
+
+-- no event makes less durable
+durable_rises : (g : Geometry) (s new : State) (e : ManagerEvent) → EventMoves g s e new → s.durable ≤ new.durable
+durable_rises g s new (Called session c step) h = let same = (settled_call_further g s session c step new h.1).durable in omega (arith, same)
+durable_rises g s new (Resumed session step) h = let same = (settled_resume_further g s session step new h).durable in omega (arith, same)
+durable_rises g s new (Forced n) h = let same = ap (λ (x : State). x.durable) h.2 in let more = h.0 in omega (arith, same, more)
+durable_rises g s new HasFailed h = let same = ap (λ (x : State). x.durable) h in omega (arith, same)
+
 module _ (g : Geometry) (stream_bytes : ℕ) (found : List LogRecord) where
-  pub comes_leaving : (es : List Entry) (s new : State) (made : List Entry) → IsStateAfter found es s → IsRoomyState s → LeavesRoomyLogs g stream_bytes s → ComesBy g s new made
-      → LeavesRoomyLogs g stream_bytes new
-  comes_leaving es s new made k roomy h comes =
-      let few : txn_count comes.start ≤ MAX_TRANSACTIONS = subst (λ (n : Sessions). length n.active + length n.committing ≤ MAX_TRANSACTIONS) (sym comes.before.sessions) k.few in
-      like_leaving g stream_bytes comes.mid new comes.after
-      (by_leaving g stream_bytes (length found) (records_committed found) es comes.start comes.events comes.mid made
-      (like_keeps (length found) (records_committed found) es s comes.start comes.before (sessions_of found es s k.sessions)) (like_roomy s comes.start comes.before roomy) few
-      (like_leaving g stream_bytes s comes.start comes.before h) comes.goes)
+  module _ (least : ℕ) where
+    pub comes_leaving : (es : List Entry) (s new : State) (made : List Entry) → IsStateAfter found es s → IsRoomyState s → LeavesRoomyLogsFrom g stream_bytes least s → ComesBy g s new made
+        → LeavesRoomyLogsFrom g stream_bytes least new
+    comes_leaving es s new made k roomy h comes =
+        let few : txn_count comes.start ≤ MAX_TRANSACTIONS = subst (λ (n : Sessions). length n.active + length n.committing ≤ MAX_TRANSACTIONS) (sym comes.before.sessions) k.few in
+        like_leaving g stream_bytes least comes.mid new comes.after
+        (by_leaving g stream_bytes least (length found) (records_committed found) es comes.start comes.events comes.mid made
+        (like_keeps (length found) (records_committed found) es s comes.start comes.before (sessions_of found es s k.sessions)) (like_roomy s comes.start comes.before roomy) few
+        (like_leaving g stream_bytes least s comes.start comes.before h) comes.goes)
+
+    pub event_leaving_from : (es : List Entry) (s new : State) (e : ManagerEvent) → IsStateAfter found es s → IsRoomyState s → LeavesRoomyLogsFrom g stream_bytes least s → EventMoves g s e new
+        → LeavesRoomyLogsFrom g stream_bytes least new
+    event_leaving_from es s new e k roomy h x = comes_leaving es s new (entries_of s e) k roomy h (session_event_comes g found es s k new e x)
+
+    pub events_leaving_from : (es : List Entry) (s : State) (events : List ManagerEvent) (last : State) (made : List Entry) → IsStateAfter found es s → IsRoomyState s
+        → LeavesRoomyLogsFrom g stream_bytes least s → MovesMaking g s events last made → LeavesRoomyLogsFrom g stream_bytes least last
+    events_leaving_from es s [] last made k roomy h x = subst (LeavesRoomyLogsFrom g stream_bytes least) (sym x.0) h
+    events_leaving_from es s (e ∷ events) last made k roomy h x =
+        events_leaving_from (es ++ entries_of s e) x.0 events last x.1 (session_event_stays g found es s x.0 e k x.2) (session_event_roomy found es s k roomy g x.0 e x.2)
+        (event_leaving_from es s x.0 e k roomy h x.2) x.3
 
   pub event_leaving : (es : List Entry) (s new : State) (e : ManagerEvent) → IsStateAfter found es s → IsRoomyState s → LeavesRoomyLogs g stream_bytes s → EventMoves g s e new
       → LeavesRoomyLogs g stream_bytes new
-  event_leaving es s new e k roomy h x = comes_leaving es s new (entries_of s e) k roomy h (session_event_comes g found es s k new e x)
+  event_leaving es s new e k roomy h x = later_leaving g stream_bytes s.durable new (durable_rises g s new e x) (event_leaving_from s.durable es s new e k roomy h x)
 
   pub events_leaving : (es : List Entry) (s : State) (events : List ManagerEvent) (last : State) (made : List Entry) → IsStateAfter found es s → IsRoomyState s
       → LeavesRoomyLogs g stream_bytes s → MovesMaking g s events last made → IsRoomyState last × LeavesRoomyLogs g stream_bytes last

@@ -9,7 +9,7 @@ use Rattle.shore_model.specs.declared.unanswered_changes.UnansweredChange.{Unans
 use Rattle.shore_model.specs.Logs.{Lawful, is_prepare, unanswered}
 use Rattle.laws_lives.proofs.Invariant.{crash_stands, event_kept, from_the_first}
 use Rattle.laws_lives.proofs.UndoRecords.{lawful_front, lawful_next, undo_follows}
-use Rattle.laws_lives.specs.Pages.{LoggedPages, empty_page}
+use Rattle.laws_lives.specs.Pages.{AreAsOfOwnNumbers, LoggedPages, empty_page}
 use Rattle.laws_lives.specs.Recovery.{AppendRecord, FlushPage, ForceLog, IsRecoverable, LeadsTo, LosePower, MayCrash, RecoveryEvent, RecoveryState, RedoRecord, after_crash, after_redo}
 use Rattle.laws_lives.specs.Restarts.{IsRestartStep, RestartsTo}
 use Rattle.laws_lives.specs.Undo.{undo_payload, undo_record}
@@ -20,6 +20,7 @@ use Rattle.laws_lives.specs.WholeLogs.{HasNoPrepare}
 use Rattle.laws_runs.proofs.ManagerLogs.{restart_roomy}
 use Rattle.laws_runs.proofs.Opens.{format_is_roomy}
 use Rattle.laws_runs.proofs.Prefixes.{left_roomy}
+use Rattle.laws_runs.specs.RoomyLogs.{AreRoomy}
 use Rattle.laws_runs.specs.SoundStores.{IsLost, IsSoundStore, MayBeOpened, found_state}
 
 -- ---- a restart
@@ -67,6 +68,17 @@ pub restarts_join : (s : RecoveryState) (works : List RecoveryEvent) (mid : Reco
 restarts_join s [] mid later last h k = subst (λ x. RestartsTo x later last) h k
 restarts_join s (e ∷ works) mid later last h k = (h.0, h.1, h.2, restarts_join h.1 works mid later last h.3 k)
 
+-- ---- what a restart finds
+
+pub found_recoverable : (rs : List LogRecord) (pages : LoggedPages) → AreAsOfOwnNumbers rs pages → IsRecoverable (found_state rs pages)
+found_recoverable rs pages as_of = record {
+  durable = omega arith;
+  redone = omega arith;
+  volume = as_of;
+  ahead = λ p. (as_of p).within;
+  in_place = from_the_first rs pages as_of;
+}
+
 module _ (g : Geometry) (stream_bytes : ℕ) where
   pub restart_sound : (s : RecoveryState) (works : List RecoveryEvent) (last : RecoveryState) → IsSoundStore g stream_bytes s → RestartsTo s works last
       → IsSoundStore g stream_bytes last
@@ -81,20 +93,11 @@ module _ (g : Geometry) (stream_bytes : ℕ) where
 
   -- ---- what it is handed
 
-  pub found_recoverable : (rs : List LogRecord) (pages : LoggedPages) → MayBeOpened g stream_bytes rs pages → IsRecoverable (found_state rs pages)
-  found_recoverable rs pages k = record {
-    durable = omega arith;
-    redone = omega arith;
-    volume = k.as_of;
-    ahead = λ p. (k.as_of p).within;
-    in_place = from_the_first rs pages k.as_of;
-  }
-
   pub found_sound : (rs : List LogRecord) (pages : LoggedPages) → MayBeOpened g stream_bytes rs pages → IsSoundStore g stream_bytes (found_state rs pages)
-  found_sound rs pages k = record { recoverable = found_recoverable rs pages k; lawful = k.lawful; no_prepare = k.no_prepare; roomy = k.roomy }
+  found_sound rs pages k = record { recoverable = found_recoverable rs pages k.as_of; lawful = k.lawful; no_prepare = k.no_prepare; roomy = k.roomy }
 
   pub found_may_be_found : (rs : List LogRecord) (pages : LoggedPages) → MayBeOpened g stream_bytes rs pages → MayBeFound (found_state rs pages)
-  found_may_be_found rs pages k = record { recoverable = found_recoverable rs pages k; lawful = k.lawful; no_prepare = k.no_prepare; durable = omega arith }
+  found_may_be_found rs pages k = record { recoverable = found_recoverable rs pages k.as_of; lawful = k.lawful; no_prepare = k.no_prepare; durable = omega arith }
 
   pub format_may_be_opened : LONGEST_FRAME ≤ stream_bytes → stream_bytes ≤ MAX_LOG_BYTES → MayBeOpened g stream_bytes [] (λ p. empty_page)
   format_may_be_opened least most = record {
@@ -111,7 +114,7 @@ module _ (g : Geometry) (stream_bytes : ℕ) where
     left_may_be_opened = record {
       lawful = lawful_front s.log n k.lawful;
       no_prepare = recursion-take (λ r. is_prepare r.payload ≡ false) n s.log k.no_prepare;
-      roomy = left_roomy g stream_bytes s.log n lost.most k.roomy;
+      roomy = subst (λ m. AreRoomy g stream_bytes m (take n s.log)) (sym (length-take-le n s.log lost.most)) (left_roomy g stream_bytes s.durable s.log n lost.least k.roomy);
       as_of = crash_stands s k.recoverable n left lost.least lost.most lost.shows;
     }
 

@@ -158,17 +158,19 @@ module _ (g : Geometry) (base : ℕ) (o : Records) (es : List Entry) (s : State)
 
   pub state_is_roomy : IsRoomyLog g s.stream_bytes s.log
   state_is_roomy = record {
-    records = s.sessions.records;
-    shown = λ id. sym (image_in_place k.sound k.logged whole id);
-    undos = has_left.left;
-    losers = are_losers;
-    pages = same_claimed s.sessions.records has_left.left s.counts (slot_count s.log) (λ p. sym (counts p)) has_left.pages;
+    placed = record {
+      records = s.sessions.records;
+      shown = λ id. sym (image_in_place k.sound k.logged whole id);
+      undos = has_left.left;
+      losers = are_losers;
+      pages = same_claimed s.sessions.records has_left.left s.counts (slot_count s.log) (λ p. sym (counts p)) has_left.pages;
+      inside = inside;
+      few = not_crowded;
+    };
     room =
         let fits = roomy.log.fits in
         let lsns = roomy.log.lsns in
         let sum = roomy.log.sum in
         let less = has_left.owed in
         record { sum = refl; fits = omega (arith, fits, sum, less); lsns = omega (arith, lsns, sum, less); short = roomy.log.short };
-    inside = inside;
-    few = not_crowded;
   }

@@ -1,5 +1,6 @@
 -- Stays of the power one after another are runs of managers, of which the laws of lives speak.
 use Rattle.std.proofs.Common.{◌≡◌, ◌++◌, ℕ, List, [], ◌∷◌, refl, sym, ap, subst, ◌∙◌, take}
+use Rattle.std.proofs.lemmas.List.{length-take-le}
 use Rattle.shore_types.specs.declared.layout.Geometry.{Geometry}
 use Rattle.shore_model.specs.declared.log_records.LogRecord.{LogRecord}
 use Rattle.shore_model.specs.Lives.{IsLife}
@@ -46,7 +47,7 @@ module _ (g : Geometry) (stream_bytes : ℕ) where
           left_is_found g stream_bytes c.reached reached_sound c.survive c.pages h.lost,
         )
 
-  module _ (s : RecoveryState) (f : MayBeFound s) (roomy : AreRoomy g stream_bytes s.log) (before : List RecoveryEvent) (rs : List LogRecord) (pages : LoggedPages)
+  module _ (s : RecoveryState) (f : MayBeFound s) (roomy : AreRoomy g stream_bytes s.durable s.log) (before : List RecoveryEvent) (rs : List LogRecord) (pages : LoggedPages)
       (begun : RestartsTo s before (found_state rs pages)) (r : StoredRun) (h : IsStoredUp g stream_bytes (found_state rs pages) r) where
     restarts : RestartsTo s (before ++ r.restart) r.ready
     restarts = restarts_join s before (found_state rs pages) r.restart r.ready begun h.restarts
@@ -77,7 +78,7 @@ module _ (g : Geometry) (stream_bytes : ℕ) where
 
   -- ---- any number of them
 
-  pub stays_come : (s : RecoveryState) → MayBeFound s → AreRoomy g stream_bytes s.log → (before : List RecoveryEvent) (rs : List LogRecord) (pages : LoggedPages)
+  pub stays_come : (s : RecoveryState) → MayBeFound s → AreRoomy g stream_bytes s.durable s.log → (before : List RecoveryEvent) (rs : List LogRecord) (pages : LoggedPages)
       → RestartsTo s before (found_state rs pages) → MayBeOpened g stream_bytes rs pages → (stays : List StoredStay) (last : List LogRecord) (last_pages : LoggedPages)
       → AreStoredStays g stream_bytes rs pages stays last last_pages → HaveComeTo g stream_bytes s (runs_of before stays) last last_pages
   stays_come s f roomy before rs pages begun o [] last last_pages h = record {
@@ -95,7 +96,8 @@ module _ (g : Geometry) (stream_bytes : ℕ) where
       let run = is_run s f roomy before rs pages begun r h.0 in
       let left = up_leaves s f roomy before rs pages begun r h.0 in
       let rest =
-      stays_come (after_crash r.last.store r.survive r.pages r.begin) (found_next g s f (record r { restart = before ++ r.restart }) run) left.roomy []
+      stays_come (after_crash r.last.store r.survive r.pages r.begin) (found_next g s f (record r { restart = before ++ r.restart }) run)
+      (subst (λ n. AreRoomy g stream_bytes n (take r.survive r.last.store.log)) (length-take-le r.survive r.last.store.log h.0.lost.most) left.roomy) []
       (take r.survive r.last.store.log) r.pages (up_is_found s f roomy before rs pages begun r h.0) left stays last last_pages h.1 in
       record { opened = rest.opened; last = rest.last; are = (run, rest.are); works = rest.works; restarts = rest.restarts }
 

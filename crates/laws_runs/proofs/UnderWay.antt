@@ -27,14 +27,14 @@ use Rattle.laws_runs.proofs.Runs.{events_come, opened}
 use Rattle.laws_runs.specs.StoredRuns.{IsOpenedOver, IsStoredRun, Manage, StoredEvent, StoredMoves, StoredRun, StoredState, StoredSteps, Tend, entries_made}
 use Rattle.laws_runs.proofs.ManagerLogs.{moves_leaving, restart_roomy}
 use Rattle.laws_runs.proofs.Opens.{opens_leaving, opens_roomy, records_inside}
-use Rattle.laws_runs.proofs.Prefixes.{whole_roomy}
+use Rattle.laws_runs.proofs.Prefixes.{whole_placed, whole_roomy}
 use Rattle.laws_runs.specs.RoomyLogs.{AreRoomy}
 use Rattle.laws_runs.specs.RoomyStates.{IsOpenedFrom}
 use Rattle.laws_runs.specs.SoundStores.{IsSoundStore, IsUnderWay, managed}
 
 -- ---- an open
 
-module _ (g : Geometry) (stream_bytes : ℕ) (s : RecoveryState) (f : MayBeFound s) (roomy : AreRoomy g stream_bytes s.log) (works : List RecoveryEvent) (ready : RecoveryState)
+module _ (g : Geometry) (stream_bytes : ℕ) (s : RecoveryState) (f : MayBeFound s) (roomy : AreRoomy g stream_bytes s.durable s.log) (works : List RecoveryEvent) (ready : RecoveryState)
     (first : State) (restarts : RestartsTo s works ready) (redone : ready.redone ≡ length ready.log) (no_losers : HasNoLosers ready.log)
     (opens : IsOpenedOver ready first) (from : IsOpenedFrom stream_bytes ready.log first) where
   restarted : IsRecoverable ready × IsRestartOf s.log ready
@@ -77,8 +77,8 @@ module _ (g : Geometry) (stream_bytes : ℕ) (s : RecoveryState) (f : MayBeFound
         asks = λ w there. absurd (subst (IsAmong w) opens.waiting there);
         no_cycle = none_in_none first.locks.requests opens.locks;
         stored = opens.stored;
-        roomy = opens_roomy g stream_bytes ready.log first from (whole_roomy g stream_bytes ready.log room);
-        leaves = opens_leaving g stream_bytes ready.log first from room (undone_lawful s.log restarted.1.turns ready.log restarted.1.undone f.lawful) no_losers;
+        roomy = opens_roomy g stream_bytes ready.log first from (whole_roomy g stream_bytes ready.durable ready.log room);
+        leaves = opens_leaving g stream_bytes ready.log first from first.durable (subst (λ n. AreRoomy g stream_bytes n ready.log) opens.stored.durable room) (undone_lawful s.log restarted.1.turns ready.log restarted.1.undone f.lawful) no_losers;
         recoverable = restarted.0;
         redone = redone;
       }
@@ -142,7 +142,7 @@ module _ (g : Geometry) (stream_bytes : ℕ) (found : List LogRecord) where
 
   pub under_way_inside : (es : List Entry) (m : StoredState) → IsUnderWay g stream_bytes found es m → AreRecords g m.state.sessions.records
   under_way_inside es m k =
-      records_inside g stream_bytes m.state.log m.state.sessions.records (whole_roomy g stream_bytes m.state.log k.leaves.prefixes)
+      records_inside g m.state.log m.state.sessions.records (whole_placed g stream_bytes m.state.durable m.state.log k.leaves.prefixes)
       (λ id. sym (image_in_place k.state.sessions.sound k.state.sessions.log k.leaves.whole id))
 
   pub under_way_sound : (es : List Entry) (m : StoredState) → IsUnderWay g stream_bytes found es m → IsSoundStore g stream_bytes m.store
@@ -152,7 +152,7 @@ module _ (g : Geometry) (stream_bytes : ℕ) (found : List LogRecord) where
         recoverable = k.recoverable;
         lawful = subst Lawful same k.leaves.whole.lawful;
         no_prepare = subst HasNoPrepare same k.leaves.whole.no_prepare;
-        roomy = subst (AreRoomy g stream_bytes) same k.leaves.prefixes;
+        roomy = subst (λ n. AreRoomy g stream_bytes n m.store.log) (sym k.stored.durable) (subst (AreRoomy g stream_bytes m.state.durable) same k.leaves.prefixes);
       }
 
 -- ---- events one after another

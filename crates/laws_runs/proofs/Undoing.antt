@@ -93,7 +93,7 @@ module _ (g : Geometry) (stream_bytes : ℕ) (log : List LogRecord) (k : IsRoomy
   number_below : t < LAST_TXN
   number_below =
       let one = last_is_one log t loser.known in
-      subst (λ u. u < LAST_TXN) one.own (all_at (IsInBounds g) log one.at one.found k.inside one.here).number
+      subst (λ u. u < LAST_TXN) one.own (all_at (IsInBounds g) log one.at one.found k.placed.inside one.here).number
 
   undo_served : (cs : List UnansweredChange) → IsServedKind (undo_payload cs)
   undo_served [] = tt
@@ -103,7 +103,7 @@ module _ (g : Geometry) (stream_bytes : ℕ) (log : List LogRecord) (k : IsRoomy
   undo_inside [] chain id e = cc
   undo_inside (c ∷ cs) chain id e =
       let change = chain.0 in
-      let it = all_at (IsInBounds g) log (c.number - 1) change.found k.inside change.here in
+      let it = all_at (IsInBounds g) log (c.number - 1) change.found k.placed.inside change.here in
       it.id id (ap id_in change.says ∙ e)
 
   undo_in_bounds : IsInBounds g r
@@ -114,22 +114,22 @@ module _ (g : Geometry) (stream_bytes : ℕ) (log : List LogRecord) (k : IsRoomy
   }
 
   inside_more : All (IsInBounds g) new
-  inside_more = All-push (IsInBounds g) log r k.inside undo_in_bounds
+  inside_more = All-push (IsInBounds g) log r k.placed.inside undo_in_bounds
 
   few_more : IsCrowded new → ⊥
-  few_more crowded = k.few (was_crowded log t loser (λ u. none_in_doubt u log (bounds_prepare_none g log k.inside)) r refl crowded)
+  few_more crowded = k.placed.few (was_crowded log t loser (λ u. none_in_doubt u log (bounds_prepare_none g log k.placed.inside)) r refl crowded)
 
-  its : (a : SessionTxn) × IsAmong a k.undos × (a.txn ≡ t)
-  its = txn_of_one t k.undos (k.losers.every t loser)
+  its : (a : SessionTxn) × IsAmong a k.placed.undos × (a.txn ≡ t)
+  its = txn_of_one t k.placed.undos (k.placed.losers.every t loser)
 
   abbrev a : SessionTxn
   a = its.0
 
   others_lost : (u : ℕ) → t ≢ u → IsLoser new u → IsLoser log u
-  others_lost u other = other_lost log r (bounds_prepare_none g log k.inside) (bounds_prepare_none g new inside_more) u other
+  others_lost u other = other_lost log r (bounds_prepare_none g log k.placed.inside) (bounds_prepare_none g new inside_more) u other
 
   others_lose : (u : ℕ) → t ≢ u → IsLoser log u → IsLoser new u
-  others_lose u other = other_still_loses log r (bounds_prepare_none g log k.inside) (bounds_prepare_none g new inside_more) u other
+  others_lose u other = other_still_loses log r (bounds_prepare_none g log k.placed.inside) (bounds_prepare_none g new inside_more) u other
 
   -- ---- a Compensation
 
@@ -144,13 +144,13 @@ module _ (g : Geometry) (stream_bytes : ℕ) (log : List LogRecord) (k : IsRoomy
     left = record { images = kept; marks = a.undo.marks; rolling = a.undo.rolling }
 
     abbrev undos_left : List SessionTxn
-    undos_left = with_undo a.txn left k.undos
+    undos_left = with_undo a.txn left k.placed.undos
 
     says : r.payload ≡ Compensation c.id c.before (undo_next_of cs)
     says = ap undo_payload is
 
     matched : map (λ (c : UnansweredChange). (c.id, c.before)) (c ∷ cs) ≡ reverse a.undo.images
-    matched = ap (map (λ (c : UnansweredChange). (c.id, c.before))) (sym is ∙ ap (λ u. unanswered u log) (sym its.2)) ∙ (k.losers.each a its.1).1
+    matched = ap (map (λ (c : UnansweredChange). (c.id, c.before))) (sym is ∙ ap (λ u. unanswered u log) (sym its.2)) ∙ (k.placed.losers.each a its.1).1
 
     images : a.undo.images ≡ kept ++ e ∷ []
     images = sym (reverse-reverse a.undo.images) ∙ ap reverse (sym matched) ∙ reverse-append (e ∷ []) (map (λ (c : UnansweredChange). (c.id, c.before)) cs)
@@ -159,7 +159,7 @@ module _ (g : Geometry) (stream_bytes : ℕ) (log : List LogRecord) (k : IsRoomy
     same_count p =
         slot_count-push log r p ∙ ap (λ q. slots_behind p (image_in q) (slot_count log p)) says
         ∙ behind_within p e (slot_count log p)
-        (λ same. subst (λ q. c.id.slot < slot_count log q) (sym same) (its_slot k.records k.undos (slot_count log) k.pages a its.1 kept e a.undo.marks a.undo.rolling images))
+        (λ same. subst (λ q. c.id.slot < slot_count log q) (sym same) (its_slot k.placed.records k.placed.undos (slot_count log) k.placed.pages a its.1 kept e a.undo.marks a.undo.rolling images))
 
     own_matches : MatchesUndo new t kept
     own_matches =
@@ -169,18 +169,18 @@ module _ (g : Geometry) (stream_bytes : ℕ) (log : List LogRecord) (k : IsRoomy
 
     each_left : (b : SessionTxn) → IsAmong b undos_left → IsLoser new b.txn × MatchesUndo new b.txn b.undo.images
     each_left b m =
-        let was = among_with a.txn left b k.undos m in
+        let was = among_with a.txn left b k.placed.undos m in
         ⊎_elim
         (λ own.
         let same : b.txn ≡ t = own.0 ∙ its.2 in
         let still : IsLoser new t =
-        own_still_loses log r (bounds_prepare_none g log k.inside) (bounds_prepare_none g new inside_more) (ap is_commit says) (ap is_end says) loser in (
+        own_still_loses log r (bounds_prepare_none g log k.placed.inside) (bounds_prepare_none g new inside_more) (ap is_commit says) (ap is_end says) loser in (
           subst (IsLoser new) (sym same) still,
           subst (λ u. MatchesUndo new u b.undo.images) (sym same) (subst (λ (undo : UndoList). MatchesUndo new t undo.images) (sym own.1) own_matches),
         ))
         (λ other.
         let apart : t ≢ b.txn = λ same. other.0 (sym same ∙ sym its.2) in
-        let before = k.losers.each was.was was.there in
+        let before = k.placed.losers.each was.was was.there in
         let known : IsLoser log b.txn × MatchesUndo log b.txn b.undo.images =
         subst (λ (x : SessionTxn). IsLoser log x.txn × MatchesUndo log x.txn x.undo.images) (sym other.1) before in (
           others_lose b.txn apart known.0,
@@ -190,26 +190,28 @@ module _ (g : Geometry) (stream_bytes : ℕ) (log : List LogRecord) (k : IsRoomy
 
     every_left : (u : ℕ) → IsLoser new u → IsAmong u (txns_of undos_left)
     every_left u h =
-        subst (IsAmong u) (sym (txns_with a.txn left k.undos))
-        (k.losers.every u (⊎_elim (λ same. subst (IsLoser log) same loser) (λ other. others_lost u other h) (same_or_not t u)))
+        subst (IsAmong u) (sym (txns_with a.txn left k.placed.undos))
+        (k.placed.losers.every u (⊎_elim (λ same. subst (IsLoser log) same loser) (λ other. others_lost u other h) (same_or_not t u)))
 
     pub compensated_roomy : IsRoomyLog g stream_bytes new
     compensated_roomy =
-        let room = (undone_takes LONGEST_FRAME k.undos (room_of_log stream_bytes log k.undos) k.room k.pages.once a its.1 kept e a.undo.marks a.undo.rolling images).1 in
+        let room = (undone_takes LONGEST_FRAME k.placed.undos (room_of_log stream_bytes log k.placed.undos) k.room k.placed.pages.once a its.1 kept e a.undo.marks a.undo.rolling images).1 in
         let cost = cost_pushed log r in
         let says_cost = ap cost_of says in
         let bytes = compensation_bytes c.id c.before (undo_next_of cs) in
         let longer = length-push log r in
         record {
-          records = put_image k.records c.id c.before;
-          shown = put_shown k.records log r e (ap image_in says) k.shown;
-          undos = undos_left;
-          losers = record { each = each_left; every = every_left };
-          pages = same_claimed (put_image k.records c.id c.before) undos_left (slot_count log) (slot_count new) same_count
-              (undo_keeps k.records k.undos (slot_count log) k.pages a its.1 kept e a.undo.marks a.undo.rolling images);
-          room = as_room_of_log stream_bytes new undos_left (undone_room c.before (room_of_log stream_bytes log k.undos)) room (omega arith) refl (omega arith);
-          inside = inside_more;
-          few = few_more;
+          placed = record {
+            records = put_image k.placed.records c.id c.before;
+            shown = put_shown k.placed.records log r e (ap image_in says) k.placed.shown;
+            undos = undos_left;
+            losers = record { each = each_left; every = every_left };
+            pages = same_claimed (put_image k.placed.records c.id c.before) undos_left (slot_count log) (slot_count new) same_count
+                (undo_keeps k.placed.records k.placed.undos (slot_count log) k.placed.pages a its.1 kept e a.undo.marks a.undo.rolling images);
+            inside = inside_more;
+            few = few_more;
+          };
+          room = as_room_of_log stream_bytes new undos_left (undone_room c.before (room_of_log stream_bytes log k.placed.undos)) room (omega arith) refl (omega arith);
         }
 
   -- ---- an End
@@ -218,41 +220,43 @@ module _ (g : Geometry) (stream_bytes : ℕ) (log : List LogRecord) (k : IsRoomy
     ends : r.payload ≡ End
     ends = ap undo_payload none
 
-    its_without : without_txn a.txn k.undos ≡ without_txn t k.undos
-    its_without = ap (λ u. without_txn u k.undos) its.2
+    its_without : without_txn a.txn k.placed.undos ≡ without_txn t k.placed.undos
+    its_without = ap (λ u. without_txn u k.placed.undos) its.2
 
     pub ended_roomy : IsRoomyLog g stream_bytes new
     ended_roomy =
-        let undos_left = without_txn a.txn k.undos in
-        let room = (ended_takes LONGEST_FRAME k.undos (room_of_log stream_bytes log k.undos) k.room k.pages.once a its.1).1 in
+        let undos_left = without_txn a.txn k.placed.undos in
+        let room = (ended_takes LONGEST_FRAME k.placed.undos (room_of_log stream_bytes log k.placed.undos) k.room k.placed.pages.once a its.1).1 in
         let cost = cost_pushed log r in
         let says_cost = ap cost_of ends in
         let bytes : ENDING_COST ≡ cost_of End = refl in
         let longer = length-push log r in
         record {
-          records = k.records;
-          shown = λ id. k.shown id ∙ sym (image_of_record-push log r id ∙ ap (λ p. or_image (image_in p) id (image_of_record log id)) ends);
-          undos = undos_left;
-          losers = record {
-            each = λ b m.
-                let there = among_without a.txn b k.undos m in
-                let apart : t ≢ b.txn = λ same. there.1 (sym same ∙ sym its.2) in
-                let known = k.losers.each b there.0 in (
-                  others_lose b.txn apart known.0,
-                  ap (map (λ (c : UnansweredChange). (c.id, c.before))) (unanswered_other b.txn log r apart) ∙ known.1,
-                );
-            every = λ u h.
-                ⊎_elim
-                (λ same. absurd (true_not_false (sym (subst (λ v. is_over v new ≡ true) same (over_now log r (inr (ap is_end ends)))) ∙ h.not_over)))
-                (λ other. txn_stays a.txn u k.undos (k.losers.every u (others_lost u other h)) (λ same. other (sym its.2 ∙ sym same)))
-                (same_or_not t u);
+          placed = record {
+            records = k.placed.records;
+            shown = λ id. k.placed.shown id ∙ sym (image_of_record-push log r id ∙ ap (λ p. or_image (image_in p) id (image_of_record log id)) ends);
+            undos = undos_left;
+            losers = record {
+              each = λ b m.
+                  let there = among_without a.txn b k.placed.undos m in
+                  let apart : t ≢ b.txn = λ same. there.1 (sym same ∙ sym its.2) in
+                  let known = k.placed.losers.each b there.0 in (
+                    others_lose b.txn apart known.0,
+                    ap (map (λ (c : UnansweredChange). (c.id, c.before))) (unanswered_other b.txn log r apart) ∙ known.1,
+                  );
+              every = λ u h.
+                  ⊎_elim
+                  (λ same. absurd (true_not_false (sym (subst (λ v. is_over v new ≡ true) same (over_now log r (inr (ap is_end ends)))) ∙ h.not_over)))
+                  (λ other. txn_stays a.txn u k.placed.undos (k.placed.losers.every u (others_lost u other h)) (λ same. other (sym its.2 ∙ sym same)))
+                  (same_or_not t u);
+            };
+            pages = same_claimed k.placed.records undos_left (slot_count log) (slot_count new)
+                (λ p. slot_count-push log r p ∙ ap (λ q. slots_behind p (image_in q) (slot_count log p)) ends)
+                (left_keeps k.placed.records k.placed.undos (slot_count log) k.placed.pages a its.1);
+            inside = inside_more;
+            few = few_more;
           };
-          pages = same_claimed k.records undos_left (slot_count log) (slot_count new)
-              (λ p. slot_count-push log r p ∙ ap (λ q. slots_behind p (image_in q) (slot_count log p)) ends)
-              (left_keeps k.records k.undos (slot_count log) k.pages a its.1);
-          room = as_room_of_log stream_bytes new undos_left (ended_room (owed a) (room_of_log stream_bytes log k.undos)) room (omega arith) refl (omega arith);
-          inside = inside_more;
-          few = few_more;
+          room = as_room_of_log stream_bytes new undos_left (ended_room (owed a) (room_of_log stream_bytes log k.placed.undos)) room (omega arith) refl (omega arith);
         }
       where
         true_not_false : true ≡ false → ⊥
@@ -268,11 +272,12 @@ module _ (g : Geometry) (stream_bytes : ℕ) (log : List LogRecord) (k : IsRoomy
 -- ---- any turns
 
 module _ (g : Geometry) (stream_bytes : ℕ) where
-  pub undone_are_roomy : (log : List LogRecord) (t : ℕ) → AreRoomy g stream_bytes log → IsLoser log t → AreRoomy g stream_bytes (log ++ undo_record log t ∷ [])
-  undone_are_roomy log t k loser =
-      push_roomy g stream_bytes log (undo_record log t) k (undone_roomy g stream_bytes log (whole_roomy g stream_bytes log k) t loser)
+  pub undone_are_roomy : (least : ℕ) (log : List LogRecord) (t : ℕ) → AreRoomy g stream_bytes least log → IsLoser log t
+      → AreRoomy g stream_bytes least (log ++ undo_record log t ∷ [])
+  undone_are_roomy least log t k loser =
+      push_roomy g stream_bytes least log (undo_record log t) k (undone_roomy g stream_bytes log (whole_roomy g stream_bytes least log k) t loser)
 
-  pub turns_are_roomy : (log : List LogRecord) (ts : List ℕ) (last : List LogRecord) → AreRoomy g stream_bytes log → IsUndoneTo log ts last
-      → AreRoomy g stream_bytes last
-  turns_are_roomy log [] last k u = subst (AreRoomy g stream_bytes) (sym u) k
-  turns_are_roomy log (t ∷ ts) last k u = turns_are_roomy (log ++ undo_record log t ∷ []) ts last (undone_are_roomy log t k u.0) u.1
+  pub turns_are_roomy : (least : ℕ) (log : List LogRecord) (ts : List ℕ) (last : List LogRecord) → AreRoomy g stream_bytes least log → IsUndoneTo log ts last
+      → AreRoomy g stream_bytes least last
+  turns_are_roomy least log [] last k u = subst (AreRoomy g stream_bytes least) (sym u) k
+  turns_are_roomy least log (t ∷ ts) last k u = turns_are_roomy least (log ++ undo_record log t ∷ []) ts last (undone_are_roomy least log t k u.0) u.1

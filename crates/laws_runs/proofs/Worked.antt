@@ -1,5 +1,5 @@
 -- A log that a run leaves, and logs that a restart may not take.
-use Rattle.std.proofs.Common.{◌≡◌, ◌++◌, ◌+◌, ◌<◌, ◌≤◌, ℕ, suc, List, [], ◌∷◌, true, false, Some, None, refl, sym, ap, ◌∙◌, length, arith}
+use Rattle.std.proofs.Common.{◌≡◌, inl, ⊎_elim, ◌++◌, ◌+◌, ◌<◌, ◌≤◌, ℕ, suc, List, [], ◌∷◌, true, false, Some, None, refl, sym, ap, subst, ◌∙◌, length, take, take_all, arith}
 use Rattle.std.specs.Prelude.{◌*◌, slice_get}
 use Rattle.std.specs.FinMap.{get, get-empty}
 use Rattle.std.proofs.lemmas.List.Elements.{All-cons, All-nil}
@@ -10,35 +10,43 @@ use Rattle.shore_types.specs.declared.layout.Geometry.{Geometry}
 use Rattle.shore_types.specs.declared.layout.TheConstants.{LONGEST_FRAME, MAX_LOG_BYTES, MAX_RECORD_BYTES, PAGE_ROOM, SLOT_ENTRY_BYTES}
 use Rattle.shore_model.specs.declared.histories.Entry.{Entry}
 use Rattle.shore_model.specs.declared.log_records.LogRecord.{LogRecord}
-use Rattle.shore_model.specs.declared.log_records.Payload.TheVariants.{Change, Compensation}
-use Rattle.shore_model.specs.Logs.{image_of_record}
+use Rattle.shore_model.specs.declared.log_records.Payload.TheVariants.{Change, Commit, Compensation}
+use Rattle.shore_model.specs.Logs.{Lawful, first_number, image_of_record, is_over}
 use Rattle.shore_logrec.specs.Text.{cost_of}
 use Rattle.laws_calls.proofs.SessionOpens.{sessions_after_open}
-use Rattle.laws_calls.proofs.SessionInsert.{session_comes_through}
+use Rattle.laws_calls.proofs.SessionInsert.{session_comes_through, session_leaves}
 use Rattle.laws_calls.specs.Events.{MovesMaking}
 use Rattle.laws_calls.specs.States.{State, cost_of_log}
 use Rattle.laws_calls.specs.WorkedRun.{first_id, first_page, one_insert, opened_empty}
 use Rattle.shore_page.specs.Room.{HasRoom, HoldsItsImage, claims}
 use Rattle.shore_page.specs.Slots.{Slot, settled}
 use Rattle.shore_types.specs.Images.{image_len}
+use Rattle.laws_lives.proofs.Numbers.{newest_other}
 use Rattle.laws_lives.proofs.Redo.{image_of_record-push}
+use Rattle.laws_lives.proofs.Writers.{same_or_not}
+use Rattle.laws_lives.specs.Pages.{empty_page}
+use Rattle.laws_lives.specs.Sessions.{SessionTxn}
+use Rattle.laws_lives.specs.Views.{IsAmong}
+use Rattle.laws_lives.specs.WholeLogs.{HasNoPrepare}
 use Rattle.laws_lives.specs.Undo.{IsLoser, undo_record}
 use Rattle.laws_room.proofs.Costs.{compensation_bytes}
 use Rattle.laws_room.proofs.Lists.{length-each}
 use Rattle.laws_room.specs.Claims.{each_from, rid_on}
+use Rattle.laws_room.specs.LogRooms.{owed_by_all}
 use Rattle.laws_runs.proofs.Opens.{format_is_roomy, leaves_none, opens_leaving, opens_roomy, undo_has_log_room}
 use Rattle.laws_runs.proofs.Prefixes.{whole_roomy}
 use Rattle.laws_runs.proofs.Redoing.{left_have_room}
-use Rattle.laws_runs.proofs.Running.{events_leaving}
-use Rattle.laws_runs.proofs.Undoing.{undone_roomy}
+use Rattle.laws_runs.proofs.Running.{events_leaving_from}
+use Rattle.laws_runs.proofs.Undoing.{cost_pushed, undone_roomy}
 use Rattle.laws_runs.specs.RoomyLogs.{AreRoomy, IsRoomyLog}
-use Rattle.laws_runs.specs.RoomyStates.{IsOpenedFrom}
+use Rattle.laws_runs.specs.RoomyStates.{IsOpenedFrom, LeavesRoomyLogsFrom}
 use Rattle.laws_runs.specs.SlotCounts.{slots_left}
-use Rattle.laws_runs.specs.WorkedLogs.{inserted, room_taken, second_id, third_id}
+use Rattle.laws_runs.specs.SoundStores.{MayBeOpened}
+use Rattle.laws_runs.specs.WorkedLogs.{committed, inserted, room_taken, second_id, third_id}
 
 -- ---- a log that a run leaves
 
-opened_from_none : (stream_bytes : ℕ) → IsOpenedFrom stream_bytes [] (opened_empty stream_bytes)
+pub opened_from_none : (stream_bytes : ℕ) → IsOpenedFrom stream_bytes [] (opened_empty stream_bytes)
 opened_from_none stream_bytes = record {
   log = refl;
   as_long = refl;
@@ -49,23 +57,82 @@ opened_from_none stream_bytes = record {
   least = λ n some above. omega arith;
 }
 
-pub run_leaves_roomy : (g : Geometry) (stream_bytes : ℕ) (bytes : List ℕ) → HasStore g 0 → HasPage g first_page → length bytes ≤ MAX_RECORD_BYTES
-    → 100000 ≤ stream_bytes → stream_bytes ≤ MAX_LOG_BYTES
-    → (last : State) × (made : List Entry) × MovesMaking g (opened_empty stream_bytes) (one_insert bytes) last made
-    × (get last.sessions.records first_id ≡ Some bytes) × AreRoomy g stream_bytes last.log
-run_leaves_roomy g stream_bytes bytes store page short long most =
-    let h = session_comes_through g stream_bytes bytes store page short long in
-    let none = format_is_roomy g stream_bytes (omega arith) most in
-    let opened = opened_from_none stream_bytes in
-    let roomy = opens_roomy g stream_bytes [] (opened_empty stream_bytes) opened (whole_roomy g stream_bytes [] none) in
-    let leaves = opens_leaving g stream_bytes [] (opened_empty stream_bytes) opened none (λ n r at. absurd (nothing n r at)) (λ t id changed. absurd (unchanged changed)) in
-    (h.0, h.1, h.3, h.4, (events_leaving g stream_bytes [] [] (opened_empty stream_bytes) (one_insert bytes) h.0 h.1 (sessions_after_open [] (opened_empty stream_bytes) h.2 refl) roomy leaves h.3).1.prefixes)
-  where
-    nothing : (n : ℕ) (r : LogRecord) → slice_get [] n ≡ Some r → ⊥
-    nothing n r at = cc
+module _ (g : Geometry) (bytes : List ℕ) (store : HasStore g 0) (page : HasPage g first_page) (short : length bytes ≤ MAX_RECORD_BYTES) where
+  -- over a stream that is long enough each of its prefixes is roomy
+  pub record HasRun (stream_bytes : ℕ) : Type 0 where
+    pub last : State
+    pub made : List Entry
+    pub moves : MovesMaking g (opened_empty stream_bytes) (one_insert bytes) last made
+    pub there : get last.sessions.records first_id ≡ Some bytes
+    pub log : last.log ≡ committed bytes
+    pub leaves : LeavesRoomyLogsFrom g stream_bytes 0 last
 
-    unchanged : false ≡ true → ⊥
-    unchanged e = cc
+  pub has_run : (stream_bytes : ℕ) → 100000 ≤ stream_bytes → stream_bytes ≤ MAX_LOG_BYTES → HasRun stream_bytes
+  has_run stream_bytes long most =
+      let h = session_comes_through g stream_bytes bytes store page short long in
+      let none = format_is_roomy g stream_bytes (omega arith) most in
+      let opened = opened_from_none stream_bytes in
+      let roomy = opens_roomy g stream_bytes [] (opened_empty stream_bytes) opened (whole_roomy g stream_bytes 0 [] none) in
+      let leaves = opens_leaving g stream_bytes [] (opened_empty stream_bytes) opened 0 none (λ n r at. absurd (nothing n r at)) (λ t id changed. absurd (unchanged changed)) in
+      record {
+        last = h.0;
+        made = h.1;
+        moves = h.3;
+        there = h.4;
+        log = session_leaves g stream_bytes bytes store page short long;
+        leaves = events_leaving_from g stream_bytes [] 0 [] (opened_empty stream_bytes) (one_insert bytes) h.0 h.1 (sessions_after_open [] (opened_empty stream_bytes) h.2 refl) roomy leaves h.3;
+      }
+    where
+      nothing : (n : ℕ) (r : LogRecord) → slice_get [] n ≡ Some r → ⊥
+      nothing n r at = cc
+
+      unchanged : false ≡ true → ⊥
+      unchanged e = cc
+
+  pub run_leaves_roomy : (stream_bytes : ℕ) → 100000 ≤ stream_bytes → stream_bytes ≤ MAX_LOG_BYTES
+      → (last : State) × (made : List Entry) × MovesMaking g (opened_empty stream_bytes) (one_insert bytes) last made
+      × (get last.sessions.records first_id ≡ Some bytes) × (last.log ≡ committed bytes) × AreRoomy g stream_bytes 0 last.log
+  run_leaves_roomy stream_bytes long most = let h = has_run stream_bytes long most in (h.last, h.made, h.moves, h.there, h.log, h.leaves.prefixes)
+
+-- ---- a log with no room in an earlier prefix
+
+no_loser_left : (bytes : List ℕ) (t : ℕ) → IsLoser (committed bytes) t → ⊥
+no_loser_left bytes t h = ⊎_elim
+    (λ own. true_not_false (subst (λ u. is_over u (committed bytes) ≡ false) (sym own) h.not_over))
+    (λ other.
+    let one = ap first_number (newest_other (inserted bytes) (record { txn = 1; previous = 1; payload = Commit }) t other) in
+    let two = ap first_number (newest_other [] (record { txn = 1; previous = 0; payload = Change first_id None (Some bytes) }) t other) in
+    let known = h.known in
+    omega (arith, one, two, known))
+    (same_or_not 1 t)
+  where
+    true_not_false : true ≡ false → ⊥
+    true_not_false e = cc
+
+none_owed : (undos : List SessionTxn) → ((a : SessionTxn) → IsAmong a undos → ⊥) → owed_by_all undos ≡ 0
+none_owed [] none = refl
+none_owed (a ∷ undos) none = absurd (none a (inl refl))
+
+-- The Commit has given away what was reserved before it, so the log may be opened over a stream that has room for it and the longest frame alone.
+pub committed_may_be_opened : (g : Geometry) (bytes : List ℕ) → HasStore g 0 → HasPage g first_page → length bytes ≤ MAX_RECORD_BYTES
+    → MayBeOpened g (cost_of_log (committed bytes) + LONGEST_FRAME) (committed bytes) (λ p. empty_page)
+committed_may_be_opened g bytes store page short =
+    let h = has_run g bytes store page short 100000 (omega arith) (omega arith) in
+    let longer : AreRoomy g 100000 0 (committed bytes) = subst (AreRoomy g 100000 0) h.log h.leaves.prefixes in
+    let whole = whole_roomy g 100000 0 (committed bytes) longer in
+    let none = none_owed whole.placed.undos (λ a m. no_loser_left bytes a.txn (whole.placed.losers.each a m).0) in
+    let fits = whole.room.fits in
+    let roomy : IsRoomyLog g (cost_of_log (committed bytes) + LONGEST_FRAME) (committed bytes) =
+    record { placed = whole.placed; room = record { sum = refl; fits = omega (arith, none); lsns = omega (arith, none); short = omega (arith, fits) } } in
+    record {
+      lawful = subst Lawful h.log h.leaves.whole.lawful;
+      no_prepare = subst HasNoPrepare h.log h.leaves.whole.no_prepare;
+      roomy = record {
+        placed = longer.placed;
+        roomy = λ n from. subst (IsRoomyLog g (cost_of_log (committed bytes) + LONGEST_FRAME)) (sym (take_all n (committed bytes) from)) roomy;
+      };
+      as_of = λ p. record { number = omega arith; within = omega arith; slots = λ i. sym (leaves_none (rid_on p i)) };
+    }
 
 -- ---- the stream has no room for the undo
 
@@ -73,7 +140,7 @@ pub no_room_in_stream : (g : Geometry) (stream_bytes : ℕ) (log : List LogRecor
     → stream_bytes < cost_of_log log + cost_of (undo_record log t).payload + LONGEST_FRAME → IsRoomyLog g stream_bytes log → ⊥
 no_room_in_stream g stream_bytes log t loser less k = let room = (undo_has_log_room g stream_bytes log t k loser).0 in omega arith
 
-inserted_loser : (bytes : List ℕ) → IsLoser (inserted bytes) 1
+pub inserted_loser : (bytes : List ℕ) → IsLoser (inserted bytes) 1
 inserted_loser bytes = record { is_one = omega arith; known = omega arith; not_over = refl; not_in_doubt = refl }
 
 pub inserted_too_full : (g : Geometry) (bytes : List ℕ) → IsRoomyLog g (cost_of_log (inserted bytes) + LONGEST_FRAME) (inserted bytes) → ⊥
@@ -82,6 +149,16 @@ inserted_too_full g bytes k =
     let cost = compensation_bytes first_id None 0 in
     let says = ap (λ (r : LogRecord). cost_of r.payload) undo in
     no_room_in_stream g (cost_of_log (inserted bytes) + LONGEST_FRAME) (inserted bytes) 1 (inserted_loser bytes) (omega arith) k
+
+-- .. as none before that Commit had
+pub inserted_before_full : (g : Geometry) (bytes : List ℕ) → IsRoomyLog g (cost_of_log (committed bytes) + LONGEST_FRAME) (take 1 (committed bytes)) → ⊥
+inserted_before_full g bytes k =
+    let undo : undo_record (inserted bytes) 1 ≡ record { txn = 1; previous = 1; payload = Compensation first_id None 0 } = refl in
+    let cost = compensation_bytes first_id None 0 in
+    let says = ap (λ (r : LogRecord). cost_of r.payload) undo in
+    let more = cost_pushed (inserted bytes) (record { txn = 1; previous = 1; payload = Commit }) in
+    let commit : cost_of Commit ≡ 34 = refl in
+    no_room_in_stream g (cost_of_log (committed bytes) + LONGEST_FRAME) (inserted bytes) 1 (inserted_loser bytes) (omega arith) k
 
 -- ---- a page has none
 
@@ -151,7 +228,7 @@ module _ (old new other : List ℕ) where
   pub taken_too_full : (g : Geometry) (stream_bytes : ℕ) → PAGE_ROOM < 3 * SLOT_ENTRY_BYTES + length old + length new + length other
       → IsRoomyLog g stream_bytes log → ⊥
   taken_too_full g stream_bytes much k =
-      let slots : HasRoom (each_from left_at 0 3) = left_have_room g stream_bytes undone (undone_roomy g stream_bytes log k 1 deleted_loser) first_page in
+      let slots : HasRoom (each_from left_at 0 3) = left_have_room g undone (undone_roomy g stream_bytes log k 1 deleted_loser).placed first_page in
       let room = slots.room in
       let all = claims_cons 0 2 in
       let two = claims_cons 1 1 in

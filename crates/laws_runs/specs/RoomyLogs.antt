@@ -31,19 +31,24 @@ pub record AreLosers (log : List LogRecord) (undos : List SessionTxn) : Type 0 w
   pub each : (a : SessionTxn) → IsAmong a undos → IsLoser log a.txn × MatchesUndo log a.txn a.undo.images
   pub every : (t : ℕ) → IsLoser log t → IsAmong t (txns_of undos)
 
--- The pages have room for the records that the log leaves, and for what undo of its losers brings back. The stream has room for the log, for
--- that undo, and for the longest frame besides. Ids lie in the geometry, transactions have numbers that one may have, each kind is served, and
--- no more transactions have not ended than there may be.
-pub record IsRoomyLog (g : Geometry) (stream_bytes : ℕ) (log : List LogRecord) : Type 0 where
+-- The pages have room for the records that the log leaves, and for what undo of its losers brings back. Ids lie in the geometry, transactions have
+-- numbers that one may have, each kind is served, and no more transactions have not ended than there may be.
+pub record IsPlacedLog (g : Geometry) (log : List LogRecord) : Type 0 where
   pub records : Records
   pub shown : (id : Rid) → get records id ≡ image_of_record log id
   pub undos : List SessionTxn
   pub losers : AreLosers log undos
   pub pages : Claimed records undos (slot_count log)
-  pub room : HasLogRoom LONGEST_FRAME undos (room_of_log stream_bytes log undos)
   pub inside : All (IsInBounds g) log
   pub few : IsCrowded log → ⊥
 
--- so is each prefix of the log, which a crash may leave
-abbrev pub AreRoomy : Geometry → ℕ → List LogRecord → Type 0
-AreRoomy g stream_bytes log = (n : ℕ) → n ≤ length log → IsRoomyLog g stream_bytes (take n log)
+-- .. and the stream has room for the log, for that undo, and for the longest frame besides
+pub record IsRoomyLog (g : Geometry) (stream_bytes : ℕ) (log : List LogRecord) : Type 0 where
+  pub placed : IsPlacedLog g log
+  pub room : HasLogRoom LONGEST_FRAME placed.undos (room_of_log stream_bytes log placed.undos)
+
+-- The log is roomy, and so is each of its prefixes that a crash may leave, which have so many records at least. Of shorter ones the stream's room is not
+-- asked: a Commit gives away what was reserved before it. But redo comes by each, and analysis refuses a crowd at any.
+pub record AreRoomy (g : Geometry) (stream_bytes least : ℕ) (log : List LogRecord) : Type 0 where
+  pub placed : (n : ℕ) → IsPlacedLog g (take n log)
+  pub roomy : (n : ℕ) → least ≤ n → IsRoomyLog g stream_bytes (take n log)

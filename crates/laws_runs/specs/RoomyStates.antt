@@ -13,14 +13,19 @@ use Rattle.laws_calls.specs.States.{State}
 use Rattle.laws_runs.specs.RoomyLogs.{AreRoomy}
 use Rattle.laws_runs.specs.SlotCounts.{slot_count}
 
--- The state is over a stream of so many bytes, and each prefix of its log is roomy there. The pages have the slots that the log gave them, whoever is in the log and has not ended is under
--- way, and the next transaction's number may be one above the last that a record may have.
-pub record LeavesRoomyLogs (g : Geometry) (stream_bytes : ℕ) (s : State) : Type 0 where
+-- The state is over a stream of so many bytes, and the prefixes of its log that have so many records at least are roomy there. The pages have the slots
+-- that the log gave them, whoever is in the log and has not ended is under way, and the next transaction's number may be one above the last that a
+-- record may have.
+pub record LeavesRoomyLogsFrom (g : Geometry) (stream_bytes least : ℕ) (s : State) : Type 0 where
   pub as_long : s.stream_bytes ≡ stream_bytes
-  pub prefixes : AreRoomy g stream_bytes s.log
+  pub prefixes : AreRoomy g stream_bytes least s.log
   pub counts : (p : PageId) → s.counts p ≡ slot_count s.log p
   pub whole : IsWholeLog s.log s.sessions
   pub txns : s.sessions.next_txn ≤ LAST_TXN
+
+-- .. those that a crash may leave, from the durable number on
+abbrev pub LeavesRoomyLogs : Geometry → ℕ → State → Type 0
+LeavesRoomyLogs g stream_bytes s = LeavesRoomyLogsFrom g stream_bytes s.durable s
 
 -- What an open makes of a log over a stream of so many bytes: what the log leaves is in place, nobody is in a transaction, each page has the
 -- slots that the log gave it, and the next transaction's number is the least above all of the log's.

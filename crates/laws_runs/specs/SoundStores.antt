@@ -15,23 +15,23 @@ use Rattle.laws_runs.specs.StoredRuns.{IsStored, Manage, StoredEvent, StoredStat
 use Rattle.laws_runs.specs.RoomyLogs.{AreRoomy}
 use Rattle.laws_runs.specs.RoomyStates.{LeavesRoomyLogs}
 
--- What a restart may be handed: a lawful log with no Prepare, each prefix of which leaves room for its undo, and pages as of their own numbers.
+-- What a restart may be handed: a lawful log with no Prepare that leaves room for its undo, and pages as of their own numbers.
 pub record MayBeOpened (g : Geometry) (stream_bytes : ℕ) (rs : List LogRecord) (pages : LoggedPages) : Type 0 where
   pub lawful : Lawful rs
   pub no_prepare : HasNoPrepare rs
-  pub roomy : AreRoomy g stream_bytes rs
+  pub roomy : AreRoomy g stream_bytes (length rs) rs
   pub as_of : AreAsOfOwnNumbers rs pages
 
 -- the store that a restart begins with over such a log and pages: all that it found is durable, and nothing is redone
 abbrev pub found_state : List LogRecord → LoggedPages → RecoveryState
 found_state rs pages = record { log = rs; durable = length rs; redone = 0; volume = pages; in_place = pages }
 
--- A store that may lose power now: it is recoverable, and its log is lawful, has no Prepare, and leaves room for its undo in each prefix.
+-- A store that may lose power now: it is recoverable, and its log is lawful, has no Prepare, and leaves room for its undo in each prefix that is left then.
 pub record IsSoundStore (g : Geometry) (stream_bytes : ℕ) (s : RecoveryState) : Type 0 where
   pub recoverable : IsRecoverable s
   pub lawful : Lawful s.log
   pub no_prepare : HasNoPrepare s.log
-  pub roomy : AreRoomy g stream_bytes s.log
+  pub roomy : AreRoomy g stream_bytes s.durable s.log
 
 -- Power is lost over the store: so many records survive, all that are durable among them, and these pages are left.
 pub record IsLost (s : RecoveryState) (survive : ℕ) (pages : LoggedPages) : Type 0 where

@@ -26,18 +26,21 @@ ghost use Rattle.laws_runs.specs.RoomyLogs.{AreRoomy, IsRoomyLog};
 ghost use Rattle.laws_runs.specs.RoomyRuns.{AreOpenedFrom};
 ghost use Rattle.laws_runs.specs.RoomyStates.{IsOpenedFrom, LeavesRoomyLogs};
 ghost use Rattle.laws_runs.specs.SlotCounts.{EachFits, FitsBehind, slot_count, slots_left};
-ghost use Rattle.laws_runs.specs.WorkedLogs.{inserted, room_taken};
+ghost use Rattle.laws_runs.specs.WorkedLogs.{committed, inserted, room_taken};
 
 /// What a format leaves, the empty log, is roomy over each stream that a log device may have.
 pub fn formats_are_roomy()
-    ensures { (g : Geometry) (stream_bytes : ℕ) → LONGEST_FRAME ≤ stream_bytes → stream_bytes ≤ MAX_LOG_BYTES → AreRoomy g stream_bytes [] }
+    ensures { (g : Geometry) (stream_bytes : ℕ) → LONGEST_FRAME ≤ stream_bytes → stream_bytes ≤ MAX_LOG_BYTES → AreRoomy g stream_bytes 0 [] }
 {}
 
-/// What a crash leaves of a log whose prefixes are roomy is such a log. The whole log is one of its prefixes, and so it is roomy too.
+/// What a crash leaves of a log of which the prefixes that may be left are roomy is such a log, all of it durable; and so is a log of which more is durable.
+/// The whole log is roomy in any case.
 pub fn prefixes_stay_roomy()
-    ensures prefix { (g : Geometry) (stream_bytes n : ℕ) (log : List LogRecord) → AreRoomy g stream_bytes log →
-        AreRoomy g stream_bytes (take n log) }
-    ensures whole { (g : Geometry) (stream_bytes : ℕ) (log : List LogRecord) → AreRoomy g stream_bytes log → IsRoomyLog g stream_bytes log }
+    ensures prefix { (g : Geometry) (stream_bytes least n : ℕ) (log : List LogRecord) → least ≤ n → AreRoomy g stream_bytes least log →
+        AreRoomy g stream_bytes n (take n log) }
+    ensures later { (g : Geometry) (stream_bytes least more : ℕ) (log : List LogRecord) → least ≤ more → AreRoomy g stream_bytes least log →
+        AreRoomy g stream_bytes more log }
+    ensures whole { (g : Geometry) (stream_bytes least : ℕ) (log : List LogRecord) → AreRoomy g stream_bytes least log → IsRoomyLog g stream_bytes log }
 {}
 
 /// A roomy log fits its stream, with the longest frame besides, and has numbers left.
@@ -48,7 +51,7 @@ pub fn roomy_logs_fit_their_stream()
 
 /// Redo of each record fits its page, on slots that take what the records before it left, and keep nothing besides.
 pub fn redo_fits_pages()
-    ensures { (g : Geometry) (stream_bytes : ℕ) (log : List LogRecord) → AreRoomy g stream_bytes log → EachFits log }
+    ensures { (g : Geometry) (stream_bytes least : ℕ) (log : List LogRecord) → AreRoomy g stream_bytes least log → EachFits log }
 {}
 
 /// Each event of a manager leaves a log that a restart takes, whatever a crash leaves of it, if the state before did; and so do any events. The
@@ -60,34 +63,34 @@ pub fn events_leave_roomy_logs()
         IsStateAfter found es first → IsRoomyState first → LeavesRoomyLogs g stream_bytes first → MovesMaking g first events last made →
         IsRoomyState last × LeavesRoomyLogs g stream_bytes last }
     ensures crash { (g : Geometry) (stream_bytes : ℕ) (s : State) (n : ℕ) → LeavesRoomyLogs g stream_bytes s → KeepsDurable s n →
-        AreRoomy g stream_bytes (take n s.log) }
+        AreRoomy g stream_bytes n (take n s.log) }
     ensures inside { (g : Geometry) (stream_bytes : ℕ) (found : List LogRecord) (es : List Entry) (s : State) → IsStateAfter found es s →
         LeavesRoomyLogs g stream_bytes s → AreRecords g s.sessions.records }
 {}
 
-/// A manager that restarts and opens over its store, from a log whose prefixes are roomy, has room in its last state, and its crash leaves such a
+/// A manager that restarts and opens over its store, from a log of which the prefixes that a crash may leave are roomy, has room in its last state, and its crash leaves such a
 /// log again; so do any number of managers one after another, with power lost in restarts too. That a manager opens from the log of its restart
 /// (`IsOpenedFrom`) is what its open has to promise.
 pub fn managers_leave_roomy_logs()
-    ensures restart { (g : Geometry) (stream_bytes : ℕ) (s ready : RecoveryState) (events : List RecoveryEvent) → AreRoomy g stream_bytes s.log →
-        RestartsTo s events ready → AreRoomy g stream_bytes ready.log }
+    ensures restart { (g : Geometry) (stream_bytes : ℕ) (s ready : RecoveryState) (events : List RecoveryEvent) → AreRoomy g stream_bytes s.durable s.log →
+        RestartsTo s events ready → AreRoomy g stream_bytes ready.durable ready.log }
     ensures moves { (g : Geometry) (stream_bytes : ℕ) (found : List LogRecord) (es : List Entry) (m last : StoredState) (events : List StoredEvent) (made : List Entry) →
         IsStateAfter found es m.state → IsRoomyState m.state → LeavesRoomyLogs g stream_bytes m.state → StoredMoves g m events last made →
         IsRoomyState last.state × LeavesRoomyLogs g stream_bytes last.state }
-    ensures last { (g : Geometry) (stream_bytes : ℕ) (s : RecoveryState) (r : StoredRun) → MayBeFound s → AreRoomy g stream_bytes s.log → IsStoredRun g s r →
+    ensures last { (g : Geometry) (stream_bytes : ℕ) (s : RecoveryState) (r : StoredRun) → MayBeFound s → AreRoomy g stream_bytes s.durable s.log → IsStoredRun g s r →
         IsOpenedFrom stream_bytes r.ready.log r.first → IsRoomyState r.last.state × LeavesRoomyLogs g stream_bytes r.last.state }
-    ensures runs { (g : Geometry) (stream_bytes : ℕ) (s last : RecoveryState) (runs : List StoredRun) → MayBeFound s → AreRoomy g stream_bytes s.log →
-        AreStoredRuns g s runs last → AreOpenedFrom stream_bytes runs → AreRoomy g stream_bytes last.log }
+    ensures runs { (g : Geometry) (stream_bytes : ℕ) (s last : RecoveryState) (runs : List StoredRun) → MayBeFound s → AreRoomy g stream_bytes s.durable s.log →
+        AreStoredRuns g s runs last → AreOpenedFrom stream_bytes runs → AreRoomy g stream_bytes last.durable last.log }
 {}
 
 /// A record of undo keeps a log roomy, whichever loser takes its turn, and so do any turns. So a restart may lose power at any time.
 pub fn undo_keeps_logs_roomy()
     ensures log { (g : Geometry) (stream_bytes t : ℕ) (log : List LogRecord) → IsRoomyLog g stream_bytes log → IsLoser log t →
         IsRoomyLog g stream_bytes (log ++ undo_record log t ∷ []) }
-    ensures one { (g : Geometry) (stream_bytes t : ℕ) (log : List LogRecord) → AreRoomy g stream_bytes log → IsLoser log t →
-        AreRoomy g stream_bytes (log ++ undo_record log t ∷ []) }
-    ensures turns { (g : Geometry) (stream_bytes : ℕ) (log last : List LogRecord) (turns : List ℕ) → AreRoomy g stream_bytes log → IsUndoneTo log turns last →
-        AreRoomy g stream_bytes last }
+    ensures one { (g : Geometry) (stream_bytes least t : ℕ) (log : List LogRecord) → AreRoomy g stream_bytes least log → IsLoser log t →
+        AreRoomy g stream_bytes least (log ++ undo_record log t ∷ []) }
+    ensures turns { (g : Geometry) (stream_bytes least : ℕ) (log last : List LogRecord) (turns : List ℕ) → AreRoomy g stream_bytes least log →
+        IsUndoneTo log turns last → AreRoomy g stream_bytes least last }
 {}
 
 /// Undo of a roomy log fits: the next record of any loser fits its page, on slots that keep nothing for others, and has its room in the stream
@@ -109,16 +112,16 @@ pub fn opens_have_room()
         IsRoomyState s }
     ensures inside { (g : Geometry) (stream_bytes : ℕ) (log : List LogRecord) (s : State) → IsRoomyLog g stream_bytes log → IsOpenedFrom stream_bytes log s →
         AreRecords g s.sessions.records }
-    ensures leaves { (g : Geometry) (stream_bytes : ℕ) (log : List LogRecord) (s : State) → AreRoomy g stream_bytes log → Lawful log → HasNoLosers log →
+    ensures leaves { (g : Geometry) (stream_bytes : ℕ) (log : List LogRecord) (s : State) → AreRoomy g stream_bytes s.durable log → Lawful log → HasNoLosers log →
         IsOpenedFrom stream_bytes log s → LeavesRoomyLogs g stream_bytes s }
     ensures over { (stream_bytes : ℕ) (found : List LogRecord) (ready : RecoveryState) (s : State) → IsRecoverable ready → ready.redone ≡ length ready.log →
         IsRestartOf found ready → IsOpenedOver ready s → s.stream_bytes ≡ stream_bytes → ((p : PageId) → s.counts p ≡ slot_count ready.log p) →
         IsNext found s.sessions.next_txn → IsOpenedFrom stream_bytes ready.log s }
 {}
 
-/// Analysis refuses no record of a lawful log whose prefixes are roomy.
+/// Analysis refuses no record of a lawful log that may be left.
 pub fn roomy_logs_are_meant()
-    ensures { (g : Geometry) (stream_bytes : ℕ) (log : List LogRecord) → AreRoomy g stream_bytes log → Lawful log → AreMeant g log }
+    ensures { (g : Geometry) (stream_bytes least : ℕ) (log : List LogRecord) → AreRoomy g stream_bytes least log → Lawful log → AreMeant g log }
 {}
 
 /// The conditions can be met: over an empty volume and an empty log, a transaction inserts a record and commits, and each prefix of the log
@@ -127,7 +130,7 @@ pub fn one_insert_leaves_roomy_logs()
     ensures { (g : Geometry) (stream_bytes : ℕ) (bytes : List ℕ) → HasStore g 0 → HasPage g first_page → length bytes ≤ MAX_RECORD_BYTES →
         100000 ≤ stream_bytes → stream_bytes ≤ MAX_LOG_BYTES →
         (last : State) × (made : List Entry) × MovesMaking g (opened_empty stream_bytes) (one_insert bytes) last made
-        × (get last.sessions.records first_id ≡ Some bytes) × AreRoomy g stream_bytes last.log }
+        × (get last.sessions.records first_id ≡ Some bytes) × (last.log ≡ committed bytes) × AreRoomy g stream_bytes 0 last.log }
 {}
 
 /// Logs that a restart could not undo are not roomy: one whose stream has room for its record, and none for the undo; and one that leaves a page

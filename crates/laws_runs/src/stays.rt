@@ -1,7 +1,10 @@
 //! The laws of stays of the power, each stated as the contract of an empty function.
-ghost use Rattle.std.specs.Prelude.{◌≡◌, ◌≤◌, ◌++◌, ℕ, List, [], length, take};
+ghost use Rattle.std.specs.Prelude.{◌≡◌, ◌+◌, ◌≤◌, ◌++◌, ◌∷◌, ℕ, List, [], None, Some, length, take};
+ghost use Rattle.std.specs.FinMap.{get};
+ghost use Rattle.shore_types.specs.Layout.{HasPage, HasStore};
+ghost use Rattle.shore_types.specs.declared.ids.Rid.{Rid};
 ghost use Rattle.shore_types.specs.declared.layout.Geometry.{Geometry};
-ghost use Rattle.shore_types.specs.declared.layout.TheConstants.{LONGEST_FRAME, MAX_LOG_BYTES};
+ghost use Rattle.shore_types.specs.declared.layout.TheConstants.{LONGEST_FRAME, MAX_LOG_BYTES, MAX_RECORD_BYTES};
 ghost use Rattle.shore_model.specs.declared.histories.Entry.{Entry};
 ghost use Rattle.shore_model.specs.declared.log_records.LogRecord.{LogRecord};
 ghost use Rattle.shore_model.specs.Lives.{IsLife};
@@ -12,16 +15,26 @@ ghost use Rattle.laws_lives.specs.Restarts.{RestartsTo};
 ghost use Rattle.laws_lives.specs.Undo.{HasNoLosers};
 ghost use Rattle.laws_lives.specs.Stretches.{MayBeFound, opening_told};
 ghost use Rattle.laws_calls.specs.CallHistories.{IsRoomyState};
-ghost use Rattle.laws_calls.specs.States.{State};
-ghost use Rattle.laws_runs.specs.StoredRuns.{AreFixed, AreStoredRuns, IsOpenedOver, RunsShow, StoredEvent, StoredMoves, StoredState, StoredSteps, entries_made, lists_found, spans_of_runs};
-ghost use Rattle.laws_runs.specs.RoomyLogs.{AreRoomy};
+ghost use Rattle.laws_calls.specs.States.{State, cost_of_log};
+ghost use Rattle.laws_calls.specs.WorkedRun.{first_page};
+ghost use Rattle.laws_runs.specs.StoredRuns.{AreFixed, AreStoredRuns, IsOpenedOver, RunsShow, StoredEvent, StoredMoves, StoredRun, StoredState, StoredSteps, entries_made, lists_found, spans_of_runs};
+ghost use Rattle.laws_runs.specs.RoomyLogs.{AreRoomy, IsRoomyLog};
 ghost use Rattle.laws_runs.specs.RoomyStates.{IsOpenedFrom};
 ghost use Rattle.laws_runs.specs.SoundStores.{IsLost, IsSoundStore, IsUnderWay, MayBeOpened, found_state, managed};
-ghost use Rattle.laws_runs.specs.Stays.{AreStoredStays, StoredStay, runs_of};
+ghost use Rattle.laws_runs.specs.WorkedLogs.{committed, inserted, taken_back};
+ghost use Rattle.laws_runs.specs.Stays.{AreStoredStays, StoredStay, Up, runs_of};
 
 /// What a format leaves may be opened: no record, and empty pages.
 pub fn formats_may_be_opened()
     ensures { (g : Geometry) (stream_bytes : ℕ) → LONGEST_FRAME ≤ stream_bytes → stream_bytes ≤ MAX_LOG_BYTES → MayBeOpened g stream_bytes [] (λ p. empty_page) }
+{}
+
+/// A log in bounds may be opened, though an earlier prefix of it left no room for its undo: a Commit gives away what was reserved before it. Here a
+/// record was inserted and committed, and the stream has room for both records and the longest frame, and for nothing besides.
+pub fn logs_in_bounds_may_be_opened()
+    ensures opened { (g : Geometry) (bytes : List ℕ) → HasStore g 0 → HasPage g first_page → length bytes ≤ MAX_RECORD_BYTES →
+        MayBeOpened g (cost_of_log (committed bytes) + LONGEST_FRAME) (committed bytes) (λ p. empty_page) }
+    ensures before { (g : Geometry) (bytes : List ℕ) → IsRoomyLog g (cost_of_log (committed bytes) + LONGEST_FRAME) (take 1 (committed bytes)) → ⊥ }
 {}
 
 /// A restart begins with a sound store, and each step of it leaves one, also a loss of power. Whatever a loss of power leaves of a sound store may be
@@ -41,7 +54,7 @@ pub fn crashes_leave_what_may_be_opened()
 /// its store is sound.
 pub fn managers_stay_under_way()
     ensures opens { (g : Geometry) (stream_bytes : ℕ) (s ready : RecoveryState) (works : List RecoveryEvent) (first : State) → MayBeFound s →
-        AreRoomy g stream_bytes s.log → RestartsTo s works ready → ready.redone ≡ length ready.log → HasNoLosers ready.log → IsOpenedOver ready first →
+        AreRoomy g stream_bytes s.durable s.log → RestartsTo s works ready → ready.redone ≡ length ready.log → HasNoLosers ready.log → IsOpenedOver ready first →
         IsOpenedFrom stream_bytes ready.log first → IsUnderWay g stream_bytes s.log [] (record { state = first; store = ready }) }
     ensures each { (g : Geometry) (stream_bytes : ℕ) (found : List LogRecord) (es : List Entry) (m new : StoredState) (e : StoredEvent) →
         IsUnderWay g stream_bytes found es m → StoredSteps g m e new → IsUnderWay g stream_bytes found (es ++ entries_made m e) new }
@@ -81,4 +94,15 @@ pub fn committed_work_survives_every_stay()
         RunsShow (opening_told rs) (found_state rs pages) (runs_of [] stays) }
     ensures fixed { (g : Geometry) (stream_bytes : ℕ) (rs last : List LogRecord) (pages last_pages : LoggedPages) (stays : List StoredStay) →
         MayBeOpened g stream_bytes rs pages → AreStoredStays g stream_bytes rs pages stays last last_pages → AreFixed (lists_found (found_state rs pages) (runs_of [] stays)) last }
+{}
+
+/// Stays can be such: over an empty store a manager inserts a record and is not asked to commit, the log is forced, its page is written back, and the
+/// power is lost with the record on the volume. The next restart takes it back by records of its own, and the manager behind it shows no record.
+pub fn flushed_losers_are_undone()
+    ensures { (g : Geometry) (stream_bytes : ℕ) (bytes : List ℕ) → HasStore g 0 → HasPage g first_page → length bytes ≤ MAX_RECORD_BYTES →
+        100000 ≤ stream_bytes → stream_bytes ≤ MAX_LOG_BYTES →
+        (stolen : StoredRun) × (opened : StoredRun) × (pages : LoggedPages)
+        × AreStoredStays g stream_bytes [] (λ p. empty_page) (Up stolen ∷ Up opened ∷ []) (taken_back bytes) pages
+        × (take stolen.survive stolen.last.store.log ≡ inserted bytes) × ((stolen.pages first_page).slots 0 ≡ Some bytes)
+        × ((id : Rid) → get opened.first.sessions.records id ≡ None) }
 {}

@@ -24,7 +24,7 @@ use Rattle.shore_analysis.specs.Meant.{AreMeant}
 use Rattle.shore_analysis.specs.Tables.{AreTables}
 use Rattle.shore_analysis.proofs.Counted.{Among, listed_among, loser_listed}
 use Rattle.shore_analysis.proofs.MeantLogs.{none_in_doubt}
-use Rattle.shore_analysis.specs.Losers.{AreEntriesOfLosers, IsEntryOfLoser, is_another, with_numbers}
+use Rattle.shore_analysis.specs.Losers.{AreEntriesOfLosers, IsEntryOfLoser, IsNextToUndo, NeedNotWait, is_another, with_numbers}
 
 -- ---- the table of a log
 
@@ -192,3 +192,25 @@ module _ (log : List LogRecord) (t : ℕ) (loser : IsLoser log t) where
 
       over : is_over t after ≡ true
       over = over_now log next (inr (is_the_end (unanswered t log) other))
+
+  -- ---- whose turn is next
+
+  -- behind a last Compensation nobody else's
+  pub end_follows : (u : ℕ) → IsNextToUndo log t → 0 < undo_next_of (unanswered t log) → unanswered t after ≡ [] → IsLoser after u → IsNextToUndo after u → u ≡ t
+  end_follows u turn some none later next_turn = ⊎_elim (λ own. sym own) (λ ne. absurd (by_newest (unanswered t log) refl ne)) (same_or_not t u)
+    where
+      -- who had something to be undone then has it still
+      not_before : (t ≢ u) → NeedNotWait (undo_next_of (unanswered u after)) 0 → NeedNotWait (undo_next_of (unanswered t log)) (undo_next_of (unanswered u log)) → ⊥
+      not_before ne (inr a) b = let least = a.0 in absurd (omega (arith, least))
+      not_before ne (inl zero) (inl gone) = absurd (omega (arith, gone, some))
+      not_before ne (inl zero) (inr b) =
+          let same : undo_next_of (unanswered u after) ≡ undo_next_of (unanswered u log) = ap undo_next_of (unanswered_other u log next ne) in
+          let least = b.0 in
+          absurd (omega (arith, same, zero, least))
+
+      by_newest : (us : List UnansweredChange) → unanswered t log ≡ us → (t ≢ u) → ⊥
+      by_newest [] is ne = let gone = ap undo_next_of is in absurd (omega (arith, gone, some))
+      by_newest (c ∷ cs) is ne =
+          not_before ne
+          (subst (λ us. NeedNotWait (undo_next_of (unanswered u after)) (undo_next_of us)) none (next_turn t (still_loser c cs is)))
+          (turn u (was_loser log next u ne later))

@@ -2,7 +2,7 @@ pub mod Answered
 pub mod Counted
 pub mod Entries
 pub mod Found
-pub mod Greatest
+pub mod InTurn
 pub mod KnownNext
 pub mod Listed
 pub mod MeantLogs

@@ -1,11 +1,11 @@
 -- What undo knows of the transactions that it still has to end, by the log as it has become.
-use Rattle.std.specs.Prelude.{◌≡◌, ◌≤◌, ◌+◌, ◌==◌, ℕ, List, [], ◌∷◌, Bool, length, map, not, if◌then◌else◌}
+use Rattle.std.specs.Prelude.{◌≡◌, ◌⊎◌, ◌<◌, ◌≤◌, ◌+◌, ◌==◌, ◌++◌, ℕ, List, [], ◌∷◌, Bool, length, map, not, if◌then◌else◌}
 use Rattle.std.specs.List.{AllByRecursion}
 use Rattle.shore_model.specs.declared.log_records.LogRecord.{LogRecord}
 use Rattle.shore_model.specs.declared.log_records.LogTxn.{LogTxn}
 use Rattle.shore_model.specs.Logs.{last_of, unanswered, undo_next_of}
 use Rattle.laws_lives.specs.Views.{IsAmong}
-use Rattle.laws_lives.specs.Undo.{IsLoser}
+use Rattle.laws_lives.specs.Undo.{IsLoser, undo_record}
 use Rattle.shore_analysis.specs.declared.losers.Losers.{Losers}
 
 -- the entry is a loser's, with the numbers of its last record and of its Change to be undone next
@@ -22,9 +22,20 @@ pub record AreEntriesOfLosers (log : List LogRecord) (entries : List LogTxn) : T
 abbrev pub HasLosers : List LogRecord → Losers → Type 0
 HasLosers log losers = AreEntriesOfLosers log losers.entries.items
 
--- a loser of which nobody's Change to be undone next is newer (ARIES: undo goes down the log, once for all losers)
+-- a loser with the first number to be undone next need not wait for one with the second: it has nothing left to be undone, or the other has
+-- something, and nothing newer
+abbrev pub NeedNotWait : ℕ → ℕ → Type 0
+NeedNotWait one other = (one ≡ 0) ⊎ ((0 < other) × (other ≤ one))
+
+-- A loser whose turn it may be: one with nothing left to be undone, or if there is none, the one whose Change to be undone next is the newest.
+-- So an End follows its last Compensation at once, and undo goes down the log once for all losers (ARIES).
 abbrev pub IsNextToUndo : List LogRecord → ℕ → Type 0
-IsNextToUndo log t = (u : ℕ) → IsLoser log u → undo_next_of (unanswered u log) ≤ undo_next_of (unanswered t log)
+IsNextToUndo log t = (u : ℕ) → IsLoser log u → NeedNotWait (undo_next_of (unanswered t log)) (undo_next_of (unanswered u log))
+
+-- the losers take these turns, each when it is next to undo, and the log has become the last one
+abbrev pub IsUndoneInOrder : List LogRecord → List ℕ → List LogRecord → Type 0
+IsUndoneInOrder log [] last = last ≡ log
+IsUndoneInOrder log (t ∷ ts) last = IsLoser log t × IsNextToUndo log t × IsUndoneInOrder (log ++ undo_record log t ∷ []) ts last
 
 -- how many records of undo the entries' transactions still get: one for each unanswered Change, and an End
 abbrev pub turns_left_of : List LogRecord → List LogTxn → ℕ

@@ -1,10 +1,11 @@
 //! Laws of analysis, each as a function that does nothing.
-ghost use Rattle.std.specs.Prelude.{◌↔◌, ◌++◌, ◌∷◌, [], ℕ, All, List, take};
+ghost use Rattle.std.specs.Prelude.{◌≡◌, ◌<◌, ◌↔◌, ◌++◌, ◌∷◌, [], ℕ, All, List, take};
 ghost use Rattle.shore_types.specs.declared.layout.Geometry.{Geometry};
 ghost use Rattle.shore_model.specs.declared.log_records.LogRecord.{LogRecord};
-ghost use Rattle.shore_model.specs.Logs.{Lawful, Lists};
+ghost use Rattle.shore_model.specs.Logs.{Lawful, Lists, unanswered, undo_next_of};
 ghost use Rattle.laws_lives.specs.Undo.{IsLoser, IsUndoneTo, undo_record};
 ghost use Rattle.shore_analysis.specs.declared.analysis.Tables.{Tables};
+ghost use Rattle.shore_analysis.specs.Losers.{IsNextToUndo, IsUndoneInOrder};
 ghost use Rattle.shore_analysis.specs.Meant.{AreMeant, MayBeNext, IsCrowded, IsFirstUnmeant, IsInBounds};
 ghost use Rattle.shore_analysis.specs.Tables.{AreTables};
 
@@ -27,9 +28,19 @@ pub fn undo_goes_on()
     ensures longer { (g : Geometry) (rs : List LogRecord) (r : LogRecord) → AreMeant g rs → MayBeNext g rs r → AreMeant g (rs ++ r ∷ []) }
 {}
 
-/// A record of undo more: the log is still the one that was found, with turns of undo behind it.
+/// A record of undo more: the log is still the one that was found, with turns of undo behind it. So it is of turns in their order, which are turns of undo.
 pub fn turns_of_undo_go_on()
     ensures begins { (found : List LogRecord) → IsUndoneTo found [] found }
+    ensures in_order { (found : List LogRecord) (turns : List ℕ) (log : List LogRecord) (t : ℕ) → IsUndoneInOrder found turns log → IsLoser log t → IsNextToUndo log t
+        → IsUndoneInOrder found (turns ++ t ∷ []) (log ++ undo_record log t ∷ []) }
+    ensures undone { (found : List LogRecord) (turns : List ℕ) (log : List LogRecord) → IsUndoneInOrder found turns log → IsUndoneTo found turns log }
     ensures goes_on { (found : List LogRecord) (turns : List ℕ) (log : List LogRecord) (t : ℕ) → IsUndoneTo found turns log → IsLoser log t
         → IsUndoneTo found (turns ++ t ∷ []) (log ++ undo_record log t ∷ []) }
+{}
+
+/// An End follows its loser's last Compensation at once: if a loser had something to be undone when it was next, and has nothing behind that, nobody else
+/// is next.
+pub fn ends_follow_at_once()
+    ensures { (log : List LogRecord) (t u : ℕ) → IsLoser log t → IsNextToUndo log t → 0 < undo_next_of (unanswered t log)
+        → unanswered t (log ++ undo_record log t ∷ []) ≡ [] → IsLoser (log ++ undo_record log t ∷ []) u → IsNextToUndo (log ++ undo_record log t ∷ []) u → u ≡ t }
 {}

@@ -1,5 +1,5 @@
 //! The transactions that undo still has to end, and the record that it appends next.
-ghost use Rattle.std.specs.Prelude.{◌≡◌, ◌≢◌, ◌<◌, ◌≤◌, ◌+◌, ◌++◌, ◌∷◌, [], ℕ, List, IfOk, IfNone, IfSome, MatchOption, filter, length, map};
+ghost use Rattle.std.specs.Prelude.{◌≡◌, ◌≢◌, ◌<◌, ◌+◌, ◌++◌, ◌∷◌, [], ℕ, List, IfOk, IfNone, IfSome, IsFalse, IsTrue, MatchOption, filter, length, map};
 ghost use Rattle.std.specs.List.{AllByRecursion};
 ghost use Rattle.shore_types.specs.Images.{Image};
 ghost use Rattle.shore_types.specs.declared.ids.Rid.{Rid};
@@ -13,7 +13,7 @@ ghost use Rattle.shore_analysis.specs.declared.analysis.Tables.{Tables};
 ghost use Rattle.shore_analysis.specs.Meant.{AreMeant};
 ghost use Rattle.shore_analysis.specs.Tables.{AreTables};
 ghost use Rattle.shore_analysis.specs.Losers as losers;
-ghost use Rattle.shore_analysis.specs.Losers.{HasLosers, IsNextToUndo, is_another, turns_left};
+ghost use Rattle.shore_analysis.specs.Losers.{HasLosers, IsNextToUndo, NeedNotWait, is_another, turns_left};
 
 use crate::{next_behind, record_at};
 use shore_model::{LogRecord, LogTxn, Payload};
@@ -39,8 +39,9 @@ impl Losers {
         }
     }
 
-    /// The next record of undo, of the loser with the greatest number to be undone next; None if nobody is left. The records are those that
-    /// the restart found: what undo has appended behind them is not needed.
+    /// The next record of undo: the End of a loser with nothing left to be undone, or, if there is none, a Compensation of the loser with the
+    /// greatest number to be undone next; None if nobody is left. The records are those that the restart found: what undo has appended behind
+    /// them is not needed.
     pub fn next_record(
         &self,
         alloc: Global,
@@ -49,11 +50,11 @@ impl Losers {
         ensures none { (log : List LogRecord) → HasLosers log self.now → IfOk result (λ next. IfNone next ((t : ℕ) → IsLoser log t → ⊥)) }
         ensures done { (log : List LogRecord) → Lawful log → HasLosers log self.now → IfOk result (λ next. IfNone next (HasNoLosers log)) }
         ensures loser { (log : List LogRecord) → HasLosers log self.now → IfOk result (λ next. IfSome next (λ r. IsLoser log r.txn)) }
-        ensures greatest { (log : List LogRecord) → HasLosers log self.now → IfOk result (λ next. IfSome next (λ r. IsNextToUndo log r.txn)) }
+        ensures turn { (log : List LogRecord) → HasLosers log self.now → IfOk result (λ next. IfSome next (λ r. IsNextToUndo log r.txn)) }
         ensures undoes { (g : Geometry) (turns : List ℕ) (log : List LogRecord) → AreMeant g found.now → IsUndoneTo found.now turns log
             → HasLosers log self.now → IfOk result (λ next. IfSome next (λ r. r ≡ undo_record log r.txn)) }
     {
-        let Some(loser) = newest(self.entries.as_slice()) else {
+        let Some(loser) = next_in_turn(self.entries.as_slice()) else {
             return Ok(None);
         };
         let payload = undo_of(alloc, found, loser.undo_next)?;
@@ -68,7 +69,7 @@ impl Losers {
     pub fn next_change(&self) -> Lsn
         ensures { (log : List LogRecord) (t : ℕ) → HasLosers log self.now → IsLoser log t → IsNextToUndo log t → result ≡ undo_next_of (unanswered t log) }
     {
-        match newest(self.entries.as_slice()) {
+        match next_in_turn(self.entries.as_slice()) {
             Some(loser) => loser.undo_next,
             None => Lsn(0),
         }
@@ -106,17 +107,25 @@ fn next_after(payload: &Payload) -> Option<Lsn>
     }
 }
 
-// An entry with the greatest number to be undone next.
-fn newest(entries: &[LogTxn]) -> Option<LogTxn>
+// An entry whose turn it may be.
+fn next_in_turn(entries: &[LogTxn]) -> Option<LogTxn>
     ensures none { IfNone result (entries.now ≡ []) }
     ensures some { IfSome result (λ e. IsAmong e entries.now) }
-    ensures greatest { IfSome result (λ e. AllByRecursion (λ x. x.undo_next ≤ e.undo_next) entries.now) }
+    ensures first { IfSome result (λ e. AllByRecursion (λ x. NeedNotWait e.undo_next x.undo_next) entries.now) }
 {
     let (first, rest) = entries.split_first()?;
-    match newest(rest) {
-        Some(other) if first.undo_next.0 < other.undo_next.0 => Some(other),
+    match next_in_turn(rest) {
+        Some(other) if has_to_wait(first.undo_next, other.undo_next) => Some(other),
         _ => Some(*first),
     }
+}
+
+// Whether a loser with this number to be undone next has to wait for one with the other number.
+fn has_to_wait(one: Lsn, other: Lsn) -> bool
+    ensures wait { IsTrue result → NeedNotWait other one }
+    ensures not { IsFalse result → NeedNotWait one other }
+{
+    one.0 != 0 && (other.0 == 0 || one.0 < other.0)
 }
 
 // What undo of the Change with this number says; at 0 nothing is left to be undone.

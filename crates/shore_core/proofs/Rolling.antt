@@ -39,8 +39,9 @@ use Rattle.laws_calls.proofs.Unwinding.{its_list, list_twice, rolled_on, same_ma
 use Rattle.shore_analysis.specs.Meant.{IsInBounds}
 use Rattle.laws_runs.proofs.LoggedIds.{logged_inside}
 use Rattle.laws_runs.proofs.Opens.{records_inside}
-use Rattle.laws_runs.proofs.Prefixes.{whole_roomy}
-use Rattle.laws_runs.proofs.Running.{comes_leaving}
+use Rattle.laws_calls.proofs.LongerLogs.{call_further}
+use Rattle.laws_runs.proofs.Prefixes.{whole_placed}
+use Rattle.laws_runs.proofs.Running.{comes_leaving, later_leaving}
 use Rattle.shore_disk.specs.declared.device.Disk as disk
 use Rattle.shore_log.specs.declared.tail.Tail as tail
 use Rattle.shore_model.specs.declared.log_records.LogRecord.{LogRecord}
@@ -66,7 +67,7 @@ module _ (g : Geometry) (s : State) (safe : IsSafe g s) (a : SessionTxn) (mem : 
   newest_inside =
       (logged_inside g a.txn s.log e.0
       (one_logged (λ d. IsSome (get (logged_writes s.log a.txn) d.0)) kept e [] (subst (AreLogged s.log a.txn) is (safe.after.sessions.log.undo_logged a mem)))
-      (recursion_from_All (IsInBounds g) s.log (whole_roomy g safe.stream_bytes s.log safe.leaves.prefixes).inside)).0
+      (recursion_from_All (IsInBounds g) s.log (whole_placed g safe.stream_bytes s.durable s.log safe.leaves.prefixes).inside)).0
 
   pub newest_fits : Fits (page_slots s e.0.page) e.0.slot (image_len e.1)
   newest_fits = undo_fits s.sessions.records s.sessions.active s.counts safe.roomy.pages a mem kept e [] None is
@@ -158,7 +159,8 @@ module _ (g : Geometry) (s : State) (safe : IsSafe g s) (session : ℕ) (a : Ses
         let after = session_call_stays safe.found safe.entries s safe.after g session (call_of r) (Refused fault.Memory) mid step in
         let made = entries_of_call s session (call_of r) (Refused fault.Memory) in
         let comes = session_call_comes g safe.found safe.entries s safe.after session (call_of r) (Refused fault.Memory) mid step in
-        let leaves = comes_leaving g safe.stream_bytes safe.found safe.entries s mid made safe.after safe.roomy safe.leaves comes in
+        let even = (call_further g s session (call_of r) (Refused fault.Memory) mid step).durable in
+        let leaves = later_leaving g safe.stream_bytes s.durable mid (omega (arith, even)) (comes_leaving g safe.stream_bytes safe.found s.durable safe.entries s mid made safe.after safe.roomy safe.leaves comes) in
         record {
           found = safe.found;
           entries = safe.entries ++ made;
@@ -167,7 +169,7 @@ module _ (g : Geometry) (s : State) (safe : IsSafe g s) (session : ℕ) (a : Ses
           roomy = session_call_roomy safe.found safe.entries s safe.after safe.roomy g session (call_of r) (Refused fault.Memory) mid step;
           stream_bytes = safe.stream_bytes;
           leaves = leaves;
-          inside = records_inside g safe.stream_bytes mid.log mid.sessions.records (whole_roomy g safe.stream_bytes mid.log leaves.prefixes)
+          inside = records_inside g mid.log mid.sessions.records (whole_placed g safe.stream_bytes mid.durable mid.log leaves.prefixes)
               (λ id. sym (image_in_place after.sessions.sound after.sessions.log leaves.whole id));
         }
 

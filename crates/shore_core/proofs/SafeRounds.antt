@@ -1,5 +1,5 @@
 -- A state is safe behind rounds of waits and of victims that let a lock through, if it was before; and log and pages are as they were.
-use Rattle.std.proofs.Common.{◌≡◌, inl, inr, ◌∷◌, ℕ, List, [], Bool, true, false, cond, None, Some, Result, Ok, Err, refl, sym, ap, subst, ◌∙◌}
+use Rattle.std.proofs.Common.{◌≡◌, inl, inr, ◌∷◌, ℕ, List, [], Bool, true, false, cond, None, Some, Result, Ok, Err, refl, sym, ap, subst, ◌∙◌, arith}
 use Rattle.std.specs.Prelude.{◌==◌}
 use Rattle.shore_types.specs.declared.ids.PageId.{PageId}
 use Rattle.shore_types.specs.declared.faults.Fault.{Fault}
@@ -20,7 +20,8 @@ use Rattle.laws_lives.specs.Sessions.{SessionTxn}
 use Rattle.laws_lives.specs.UndoLists.{undo_rolled}
 use Rattle.shore_model.specs.declared.rollbacks.Rollback.TheVariants.{Whole}
 use Rattle.laws_lives.specs.Views.{IsAmong}
-use Rattle.laws_runs.proofs.Running.{comes_leaving}
+use Rattle.laws_calls.proofs.LongerLogs.{victims_further}
+use Rattle.laws_runs.proofs.Running.{comes_leaving, later_leaving}
 use Rattle.laws_calls.proofs.SessionRooms.{comes_roomy}
 use Rattle.laws_calls.specs.CallHistories.{IsRoomyState}
 use Rattle.laws_calls.specs.CallSteps.{MayAsk, lock_outcome}
@@ -98,6 +99,7 @@ module _ (g : Geometry) where
   safe_victim : (s : State) (safe : IsSafe g s) (t : ℕ) (v : Victim) (new : State) → TakesVictim s t v new → IsSafe g new
   safe_victim s safe t v new h =
       let comes = victim_comes safe.found safe.entries s safe.after g t v new h in
+      let even = (victims_further s t (v ∷ []) new (new, h, refl)).durable in
       record {
         found = safe.found;
         entries = safe.entries;
@@ -107,7 +109,7 @@ module _ (g : Geometry) where
             subst (MayAsk g) was.2 (safe.asks was.0 at was.1 (was.3 ∙ is));
         roomy = comes_roomy safe.found safe.entries s safe.after safe.roomy g new [] comes;
         stream_bytes = safe.stream_bytes;
-        leaves = comes_leaving g safe.stream_bytes safe.found safe.entries s new [] safe.after safe.roomy safe.leaves comes;
+        leaves = later_leaving g safe.stream_bytes s.durable new (omega (arith, even)) (comes_leaving g safe.stream_bytes safe.found s.durable safe.entries s new [] safe.after safe.roomy safe.leaves comes);
         inside = subst (λ (x : State). AreRecords g x.sessions.records) (sym h.is) safe.inside;
       }
 

@@ -14,6 +14,7 @@ use Rattle.laws_lives.specs.Undo.{IsUndoneTo, undo_payload, undo_record}
 use Rattle.laws_lives.specs.UndoChains.{IsUndoChain}
 use Rattle.laws_lives.proofs.UndoChains.{unanswered_chain}
 use Rattle.shore_analysis.specs.Meant.{MayBeNext, IsFirstUnmeant}
+use Rattle.shore_analysis.proofs.InTurn.{in_order_undone}
 use Rattle.shore_analysis.proofs.MeantLogs.{own_or_last}
 use Rattle.shore_restart.specs.declared.errors.RestartError.TheVariants.{BadRecord}
 use Rattle.shore_restart.specs.Turns.{IsUndoneSoFar}
@@ -46,7 +47,7 @@ undone_within found log r turn so_far n is some = by_newest (unanswered r.txn lo
     by_newest (c ∷ cs) newest =
         let chain : IsUndoChain log r.txn (c ∷ cs) = subst (IsUndoChain log r.txn) newest (unanswered_chain log r.txn) in
         let at = chain.0 in
-        let here = change_found found so_far.0 log so_far.1 (c.number - 1) at.found c.id c.before at.after at.says at.here in
+        let here = change_found found so_far.0 log (in_order_undone found so_far.0 log so_far.1) (c.number - 1) at.found c.id c.before at.after at.says at.here in
         let within = slice_get_within found (c.number - 1) at.found here in
         let number : n ≡ c.number = is ∙ ap undo_next_of newest in
         let one = at.is_one in

@@ -68,6 +68,7 @@ module _ (g : Geometry) (log : List LogRecord) (stream_bytes : ℕ) (undo : Undo
   turn_takes later new same fewer = record {
     loser = r.txn;
     is_one = turn.loser;
+    next = turn.next;
     logged = same ∙ ap (λ (x : LogRecord). log ++ x ∷ []) turn.is;
     fewer = subst (λ (l : List LogRecord). turns_left l new.losers < turns_left log undo.losers) (sym same) fewer;
   }

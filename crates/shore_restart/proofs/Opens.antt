@@ -22,6 +22,7 @@ use Rattle.laws_lives.proofs.WritersTold.{leaves_told}
 use Rattle.laws_runs.specs.StoredRuns.{IsOpenedOver}
 use Rattle.shore_analysis.specs.Tables.{IsNext}
 use Rattle.shore_analysis.proofs.Counted.{last_is_one}
+use Rattle.shore_analysis.proofs.InTurn.{in_order_undone}
 use Rattle.laws_runs.specs.SlotCounts.{slot_count, slots_left}
 use Rattle.shore_txn.specs.ActiveTxns.{session_txns}
 use Rattle.shore_txn.specs.Transactions.{next_in, room_in}
@@ -42,6 +43,7 @@ use Rattle.shore_restart.specs.Idle.{IsIdle}
 use Rattle.shore_restart.specs.Opened.{OpensIn}
 use Rattle.shore_restart.specs.Room.{IsRoomBehind}
 use Rattle.shore_restart.specs.Standing.{Stands}
+use Rattle.shore_restart.specs.Turns.{IsUndoneSoFar}
 
 -- ---- numbers of transactions
 
@@ -128,14 +130,14 @@ module _ (ready : RecoveryState) (control : Control) (stream_bytes : ℕ) where
 module _ {T V : Type 0} {G : tail.Ghosts T} {H : disk.Ghosts V} (core : Core T V G H) (heap : Heap V H) (control : Control) (front : List ℕ) (left : ℕ → List ℕ)
     (found log : List LogRecord) (stream_bytes : ℕ) (ready : RecoveryState) where
   -- what is made of a heap and a control that a restart has left opens over its store
-  pub opens_in : ready.log ≡ log → Lawful found → (undone : (turns : List ℕ) × IsUndoneTo found turns log) → HasNoLosers log → ready.redone ≡ length ready.log
+  pub opens_in : ready.log ≡ log → Lawful found → (undone : IsUndoneSoFar found log) → HasNoLosers log → ready.redone ≡ length ready.log
       → Stands front left heap ready → (limit : ℕ) → IsIdle limit control → IsNext found (next_in (txns_in control)) → IsRoomBehind log stream_bytes (room_in (txns_in control))
       → ((s : State) → s.log ≡ ready.log → s.durable ≡ ready.durable → s.failed ≡ false → HasControl control s → Shows unclaimed heap front left (page_slots s)
       → IsIn front left s.log core s)
       → ((s : State) (store : RecoveryState) → IsKept s store → IsStoreOf heap left store → IsOver left core s store) → OpensIn core front left found log stream_bytes ready
   opens_in same lawful undone quiet redone stands limit idle next room in_state over_store =
       let s = opened_state ready control stream_bytes in
-      let here : IsUndoneTo found undone.0 ready.log = subst (IsUndoneTo found undone.0) (sym same) undone.1 in
+      let here : IsUndoneTo found undone.0 ready.log = subst (IsUndoneTo found undone.0) (sym same) (in_order_undone found undone.0 log undone.1) in
       let kept = stands.recoverable in
       let still_lawful = undone_lawful found undone.0 ready.log here lawful in
       let quiet_here = subst HasNoLosers (sym same) quiet in

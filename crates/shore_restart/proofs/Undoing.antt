@@ -10,7 +10,9 @@ use Rattle.shore_heap.specs.declared.heap.Heap.{Heap}
 use Rattle.shore_heap.specs.Heaps.{geometry_of, history_of}
 use Rattle.laws_lives.specs.Recovery.{RecoveryState, after_force}
 use Rattle.laws_lives.specs.Undo.{IsLoser, undo_record}
-use Rattle.laws_lives.proofs.UndoRecords.{undone_lawful, undone_more}
+use Rattle.laws_lives.proofs.UndoRecords.{undone_lawful}
+use Rattle.shore_analysis.specs.Losers.{IsNextToUndo}
+use Rattle.shore_analysis.proofs.InTurn.{in_order_more, in_order_undone}
 use Rattle.shore_restart.specs.declared.errors.RestartError.{RestartError}
 use Rattle.shore_restart.specs.Standing.{Forces, RestartMoves, SameLog, log_history, moment_of, stream_bytes_of}
 use Rattle.shore_restart.specs.Turns.{IsUndoneSoFar}
@@ -19,13 +21,13 @@ use Rattle.shore_restart.proofs.Coming.{CameFrom, came_forced, came_moved, force
 -- ---- the log
 
 -- a turn more
-pub undone_and : (found log later : List LogRecord) (t : ℕ) → IsUndoneSoFar found log → IsLoser log t → later ≡ log ++ undo_record log t ∷ [] → IsUndoneSoFar found later
-undone_and found log later t so_far loser same =
-    subst (IsUndoneSoFar found) (sym same) (so_far.0 ++ t ∷ [], undone_more found so_far.0 log t so_far.1 loser)
+pub undone_and : (found log later : List LogRecord) (t : ℕ) → IsUndoneSoFar found log → IsLoser log t → IsNextToUndo log t → later ≡ log ++ undo_record log t ∷ [] → IsUndoneSoFar found later
+undone_and found log later t so_far loser next same =
+    subst (IsUndoneSoFar found) (sym same) (so_far.0 ++ t ∷ [], in_order_more found so_far.0 log t so_far.1 loser next)
 
 -- turns of undo keep a log lawful
 pub lawful_so_far : (found log : List LogRecord) → IsUndoneSoFar found log → Lawful found → Lawful log
-lawful_so_far found log so_far lawful = undone_lawful found so_far.0 log so_far.1 lawful
+lawful_so_far found log so_far lawful = undone_lawful found so_far.0 log (in_order_undone found so_far.0 log so_far.1) lawful
 
 -- what holds anyway, holds if it was not refused
 pub on_ok : {T E : Type 0} {P : Type 0} (r : Result T E) → P → OnOk r P

@@ -3,10 +3,10 @@ use Rattle.std.specs.Prelude.{◌≡◌, ◌⊎◌, ◌<◌, ◌++◌, ◌∷◌
 use Rattle.shore_types.specs.declared.layout.Geometry.{Geometry}
 use Rattle.shore_model.specs.declared.log_records.LogRecord.{LogRecord}
 use Rattle.shore_model.specs.Logs.{unanswered, undo_next_of}
-use Rattle.laws_lives.specs.Undo.{IsLoser, IsUndoneTo, undo_record}
+use Rattle.laws_lives.specs.Undo.{IsLoser, undo_record}
 use Rattle.shore_analysis.specs.Meant.{AreMeant, IsFirstUnmeant}
 use Rattle.laws_runs.specs.SlotCounts.{FitsBehind}
-use Rattle.shore_analysis.specs.Losers.{HasLosers, IsNextToUndo, turns_left}
+use Rattle.shore_analysis.specs.Losers.{HasLosers, IsNextToUndo, IsUndoneInOrder, turns_left}
 use Rattle.shore_restart.specs.declared.turns.Undo.{Undo}
 use Rattle.shore_restart.specs.Errors.{DoesNotFit}
 use Rattle.shore_restart.specs.Room.{IsRoomBehind, LeavesRoom}
@@ -17,14 +17,15 @@ pub record IsUndoOf (g : Geometry) (log : List LogRecord) (stream_bytes : ℕ) (
   pub losers : HasLosers log undo.losers
   pub room : IsRoomBehind log stream_bytes undo.room
 
--- the log is one that was found, with turns of undo behind it
+-- the log is one that was found, with turns of undo behind it, in their order
 abbrev pub IsUndoneSoFar : List LogRecord → List LogRecord → Type 0
-IsUndoneSoFar found log = (turns : List ℕ) × IsUndoneTo found turns log
+IsUndoneSoFar found log = (turns : List ℕ) × IsUndoneInOrder found turns log
 
--- a loser's next record of undo was appended, and fewer turns are left
+-- the next record of undo of a loser that is next was appended, and fewer turns are left
 pub record TakesTurn (log later : List LogRecord) (old new : Undo) : Type 0 where
   pub loser : ℕ
   pub is_one : IsLoser log loser
+  pub next : IsNextToUndo log loser
   pub logged : later ≡ log ++ undo_record log loser ∷ []
   pub fewer : turns_left later new.losers < turns_left log old.losers
 
@@ -38,10 +39,13 @@ CannotUndo log n = (t : ℕ) × IsLoser log t × IsNextToUndo log t × (n ≡ un
 
 -- ---- why a restart is refused
 
--- The record of this number is the first that does not mean what it has to; or it does not fit its page; or what its undo brings back does not,
--- behind the records of undo so far.
+-- the record of this number does not fit its page, or what its undo brings back does not, behind the records of undo so far
+abbrev pub IsMisfit : List LogRecord → ℕ → Type 0
+IsMisfit log n = DoesNotFit log n ⊎ ((so_far : List LogRecord) × IsUndoneSoFar log so_far × CannotUndo so_far n)
+
+-- it is the first that does not mean what it has to; or all do, and it is such a misfit
 abbrev pub IsBadRecord : Geometry → List LogRecord → ℕ → Type 0
-IsBadRecord g log n = IsFirstUnmeant g log n ⊎ DoesNotFit log n ⊎ ((so_far : List LogRecord) × IsUndoneSoFar log so_far × CannotUndo so_far n)
+IsBadRecord g log n = IsFirstUnmeant g log n ⊎ (AreMeant g log × IsMisfit log n)
 
 -- the log leaves no room in a stream of this length, or it does with the records of undo so far but not with one more
 abbrev pub LacksRoom : List LogRecord → ℕ → Type 0

@@ -1,5 +1,5 @@
 //! A restart, from what an open has found to a core.
-ghost use Rattle.std.specs.Prelude.{◌≡◌, ◌<◌, ◌≤◌, ◌+◌, [], ℕ, List, IfErr, IfOk, OnOk, length};
+ghost use Rattle.std.specs.Prelude.{◌≡◌, ◌⊎◌, ◌<◌, ◌≤◌, ◌+◌, [], ℕ, List, IfErr, IfOk, OnOk, length};
 ghost use Rattle.shore_disk.specs.Cause.{HasCause};
 ghost use Rattle.shore_types.specs.declared.faults.Fault.{Fault};
 ghost use Rattle.shore_types.specs.declared.faults.Fault.TheVariants as Fault;
@@ -8,6 +8,7 @@ ghost use Rattle.shore_heap.specs.Heaps.{faults_of, geometry_of};
 ghost use Rattle.shore_core.specs.Cores.{durable_of, first_of, locks_of};
 ghost use Rattle.laws_lives.specs.Recovery.{RecoveryState};
 ghost use Rattle.shore_analysis.specs.declared.analysis.Tables.{Tables};
+ghost use Rattle.shore_analysis.specs.Meant.{AreMeant, IsFirstUnmeant};
 ghost use Rattle.shore_analysis.specs.Tables.{AreTables};
 ghost use Rattle.shore_restart.specs.declared.errors.RestartError.{RestartError};
 ghost use Rattle.shore_restart.specs.declared.errors.RestartError.TheVariants as RestartError;
@@ -16,7 +17,7 @@ ghost use Rattle.shore_restart.specs.Opened.{Restarts, answer_of, heap_left, log
 ghost use Rattle.shore_restart.specs.Missing.{missing_on};
 ghost use Rattle.shore_restart.specs.Quiet.{IsQuiet, StaysQuiet};
 ghost use Rattle.shore_restart.specs.Standing.{IsFound, SameLog, SameVolume, log_faults, stream_bytes_of};
-ghost use Rattle.shore_restart.specs.Turns.{IsBadRecord, LacksRoom};
+ghost use Rattle.shore_restart.specs.Turns.{IsBadRecord, IsUndoneSoFar, LacksRoom};
 
 use crate::errors::RestartError;
 use crate::passes::{Passed, Report, run_passes};
@@ -39,6 +40,8 @@ pub fn restart<L: Disk, V: Disk>(
     // one with all records done and no loser, durable and shown by the core.
     ensures restarts { (log_front front : List ℕ) (disk : ℕ → List ℕ) (s : RecoveryState) → IsFound log_front front disk log.old heap s
         → Restarts result log_front front log.old log.new heap s }
+    // The log has grown by the turns of the losers, in their order.
+    ensures undone { OnOk result (IsUndoneSoFar (records_of_log log.old) (records_of_log log.new)) }
     ensures report { IfOk result (λ done. (done.1.read ≡ length (records_of_log log.old)) × (done.1.redone ≤ done.1.read)
         × ((tables : Tables) × AreTables (records_of_log log.old) tables × (done.1.undone ≡ length tables.txns))) }
     // .. and of a store that was found, how many of the log's records its pages did not have.
@@ -52,7 +55,10 @@ pub fn restart<L: Disk, V: Disk>(
     ensures device { (log_front front : List ℕ) (disk : ℕ → List ℕ) (s : RecoveryState) → IsFound log_front front disk log.old heap s
         → IfErr result (λ refused. (f : Fault) → refused.0 ≡ RestartError.Page f → f ≡ Fault.Device) }
     ensures log_device { (log_front : List ℕ) → IsQuiet log_front log.old → StaysQuiet (answer_of result) log_front log.old log.new }
-    // .. and whatever the pages hold, a page is named that has no text of it with a number up to the log's last.
+    // .. and whatever the pages hold, a record is named that is the first which does not mean what it has to, unless all do.
+    ensures meant { IfErr result (λ refused. (n : ℕ) → refused.0 ≡ RestartError.BadRecord n
+        → IsFirstUnmeant (geometry_of heap) (records_of_log log.old) n ⊎ AreMeant (geometry_of heap) (records_of_log log.old)) }
+    // .. and a page is named that has no text of it with a number up to the log's last.
     ensures bad_number { IfErr result (λ refused. (n : ℕ) → refused.0 ≡ RestartError.BadRecord n → (0 < n) × (n ≤ length (records_of_log log.old))) }
     ensures any_pages { (front : List ℕ) (disk : ℕ → List ℕ) → IsHeld front disk heap (length (records_of_log log.old))
         → IfErr result (λ refused. (f : Fault) → refused.0 ≡ RestartError.Page f → IsPageFault (geometry_of heap) disk (length (records_of_log log.old)) f) }

@@ -12,6 +12,7 @@ pub mod OpenLemmas
 pub mod StableLemmas
 pub mod AreaLemmas
 pub mod RestartRefusals
+pub mod ShownPages
 pub mod OpenPaths
 pub mod OpenedLemmas
 pub mod RestartNames

@@ -1,13 +1,11 @@
 -- The way of an open: both devices are synced, the double-write area is replayed, and a restart goes on from there.
-use Rattle.std.proofs.Common.{◌≡◌, ◌⊎◌, inl, inr, ◌+◌, ◌-◌, ◌∷◌, [], ℕ, suc, List, None, Err, length, take, map, refl, sym, ap, subst, ◌∙◌, arith}
-use Rattle.std.specs.Prelude.{slice_index_or}
+use Rattle.std.proofs.Common.{◌≡◌, ◌⊎◌, inl, inr, ◌+◌, ◌-◌, ◌∷◌, [], ℕ, List, None, Err, length, take, map, refl, sym, ap, subst, ◌∙◌, arith}
 use Rattle.std.proofs.lemmas.List.{take_all}
 use Rattle.shore_types.specs.declared.layout.Geometry.{Geometry}
 use Rattle.shore_types.specs.declared.layout.TheConstants.{LOG_FRONT_BYTES}
 use Rattle.shore_types.specs.declared.faults.Device.TheVariants.{Volume}
 use Rattle.shore_types.specs.declared.faults.Fault.{Fault}
 use Rattle.shore_types.specs.declared.ids.PageId.{PageId}
-use Rattle.shore_types.specs.Images.{Image}
 use Rattle.shore_types.specs.Layout.{HasPage}
 use Rattle.shore_disk.specs.Device.{Call, History, LeavesOnly, LeftAfter, LeftSince, Stands, may_leave, moment, seen, size}
 use Rattle.shore_disk.specs.declared.device.Disk.{Ghosts}
@@ -25,14 +23,9 @@ use Rattle.shore_dwrite.specs.declared.places.TheConstants.{GATE_AT}
 use Rattle.shore_heap.specs.Contents.{unclaimed}
 use Rattle.shore_heap.specs.declared.heap.Heap.{Heap}
 use Rattle.shore_heap.specs.Heaps as heaps
-use Rattle.laws_room.specs.Claims.{each_from}
-use Rattle.laws_runs.specs.SlotCounts.{slot_count}
 use Rattle.laws_lives.specs.Pages.{LoggedPages}
 use Rattle.laws_lives.specs.Recovery.{RecoveryState}
-use Rattle.laws_runs.proofs.SoundStores.{found_sound}
 use Rattle.laws_runs.specs.SoundStores.{found_state}
-use Rattle.laws_heaps.specs.LoggedHeaps.{AreTextsOf, HasImages}
-use Rattle.laws_heaps.proofs.LoggedLeft.{opened_is}
 use Rattle.shore_fronts.specs.Barriers.{IsBehindBarrier}
 use Rattle.shore_fronts.specs.Fronts.{HasFront}
 use Rattle.shore_fronts.specs.Pairs.{HaveFronts}
@@ -46,6 +39,7 @@ use Rattle.shore_restart.specs.declared.errors.RestartError.TheVariants as error
 use Rattle.shore_restart.specs.Standing.{IsFound, log_history, stream_bytes_of}
 use Rattle.shore_restart.specs.Turns.{IsBadRecord, LacksRoom}
 use Rattle.shore_world.proofs.RestartRefusals.{refused_from_outside}
+use Rattle.shore_world.proofs.ShownPages.{found_over, shown_by, texts_told, told_images}
 use Rattle.shore_restart.proofs.Paths.{path_on, step_log, step_volume}
 use Rattle.shore_world.specs.Opens.{OpenWay, OpensAlong}
 
@@ -54,22 +48,6 @@ module _ (g : Geometry) (log volume : History) (rs : List LogRecord) (pages : Lo
   abbrev pub way_of : (moments : List Moment) (last : Moment) → Path g (take LOG_FRONT_BYTES (seen log)) (take GATE_AT (seen volume)) (begun_on log_behind volume_behind rs pages) moments last
       → OpenWay g log volume rs pages
   way_of moments last path = record { log_behind = log_behind; volume_behind = volume_behind; barriers = barred; moments = moments; last = last; path = path }
-
--- the images of a page, one for each slot that it has
-images_from : (f : ℕ → Image) (first : ℕ) (images : List Image) → ((i : ℕ) → f (first + i) ≡ slice_index_or images i None) → images ≡ each_from f first (length images)
-images_from f first [] same = refl
-images_from f first (image ∷ images) same =
-    let at : first + 0 ≡ first = omega arith in
-    ap (λ x. x ∷ images) (sym (same 0) ∙ ap f at)
-    ∙ ap (λ l. f first ∷ l) (images_from f (suc first) images (λ i. let on : suc first + i ≡ first + suc i = omega arith in ap f on ∙ same (suc i)))
-
-abbrev pub told_images : List LogRecord → LoggedPages → PageId → List Image
-told_images rs pages p = each_from (pages p).slots 0 (slot_count (take (pages p).number rs) p)
-
-told_as : (rs : List LogRecord) (pages : LoggedPages) (p : PageId) (images : List Image) → HasImages rs p (pages p) images → images ≡ told_images rs pages p
-told_as rs pages p images has =
-    images_from (pages p).slots 0 images (λ i. let at : 0 + i ≡ i = omega arith in ap (pages p).slots at ∙ has.slots i)
-    ∙ ap (λ (n : ℕ). each_from (pages p).slots 0 n) has.count
 
 module _ (g : Geometry) (log_bytes volume_bytes : ℕ) (rs : List LogRecord) (pages : LoggedPages) (log_image volume_image : List ℕ)
     (stood : StandsFor g log_bytes volume_bytes rs pages log_image volume_image) where
@@ -88,11 +66,6 @@ module _ (g : Geometry) (log_bytes volume_bytes : ℕ) (rs : List LogRecord) (pa
 
   pub shown : Shows g volume_image texts
   shown = stood.volume.shows.1.1
-
-  pub texts_are : (p : PageId) → HasPage g p → IsPageText (texts (page_number g p)) p (pages p).number (told_images rs pages p)
-  texts_are p has =
-      let is = stood.volume.shows.2.each p has in
-      subst (IsPageText (texts (page_number g p)) p (pages p).number) (told_as rs pages p is.images is.has) is.text
 
   all_records : take (length rs) rs ≡ rs
   all_records = take_all (length rs) rs (omega arith)
@@ -114,10 +87,10 @@ module _ (g : Geometry) (log_bytes volume_bytes : ℕ) (rs : List LogRecord) (pa
 
   -- by the geometry that the fronts told
   pub shown_at : (h : Geometry) → h ≡ g → Shows h volume_image texts
-  shown_at h same = subst (λ (x : Geometry). Shows x volume_image texts) (sym same) shown
+  shown_at = shown_by g rs pages volume_image (record { shown = stood.volume.shows; as_of = stood.opened.as_of })
 
   pub texts_at : (h : Geometry) → h ≡ g → (p : PageId) → HasPage h p → IsPageText (texts (page_number h p)) p (pages p).number (told_images rs pages p)
-  texts_at h same = subst (λ (x : Geometry). (p : PageId) → HasPage x p → IsPageText (texts (page_number x p)) p (pages p).number (told_images rs pages p)) (sym same) texts_are
+  texts_at = texts_told g rs pages volume_image (record { shown = stood.volume.shows; as_of = stood.opened.as_of })
 
   pub replay_at : (h : Geometry) → h ≡ g → (mid now : History) → LeavesOnly mid now (ShowsBehind h front texts) → LeavesOnly mid now (ShowsBehind g front texts)
   replay_at h same mid now leaves = subst (λ (x : Geometry). LeavesOnly mid now (ShowsBehind x front texts)) same leaves
@@ -163,19 +136,7 @@ module _ (g : Geometry) (log_bytes volume_bytes : ℕ) (rs : List LogRecord) (pa
       → records_of_log log ≡ rs → heaps.geometry_of heap ≡ g → ((k : ℕ) → heaps.frame_at heap k ≡ None)
       → heaps.Shows unclaimed heap front texts (λ p. map settled (told_images rs pages p)) → IsFound log_front front texts log heap s
   found log heap log_settled none all list geometry frames shows =
-      let store = opened_is heap rs texts pages (subst (λ (x : Geometry). AreTextsOf rs x texts pages) (sym geometry) stood.volume.shows.2) frames in
-      record {
-        at_rest = record { settled = log_settled; none_staged = none; records = sym list; durable = sym (ap length (all ∙ list)) };
-        stands = record {
-          store = store.0;
-          settled = store.1;
-          recoverable = (found_sound g (log_bytes - LOG_FRONT_BYTES) rs pages stood.opened).recoverable;
-          slots = λ p. map settled (told_images rs pages p);
-          shows = shows;
-        };
-        durable = refl;
-        redone = refl;
-      }
+      found_over g rs pages volume_image (record { shown = stood.volume.shows; as_of = stood.opened.as_of }) log_front log heap log_settled none all list geometry frames shows
 
   -- so it is refused by what comes from outside alone
   pub restart_outside : {L V : Type 0} {G : Ghosts L} {H : Ghosts V} (log : LogDev L G) (heap : Heap V H) → IsFound log_front front texts log heap s → heaps.geometry_of heap ≡ g
@@ -186,7 +147,7 @@ module _ (g : Geometry) (log_bytes volume_bytes : ℕ) (rs : List LogRecord) (pa
   restart_outside log heap is geometry long e f bad room page force memory on_page on_log =
       let list : records_of_log log ≡ rs = sym is.at_rest.records in
       let most = stood.log.long.1 in
-      refused_from_outside g (log_bytes - LOG_FRONT_BYTES) (omega (arith, most)) rs stood.opened.roomy stood.opened.lawful e f
+      refused_from_outside g (log_bytes - LOG_FRONT_BYTES) (length rs) (omega (arith, most)) rs stood.opened.roomy stood.opened.lawful e f
       (λ n at. subst (λ (l : List LogRecord). IsBadRecord g l n) list (subst (λ (x : Geometry). IsBadRecord x (records_of_log log) n) geometry (bad n at)))
       (λ at. subst (λ (l : List LogRecord). LacksRoom l (log_bytes - LOG_FRONT_BYTES)) list (subst (λ n. LacksRoom (records_of_log log) (n - LOG_FRONT_BYTES)) long (room at)))
       page force memory on_page on_log

@@ -200,7 +200,7 @@ module _ {L V : Type 0} {G : Ghosts L} {H : Ghosts V} (g : Geometry) (stream_byt
   has_room es w m up =
       subst (λ n. cost_of_log (list_in w) + LONGEST_FRAME ≤ n) (sym up.long)
       (subst (λ (l : List LogRecord). cost_of_log l + LONGEST_FRAME ≤ stream_bytes) up.at.is_in.beside.parts.log
-      (fits_stream g stream_bytes m.state.log (whole_roomy g stream_bytes m.state.log up.under_way.leaves.prefixes)))
+      (fits_stream g stream_bytes m.state.log (whole_roomy g stream_bytes m.state.durable m.state.log up.under_way.leaves.prefixes)))
 
   pub run_never_full : (es : List Entry) (old : World L V G H) (m : StoredState) → IsUpAt es old m → (events : List Event) (steps : List Step) (moves : List ManagerEvent)
       (new : World L V G H) → AllByRecursion IsServedEvent events → Runs old events steps moves new → NoForceIsFull events steps

@@ -19,6 +19,7 @@ use Rattle.laws_calls.specs.States.{State}
 use Rattle.laws_images.specs.Moments.{IsLostAlong, Moment, Path}
 use Rattle.laws_images.specs.StandsFor.{StandsFor, begun_on}
 use Rattle.shore_restart.specs.declared.passes.Report.{Report}
+use Rattle.shore_restart.specs.Turns.{IsUndoneSoFar}
 use Rattle.shore_world.specs.declared.world.World.{World}
 use Rattle.shore_world.specs.Worlds.{IsAt, geometry_in, history_in, volume_history_in}
 
@@ -57,10 +58,11 @@ pub record IsOpenedAt {L V : Type 0} {G : Ghosts L} {H : Ghosts V} (w : World L 
   pub from : IsOpenedFrom (size last.log - LOG_FRONT_BYTES) last.store.log first
   pub locks : first.locks ≡ record { limit = g.max_locks; requests = [] }
 
--- The world is there at the end of the way.
+-- The world is there at the end of the way, on which the losers have taken their turns in their order.
 pub record HasOpened {L V : Type 0} {G : Ghosts L} {H : Ghosts V} (w : World L V G H) (g : Geometry) (log volume : History) (rs : List LogRecord) (pages : LoggedPages) : Type 0 where
   pub way : OpenWay g log volume rs pages
   pub opened : IsOpenedAt w g (take LOG_FRONT_BYTES (seen log)) (take GATE_AT (seen volume)) way.last
+  pub undone : IsUndoneSoFar rs way.last.store.log
 
 -- What an open comes to: a world at the end of its way; or it is refused, and hands the devices back before both barriers have answered, or from where its
 -- way has led.

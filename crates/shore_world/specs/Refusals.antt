@@ -1,5 +1,5 @@
 -- What an open is refused with, beside a failure of a device or of an allocation.
-use Rattle.std.specs.Prelude.{◌≡◌, ◌⊎◌, ◌<◌, ◌≤◌, ◌-◌, ◌∷◌, [], ℕ, List, length}
+use Rattle.std.specs.Prelude.{◌≡◌, ◌⊎◌, ◌<◌, ◌≤◌, ◌-◌, ◌∷◌, [], ℕ, List, length, take}
 use Rattle.shore_types.specs.declared.faults.Device.TheVariants.{Log, Volume}
 use Rattle.shore_types.specs.declared.faults.Fault.{Fault}
 use Rattle.shore_types.specs.declared.faults.Fault.TheVariants.{Damaged}
@@ -18,13 +18,26 @@ use Rattle.shore_dwrite.specs.Shown.{Shows}
 use Rattle.shore_dwrite.specs.Volumes.{HasNoPage, page_number, page_offset, part}
 use Rattle.shore_dwrite.specs.declared.places.TheConstants.{GATE_AT}
 use Rattle.shore_fronts.specs.Pairs.{HaveFronts, RefusesFronts}
-use Rattle.laws_lives.specs.Pages.{LoggedPages}
-use Rattle.shore_restart.specs.Turns.{LacksRoom}
+use Rattle.laws_lives.specs.Pages.{AreAsOfOwnNumbers, LoggedPages}
+use Rattle.laws_heaps.specs.LoggedHeaps.{LeavesStore}
+use Rattle.shore_analysis.specs.Meant.{AreMeant, IsFirstUnmeant}
+use Rattle.shore_restart.specs.Turns.{IsMisfit, LacksRoom}
 use Rattle.laws_images.specs.StandsFor.{StandsFor}
 
--- by a record of the log: its frame is at the offset, on the log device as it is handed back
-abbrev pub NamesRecord : List LogRecord → History → Fault → Type 0
-NamesRecord rs left fault = (n : ℕ) × (offset : ℕ) × (0 < n) × (n ≤ length rs) × (fault ≡ Damaged Log offset) × IsFrameOf LOG_FRONT_BYTES (seen left) n offset
+-- the volume shows these pages, each as the log speaks of it
+pub record ShowsLogged (g : Geometry) (rs : List LogRecord) (pages : LoggedPages) (image : List ℕ) : Type 0 where
+  pub shown : LeavesStore rs g (take GATE_AT image) pages image
+  pub as_of : AreAsOfOwnNumbers rs pages
+
+-- Why record n is named: it is the first that does not mean what it has to; or all do, and over pages as the log speaks of them it does not fit its page,
+-- or what its undo brings back does not, behind the records of undo so far.
+abbrev pub IsNamedFor : Geometry → List LogRecord → History → ℕ → Type 0
+IsNamedFor g rs volume n = IsFirstUnmeant g rs n ⊎ (AreMeant g rs × ((pages : LoggedPages) → ShowsLogged g rs pages (seen volume) → IsMisfit rs n))
+
+-- by such a record of the log: its frame is at the offset, on the log device as it is handed back
+abbrev pub NamesRecord : Geometry → List LogRecord → History → History → Fault → Type 0
+NamesRecord g rs volume left fault = (n : ℕ) × (offset : ℕ) × (0 < n) × (n ≤ length rs) × (fault ≡ Damaged Log offset) × IsFrameOf LOG_FRONT_BYTES (seen left) n offset
+    × IsNamedFor g rs volume n
 
 -- by the anchor that counts: the log lacks room for itself or for the records of undo
 abbrev pub NamesAnchor : List LogRecord → ℕ → ℕ → Fault → Type 0
@@ -41,7 +54,7 @@ pub record RefusesRestart (g : Geometry) (anchor : ℕ) (log volume left : Histo
   pub rs : List LogRecord
   pub gives : Gives rs (seen log)
   pub none : (rs : List LogRecord) (pages : LoggedPages) → StandsFor g (size log) (size volume) rs pages (seen log) (seen volume) → ⊥
-  pub names : NamesRecord rs left fault ⊎ NamesAnchor rs (size log - LOG_FRONT_BYTES) anchor fault ⊎ NamesPage g rs volume fault
+  pub names : NamesRecord g rs volume left fault ⊎ NamesAnchor rs (size log - LOG_FRONT_BYTES) anchor fault ⊎ NamesPage g rs volume fault
 
 -- By the first check of the fronts that is not passed; if all are, by the first byte of the log where neither a closed gate nor a frame stands; if
 -- there is none, by an open double-write area that is not in order; and if it is, or is shut, by the restart, and only if the devices stand for nothing.

@@ -6,10 +6,10 @@ pub returns-clause-roomy : goal.returns-clause-roomy
 returns-clause-roomy c g stream_bytes log s k opened = opens_roomy g stream_bytes log s opened k
 
 pub returns-clause-inside : goal.returns-clause-inside
-returns-clause-inside c g stream_bytes log s k opened = records_inside g stream_bytes log s.sessions.records k opened.records
+returns-clause-inside c g stream_bytes log s k opened = records_inside g log s.sessions.records k.placed opened.records
 
 pub returns-clause-leaves : goal.returns-clause-leaves
-returns-clause-leaves c g stream_bytes log s k lawful ended opened = opens_leaving g stream_bytes log s opened k lawful ended
+returns-clause-leaves c g stream_bytes log s k lawful ended opened = opens_leaving g stream_bytes log s opened s.durable k lawful ended
 
 pub returns-clause-over : goal.returns-clause-over
 returns-clause-over c stream_bytes found ready s kept redone restart opens long counts next =

@@ -5,7 +5,7 @@ pub returns-clause-log : goal.returns-clause-log
 returns-clause-log c g stream_bytes t log k loser = undone_roomy g stream_bytes log k t loser
 
 pub returns-clause-one : goal.returns-clause-one
-returns-clause-one c g stream_bytes t log k loser = undone_are_roomy g stream_bytes log t k loser
+returns-clause-one c g stream_bytes least t log k loser = undone_are_roomy g stream_bytes least log t k loser
 
 pub returns-clause-turns : goal.returns-clause-turns
-returns-clause-turns c g stream_bytes log last turns k undone = turns_are_roomy g stream_bytes log turns last k undone
+returns-clause-turns c g stream_bytes least log last turns k undone = turns_are_roomy g stream_bytes least log turns last k undone

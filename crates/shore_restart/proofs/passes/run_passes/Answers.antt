@@ -50,8 +50,10 @@ returns-in_err-redone-clause-moves g c log_front front disk s found =
 pub returns-in_err-redone-clause-bad : goal.returns-in_err-redone-clause-bad
 returns-in_err-redone-clause-bad g c log_front front disk s found =
     let log_is = found.at_rest.records ∙ sym c.records-4.ensures.log in
-    if_err c.from_residual-in_err-redone.result c.from_residual-in_err-redone.ensures.1 (λ error same n is. inr (inl (subst (λ (log : List LogRecord). DoesNotFit log n) c.records-4.ensures.log
-    (c.in_err-redone.ensures.bad front disk s found.stands log_is found.durable found.redone n (sym same ∙ is)))))
+    if_err c.from_residual-in_err-redone.result c.from_residual-in_err-redone.ensures.1 (λ error same n is. inr (
+      subst (λ (g : Geometry). AreMeant g (records_of_log c.args.log.now)) c.geometry.ensures (subst (AreMeant c.geometry.result.now) c.records.ensures.log c.in_ok-tables.ensures.meant),
+      inl (subst (λ (log : List LogRecord). DoesNotFit log n) c.records-4.ensures.log (c.in_err-redone.ensures.bad front disk s found.stands log_is found.durable found.redone n (sym same ∙ is))),
+    ))
 
 pub returns-in_err-redone-clause-device : goal.returns-in_err-redone-clause-device
 returns-in_err-redone-clause-device g c log_front front disk s found =
@@ -94,7 +96,10 @@ returns-in_err-undo_all-clause-bad g c log_front front disk s found =
     (found_covered log_front front disk log heap s found) in
     let come = come_redone log_front front disk log heap s found c.redo.new.heap c.in_ok-redone.redone redoes c.redo.ensures.volume.geometry in
     if_err c.from_residual-in_err-undo_all.result c.from_residual-in_err-undo_all.ensures.1 (λ error same n is.
-    inr (inr (c.in_err-undo_all.ensures.bad log_front front come.1.disk come.0 come.1.ready n (sym same ∙ is))))
+    inr (
+      subst (λ (g : Geometry). AreMeant g (records_of_log c.args.log.now)) c.geometry.ensures (subst (AreMeant c.geometry.result.now) c.records.ensures.log c.in_ok-tables.ensures.meant),
+      inr (c.in_err-undo_all.ensures.bad log_front front come.1.disk come.0 come.1.ready n (sym same ∙ is)),
+    ))
 
 pub returns-in_err-undo_all-clause-device : goal.returns-in_err-undo_all-clause-device
 returns-in_err-undo_all-clause-device g c log_front front disk s found =
@@ -237,5 +242,20 @@ returns-in_err-undo_all-clause-bad_number g c =
 
 pub returns-in_err-idle_control-clause-bad_number : goal.returns-in_err-idle_control-clause-bad_number
 returns-in_err-idle_control-clause-bad_number g c =
+    if_err c.from_residual-in_err-idle_control.result c.from_residual-in_err-idle_control.ensures.1
+    (λ error same n is. let clash = sym c.in_err-idle_control.ensures.refused ∙ sym same ∙ is in absurd cc)
+
+pub returns-in_err-redone-clause-meant : goal.returns-in_err-redone-clause-meant
+returns-in_err-redone-clause-meant g c =
+    if_err c.from_residual-in_err-redone.result c.from_residual-in_err-redone.ensures.1 (λ error same n is.
+    inr (subst (λ (g : Geometry). AreMeant g (records_of_log c.args.log.now)) c.geometry.ensures (subst (AreMeant c.geometry.result.now) c.records.ensures.log c.in_ok-tables.ensures.meant)))
+
+pub returns-in_err-undo_all-clause-meant : goal.returns-in_err-undo_all-clause-meant
+returns-in_err-undo_all-clause-meant g c =
+    if_err c.from_residual-in_err-undo_all.result c.from_residual-in_err-undo_all.ensures.1 (λ error same n is.
+    inr (subst (λ (g : Geometry). AreMeant g (records_of_log c.args.log.now)) c.geometry.ensures (subst (AreMeant c.geometry.result.now) c.records.ensures.log c.in_ok-tables.ensures.meant)))
+
+pub returns-in_err-idle_control-clause-meant : goal.returns-in_err-idle_control-clause-meant
+returns-in_err-idle_control-clause-meant g c =
     if_err c.from_residual-in_err-idle_control.result c.from_residual-in_err-idle_control.ensures.1
     (λ error same n is. let clash = sym c.in_err-idle_control.ensures.refused ∙ sym same ∙ is in absurd cc)

@@ -47,7 +47,7 @@ room_with-requires g c =
     let bytes = stream_bytes_of c.args.log.now in
     let r = c.in-Some.logged in
     let turn = turn_of (geometry_of c.args.heap.now) log bytes c.args.self.now c.requires c.records.result.now c.records.ensures.log c.in_ok-logged.field-0 r c.in-Some.is
-    c.in_ok-logged.ensures.loser c.in_ok-logged.ensures.greatest c.in_ok-logged.ensures.undoes in
+    c.in_ok-logged.ensures.loser c.in_ok-logged.ensures.turn c.in_ok-logged.ensures.undoes in
     turn_fits (geometry_of c.args.heap.now) log bytes c.args.self.now c.requires r turn c.records.result.now c.records.ensures.log c.records.ensures.fit
 
 pub returns-in_default-room_with-clause-moves : goal.returns-in_default-room_with-clause-moves
@@ -60,7 +60,7 @@ returns-in_default-room_with-clause-no_room g c is =
     let bytes = stream_bytes_of c.args.log.now in
     let r = c.in-Some.logged in
     let turn = turn_of (geometry_of c.args.heap.now) log bytes c.args.self.now c.requires c.records.result.now c.records.ensures.log c.in_ok-logged.field-0 r c.in-Some.is
-    c.in_ok-logged.ensures.loser c.in_ok-logged.ensures.greatest c.in_ok-logged.ensures.undoes in
+    c.in_ok-logged.ensures.loser c.in_ok-logged.ensures.turn c.in_ok-logged.ensures.undoes in
     turn_lacks_room (geometry_of c.args.heap.now) log bytes c.args.self.now c.requires r turn
     (λ leaves. no_some c.room_with.result c.in_default-room_with.is ((c.room_with.ensures.none log bytes c.requires.room (ap length c.records-2.ensures.log)).1 leaves))
 
@@ -72,7 +72,7 @@ append-requires-clause-there g c =
     let bytes = stream_bytes_of c.args.log.now in
     let r = c.in-Some.logged in
     let turn = turn_of (geometry_of c.args.heap.now) log bytes c.args.self.now c.requires c.records.result.now c.records.ensures.log c.in_ok-logged.field-0 r c.in-Some.is
-    c.in_ok-logged.ensures.loser c.in_ok-logged.ensures.greatest c.in_ok-logged.ensures.undoes in
+    c.in_ok-logged.ensures.loser c.in_ok-logged.ensures.turn c.in_ok-logged.ensures.undoes in
     turn_there (geometry_of c.args.heap.now) log bytes c.args.self.now c.requires r turn
 
 pub returns-in_err-append-clause-moves : goal.returns-in_err-append-clause-moves
@@ -81,7 +81,7 @@ returns-in_err-append-clause-moves g c log_front front disk s ready =
     let bytes = stream_bytes_of c.args.log.now in
     let r = c.in-Some.logged in
     let turn = turn_of (geometry_of c.args.heap.now) log bytes c.args.self.now c.requires c.records.result.now c.records.ensures.log c.in_ok-logged.field-0 r c.in-Some.is
-    c.in_ok-logged.ensures.loser c.in_ok-logged.ensures.greatest c.in_ok-logged.ensures.undoes in
+    c.in_ok-logged.ensures.loser c.in_ok-logged.ensures.turn c.in_ok-logged.ensures.undoes in
     let records = ready.at_rest.records in
     let says = turn_says (geometry_of c.args.heap.now) log bytes c.args.self.now c.requires r turn s.log records in
     let number = ap (λ (rs : List LogRecord). length rs + 1) (c.records-2.ensures.log ∙ sym records) in
@@ -97,7 +97,7 @@ returns-in_err-append-clause-bad g c log_front front disk s ready =
     let bytes = stream_bytes_of c.args.log.now in
     let r = c.in-Some.logged in
     let turn = turn_of (geometry_of c.args.heap.now) log bytes c.args.self.now c.requires c.records.result.now c.records.ensures.log c.in_ok-logged.field-0 r c.in-Some.is
-    c.in_ok-logged.ensures.loser c.in_ok-logged.ensures.greatest c.in_ok-logged.ensures.undoes in
+    c.in_ok-logged.ensures.loser c.in_ok-logged.ensures.turn c.in_ok-logged.ensures.undoes in
     if_err c.from_residual-in_err-append.result c.from_residual-in_err-append.ensures.1 (λ error same n is.
     let bad = c.in_err-append.ensures.bad log_front front disk s ready n (sym same ∙ is) in
     turn_cannot (geometry_of c.args.heap.now) log bytes c.args.self.now c.requires r turn s.log ready.at_rest.records n
@@ -115,7 +115,7 @@ take-requires-clause-text g c =
     let bytes = stream_bytes_of c.args.log.now in
     let r = c.in-Some.logged in
     let turn = turn_of (geometry_of c.args.heap.now) log bytes c.args.self.now c.requires c.records.result.now c.records.ensures.log c.in_ok-logged.field-0 r c.in-Some.is
-    c.in_ok-logged.ensures.loser c.in_ok-logged.ensures.greatest c.in_ok-logged.ensures.undoes in
+    c.in_ok-logged.ensures.loser c.in_ok-logged.ensures.turn c.in_ok-logged.ensures.undoes in
     turn_fits (geometry_of c.args.heap.now) log bytes c.args.self.now c.requires r turn c.records.result.now c.records.ensures.log c.records.ensures.fit
 
 pub take-requires-clause-previous : goal.take-requires-clause-previous
@@ -124,7 +124,7 @@ take-requires-clause-previous g c =
     let bytes = stream_bytes_of c.args.log.now in
     let r = c.in-Some.logged in
     let turn = turn_of (geometry_of c.args.heap.now) log bytes c.args.self.now c.requires c.records.result.now c.records.ensures.log c.in_ok-logged.field-0 r c.in-Some.is
-    c.in_ok-logged.ensures.loser c.in_ok-logged.ensures.greatest c.in_ok-logged.ensures.undoes in
+    c.in_ok-logged.ensures.loser c.in_ok-logged.ensures.turn c.in_ok-logged.ensures.undoes in
     turn_previous (geometry_of c.args.heap.now) log bytes c.args.self.now c.requires r turn (records_of_log c.append.new.log) c.append.ensures.same
 
 pub returns-clause-turn : goal.returns-clause-turn
@@ -133,7 +133,7 @@ returns-clause-turn g c taken =
     let bytes = stream_bytes_of c.args.log.now in
     let r = c.in-Some.logged in
     let turn = turn_of (geometry_of c.args.heap.now) log bytes c.args.self.now c.requires c.records.result.now c.records.ensures.log c.in_ok-logged.field-0 r c.in-Some.is
-    c.in_ok-logged.ensures.loser c.in_ok-logged.ensures.greatest c.in_ok-logged.ensures.undoes in
+    c.in_ok-logged.ensures.loser c.in_ok-logged.ensures.turn c.in_ok-logged.ensures.undoes in
     turn_takes (geometry_of c.args.heap.now) log bytes c.args.self.now c.requires r turn (records_of_log c.take.new.self) _
     (c.take.ensures.taken ∙ ap (λ (rs : List LogRecord). rs ++ r ∷ []) c.append.ensures.same) (c.note_logged.ensures.fewer log c.requires.losers turn.loser turn.is)
 
@@ -143,7 +143,7 @@ returns-clause-undo g c =
     let bytes = stream_bytes_of c.args.log.now in
     let r = c.in-Some.logged in
     let turn = turn_of (geometry_of c.args.heap.now) log bytes c.args.self.now c.requires c.records.result.now c.records.ensures.log c.in_ok-logged.field-0 r c.in-Some.is
-    c.in_ok-logged.ensures.loser c.in_ok-logged.ensures.greatest c.in_ok-logged.ensures.undoes in
+    c.in_ok-logged.ensures.loser c.in_ok-logged.ensures.turn c.in_ok-logged.ensures.undoes in
     turn_kept (geometry_of c.args.heap.now) log bytes c.args.self.now c.requires r turn (geometry_of c.append.new.heap) (records_of_log c.take.new.self) (stream_bytes_of c.take.new.self) _
     c.append.ensures.volume.geometry (c.take.ensures.taken ∙ ap (λ (rs : List LogRecord). rs ++ r ∷ []) c.append.ensures.same)
     (ap (λ (device : g.row.L.Denot). size (g.L.Disk.history device) - LOG_FRONT_BYTES) c.take.ensures.device ∙ ap (λ (long : ℕ). long - LOG_FRONT_BYTES) c.append.ensures.log.size)
@@ -156,7 +156,7 @@ returns-clause-moves g c log_front front disk s ready =
     let bytes = stream_bytes_of c.args.log.now in
     let r = c.in-Some.logged in
     let turn = turn_of (geometry_of c.args.heap.now) log bytes c.args.self.now c.requires c.records.result.now c.records.ensures.log c.in_ok-logged.field-0 r c.in-Some.is
-    c.in_ok-logged.ensures.loser c.in_ok-logged.ensures.greatest c.in_ok-logged.ensures.undoes in
+    c.in_ok-logged.ensures.loser c.in_ok-logged.ensures.turn c.in_ok-logged.ensures.undoes in
     let records = ready.at_rest.records in
     let says = turn_says (geometry_of c.args.heap.now) log bytes c.args.self.now c.requires r turn s.log records in
     let same = turn_record (geometry_of c.args.heap.now) log bytes c.args.self.now c.requires r turn s.log records in
@@ -235,7 +235,7 @@ returns-in_err-append-clause-bad_number g c found so_far =
     let bytes = stream_bytes_of c.args.log.now in
     let r = c.in-Some.logged in
     let turn = turn_of (geometry_of c.args.heap.now) log bytes c.args.self.now c.requires c.records.result.now c.records.ensures.log c.in_ok-logged.field-0 r c.in-Some.is
-    c.in_ok-logged.ensures.loser c.in_ok-logged.ensures.greatest c.in_ok-logged.ensures.undoes in
+    c.in_ok-logged.ensures.loser c.in_ok-logged.ensures.turn c.in_ok-logged.ensures.undoes in
     if_err c.from_residual-in_err-append.result c.from_residual-in_err-append.ensures.1 (λ error same n is.
     let bad = c.in_err-append.ensures.bad_number n (sym same ∙ is) in
     undone_within found log r turn so_far n (bad.0 ∙ c.next_change.ensures log r.txn c.requires.losers turn.loser turn.next) bad.1)

@@ -39,7 +39,7 @@ loop-preserved g c =
     let taken = c.in_ok-turn.ensures.turn c.if-branch.true in
     record {
       undo = c.in_ok-turn.ensures.undo;
-      so_far = undone_and (records_of_log c.args.log.now) (records_of_log c.loop.log) (records_of_log c.turn.new.log) taken.loser invariant.so_far taken.is_one taken.logged;
+      so_far = undone_and (records_of_log c.args.log.now) (records_of_log c.loop.log) (records_of_log c.turn.new.log) taken.loser invariant.so_far taken.is_one taken.next taken.logged;
       come = λ log_front front disk s ready.
           let come = invariant.come log_front front disk s ready in
           come_on log_front front c.args.log.now c.args.heap.now s c.in_ok-turn.field-0 c.loop.log c.turn.new.log c.loop.heap c.turn.new.heap _ come

@@ -2,6 +2,7 @@ use Rattle.std.proofs.Common.{◌≡◌, ◌-◌, ◌∷◌, [], inl, inr, ℕ, 
 use Rattle.shore_types.specs.declared.layout.Geometry.{Geometry}
 use Rattle.shore_disk.specs.Device.{History, seen, size}
 use Rattle.shore_dwrite.specs.Checks.{RefusesArea}
+use Rattle.shore_analysis.specs.Meant.{AreMeant, IsFirstUnmeant}
 use Rattle.shore_analysis.specs.Tables.{AreTables}
 use Rattle.shore_dwrite.specs.Settled as pages_of
 use Rattle.shore_dwrite.specs.Shown.{Shows}
@@ -25,12 +26,14 @@ use Rattle.shore_types.specs.declared.faults.Fault.TheVariants.{Damaged}
 use Rattle.shore_gate.specs.Anchor.{offset_of}
 use Rattle.shore_dwrite.specs.Shown.{Shows}
 use Rattle.shore_restart.specs.Held.{IsPageFault}
-use Rattle.shore_restart.specs.Turns.{LacksRoom}
+use Rattle.shore_restart.specs.Turns.{IsUndoneSoFar, LacksRoom}
 use Rattle.shore_world.proofs.RestartNames.{names_of, settled_left}
 use Rattle.shore_world.proofs.AreaLemmas.{shown_not_refused}
 use Rattle.shore_world.proofs.OpenLemmas.{outside_or_not, pair_still_after, still_after, told_of}
-use Rattle.shore_world.proofs.OpenPaths.{found, have_fronts, log_read, replay_at, restart_outside, shown, shown_at, stopped, texts, texts_at, told_images, volume_read, volume_replayed, way_of, way_on}
+use Rattle.shore_world.proofs.OpenPaths.{found, have_fronts, log_read, replay_at, restart_outside, shown, shown_at, stopped, texts, texts_at, volume_read, volume_replayed, way_of, way_on}
 use Rattle.shore_world.proofs.OpenedLemmas.{opened_along}
+use Rattle.shore_world.proofs.RestartRefusals.{bad_misfit}
+use Rattle.shore_world.proofs.ShownPages.{found_over, shown_by, texts_shown, texts_told, told_images}
 use Rattle.shore_world.proofs.world.World.open.Goals as goal
 
 pub returns-in-Err-clause-refused : goal.returns-in-Err-clause-refused
@@ -187,6 +190,7 @@ returns-in-Ok-restart-clause-along g c of_log of_volume geometry rs pages stood 
           (c.in-Ok-restart.ensures.volume.geometry ∙ heap_at) opens.0 opens.1 opens.3 opens.4
           (subst (λ (l : List LogRecord). OpensIn c.in-Ok-restart.core (take 4096 volume_image) opens.4 l (records_of_log c.restart.new.log) (stream_bytes_of c.restart.new.log) went.ready) list opens.5)
           (c.in-Ok-restart.ensures.locks ∙ ap (λ (x : Geometry). record { limit = x.max_locks; requests = [] }) heap_at);
+      undone = subst (IsUndoneSoFar rs) (sym opens.3.records) (subst (λ (l : List LogRecord). IsUndoneSoFar l (records_of_log c.restart.new.log)) list c.in-Ok-restart.ensures.undone);
     }
 
 pub returns-in-Ok-restart-clause-report : goal.returns-in-Ok-restart-clause-report
@@ -349,6 +353,19 @@ returns-in-Err-restart-clause-refused g c of_log of_volume = elim (outside_or_no
               (subst (λ (x : Geometry). Shows x volume_image shown.0) at shown.1) c.in-Err-restart.error c.fault_of-fault.result isnt
               (λ is. subst (λ (n : ℕ). LacksRoom rs (n - 4096)) (c.in-Ok-open.ensures.size ∙ c.read_fronts.ensures.size.0) (e.no_room is)) e.bad_number
               (λ h is. subst (λ (x : Geometry). IsPageFault x shown.0 (length rs) h) heap_at (e.any_pages (take 4096 volume_image) shown.0 is_held h is)) quiet.named
+              (λ n is. elim (e.meant n is) [
+                | inl unmeant ↦ inl (subst (λ (x : Geometry). IsFirstUnmeant x rs n) heap_at unmeant)
+                | inr meant ↦ inr (
+                  subst (λ (x : Geometry). AreMeant x rs) heap_at meant,
+                  λ pages logged.
+                      let shows = c.in-Ok-open_volume.ensures.shows later volume_image (texts_shown geometry rs pages volume_image logged) (λ p. (pages p).number) (told_images rs pages) held
+                      (shown_by geometry rs pages volume_image logged c.in-Ok.fronts.of_pages at) (texts_told geometry rs pages volume_image logged c.in-Ok.fronts.of_pages at) in
+                      let is_found = found_over geometry rs pages volume_image logged (take 4096 log_image) dev heap (c.in-Ok-open.ensures.settled log_later log_image log_held) none.0 none.1 refl heap_at
+                      c.in-Ok-open_volume.ensures.none shows in
+                      bad_misfit (heaps.geometry_of heap) rs n meant
+                      (e.bad (take 4096 log_image) (take 4096 volume_image) (texts_shown geometry rs pages volume_image logged) (found_state rs pages) is_found n is),
+                )
+              ])
               f.memory (λ is. f.room is ∙ ap (λ (n : ℕ). Damaged DeviceLog n) front.1)
               (λ n is. elim (f.record_of n is) [
                 | inl device ↦ inl device
