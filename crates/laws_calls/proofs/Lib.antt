@@ -43,7 +43,6 @@ pub mod SessionForces
 pub mod SessionInsert
 pub mod SessionInversions
 pub mod SessionOpens
-pub mod SessionPlaces
 pub mod SessionResumes
 pub mod SessionRooms
 pub mod SessionRun
