@@ -37,21 +37,22 @@ was_waiting n (x ∷ ws) w there = by (x.session == n) (λ later. was_waiting n 
     by false rest (inr later) = inr (rest later)
 
 -- who waits once a victim is to be told its cycle waited before, with the same call
-record WaitedSo (w : Waiting) (ws : List Waiting) : Type 0 where
-  was : Waiting
-  there : IsAmong was ws
-  its : was.call ≡ w.call
-  wait : was.wait ≡ w.wait
+pub record WaitedSo (w : Waiting) (ws : List Waiting) : Type 0 where
+  pub was : Waiting
+  pub there : IsAmong was ws
+  pub session : was.session ≡ w.session
+  pub its : was.call ≡ w.call
+  pub wait : was.wait ≡ w.wait
 
-waited_so : (n : ℕ) (cycle : List ℕ) (ws : List Waiting) (w : Waiting) → IsAmong w (with_cycle n cycle ws) → WaitedSo w ws
+pub waited_so : (n : ℕ) (cycle : List ℕ) (ws : List Waiting) (w : Waiting) → IsAmong w (with_cycle n cycle ws) → WaitedSo w ws
 waited_so n cycle [] w there = absurd there
-waited_so n cycle (x ∷ ws) w there = by (x.session == n) (λ later. let h = waited_so n cycle ws w later in record { was = h.was; there = inr h.there; its = h.its; wait = h.wait }) there
+waited_so n cycle (x ∷ ws) w there = by (x.session == n) (λ later. let h = waited_so n cycle ws w later in record { was = h.was; there = inr h.there; session = h.session; its = h.its; wait = h.wait }) there
   where
     by : (b : Bool) → (IsAmong w (with_cycle n cycle ws) → WaitedSo w (x ∷ ws))
         → IsAmong w (cond b (record { session = x.session; call = x.call; wait = x.wait; cycle = Some cycle }) x ∷ with_cycle n cycle ws) → WaitedSo w (x ∷ ws)
-    by true rest (inl same) = record { was = x; there = inl refl; its = ap (λ (v : Waiting). v.call) same; wait = ap (λ (v : Waiting). v.wait) same }
+    by true rest (inl same) = record { was = x; there = inl refl; session = ap (λ (v : Waiting). v.session) same; its = ap (λ (v : Waiting). v.call) same; wait = ap (λ (v : Waiting). v.wait) same }
     by true rest (inr later) = rest later
-    by false rest (inl same) = record { was = x; there = inl refl; its = ap (λ (v : Waiting). v.call) same; wait = ap (λ (v : Waiting). v.wait) same }
+    by false rest (inl same) = record { was = x; there = inl refl; session = ap (λ (v : Waiting). v.session) same; its = ap (λ (v : Waiting). v.call) same; wait = ap (λ (v : Waiting). v.wait) same }
     by false rest (inr later) = rest later
 
 module _ (g : Geometry) where
