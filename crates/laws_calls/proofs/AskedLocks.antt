@@ -1,7 +1,6 @@
 -- The locks of sessions change as their calls ask, and go with the answers of their commits.
-use Rattle.std.proofs.Common.{◌≡◌, ◌≢◌, ◌⊎◌, inl, inr, ⊎_elim, ℕ, List, Bool, true, false, Some, Ok, Err, refl, sym, ap, subst, ◌∙◌, reverse}
-use Rattle.std.specs.Prelude.{All, cond}
-use Rattle.shore_types.specs.Locking.{level_of}
+use Rattle.std.proofs.Common.{◌≡◌, ◌≢◌, ◌⊎◌, inl, inr, ⊎_elim, ℕ, List, false, Some, Ok, refl, sym, ap, subst, ◌∙◌}
+use Rattle.std.specs.Prelude.{All}
 use Rattle.shore_types.specs.declared.faults.Fault.{Fault}
 use Rattle.shore_types.specs.declared.faults.Fault.TheVariants as fault
 use Rattle.shore_types.specs.declared.ids.Rid.{Rid}
@@ -16,19 +15,14 @@ use Rattle.shore_model.specs.declared.calls.Call.{Call}
 use Rattle.shore_model.specs.declared.calls.Call.TheVariants as call
 use Rattle.shore_model.specs.declared.histories.Entry.{Entry}
 use Rattle.shore_model.specs.declared.log_records.LogRecord.{LogRecord}
-use Rattle.shore_model.specs.Locks.{path}
-use Rattle.shore_model.specs.Modes.{is_allowed}
 use Rattle.shore_locks.specs.Grants.{released}
 use Rattle.shore_locks.specs.Tables.{Table, is_waiting}
 use Rattle.shore_path.specs.declared.answers.Acquired.TheVariants as acquire
 use Rattle.shore_path.specs.declared.answers.OnConflict.{OnConflict}
 use Rattle.shore_path.specs.declared.answers.OnConflict.TheVariants.{Refuse}
-use Rattle.shore_path.specs.Acquires.{GrowsAsAsked}
-use Rattle.shore_path.specs.Walks.{Outcome, acquired, walk}
-use Rattle.shore_path.proofs.Acquiring.{told_grows}
+use Rattle.shore_path.specs.Walks.{acquired}
 use Rattle.laws_locks.proofs.Held.{gone_of}
 use Rattle.laws_locks.specs.CallLocks.{Asked, lock_asked_by}
-use Rattle.shore_locks.specs.Orderly.{IsOrderly}
 use Rattle.shore_model.specs.declared.rollbacks.Rollback.TheVariants.{Whole}
 use Rattle.laws_lives.specs.Sessions.{SessionTxn}
 use Rattle.laws_lives.specs.Views.{IsAmong}
@@ -49,21 +43,6 @@ use Rattle.laws_calls.specs.CallSteps.{AbortStep, AnswersBehind, BeginStep, Comm
 use Rattle.laws_calls.specs.LockedStates.{IsSessionsState}
 use Rattle.laws_calls.specs.Events.{IsStateAfter}
 use Rattle.laws_calls.specs.States.{IsOfSession, State, Waiting}
-
--- ---- an acquire
-
-abbrev outcome_by : OnConflict → Table → ℕ → Granule → Mode → Bool → Outcome
-outcome_by c table t target mode b = cond b (walk c t target mode table.limit (reverse (path target)) table.requests) (record { answer = Err fault.BadMode; requests = table.requests })
-
-acquired_grows : (c : OnConflict) (table : Table) (t : ℕ) (target : Granule) (mode : Mode) → IsOrderly table.requests → is_waiting t table.requests ≡ false
-    → GrowsAsAsked table.requests (acquired c table t target mode).requests t target mode
-acquired_grows c table t target mode orderly quiet = by (is_allowed (level_of target) mode)
-  where
-    by : (b : Bool) → GrowsAsAsked table.requests (outcome_by c table t target mode b).requests t target mode
-    by true =
-        let out = outcome_by c table t target mode true in
-        told_grows c t target mode table (record { limit = table.limit; requests = out.requests }) out.answer orderly quiet (refl, refl)
-    by false = λ g. inl refl
 
 -- ---- which requests a call of a transaction leaves
 
@@ -151,7 +130,7 @@ module _ (g : Geometry) (found : List LogRecord) (es : List Entry) (session : �
       → TakesLock s.locks.requests a.txn at mode (acquired c s.locks a.txn at mode).requests
   takes_lock s k mem quiet c at mode =
       let left = leaves found es s k a mem quiet c at mode in
-      record { others = left.others; own = acquired_grows c s.locks a.txn at mode k.locks.orderly quiet; none_weaker = left.none_weaker }
+      record { others = left.others; own = left.grows; none_weaker = left.none_weaker }
 
   module _ (s : State) (k : IsSessionsState found es s) (mem : IsAmong a s.sessions.active) (quiet : is_waiting a.txn s.locks.requests ≡ false) where
     first_lock : (c : Call) (lock : Asked) → TakesLock s.locks.requests a.txn lock.granule lock.mode (behind_lock s a c lock).locks.requests

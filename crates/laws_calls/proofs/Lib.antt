@@ -5,6 +5,7 @@ pub mod AlikeEnds
 pub mod AnswersDone
 pub mod AskedLocks
 pub mod Cancelled
+pub mod Causes
 pub mod Comings
 pub mod CycleSteps
 pub mod Decided
@@ -20,6 +21,7 @@ pub mod LockedAnswers
 pub mod LocksKept
 pub mod LongerLogs
 pub mod LowestPlaces
+pub mod Midway
 pub mod OneBehind
 pub mod OneSessionStep
 pub mod Passing
@@ -43,7 +45,6 @@ pub mod SessionForces
 pub mod SessionInsert
 pub mod SessionInversions
 pub mod SessionOpens
-pub mod SessionPlaces
 pub mod SessionResumes
 pub mod SessionRooms
 pub mod SessionRun
@@ -51,11 +52,17 @@ pub mod SessionStates
 pub mod SessionTells
 pub mod Sessions
 pub mod SessionsWaiting
+pub mod SettledAsks
 pub mod SettledAtOnce
 pub mod SettledComings
 pub mod SettledCycles
+pub mod SettledDeadlocks
 pub mod SettledEnds
+pub mod SettledLeavings
+pub mod SettledRefusals
+pub mod SettledRollbacks
 pub mod SettledStates
+pub mod SettledThere
 pub mod SettledWaits
 pub mod StepPassages
 pub mod TakenLocks
@@ -65,6 +72,8 @@ pub mod Unwinding
 pub mod VictimLaws
 pub mod VictimSteps
 pub mod Waiters
+pub mod WaitingRequests
+pub mod WaitsThere
 pub mod WrongAnswers
 pub mod WrongRefusals
 pub mod WrongResumes

@@ -39,22 +39,22 @@ was_waiting n (x ∷ ws) w there = by (x.session == n) (λ later. was_waiting n 
     by false rest (inr later) = inr (rest later)
 
 -- who waits once a victim is to be told its cycle waited before, with the same call
-record WaitedSo (w : Waiting) (ws : List Waiting) : Type 0 where
-  was : Waiting
-  there : IsAmong was ws
-  of : was.session ≡ w.session
-  its : was.call ≡ w.call
-  wait : was.wait ≡ w.wait
+pub record WaitedSo (w : Waiting) (ws : List Waiting) : Type 0 where
+  pub was : Waiting
+  pub there : IsAmong was ws
+  pub session : was.session ≡ w.session
+  pub its : was.call ≡ w.call
+  pub wait : was.wait ≡ w.wait
 
-waited_so : (n : ℕ) (cycle : List ℕ) (ws : List Waiting) (w : Waiting) → IsAmong w (with_cycle n cycle ws) → WaitedSo w ws
+pub waited_so : (n : ℕ) (cycle : List ℕ) (ws : List Waiting) (w : Waiting) → IsAmong w (with_cycle n cycle ws) → WaitedSo w ws
 waited_so n cycle [] w there = absurd there
-waited_so n cycle (x ∷ ws) w there = by (x.session == n) (λ later. let h = waited_so n cycle ws w later in record { was = h.was; there = inr h.there; of = h.of; its = h.its; wait = h.wait }) there
+waited_so n cycle (x ∷ ws) w there = by (x.session == n) (λ later. let h = waited_so n cycle ws w later in record { was = h.was; there = inr h.there; session = h.session; its = h.its; wait = h.wait }) there
   where
     by : (b : Bool) → (IsAmong w (with_cycle n cycle ws) → WaitedSo w (x ∷ ws))
         → IsAmong w (cond b (record { session = x.session; call = x.call; wait = x.wait; cycle = Some cycle }) x ∷ with_cycle n cycle ws) → WaitedSo w (x ∷ ws)
-    by true rest (inl same) = record { was = x; there = inl refl; of = ap (λ (v : Waiting). v.session) same; its = ap (λ (v : Waiting). v.call) same; wait = ap (λ (v : Waiting). v.wait) same }
+    by true rest (inl same) = record { was = x; there = inl refl; session = ap (λ (v : Waiting). v.session) same; its = ap (λ (v : Waiting). v.call) same; wait = ap (λ (v : Waiting). v.wait) same }
     by true rest (inr later) = rest later
-    by false rest (inl same) = record { was = x; there = inl refl; of = ap (λ (v : Waiting). v.session) same; its = ap (λ (v : Waiting). v.call) same; wait = ap (λ (v : Waiting). v.wait) same }
+    by false rest (inl same) = record { was = x; there = inl refl; session = ap (λ (v : Waiting). v.session) same; its = ap (λ (v : Waiting). v.call) same; wait = ap (λ (v : Waiting). v.wait) same }
     by false rest (inr later) = rest later
 
 -- what has to hold of a session, its call, and what that waits for, holds of each call that waits
@@ -150,7 +150,7 @@ module _ (g : Geometry) (P : ℕ → Call → Wait → Type 0) (moves : (session
   victim : (s new : State) (t : ℕ) (v : Victim) → TakesVictim s t v new → WaitsHave P s → WaitsHave P new
   victim s new t v h k w there =
       let was = waited_so h.txn.session v.cycle s.waiting w (subst (IsAmong w) (ap (λ (x : State). x.waiting) h.is) there) in
-      subst (λ n. P n w.call w.wait) was.of (subst (λ (c : Call). P was.was.session c w.wait) was.its (subst (P was.was.session was.was.call) was.wait (k was.was was.there)))
+      subst (λ n. P n w.call w.wait) was.session (subst (λ (c : Call). P was.was.session c w.wait) was.its (subst (P was.was.session was.was.call) was.wait (k was.was was.there)))
 
   victims : (s new : State) (t : ℕ) (vs : List Victim) → TakesVictims s t vs new → WaitsHave P s → WaitsHave P new
   victims s new t [] h k = subst (WaitsHave P) (sym h) k

@@ -43,7 +43,7 @@ use Rattle.shore_model.specs.declared.step.Step.TheVariants.{Done, Nothing, Refu
 use Rattle.shore_model.specs.declared.step.Wait.{Wait}
 use Rattle.shore_model.specs.declared.step.Wait.TheVariants.{Durable, Lock}
 use Rattle.laws_calls.proofs.AcquireAnswers.{acquire_fault, lock_fault_ordinary}
-use Rattle.laws_calls.proofs.Decided.{IsOrdinary, OrNot, both, fits_or_not, grown, grows, image_or_none, less_than, none_or_not, ordinary, page_or_not, room_or_not, same_number, store_or_not, waits_or_not}
+use Rattle.laws_calls.proofs.Decided.{IsOrdinary, OrNot, at_most, both, fits_or_not, grown, grows, image_or_none, less_than, none_or_not, ordinary, page_or_not, room_or_not, same_number, store_or_not, waits_or_not}
 use Rattle.laws_calls.proofs.LowestPlaces.{lowest_or_none}
 use Rattle.laws_calls.proofs.SessionInversions.{IsLockless}
 use Rattle.laws_calls.proofs.Sessions.{is_txn_of}
@@ -74,10 +74,10 @@ module _ (g : Geometry) (s : State) (t store : ℕ) (bytes : List ℕ) where
   serves_or_not : (id : Rid) → OrNot (ServesTxn g s t store bytes id)
   serves_or_not id =
       ⊎_elim
-      (λ h. inl (record { of_store = h.0; inside = h.1.0; empty = h.1.1.0; fits = h.1.1.1.0; free = h.1.1.1.1 }))
-      (λ none. inr (λ h. none (h.of_store, (h.inside, (h.empty, (h.fits, h.free))))))
+      (λ h. inl (record { of_store = h.0; inside = h.1.0; empty = h.1.1.0; reached = h.1.1.1.0; fits = h.1.1.1.1.0; free = h.1.1.1.1.1 }))
+      (λ none. inr (λ h. none (h.of_store, (h.inside, (h.empty, (h.reached, (h.fits, h.free)))))))
       (both (same_number id.page.store store) (both (page_or_not g id.page) (both (none_or_not (get s.sessions.records id))
-      (both (fits_or_not (page_slots s id.page) id.slot (length bytes)) (can_lock_or_not s.locks.requests t (granule.Record id) EX)))))
+      (both (at_most id.slot (s.counts id.page)) (both (fits_or_not (page_slots s id.page) id.slot (length bytes)) (can_lock_or_not s.locks.requests t (granule.Record id) EX))))))
 
   abbrev PlaceOrNone : Type 0
   PlaceOrNone = ((id : Rid) × IsPlaceOf g s t store bytes id) ⊎ ((id : Rid) → ServesTxn g s t store bytes id → ⊥)

@@ -94,7 +94,7 @@ module _ (g : Geometry) (stream_bytes : ℕ) (bytes : List ℕ) (store : HasStor
 
   place : IsPlaceOf g with_store 1 0 bytes first_id
   place = record {
-    serves = record { of_store = refl; inside = page; empty = nothing_there; fits = fits; free = refl };
+    serves = record { of_store = refl; inside = page; empty = nothing_there; reached = omega arith; fits = fits; free = refl };
     lowest = λ other before h. ⊎_elim (λ less. omega arith) (λ same. let less = same.1 in omega arith) before;
   }
 

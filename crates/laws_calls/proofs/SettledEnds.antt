@@ -76,7 +76,7 @@ module _ (g : Geometry) (s new : State) where
   inner_leaves a c step (inr (inr (inl h))) end = (back_table s a h.0 step new h.3).waiting
   inner_leaves a c step (inr (inr (inr h))) end = abort_leaves a step h.1
 
-  call_leaves : (session : ℕ) (c : Call) (step : Step) → CallStep g s session c step new → IsEnd step → new.waiting ≡ s.waiting
+  pub call_leaves : (session : ℕ) (c : Call) (step : Step) → CallStep g s session c step new → IsEnd step → new.waiting ≡ s.waiting
   call_leaves session c step (inl h) end = ap (λ (x : State). x.waiting) h.1
   call_leaves session c step (inr (inl h)) end = ap (λ (x : State). x.waiting) h.2
   call_leaves session c step (inr (inr (inl h))) end = ap (λ (x : State). x.waiting) h.3
@@ -85,7 +85,7 @@ module _ (g : Geometry) (s new : State) where
   call_leaves session c step (inr (inr (inr (inr (inr h))))) end = inner_leaves h.2.0 c step h.2.2 end
 
   -- a call that is not refused is made by a session that does not wait
-  idle_before : (session : ℕ) (c : Call) (step : Step) → ((f : Fault) → step ≢ Refused f) → CallStep g s session c step new → DoesNotWait s session
+  pub idle_before : (session : ℕ) (c : Call) (step : Step) → ((f : Fault) → step ≢ Refused f) → CallStep g s session c step new → DoesNotWait s session
   idle_before session c step taken (inl h) = absurd (taken fault.Memory h.0)
   idle_before session c step taken (inr (inl h)) = absurd (taken fault.Failed h.1)
   idle_before session c step taken (inr (inr (inl h))) = absurd (taken fault.Busy h.2)

@@ -149,6 +149,9 @@ module _ (g : Geometry) (s new : State) (session : ℕ) where
   insert_unlocked store bytes id none h =
       let t = inserted store bytes (Inserted id) h in none t.txn t.of (its_place store bytes id h).place.1
 
+  pub insert_beyond : (store : ℕ) (bytes : List ℕ) (id : Rid) → s.counts id.page < id.slot → Answered (call.Insert store bytes) (Inserted id) → ⊥
+  insert_beyond store bytes id far h = let reached = (its_place store bytes id h).place.0.serves.reached in omega (arith, far, reached)
+
   pub insert_over : (store : ℕ) (bytes : List ℕ) (id : Rid) → IsSome (get s.sessions.records id) → Answered (call.Insert store bytes) (Inserted id) → ⊥
   insert_over store bytes id there h = no_record_both (get s.sessions.records id) there (its_place store bytes id h).place.0.serves.empty
 

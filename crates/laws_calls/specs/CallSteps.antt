@@ -30,7 +30,7 @@ use Rattle.shore_path.specs.declared.answers.OnConflict.TheVariants.{Refuse}
 use Rattle.shore_path.specs.Walks.{Outcome, acquired}
 use Rattle.laws_locks.specs.CallLocks.{Asked, CanLockNow, lock_asked_by}
 use Rattle.laws_room.specs.Choosing.{IsLowest}
-use Rattle.laws_room.specs.Claims.{SlotCounts, rid_on}
+use Rattle.laws_room.specs.Claims.{SlotCounts}
 use Rattle.laws_lives.specs.Logged.{log_after}
 use Rattle.laws_lives.specs.SessionSteps.{AnswerAbort}
 use Rattle.laws_lives.specs.Sessions.{SessionTxn, abort_answered, commit_answered, locks_moved, txn_begun}
@@ -157,21 +157,19 @@ RefusesEarly g call.InDoubt f = ⊥
 
 -- ---- the place of an insert
 
--- A new record of so many bytes may go to the id: it lies in the store, no record is there, it fits, and the transaction could lock it now.
+-- A new record of so many bytes may go to the id: it lies in the store, its slot is an empty one or the one behind the last of its page, the bytes fit, and
+-- the transaction could lock it now.
 pub record ServesTxn (g : Geometry) (s : State) (t store : ℕ) (bytes : List ℕ) (id : Rid) : Type 0 where
   pub of_store : id.page.store ≡ store
   pub inside : HasPage g id.page
   pub empty : get s.sessions.records id ≡ None
+  pub reached : id.slot ≤ s.counts id.page
   pub fits : FitsAt s id (Some bytes)
   pub free : CanLockNow s.locks.requests t (granule.Record id) EX
 
 -- of all ids that serve, the first in place order
 abbrev pub IsPlaceOf : Geometry → State → ℕ → ℕ → List ℕ → Rid → Type 0
 IsPlaceOf g s t store bytes id = IsLowest (ServesTxn g s t store bytes) id
-
--- behind the slots that a page has, no slot before the id's could be locked
-abbrev pub IsInReach : State → ℕ → Rid → Type 0
-IsInReach s t id = (slot : ℕ) → s.counts id.page ≤ slot → slot < id.slot → CanLockNow s.locks.requests t (granule.Record (rid_on id.page slot)) EX → ⊥
 
 -- the insert has locked the place that it takes
 abbrev pub HasPlace : Geometry → State → SessionTxn → ℕ → List ℕ → Rid → Type 0

@@ -9,6 +9,8 @@ pub mod Victims
 pub mod Settling
 pub mod LockRounds
 pub mod Events
+pub mod Midway
+pub mod Causes
 pub mod Shapes
 pub mod LockChanges
 pub mod WorkedRun

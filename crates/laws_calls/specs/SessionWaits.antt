@@ -2,13 +2,15 @@
 use Rattle.std.specs.Prelude.{◌≡◌, ◌<◌, ◌≤◌, ◌⊎◌, ℕ, None, Some, Contains, false, length, take}
 use Rattle.shore_types.specs.declared.locking.Granule.{Granule}
 use Rattle.shore_model.specs.declared.histories.Decision.TheVariants as decision
+use Rattle.shore_model.specs.declared.requests.Request.{Request}
+use Rattle.shore_locks.specs.Tables.{waiting_request}
 use Rattle.laws_locks.specs.CallLocks.{Asked, lock_asked_by}
 use Rattle.laws_lives.specs.LogPrefixes.{decisions_in}
 use Rattle.laws_lives.specs.Sessions.{SessionTxn}
 use Rattle.laws_lives.specs.Views.{IsAmong}
 use Rattle.shore_model.specs.declared.step.Wait.TheVariants.{Lock}
 use Rattle.laws_calls.specs.StateChanges.{commit_waiting}
-use Rattle.laws_calls.specs.States.{State, Waiting}
+use Rattle.laws_calls.specs.States.{IsOfSession, State, Waiting}
 
 -- a commit waits for its record, which the log has
 pub record IsCommitWait (base : ℕ) (s : State) (w : Waiting) : Type 0 where
@@ -38,3 +40,12 @@ pub record WaitsOfSessions (base : ℕ) (s : State) : Type 0 where
   pub each : (w : Waiting) → IsAmong w s.waiting → IsCommitWait base s w ⊎ IsLockWait s w
   pub once : (v w : Waiting) → IsAmong v s.waiting → IsAmong w s.waiting → v.session ≡ w.session → v ≡ w
   pub all : s.failed ≡ false → (a : SessionTxn) → IsAmong a s.sessions.committing → (n : ℕ) × IsAmong (commit_waiting a.session n) s.waiting
+
+-- A request with which the transaction of a session waits is at the granule for which the session's call waits.
+abbrev pub WaitsThere : State → ℕ → Type 0
+WaitsThere s session = (w : Waiting) → IsAmong w s.waiting → w.session ≡ session → (at : Granule) → w.wait ≡ Lock at
+    → (a : SessionTxn) → IsOfSession s session a → (r : Request) → waiting_request a.txn s.locks.requests ≡ Some r → r.granule ≡ at
+
+-- so it is of each session
+abbrev pub AllWaitThere : State → Type 0
+AllWaitThere s = (session : ℕ) → WaitsThere s session

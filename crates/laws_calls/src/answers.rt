@@ -119,8 +119,8 @@ pub fn answers_stay_in_the_volume()
         is_allowed (level_of at) mode ≡ false → CallStep g s session (TryLock at mode) (Done answer) new → ⊥ }
 {}
 
-/// Answers of inserts that must not come: at a place above one that serves, one that cannot be locked now or was not, over a record, without room, beside
-/// its store, or left out.
+/// Answers of inserts that must not come: at a place above one that serves, one that cannot be locked now or was not, beyond the slot behind the last of its
+/// page, over a record, without room, beside its store, or left out.
 pub fn wrong_inserts_do_not_come()
     ensures above { (g : Geometry) (s new : State) (session store : ℕ) (bytes : List ℕ) (id lower : Rid) → IsBefore lower id →
         ForItsTxn s session (λ a. ServesTxn g (store_locked s a store bytes) a.txn store bytes lower) →
@@ -131,6 +131,8 @@ pub fn wrong_inserts_do_not_come()
     ensures unlocked { (g : Geometry) (s new : State) (session store : ℕ) (bytes : List ℕ) (id : Rid) →
         ForItsTxn s session (λ a. (place_outcome (store_locked s a store bytes) a id).answer ≢ Ok acquire.Done) →
         CallStep g s session (Insert store bytes) (Done (Inserted id)) new → ⊥ }
+    ensures beyond { (g : Geometry) (s new : State) (session store : ℕ) (bytes : List ℕ) (id : Rid) →
+        s.counts id.page < id.slot → CallStep g s session (Insert store bytes) (Done (Inserted id)) new → ⊥ }
     ensures over { (g : Geometry) (s new : State) (session store : ℕ) (bytes : List ℕ) (id : Rid) →
         IsSome (get s.sessions.records id) → CallStep g s session (Insert store bytes) (Done (Inserted id)) new → ⊥ }
     ensures without_room { (g : Geometry) (s new : State) (session store : ℕ) (bytes : List ℕ) (id : Rid) →

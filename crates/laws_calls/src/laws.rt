@@ -22,7 +22,6 @@ ghost use Rattle.shore_model.specs.Records.{overlay};
 ghost use Rattle.shore_model.specs.Requests.{held_by_all};
 ghost use Rattle.shore_locks.specs.Grants.{released};
 ghost use Rattle.shore_page.specs.Room.{HasRoom};
-ghost use Rattle.laws_room.specs.Choosing.{IsBefore};
 ghost use Rattle.laws_room.specs.Claims.{slots_of};
 ghost use Rattle.laws_lives.specs.LogPrefixes.{decisions_in};
 ghost use Rattle.laws_lives.specs.LogTells.{records_committed};
@@ -37,7 +36,7 @@ ghost use Rattle.laws_calls.specs.CallHistories.{IsOpened, IsPrefix, IsRoomyStat
 ghost use Rattle.laws_calls.specs.Events.{IsStateAfter, ManagerEvent, EventMoves, EventsMove, MovesMaking, entries_of_resume};
 ghost use Rattle.laws_calls.specs.StateChanges.{with_durable, with_failure};
 ghost use Rattle.laws_calls.specs.LockChanges.{TakesAsAsked};
-ghost use Rattle.laws_calls.specs.CallSteps.{IsInReach, IsPlaceOf, ResumesCall, ServesTxn, CallStep, ResumeStep};
+ghost use Rattle.laws_calls.specs.CallSteps.{ResumesCall, CallStep, ResumeStep};
 ghost use Rattle.laws_calls.specs.LockedStates.{entries_of_call};
 ghost use Rattle.laws_calls.specs.States.{DoesNotWait, IsOfSession, State, Waiting, cost_of_log, next_number};
 ghost use Rattle.laws_calls.specs.WorkedRun.{first_id, first_page, one_insert, opened_empty};
@@ -188,12 +187,4 @@ pub fn one_insert_comes_through()
     ensures { (g : Geometry) (stream_bytes : ℕ) (bytes : List ℕ) → HasStore g 0 → HasPage g first_page → length bytes ≤ MAX_RECORD_BYTES → 100000 ≤ stream_bytes →
         (last : State) × (made : List Entry) × IsOpened [] (opened_empty stream_bytes) × MovesMaking g (opened_empty stream_bytes) (one_insert bytes) last made
         × (get last.sessions.records first_id ≡ Some bytes) × (acknowledged made ≡ decision.Commit 1 ∷ []) }
-{}
-
-/// Who looks for the place of an insert need look at the slots that a page has, and behind them no farther than the first that its transaction can lock.
-pub fn slots_in_reach_are_enough()
-    ensures place { (g : Geometry) (s : State) (t store : ℕ) (bytes : List ℕ) (id : Rid) → IsRoomyState s → ServesTxn g s t store bytes id
-        → ((other : Rid) → IsInReach s t other → IsBefore other id → ServesTxn g s t store bytes other → ⊥) → IsPlaceOf g s t store bytes id }
-    ensures none { (g : Geometry) (s : State) (t store : ℕ) (bytes : List ℕ) (id : Rid) → IsRoomyState s
-        → ((other : Rid) → IsInReach s t other → ServesTxn g s t store bytes other → ⊥) → ServesTxn g s t store bytes id → ⊥ }
 {}

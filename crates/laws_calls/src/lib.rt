@@ -8,5 +8,8 @@ pub mod locks;
 pub mod progress;
 pub mod refusals;
 pub mod rollbacks;
+pub mod settled_refusals;
+pub mod settled_rollbacks;
+pub mod settled_waits;
 pub mod settling;
 pub mod waits;

@@ -1,5 +1,5 @@
 //! Laws of the locks that requests hold, each stated as the contract of an empty function.
-ghost use Rattle.std.specs.Prelude.{◌≡◌, ◌≢◌, ◌⊎◌, ◌<◌, Ok, Err, ℕ, List, Some, All, false};
+ghost use Rattle.std.specs.Prelude.{◌≡◌, ◌≢◌, ◌⊎◌, ◌<◌, Ok, Err, ℕ, List, Some, All, IfErr, false};
 ghost use Rattle.shore_types.specs.declared.faults.Fault.TheVariants.{LockTableFull};
 ghost use Rattle.shore_types.specs.declared.ids.Rid.{Rid};
 ghost use Rattle.shore_types.specs.declared.locking.Granule.{Granule};
@@ -15,11 +15,11 @@ ghost use Rattle.shore_model.specs.Requests.{held_by_all};
 ghost use Rattle.shore_locks.specs.Grants.{cancelled, released};
 ghost use Rattle.shore_locks.specs.Orderly.{IsOrderly};
 ghost use Rattle.shore_locks.specs.Tables.{Table, is_waiting};
-ghost use Rattle.shore_path.specs.declared.answers.Acquired.TheVariants.{Done};
+ghost use Rattle.shore_path.specs.declared.answers.Acquired.TheVariants.{Done, Waiting};
 ghost use Rattle.shore_path.specs.declared.answers.OnConflict.{OnConflict};
 ghost use Rattle.shore_path.specs.declared.answers.OnConflict.TheVariants.{Refuse};
 ghost use Rattle.shore_path.specs.Walks.{acquired};
-ghost use Rattle.shore_path.specs.Acquires.{IsReached, NoneWeaker, OthersOnlyGranted};
+ghost use Rattle.shore_path.specs.Acquires.{IsReached, MayRefuse, NoneWeaker, OthersOnlyGranted};
 ghost use Rattle.shore_path.specs.Rooted.{AreRooted};
 ghost use Rattle.laws_lives.specs.GranuleLocks.{HasLock, HasLocksFor};
 ghost use Rattle.laws_lives.specs.SessionSteps.{KeepsLocks, MoveLocks, StepsTo};
@@ -41,10 +41,19 @@ pub fn reached_locks_serve_calls()
         HasLocksFor (held_by_all rs) t (Insert store bytes) (Inserted id) }
 {}
 
-/// What an acquire leaves of orderly requests with their intentions, of one who does not wait.
+/// What an acquire comes to and leaves, of orderly requests with their intentions, of one who does not wait.
 pub fn acquires_leave_requests_in_order()
     ensures { (c : OnConflict) (table : Table) (t : ℕ) (target : Granule) (mode : Mode) → IsOrderly table.requests → is_waiting t table.requests ≡ false → AreRooted table.requests
         → Leaves table.requests (acquired c table t target mode) t target mode }
+{}
+
+/// An acquire is refused only with its cause, in the table as it then is: the level does not take the mode; a granule of the path has no node of the transaction,
+/// and the table is full; or, if it may not wait, the transaction would wait for that holder on the path. It waits only if it may.
+pub fn acquires_are_refused_with_cause()
+    ensures refused { (c : OnConflict) (table : Table) (t : ℕ) (target : Granule) (mode : Mode) → IsOrderly table.requests → is_waiting t table.requests ≡ false →
+        IfErr (acquired c table t target mode).answer (MayRefuse c record { limit = table.limit; requests = (acquired c table t target mode).requests } t target mode) }
+    ensures waits { (table : Table) (t : ℕ) (target : Granule) (mode : Mode) (g : Granule) → IsOrderly table.requests → is_waiting t table.requests ≡ false →
+        (acquired Refuse table t target mode).answer ≡ Ok (Waiting g) → ⊥ }
 {}
 
 /// A granule that a transaction could lock now is locked by a try, unless the table is full.

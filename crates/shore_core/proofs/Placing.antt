@@ -1,5 +1,5 @@
 -- What a search of a store comes to: where a new record goes, what a scan finds, and which faults of the pages refuse the call.
-use Rattle.std.proofs.Common.{◌≡◌, ◌⊎◌, ◌+◌, inl, inr, ℕ, List, Result, Ok, Err, IsErrAnd, Some, length, refl, sym, ap, subst, ◌∙◌, arith}
+use Rattle.std.proofs.Common.{◌≡◌, ◌⊎◌, ◌+◌, ◌≤◌, inl, inr, ℕ, List, Result, Ok, Err, IsErrAnd, Some, length, refl, sym, ap, subst, ◌∙◌, arith}
 use Rattle.std.specs.FinMap.{get}
 use Rattle.shore_types.specs.declared.faults.Fault.{Fault}
 use Rattle.shore_types.specs.declared.faults.Fault.TheVariants as fault
@@ -22,6 +22,7 @@ use Rattle.shore_page.specs.Slots.{image_at_slot}
 use Rattle.shore_heap.specs.Places.{HasNoPlace, IsPlace, Takes}
 use Rattle.shore_heap.specs.Scans.{IsScan}
 use Rattle.shore_heap.proofs.Scanned.{scans_as_the_model}
+use Rattle.laws_room.proofs.Pages.{length-slots}
 use Rattle.laws_room.specs.Claims.{Claimed}
 use Rattle.shore_model.specs.declared.calls.Call.TheVariants as call
 use Rattle.laws_lives.specs.Sessions.{SessionTxn}
@@ -41,12 +42,27 @@ module _ (g : Geometry) (s : State) (claimed : Claimed s.sessions.records s.sess
   shown : (id : Rid) → image_at_slot (page_slots s id.page) id.slot ≡ get s.sessions.records id
   shown id = image_shown s.sessions.records s.sessions.active s.counts claimed id
 
+  slots : (id : Rid) → length (page_slots s id.page) ≡ s.counts id.page
+  slots id = length-slots s.sessions.records s.sessions.active id.page (s.counts id.page)
+
   module _ (t : ℕ) (bytes : List ℕ) where
     takes_of : (id : Rid) → ServesTxn g s t store bytes id → Takes g (page_slots s) store (length bytes) (can_lock s.locks.requests t) id
-    takes_of id serves = record { there = serves.inside; of_store = serves.of_store; empty = shown id ∙ serves.empty; fits = serves.fits; allowed = serves.free }
+    takes_of id serves = record {
+      there = serves.inside;
+      of_store = serves.of_store;
+      candidate = record { there = subst (λ n. id.slot ≤ n) (sym (slots id)) serves.reached; empty = shown id ∙ serves.empty; fits = serves.fits };
+      allowed = serves.free;
+    }
 
     serves_of : (id : Rid) → Takes g (page_slots s) store (length bytes) (can_lock s.locks.requests t) id → ServesTxn g s t store bytes id
-    serves_of id takes = record { of_store = takes.of_store; inside = takes.there; empty = sym (shown id) ∙ takes.empty; fits = takes.fits; free = takes.allowed }
+    serves_of id takes = record {
+      of_store = takes.of_store;
+      inside = takes.there;
+      empty = sym (shown id) ∙ takes.candidate.empty;
+      reached = subst (λ n. id.slot ≤ n) (slots id) takes.candidate.there;
+      fits = takes.candidate.fits;
+      free = takes.allowed;
+    }
 
     -- the first slot that takes the bytes, and can be locked now, is where an insert goes
     pub is_place_of : (id : Rid) → IsPlace g (page_slots s) store (length bytes) (can_lock s.locks.requests t) id → IsPlaceOf g s t store bytes id

@@ -54,8 +54,8 @@ impl<T: Tail, V: Disk> Core<T, V> {
     /// call waits, `AlreadyActive` or `NoTransaction`, `MustAbort` if the transaction is a victim or its rollback was interrupted, as the call says before
     /// its locks, as its locks are refused, and as the call says behind them; `Memory` if an allocation failed, and `NeedForce(n)` if a page needs a frame
     /// that is free once the log is forced up to number n. A call that would wait in a cycle of which its transaction is the youngest is refused by `Deadlock`:
-    /// that transaction is a victim, keeps its locks and its changes, and takes only an abort. A refused call
-    /// has changed nothing but locks that were taken, and a rollback keeps the steps that it has made: the same call goes on with the others. But after
+    /// that transaction is a victim, keeps its locks and its changes, and takes only an abort. A refused call has changed nothing but locks that were taken,
+    /// and others that it doomed as victims, if it waited first; a rollback keeps the steps that it has made: the same call goes on with the others. But after
     /// `Device` and `Damaged` every later call is refused. A call that waits for a lock goes on at a resume, once another has let it through.
     pub fn call(&mut self, alloc: Global, session: SessionId, call: Call) -> Step
         requires { IsServed call }

@@ -4,7 +4,8 @@ ghost use Rattle.shore_types.specs.Layout.{HasSlot, HasStore};
 ghost use Rattle.shore_types.specs.declared.faults.Fault.TheVariants as Fault;
 ghost use Rattle.shore_model.specs.declared.calls.Call.TheVariants as Call;
 ghost use Rattle.shore_heap.specs.Heaps.{frame_of};
-ghost use Rattle.shore_heap.specs.Places.{HasNoPlace, IsFreeSlot, IsPlace};
+ghost use Rattle.shore_page.specs.Room.{IsCandidate};
+ghost use Rattle.shore_heap.specs.Places.{HasNoPlace, IsPlace};
 ghost use Rattle.laws_calls.specs.StateChanges.{IsPageFault};
 ghost use Rattle.laws_calls.specs.CallSteps.{with_requests};
 ghost use Rattle.laws_calls.specs.States.{State, page_slots};
@@ -88,7 +89,7 @@ impl<T: Tail, V: Disk> Core<T, V> {
         requires intends { IsTrue intends → IntendsToWrite (locks_of self.old).requests txn store }
         ensures there { IfOk result (HasSlot (geometry_of self.old)) }
         ensures of_store { IfOk result (λ id. id.page.store ≡ store) }
-        ensures framed { IfOk result (λ id. IsSomeAnd (frame_of (heap_of self.new) id.page) (λ f. IsFreeSlot f.page.slots len id.slot)) }
+        ensures framed { IfOk result (λ id. IsSomeAnd (frame_of (heap_of self.new) id.page) (λ f. IsCandidate f.page.slots id.slot len)) }
         ensures found { has_failed self.old ≡ false → InEach (λ front disk before s plain. MatchResult result (IsPlace (geometry_of self.old) (page_slots s) store len (can_lock (locks_of self.old).requests txn))
             (λ f. ((f ≡ Fault.StoreFull) × HasNoPlace (geometry_of self.old) (page_slots s) store len (can_lock (locks_of self.old).requests txn)) ⊎ (f ≡ Fault.Memory) ⊎ IsPageFault s f)) self.old }
         ensures lockable { IfOk result (can_lock (locks_of self.old).requests txn) }

@@ -5,10 +5,11 @@ use Rattle.shore_types.specs.declared.ids.PageId.{PageId}
 use Rattle.shore_types.specs.declared.ids.Rid.{Rid}
 use Rattle.shore_types.specs.declared.layout.Geometry.{Geometry}
 use Rattle.shore_types.specs.Layout.{HasPage, HasSlot}
+use Rattle.shore_page.specs.Room.{IsCandidate}
 use Rattle.shore_page.specs.Slots.{Slot}
 use Rattle.shore_heap.specs.Contents.{AreBounds, bound_of}
 use Rattle.shore_pool.specs.declared.frame.Frame.{Frame}
-use Rattle.shore_heap.specs.Places.{HasNoPlace, HasNoSlot, IsFirstSlot, IsFreeSlot, IsPlace, Takes, slots_of}
+use Rattle.shore_heap.specs.Places.{HasNoPlace, HasNoSlot, IsFirstSlot, IsPlace, Takes, slots_of}
 
 abbrev the_page : ℕ → ℕ → PageId
 the_page store page = record { store = store; page = page }
@@ -34,7 +35,7 @@ module _ (g : Geometry) (S : PageId → List Slot) (store bytes : ℕ) (MayTake 
 
   refused : (id : Rid) → Takes g S store bytes MayTake id → NoneOn id.page.page → ⊥
   refused id takes none =
-      subst (λ (p : PageId). HasPage g p → HasNoSlot (S p) bytes (slots_of MayTake p)) (page_is id.page takes.of_store) none takes.there id.slot (takes.empty, takes.fits) takes.allowed
+      subst (λ (p : PageId). HasPage g p → HasNoSlot (S p) bytes (slots_of MayTake p)) (page_is id.page takes.of_store) none takes.there id.slot takes.candidate takes.allowed
 
   pub no_place : ((page : ℕ) → NoneOn page) → HasNoPlace g S store bytes MayTake
   no_place each id takes = refused id takes (each id.page.page)
@@ -42,18 +43,18 @@ module _ (g : Geometry) (S : PageId → List Slot) (store bytes : ℕ) (MayTake 
   pub is_place : (page slot : ℕ) → ((j : ℕ) → j < page → NoneOn j) → HasPage g (the_page store page) → IsFirstSlot (S (the_page store page)) bytes (slots_of MayTake (the_page store page)) slot
       → IsPlace g S store bytes MayTake (the_id store page slot)
   is_place page slot below there first = record {
-    takes = record { there = there; of_store = refl; empty = first.free.0; fits = first.free.1; allowed = first.allowed };
+    takes = record { there = there; of_store = refl; candidate = first.candidate; allowed = first.allowed };
     first = λ other takes. (
       elim (cases_lt other.page.page page) [ inl less ↦ absurd (refused other takes (below other.page.page less)) | inr more ↦ more ],
       λ same.
           let here : other.page ≡ the_page store page = sym (page_is other.page takes.of_store) ∙ ap (λ (n : ℕ). the_page store n) same in
-          first.first other.slot (subst (λ (p : PageId). IsFreeSlot (S p) bytes other.slot) here (takes.empty, takes.fits)) (subst (λ (p : PageId). slots_of MayTake p other.slot) here takes.allowed),
+          first.first other.slot (subst (λ (p : PageId). IsCandidate (S p) other.slot bytes) here takes.candidate) (subst (λ (p : PageId). slots_of MayTake p other.slot) here takes.allowed),
     );
   }
 
   -- what the bounds refuse
   pub none_by_bound : (free : List (List ℕ)) → AreBounds g free S → (page : ℕ) → bound_of free (the_page store page) ≤ bytes → NoneOn page
-  none_by_bound free are page up_to has slot takes allowed = are (the_page store page) bytes has up_to slot takes.0 takes.1
+  none_by_bound free are page up_to has slot takes allowed = are (the_page store page) bytes has up_to slot takes.empty takes.fits
 
   -- no place of a page may be taken
   pub none_unused : (page : ℕ) → ((id : Rid) → id.page ≡ the_page store page → MayTake id → ⊥) → NoneOn page
@@ -67,6 +68,6 @@ module _ (g : Geometry) (S : PageId → List Slot) (store bytes : ℕ) (MayTake 
   ]
 
 -- a slot that takes bytes in a frame is one that a record may have
-pub slot_there : (g : Geometry) (id : Rid) (o : Option Frame) (bytes : ℕ) → HasPage g id.page → IsSomeAnd o (λ f. IsFreeSlot f.page.slots bytes id.slot) → HasSlot g id
-slot_there g id (Some f) bytes there free = (there, free.1.there)
+pub slot_there : (g : Geometry) (id : Rid) (o : Option Frame) (bytes : ℕ) → HasPage g id.page → IsSomeAnd o (λ f. IsCandidate f.page.slots id.slot bytes) → HasSlot g id
+slot_there g id (Some f) bytes there free = (there, free.fits.there)
 slot_there g id None bytes there free = absurd free

@@ -3,12 +3,11 @@ use Rattle.std.proofs.Common.{◌≡◌, ◌≢◌, ℕ, zero, suc, ◌+◌, ◌
 use Rattle.std.proofs.lemmas.Bool.{cases_lt}
 use Rattle.shore_types.specs.Images.{Image, image_len}
 use Rattle.shore_page.specs.Slots.{Slot, image_at_slot, with_change, with_slot, with_image, holding, settled}
-use Rattle.shore_page.specs.Room.{claims, claim_at, Fits, IsCandidate, IsFirstCandidate}
+use Rattle.shore_page.specs.Room.{claims, claim_at, Fits, IsCandidate}
 use Rattle.shore_page.proofs.Fitting.{IsSame, claims_changed, others_changed}
 use Rattle.shore_page.proofs.RoomLemmas.{claims-with_slot, length-with_slot}
 use Rattle.shore_page.proofs.UndoLemmas.{length-with_change}
 use Rattle.shore_heap.specs.Contents.{TakesNone}
-use Rattle.shore_heap.specs.Places.{IsNextFree, TakesNoneFrom}
 
 -- ---- one slot changed
 
@@ -103,29 +102,9 @@ past [] slot behind = refl
 past (s ∷ slots) zero behind = absurd (omega arith)
 past (s ∷ slots) (suc slot) behind = past slots slot (omega arith)
 
-module _ (slots : List Slot) (from bytes : ℕ) where
-  -- the first candidate is the next of all slots that take it
-  pub next_candidate : (slot : ℕ) → IsFirstCandidate slots from bytes slot → IsNextFree slots from bytes slot
-  next_candidate slot is = record {
-    behind = is.behind;
-    free = (is.candidate.empty, is.candidate.fits);
-    passed = λ other behind less free. is.passed other behind less (record { there = omega (arith, less, is.candidate.there); empty = free.0; fits = free.1 });
-  }
-
-  -- a page with no candidate takes none
-  pub no_candidate : from ≤ length slots → ((slot : ℕ) → from ≤ slot → IsCandidate slots slot bytes → ⊥) → TakesNoneFrom slots from bytes
-  no_candidate inside none slot behind free = elim (cases_lt (length slots) slot) [
-    | inl far ↦ none (length slots) inside (record { there = omega arith; empty = past slots (length slots) (omega arith); fits = fits_nearer slots (length slots) slot bytes (omega arith) (omega (arith, far)) free.1 })
-    | inr there ↦ none slot behind (record { there = there; empty = free.0; fits = free.1 })
-  ]
-
-  -- behind the last slot all are empty, and the nearest takes what any does
-  pub next_behind : length slots < from → Fits slots from bytes → IsNextFree slots from bytes from
-  next_behind far fits = record { behind = omega arith; free = (past slots from (omega (arith, far)), fits); passed = λ other behind less free. absurd (omega (arith, behind, less)) }
-
-  pub none_behind : length slots < from → (Fits slots from bytes → ⊥) → TakesNoneFrom slots from bytes
-  none_behind far none slot behind free = none (fits_nearer slots from slot bytes (omega (arith, far)) behind free.1)
-
--- a page with no free slot from the first on refuses the length
-pub none_at_all : (slots : List Slot) (bytes : ℕ) → TakesNoneFrom slots 0 bytes → TakesNone slots bytes
-none_at_all slots bytes none slot empty fits = none slot (omega arith) (empty, fits)
+-- a page with no candidate refuses the length
+pub no_candidate : (slots : List Slot) (bytes : ℕ) → ((slot : ℕ) → 0 ≤ slot → IsCandidate slots slot bytes → ⊥) → TakesNone slots bytes
+no_candidate slots bytes none slot empty fits = elim (cases_lt (length slots) slot) [
+  | inl far ↦ none (length slots) (omega arith) (record { there = omega arith; empty = past slots (length slots) (omega arith); fits = fits_nearer slots (length slots) slot bytes (omega arith) (omega (arith, far)) fits })
+  | inr there ↦ none slot (omega arith) (record { there = there; empty = empty; fits = fits })
+]

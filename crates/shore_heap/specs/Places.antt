@@ -1,5 +1,5 @@
 -- Where a new record of a store may go.
-use Rattle.std.specs.Prelude.{◌≡◌, ◌⊎◌, ◌<◌, ◌≤◌, ℕ, List, None}
+use Rattle.std.specs.Prelude.{◌≡◌, ◌⊎◌, ◌≤◌, ℕ, List}
 use Rattle.shore_dwrite.specs.Volumes.{HasNoPage, page_number, page_offset}
 use Rattle.shore_types.specs.declared.faults.Device.TheVariants as device
 use Rattle.shore_types.specs.declared.faults.Fault.{Fault}
@@ -8,8 +8,8 @@ use Rattle.shore_types.specs.declared.ids.PageId.{PageId}
 use Rattle.shore_types.specs.declared.ids.Rid.{Rid}
 use Rattle.shore_types.specs.declared.layout.Geometry.{Geometry}
 use Rattle.shore_types.specs.Layout.{HasPage}
-use Rattle.shore_page.specs.Room.{Fits}
-use Rattle.shore_page.specs.Slots.{Slot, image_at_slot}
+use Rattle.shore_page.specs.Room.{IsCandidate}
+use Rattle.shore_page.specs.Slots.{Slot}
 
 -- any place may be taken
 abbrev pub anywhere : Rid → Type 0
@@ -19,37 +19,22 @@ anywhere id = Unit {0}
 abbrev pub slots_of : (Rid → Type 0) → PageId → ℕ → Type 0
 slots_of MayTake page slot = MayTake (record { page = page; slot = slot })
 
--- an empty slot that takes so many bytes
-abbrev pub IsFreeSlot : List Slot → ℕ → ℕ → Type 0
-IsFreeSlot slots bytes slot = (image_at_slot slots slot ≡ None) × Fits slots slot bytes
-
--- the lowest one from a slot on
-pub record IsNextFree (slots : List Slot) (from bytes slot : ℕ) : Type 0 where
-  pub behind : from ≤ slot
-  pub free : IsFreeSlot slots bytes slot
-  pub passed : (other : ℕ) → from ≤ other → other < slot → IsFreeSlot slots bytes other → ⊥
-
--- no slot from one on is empty and takes so many bytes
-abbrev pub TakesNoneFrom : List Slot → ℕ → ℕ → Type 0
-TakesNoneFrom slots from bytes = (other : ℕ) → from ≤ other → IsFreeSlot slots bytes other → ⊥
-
--- of all empty slots of a page that take so many bytes, and may be taken, the first
+-- of all candidates of a page for so many bytes that may be taken, the first
 pub record IsFirstSlot (slots : List Slot) (bytes : ℕ) (MayTake : ℕ → Type 0) (slot : ℕ) : Type 0 where
-  pub free : IsFreeSlot slots bytes slot
+  pub candidate : IsCandidate slots slot bytes
   pub allowed : MayTake slot
-  pub first : (other : ℕ) → IsFreeSlot slots bytes other → MayTake other → slot ≤ other
+  pub first : (other : ℕ) → IsCandidate slots other bytes → MayTake other → slot ≤ other
 
 -- there is none
 abbrev pub HasNoSlot : List Slot → ℕ → (ℕ → Type 0) → Type 0
-HasNoSlot slots bytes MayTake = (slot : ℕ) → IsFreeSlot slots bytes slot → MayTake slot → ⊥
+HasNoSlot slots bytes MayTake = (slot : ℕ) → IsCandidate slots slot bytes → MayTake slot → ⊥
 
 module _ (g : Geometry) (S : PageId → List Slot) (store bytes : ℕ) (MayTake : Rid → Type 0) where
-  -- an empty slot of the store that takes so many bytes, and may be taken
+  -- a candidate for so many bytes on a page of the store, an empty slot or the one behind the last, that may be taken
   pub record Takes (id : Rid) : Type 0 where
     pub there : HasPage g id.page
     pub of_store : id.page.store ≡ store
-    pub empty : image_at_slot (S id.page) id.slot ≡ None
-    pub fits : Fits (S id.page) id.slot bytes
+    pub candidate : IsCandidate (S id.page) id.slot bytes
     pub allowed : MayTake id
 
   -- of all such slots the first: by page, and then by slot

@@ -1,11 +1,12 @@
 //! Where a new record of a store goes.
 ghost use Rattle.std.specs.Prelude.{◌≡◌, ◌≢◌, ◌⊎◌, ◌<◌, ◌≤◌, ℕ, List, IfErr, IfNone, IfOk, IfSome, IsSomeAnd, IsTrue, MatchOption, None, Some, is_some, min, slice_get};
+ghost use Rattle.shore_page.specs.Room.{IsCandidate};
 ghost use Rattle.shore_page.specs.Slots.{Slot};
 ghost use Rattle.shore_pool.specs.Pools.{PoolHolds};
 ghost use Rattle.shore_types.specs.Layout.{HasPage, HasSlot, HasStore};
 ghost use Rattle.shore_types.specs.declared.ids.PageId.{PageId};
 ghost use Rattle.shore_heap.specs.Contents.{AreBounds, AreKept, ClaimsOfPages, TakesNone, bound_of};
-ghost use Rattle.shore_heap.specs.Places.{HasNoPlace, HasNoSlot, IsFirstSlot, IsFreeSlot, IsPlace, IsRefused, slots_of};
+ghost use Rattle.shore_heap.specs.Places.{HasNoPlace, HasNoSlot, IsFirstSlot, IsPlace, IsRefused, slots_of};
 
 use crate::choices::Places;
 use crate::heap::Heap;
@@ -18,7 +19,8 @@ use std::alloc::Global;
 impl<D: Disk> Heap<D> {
     ghost use Rattle.shore_heap.specs.Heaps.{AsksForForce, ReadsPages, RefusesPage, Shows, allowed_by, claims_in, frame_of, geometry_of, pool_of};
 
-    /// Of all empty slots of a store that take a record of so many bytes, and may be taken, the first, by page and slot, with its page in a frame.
+    /// Of all slots of a store that a record of so many bytes may go into, empty ones and the one behind the last of each page, the first that may be taken, by page
+    /// and slot, with its page in a frame.
     /// A page that is known to refuse as many bytes is not looked at, and one of which no place may be taken is not fetched.
     pub fn place_for<C: Claims, P: Places>(
         &mut self,
@@ -37,7 +39,7 @@ impl<D: Disk> Heap<D> {
         ensures there { IfOk result (λ found. IfSome found (HasSlot (geometry_of self.old))) }
         ensures of_store { IfOk result (λ found. IfSome found (λ id. id.page.store ≡ store)) }
         ensures held { IfOk result (λ found. IfSome found (λ id. IsTrue (is_some (frame_of self.new id.page)))) }
-        ensures framed { IfOk result (λ found. IfSome found (λ id. IsSomeAnd (frame_of self.new id.page) (λ f. IsFreeSlot f.page.slots bytes id.slot))) }
+        ensures framed { IfOk result (λ found. IfSome found (λ id. IsSomeAnd (frame_of self.new id.page) (λ f. IsCandidate f.page.slots id.slot bytes))) }
         ensures allowed { IfOk result (λ found. IfSome found (allowed_by P.Places places.now)) }
         ensures reads { ReadsPages (claims_in C.Claims claims.now) self.old self.new ends.now.durable result }
         ensures refused { (front : List ℕ) (disk : ℕ → List ℕ) → PoolHolds (pool_of self.old) front disk
@@ -98,7 +100,7 @@ impl<D: Disk> Heap<D> {
         ensures none { (front : List ℕ) (disk : ℕ → List ℕ) (S : PageId → List Slot) → Shows (claims_in C.Claims claims.now) self.old front disk S
             → AreKept (geometry_of self.old) (claims_in C.Claims claims.now) S → IfOk result (λ found. IfNone found (HasNoSlot (S id) bytes (slots_of (allowed_by P.Places places.now) id))) }
         ensures held { IfOk result (λ found. IsTrue (is_some (frame_of self.new id))) }
-        ensures framed { IfOk result (λ found. IfSome found (λ slot. IsSomeAnd (frame_of self.new id) (λ f. IsFreeSlot f.page.slots bytes slot))) }
+        ensures framed { IfOk result (λ found. IfSome found (λ slot. IsSomeAnd (frame_of self.new id) (λ f. IsCandidate f.page.slots slot bytes))) }
         ensures allowed { IfOk result (λ found. IfSome found (slots_of (allowed_by P.Places places.now) id)) }
         ensures reads { ReadsPages (claims_in C.Claims claims.now) self.old self.new ends.now.durable result }
         ensures refused { (front : List ℕ) (disk : ℕ → List ℕ) → PoolHolds (pool_of self.old) front disk

@@ -213,7 +213,8 @@ impl<L: Disk, V: Disk> World<L, V> {
         self.core.nodes(alloc)
     }
 
-    /// One event. A refusal has changed nothing but locks that were taken, and a rollback that is refused has put some changes back at most; except for
+    /// One event. A refusal has changed nothing but locks that were taken, and transactions that a call doomed as victims before it was refused; a rollback
+    /// that is refused has put some changes back at most; except for
     /// `Device` and `Damaged`: after them every call is refused by `Failed` or `Memory`, and so is each call that waits, once.
     pub fn step(&mut self, alloc: Global, event: Event) -> Step
         requires { IsServedEvent event }

@@ -1,4 +1,4 @@
-use Rattle.laws_calls.proofs.WrongAnswers.{insert_above, insert_elsewhere, insert_left_out, insert_outside, insert_over, insert_too_long, insert_unlockable, insert_unlocked, insert_unlogged, insert_without_place, insert_without_room}
+use Rattle.laws_calls.proofs.WrongAnswers.{insert_above, insert_beyond, insert_elsewhere, insert_left_out, insert_outside, insert_over, insert_too_long, insert_unlockable, insert_unlocked, insert_unlogged, insert_without_place, insert_without_room}
 use Rattle.laws_calls.proofs.answers.wrong_inserts_do_not_come.Goals as goal
 
 pub returns-clause-above : goal.returns-clause-above
@@ -9,6 +9,9 @@ returns-clause-unlockable d = insert_unlockable
 
 pub returns-clause-unlocked : goal.returns-clause-unlocked
 returns-clause-unlocked d = insert_unlocked
+
+pub returns-clause-beyond : goal.returns-clause-beyond
+returns-clause-beyond d = insert_beyond
 
 pub returns-clause-over : goal.returns-clause-over
 returns-clause-over d = insert_over

@@ -74,7 +74,7 @@ change-requires-clause-found g c =
     let id = c.in_ok-place.place in
     let len = ap length c.as_slice.ensures in
     subst (λ h. IsSomeAnd (frame_of h id.page) (λ f. (image_at_slot f.page.slots id.slot ≡ None) × Fits f.page.slots id.slot (length c.args.bytes))) (sym c.in_ok-lock_place.ensures.only.heap)
-    (map_some _ _ (frame_of c.find_place.new.self.heap id.page) (λ f h. (h.0, subst (Fits f.page.slots id.slot) len h.1)) c.in_ok-place.ensures.framed)
+    (map_some _ _ (frame_of c.find_place.new.self.heap id.page) (λ f h. (h.empty, subst (Fits f.page.slots id.slot) len h.fits)) c.in_ok-place.ensures.framed)
 
 pub change-requires-clause-owner : goal.change-requires-clause-owner
 change-requires-clause-owner g c = subst (HasTxnOf c.args.session) (sym (c.in_ok-lock_place.ensures.only.txns ∙ ap txns_in c.in_ok-place.ensures.reads.control)) c.requires.owner

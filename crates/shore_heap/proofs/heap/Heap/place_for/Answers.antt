@@ -4,10 +4,11 @@ use Rattle.shore_dwrite.proofs.Moves.{if_err}
 use Rattle.shore_types.specs.declared.ids.PageId.{PageId}
 use Rattle.shore_types.specs.declared.layout.Geometry.{Geometry}
 use Rattle.shore_types.specs.Layout.{HasPage, HasSlot}
+use Rattle.shore_page.specs.Room.{IsCandidate}
 use Rattle.shore_page.specs.Slots.{Slot}
 use Rattle.shore_heap.specs.Contents.{AreBounds, AreKept}
 use Rattle.shore_heap.specs.Heaps.{AsksForForce, Shows, allowed_by, claims_in, frame_of, geometry_of}
-use Rattle.shore_heap.specs.Places.{HasNoSlot, IsFirstSlot, IsFreeSlot, IsRefused, slots_of}
+use Rattle.shore_heap.specs.Places.{HasNoSlot, IsFirstSlot, IsRefused, slots_of}
 use Rattle.shore_heap.proofs.Finding.{NoneOn, if_none_at, if_some_at, is_place, no_place, none_by_bound, none_next, none_unused, slot_there}
 use Rattle.shore_heap.proofs.Going.{Goes, answers, goes_nowhere, hands_on, reads_then, refused_then, shown_mid}
 use Rattle.shore_heap.proofs.Scanned.{inside_of}
@@ -88,13 +89,13 @@ returns-in-Some-tried-clause-found g c front disk S shows are =
 pub returns-in-Some-tried-clause-framed : goal.returns-in-Some-tried-clause-framed
 returns-in-Some-tried-clause-framed g c =
     let id = the_page c.args.store c.in-Some.page in
-    if_some_at (λ (slot : ℕ). IsSomeAnd (frame_of c.try_page.new.self id) (λ f. IsFreeSlot f.page.slots c.args.bytes slot)) c.in_ok-tried.tried c.in-Some-tried.slot c.in-Some-tried.is c.in_ok-tried.ensures.framed
+    if_some_at (λ (slot : ℕ). IsSomeAnd (frame_of c.try_page.new.self id) (λ f. IsCandidate f.page.slots slot c.args.bytes)) c.in_ok-tried.tried c.in-Some-tried.slot c.in-Some-tried.is c.in_ok-tried.ensures.framed
 
 pub returns-in-Some-tried-clause-there : goal.returns-in-Some-tried-clause-there
 returns-in-Some-tried-clause-there g c =
     let mid = c.loop-from.self in
     let id = the_page c.args.store c.in-Some.page in
-    let framed = if_some_at (λ (slot : ℕ). IsSomeAnd (frame_of c.try_page.new.self id) (λ f. IsFreeSlot f.page.slots c.args.bytes slot)) c.in_ok-tried.tried c.in-Some-tried.slot c.in-Some-tried.is c.in_ok-tried.ensures.framed in
+    let framed = if_some_at (λ (slot : ℕ). IsSomeAnd (frame_of c.try_page.new.self id) (λ f. IsCandidate f.page.slots slot c.args.bytes)) c.in_ok-tried.tried c.in-Some-tried.slot c.in-Some-tried.is c.in_ok-tried.ensures.framed in
     subst (λ (it : Geometry). HasSlot it (record { page = id; slot = c.in-Some-tried.slot })) c.loop-from.invariant.goes.geometry
     (slot_there (geometry_of mid) (record { page = id; slot = c.in-Some-tried.slot }) (frame_of c.try_page.new.self id) c.args.bytes c.in-Some.ensures.there framed)
 

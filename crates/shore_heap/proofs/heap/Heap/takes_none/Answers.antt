@@ -1,8 +1,8 @@
-use Rattle.std.proofs.Common.{◌≡◌, ℕ, Option, Some, None, is_some, not, false, refl, ap, ◌∙◌, arith}
+use Rattle.std.proofs.Common.{◌≡◌, ℕ, Option, Some, None, is_some, not, false, refl, ap, ◌∙◌}
 use Rattle.shore_pool.specs.Pools as pools
 use Rattle.shore_heap.specs.Contents.{TakesNone}
 use Rattle.shore_heap.proofs.Frames.{of_lent}
-use Rattle.shore_heap.proofs.Rooms.{no_candidate, none_at_all}
+use Rattle.shore_heap.proofs.Rooms.{no_candidate}
 use Rattle.shore_heap.proofs.heap.Heap.takes_none.Goals as goal
 
 none_there : (o : Option ℕ) → is_some o ≡ false → o ≡ None
@@ -14,4 +14,4 @@ returns-in-Some g c is =
     let slots = c.in-Some.page.now.slots in
     let none = none_there c.candidate.result (c.is_none.ensures ∙ ap not is) in
     of_lent (λ slots. TakesNone slots c.args.bytes) (pools.frame_of c.args.self.now.pool c.args.id.now) c.in-Some.page.now c.in-Some.ensures
-    (none_at_all slots c.args.bytes (no_candidate slots 0 c.args.bytes (omega arith) (c.candidate.ensures.none none)))
+    (no_candidate slots c.args.bytes (c.candidate.ensures.none none))

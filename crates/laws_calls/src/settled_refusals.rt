@@ -1,0 +1,48 @@
+//! Refusals of calls and resumes as a whole, with the victims that break cycles: each has its cause, in the state in which the call asked last.
+ghost use Rattle.std.specs.Prelude.{◌≡◌, ◌≢◌, ◌⊎◌, ℕ, List, [], None, Some};
+ghost use Rattle.shore_types.specs.declared.faults.Fault.{Fault};
+ghost use Rattle.shore_types.specs.declared.faults.Fault.TheVariants.{Deadlock};
+ghost use Rattle.shore_types.specs.declared.layout.Geometry.{Geometry};
+ghost use Rattle.shore_model.specs.declared.calls.Call.{Call};
+ghost use Rattle.shore_model.specs.declared.histories.Entry.{Entry};
+ghost use Rattle.shore_model.specs.declared.log_records.LogRecord.{LogRecord};
+ghost use Rattle.shore_model.specs.declared.step.Step.TheVariants.{Refused};
+ghost use Rattle.laws_lives.specs.Views.{IsAmong};
+ghost use Rattle.laws_calls.specs.Causes.{EarnsRefusal};
+ghost use Rattle.laws_calls.specs.Events.{IsStateAfter};
+ghost use Rattle.laws_calls.specs.Midway.{AsksAgainIn, AsksIn, Interlude, Intervene, IsItsCycle, IsMidway, but_doomed, victims_among};
+ghost use Rattle.laws_calls.specs.Settling.{SettledCall, SettledResume};
+ghost use Rattle.laws_calls.specs.Shapes.{LockWaitsMayAsk, rollback_of};
+ghost use Rattle.laws_calls.specs.States.{State, Waiting};
+
+/// A refused call has the cause of its fault (`EarnsRefusal` has a line for each) in the state in which it asked last: that in which it was made, or the one
+/// that its victims left as it went on. So has a refused resume, for the call that waited. That its transaction is a victim is told below.
+pub fn settled_refusals_are_earned()
+    ensures call { (g : Geometry) (found : List LogRecord) (es : List Entry) (s new : State) (session : ℕ) (c : Call) (f : Fault) → IsStateAfter found es s →
+        ((cycle : List ℕ) → f ≢ Deadlock cycle) → SettledCall g s session c (Refused f) new →
+        (last : State) × AsksIn g s session c last × EarnsRefusal g last session c f }
+    ensures resume { (g : Geometry) (found : List LogRecord) (es : List Entry) (s new : State) (session : ℕ) (f : Fault) → IsStateAfter found es s → LockWaitsMayAsk g s →
+        ((cycle : List ℕ) → f ≢ Deadlock cycle) → SettledResume g s session (Refused f) new →
+        (w : Waiting) × IsAmong w s.waiting × (w.session ≡ session) × ((last : State) × AsksAgainIn g s session last × EarnsRefusal g last session w.call f) }
+{}
+
+/// A call that is refused as a victim's is told a cycle of waits that stood in the midst of that very call, which passed its transaction, the greatest of it. A
+/// resume is told one that stood in its midst, or that its session was to be told already.
+pub fn told_cycles_stood()
+    ensures call { (g : Geometry) (found : List LogRecord) (es : List Entry) (s new : State) (session : ℕ) (c : Call) (cycle : List ℕ) → IsStateAfter found es s →
+        SettledCall g s session c (Refused (Deadlock cycle)) new →
+        (between : List Interlude) × (x : State) × IsMidway g s session c between x × IsItsCycle x session cycle }
+    ensures resume { (g : Geometry) (found : List LogRecord) (es : List Entry) (s new : State) (session : ℕ) (cycle : List ℕ) → IsStateAfter found es s → LockWaitsMayAsk g s →
+        SettledResume g s session (Refused (Deadlock cycle)) new →
+        ((w : Waiting) × IsAmong w s.waiting × (w.session ≡ session) × (w.cycle ≡ Some cycle))
+        ⊎ ((between : List Interlude) × (x : State) × Intervene g session s between x × IsItsCycle x session cycle) }
+{}
+
+/// A refused call, but for a rollback, and a refused resume leave the records in place, the log, the slots of the pages, what is durable and each undo list as they
+/// were, but for those of the transactions that were taken as victims on the way: these are doomed. Locks may have been taken, and requests taken back.
+pub fn settled_refusals_leave_all_but_locks_and_victims()
+    ensures call { (g : Geometry) (s new : State) (session : ℕ) (c : Call) (f : Fault) → rollback_of c ≡ None → SettledCall g s session c (Refused f) new →
+        (between : List Interlude) × ((between ≡ []) ⊎ ((x : State) × IsMidway g s session c between x)) × (new ≡ but_doomed s (victims_among between) new) }
+    ensures resume { (g : Geometry) (s new : State) (session : ℕ) (f : Fault) → SettledResume g s session (Refused f) new →
+        (between : List Interlude) × ((x : State) × Intervene g session s between x) × (new ≡ but_doomed s (victims_among between) new) }
+{}
