@@ -40,9 +40,10 @@ impl Control {
         ensures undone { (s : State) (a : SessionTxn) → HasControl self.old s → IsOfSession s seat.session a → images_of result.items ≡ a.undo.images }
         ensures stands { (s : State) (a : SessionTxn) → HasControl self.old s → IsOfSession s seat.session a → number ≡ 1 + length s.log → HasControl self.new (committed s a) }
     {
+        let session = seat.session;
         let (txn, changes) = self.txns.note_commit(seat);
         self.waits.push(WaitingCall {
-            session: seat.session,
+            session,
             txn,
             call: Call::Commit,
             wait: Wait::Durable(number),

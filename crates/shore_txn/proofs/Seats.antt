@@ -1,8 +1,8 @@
 -- A seat leads to one transaction of the table, its session's, and does so as long as the sessions stay.
-use Rattle.std.proofs.Common.{◌≡◌, ◌<◌, ℕ, List, [], ◌∷◌, ◌++◌, Option, Some, length, map, reverse, refl, sym, ap, subst, ◌∙◌}
+use Rattle.std.proofs.Common.{◌≡◌, ◌<◌, ℕ, List, [], ◌∷◌, ◌++◌, Some, length, map, reverse, refl, sym, ap, subst, ◌∙◌, arith, vec_len}
 use Rattle.std.specs.List.{HoldsAt, slice_get}
 use Rattle.std.specs.Option.{option_map}
-use Rattle.std.proofs.lemmas.List.{length-map, reverse-append, reverse-cons}
+use Rattle.std.proofs.lemmas.List.{length-map, reverse-append}
 use Rattle.std.proofs.lemmas.Option.{same_Some, slice_get-map, slice_get_within}
 use Rattle.laws_lives.specs.Sessions.{SessionTxn}
 use Rattle.shore_txn.specs.ActiveTxns as active
@@ -14,7 +14,7 @@ use Rattle.shore_txn.specs.declared.seat.Seat.{Seat}
 use Rattle.shore_txn.specs.declared.transactions.Transactions.{Transactions}
 use Rattle.shore_txn.specs.declared.txn.Txn.{Txn}
 use Rattle.shore_txn.proofs.ActiveLemmas.{IsAt, holds_at, one_at, session_txn_there}
-use Rattle.shore_txn.proofs.OneOfMany.{map_join, map_parts}
+use Rattle.shore_txn.proofs.OneOfMany.{map_parts}
 
 abbrev session_of : ActiveTxn → ℕ
 session_of a = a.txn.session
@@ -27,7 +27,7 @@ sessions_parts newer older t =
 sessions_are : (items : List ActiveTxn) → reverse (sessions_of (undos_of items)) ≡ map session_of items
 sessions_are [] = refl
 sessions_are (a ∷ items) =
-    ap (λ ts. reverse (sessions_of (session_txns ts))) (reverse-cons a.txn (map (λ (x : ActiveTxn). x.txn) items))
+    ap (λ ts. reverse (sessions_of (session_txns ts))) (reverse-append (a.txn ∷ []) (map (λ (x : ActiveTxn). x.txn) items))
     ∙ ap reverse (sessions_parts (active.txns_of items) [] a.txn)
     ∙ reverse-append (sessions_of (undos_of items)) (a.txn.session ∷ [])
     ∙ ap (λ l. a.txn.session ∷ l) (sessions_are items)
@@ -36,12 +36,15 @@ module _ (table : Transactions) (seat : Seat) (seated : IsSeatIn seat table) whe
   there : slice_get (map session_of table.active.items) seat.index ≡ Some seat.session
   there = ap (λ l. slice_get l seat.index) (sym (sessions_are table.active.items)) ∙ seated
 
-  pub seat_inside : seat.index < length table.active.items
-  seat_inside = subst (λ n. seat.index < n) (length-map table.active.items session_of) (slice_get_within (map session_of table.active.items) seat.index seat.session there)
+  inside : seat.index < length table.active.items
+  inside = subst (λ n. seat.index < n) (length-map table.active.items session_of) (slice_get_within (map session_of table.active.items) seat.index seat.session there)
+
+  pub seat_inside : seat.index < vec_len table.active
+  seat_inside = omega (arith, inside)
 
   pub seat_one : (a : ActiveTxn) × IsAt table.active.items seat.index a × (a.txn.session ≡ seat.session)
   seat_one =
-      let one = one_at table.active.items seat.index seat_inside in (
+      let one = one_at table.active.items seat.index inside in (
         one.0,
         one.1,
         same_Some one.0.txn.session seat.session (sym (slice_get-map session_of table.active.items seat.index ∙ ap (option_map session_of) one.1.is) ∙ there),
