@@ -27,14 +27,14 @@ impl<T: Tail, V: Disk> Core<T, V> {
     pub(crate) fn update(
         &mut self,
         alloc: Global,
-        seat: Seat,
+        seat: &Seat,
         id: Rid,
         bytes: Bytes,
     ) -> Result<Step, Fault>
         requires there { HasSlot (geometry_of self.old) id }
         requires short { length bytes ≤ MAX_RECORD_BYTES }
-        requires seated { IsSeatIn seat (txns_of self.old) }
-        ensures served { has_failed self.old ≡ false → InEach (λ front disk before s store. ForWriter seat.session (locks_of self.old).requests id s (λ a. Served a (Call.Update id bytes) result self.old self.new front before s store)) self.old }
+        requires seated { IsSeatIn seat.now (txns_of self.old) }
+        ensures served { has_failed self.old ≡ false → InEach (λ front disk before s store. ForWriter seat.now.session (locks_of self.old).requests id s (λ a. Served a (Call.Update id bytes) result self.old self.new front before s store)) self.old }
         ensures serves { ServesCall (λ page. page ≡ id.page) self.old result self.old self.new }
     {
         let before = Some(self.find(alloc, id)?);
@@ -48,12 +48,12 @@ impl<T: Tail, V: Disk> Core<T, V> {
     pub(crate) fn delete(
         &mut self,
         alloc: Global,
-        seat: Seat,
+        seat: &Seat,
         id: Rid,
     ) -> Result<Step, Fault>
         requires there { HasSlot (geometry_of self.old) id }
-        requires seated { IsSeatIn seat (txns_of self.old) }
-        ensures served { has_failed self.old ≡ false → InEach (λ front disk before s store. ForWriter seat.session (locks_of self.old).requests id s (λ a. Served a (Call.Delete id) result self.old self.new front before s store)) self.old }
+        requires seated { IsSeatIn seat.now (txns_of self.old) }
+        ensures served { has_failed self.old ≡ false → InEach (λ front disk before s store. ForWriter seat.now.session (locks_of self.old).requests id s (λ a. Served a (Call.Delete id) result self.old self.new front before s store)) self.old }
         ensures serves { ServesCall (λ page. page ≡ id.page) self.old result self.old self.new }
     {
         let before = Some(self.find(alloc, id)?);
@@ -66,7 +66,7 @@ impl<T: Tail, V: Disk> Core<T, V> {
     pub(crate) fn change(
         &mut self,
         alloc: Global,
-        seat: Seat,
+        seat: &Seat,
         id: Rid,
         before: Option<Bytes>,
         after: Option<Bytes>,
@@ -75,8 +75,8 @@ impl<T: Tail, V: Disk> Core<T, V> {
         requires found { IsSomeAnd (frame_of (heap_of self.old) id.page) (λ f. (image_at_slot f.page.slots id.slot ≡ before) × Fits f.page.slots id.slot (image_len after)) }
         requires before { image_len before ≤ MAX_RECORD_BYTES }
         requires some { IsTrue (is_some before) ⊎ IsTrue (is_some after) }
-        requires seated { IsSeatIn seat (txns_of self.old) }
-        ensures changed { has_failed self.old ≡ false → InEach (λ front disk before s store. ForWriter seat.session (locks_of self.old).requests id s (λ a. Changes self.new a id after result front before s store)) self.old }
+        requires seated { IsSeatIn seat.now (txns_of self.old) }
+        ensures changed { has_failed self.old ≡ false → InEach (λ front disk before s store. ForWriter seat.now.session (locks_of self.old).requests id s (λ a. Changes self.new a id after result front before s store)) self.old }
         ensures no_call { MakesNoCall self.old self.new }
         ensures refused { IfErr result (λ f. (f ≡ Fault.Memory) ⊎ (f ≡ Fault.LogFull)) }
     {

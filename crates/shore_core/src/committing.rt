@@ -19,10 +19,10 @@ impl<T: Tail, V: Disk> Core<T, V> {
 
     // The record of the commit was reserved for at the begin, so it is never refused for room. The transaction's claims go with it, its locks with its
     // answer.
-    pub(crate) fn commit(&mut self, seat: Seat) -> Result<Step, Fault>
-        requires free { HasNoWait seat.session (control_of self.old) }
-        requires seated { IsSeatIn seat (txns_of self.old) }
-        ensures replied { has_failed self.old ≡ false → InEach (λ front disk before s store. DoesNotWait s seat.session → Replied seat.session Call.Commit result self.old self.new front before s store) self.old }
+    pub(crate) fn commit(&mut self, seat: &Seat) -> Result<Step, Fault>
+        requires free { HasNoWait seat.now.session (control_of self.old) }
+        requires seated { IsSeatIn seat.now (txns_of self.old) }
+        ensures replied { has_failed self.old ≡ false → InEach (λ front disk before s store. DoesNotWait s seat.now.session → Replied seat.now.session Call.Commit result self.old self.new front before s store) self.old }
         ensures serves { ServesCall (Reads Call.Commit) self.old result self.old self.new }
         ensures faults { faults_of self.new ≡ faults_of self.old }
     {

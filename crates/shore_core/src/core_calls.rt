@@ -1,5 +1,5 @@
 //! The calls of the sessions, and what the log device tells.
-ghost use Rattle.std.specs.Prelude.{◌≡◌, ◌≢◌, ◌⊎◌, ◌↔◌, ◌+◌, ◌≤◌, ◌<◌, ℕ, List, IsTrue, Ok, Err, false, length};
+ghost use Rattle.std.specs.Prelude.{◌≡◌, ◌⊎◌, ◌↔◌, ◌+◌, ◌≤◌, ◌<◌, ℕ, List, IsTrue, Ok, Err, false, length};
 ghost use Rattle.shore_types.specs.declared.faults.Fault.TheVariants as Fault;
 ghost use Rattle.shore_types.specs.declared.layout.TheConstants.{GREATEST_CHECKPOINT, LAST_LSN, LAST_OPENED, LONGEST_FRAME};
 ghost use Rattle.shore_model.specs.declared.calls.Call.TheVariants as Call;
@@ -10,7 +10,7 @@ ghost use Rattle.laws_calls.specs.StateChanges.{after_refusal, with_durable, wit
 ghost use Rattle.shore_model.specs.Calls.{IsServed};
 ghost use Rattle.laws_calls.specs.States.{DoesNotWait, State};
 ghost use Rattle.shore_sessions.specs.Controls.{HasNoWait, txns_in};
-ghost use Rattle.shore_txn.specs.Transactions.{IsSeatIn, room_in};
+ghost use Rattle.shore_txn.specs.Transactions.{HasNoTxnOf, room_in};
 ghost use Rattle.shore_txn.specs.Transactions as table;
 ghost use Rattle.shore_txn.specs.Txns.{last_of};
 ghost use Rattle.shore_txn.specs.declared.txn.Txn.{Txn};
@@ -21,7 +21,6 @@ use shore_heap::Heap;
 use shore_log::Tail;
 use shore_model::{Answer, Call, Step, Wait};
 use shore_sessions::Control;
-use shore_txn::Seat;
 use shore_types::layout::{ENDING_COST, LAST_LSN, LAST_TXN, MAX_TRANSACTIONS};
 use shore_types::{Fault, Geometry, Lsn, SessionId};
 use std::alloc::Global;
@@ -118,30 +117,20 @@ impl<T: Tail, V: Disk> Core<T, V> {
         ensures replied { has_failed self.old ≡ false → InEach (λ front disk before s store. DoesNotWait s session → Called session call result self.old self.new front before s store) self.old }
         ensures serves { ServesCall (Reads call) (forced_at call self.old self.new) result self.old self.new }
     {
+        // It is not looked for again: no call but its end takes a transaction out, so the seat stays right.
+        let Some(seat) = self.control.seat(session) else {
+            return match call {
+                Call::Begin => self.begin(alloc, session),
+                _ => Err(Fault::NoTransaction),
+            };
+        };
         match call {
-            Call::Begin => self.begin(alloc, session),
-            call => match self.control.seat(session) {
-                Some(seat) => self.for_txn(alloc, seat, call),
-                None => Err(Fault::NoTransaction),
-            },
-        }
-    }
-
-    // A call of a transaction under way. It is not looked for again: no call but its end takes a transaction out, so its seat stays right.
-    fn for_txn(&mut self, alloc: Global, seat: Seat, call: Call) -> Result<Step, Fault>
-        requires served { IsServed call }
-        requires begun { call ≢ Call.Begin }
-        requires free { HasNoWait seat.session (control_of self.old) }
-        requires seated { IsSeatIn seat (txns_of self.old) }
-        ensures replied { has_failed self.old ≡ false → InEach (λ front disk before s store. DoesNotWait s seat.session → Called seat.session call result self.old self.new front before s store) self.old }
-        ensures serves { ServesCall (Reads call) (forced_at call self.old self.new) result self.old self.new }
-    {
-        match call {
-            Call::Commit => self.commit(seat),
-            Call::Savepoint => self.savepoint(seat),
-            Call::BackTo(index) => self.back_to(alloc, seat, index),
-            Call::Abort => self.abort(alloc, seat),
-            call => self.with_txn(alloc, seat, call),
+            Call::Begin => Err(Fault::AlreadyActive),
+            Call::Commit => self.commit(&seat),
+            Call::Savepoint => self.savepoint(&seat),
+            Call::BackTo(index) => self.back_to(alloc, &seat, index),
+            Call::Abort => self.abort(alloc, &seat),
+            call => self.with_txn(alloc, &seat, call),
         }
     }
 
@@ -154,13 +143,11 @@ impl<T: Tail, V: Disk> Core<T, V> {
     }
 
     fn begin(&mut self, alloc: Global, session: SessionId) -> Result<Step, Fault>
+        requires { HasNoTxnOf session (txns_of self.old) }
         ensures replied { has_failed self.old ≡ false → InEach (λ front disk before s store. DoesNotWait s session → Replied session Call.Begin result self.old self.new front before s store) self.old }
         ensures serves { ServesCall (Reads Call.Begin) self.old result self.old self.new }
         ensures heap { heap_of self.new ≡ heap_of self.old }
     {
-        if self.control.has_txn(session) {
-            return Err(Fault::AlreadyActive);
-        }
         if self.control.count() >= MAX_TRANSACTIONS {
             return Err(Fault::TooManyTransactions);
         }

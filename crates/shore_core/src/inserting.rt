@@ -37,7 +37,7 @@ impl<T: Tail, V: Disk> Core<T, V> {
     pub(crate) fn insert(
         &mut self,
         alloc: Global,
-        seat: Seat,
+        seat: &Seat,
         txn: TxnId,
         store: StoreId,
         bytes: Bytes,
@@ -45,8 +45,8 @@ impl<T: Tail, V: Disk> Core<T, V> {
         requires there { HasStore (geometry_of self.old) store }
         requires short { length bytes ≤ MAX_RECORD_BYTES }
         requires quiet { is_waiting txn (locks_of self.old).requests ≡ false }
-        requires seated { IsSeatIn seat (txns_of self.old) }
-        ensures served { has_failed self.old ≡ false → InEach (λ front disk before s plain. ForTxn seat.session txn s (λ a. Served a (Call.Insert store bytes) result self.old self.new front before s plain)) self.old }
+        requires seated { IsSeatIn seat.now (txns_of self.old) }
+        ensures served { has_failed self.old ≡ false → InEach (λ front disk before s plain. ForTxn seat.now.session txn s (λ a. Served a (Call.Insert store bytes) result self.old self.new front before s plain)) self.old }
         ensures serves { ServesCall (λ page. page.store ≡ store) self.old result self.old self.new }
     {
         // Mostly the volume and the store are held with the intention to write, and are not looked at again.

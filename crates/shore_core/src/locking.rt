@@ -25,12 +25,12 @@ impl<T: Tail, V: Disk> Core<T, V> {
     pub(crate) fn with_txn(
         &mut self,
         alloc: Global,
-        seat: Seat,
+        seat: &Seat,
         call: Call,
     ) -> Result<Step, Fault>
-        requires free { HasNoWait seat.session (control_of self.old) }
-        requires seated { IsSeatIn seat (txns_of self.old) }
-        ensures replied { IsSome (held.lock_asked_by call) → has_failed self.old ≡ false → InEach (λ front disk before s store. DoesNotWait s seat.session → Called seat.session call result self.old self.new front before s store) self.old }
+        requires free { HasNoWait seat.now.session (control_of self.old) }
+        requires seated { IsSeatIn seat.now (txns_of self.old) }
+        ensures replied { IsSome (held.lock_asked_by call) → has_failed self.old ≡ false → InEach (λ front disk before s store. DoesNotWait s seat.now.session → Called seat.now.session call result self.old self.new front before s store) self.old }
         ensures serves { ServesCall (Reads call) self.old result self.old self.new }
     {
         let own = self.active(seat)?;
@@ -46,15 +46,15 @@ impl<T: Tail, V: Disk> Core<T, V> {
     pub(crate) fn take_locks(
         &mut self,
         alloc: Global,
-        seat: Seat,
+        seat: &Seat,
         txn: TxnId,
         call: Call,
     ) -> Result<Step, Fault>
-        requires seated { IsSeatIn seat (txns_of self.old) }
-        requires free { HasNoWait seat.session (control_of self.old) }
+        requires seated { IsSeatIn seat.now (txns_of self.old) }
+        requires free { HasNoWait seat.now.session (control_of self.old) }
         requires quiet { is_waiting txn (locks_of self.old).requests ≡ false }
         ensures asked { IsSome (held.lock_asked_by call) → has_failed self.old ≡ false → InEach (λ front disk before s store.
-            ForTxn seat.session txn s (λ a. a.undo.rolling ≡ None → AskedFor a call result self.old self.new front before s store)) self.old }
+            ForTxn seat.now.session txn s (λ a. a.undo.rolling ≡ None → AskedFor a call result self.old self.new front before s store)) self.old }
         ensures serves { ServesCall (Reads call) self.old result self.old self.new }
     {
         check(self.heap.geometry(), &call)?;
@@ -84,15 +84,15 @@ impl<T: Tail, V: Disk> Core<T, V> {
     fn behind_locks(
         &mut self,
         alloc: Global,
-        seat: Seat,
+        seat: &Seat,
         txn: TxnId,
         call: Call,
     ) -> Result<Step, Fault>
         requires may { MayAsk (geometry_of self.old) call }
         requires reached { (lock : held.Asked) → held.lock_asked_by call ≡ Some lock → IsReached (locks_of self.old).requests txn lock.granule lock.mode }
-        requires seated { IsSeatIn seat (txns_of self.old) }
+        requires seated { IsSeatIn seat.now (txns_of self.old) }
         requires quiet { is_waiting txn (locks_of self.old).requests ≡ false }
-        ensures served { has_failed self.old ≡ false → InEach (λ front disk before s store. ForTxn seat.session txn s (λ a. Served a call result self.old self.new front before s store)) self.old }
+        ensures served { has_failed self.old ≡ false → InEach (λ front disk before s store. ForTxn seat.now.session txn s (λ a. Served a call result self.old self.new front before s store)) self.old }
         ensures serves { ServesCall (Reads call) self.old result self.old self.new }
     {
         match call {

@@ -80,7 +80,7 @@ impl<T: Tail, V: Disk> Core<T, V> {
         if let Some(cycle) = cycle {
             return Step::Refused(Fault::Deadlock { cycle });
         }
-        match self.take_locks(alloc, seat, txn, call) {
+        match self.take_locks(alloc, &seat, txn, call) {
             Ok(step) => step,
             Err(fault) => self.refuse(fault),
         }

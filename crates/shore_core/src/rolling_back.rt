@@ -53,13 +53,13 @@ impl<T: Tail, V: Disk> Core<T, V> {
     ghost use Rattle.shore_core.specs.Undoing.{Ends, PutsBack, Rewinds, Unwinds, WritesBack};
 
     // The transaction at a seat, if it may do more than end a rollback.
-    pub(crate) fn active(&self, seat: Seat) -> Result<&Txn, Fault>
-        requires { IsSeatIn seat (txns_of self.now) }
-        ensures some { IfOk result (λ t. IsAmong t.now (table.txns_in (txns_of self.now)) × (t.now.session ≡ seat.session)) }
+    pub(crate) fn active(&self, seat: &Seat) -> Result<&Txn, Fault>
+        requires { IsSeatIn seat.now (txns_of self.now) }
+        ensures some { IfOk result (λ t. IsAmong t.now (table.txns_in (txns_of self.now)) × (t.now.session ≡ seat.now.session)) }
         ensures there { IfOk result (λ t. IsAmong (as_session_txn t.now) (undos_in (txns_of self.now))) }
-        ensures of_session { IfOk result (λ t. (s : State) → HasControl (control_of self.now) s → IsOfSession s seat.session (as_session_txn t.now)) }
+        ensures of_session { IfOk result (λ t. (s : State) → HasControl (control_of self.now) s → IsOfSession s seat.now.session (as_session_txn t.now)) }
         ensures whole { IfOk result (λ t. (as_session_txn t.now).undo.rolling ≡ None) }
-        ensures refused { IfErr result (IsNotOpen self.now seat.session) }
+        ensures refused { IfErr result (IsNotOpen self.now seat.now.session) }
     {
         let own = self.control.txn(seat);
         match own.state() {
@@ -68,9 +68,9 @@ impl<T: Tail, V: Disk> Core<T, V> {
         }
     }
 
-    pub(crate) fn savepoint(&mut self, seat: Seat) -> Result<Step, Fault>
-        requires { IsSeatIn seat (txns_of self.old) }
-        ensures replied { has_failed self.old ≡ false → InEach (λ front disk before s store. DoesNotWait s seat.session → Replied seat.session Call.Savepoint result self.old self.new front before s store) self.old }
+    pub(crate) fn savepoint(&mut self, seat: &Seat) -> Result<Step, Fault>
+        requires { IsSeatIn seat.now (txns_of self.old) }
+        ensures replied { has_failed self.old ≡ false → InEach (λ front disk before s store. DoesNotWait s seat.now.session → Replied seat.now.session Call.Savepoint result self.old self.new front before s store) self.old }
         ensures serves { ServesCall (Reads Call.Savepoint) self.old result self.old self.new }
         ensures heap { heap_of self.new ≡ heap_of self.old }
     {
@@ -85,12 +85,12 @@ impl<T: Tail, V: Disk> Core<T, V> {
     pub(crate) fn back_to(
         &mut self,
         alloc: Global,
-        seat: Seat,
+        seat: &Seat,
         index: usize,
     ) -> Result<Step, Fault>
-        requires free { HasNoWait seat.session (control_of self.old) }
-        requires seated { IsSeatIn seat (txns_of self.old) }
-        ensures replied { has_failed self.old ≡ false → InEach (λ front disk before s store. DoesNotWait s seat.session → Replied seat.session (Call.BackTo index) result self.old self.new front before s store) self.old }
+        requires free { HasNoWait seat.now.session (control_of self.old) }
+        requires seated { IsSeatIn seat.now (txns_of self.old) }
+        ensures replied { has_failed self.old ≡ false → InEach (λ front disk before s store. DoesNotWait s seat.now.session → Replied seat.now.session (Call.BackTo index) result self.old self.new front before s store) self.old }
         ensures serves { ServesCall (Reads (Call.BackTo index)) self.new result self.old self.new }
     {
         let own = self.control.txn(seat);
@@ -105,10 +105,10 @@ impl<T: Tail, V: Disk> Core<T, V> {
         Ok(Step::Done(Answer::WentBack))
     }
 
-    pub(crate) fn abort(&mut self, alloc: Global, seat: Seat) -> Result<Step, Fault>
-        requires free { HasNoWait seat.session (control_of self.old) }
-        requires seated { IsSeatIn seat (txns_of self.old) }
-        ensures replied { has_failed self.old ≡ false → InEach (λ front disk before s store. DoesNotWait s seat.session → Replied seat.session (Call.Abort) result self.old self.new front before s store) self.old }
+    pub(crate) fn abort(&mut self, alloc: Global, seat: &Seat) -> Result<Step, Fault>
+        requires free { HasNoWait seat.now.session (control_of self.old) }
+        requires seated { IsSeatIn seat.now (txns_of self.old) }
+        ensures replied { has_failed self.old ≡ false → InEach (λ front disk before s store. DoesNotWait s seat.now.session → Replied seat.now.session (Call.Abort) result self.old self.new front before s store) self.old }
         ensures serves { ServesCall (Reads Call.Abort) self.new result self.old self.new }
     {
         self.put_back(alloc, seat, Rollback::Whole, 0)?;
@@ -121,14 +121,14 @@ impl<T: Tail, V: Disk> Core<T, V> {
     fn put_back(
         &mut self,
         alloc: Global,
-        seat: Seat,
+        seat: &Seat,
         rollback: Rollback,
         least: usize,
     ) -> Result<(), Fault>
-        requires { IsSeatIn seat (txns_of self.old) }
-        ensures unwinds { has_failed self.old ≡ false → InEach (λ front disk before s store. (a : SessionTxn) → DoesNotWait s seat.session → IsOfSession s seat.session a → MayRoll a.undo rollback
+        requires { IsSeatIn seat.now (txns_of self.old) }
+        ensures unwinds { has_failed self.old ≡ false → InEach (λ front disk before s store. (a : SessionTxn) → DoesNotWait s seat.now.session → IsOfSession s seat.now.session a → MayRoll a.undo rollback
             → least ≡ least_kept a.undo rollback → least ≤ length a.undo.images → Unwinds self.new a rollback least result front before s store) self.old }
-        ensures seated { IsSeatIn seat (txns_of self.new) }
+        ensures seated { IsSeatIn seat.now (txns_of self.new) }
         ensures waits { waits_of self.new ≡ waits_of self.old }
         ensures serves { Serves (Reads Call.Abort) self.new result self.old self.new }
         ensures failed { has_failed self.new ≡ has_failed self.old }
@@ -145,15 +145,15 @@ impl<T: Tail, V: Disk> Core<T, V> {
     fn put_back_newest(
         &mut self,
         alloc: Global,
-        seat: Seat,
+        seat: &Seat,
         rollback: Rollback,
     ) -> Result<(), Fault>
-        requires { IsSeatIn seat (txns_of self.old) }
-        ensures put_back { has_failed self.old ≡ false → InEach (λ front disk before s store. (a : SessionTxn) (kept : List (Rid × Image)) (e : Rid × Image) → IsOfSession s seat.session a
+        requires { IsSeatIn seat.now (txns_of self.old) }
+        ensures put_back { has_failed self.old ≡ false → InEach (λ front disk before s store. (a : SessionTxn) (kept : List (Rid × Image)) (e : Rid × Image) → IsOfSession s seat.now.session a
             → a.undo.images ≡ kept ++ e ∷ [] → PutsBack self.new a kept e rollback result front before s store) self.old }
         ensures rewinds { OnOk result (Rewinds self.old self.new) }
         ensures longer { last_of self.old ≤ last_of self.new }
-        ensures seated { IsSeatIn seat (txns_of self.new) }
+        ensures seated { IsSeatIn seat.now (txns_of self.new) }
         ensures waits { waits_of self.new ≡ waits_of self.old }
         ensures serves { Serves (Reads Call.Abort) self.new result self.old self.new }
         ensures failed { has_failed self.new ≡ has_failed self.old }
@@ -186,16 +186,16 @@ impl<T: Tail, V: Disk> Core<T, V> {
 
     // Logs the Compensation of the newest change of the session's transaction, and makes it on its page, which is in a frame and has room. All memory was
     // taken before, and behind the record nothing can fail.
-    fn log_undo(&mut self, seat: Seat, rollback: Rollback, undo: Undo) -> Result<(), Fault>
-        requires seated { IsSeatIn seat (txns_of self.old) }
-        requires next { IsNext (txns_of self.old) seat.session undo.id undo.bytes undo.cost undo.logged }
+    fn log_undo(&mut self, seat: &Seat, rollback: Rollback, undo: Undo) -> Result<(), Fault>
+        requires seated { IsSeatIn seat.now (txns_of self.old) }
+        requires next { IsNext (txns_of self.old) seat.now.session undo.id undo.bytes undo.cost undo.logged }
         requires there { HasPage (geometry_of self.old) undo.id.page }
         requires fits { IsSomeAnd (frame_of (heap_of self.old) undo.id.page) (λ f. Fits f.page.slots undo.id.slot undo.bytes) }
-        ensures put_back { has_failed self.old ≡ false → InEach (λ front disk before s store. (a : SessionTxn) (kept : List (Rid × Image)) (e : Rid × Image) → IsOfSession s seat.session a
+        ensures put_back { has_failed self.old ≡ false → InEach (λ front disk before s store. (a : SessionTxn) (kept : List (Rid × Image)) (e : Rid × Image) → IsOfSession s seat.now.session a
             → a.undo.images ≡ kept ++ e ∷ [] → PutsBack self.new a kept e rollback result front before s store) self.old }
         ensures rewinds { OnOk result (Rewinds self.old self.new) }
         ensures longer { last_of self.old ≤ last_of self.new }
-        ensures seated { IsSeatIn seat (txns_of self.new) }
+        ensures seated { IsSeatIn seat.now (txns_of self.new) }
         ensures waits { waits_of self.new ≡ waits_of self.old }
         ensures no_call { MakesNoCall self.old self.new }
         ensures refused { IfErr result (λ f. f ≡ Fault.Memory) }
@@ -212,10 +212,10 @@ impl<T: Tail, V: Disk> Core<T, V> {
     }
 
     // What puts the newest change of a session's transaction back.
-    fn undo_of(&self, alloc: Global, seat: Seat) -> Result<Option<Undo>, Fault>
-        requires { IsSeatIn seat (txns_of self.now) }
-        ensures some { IfOk result (λ o. IfSome o (λ u. IsNext (txns_of self.now) seat.session u.id u.bytes u.cost u.logged)) }
-        ensures none { IfOk result (λ o. IfNone o ((a : SessionTxn) → IsAmong a (undos_in (txns_of self.now)) → a.session ≡ seat.session → a.undo.images ≡ [])) }
+    fn undo_of(&self, alloc: Global, seat: &Seat) -> Result<Option<Undo>, Fault>
+        requires { IsSeatIn seat.now (txns_of self.now) }
+        ensures some { IfOk result (λ o. IfSome o (λ u. IsNext (txns_of self.now) seat.now.session u.id u.bytes u.cost u.logged)) }
+        ensures none { IfOk result (λ o. IfNone o ((a : SessionTxn) → IsAmong a (undos_in (txns_of self.now)) → a.session ≡ seat.now.session → a.undo.images ≡ [])) }
         ensures memory { IfErr result (λ f. f ≡ Fault.Memory) }
     {
         let own = self.control.txn(seat);
@@ -241,10 +241,10 @@ impl<T: Tail, V: Disk> Core<T, V> {
 
     // Logs the End of a session's transaction, if it has logged anything, and ends it. Its room was reserved at the begin, and goes with it. All its changes
     // are put back by then; one that has any left is not ended.
-    fn end(&mut self, seat: Seat) -> Result<(), Fault>
-        requires free { HasNoWait seat.session (control_of self.old) }
-        requires seated { IsSeatIn seat (txns_of self.old) }
-        ensures ended { has_failed self.old ≡ false → InEach (λ front disk before s store. (a : SessionTxn) → IsOfSession s seat.session a → a.undo.images ≡ []
+    fn end(&mut self, seat: &Seat) -> Result<(), Fault>
+        requires free { HasNoWait seat.now.session (control_of self.old) }
+        requires seated { IsSeatIn seat.now (txns_of self.old) }
+        ensures ended { has_failed self.old ≡ false → InEach (λ front disk before s store. (a : SessionTxn) → IsOfSession s seat.now.session a → a.undo.images ≡ []
             → Ends self.new a result front before s store) self.old }
         ensures refused { IfErr result (λ f. (f ≡ Fault.MustAbort) ⊎ (f ≡ Fault.Memory)) }
         ensures no_call { MakesNoCall self.old self.new }

@@ -11,7 +11,7 @@ use Rattle.laws_calls.specs.CallSteps.{with_requests}
 use Rattle.laws_calls.specs.States.{State, Waiting}
 use Rattle.shore_cycles.specs.declared.victims.Victim.{Victim}
 use Rattle.shore_txn.specs.ActiveTxns.{OneBecomes, sessions_of}
-use Rattle.shore_txn.specs.Transactions.{HasTxnOf, IsSeatIn, kept_in, next_in, room_in, undos_in}
+use Rattle.shore_txn.specs.Transactions.{IsSeatIn, kept_in, next_in, room_in, undos_in}
 use Rattle.shore_txn.specs.Transactions as table
 use Rattle.shore_txn.specs.Txns.{IsDoomed, last_of}
 use Rattle.shore_txn.specs.declared.seat.Seat.{Seat}
@@ -63,8 +63,8 @@ doomed_logged t u after = record { txn = after.txn; last = after.last; entries =
 
 module _ (old new : Transactions) (session : ℕ) (one : OneBecomes session IsDoomed (table.txns_in old) (table.txns_in new))
     (undos : (a : SessionTxn) → IsAmong a (undos_in old) → a.session ≡ session → undos_in new ≡ with_undo a.txn (undo_rolled a.undo a.undo.images Whole) (undos_in old)) where
-  pub names_doomed : HasTxnOf session old → names_of (undos_in new) ≡ names_of (undos_in old)
-  names_doomed has = ap names_of (undos has.0 has.1 has.2) ∙ names-with_undo has.0.txn (undo_rolled has.0.undo has.0.undo.images Whole) (undos_in old)
+  pub names_doomed : (a : SessionTxn) → IsAmong a (undos_in old) → a.session ≡ session → names_of (undos_in new) ≡ names_of (undos_in old)
+  names_doomed a m own = ap names_of (undos a m own) ∙ names-with_undo a.txn (undo_rolled a.undo a.undo.images Whole) (undos_in old)
 
   pub lasts_doomed : map last_of (table.txns_in new) ≡ map last_of (table.txns_in old)
   lasts_doomed = ap (map last_of) one.is ∙ map_with last_of one.newer one.older one.after one.before one.becomes.last ∙ ap (map last_of) (sym one.was)

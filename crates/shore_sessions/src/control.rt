@@ -1,5 +1,5 @@
 //! Active transactions.
-ghost use Rattle.std.specs.Prelude.{◌≡◌, ◌≢◌, ◌+◌, ◌≤◌, ◌↔◌, [], ℕ, IfNone, IfOk, IfSome, IsFalse, IsTrue, false, length, true};
+ghost use Rattle.std.specs.Prelude.{◌≡◌, ◌≢◌, ◌+◌, ◌≤◌, ◌↔◌, [], ℕ, IfNone, IfOk, IfSome, IsTrue, false, length, true};
 ghost use Rattle.std.specs.List.Sorted.{IsPermutation, IsSorted};
 ghost use Rattle.shore_types.specs.declared.layout.TheConstants.{GREATEST_CHECKPOINT, LONGEST_FRAME};
 ghost use Rattle.laws_lives.specs.Sessions.{SessionTxn};
@@ -7,8 +7,8 @@ ghost use Rattle.laws_lives.specs.Views.{IsAmong};
 ghost use Rattle.shore_locks.specs.Listing.{request_cmp};
 ghost use Rattle.shore_locks.specs.Tables.{is_waiting};
 ghost use Rattle.laws_calls.specs.CallSteps.{txn_count};
-ghost use Rattle.laws_calls.specs.States.{DoesNotWait, HasNoTxn, IsInTxn, IsOfSession, State};
-ghost use Rattle.shore_txn.specs.Transactions.{HasNoTxnOf, HasTxnOf, IsSeatIn, next_in, room_in, undos_in};
+ghost use Rattle.laws_calls.specs.States.{DoesNotWait, IsOfSession, State};
+ghost use Rattle.shore_txn.specs.Transactions.{HasNoTxnOf, IsSeatIn, next_in, room_in, undos_in};
 ghost use Rattle.shore_txn.specs.Transactions as table;
 ghost use Rattle.shore_txn.specs.Txns.{as_session_txn};
 ghost use Rattle.shore_sessions.specs.Calls.{as_waiting, commits_of, is_commit};
@@ -68,24 +68,14 @@ impl Control {
     }
 
     /// The transaction at a seat.
-    pub fn txn(&self, seat: Seat) -> &Txn
-        requires { IsSeatIn seat (txns_in self.now) }
+    pub fn txn(&self, seat: &Seat) -> &Txn
+        requires { IsSeatIn seat.now (txns_in self.now) }
         ensures among { IsAmong result.now (table.txns_in (txns_in self.now)) }
         ensures there { IsAmong (as_session_txn result.now) (undos_in (txns_in self.now)) }
-        ensures session { result.now.session ≡ seat.session }
-        ensures of_session { (s : State) → HasControl self.now s → IsOfSession s seat.session (as_session_txn result.now) }
+        ensures session { result.now.session ≡ seat.now.session }
+        ensures of_session { (s : State) → HasControl self.now s → IsOfSession s seat.now.session (as_session_txn result.now) }
     {
         self.txns.txn(seat)
-    }
-
-    /// Whether a session is in a transaction under way. If not, and no call of it waits, it is in none.
-    pub fn has_txn(&self, session: SessionId) -> bool
-        ensures some { IsTrue result → HasTxnOf session (txns_in self.now) }
-        ensures none { IsFalse result → HasNoTxnOf session (txns_in self.now) }
-        ensures in_txn { IsTrue result → (s : State) → HasControl self.now s → IsInTxn s session }
-        ensures in_none { IsFalse result → (s : State) → HasControl self.now s → s.failed ≡ false → DoesNotWait s session → HasNoTxn s session }
-    {
-        self.txns.seat(session).is_some()
     }
 
     /// How many transactions there are, with those whose commits wait.

@@ -41,28 +41,28 @@ impl Control {
     pub fn lock(
         &mut self,
         alloc: Global,
-        seat: Seat,
+        seat: &Seat,
         txn: TxnId,
         granule: Granule,
         mode: Mode,
         on_conflict: OnConflict,
     ) -> Result<Acquired, Fault>
         requires quiet { is_waiting txn (locks_in self.old).requests ≡ false }
-        requires free { HasNoWait seat.session self.old }
-        requires seated { IsSeatIn seat (txns_in self.old) }
+        requires free { HasNoWait seat.now.session self.old }
+        requires seated { IsSeatIn seat.now (txns_in self.old) }
         ensures locks { (s : State) (found : List LogRecord) (es : List Entry) (a : SessionTxn) (c : Call) → HasControl self.old s → IsStateAfter found es s
-            → s.failed ≡ false → IsOfSession s seat.session a → a.txn ≡ txn → on_conflict_of c ≡ on_conflict
+            → s.failed ≡ false → IsOfSession s seat.now.session a → a.txn ≡ txn → on_conflict_of c ≡ on_conflict
             → (new : State) × LocksTo s a c (record { granule = granule; mode = mode }) result new × HasControl self.new new }
         ensures reached { result ≡ Ok Acquired.Done → IsReached (locks_in self.new).requests txn granule mode }
         ensures quiet { ((at : Granule) → result ≢ Ok (Acquired.Waiting at)) → is_waiting txn (locks_in self.new).requests ≡ false }
         ensures plain { IfErr result IsOfNoDevice }
-        ensures seated { IsSeatIn seat (txns_in self.new) }
+        ensures seated { IsSeatIn seat.now (txns_in self.new) }
         ensures names { names_of (undos_in (txns_in self.new)) ≡ names_of (undos_in (txns_in self.old)) }
         ensures lasts { map last_of (table.txns_in (txns_in self.new)) ≡ map last_of (table.txns_in (txns_in self.old)) }
         ensures next { next_in (txns_in self.new) ≡ next_in (txns_in self.old) }
         ensures room { room_in (txns_in self.new) ≡ room_in (txns_in self.old) }
         ensures claims { (p : PageId) → kept_in (txns_in self.new) p ≡ kept_in (txns_in self.old) p }
-        ensures free { HasNoWait seat.session self.new }
+        ensures free { HasNoWait seat.now.session self.new }
         ensures memory { HasWaitRoom self.old → HasWaitRoom self.new }
     {
         match on_conflict {
@@ -75,27 +75,27 @@ impl Control {
     fn lock_or_wait(
         &mut self,
         alloc: Global,
-        seat: Seat,
+        seat: &Seat,
         txn: TxnId,
         granule: Granule,
         mode: Mode,
     ) -> Result<Acquired, Fault>
         requires quiet { is_waiting txn (locks_in self.old).requests ≡ false }
-        requires free { HasNoWait seat.session self.old }
-        requires seated { IsSeatIn seat (txns_in self.old) }
+        requires free { HasNoWait seat.now.session self.old }
+        requires seated { IsSeatIn seat.now (txns_in self.old) }
         ensures locks { (s : State) (found : List LogRecord) (es : List Entry) (a : SessionTxn) (c : Call) → HasControl self.old s → IsStateAfter found es s
-            → s.failed ≡ false → IsOfSession s seat.session a → a.txn ≡ txn → on_conflict_of c ≡ conflict.Wait
+            → s.failed ≡ false → IsOfSession s seat.now.session a → a.txn ≡ txn → on_conflict_of c ≡ conflict.Wait
             → (new : State) × LocksTo s a c (record { granule = granule; mode = mode }) result new × HasControl self.new new }
         ensures reached { result ≡ Ok Acquired.Done → IsReached (locks_in self.new).requests txn granule mode }
         ensures quiet { ((at : Granule) → result ≢ Ok (Acquired.Waiting at)) → is_waiting txn (locks_in self.new).requests ≡ false }
         ensures refused { IfErr result RefusesToLock }
-        ensures seated { IsSeatIn seat (txns_in self.new) }
+        ensures seated { IsSeatIn seat.now (txns_in self.new) }
         ensures names { names_of (undos_in (txns_in self.new)) ≡ names_of (undos_in (txns_in self.old)) }
         ensures lasts { map last_of (table.txns_in (txns_in self.new)) ≡ map last_of (table.txns_in (txns_in self.old)) }
         ensures next { next_in (txns_in self.new) ≡ next_in (txns_in self.old) }
         ensures room { room_in (txns_in self.new) ≡ room_in (txns_in self.old) }
         ensures claims { (p : PageId) → kept_in (txns_in self.new) p ≡ kept_in (txns_in self.old) p }
-        ensures free { HasNoWait seat.session self.new }
+        ensures free { HasNoWait seat.now.session self.new }
         ensures memory { HasWaitRoom self.old → HasWaitRoom self.new }
     {
         // This does nothing: it brings the fact that the requests are orderly.
@@ -167,7 +167,7 @@ impl Control {
             → HasTxns (txns_in self.new) (victim_noted s b cycle) }
     {
         if let Some(seat) = self.txns.seat(session) {
-            self.txns.doom(seat);
+            self.txns.doom(&seat);
         }
     }
 }

@@ -28,22 +28,21 @@ impl Control {
 
     /// The Commit of a session's transaction was logged under this number: its call waits for the force, and its locks stay. Answers its changes,
     /// the oldest first, whose claims go now.
-    pub fn commit(&mut self, seat: Seat, number: Lsn) -> Vec<UndoEntry>
-        requires seated { IsSeatIn seat (txns_in self.old) }
+    pub fn commit(&mut self, seat: &Seat, number: Lsn) -> Vec<UndoEntry>
+        requires seated { IsSeatIn seat.now (txns_in self.old) }
         requires memory { HasWaitRoom self.old }
-        requires free { HasNoWait seat.session self.old }
-        ensures left { OneLeaves seat.session result.items (table.txns_in (txns_in self.old)) (table.txns_in (txns_in self.new)) }
+        requires free { HasNoWait seat.now.session self.old }
+        ensures left { OneLeaves seat.now.session result.items (table.txns_in (txns_in self.old)) (table.txns_in (txns_in self.new)) }
         ensures claims { (p : PageId) → HasMore (claims_on p result.items) (kept_in (txns_in self.new) p) (kept_in (txns_in self.old) p) }
-        ensures waits { (a : SessionTxn) → IsAmong a (table.undos_in (txns_in self.old)) → a.session ≡ seat.session
-            → waits_in self.new ≡ waits_in self.old ++ record { session = seat.session; txn = a.txn; call = Call.Commit; wait = Wait.Durable number; cycle = None } ∷ [] }
+        ensures waits { (a : SessionTxn) → IsAmong a (table.undos_in (txns_in self.old)) → a.session ≡ seat.now.session
+            → waits_in self.new ≡ waits_in self.old ++ record { session = seat.now.session; txn = a.txn; call = Call.Commit; wait = Wait.Durable number; cycle = None } ∷ [] }
         ensures locks { locks_in self.new ≡ locks_in self.old }
-        ensures undone { (s : State) (a : SessionTxn) → HasControl self.old s → IsOfSession s seat.session a → images_of result.items ≡ a.undo.images }
-        ensures stands { (s : State) (a : SessionTxn) → HasControl self.old s → IsOfSession s seat.session a → number ≡ 1 + length s.log → HasControl self.new (committed s a) }
+        ensures undone { (s : State) (a : SessionTxn) → HasControl self.old s → IsOfSession s seat.now.session a → images_of result.items ≡ a.undo.images }
+        ensures stands { (s : State) (a : SessionTxn) → HasControl self.old s → IsOfSession s seat.now.session a → number ≡ 1 + length s.log → HasControl self.new (committed s a) }
     {
-        let session = seat.session;
         let (txn, changes) = self.txns.note_commit(seat);
         self.waits.push(WaitingCall {
-            session,
+            session: seat.session,
             txn,
             call: Call::Commit,
             wait: Wait::Durable(number),

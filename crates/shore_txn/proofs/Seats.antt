@@ -5,9 +5,10 @@ use Rattle.std.specs.Option.{option_map}
 use Rattle.std.proofs.lemmas.List.{length-map, reverse-append}
 use Rattle.std.proofs.lemmas.Option.{same_Some, slice_get-map, slice_get_within}
 use Rattle.laws_lives.specs.Sessions.{SessionTxn}
+use Rattle.laws_lives.specs.Views.{IsAmong}
 use Rattle.shore_txn.specs.ActiveTxns as active
 use Rattle.shore_txn.specs.ActiveTxns.{OneBecomes, session_txns, sessions_of, undos_of}
-use Rattle.shore_txn.specs.Transactions.{HasTxnOf, IsSeatIn, sessions_in, txns_in, undos_in}
+use Rattle.shore_txn.specs.Transactions.{IsSeatIn, sessions_in, txns_in, undos_in}
 use Rattle.shore_txn.specs.Txns.{as_session_txn}
 use Rattle.shore_txn.specs.declared.active.ActiveTxn.{ActiveTxn}
 use Rattle.shore_txn.specs.declared.seat.Seat.{Seat}
@@ -51,7 +52,7 @@ module _ (table : Transactions) (seat : Seat) (seated : IsSeatIn seat table) whe
       )
 
   -- so its session has a transaction
-  pub seat_has : HasTxnOf seat.session table
+  pub seat_has : (a : SessionTxn) × IsAmong a (undos_in table) × (a.session ≡ seat.session)
   seat_has = let one = seat_one in (as_session_txn one.0.txn, session_txn_there one.1, one.2)
 
 -- an index at which there is a transaction of a session is that of a seat

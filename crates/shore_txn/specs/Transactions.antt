@@ -27,11 +27,7 @@ next_in table = table.next
 abbrev pub room_in : Transactions → LogRoom
 room_in table = table.room
 
--- a transaction of the session is under way
-abbrev pub HasTxnOf : ℕ → Transactions → Type 0
-HasTxnOf session table = (a : SessionTxn) × IsAmong a (undos_in table) × (a.session ≡ session)
-
--- none is
+-- no transaction of the session is under way
 abbrev pub HasNoTxnOf : ℕ → Transactions → Type 0
 HasNoTxnOf session table = (a : SessionTxn) → IsAmong a (undos_in table) → a.session ≢ session
 

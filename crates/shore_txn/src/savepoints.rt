@@ -25,14 +25,14 @@ impl Transactions {
     ghost use Rattle.shore_txn.specs.Transactions.{IsSeatIn, kept_in, next_in, room_in, txns_in, undos_in};
 
     /// A savepoint more of a session's transaction. Answers its index. If memory is short nothing has changed.
-    pub fn savepoint(&mut self, seat: Seat) -> Result<usize, AllocError>
-        requires seated { IsSeatIn seat self.old }
-        requires few { (a : SessionTxn) → IsAmong a (undos_in self.old) → a.session ≡ seat.session → length a.undo.marks < MAX_SAVEPOINTS }
-        ensures set { OnOk result (OneBecomes seat.session IsAfterSavepoint (txns_in self.old) (txns_in self.new)) }
-        ensures index { IfOk result (λ index. (a : SessionTxn) → IsAmong a (undos_in self.old) → a.session ≡ seat.session → index ≡ length a.undo.marks) }
-        ensures undos { OnOk result ((a : SessionTxn) → IsAmong a (undos_in self.old) → a.session ≡ seat.session
+    pub fn savepoint(&mut self, seat: &Seat) -> Result<usize, AllocError>
+        requires seated { IsSeatIn seat.now self.old }
+        requires few { (a : SessionTxn) → IsAmong a (undos_in self.old) → a.session ≡ seat.now.session → length a.undo.marks < MAX_SAVEPOINTS }
+        ensures set { OnOk result (OneBecomes seat.now.session IsAfterSavepoint (txns_in self.old) (txns_in self.new)) }
+        ensures index { IfOk result (λ index. (a : SessionTxn) → IsAmong a (undos_in self.old) → a.session ≡ seat.now.session → index ≡ length a.undo.marks) }
+        ensures undos { OnOk result ((a : SessionTxn) → IsAmong a (undos_in self.old) → a.session ≡ seat.now.session
             → undos_in self.new ≡ with_undo a.txn (with_mark a.undo) (undos_in self.old)) }
-        ensures same { OnErr result (OneBecomes seat.session SameTxn (txns_in self.old) (txns_in self.new)) }
+        ensures same { OnErr result (OneBecomes seat.now.session SameTxn (txns_in self.old) (txns_in self.new)) }
         ensures unchanged { OnErr result (undos_in self.new ≡ undos_in self.old) }
         ensures claims { (p : PageId) → kept_in self.new p ≡ kept_in self.old p }
         ensures next { next_in self.new ≡ next_in self.old }
@@ -45,17 +45,17 @@ impl Transactions {
     /// number: what was reserved for it pays for it. Hands the change over, whose claim goes now. It takes no memory.
     pub fn note_compensation(
         &mut self,
-        seat: Seat,
+        seat: &Seat,
         lsn: Lsn,
         rollback: Rollback,
         cost: u64,
     ) -> UndoEntry
-        requires seated { IsSeatIn seat self.old }
-        requires some { (a : SessionTxn) → IsAmong a (undos_in self.old) → a.session ≡ seat.session → a.undo.images ≢ [] }
-        requires cost { (a : SessionTxn) (kept : List (Rid × Image)) (e : Rid × Image) → IsAmong a (undos_in self.old) → a.session ≡ seat.session
+        requires seated { IsSeatIn seat.now self.old }
+        requires some { (a : SessionTxn) → IsAmong a (undos_in self.old) → a.session ≡ seat.now.session → a.undo.images ≢ [] }
+        requires cost { (a : SessionTxn) (kept : List (Rid × Image)) (e : Rid × Image) → IsAmong a (undos_in self.old) → a.session ≡ seat.now.session
             → a.undo.images ≡ kept ++ e ∷ [] → cost ≡ compensation_cost e.1 }
-        ensures undone { OneBecomes seat.session (IsAfterUndo lsn rollback result) (txns_in self.old) (txns_in self.new) }
-        ensures undos { (a : SessionTxn) → IsAmong a (undos_in self.old) → a.session ≡ seat.session
+        ensures undone { OneBecomes seat.now.session (IsAfterUndo lsn rollback result) (txns_in self.old) (txns_in self.new) }
+        ensures undos { (a : SessionTxn) → IsAmong a (undos_in self.old) → a.session ≡ seat.now.session
             → (kept : List (Rid × Image)) × (a.undo.images ≡ kept ++ image_of result ∷ [])
             × (undos_in self.new ≡ with_undo a.txn (undo_rolled a.undo kept rollback) (undos_in self.old)) }
         ensures claimed { HasMore ((result.id.slot, image_len result.before) ∷ []) (kept_in self.new result.id.page) (kept_in self.old result.id.page) }
@@ -72,10 +72,10 @@ impl Transactions {
     }
 
     /// A session's transaction is back at the savepoint of this index: those behind it are gone. It takes no memory.
-    pub fn go_back(&mut self, seat: Seat, index: usize)
-        requires seated { IsSeatIn seat self.old }
-        ensures back { OneBecomes seat.session (IsBackAt index) (txns_in self.old) (txns_in self.new) }
-        ensures undos { (a : SessionTxn) → IsAmong a (undos_in self.old) → a.session ≡ seat.session
+    pub fn go_back(&mut self, seat: &Seat, index: usize)
+        requires seated { IsSeatIn seat.now self.old }
+        ensures back { OneBecomes seat.now.session (IsBackAt index) (txns_in self.old) (txns_in self.new) }
+        ensures undos { (a : SessionTxn) → IsAmong a (undos_in self.old) → a.session ≡ seat.now.session
             → undos_in self.new ≡ with_undo a.txn (back_at index a.undo) (undos_in self.old) }
         ensures claims { (p : PageId) → kept_in self.new p ≡ kept_in self.old p }
         ensures next { next_in self.new ≡ next_in self.old }
@@ -86,10 +86,10 @@ impl Transactions {
 
     /// From now on a session's transaction can only be rolled back, whole: its savepoints are gone, and it asks for nothing else. Nothing of it is put
     /// back yet, and what is reserved for that stays. It takes no memory.
-    pub fn doom(&mut self, seat: Seat)
-        requires seated { IsSeatIn seat self.old }
-        ensures doomed { OneBecomes seat.session IsDoomed (txns_in self.old) (txns_in self.new) }
-        ensures undos { (a : SessionTxn) → IsAmong a (undos_in self.old) → a.session ≡ seat.session
+    pub fn doom(&mut self, seat: &Seat)
+        requires seated { IsSeatIn seat.now self.old }
+        ensures doomed { OneBecomes seat.now.session IsDoomed (txns_in self.old) (txns_in self.new) }
+        ensures undos { (a : SessionTxn) → IsAmong a (undos_in self.old) → a.session ≡ seat.now.session
             → undos_in self.new ≡ with_undo a.txn (undo_rolled a.undo a.undo.images Whole) (undos_in self.old) }
         ensures claims { (p : PageId) → kept_in self.new p ≡ kept_in self.old p }
         ensures next { next_in self.new ≡ next_in self.old }
@@ -100,12 +100,12 @@ impl Transactions {
 
     /// The abort of a session's transaction has ended, which has no change left: what was reserved for its ending is free, and pays for its End if
     /// one was logged. Answers its number.
-    pub fn note_end(&mut self, seat: Seat, logged: bool) -> TxnId
-        requires seated { IsSeatIn seat self.old }
-        requires empty { (a : SessionTxn) → IsAmong a (undos_in self.old) → a.session ≡ seat.session → a.undo.images ≡ [] }
-        ensures number { (a : SessionTxn) → IsAmong a (undos_in self.old) → a.session ≡ seat.session → result ≡ a.txn }
-        ensures left { OneLeaves seat.session [] (txns_in self.old) (txns_in self.new) }
-        ensures undos { (a : SessionTxn) → IsAmong a (undos_in self.old) → a.session ≡ seat.session → undos_in self.new ≡ without_txn a.txn (undos_in self.old) }
+    pub fn note_end(&mut self, seat: &Seat, logged: bool) -> TxnId
+        requires seated { IsSeatIn seat.now self.old }
+        requires empty { (a : SessionTxn) → IsAmong a (undos_in self.old) → a.session ≡ seat.now.session → a.undo.images ≡ [] }
+        ensures number { (a : SessionTxn) → IsAmong a (undos_in self.old) → a.session ≡ seat.now.session → result ≡ a.txn }
+        ensures left { OneLeaves seat.now.session [] (txns_in self.old) (txns_in self.new) }
+        ensures undos { (a : SessionTxn) → IsAmong a (undos_in self.old) → a.session ≡ seat.now.session → undos_in self.new ≡ without_txn a.txn (undos_in self.old) }
         ensures claims { (p : PageId) → kept_in self.new p ≡ kept_in self.old p }
         ensures next { next_in self.new ≡ next_in self.old }
         ensures reserved { (room_in self.new).reserved + ENDING_COST ≡ (room_in self.old).reserved }

@@ -71,11 +71,11 @@ impl Transactions {
     }
 
     /// The transaction at a seat.
-    pub fn txn(&self, seat: Seat) -> &Txn
-        requires { IsSeatIn seat self.now }
+    pub fn txn(&self, seat: &Seat) -> &Txn
+        requires { IsSeatIn seat.now self.now }
         ensures among { IsAmong result.now (txns_in self.now) }
         ensures there { IsAmong (as_session_txn result.now) (undos_in self.now) }
-        ensures session { result.now.session ≡ seat.session }
+        ensures session { result.now.session ≡ seat.now.session }
     {
         self.active[seat.index].txn()
     }
@@ -127,10 +127,10 @@ impl Transactions {
     }
 
     /// Takes the memory for a change more of a session's transaction. If that fails nothing has changed but the memory.
-    pub fn reserve_entry(&mut self, alloc: Global, seat: Seat) -> Result<(), AllocError>
-        requires seated { IsSeatIn seat self.old }
-        ensures memory { OnOk result (HasRoomToNote seat.session self.new) }
-        ensures same { OneBecomes seat.session SameTxn (txns_in self.old) (txns_in self.new) }
+    pub fn reserve_entry(&mut self, alloc: Global, seat: &Seat) -> Result<(), AllocError>
+        requires seated { IsSeatIn seat.now self.old }
+        ensures memory { OnOk result (HasRoomToNote seat.now.session self.new) }
+        ensures same { OneBecomes seat.now.session SameTxn (txns_in self.old) (txns_in self.new) }
         ensures undos { undos_in self.new ≡ undos_in self.old }
         ensures claims { (p : PageId) → kept_in self.new p ≡ kept_in self.old p }
         ensures next { next_in self.new ≡ next_in self.old }
@@ -140,14 +140,14 @@ impl Transactions {
     }
 
     /// A change of a session's transaction was logged. `logged` is what its record costs, and `undo` what that of its undo would.
-    pub fn note_change(&mut self, seat: Seat, entry: UndoEntry, logged: u64, undo: u64)
-        requires seated { IsSeatIn seat self.old }
-        requires memory { HasRoomToNote seat.session self.old }
+    pub fn note_change(&mut self, seat: &Seat, entry: UndoEntry, logged: u64, undo: u64)
+        requires seated { IsSeatIn seat.now self.old }
+        requires memory { HasRoomToNote seat.now.session self.old }
         requires short { image_len entry.before ≤ MAX_RECORD_BYTES }
         requires cost { undo ≡ compensation_cost entry.before }
         requires room { (room_in self.old).kept + (room_in self.old).reserved + logged + undo ≤ (room_in self.old).stream_bytes }
-        ensures noted { OneBecomes seat.session (λ old new. IsAfterChange old entry new) (txns_in self.old) (txns_in self.new) }
-        ensures undos { (a : SessionTxn) → IsAmong a (undos_in self.old) → a.session ≡ seat.session → undos_in self.new ≡ with_undo a.txn (with_entry a.undo entry) (undos_in self.old) }
+        ensures noted { OneBecomes seat.now.session (λ old new. IsAfterChange old entry new) (txns_in self.old) (txns_in self.new) }
+        ensures undos { (a : SessionTxn) → IsAmong a (undos_in self.old) → a.session ≡ seat.now.session → undos_in self.new ≡ with_undo a.txn (with_entry a.undo entry) (undos_in self.old) }
         ensures claimed { HasMore ((entry.id.slot, image_len entry.before) ∷ []) (kept_in self.old entry.id.page) (kept_in self.new entry.id.page) }
         ensures elsewhere { (p : PageId) → p ≢ entry.id.page → kept_in self.new p ≡ kept_in self.old p }
         ensures next { next_in self.new ≡ next_in self.old }
@@ -162,11 +162,11 @@ impl Transactions {
 
     /// The Commit of a session's transaction was logged: what was reserved for it is free. Answers its number, and its changes, the oldest first,
     /// whose claims go now.
-    pub fn note_commit(&mut self, seat: Seat) -> (TxnId, Vec<UndoEntry>)
-        requires seated { IsSeatIn seat self.old }
-        ensures number { (a : SessionTxn) → IsAmong a (undos_in self.old) → a.session ≡ seat.session → result.0 ≡ a.txn }
-        ensures left { OneLeaves seat.session result.1.items (txns_in self.old) (txns_in self.new) }
-        ensures undos { (a : SessionTxn) → IsAmong a (undos_in self.old) → a.session ≡ seat.session → undos_in self.new ≡ without_txn a.txn (undos_in self.old) }
+    pub fn note_commit(&mut self, seat: &Seat) -> (TxnId, Vec<UndoEntry>)
+        requires seated { IsSeatIn seat.now self.old }
+        ensures number { (a : SessionTxn) → IsAmong a (undos_in self.old) → a.session ≡ seat.now.session → result.0 ≡ a.txn }
+        ensures left { OneLeaves seat.now.session result.1.items (txns_in self.old) (txns_in self.new) }
+        ensures undos { (a : SessionTxn) → IsAmong a (undos_in self.old) → a.session ≡ seat.now.session → undos_in self.new ≡ without_txn a.txn (undos_in self.old) }
         ensures claims { (p : PageId) → HasMore (claims_on p result.1.items) (kept_in self.new p) (kept_in self.old p) }
         ensures next { next_in self.new ≡ next_in self.old }
         ensures kept { (room_in self.new).kept ≡ (room_in self.old).kept + ENDING_COST }
@@ -179,10 +179,10 @@ impl Transactions {
     }
 
     // Takes a session's transaction out: what was reserved for it is free.
-    pub(crate) fn take_out(&mut self, seat: Seat) -> ActiveTxn
-        requires seated { IsSeatIn seat self.old }
-        ensures number { (a : SessionTxn) → IsAmong a (undos_in self.old) → a.session ≡ seat.session → number_of result.txn ≡ a.txn }
-        ensures left { OneLeaves seat.session (entries_of result.txn) (txns_in self.old) (txns_in self.new) }
+    pub(crate) fn take_out(&mut self, seat: &Seat) -> ActiveTxn
+        requires seated { IsSeatIn seat.now self.old }
+        ensures number { (a : SessionTxn) → IsAmong a (undos_in self.old) → a.session ≡ seat.now.session → number_of result.txn ≡ a.txn }
+        ensures left { OneLeaves seat.now.session (entries_of result.txn) (txns_in self.old) (txns_in self.new) }
         ensures next { next_in self.new ≡ next_in self.old }
         ensures reserved { (room_in self.new).reserved + ENDING_COST + compensation_costs (images_of (entries_of result.txn)) ≡ (room_in self.old).reserved }
         ensures kept { (room_in self.new).kept ≡ (room_in self.old).kept }

@@ -13,26 +13,26 @@ use Rattle.shore_core.proofs.core_calls.Core.abort.Goals as goal
 pub returns-in_err-put_back-clause-replied : goal.returns-in_err-put_back-clause-replied
 returns-in_err-put_back-clause-replied g c running front disk before s store is safe over idle =
     let old = c.args.self.now in
-    let own = seat_in_txn (control_of old) c.args.seat c.requires.seated s is.beside.parts.stands in
-    interrupted_replied old c.put_back.new.self front before s store c.args.seat.session own.0 safe own.1 (is.beside.parts.failed_is ∙ running) idle Whole tt 0 refl c.from_residual.result _ c.from_residual.ensures.1
+    let own = seat_in_txn (control_of old) c.args.seat.now c.requires.seated s is.beside.parts.stands in
+    interrupted_replied old c.put_back.new.self front before s store c.args.seat.now.session own.0 safe own.1 (is.beside.parts.failed_is ∙ running) idle Whole tt 0 refl c.from_residual.result _ c.from_residual.ensures.1
     (c.in_err-put_back.ensures.unwinds running front disk before s store is safe over own.0 idle own.1 tt refl (omega arith))
 
 pub end-requires-clause-free : goal.end-requires-clause-free
-end-requires-clause-free g c = subst (λ (ws : List WaitingCall). All (λ w. w.session ≢ c.args.seat.session) ws) (sym c.put_back.ensures.waits) c.requires.free
+end-requires-clause-free g c = subst (λ (ws : List WaitingCall). All (λ w. w.session ≢ c.args.seat.now.session) ws) (sym c.put_back.ensures.waits) c.requires.free
 
 pub returns-in_err-end-clause-replied : goal.returns-in_err-end-clause-replied
 returns-in_err-end-clause-replied g c running front disk before s store is safe over idle =
     let old = c.args.self.now in
     let mid = c.put_back.new.self in
     let works = is.beside.parts.failed_is ∙ running in
-    let own = seat_in_txn (control_of old) c.args.seat c.requires.seated s is.beside.parts.stands in
+    let own = seat_in_txn (control_of old) c.args.seat.now c.requires.seated s is.beside.parts.stands in
     let h = c.in_ok-put_back.ensures.unwinds running front disk before s store is safe over own.0 idle own.1 tt refl (omega arith) in
     let comes = h.2 in
-    let here = goes_on_from (geometry_of old) s safe c.args.seat.session own.0 own.1 works idle Whole tt 0 h.0 (omega arith) h.1 in
+    let here = goes_on_from (geometry_of old) s safe c.args.seat.now.session own.0 own.1 works idle Whole tt 0 h.0 (omega arith) h.1 in
     let keeps = keeps_of c.in_ok-put_back.ensures.serves c.in_ok-put_back.ensures.failed in
     let ends = c.in_err-end.ensures.ended (keeps.failed ∙ running) front comes.left before h.0 comes.after comes.is_in (subst (λ (it : Geometry). IsSafe it h.0) (sym keeps.volume.geometry) here.stays_safe) comes.over
     here.its here.owned (no_images here.its.undo.images here.left) in
-    unended_replied old c.end.new.self front before s store c.args.seat.session own.0 safe own.1 works idle Whole tt 0 refl mid c.from_residual-in_err-end.result _ c.from_residual-in_err-end.ensures.1 h.0 h.1 comes ends.0 ends.1
+    unended_replied old c.end.new.self front before s store c.args.seat.now.session own.0 safe own.1 works idle Whole tt 0 refl mid c.from_residual-in_err-end.result _ c.from_residual-in_err-end.ensures.1 h.0 h.1 comes ends.0 ends.1
 
 pub returns-clause-replied : goal.returns-clause-replied
 returns-clause-replied g c running front disk before s store is safe over idle =
@@ -40,16 +40,16 @@ returns-clause-replied g c running front disk before s store is safe over idle =
     let mid = c.put_back.new.self in
     let new = c.end.new.self in
     let works = is.beside.parts.failed_is ∙ running in
-    let own = seat_in_txn (control_of old) c.args.seat c.requires.seated s is.beside.parts.stands in
+    let own = seat_in_txn (control_of old) c.args.seat.now c.requires.seated s is.beside.parts.stands in
     let h = c.in_ok-put_back.ensures.unwinds running front disk before s store is safe over own.0 idle own.1 tt refl (omega arith) in
     let comes = h.2 in
-    let here = goes_on_from (geometry_of old) s safe c.args.seat.session own.0 own.1 works idle Whole tt 0 h.0 (omega arith) h.1 in
+    let here = goes_on_from (geometry_of old) s safe c.args.seat.now.session own.0 own.1 works idle Whole tt 0 h.0 (omega arith) h.1 in
     let keeps = keeps_of c.in_ok-put_back.ensures.serves c.in_ok-put_back.ensures.failed in
     let ends = c.in_ok-end.ensures.ended (keeps.failed ∙ running) front comes.left before h.0 comes.after comes.is_in (subst (λ (it : Geometry). IsSafe it h.0) (sym keeps.volume.geometry) here.stays_safe) comes.over
     here.its here.owned (no_images here.its.undo.images here.left) in
     record {
       later = _;
-      replies = aborts_done (geometry_of old) s safe c.args.seat.session own.0 own.1 works idle;
+      replies = aborts_done (geometry_of old) s safe c.args.seat.now.session own.0 own.1 works idle;
       comes = subst (CoreComesTo new front before store) (here.aborts refl) (comes_then mid new front before h.0 _ store comes ends);
     }
 

@@ -68,8 +68,8 @@ returns-in_err-put_back-clause-replied g c running front disk before s store is 
     let inside = mark_inside a.undo.marks c.args.index c.in-Some.least (sym c.mark.ensures ∙ c.in-Some.is) in
     let may : MayRoll a.undo (To c.args.index) = (inside, subst (λ (st : TxnState). (rolling_of st ≡ None) ⊎ (rolling_of st ≡ Some (To c.args.index))) c.state.ensures (c.if-not-may_go_back.ensures.0 refl)) in
     let at = mark_is a.undo c.args.index c.in-Some.least (sym c.mark.ensures ∙ c.in-Some.is) in
-    let within = mark_of_within (geometry_of old) safe.found safe.entries c.args.seat.session a its.1 s safe.after.sessions its.0 c.args.index inside in
-    interrupted_replied old c.put_back.new.self front before s store c.args.seat.session a safe its works idle (To c.args.index) may c.in-Some.least at c.from_residual.result _ c.from_residual.ensures.1
+    let within = mark_of_within (geometry_of old) safe.found safe.entries c.args.seat.now.session a its.1 s safe.after.sessions its.0 c.args.index inside in
+    interrupted_replied old c.put_back.new.self front before s store c.args.seat.now.session a safe its works idle (To c.args.index) may c.in-Some.least at c.from_residual.result _ c.from_residual.ensures.1
     (c.in_err-put_back.ensures.unwinds running front disk before s store is safe over a idle its may at (omega (arith, at, within)))
 
 pub go_back-requires : goal.go_back-requires
@@ -84,7 +84,7 @@ invariant_of-self g c =
       some_number = mid.some_number;
       forced = mid.forced;
       numbers = subst (λ r. next + r.reserved ≤ LAST_OPENED) (sym done.room) mid.numbers;
-      earlier = earlier_back (txns_of mid) (txns_in c.go_back.new.self) next c.args.seat.session c.args.index mid.earlier done.back;
+      earlier = earlier_back (txns_of mid) (txns_in c.go_back.new.self) next c.args.seat.now.session c.args.index mid.earlier done.back;
     }
 
 pub returns-clause-replied : goal.returns-clause-replied
@@ -98,10 +98,10 @@ returns-clause-replied g c running front disk before s store is safe over idle =
     let inside = mark_inside a.undo.marks n c.in-Some.least (sym c.mark.ensures ∙ c.in-Some.is) in
     let may : MayRoll a.undo (To n) = (inside, subst (λ (st : TxnState). (rolling_of st ≡ None) ⊎ (rolling_of st ≡ Some (To c.args.index))) c.state.ensures (c.if-not-may_go_back.ensures.0 refl)) in
     let at = mark_is a.undo n c.in-Some.least (sym c.mark.ensures ∙ c.in-Some.is) in
-    let within = mark_of_within (geometry_of old) safe.found safe.entries c.args.seat.session a its.1 s safe.after.sessions its.0 n inside in
+    let within = mark_of_within (geometry_of old) safe.found safe.entries c.args.seat.now.session a its.1 s safe.after.sessions its.0 n inside in
     let h = c.in_ok-put_back.ensures.unwinds running front disk before s store is safe over a idle its may at (omega (arith, at, within)) in
     let comes = h.2 in
-    let here = goes_on_from (geometry_of old) s safe c.args.seat.session a its works idle (To n) may c.in-Some.least h.0 (omega (arith, at)) h.1 in
+    let here = goes_on_from (geometry_of old) s safe c.args.seat.now.session a its works idle (To n) may c.in-Some.least h.0 (omega (arith, at)) h.1 in
     let level : length here.its.undo.images ≡ _ = here.left ∙ at ∙ sym (here.mark n refl) in
     let none = none_since here.its.undo n level in
     let later : State = answered h.0 here.its (call.BackTo n) WentBack h.0.counts in
@@ -110,7 +110,7 @@ returns-clause-replied g c running front disk before s store is safe over idle =
     (back_slots h.0 here.its n none level (geometry_of old) here.stays_safe here.owned.0) comes.is_in comes.over in
     record {
       later = answered s a (call.BackTo n) WentBack s.counts;
-      replies = goes_back_done (geometry_of old) s safe c.args.seat.session a its works idle n may;
+      replies = goes_back_done (geometry_of old) s safe c.args.seat.now.session a its works idle n may;
       comes = subst (CoreComesTo _ front before store) (here.goes_back n refl) (comes_then mid _ front before h.0 later store comes two);
     }
 

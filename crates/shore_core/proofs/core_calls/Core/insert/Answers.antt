@@ -77,7 +77,7 @@ change-requires-clause-found g c =
     (map_some _ _ (frame_of c.find_place.new.self.heap id.page) (λ f h. (h.0, subst (Fits f.page.slots id.slot) len h.1)) c.in_ok-place.ensures.framed)
 
 pub change-requires-clause-seated : goal.change-requires-clause-seated
-change-requires-clause-seated g c = subst (IsSeatIn c.args.seat) (sym (c.in_ok-lock_place.ensures.only.txns ∙ ap txns_in c.in_ok-place.ensures.reads.control)) c.requires.seated
+change-requires-clause-seated g c = subst (IsSeatIn c.args.seat.now) (sym (c.in_ok-lock_place.ensures.only.txns ∙ ap txns_in c.in_ok-place.ensures.reads.control)) c.requires.seated
 
 pub returns-in_err-change-clause-served : goal.returns-in_err-change-clause-served
 returns-in_err-change-clause-served g c running front disk before s plain is safe over a of number =

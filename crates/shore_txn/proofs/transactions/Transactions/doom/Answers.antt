@@ -7,17 +7,17 @@ use Rattle.shore_txn.proofs.Seats.{seat_inside}
 use Rattle.shore_txn.proofs.transactions.Transactions.doom.Goals as goal
 
 pub index_mut-requires : goal.index_mut-requires
-index_mut-requires c = seat_inside c.args.self.now c.args.seat c.requires.seated
+index_mut-requires c = seat_inside c.args.self.now c.args.seat.now c.requires.seated
 
 pub returns-clause-doomed : goal.returns-clause-doomed
 returns-clause-doomed c =
-    lent_becomes c.args.self.now c.args.seat c.requires.seated c.index_mut.result.now c.index_mut.ensures.value
+    lent_becomes c.args.self.now c.args.seat.now c.requires.seated c.index_mut.result.now c.index_mut.ensures.value
     c.doom.new.self IsDoomed c.doom.ensures
 
 pub invariant_of-self : goal.invariant_of-self
 invariant_of-self c =
     let old = c.args.self.now in
-    let doomed = lent_becomes old c.args.seat c.requires.seated c.index_mut.result.now c.index_mut.ensures.value
+    let doomed = lent_becomes old c.args.seat.now c.requires.seated c.index_mut.result.now c.index_mut.ensures.value
     c.doom.new.self IsDoomed c.doom.ensures in
     let now = kept_still (becomes_so doomed_keeps doomed) old.room.reserved old.next (kept_in old) in
     record { some = old.some; sum = now.sum; numbers = now.numbers; sessions = now.sessions; below = now.below }

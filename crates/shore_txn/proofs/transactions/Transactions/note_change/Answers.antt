@@ -10,19 +10,19 @@ use Rattle.shore_txn.proofs.Seats.{seat_inside, seat_one}
 use Rattle.shore_txn.proofs.transactions.Transactions.note_change.Goals as goal
 
 pub index_mut-requires : goal.index_mut-requires
-index_mut-requires c = seat_inside c.args.self.now c.args.seat c.requires.seated
+index_mut-requires c = seat_inside c.args.self.now c.args.seat.now c.requires.seated
 
 pub note_change-requires-clause-room : goal.note_change-requires-clause-room
 note_change-requires-clause-room c =
     let items = c.args.self.now.active.items in
-    let one = seat_one c.args.self.now c.args.seat c.requires.seated in
+    let one = seat_one c.args.self.now c.args.seat.now c.requires.seated in
     let it : c.index_mut.result.now ≡ one.0 = c.index_mut.ensures.value ∙ read_at one.1 c.index_mut.result.now in
     subst CanNote (sym it) (c.requires.memory one.0 (active_there one.1) one.2)
 
 pub note_change-requires-clause-sum : goal.note_change-requires-clause-sum
 note_change-requires-clause-sum c =
     let old = c.args.self.now in
-    let one = seat_one old c.args.seat c.requires.seated in
+    let one = seat_one old c.args.seat.now c.requires.seated in
     let it : c.index_mut.result.now ≡ one.0 = c.index_mut.ensures.value ∙ read_at one.1 c.index_mut.result.now in
     let its : c.index_mut.result.now.txn.reserved ≡ one.0.txn.reserved = ap (λ (a : ActiveTxn). a.txn.reserved) it in
     let owes : one.0.txn.reserved ≡ owed (as_session_txn one.0.txn) = one.0.txn.owed in
@@ -32,7 +32,7 @@ note_change-requires-clause-sum c =
 pub invariant_of-self : goal.invariant_of-self
 invariant_of-self c =
     let old = c.args.self.now in
-    let one = seat_one old c.args.seat c.requires.seated in
+    let one = seat_one old c.args.seat.now c.requires.seated in
     let it : c.index_mut.result.now ≡ one.0 = c.index_mut.ensures.value ∙ read_at one.1 c.index_mut.result.now in
     let after = subst (λ (a : ActiveTxn). IsAfterChange a.txn c.args.entry c.note_change.new.self.txn) it c.note_change.ensures in
     let was : AreKept (undos_of old.active.items) old.room.reserved old.next = record { sum = old.sum; numbers = old.numbers; sessions = old.sessions; below = old.below } in
@@ -42,9 +42,9 @@ invariant_of-self c =
 pub returns-clause-noted : goal.returns-clause-noted
 returns-clause-noted c =
     let old = c.args.self.now in
-    let one = seat_one old c.args.seat c.requires.seated in
+    let one = seat_one old c.args.seat.now c.requires.seated in
     let it : c.index_mut.result.now ≡ one.0 = c.index_mut.ensures.value ∙ read_at one.1 c.index_mut.result.now in
-    becomes_at one.1 c.note_change.new.self c.args.seat.session (λ t u. IsAfterChange t c.args.entry u)
+    becomes_at one.1 c.note_change.new.self c.args.seat.now.session (λ t u. IsAfterChange t c.args.entry u)
     one.2
     (subst (λ (a : ActiveTxn). IsAfterChange a.txn c.args.entry c.note_change.new.self.txn) it c.note_change.ensures)
 

@@ -10,12 +10,12 @@ use Rattle.shore_txn.proofs.Seats.{seat_inside, seat_one}
 use Rattle.shore_txn.proofs.transactions.Transactions.reserve_entry.Goals as goal
 
 pub index_mut-requires : goal.index_mut-requires
-index_mut-requires c = seat_inside c.args.self.now c.args.seat c.requires.seated
+index_mut-requires c = seat_inside c.args.self.now c.args.seat.now c.requires.seated
 
 pub invariant_of-self : goal.invariant_of-self
 invariant_of-self c =
     let old = c.args.self.now in
-    let one = seat_one old c.args.seat c.requires.seated in
+    let one = seat_one old c.args.seat.now c.requires.seated in
     let it : c.index_mut.result.now ≡ one.0 = c.index_mut.ensures.value ∙ read_at one.1 c.index_mut.result.now in
     let same = undos_stay (becomes_at one.1 c.reserve_entry.new.self one.0.txn.session SameTxn refl (subst (λ (a : ActiveTxn). SameTxn a.txn c.reserve_entry.new.self.txn) it c.reserve_entry.ensures.same)) in
     let was : AreKept (undos_of old.active.items) old.room.reserved old.next = record { sum = old.sum; numbers = old.numbers; sessions = old.sessions; below = old.below } in
@@ -26,17 +26,17 @@ pub returns-clause-memory : goal.returns-clause-memory
 returns-clause-memory c = each c.reserve_entry.result c.reserve_entry.ensures.room
   where
     each : (r : Result (Unit {0}) AllocError) → OnOk r (CanNote c.reserve_entry.new.self)
-        → OnOk r ((x : ActiveTxn) → IsAmong x (set c.args.self.now.active.items c.args.seat.index c.reserve_entry.new.self) → x.txn.session ≡ c.args.seat.session → CanNote x)
+        → OnOk r ((x : ActiveTxn) → IsAmong x (set c.args.self.now.active.items c.args.seat.now.index c.reserve_entry.new.self) → x.txn.session ≡ c.args.seat.now.session → CanNote x)
     each (Err e) none = tt
     each (Ok x) room =
-        let one = seat_one c.args.self.now c.args.seat c.requires.seated in
-        room_at one.1 c.args.self.now.sessions c.reserve_entry.new.self c.args.seat.session one.2 room
+        let one = seat_one c.args.self.now c.args.seat.now c.requires.seated in
+        room_at one.1 c.args.self.now.sessions c.reserve_entry.new.self c.args.seat.now.session one.2 room
 
 pub returns-clause-same : goal.returns-clause-same
 returns-clause-same c =
-    let one = seat_one c.args.self.now c.args.seat c.requires.seated in
+    let one = seat_one c.args.self.now c.args.seat.now c.requires.seated in
     let it : c.index_mut.result.now ≡ one.0 = c.index_mut.ensures.value ∙ read_at one.1 c.index_mut.result.now in
-    becomes_at one.1 c.reserve_entry.new.self c.args.seat.session SameTxn one.2
+    becomes_at one.1 c.reserve_entry.new.self c.args.seat.now.session SameTxn one.2
     (subst (λ (a : ActiveTxn). SameTxn a.txn c.reserve_entry.new.self.txn) it c.reserve_entry.ensures.same)
 
 pub returns-clause-undos : goal.returns-clause-undos

@@ -8,15 +8,15 @@ use Rattle.shore_txn.proofs.Seats.{seat_inside}
 use Rattle.shore_txn.proofs.transactions.Transactions.txn.Goals as goal
 
 pub index-requires : goal.index-requires
-index-requires c = seat_inside c.args.self.now c.args.seat c.requires
+index-requires c = seat_inside c.args.self.now c.args.seat.now c.requires
 
 pub returns-clause-among : goal.returns-clause-among
 returns-clause-among c =
-    subst (λ t. IsAmong t (txns_in c.args.self.now)) (sym c.txn.ensures) (lent_among c.args.self.now c.args.seat c.requires c.index.result.now c.index.ensures)
+    subst (λ t. IsAmong t (txns_in c.args.self.now)) (sym c.txn.ensures) (lent_among c.args.self.now c.args.seat.now c.requires c.index.result.now c.index.ensures)
 
 pub returns-clause-there : goal.returns-clause-there
 returns-clause-there c =
-    subst (λ t. IsAmong (as_session_txn t) (undos_in c.args.self.now)) (sym c.txn.ensures) (lent_there c.args.self.now c.args.seat c.requires c.index.result.now c.index.ensures)
+    subst (λ t. IsAmong (as_session_txn t) (undos_in c.args.self.now)) (sym c.txn.ensures) (lent_there c.args.self.now c.args.seat.now c.requires c.index.result.now c.index.ensures)
 
 pub returns-clause-session : goal.returns-clause-session
-returns-clause-session c = ap (λ (t : Txn). t.session) c.txn.ensures ∙ lent_session c.args.self.now c.args.seat c.requires c.index.result.now c.index.ensures
+returns-clause-session c = ap (λ (t : Txn). t.session) c.txn.ensures ∙ lent_session c.args.self.now c.args.seat.now c.requires c.index.result.now c.index.ensures
